@@ -1,0 +1,10 @@
+pub mod BodyState
+pub mod Bound
+pub mod ClockLaws
+pub mod ClockPro
+pub mod CountLaws
+pub mod Counts
+pub mod Lawful
+pub mod Listed
+pub mod RefusalNumber
+pub mod Steady

@@ -1,0 +1,116 @@
+//! The list as a vector.
+
+ghost use Rattle.std.specs.Prelude.{◌≡◌, ◌≢◌, ◌≤◌, ◌<◌, ◌*◌, ◌↔◌, ◌⊎◌, ℕ, IfOk, IfErr, OnOk, OnErr, IsOk, Ok, Err, slice_get, option_map};
+ghost use Rattle.clock_list.specs.ClockPro.{opening, question_of, answered, admitted, restored, withdrawn, purged, purge_count};
+ghost use Rattle.clock_list.specs.Lawful.{Lawful};
+ghost use Rattle.clock_list.specs.Bound.{left, NothingResident};
+
+use crate::body::Body;
+use crate::clock::Clock;
+use crate::entry::{Bit, EntryKind, Key, Kind, Verdict};
+use crate::refusal::Refusal;
+use crate::scan::process_count;
+use std::alloc::Global;
+use std::marker::Model;
+
+/// CLOCK-Pro over a vector of entries. All its memory is taken by `new`, and each call takes time in the order of the list's length.
+#[derive(Debug, Drop)]
+pub struct ClockList {
+    body: Body,
+}
+
+impl Model for ClockList {
+    ghost use Rattle.clock_list.specs.ClockPro.{ClockState};
+
+    ghost Value = { ClockState };
+
+    ghost use Rattle.clock_list.specs.BodyState.{state_of};
+    ghost use Rattle.clock_list.specs.Lawful.{Lawful};
+
+    ghost view = { λ c. state_of c.body };
+
+    ghost invariant = { λ c. Lawful (state_of c.body) };
+}
+
+impl ClockList {
+    /// An empty list for 4 to 4096 frames.
+    pub fn new(alloc: Global, frames: usize) -> Result<Self, Refusal>
+        ensures ok { IfOk result (λ clock. clock ≡ opening frames) }
+        ensures bad_size { (result ≡ Err Refusal.BadSize) ↔ ((frames < 4) ⊎ (4096 < frames)) }
+        ensures memory { IfErr result (λ e. e ≢ Refusal.BadSize → e ≡ Refusal.NoMemory) }
+    {
+        if !(4..=4096).contains(&frames) {
+            return Err(Refusal::BadSize);
+        }
+        let body = Body::new(alloc, frames).map_err(|_| Refusal::NoMemory)?;
+        Ok(ClockList { body })
+    }
+}
+
+impl Clock for ClockList {
+    ghost state = { λ c. c };
+
+    fn frames(&self) -> usize {
+        self.body.frames
+    }
+
+    fn question(&self) -> Option<Key> {
+        self.body.question()
+    }
+
+    fn answer(&mut self, bit: Bit) -> Result<Verdict, Refusal> {
+        self.body.answer(bit)
+    }
+
+    /// Never answers `NoMemory`.
+    fn admit(&mut self, key: Key) -> Result<Kind, Refusal>
+        ensures moved { self.new ≡ (admitted key self.old).0 }
+        ensures exact { result ≡ (admitted key self.old).1 }
+        ensures memory { result ≢ Err Refusal.NoMemory }
+        ensures err { OnErr result (self.new ≡ self.old) }
+        ensures lawful { Lawful self.new }
+    {
+        self.body.admit(key)
+    }
+
+    /// Never answers `NoMemory`.
+    fn restore(&mut self, key: Key) -> Result<(), Refusal>
+        ensures moved { self.new ≡ (restored key self.old).0 }
+        ensures exact { result ≡ (restored key self.old).1 }
+        ensures memory { result ≢ Err Refusal.NoMemory }
+        ensures err { OnErr result (self.new ≡ self.old) }
+        ensures lawful { Lawful self.new }
+    {
+        self.body.restore(key)
+    }
+
+    fn withdraw(&mut self, key: Key) -> Result<(), Refusal> {
+        self.body.withdraw(key)
+    }
+
+    fn purge(&mut self, process: u32) -> u32 {
+        let count = process_count(&self.body.entries, process);
+        self.body.purge(process);
+        count as u32
+    }
+
+    fn share(&self) -> usize {
+        self.body.share
+    }
+
+    fn asked(&self) -> usize {
+        self.body.asked
+    }
+
+    fn cold_hand(&self) -> Option<Key> {
+        self.body.cold_hand
+    }
+
+    fn test_hand(&self) -> Option<Key> {
+        self.body.test_hand
+    }
+
+    fn entry(&self, i: usize) -> Option<(Key, EntryKind)> {
+        self.body.entries.get(i).map(|e| (e.key, e.kind))
+    }
+}

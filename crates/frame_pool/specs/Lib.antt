@@ -1,0 +1,3 @@
+pub mod FrameValue
+pub mod PoolValue
+pub mod Lending

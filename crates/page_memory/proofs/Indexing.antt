@@ -1,0 +1,167 @@
+-- What a page index's invariant says of a look-up, and how it is kept.
+use Rattle.std.proofs.Common.{◌≡◌, ◌≢◌, ℕ, zero, suc, ◌+◌, ◌-◌, ◌*◌, ◌/◌, ◌%◌, ◌^◌, ◌<◌, ◌≤◌, ◌⊎◌, inl, inr, List, [], ◌∷◌, ◌++◌, length, slice_index, slice_set, slice_index_or, get_or, get_or-set_same, get_or-set_other, length-set, replicate, take, drop, Option, Some, None, position, ◌==◌, eqb, nat_lt, Bool, true, false, cond, ◌||◌, if◌then◌else◌, arith, refl, sym, ap, ◌∙◌, subst, ne_eqb, eq-eqb, eqb-true, lt-ltb, le-ltb, length-append, below_more, eq-zero-or-pos}
+use Rattle.std.specs.Global.{Box}
+use Rattle.std.specs.List.{position_or_len, IsDistinct, list_any}
+use Rattle.std.proofs.lemmas.List.Sums.{position_or_len_is}
+use Rattle.std.proofs.lemmas.Map.Keys.{IsDistinct-from_apart}
+use Rattle.std.proofs.lemmas.Map.Steps.{length-le_from_distinct_below}
+use Rattle.std.proofs.lemmas.Bool.Decides.{nat_tests, eqb_tells}
+use Rattle.std.proofs.lemmas.List.{get_or_default, get_or_append_left, length_push, get_or-replicate, length-replicate}
+use Rattle.std.proofs.lemmas.Option.{none-some}
+use Rattle.std.proofs.Math.Seq.{get_or-append_seam}
+use Rattle.std.proofs.lemmas.Grind.{common_steps}
+use Rattle.page_memory.specs.PageIndex.{kept, number_at, Indexes, Keeps}
+
+-- a list's first place of an element is the one place where it stands
+first_place : (pages : List ℕ) (page i : ℕ) → i ≤ length pages → ((k : ℕ) → k < i → slice_index pages k ≢ page) → (i < length pages → slice_index pages i ≡ page) → position_or_len (λ listed. listed == page) pages ≡ i
+first_place pages page i within before here =
+    position_or_len_is (λ listed. listed == page) pages i 0 within (λ k h. ne_eqb _ _ (before k h)) (λ h. eq-eqb _ _ (here h))
+
+place_within : (pages : List ℕ) (page i : ℕ) → i < length pages → position_or_len (λ listed. listed == page) pages ≡ i → position (λ listed. listed == page) pages ≡ Some i
+place_within pages page i h e = rw e (rw (lt-ltb i (length pages) h) refl)
+
+place_past : (pages : List ℕ) (page : ℕ) → position_or_len (λ listed. listed == page) pages ≡ length pages → position (λ listed. listed == page) pages ≡ None
+place_past pages page e = rw e (rw (le-ltb (length pages) (length pages) (omega arith)) refl)
+
+-- a page whose number is 0 is not listed
+pub unlisted : (directory : List (Option (Box (List ℕ)))) (pages : List ℕ) (page : ℕ) → Indexes directory pages → number_at directory page ≡ 0 → position (λ listed. listed == page) pages ≡ None
+unlisted directory pages page is none =
+    place_past pages page (first_place pages page (length pages) (omega arith) (λ k h e. let at : number_at directory page ≡ k + 1 = subst (λ p. number_at directory p ≡ k + 1) e (is.listed k h) in omega arith) (λ h. absurd (omega arith)))
+
+-- a page whose number is not 0 is listed at the place before
+pub listed : (directory : List (Option (Box (List ℕ)))) (pages : List ℕ) (page : ℕ) → Indexes directory pages → 0 < number_at directory page → position (λ listed. listed == page) pages ≡ Some (number_at directory page - 1)
+listed directory pages page is some =
+    let within = is.within page in
+    place_within pages page (number_at directory page - 1) (omega arith) (first_place pages page _ (omega arith) (λ k h e. let at : number_at directory page ≡ k + 1 = subst (λ p. number_at directory p ≡ k + 1) e (is.listed k (omega arith)) in omega arith) (λ h. is.found page some))
+
+-- a listed page is small
+member_small : (pages : List ℕ) → ((k : ℕ) → k < length pages → slice_index pages k < 2 ^ 20) → (page : ℕ) → list_any (eqb page) pages ≡ true → page < 2 ^ 20
+member_small [] small page among = let never : ◌≡◌ {A = Bool} false true = among in cc
+member_small (x ∷ xs) small page among =
+    elim (eqb page x) as (λ b. eqb page x ≡ b → (b || list_any (eqb page) xs) ≡ true → page < 2 ^ 20) [
+      | true ↦ λ e m. let same = eqb-true page x e in let first : x < 2 ^ 20 = small 0 (omega arith) in omega arith
+      | false ↦ λ e m. member_small xs (λ k h. small (suc k) (omega arith)) page m
+    ] refl among
+
+-- two places of one page are one place
+apart : (directory : List (Option (Box (List ℕ)))) (pages : List ℕ) → Indexes directory pages → (i j d : ℕ) → i < j → j < length pages → get_or pages i d ≡ get_or pages j d → ⊥
+apart directory pages is i j d below within e =
+    let same : slice_index pages i ≡ slice_index pages j = get_or_default pages i 0 d (omega arith) ∙ e ∙ get_or_default pages j d 0 within in
+    let first : number_at directory (slice_index pages i) ≡ i + 1 = is.listed i (omega arith) in
+    let second : number_at directory (slice_index pages j) ≡ j + 1 = is.listed j within in
+    let one = ap (number_at directory) same in
+    omega arith
+
+-- different pages below 2^20 are at most 2^20
+pub few : (directory : List (Option (Box (List ℕ)))) (pages : List ℕ) → Indexes directory pages → length pages ≤ 2 ^ 20
+few directory pages is =
+    length-le_from_distinct_below pages (2 ^ 20)
+    (IsDistinct-from_apart eqb pages (λ i j d below within. ne_eqb _ _ (apart directory pages is i j d below within)))
+    (member_small pages is.small)
+
+kept_here : (old new : List (Option (Box (List ℕ)))) (page number : ℕ) → Keeps old new page number → number_at new page ≡ number
+kept_here old new page number keeps = keeps.numbers page ∙ rw (eq-eqb page page refl) refl
+
+kept_elsewhere : (old new : List (Option (Box (List ℕ)))) (page number other : ℕ) → Keeps old new page number → other ≢ page → number_at new other ≡ number_at old other
+kept_elsewhere old new page number other keeps apart = keeps.numbers other ∙ rw (ne_eqb other page apart) refl
+
+-- a page that is not listed has the number 0
+number_of_absent : (directory : List (Option (Box (List ℕ)))) (pages : List ℕ) (page : ℕ) → Indexes directory pages → position (λ listed. listed == page) pages ≡ None → number_at directory page ≡ 0
+number_of_absent directory pages page is absent =
+    elim (eq-zero-or-pos (number_at directory page)) [
+      | inl none ↦ none
+      | inr some ↦ absurd (none-some _ (sym absent ∙ listed directory pages page is some))
+    ]
+
+-- one more page
+pub one_more : (old new : List (Option (Box (List ℕ)))) (pages : List ℕ) (page : ℕ) → Indexes old pages → page < 2 ^ 20 → position (λ listed. listed == page) pages ≡ None → Keeps old new page (length pages + 1) → Indexes new (pages ++ page ∷ [])
+one_more old new pages page is below absent keeps =
+    let zero_there : number_at old page ≡ 0 = number_of_absent old pages page is absent in
+    let here : number_at new page ≡ length pages + 1 = kept_here old new page _ keeps in
+    let longer : length (pages ++ page ∷ []) ≡ length pages + 1 = length_push pages page in
+    let last : slice_index (pages ++ page ∷ []) (length pages) ≡ page = get_or-append_seam pages page [] 0 in
+    let not_page : (k : ℕ) → k < length pages → slice_index pages k ≢ page = λ k h e. let at : number_at old page ≡ k + 1 = subst (λ p. number_at old p ≡ k + 1) e (is.listed k h) in omega arith in
+    record {
+      wide = keeps.wide ∙ is.wide;
+      small = λ k h. below_more (λ i. slice_index (pages ++ page ∷ []) i < 2 ^ 20) (length pages) (λ i l. rw (get_or_append_left pages (page ∷ []) 0 i l) (is.small i l)) (rw last below) k (omega arith);
+      listed = λ k h. below_more (λ i. number_at new (slice_index (pages ++ page ∷ []) i) ≡ i + 1) (length pages) (λ i l. rw (get_or_append_left pages (page ∷ []) 0 i l) (kept_elsewhere old new page _ _ keeps (not_page i l) ∙ is.listed i l)) (rw last here) k (omega arith);
+      within = λ other. within_more other zero_there here longer;
+      found = λ other some. found_more other zero_there here longer some;
+    }
+  where
+    within_more : (other : ℕ) → number_at old page ≡ 0 → number_at new page ≡ length pages + 1 → length (pages ++ page ∷ []) ≡ length pages + 1 → number_at new other ≤ length (pages ++ page ∷ [])
+    within_more other zero_there here longer =
+        elim (eqb_tells other page) [
+          | inl same ↦ let e = ap (number_at new) same.1 in omega arith
+          | inr apart ↦ let e = kept_elsewhere old new page _ other keeps apart.1 in let w = is.within other in omega arith
+        ]
+
+    found_more : (other : ℕ) → number_at old page ≡ 0 → number_at new page ≡ length pages + 1 → length (pages ++ page ∷ []) ≡ length pages + 1 → 0 < number_at new other → slice_index (pages ++ page ∷ []) (number_at new other - 1) ≡ other
+    found_more other zero_there here longer some =
+        elim (eqb_tells other page) [
+          | inl same ↦ let e : number_at new other - 1 ≡ length pages = let f = ap (number_at new) same.1 in omega arith in rw e (get_or-append_seam pages page [] 0 ∙ sym same.1)
+          | inr apart ↦
+              let e = kept_elsewhere old new page _ other keeps apart.1 in
+              let w = is.within other in
+              let l : number_at old other - 1 < length pages = omega arith in
+              rw e (get_or_append_left pages (page ∷ []) 0 _ l ∙ is.found other (omega arith))
+        ]
+
+-- a directory with one leaf put in place
+put_leaf : (directory : List (Option (Box (List ℕ)))) (page other : ℕ) (leaf : Box (List ℕ)) → page / 1024 < length directory → number_at (slice_set directory (page / 1024) (Some leaf)) other ≡ (if other / 1024 == page / 1024 then slice_index leaf.value (other % 1024) else number_at directory other)
+put_leaf directory page other leaf within =
+    elim (eqb_tells (other / 1024) (page / 1024)) [
+      | inl same ↦ rw same.0 (ap (λ i. kept (get_or (slice_set directory (page / 1024) (Some leaf)) i None) (other % 1024)) same.1 ∙ ap (λ o. kept o (other % 1024)) (get_or-set_same directory (page / 1024) (Some leaf) None within))
+      | inr apart ↦ rw apart.0 (ap (λ o. kept o (other % 1024)) (get_or-set_other directory (page / 1024) (other / 1024) (Some leaf) None apart.1))
+    ]
+
+-- a row of zeros with one number put in
+in_filled : (n j k number : ℕ) → j < n → k < n → get_or (slice_set (replicate n 0) k number) j 0 ≡ (if j == k then number else 0)
+in_filled n j k number h l =
+    elim (eqb_tells j k) [
+      | inl same ↦ rw same.0 (ap (λ i. get_or (slice_set (replicate n 0) k number) i 0) same.1 ∙ get_or-set_same (replicate n 0) k number 0 (rw (length-replicate {A = ℕ} n 0) l))
+      | inr other ↦ rw other.0 (get_or-set_other (replicate n 0) k j number 0 other.1 ∙ get_or-replicate n j 0 0 h)
+    ]
+
+-- the same number at the same page and the same rest of it
+in_page : (page other number before : ℕ) → other / 1024 ≡ page / 1024 → before ≡ 0 → (if other % 1024 == page % 1024 then number else 0) ≡ (if other == page then number else before)
+in_page page other number before same zeroed =
+    elim (eqb_tells (other % 1024) (page % 1024)) [
+      | inl one ↦ rw one.0 (let e : other ≡ page = let r = one.1 in omega arith in rw (eq-eqb other page e) refl)
+      | inr apart ↦ rw apart.0 (rw (ne_eqb other page (λ e. apart.1 (ap (λ p. p % 1024) e))) (sym zeroed))
+    ]
+
+-- a number written into a new leaf is kept
+pub new_leaf : (directory : List (Option (Box (List ℕ)))) (page number : ℕ) (leaf : Box (List ℕ)) → page / 1024 < length directory → slice_index_or directory (page / 1024) None ≡ None → leaf.value ≡ slice_set (replicate 1024 0) (page % 1024) number → Keeps directory (slice_set directory (page / 1024) (Some leaf)) page number
+new_leaf directory page number leaf within empty filled =
+    record { wide = length-set directory (page / 1024) (Some leaf); numbers = λ other. put_leaf directory page other leaf within ∙ at other }
+  where
+    at : (other : ℕ) → (if other / 1024 == page / 1024 then slice_index leaf.value (other % 1024) else number_at directory other) ≡ (if other == page then number else number_at directory other)
+    at other =
+        elim (eqb_tells (other / 1024) (page / 1024)) [
+          | inl same ↦ rw same.0 (ap (λ l. get_or l (other % 1024) 0) filled ∙ in_filled 1024 (other % 1024) (page % 1024) number (omega arith) (omega arith) ∙ in_page page other number (number_at directory other) same.1 (ap (λ o. kept o (other % 1024)) (ap (λ i. get_or directory i None) same.1 ∙ empty)))
+          | inr apart ↦ rw apart.0 (rw (ne_eqb other page (λ e. apart.1 (ap (λ p. p / 1024) e))) refl)
+        ]
+
+-- a directory that was lent as a slice of its own length
+pub lent : {A : Type 0} (old new : List A) (n : ℕ) → length new ≡ length old → n ≡ length old → take n (new ++ drop (length new) old) ≡ new
+lent old new n same e = grind (arith, common_steps)
+
+all_none : (n k : ℕ) → get_or {A = Option (Box (List ℕ))} (replicate n None) k None ≡ None
+all_none zero k = refl
+all_none (suc n) zero = refl
+all_none (suc n) (suc k) = all_none n k
+
+-- a directory of no leaf
+pub no_leaf : (n page : ℕ) → number_at (replicate n None) page ≡ 0
+no_leaf n page = ap (λ o. kept o (page % 1024)) (all_none n (page / 1024))
+
+pub empty_index : (directory : List (Option (Box (List ℕ)))) → directory ≡ replicate 1024 None → Indexes directory []
+empty_index directory e =
+    record {
+      wide = ap length e ∙ length-replicate {A = Option (Box (List ℕ))} 1024 None;
+      small = λ k h. absurd (omega arith);
+      listed = λ k h. absurd (omega arith);
+      within = λ page. let zeroed : number_at directory page ≡ 0 = ap (λ d. number_at d page) e ∙ no_leaf 1024 page in omega arith;
+      found = λ page some. let zeroed : number_at directory page ≡ 0 = ap (λ d. number_at d page) e ∙ no_leaf 1024 page in absurd (omega arith);
+    }

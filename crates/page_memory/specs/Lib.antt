@@ -1,0 +1,5 @@
+pub mod Words
+pub mod Rights
+pub mod PageIndex
+pub mod Memory
+pub mod PageMap

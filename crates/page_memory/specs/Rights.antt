@@ -1,0 +1,16 @@
+-- Rights are a set of bits, and an access needs one of them.
+use Rattle.std.specs.Prelude.{ℕ, Bool, ◌==◌}
+use Rattle.std.specs.Int.RustNames.{bit_and}
+use Rattle.page_memory.specs.declared.rights.Rights.{Rights}
+use Rattle.page_memory.specs.declared.words.Access.{Access}
+use Rattle.page_memory.specs.declared.words.Access.TheVariants.{Fetch, Load, Store}
+
+-- whether a set of rights holds a bit: READ is 1, WRITE is 2, EXECUTE is 4
+abbrev pub has : Rights → ℕ → Bool
+has rights right = bit_and rights.0 right == right
+
+-- whether a page with these rights may be used in this way
+abbrev pub may : Access → Rights → Bool
+may Fetch rights = has rights 4
+may Load rights = has rights 1
+may Store rights = has rights 2

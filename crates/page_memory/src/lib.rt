@@ -1,0 +1,22 @@
+//! Words, pages and rights, and the memory made of them: the floor that every other crate stands on.
+//!
+//! An address is a 32-bit word. Its upper 20 bits number a page of 4096 bytes, its lower 12 bits are
+//! the offset in that page. A memory is a finite map from page numbers to pages, and each page has a
+//! set of rights.
+#![tactic(auto)]
+
+mod fault;
+mod flat_memory;
+mod page;
+mod page_index;
+mod page_map;
+mod rights;
+mod words;
+
+pub use fault::MemoryFault;
+pub use flat_memory::FlatMemory;
+pub use page::Page;
+pub use page_index::PageIndex;
+pub use page_map::PageMap;
+pub use rights::Rights;
+pub use words::{Access, PAGE_COUNT, PAGE_SIZE, Width, offset_in_page, page_of};

@@ -1,0 +1,106 @@
+ghost use Rattle.std.specs.Prelude.{◌≡◌, ℕ, ◌+◌, ◌%◌, ◌≤◌, IfOk, length, replicate, slice_index};
+ghost use Rattle.page_memory.specs.Memory.{number_at, overwritten};
+ghost use Rattle.page_memory.specs.Words.{bytes_in, page_offset};
+ghost use Rattle.byteorder.specs.Endian.{little_bytes};
+
+use crate::rights::Rights;
+use crate::words::{PAGE_SIZE, Width, offset_in_page};
+use byteorder::{ByteOrder, LittleEndian};
+use std::alloc::{AllocError, Global};
+use std::marker::Model;
+
+/// The 4096 bytes of a page, and what they may be used for.
+#[derive(Drop)]
+pub struct Page {
+    rights: Rights,
+    bytes: Box<[u8; PAGE_SIZE]>,
+}
+
+impl Model for Page {
+    ghost use Rattle.std.specs.Prelude.{◌≡◌, length};
+    ghost use Rattle.page_memory.specs.Memory.{Page as Content};
+
+    ghost Value = { Content };
+
+    ghost view = { λ page. record { rights = page.rights; bytes = page.bytes.value } };
+
+    ghost invariant = { λ page. length page.bytes.value ≡ 4096 };
+}
+
+impl Page {
+    /// A page of zeros.
+    pub fn zeroed(alloc: Global, rights: Rights) -> Result<Self, AllocError>
+        ensures { IfOk result (λ page. page ≡ record { rights = rights; bytes = replicate 4096 0 }) }
+    {
+        Ok(Page {
+            rights,
+            bytes: Box::new(alloc, [0; PAGE_SIZE])?,
+        })
+    }
+
+    /// A page of the same rights and bytes.
+    pub fn copied(&self, alloc: Global) -> Result<Self, AllocError>
+        ensures { IfOk result (λ page. page ≡ self.now) }
+    {
+        let mut page = Page::zeroed(alloc, self.rights)?;
+        page.bytes.copy_from_slice(self.bytes.as_slice());
+        Ok(page)
+    }
+
+    #[inline]
+    pub fn rights(&self) -> Rights
+        ensures { result ≡ self.now.rights }
+    {
+        self.rights
+    }
+
+    #[inline]
+    pub fn bytes(&self) -> &[u8]
+        ensures bytes { result.now ≡ self.now.bytes }
+        ensures whole { length result.now ≡ 4096 }
+    {
+        self.bytes.as_slice()
+    }
+
+    /// The number at an address of this page that is aligned to its width.
+    #[inline]
+    pub fn number(&self, width: Width, address: u32) -> u32
+        requires { address % bytes_in width ≡ 0 }
+        ensures { result ≡ number_at (bytes_in width) address self.now }
+    {
+        let from = &self.bytes[offset_in_page(address)..];
+        match width {
+            Width::Byte => u32::from(from[0]),
+            Width::Half => u32::from(LittleEndian::read_u16(from)),
+            Width::Word => LittleEndian::read_u32(from),
+        }
+    }
+
+    /// Writes the low bytes of a word at an address of this page that is aligned to their width.
+    #[inline]
+    #[tactic(auto, using(crate::proofs::Overwriting::one_byte))]
+    pub fn put_number(&mut self, width: Width, address: u32, word: u32)
+        requires { address % bytes_in width ≡ 0 }
+        ensures { self.new ≡ record self.old { bytes = overwritten self.old.bytes (page_offset address) (little_bytes (bytes_in width) word) } }
+    {
+        let offset = offset_in_page(address);
+        match width {
+            Width::Byte => self.bytes[offset] = (word % 0x100) as u8,
+            Width::Half => {
+                LittleEndian::write_u16(
+                    &mut self.bytes[offset..offset + 2],
+                    (word % 0x1_0000) as u16,
+                );
+            }
+            Width::Word => LittleEndian::write_u32(&mut self.bytes[offset..offset + 4], word),
+        }
+    }
+
+    /// Writes bytes from an offset on.
+    pub fn put_bytes(&mut self, offset: usize, bytes: &[u8])
+        requires { offset + length bytes.now ≤ 4096 }
+        ensures { self.new ≡ record self.old { bytes = overwritten self.old.bytes offset bytes.now } }
+    {
+        self.bytes[offset..offset + bytes.len()].copy_from_slice(bytes);
+    }
+}

@@ -1,0 +1,125 @@
+ghost use Rattle.std.specs.Prelude.{◌≡◌, ◌==◌, ℕ, ◌+◌, ◌<◌, ◌≤◌, ◌^◌, List, [], ◌∷◌, ◌++◌, IfOk, OnOk, OnErr, length, position, ◌/◌};
+ghost use Rattle.page_memory.specs.PageIndex.{number_at, Keeps};
+
+use crate::words::PAGE_COUNT;
+use std::alloc::{AllocError, Global};
+use std::marker::Model;
+
+/// How many page numbers a leaf of the directory serves.
+const LEAF_PAGES: u32 = 1024;
+
+/// A list of different page numbers that answers in constant time at which place one stands.
+///
+/// It is laid out as a two-level page table: a directory of 1024 leaves, of which only those that are
+/// needed are there, and each leaf has a number for each of its 1024 pages.
+#[derive(Drop)]
+pub struct PageIndex {
+    directory: Vec<Option<Box<[u32; 1024]>>>,
+    pages: Vec<u32>,
+}
+
+impl Model for PageIndex {
+    ghost use Rattle.std.specs.Prelude.{List, ℕ};
+    ghost use Rattle.page_memory.specs.PageIndex.{Indexes};
+
+    ghost Value = { List ℕ };
+
+    ghost view = { λ index. index.pages.items };
+
+    ghost invariant = { λ index. Indexes index.directory.items index.pages.items };
+}
+
+impl PageIndex {
+    /// An index of no page.
+    pub fn new(alloc: Global) -> Result<Self, AllocError>
+        ensures { IfOk result (λ index. index ≡ []) }
+    {
+        let mut directory = Vec::with_capacity(alloc, 1024)?;
+        for _ in 0..PAGE_COUNT / LEAF_PAGES {
+            directory.push(None)?;
+        }
+        Ok(PageIndex {
+            directory,
+            pages: Vec::new(alloc),
+        })
+    }
+
+    /// The place of a page number in the list.
+    #[inline]
+    pub fn find(&self, page: u32) -> Option<usize>
+        ensures { result ≡ position (λ listed. listed == page) self.now }
+    {
+        let number = number_in(&self.directory, page);
+        if number == 0 {
+            None
+        } else {
+            Some(number as usize - 1)
+        }
+    }
+
+    /// Lists a page number that is not listed yet, behind the others.
+    #[tactic(auto, using(crate::proofs::Indexing::few))]
+    pub fn push(&mut self, alloc: Global, page: u32) -> Result<(), AllocError>
+        requires small { page < 2 ^ 20 }
+        requires absent { position (λ listed. listed == page) self.old ≡ None }
+        ensures ok { OnOk result (self.new ≡ self.old ++ page ∷ []) }
+        ensures err { OnErr result (self.new ≡ self.old) }
+    {
+        let number = self.pages.len() as u32 + 1;
+        self.pages.reserve(1)?;
+        keep(&mut self.directory, alloc, page, number)?;
+        self.pages.push_reserved(page);
+        Ok(())
+    }
+
+    /// How many pages are listed.
+    #[tactic(auto, using(crate::proofs::Indexing::few))]
+    pub fn len(&self) -> usize
+        ensures count { result ≡ length self.now }
+        ensures few { result ≤ 2 ^ 20 }
+    {
+        self.pages.len()
+    }
+
+    /// The page numbers, in the order in which they came.
+    pub fn pages(&self) -> &[u32]
+        ensures { result.now ≡ self.now }
+    {
+        self.pages.as_slice()
+    }
+}
+
+/// What the directory keeps for a page: its place and 1, or 0.
+#[inline]
+fn number_in(directory: &[Option<Box<[u32; 1024]>>], page: u32) -> u32
+    ensures { result ≡ number_at directory.now page }
+{
+    match directory.get((page / LEAF_PAGES) as usize) {
+        Some(Some(leaf)) => leaf[(page % LEAF_PAGES) as usize],
+        _ => 0,
+    }
+}
+
+/// Keeps a number for a page, in a new leaf where the page has none.
+#[tactic(auto, using(crate::proofs::Indexing::new_leaf))]
+fn keep(
+    directory: &mut [Option<Box<[u32; 1024]>>],
+    alloc: Global,
+    page: u32,
+    number: u32,
+) -> Result<(), AllocError>
+    requires { page / 1024 < length directory.old }
+    ensures ok { OnOk result (Keeps directory.old directory.new page number) }
+    ensures err { OnErr result (directory.new ≡ directory.old) }
+{
+    let place = &mut directory[(page / LEAF_PAGES) as usize];
+    match place {
+        Some(leaf) => leaf[(page % LEAF_PAGES) as usize] = number,
+        None => {
+            let mut leaf = Box::new(alloc, [0; 1024])?;
+            leaf[(page % LEAF_PAGES) as usize] = number;
+            *place = Some(leaf);
+        }
+    }
+    Ok(())
+}

@@ -1,0 +1,56 @@
+ghost use Rattle.std.specs.Prelude.{◌≡◌, ◌<◌, ◌/◌, ◌%◌, ◌^◌};
+ghost use Rattle.page_memory.specs.Words.{page_number, page_offset, bytes_in};
+
+/// The bytes of a page.
+pub const PAGE_SIZE: usize = 4096;
+
+/// How many pages an address can name.
+pub const PAGE_COUNT: u32 = 0x10_0000;
+
+/// What memory is used for by one access.
+#[derive(Clone, Copy, PartialEq, Eq, Debug)]
+pub enum Access {
+    Fetch,
+    Load,
+    Store,
+}
+
+/// How many bytes a load or a store moves.
+#[derive(Clone, Copy, PartialEq, Eq, Debug)]
+pub enum Width {
+    Byte,
+    Half,
+    Word,
+}
+
+impl Width {
+    /// The number of bytes: 1, 2 or 4.
+    #[inline]
+    pub fn bytes(self) -> u32
+        ensures { result ≡ bytes_in self }
+    {
+        match self {
+            Width::Byte => 1,
+            Width::Half => 2,
+            Width::Word => 4,
+        }
+    }
+}
+
+/// The number of the page that an address lies in.
+#[inline]
+pub fn page_of(address: u32) -> u32
+    ensures number { result ≡ page_number address }
+    ensures small { result < 2 ^ 20 }
+{
+    address / 4096
+}
+
+/// Where in its page an address lies.
+#[inline]
+pub fn offset_in_page(address: u32) -> usize
+    ensures offset { result ≡ page_offset address }
+    ensures small { result < 4096 }
+{
+    (address % 4096) as usize
+}

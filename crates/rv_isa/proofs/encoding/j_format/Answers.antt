@@ -1,0 +1,11 @@
+use Rattle.std.proofs.Common.{arith}
+use Rattle.rv_isa.specs.FormatLaws.{j_placed}
+use Rattle.rv_isa.proofs.encoding.j_format.Goals as goal
+
+pub returns : goal.returns
+returns c =
+    j_placed c.args.opcode c.from-rd.result c.word-offset.result
+    c.field.result c.field-2.result c.field-3.result c.field-4.result c.args.rd c.args.offset
+    (omega arith) (omega arith) (omega arith)
+    c.word-offset.ensures.in_range c.word-offset.ensures.value
+    c.field.ensures.value c.field-2.ensures.value c.field-3.ensures.value c.field-4.ensures.value

@@ -1,0 +1,6 @@
+pub mod FormatLaws
+pub mod BitsLaws
+pub mod Bits
+pub mod Operands
+pub mod Table
+pub mod TableLaws

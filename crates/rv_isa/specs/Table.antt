@@ -1,0 +1,196 @@
+-- The instruction table: which word stands for which instruction.
+-- Source: unprivileged manual, "RV32I Base Integer Instruction Set" (the formats and the immediates' places)
+-- and "RV32/64G Instruction Set Listings" (the codes).
+use Rattle.std.specs.Prelude.{◌≡◌, ℕ, ◌+◌, ◌*◌, ◌^◌, ◌==◌, ℤ, Bool, ◌&&◌, Option, Some, None, option_map, List, [], ◌∷◌, if◌then◌else◌}
+use Rattle.std.specs.Option.{option_or}
+use Rattle.std.specs.List.{find}
+use Rattle.rv_isa.specs.Bits.{bits, signed}
+use Rattle.rv_isa.specs.declared.kinds.BranchKind.{BranchKind}
+use Rattle.rv_isa.specs.declared.kinds.BranchKind.TheVariants.{Beq, Bne, Blt, Bge, Bltu, Bgeu}
+use Rattle.rv_isa.specs.declared.kinds.ImmediateKind.{ImmediateKind}
+use Rattle.rv_isa.specs.declared.kinds.ImmediateKind.TheVariants.{Addi, Slti, Sltiu, Xori, Ori, Andi}
+use Rattle.rv_isa.specs.declared.kinds.ShiftKind.{ShiftKind}
+use Rattle.rv_isa.specs.declared.kinds.ShiftKind.TheVariants.{Slli, Srli, Srai}
+use Rattle.rv_isa.specs.declared.kinds.OpKind.{OpKind}
+use Rattle.rv_isa.specs.declared.kinds.OpKind.TheVariants.{Add, Sub, Sll, Slt, Sltu, Xor, Srl, Sra, Or, And}
+use Rattle.rv_isa.specs.declared.kinds.Code.{Code}
+use Rattle.rv_isa.specs.declared.instruction.Insn.{Insn}
+use Rattle.rv_isa.specs.declared.instruction.Insn.TheVariants.{Lui, Auipc, Jal, Jalr, Branch, OpImmediate, Shift, Op, Ecall, Ebreak}
+
+-- ---- codes
+
+-- funct3 of a branch
+abbrev pub branch_code : BranchKind → ℕ
+branch_code Beq = 0b000
+branch_code Bne = 0b001
+branch_code Blt = 0b100
+branch_code Bge = 0b101
+branch_code Bltu = 0b110
+branch_code Bgeu = 0b111
+
+-- funct3 of an operation with an immediate
+abbrev pub immediate_code : ImmediateKind → ℕ
+immediate_code Addi = 0b000
+immediate_code Slti = 0b010
+immediate_code Sltiu = 0b011
+immediate_code Xori = 0b100
+immediate_code Ori = 0b110
+immediate_code Andi = 0b111
+
+-- a shift by an immediate amount
+abbrev pub shift_code : ShiftKind → Code
+shift_code Slli = record { funct7 = 0b0000000; funct3 = 0b001 }
+shift_code Srli = record { funct7 = 0b0000000; funct3 = 0b101 }
+shift_code Srai = record { funct7 = 0b0100000; funct3 = 0b101 }
+
+-- an operation on two registers
+abbrev pub op_code : OpKind → Code
+op_code Add = record { funct7 = 0b0000000; funct3 = 0b000 }
+op_code Sub = record { funct7 = 0b0100000; funct3 = 0b000 }
+op_code Sll = record { funct7 = 0b0000000; funct3 = 0b001 }
+op_code Slt = record { funct7 = 0b0000000; funct3 = 0b010 }
+op_code Sltu = record { funct7 = 0b0000000; funct3 = 0b011 }
+op_code Xor = record { funct7 = 0b0000000; funct3 = 0b100 }
+op_code Srl = record { funct7 = 0b0000000; funct3 = 0b101 }
+op_code Sra = record { funct7 = 0b0100000; funct3 = 0b101 }
+op_code Or = record { funct7 = 0b0000000; funct3 = 0b110 }
+op_code And = record { funct7 = 0b0000000; funct3 = 0b111 }
+
+-- ---- immediates: where a word keeps their bits
+
+abbrev pub i_immediate : ℕ → ℤ
+i_immediate word = signed 12 (bits word 31 20)
+
+abbrev pub b_immediate : ℕ → ℤ
+b_immediate word =
+    signed 13 (bits word 31 31 * 2 ^ 12 + bits word 7 7 * 2 ^ 11 + bits word 30 25 * 2 ^ 5 + bits word 11 8 * 2)
+
+abbrev pub u_immediate : ℕ → ℕ
+u_immediate word = bits word 31 12
+
+abbrev pub j_immediate : ℕ → ℤ
+j_immediate word =
+    signed 21 (bits word 31 31 * 2 ^ 20 + bits word 19 12 * 2 ^ 12 + bits word 20 20 * 2 ^ 11 + bits word 30 21 * 2)
+
+-- ---- formats: a word whose opcode, codes and operands are these
+
+pub record IsRFormat (word opcode : ℕ) (code : Code) (rd rs1 rs2 : ℕ) : Type 0 where
+  pub in_6_0 : bits word 6 0 ≡ opcode
+  pub in_11_7 : bits word 11 7 ≡ rd
+  pub in_14_12 : bits word 14 12 ≡ code.funct3
+  pub in_19_15 : bits word 19 15 ≡ rs1
+  pub in_24_20 : bits word 24 20 ≡ rs2
+  pub in_31_25 : bits word 31 25 ≡ code.funct7
+
+pub record IsIFormat (word opcode funct3 rd rs1 : ℕ) (immediate : ℤ) : Type 0 where
+  pub in_6_0 : bits word 6 0 ≡ opcode
+  pub in_11_7 : bits word 11 7 ≡ rd
+  pub in_14_12 : bits word 14 12 ≡ funct3
+  pub in_19_15 : bits word 19 15 ≡ rs1
+  pub in_31_20 : i_immediate word ≡ immediate
+
+pub record IsBFormat (word opcode funct3 rs1 rs2 : ℕ) (offset : ℤ) : Type 0 where
+  pub in_6_0 : bits word 6 0 ≡ opcode
+  pub in_14_12 : bits word 14 12 ≡ funct3
+  pub in_19_15 : bits word 19 15 ≡ rs1
+  pub in_24_20 : bits word 24 20 ≡ rs2
+  pub in_31_25_11_7 : b_immediate word ≡ offset
+
+pub record IsUFormat (word opcode rd immediate : ℕ) : Type 0 where
+  pub in_6_0 : bits word 6 0 ≡ opcode
+  pub in_11_7 : bits word 11 7 ≡ rd
+  pub in_31_12 : u_immediate word ≡ immediate
+
+pub record IsJFormat (word opcode rd : ℕ) (offset : ℤ) : Type 0 where
+  pub in_6_0 : bits word 6 0 ≡ opcode
+  pub in_11_7 : bits word 11 7 ≡ rd
+  pub in_31_12 : j_immediate word ≡ offset
+
+-- ---- the table
+
+-- the word stands for the instruction: one line of the table has its fixed bits in the word, and the operands in their places
+unfoldable pub Agrees : ℕ → Insn → Type 0
+Agrees word (Lui rd immediate) = IsUFormat word 0b0110111 rd immediate
+Agrees word (Auipc rd immediate) = IsUFormat word 0b0010111 rd immediate
+Agrees word (Jal rd offset) = IsJFormat word 0b1101111 rd offset
+Agrees word (Jalr rd rs1 offset) = IsIFormat word 0b1100111 0b000 rd rs1 offset
+Agrees word (Branch kind rs1 rs2 offset) = IsBFormat word 0b1100011 (branch_code kind) rs1 rs2 offset
+Agrees word (OpImmediate kind rd rs1 immediate) = IsIFormat word 0b0010011 (immediate_code kind) rd rs1 immediate
+Agrees word (Shift kind rd rs1 amount) = IsRFormat word 0b0010011 (shift_code kind) rd rs1 amount
+Agrees word (Op kind rd rs1 rs2) = IsRFormat word 0b0110011 (op_code kind) rd rs1 rs2
+Agrees word Ecall = word ≡ 0x00000073
+Agrees word Ebreak = word ≡ 0x00100073
+
+-- ---- the table as a function from words
+
+abbrev pub branch_kinds : List BranchKind
+branch_kinds = Beq ∷ Bne ∷ Blt ∷ Bge ∷ Bltu ∷ Bgeu ∷ []
+
+abbrev pub immediate_kinds : List ImmediateKind
+immediate_kinds = Addi ∷ Slti ∷ Sltiu ∷ Xori ∷ Ori ∷ Andi ∷ []
+
+abbrev pub shift_kinds : List ShiftKind
+shift_kinds = Slli ∷ Srli ∷ Srai ∷ []
+
+abbrev pub op_kinds : List OpKind
+op_kinds = Add ∷ Sub ∷ Sll ∷ Slt ∷ Sltu ∷ Xor ∷ Srl ∷ Sra ∷ Or ∷ And ∷ []
+
+-- whether a code has these parts
+abbrev pub has_parts : Code → ℕ → ℕ → Bool
+has_parts code funct7 funct3 = code.funct7 == funct7 && code.funct3 == funct3
+
+-- the kind that has these codes
+unfoldable pub branch_kind : ℕ → Option BranchKind
+branch_kind funct3 = find (λ kind. branch_code kind == funct3) branch_kinds
+
+unfoldable pub immediate_kind : ℕ → Option ImmediateKind
+immediate_kind funct3 = find (λ kind. immediate_code kind == funct3) immediate_kinds
+
+unfoldable pub shift_kind : ℕ → ℕ → Option ShiftKind
+shift_kind funct7 funct3 = find (λ kind. has_parts (shift_code kind) funct7 funct3) shift_kinds
+
+unfoldable pub op_kind : ℕ → ℕ → Option OpKind
+op_kind funct7 funct3 = find (λ kind. has_parts (op_code kind) funct7 funct3) op_kinds
+
+-- the instruction that a word of an opcode stands for
+unfoldable pub jalr_of : ℕ → Option Insn
+jalr_of word =
+    if bits word 14 12 == 0b000 then Some (Jalr (bits word 11 7) (bits word 19 15) (i_immediate word)) else None
+
+unfoldable pub branch_of : ℕ → Option Insn
+branch_of word =
+    option_map (λ kind. Branch kind (bits word 19 15) (bits word 24 20) (b_immediate word))
+    (branch_kind (bits word 14 12))
+
+unfoldable pub shift_of : ℕ → Option Insn
+shift_of word =
+    option_map (λ kind. Shift kind (bits word 11 7) (bits word 19 15) (bits word 24 20))
+    (shift_kind (bits word 31 25) (bits word 14 12))
+
+unfoldable pub op_immediate_of : ℕ → Option Insn
+op_immediate_of word =
+    option_or
+    (option_map (λ kind. OpImmediate kind (bits word 11 7) (bits word 19 15) (i_immediate word))
+    (immediate_kind (bits word 14 12)))
+    (shift_of word)
+
+unfoldable pub op_of : ℕ → Option Insn
+op_of word =
+    option_map (λ kind. Op kind (bits word 11 7) (bits word 19 15) (bits word 24 20))
+    (op_kind (bits word 31 25) (bits word 14 12))
+
+unfoldable pub system_of : ℕ → Option Insn
+system_of word = if word == 0x00000073 then Some Ecall else if word == 0x00100073 then Some Ebreak else None
+
+-- the instruction that a word stands for, if it is in the table
+unfoldable pub insn_of : ℕ → Option Insn
+insn_of word =
+    if bits word 6 0 == 0b0110111 then Some (Lui (bits word 11 7) (u_immediate word))
+    else if bits word 6 0 == 0b0010111 then Some (Auipc (bits word 11 7) (u_immediate word))
+    else if bits word 6 0 == 0b1101111 then Some (Jal (bits word 11 7) (j_immediate word))
+    else if bits word 6 0 == 0b1100111 then jalr_of word
+    else if bits word 6 0 == 0b1100011 then branch_of word
+    else if bits word 6 0 == 0b0010011 then op_immediate_of word
+    else if bits word 6 0 == 0b0110011 then op_of word
+    else if bits word 6 0 == 0b1110011 then system_of word
+    else None

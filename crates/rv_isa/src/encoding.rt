@@ -1,0 +1,176 @@
+ghost use Rattle.std.specs.Prelude.{◌≡◌, ℕ, ◌^◌, ◌<◌};
+ghost use Rattle.rv_isa.specs.Table.{Agrees, IsRFormat, IsIFormat, IsBFormat, IsUFormat, IsJFormat, branch_code, immediate_code, shift_code, op_code};
+
+use super::fields::field;
+use super::instruction::Insn;
+use super::kinds::{BranchKind, Code, ImmediateKind, OpKind, ShiftKind};
+use super::operands::{BranchOffset, Immediate, JumpOffset, Reg, UpperImmediate};
+
+/// The word of an instruction.
+pub fn encode(insn: Insn) -> u32
+    ensures found { Agrees result insn }
+    ensures only { (word : ℕ) → word < 2 ^ 32 → Agrees word insn → word ≡ result }
+{
+    word_of(insn)
+}
+
+#[tactic(auto, unfolding(crate::specs::Table::Agrees))]
+fn word_of(insn: Insn) -> u32
+    ensures { Agrees result insn }
+{
+    match insn {
+        Insn::Lui { rd, immediate } => u_format(0b011_0111, rd, immediate),
+        Insn::Auipc { rd, immediate } => u_format(0b001_0111, rd, immediate),
+        Insn::Jal { rd, offset } => j_format(0b110_1111, rd, offset),
+        Insn::Jalr { rd, rs1, offset } => i_format(0b110_0111, 0, rd, rs1, offset),
+        Insn::Branch {
+            kind,
+            rs1,
+            rs2,
+            offset,
+        } => { b_format(0b110_0011, branch_code(kind), rs1, rs2, offset) }
+        Insn::OpImmediate {
+            kind,
+            rd,
+            rs1,
+            immediate,
+        } => { i_format(0b001_0011, immediate_code(kind), rd, rs1, immediate) }
+        Insn::Shift {
+            kind,
+            rd,
+            rs1,
+            amount,
+        } => { r_format(0b001_0011, shift_code(kind), rd, rs1, amount.value()) }
+        Insn::Op { kind, rd, rs1, rs2 } => r_format(
+            0b011_0011,
+            op_code(kind),
+            rd,
+            rs1,
+            rs2.index(),
+        ),
+        Insn::Ecall => 0x0000_0073,
+        Insn::Ebreak => 0x0010_0073,
+    }
+}
+
+/// A word of the R format, where `rs2` may also be a shift amount.
+fn r_format(opcode: u32, code: Code, rd: Reg, rs1: Reg, rs2: u8) -> u32
+    requires opcode_fits { opcode < 2 ^ 7 }
+    requires funct7_fits { code.funct7 < 2 ^ 7 }
+    requires funct3_fits { code.funct3 < 2 ^ 3 }
+    requires rs2_fits { rs2 < 2 ^ 5 }
+    ensures { IsRFormat result opcode code rd rs1 rs2 }
+{
+    let rs2 = u32::from(rs2);
+    let rs1 = u32::from(rs1.index());
+    let rd = u32::from(rd.index());
+    (code.funct7 << 25) + (rs2 << 20) + (rs1 << 15) + (code.funct3 << 12) + (rd << 7) + opcode
+}
+
+/// A word of the I format.
+fn i_format(opcode: u32, funct3: u32, rd: Reg, rs1: Reg, immediate: Immediate) -> u32
+    requires opcode_fits { opcode < 2 ^ 7 }
+    requires funct3_fits { funct3 < 2 ^ 3 }
+    ensures { IsIFormat result opcode funct3 rd rs1 immediate }
+{
+    let immediate = field(immediate.word(), 11, 0);
+    let rs1 = u32::from(rs1.index());
+    let rd = u32::from(rd.index());
+    (immediate << 20) + (rs1 << 15) + (funct3 << 12) + (rd << 7) + opcode
+}
+
+/// A word of the B format.
+fn b_format(opcode: u32, funct3: u32, rs1: Reg, rs2: Reg, offset: BranchOffset) -> u32
+    requires opcode_fits { opcode < 2 ^ 7 }
+    requires funct3_fits { funct3 < 2 ^ 3 }
+    ensures { IsBFormat result opcode funct3 rs1 rs2 offset }
+{
+    let offset = offset.word();
+    let rs2 = u32::from(rs2.index());
+    let rs1 = u32::from(rs1.index());
+    let high = (field(offset, 12, 12) << 6) + field(offset, 10, 5);
+    let low = (field(offset, 4, 1) << 1) + field(offset, 11, 11);
+    (high << 25) + (rs2 << 20) + (rs1 << 15) + (funct3 << 12) + (low << 7) + opcode
+}
+
+/// A word of the U format.
+fn u_format(opcode: u32, rd: Reg, immediate: UpperImmediate) -> u32
+    requires { opcode < 2 ^ 7 }
+    ensures { IsUFormat result opcode rd immediate }
+{
+    let rd = u32::from(rd.index());
+    (immediate.value() << 12) + (rd << 7) + opcode
+}
+
+/// A word of the J format.
+fn j_format(opcode: u32, rd: Reg, offset: JumpOffset) -> u32
+    requires { opcode < 2 ^ 7 }
+    ensures { IsJFormat result opcode rd offset }
+{
+    let offset = offset.word();
+    let rd = u32::from(rd.index());
+    let high = (field(offset, 20, 20) << 10) + field(offset, 10, 1);
+    let low = (field(offset, 11, 11) << 8) + field(offset, 19, 12);
+    (high << 21) + (low << 12) + (rd << 7) + opcode
+}
+
+fn branch_code(kind: BranchKind) -> u32
+    ensures value { result ≡ branch_code kind }
+    ensures below { result < 2 ^ 3 }
+{
+    match kind {
+        BranchKind::Beq => 0b000,
+        BranchKind::Bne => 0b001,
+        BranchKind::Blt => 0b100,
+        BranchKind::Bge => 0b101,
+        BranchKind::Bltu => 0b110,
+        BranchKind::Bgeu => 0b111,
+    }
+}
+
+fn immediate_code(kind: ImmediateKind) -> u32
+    ensures value { result ≡ immediate_code kind }
+    ensures below { result < 2 ^ 3 }
+{
+    match kind {
+        ImmediateKind::Addi => 0b000,
+        ImmediateKind::Slti => 0b010,
+        ImmediateKind::Sltiu => 0b011,
+        ImmediateKind::Xori => 0b100,
+        ImmediateKind::Ori => 0b110,
+        ImmediateKind::Andi => 0b111,
+    }
+}
+
+fn shift_code(kind: ShiftKind) -> Code
+    ensures value { result ≡ shift_code kind }
+    ensures funct7_below { result.funct7 < 2 ^ 7 }
+    ensures funct3_below { result.funct3 < 2 ^ 3 }
+{
+    let (funct7, funct3) = match kind {
+        ShiftKind::Slli => (0b000_0000, 0b001),
+        ShiftKind::Srli => (0b000_0000, 0b101),
+        ShiftKind::Srai => (0b010_0000, 0b101),
+    };
+    Code { funct7, funct3 }
+}
+
+fn op_code(kind: OpKind) -> Code
+    ensures value { result ≡ op_code kind }
+    ensures funct7_below { result.funct7 < 2 ^ 7 }
+    ensures funct3_below { result.funct3 < 2 ^ 3 }
+{
+    let (funct7, funct3) = match kind {
+        OpKind::Add => (0b000_0000, 0b000),
+        OpKind::Sub => (0b010_0000, 0b000),
+        OpKind::Sll => (0b000_0000, 0b001),
+        OpKind::Slt => (0b000_0000, 0b010),
+        OpKind::Sltu => (0b000_0000, 0b011),
+        OpKind::Xor => (0b000_0000, 0b100),
+        OpKind::Srl => (0b000_0000, 0b101),
+        OpKind::Sra => (0b010_0000, 0b101),
+        OpKind::Or => (0b000_0000, 0b110),
+        OpKind::And => (0b000_0000, 0b111),
+    };
+    Code { funct7, funct3 }
+}

@@ -1,0 +1,93 @@
+ghost use Rattle.std.specs.Prelude.{◌≡◌, pos, ◌-ℤ◌, ◌+◌, ◌-◌, ◌*◌, ◌^◌, ◌<◌, ◌≤◌};
+ghost use Rattle.rv_isa.specs.Bits.{bits};
+ghost use Rattle.rv_isa.specs.Table.{i_immediate, b_immediate, u_immediate, j_immediate};
+
+use super::operands::{BranchOffset, Immediate, JumpOffset, Reg, ShiftAmount, UpperImmediate};
+
+/// Bits `high` to `low` of a word, as a number.
+#[inline(always)]
+#[tactic(auto, using(crate::specs::BitsLaws::bits_field), unfolding(crate::specs::Bits::bits))]
+pub(crate) fn field(word: u32, high: u32, low: u32) -> u32
+    requires order { low ≤ high }
+    requires within { high < 32 }
+    requires part { high < low + 31 }
+    ensures value { result ≡ bits word high low }
+    ensures below { result < 2 ^ (high + 1 - low) }
+{
+    (word >> low) % (1 << (high + 1 - low))
+}
+
+/// The register in bits 11 to 7.
+#[inline(always)]
+pub(crate) fn rd(word: u32) -> Reg
+    ensures { result ≡ bits word 11 7 }
+{
+    Reg::from_index(field(word, 11, 7) as u8)
+}
+
+/// The register in bits 19 to 15.
+#[inline(always)]
+pub(crate) fn rs1(word: u32) -> Reg
+    ensures { result ≡ bits word 19 15 }
+{
+    Reg::from_index(field(word, 19, 15) as u8)
+}
+
+/// The register in bits 24 to 20.
+#[inline(always)]
+pub(crate) fn rs2(word: u32) -> Reg
+    ensures { result ≡ bits word 24 20 }
+{
+    Reg::from_index(field(word, 24, 20) as u8)
+}
+
+/// The shift amount in bits 24 to 20.
+#[inline(always)]
+pub(crate) fn shift_amount(word: u32) -> ShiftAmount
+    ensures { result ≡ bits word 24 20 }
+{
+    ShiftAmount::from_value(field(word, 24, 20) as u8)
+}
+
+/// The immediate of the I format.
+#[inline(always)]
+pub(crate) fn immediate(word: u32) -> Immediate
+    ensures { result ≡ i_immediate word }
+{
+    Immediate::from_value(word.cast_signed() >> 20)
+}
+
+/// The immediate of the U format.
+#[inline(always)]
+pub(crate) fn upper_immediate(word: u32) -> UpperImmediate
+    ensures { result ≡ u_immediate word }
+{
+    UpperImmediate::from_value(field(word, 31, 12))
+}
+
+/// -1 or 0, by the word's sign bit.
+#[inline(always)]
+fn sign(word: u32) -> i32
+    ensures value { result ≡ pos 0 -ℤ pos (bits word 31 31) }
+    ensures bit { bits word 31 31 < 2 }
+{
+    word.cast_signed() >> 31
+}
+
+/// The distance of the B format.
+#[inline(always)]
+pub(crate) fn branch_offset(word: u32) -> BranchOffset
+    ensures { result ≡ b_immediate word }
+{
+    let low = field(word, 7, 7) * 0x800 + field(word, 30, 25) * 0x20 + field(word, 11, 8) * 2;
+    BranchOffset::from_value(sign(word) * 0x1000 + low.cast_signed())
+}
+
+/// The distance of the J format.
+#[inline(always)]
+pub(crate) fn jump_offset(word: u32) -> JumpOffset
+    ensures { result ≡ j_immediate word }
+{
+    let low = field(word, 19, 12) * 0x1000 + field(word, 20, 20) * 0x800 + field(word, 30, 21) * 2;
+    JumpOffset::from_value(sign(word) * 0x10_0000 + low.cast_signed())
+}

@@ -1,0 +1,24 @@
+//! The instruction codec: words of 32 bits, and the RISC-V instructions that they stand for.
+//!
+//! `specs/Table.antt` has the instruction table as a relation between words and instructions, `Agrees`.
+//! [`decode`] and [`encode`] are that relation, read in its two directions.
+#![tactic(auto)]
+
+mod decoding;
+mod encoding;
+mod fields;
+mod instruction;
+mod kinds;
+mod laws;
+mod operands;
+#[cfg(test)]
+mod tests;
+mod text;
+
+pub use decoding::decode;
+pub use encoding::encode;
+pub use instruction::Insn;
+pub use kinds::{BranchKind, ImmediateKind, OpKind, ShiftKind};
+pub use laws::{one_instruction, one_word, table_lookup};
+pub use operands::{BranchOffset, Immediate, JumpOffset, Reg, ShiftAmount, UpperImmediate};
+pub use text::write_text;

@@ -1,0 +1,64 @@
+use super::*;
+use std::test::Fail;
+
+/// Words and their text, from the unprivileged manual's formats.
+#[test]
+fn words_are_instructions(rt: HostRuntime) -> Result<(), Fail> {
+    let table = [
+        (0x0050_0093, "addi x1,x0,5"),
+        (0xFFDF_F06F, "jal x0,-4"),
+        (0x0001_05B7, "lui x11,16"),
+        (0x0000_0297, "auipc x5,0"),
+        (0x8002_8293, "addi x5,x5,-2048"),
+        (0x0000_8067, "jalr x0,0(x1)"),
+        (0x0000_0163, "beq x0,x0,2"),
+        (0xFE62_9EE3, "bne x5,x6,-4"),
+        (0x0050_9113, "slli x2,x1,5"),
+        (0x0050_D113, "srli x2,x1,5"),
+        (0x4050_D113, "srai x2,x1,5"),
+        (0x4020_8533, "sub x10,x1,x2"),
+        (0x0000_0073, "ecall"),
+        (0x0010_0073, "ebreak"),
+    ];
+    for (word, text) in table {
+        let insn = decode(word).ok_or("not in the table")?;
+        let kept = insn;
+        let mut written = String::new(rt.alloc());
+        write_text(insn, &mut written)?;
+        assert_eq!(rt; written.as_str(), text);
+        assert_eq!(rt; encode(kept), word, "{text}");
+    }
+    Ok(())
+}
+
+#[test]
+fn other_words_are_outside_the_table(rt: HostRuntime) {
+    for word in [
+        0x0000_0000,
+        0xFFFF_FFFF,
+        0x0250_9113,
+        0x0220_8533,
+        0x0020_0073,
+        0x0000_1067,
+    ] {
+        assert_eq!(rt; decode(word), None, "{word:#010x}");
+    }
+}
+
+#[test]
+fn operands_have_ranges(rt: HostRuntime) -> Result<(), Fail> {
+    assert_eq!(rt; Reg::new(31).ok_or("x31")?.index(), 31);
+    assert_eq!(rt; Reg::new(32), None);
+    assert_eq!(rt;
+        UpperImmediate::new(0xF_FFFF).ok_or("20 bits")?.value(),
+        0xF_FFFF
+    );
+    assert_eq!(rt; ShiftAmount::new(32), None);
+    assert_eq!(rt; Immediate::new(-2048).ok_or("12 bits")?.word(), 0xFFFF_F800);
+    assert_eq!(rt; BranchOffset::new(4095), None);
+    assert_eq!(rt;
+        JumpOffset::new(-1_048_576).ok_or("21 bits")?.value(),
+        -1_048_576
+    );
+    Ok(())
+}

@@ -1,0 +1,3 @@
+pub mod Slot
+pub mod FuseValue
+pub mod PoolValue

@@ -1,0 +1,9 @@
+use Rattle.std.specs.Prelude.{◌≡◌, ℕ, ◌-◌, ◌^◌, ◌<◌, ◌⊎◌, List, replicate}
+
+-- the count of failures rose, or it stands at the largest number that it can have
+abbrev pub Rose : ℕ → ℕ → Type 0
+Rose old new = (old < new) ⊎ ((old ≡ 2 ^ 64 - 1) × (new ≡ 2 ^ 64 - 1))
+
+-- the bytes of a page of zeros
+unfoldable pub zero_bytes : List ℕ
+zero_bytes = replicate 4096 0

@@ -1,0 +1,38 @@
+ghost use Rattle.std.specs.Prelude.{◌≡◌, ◌≤◌, ℕ, List, OnOk, OnErr};
+ghost use Rattle.swap_slots.specs.Slot.{Rose};
+
+use thiserror::Error;
+
+/// The device that a slot lies on failed in a call.
+#[derive(Clone, Copy, PartialEq, Eq, Debug, Error)]
+#[error("the device failed")]
+pub struct SlotFault;
+
+/// Where the 4096 bytes of one page are kept while it has no frame.
+pub trait SwapSlot: Drop {
+    /// The page that the slot holds.
+    ghost content: { Self → List ℕ };
+
+    /// How often the device failed.
+    ghost failures: { Self → ℕ };
+
+    /// Whether slots of this kind keep what was saved. A kind that can't tell, as one over a file, takes `⊥`.
+    ghost honest: { Type 0 };
+
+    /// Saves a page. A save that fails leaves open what the slot holds.
+    fn save(&mut self, page: &[u8; 4096]) -> Result<(), SlotFault>
+        ensures saved { honest → OnOk result (content self.new ≡ page.now) }
+        ensures fault { OnErr result (Rose (failures self.old) (failures self.new)) }
+        ensures counted { failures self.old ≤ failures self.new };
+
+    /// Loads the page that was saved. A load that fails leaves open what `page` holds, but not what the slot holds.
+    fn load(&mut self, page: &mut [u8; 4096]) -> Result<(), SlotFault>
+        ensures loaded { honest → OnOk result (page.new ≡ content self.old) }
+        ensures kept { honest → content self.new ≡ content self.old }
+        ensures fault { OnErr result (Rose (failures self.old) (failures self.new)) }
+        ensures counted { failures self.old ≤ failures self.new };
+
+    /// How often the device failed. The count stays at its type's largest number.
+    fn failures(&self) -> u64
+        ensures { result ≡ failures self.now };
+}

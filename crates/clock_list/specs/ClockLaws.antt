@@ -153,11 +153,11 @@ hot_goes_on : (bit : Bit) (x : Entry) (s : ClockState) → Steady s → IsIn x s
 hot_goes_on bit x s h in_list hot =
     let passed : List Entry = take (place x.key s.entries) s.entries in
     let hot_total : hot_count (turned_to bit x s).entries + 1 ≡ hot_count s.entries + cond (is_one bit) 1 0 =
-      omega (arith, rw hot at (turned_number (λ e. is_hot e.kind) bit x s h.based in_list), hot_count-tests_ended passed, left_hots bit x hot) in
+      omega (arith, turned_number (λ e. is_hot e.kind) bit x s h.based in_list, ap {B = ℕ} (λ (k : EntryKind). cond (is_hot k) 1 0) hot, hot_count-tests_ended passed, left_hots bit x hot) in
     let cold_total : cold_count (turned_to bit x s).entries ≡ cold_count s.entries + cond (is_zero bit) 1 0 =
-      omega (arith, rw hot at (turned_number (λ e. is_cold e.kind) bit x s h.based in_list), cold_count-tests_ended passed, left_colds bit x hot) in
+      omega (arith, turned_number (λ e. is_cold e.kind) bit x s h.based in_list, ap {B = ℕ} (λ (k : EntryKind). cond (is_cold k) 1 0) hot, cold_count-tests_ended passed, left_colds bit x hot) in
     let shadow_total : shadow_count (turned_to bit x s).entries ≤ shadow_count s.entries =
-      omega (arith, rw hot at (turned_number (λ e. is_shadow e.kind) bit x s h.based in_list), shadow_count-tests_ended passed, left_shades bit x hot) in
+      omega (arith, turned_number (λ e. is_shadow e.kind) bit x s h.based in_list, ap {B = ℕ} (λ (k : EntryKind). cond (is_shadow k) 1 0) hot, shadow_count-tests_ended passed, left_shades bit x hot) in
     record {
       steady = turned_to_steady bit x s h.based in_list;
       frames = turned_frames bit x s;
@@ -399,7 +399,7 @@ marked_lawful k s h free listed =
       (omega (arith, h.few, number-set (λ e. is_shadow e.kind) found.0 y s.entries i found.1))
 
 -- a refusal where the list is full, and else the move
-cond_lawful : {T : Type 0} (full : Bool) (s new : ClockState) (e : Refusal) (r : Result T Refusal) → Lawful s → (full ≡ false → Lawful new) → Lawful (cond full (s, Err e) (new, r)).0
+cond_lawful : {T : Type 0} (full : Bool) (s new : ClockState) (e : Refusal) (r : Result T Refusal) → Lawful s → (full ≡ false → Lawful new) → Lawful (cond {A = ClockState × Result T Refusal} full (s, Err e) (new, r)).0
 cond_lawful true s new e r h g = h
 cond_lawful false s new e r h g = g refl
 
@@ -521,3 +521,7 @@ left_lowers bit s h g =
       | inr e ↦ absurd (let r : (answered bit s).1 ≡ Err e.0 = ap (λ (a : Answer Verdict). a.1) e.1 in cc)
       ]
     ]
+
+-- the same of a state and an answer that are the definition's
+pub lowers_at : (bit : Bit) (old new : ClockState) (r : Result Verdict Refusal) → Lawful old → new ≡ (answered bit old).0 → r ≡ (answered bit old).1 → r ≡ Ok GoOn → left new < left old
+lowers_at bit old new r h moved exact on = rw moved (left_lowers bit old h (sym exact ∙ on))

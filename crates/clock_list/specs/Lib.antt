@@ -6,5 +6,6 @@ pub mod CountLaws
 pub mod Counts
 pub mod Lawful
 pub mod Listed
+pub mod QuestionLaws
 pub mod RefusalNumber
 pub mod Steady

@@ -1,6 +1,6 @@
 //! The policy, as every representation of its list owes it.
 
-ghost use Rattle.std.specs.Prelude.{◌≡◌, ◌≢◌, ◌≤◌, ◌<◌, ◌*◌, ℕ, OnOk, OnErr, IfErr, IsOk, Ok, Err, slice_get, option_map};
+ghost use Rattle.std.specs.Prelude.{◌≡◌, ◌≢◌, ◌≤◌, ◌<◌, ◌*◌, ℕ, OnOk, OnErr, IsOk, IsErr, IsNone, ◌↔◌, Ok, Err, slice_get, option_map};
 ghost use Rattle.clock_list.specs.ClockPro.{ClockState, question_of, answered, admitted, restored, withdrawn, purged, purge_count};
 ghost use Rattle.clock_list.specs.Lawful.{Lawful};
 ghost use Rattle.clock_list.specs.Bound.{left, NothingResident};
@@ -23,6 +23,7 @@ pub trait Clock: Drop {
     /// The page whose accessed bit is the next answer, if any page is resident.
     fn question(&self) -> Option<Key>
         ensures exact { result ≡ question_of (state self.now) }
+        ensures none { IsNone result ↔ NothingResident (state self.now) }
         ensures lawful { Lawful (state self.now) }
 
         // The answers that are left are bounded, and end where nothing is resident.
@@ -33,6 +34,7 @@ pub trait Clock: Drop {
     fn answer(&mut self, bit: Bit) -> Result<Verdict, Refusal>
         ensures moved { state self.new ≡ (answered bit (state self.old)).0 }
         ensures exact { result ≡ (answered bit (state self.old)).1 }
+        ensures none { IsErr result ↔ NothingResident (state self.old) }
         ensures err { OnErr result (state self.new ≡ state self.old) }
         ensures lawful { Lawful (state self.new) }
 

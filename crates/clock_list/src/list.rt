@@ -42,8 +42,10 @@ impl ClockList {
         if !(4..=4096).contains(&frames) {
             return Err(Refusal::BadSize);
         }
-        let body = Body::new(alloc, frames).map_err(|_| Refusal::NoMemory)?;
-        Ok(ClockList { body })
+        match Body::new(alloc, frames) {
+            Ok(body) => Ok(ClockList { body }),
+            Err(_) => Err(Refusal::NoMemory),
+        }
     }
 }
 

@@ -1,13 +1,9 @@
-// A library with one function.
+//! Program images: the pages that a process begins with, and its entry.
 #![tactic(auto)]
 
-ghost use Rattle.std.specs.Prelude.{◌≡◌};
-ghost use Rattle.elf_image.specs.Echo.{echo_of};
+mod fault;
+mod image;
+mod words;
 
-// The `ensures` clause is the contract: what `echo` returns is `echo_of` of its argument, a definition
-// in `specs/Echo.antt`, which a caller's clause can cite too.
-pub fn echo(x: usize) -> usize
-    ensures { result ≡ echo_of x }
-{
-    x
-}
+pub use fault::ElfFault;
+pub use image::{Image, ImagePage};

@@ -1,13 +1,13 @@
-// A library with one function.
+//! The environment calls of a process, over any bus.
+//!
+//! An ECALL is served by the number in a7; its answer goes to a0, and pc goes on by 4.
 #![tactic(auto)]
 
-ghost use Rattle.std.specs.Prelude.{◌≡◌};
-ghost use Rattle.env_calls.specs.Echo.{echo_of};
+mod calls;
+mod env;
+mod served;
+mod serving;
 
-// The `ensures` clause is the contract: what `echo` returns is `echo_of` of its argument, a definition
-// in `specs/Echo.antt`, which a caller's clause can cite too.
-pub fn echo(x: usize) -> usize
-    ensures { result ≡ echo_of x }
-{
-    x
-}
+pub use env::Env;
+pub use served::{ServeStop, Served};
+pub use serving::serve;

@@ -42,6 +42,12 @@ impl Flags for Rights {
 }
 
 impl Rights {
+    /// The rights of data: to read and to write.
+    pub const READ_WRITE: Rights = Rights(3);
+
+    /// The rights of code: to read and to execute.
+    pub const READ_EXECUTE: Rights = Rights(5);
+
     /// Whether a page with these rights may be used in this way.
     #[inline]
     pub fn allow(self, access: Access) -> bool

@@ -1,13 +1,20 @@
-// A library with one function.
+//! One instruction of a hart, over any bus.
+//!
+//! `execute` fetches a word at pc and does what the instruction table says of it. Memory is reached
+//! through a [`Bus`] alone, so that the same instructions run on flat and on paged memory.
 #![tactic(auto)]
 
-ghost use Rattle.std.specs.Prelude.{◌≡◌};
-ghost use Rattle.rv_exec.specs.Echo.{echo_of};
+mod amo;
+mod arithmetic;
+mod bus;
+mod cause;
+mod execution;
+mod outcome;
+mod regs;
 
-// The `ensures` clause is the contract: what `echo` returns is `echo_of` of its argument, a definition
-// in `specs/Echo.antt`, which a caller's clause can cite too.
-pub fn echo(x: usize) -> usize
-    ensures { result ≡ echo_of x }
-{
-    x
-}
+pub use amo::AmoOperation;
+pub use bus::{Bus, BusError};
+pub use cause::Cause;
+pub use execution::execute;
+pub use outcome::Outcome;
+pub use regs::Regs;

@@ -1,0 +1,10 @@
+-- the call keeps the state lawful
+use Rattle.clock_list.specs.ClockLaws.{purged_lawful}
+use Rattle.clock_list.specs.BodyState.{state_of}
+use Rattle.clock_list.proofs.list.ClockListClock.purge.Goals as goal
+
+pub invariant_of-self : goal.invariant_of-self
+invariant_of-self c = rw c.purge.ensures.moved (purged_lawful c.args.process (state_of c.self.inside.body) c.self.invariant)
+
+pub returns-clause-lawful : goal.returns-clause-lawful
+returns-clause-lawful c = rw c.purge.ensures.moved (purged_lawful c.args.process (state_of c.self.inside.body) c.self.invariant)

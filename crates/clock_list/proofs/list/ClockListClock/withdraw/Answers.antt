@@ -1,0 +1,13 @@
+-- the call keeps the state lawful
+use Rattle.std.proofs.Common.{◌≡◌, subst, sym}
+use Rattle.clock_list.specs.ClockPro.{ClockState, withdrawn}
+use Rattle.clock_list.specs.Lawful.{Lawful}
+use Rattle.clock_list.specs.ClockLaws.{withdrawn_lawful}
+use Rattle.clock_list.specs.BodyState.{state_of}
+use Rattle.clock_list.proofs.list.ClockListClock.withdraw.Goals as goal
+
+pub invariant_of-self : goal.invariant_of-self
+invariant_of-self c = rw c.withdraw.ensures.moved (withdrawn_lawful c.args.key (state_of c.self.inside.body) c.self.invariant)
+
+pub returns-clause-lawful : goal.returns-clause-lawful
+returns-clause-lawful c = rw c.withdraw.ensures.moved (withdrawn_lawful c.args.key (state_of c.self.inside.body) c.self.invariant)

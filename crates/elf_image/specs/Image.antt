@@ -1,0 +1,54 @@
+-- Images: an entry, and pages with rights by rising number, below 0x70000000.
+use Rattle.std.specs.Prelude.{◌≡◌, ℕ, ◌+◌, ◌-◌, ◌*◌, ◌/◌, ◌<◌, ◌≤◌, ◌^◌, List, ◌++◌, length, map, take, drop, replicate, get_or, IsTrue, flat_map, slice_index_or, ◌==◌, ◌&&◌}
+use Rattle.std.specs.List.{range_with_len, list_any}
+use Rattle.byteorder.specs.Endian.{little_bytes}
+use Rattle.page_memory.specs.Words.{page_number}
+use Rattle.page_memory.specs.Rights.{may, has}
+use Rattle.page_memory.specs.Memory.{Page}
+use Rattle.page_memory.specs.declared.rights.Rights.{Rights}
+use Rattle.page_memory.specs.declared.words.Access.TheVariants.{Fetch, Load, Store}
+use Rattle.elf_image.specs.declared.image.ImagePage.{ImagePage}
+
+pub record ImageContent : Type 0 where
+  pub entry : ℕ
+  pub pages : List ImagePage
+
+-- what every image keeps
+pub record IsLawful (image : ImageContent) : Type 0 where
+  -- pages come by rising number, and so no number twice
+  pub rising : (i j : ℕ) (d : ImagePage) → i < j → j < length image.pages → (slice_index_or image.pages i d).number < (slice_index_or image.pages j d).number
+  -- every page lies below 0x70000000
+  pub low : (i : ℕ) (d : ImagePage) → i < length image.pages → (slice_index_or image.pages i d).number < 458752
+  pub few : length image.pages ≤ 4032
+  -- what may be written may be read
+  pub readable : (i : ℕ) (d : ImagePage) → i < length image.pages → IsTrue (may Store (slice_index_or image.pages i d).page.rights) → IsTrue (may Load (slice_index_or image.pages i d).page.rights)
+  -- the entry lies in a page that may be executed
+  pub entered : IsTrue (list_any (λ listed. (listed.number == page_number image.entry) && may Fetch listed.page.rights) image.pages)
+
+-- the most words that fit into 4032 pages
+abbrev pub most_words : ℕ
+most_words = 4128768
+
+-- the bytes of words, the lowest of each first
+abbrev pub bytes_of : List ℕ → List ℕ
+bytes_of words = flat_map (little_bytes 4) words
+
+-- bytes with zeros up to a page's end
+abbrev pub filled : List ℕ → List ℕ
+filled bytes = bytes ++ replicate (4096 - length bytes) 0
+
+-- the rights to read and to execute
+abbrev pub readable_code : Rights
+readable_code = record { 0 = 5 }
+
+-- the k-th page of words: it may be read and executed, and has the 1024 words from word 1024 k on
+abbrev pub word_page : List ℕ → ℕ → ImagePage
+word_page words k = record { number = 16 + k; page = record { rights = readable_code; bytes = filled (bytes_of (take 1024 (drop (1024 * k) words))) } }
+
+-- how many pages words need
+abbrev pub word_pages : List ℕ → ℕ
+word_pages words = (length words + 1023) / 1024
+
+-- the image of words: they stand from 0x00010000 on, and the first is the entry
+unfoldable pub image_of_words : List ℕ → ImageContent
+image_of_words words = record { entry = 65536; pages = map (word_page words) (range_with_len 0 (word_pages words)) }

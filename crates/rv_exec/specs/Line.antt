@@ -1,0 +1,74 @@
+-- The line of the instruction table that a hart's next step is: what it does to registers and memory
+-- (unprivileged manual, "RV32I Base Integer Instruction Set"; the traps' causes and values are this project's profile).
+use Rattle.std.specs.Prelude.{ℕ, ◌*◌, ◌%◌, ◌^◌, ◌==◌, Bool, true, false, Option, Some, None, Result, Ok, Err}
+use Rattle.page_memory.specs.declared.fault.MemoryFault.{MemoryFault}
+use Rattle.page_memory.specs.Memory.{Memory, fetched}
+use Rattle.rv_isa.specs.declared.instruction.Insn.{Insn}
+use Rattle.rv_isa.specs.declared.instruction.Insn.TheVariants.{Lui, Auipc, Jal, Jalr, Branch, OpImmediate, Shift, Op, Ecall, Ebreak}
+use Rattle.rv_isa.specs.Table.{insn_of}
+use Rattle.rv_exec.specs.declared.cause.Cause.{Cause}
+use Rattle.rv_exec.specs.declared.cause.Cause.TheVariants.{InstructionMisaligned, IllegalInstruction, Breakpoint}
+use Rattle.rv_exec.specs.Causes.{fetch_cause}
+use Rattle.rv_exec.specs.Registers.{Registers, register, with_register, with_pc, next_pc}
+use Rattle.rv_exec.specs.Arithmetic.{word_sum, word_of, even, result_of, immediate_operation, shift_operation, is_taken}
+
+-- what a step does: new registers and memory, an environment call, or a trap with its value
+pub data Line : Type 0 where
+  Next : Registers → Memory → Line
+  Call : Line
+  Traps : Cause → ℕ → Line
+
+-- ---- computing
+
+-- a value goes to rd, and pc to the next instruction
+unfoldable pub computed : Registers → ℕ → ℕ → Registers
+computed regs rd value = with_register (with_pc regs (next_pc regs)) rd value
+
+-- ---- jumps and branches
+
+-- the jump lands where its target is a multiple of 4, and rd gets the address of the next instruction;
+-- else the trap is the jump's: rd and pc keep their values
+abbrev pub landed : Registers → Memory → ℕ → ℕ → Bool → Line
+landed regs memory rd target true = Next (with_register (with_pc regs target) rd (next_pc regs)) memory
+landed regs memory rd target false = Traps InstructionMisaligned target
+
+unfoldable pub jumped : Registers → Memory → ℕ → ℕ → Line
+jumped regs memory rd target = landed regs memory rd target (target % 4 == 0)
+
+-- a branch that is taken is a jump that keeps no address
+abbrev pub branched : Registers → Memory → ℕ → Bool → Line
+branched regs memory target true = jumped regs memory 0 target
+branched regs memory target false = Next (with_pc regs (next_pc regs)) memory
+
+-- ---- the lines
+
+-- what an instruction does
+unfoldable pub insn_line : Registers → Memory → Insn → Line
+insn_line regs memory (Lui rd immediate) = Next (computed regs rd (immediate * 2 ^ 12)) memory
+insn_line regs memory (Auipc rd immediate) = Next (computed regs rd (word_sum regs.pc (immediate * 2 ^ 12))) memory
+insn_line regs memory (Jal rd offset) = jumped regs memory rd (word_sum regs.pc (word_of offset))
+insn_line regs memory (Jalr rd rs1 offset) = jumped regs memory rd (even (word_sum (register regs rs1) (word_of offset)))
+insn_line regs memory (Branch kind rs1 rs2 offset) =
+    branched regs memory (word_sum regs.pc (word_of offset)) (is_taken kind (register regs rs1) (register regs rs2))
+insn_line regs memory (OpImmediate kind rd rs1 immediate) =
+    Next (computed regs rd (result_of (immediate_operation kind) (register regs rs1) (word_of immediate))) memory
+insn_line regs memory (Shift kind rd rs1 amount) =
+    Next (computed regs rd (result_of (shift_operation kind) (register regs rs1) amount)) memory
+insn_line regs memory (Op kind rd rs1 rs2) =
+    Next (computed regs rd (result_of kind (register regs rs1) (register regs rs2))) memory
+insn_line regs memory Ecall = Call
+insn_line regs memory Ebreak = Traps Breakpoint regs.pc
+
+-- what a fetched word does: a word outside the table is an illegal instruction
+abbrev pub decoded_line : Registers → Memory → ℕ → Option Insn → Line
+decoded_line regs memory word None = Traps IllegalInstruction word
+decoded_line regs memory word (Some insn) = insn_line regs memory insn
+
+-- what the answer to the fetch does
+abbrev pub fetched_line : Registers → Memory → Result ℕ MemoryFault → Line
+fetched_line regs memory (Ok word) = decoded_line regs memory word (insn_of word)
+fetched_line regs memory (Err fault) = Traps (fetch_cause fault) regs.pc
+
+-- the line at these registers and this memory
+unfoldable pub line : Registers → Memory → Line
+line regs memory = fetched_line regs memory (fetched memory regs.pc)

@@ -1,0 +1,92 @@
+-- What a hart's next line and the pages that it uses are, by what memory answers to the fetch.
+use Rattle.std.specs.Prelude.{◌≡◌, ℕ, zero, suc, ◌<◌, List, [], ◌∷◌, length, Option, Some, None, Result, Ok, Err, All, Contains, IsOk, slice_index_or, refl}
+use Rattle.std.proofs.Common.{arith, ap, sym, subst, ◌∙◌}
+use Rattle.page_memory.specs.declared.fault.MemoryFault.{MemoryFault}
+use Rattle.page_memory.specs.Words.{page_number}
+use Rattle.page_memory.specs.Memory.{Memory, fetched}
+use Rattle.rv_isa.specs.declared.instruction.Insn.{Insn}
+use Rattle.rv_isa.specs.Table.{insn_of}
+use Rattle.rv_exec.specs.declared.cause.Cause.TheVariants.{IllegalInstruction}
+use Rattle.rv_exec.specs.Causes.{fetch_cause}
+use Rattle.rv_exec.specs.declared.outcome.Outcome.{Outcome}
+use Rattle.rv_exec.specs.declared.outcome.Outcome.TheVariants.{Done, Ecall, Trap, Absent}
+use Rattle.rv_exec.specs.Registers.{Registers}
+use Rattle.rv_exec.specs.Line.{Line, Traps, insn_line, decoded_line, fetched_line, line}
+use Rattle.rv_exec.specs.Uses.{data_pages, decoded_pages, fetched_pages, pages_used}
+use Rattle.rv_exec.specs.Outcomes.{Follows, MatchAbsent}
+
+-- ---- the line
+
+pub line_insn : (regs : Registers) (memory : Memory) (word : ℕ) (insn : Insn) → fetched memory regs.pc ≡ Ok word → insn_of word ≡ Some insn → line regs memory ≡ insn_line regs memory insn
+unfolding line
+line_insn regs memory word insn h d = ap (fetched_line regs memory) h ∙ ap (decoded_line regs memory word) d
+
+pub line_illegal : (regs : Registers) (memory : Memory) (word : ℕ) → fetched memory regs.pc ≡ Ok word → insn_of word ≡ None → line regs memory ≡ Traps IllegalInstruction word
+unfolding line
+line_illegal regs memory word h d = ap (fetched_line regs memory) h ∙ ap (decoded_line regs memory word) d
+
+pub line_fault : (regs : Registers) (memory : Memory) (fault : MemoryFault) → fetched memory regs.pc ≡ Err fault → line regs memory ≡ Traps (fetch_cause fault) regs.pc
+unfolding line
+line_fault regs memory fault h = ap (fetched_line regs memory) h
+
+-- ---- the pages
+
+pages_insn : (regs : Registers) (memory : Memory) (word : ℕ) (insn : Insn) → fetched memory regs.pc ≡ Ok word → insn_of word ≡ Some insn → pages_used regs memory ≡ page_number regs.pc ∷ data_pages regs memory insn
+unfolding pages_used
+pages_insn regs memory word insn h d =
+    ap (fetched_pages regs memory) h ∙ ap (λ found. page_number regs.pc ∷ decoded_pages regs memory found) d
+
+pages_illegal : (regs : Registers) (memory : Memory) (word : ℕ) → fetched memory regs.pc ≡ Ok word → insn_of word ≡ None → pages_used regs memory ≡ page_number regs.pc ∷ []
+unfolding pages_used
+pages_illegal regs memory word h d =
+    ap (fetched_pages regs memory) h ∙ ap (λ found. page_number regs.pc ∷ decoded_pages regs memory found) d
+
+pages_fault : (regs : Registers) (memory : Memory) (fault : MemoryFault) → fetched memory regs.pc ≡ Err fault → pages_used regs memory ≡ []
+unfolding pages_used
+pages_fault regs memory fault h = ap (fetched_pages regs memory) h
+
+all_front : (P : ℕ → Type 0) (page : ℕ) (pages : List ℕ) → P page → All P pages → All P (page ∷ pages)
+all_front P page pages h g zero d k = h
+all_front P page pages h g (suc k) d b = g k d (omega arith)
+
+all_none : (P : ℕ → Type 0) → All P []
+all_none P k d h = absurd (omega arith)
+
+contains_behind : (page other : ℕ) (pages : List ℕ) → Contains pages page → Contains (other ∷ pages) page
+contains_behind page other pages h = (suc h.0, omega arith, h.2)
+
+-- the pages of an instruction are that of its fetch and those of its data
+pub absent_insn : (has lacks has' lacks' : ℕ → Type 0) (regs : Registers) (memory memory' : Memory) (word : ℕ) (insn : Insn) (outcome : Outcome)
+    → fetched memory regs.pc ≡ Ok word → insn_of word ≡ Some insn → memory' ≡ memory
+    → ((page : ℕ) → has' page → has page) → ((page : ℕ) → lacks' page → lacks page) → has (page_number regs.pc)
+    → MatchAbsent outcome (λ page. Contains (data_pages regs memory' insn) page × lacks' page) (All has' (data_pages regs memory' insn))
+    → MatchAbsent outcome (λ page. Contains (pages_used regs memory) page × lacks page) (All has (pages_used regs memory))
+absent_insn has lacks has' lacks' regs memory memory' word insn outcome h d e had lacked first rest =
+    let whole : pages_used regs memory ≡ page_number regs.pc ∷ data_pages regs memory' insn =
+    pages_insn regs memory word insn h d ∙ ap (λ m. page_number regs.pc ∷ data_pages regs m insn) (sym e) in
+    let P : List ℕ → Type 0 = λ pages. MatchAbsent outcome (λ page. Contains pages page × lacks page) (All has pages) in
+    let all : All has' (data_pages regs memory' insn) → All has (page_number regs.pc ∷ data_pages regs memory' insn) =
+    λ g. all_front has (page_number regs.pc) (data_pages regs memory' insn) first (λ k d b. had _ (g k d b)) in
+    subst P (sym whole)
+    (elim outcome as (λ o. MatchAbsent o (λ page. Contains (data_pages regs memory' insn) page × lacks' page) (All has' (data_pages regs memory' insn))
+    → MatchAbsent o (λ page. Contains (page_number regs.pc ∷ data_pages regs memory' insn) page × lacks page) (All has (page_number regs.pc ∷ data_pages regs memory' insn))) [
+      | Done ↦ all
+      | Ecall ↦ all
+      | Trap cause value ↦ all
+      | Absent page ↦ λ g. (contains_behind page (page_number regs.pc) (data_pages regs memory' insn) g.0, lacked page g.1)
+    ] rest)
+
+pub all_illegal : (has : ℕ → Type 0) (regs : Registers) (memory : Memory) (word : ℕ) → fetched memory regs.pc ≡ Ok word → insn_of word ≡ None → has (page_number regs.pc) → All has (pages_used regs memory)
+all_illegal has regs memory word h d first =
+    subst (All has) (sym (pages_illegal regs memory word h d)) (all_front has (page_number regs.pc) [] first (all_none has))
+
+pub all_fault : (has : ℕ → Type 0) (regs : Registers) (memory : Memory) (fault : MemoryFault) → fetched memory regs.pc ≡ Err fault → All has (pages_used regs memory)
+all_fault has regs memory fault h = subst (All has) (sym (pages_fault regs memory fault h)) (all_none has)
+
+contains_first : (regs : Registers) (memory : Memory) (answer : Result ℕ MemoryFault) → IsOk answer → Contains (fetched_pages regs memory answer) (page_number regs.pc)
+contains_first regs memory (Ok word) h = (zero, omega arith, refl)
+contains_first regs memory (Err fault) h = absurd (cc)
+
+pub contains_fetch : (regs : Registers) (memory : Memory) (page : ℕ) → page ≡ page_number regs.pc → IsOk (fetched memory regs.pc) → Contains (pages_used regs memory) page
+unfolding pages_used
+contains_fetch regs memory page e h = subst (Contains (fetched_pages regs memory (fetched memory regs.pc))) (sym e) (contains_first regs memory (fetched memory regs.pc) h)

@@ -1,0 +1,83 @@
+ghost use Rattle.std.specs.Prelude.{◌≡◌, ℕ, ◌+◌, ◌≤◌, length, OnErr};
+ghost use Rattle.page_memory.specs.Words.{page_offset};
+ghost use Rattle.page_memory.specs.Memory.{Memory, fetched, loaded, stored, replaced, copied_out, copied_in};
+
+use crate::amo::AmoOperation;
+use page_memory::{MemoryFault, Width};
+
+/// Why a bus refuses an access. It has changed neither memory nor what a `&mut` slice holds.
+#[derive(Clone, Copy, Debug, PartialEq, Eq)]
+pub enum BusError {
+    /// Memory refuses it, whatever lies where.
+    Fault(MemoryFault),
+    /// Memory allows it, but this page, by number, has to be brought in first.
+    Absent(u32),
+}
+
+/// What instructions reach memory through: each call is one access, and memory is flat.
+///
+/// A bus may answer that a page is absent, and then it is to be asked again once the page is there.
+pub trait Bus {
+    ghost use Rattle.rv_exec.specs.Answers.{Answers, with_answer};
+    ghost use Rattle.rv_exec.specs.Amo.{amo_result};
+
+    /// The memory that the bus stands for.
+    ghost memory: { Self → Memory };
+
+    /// The pages that it may answer absent.
+    ghost lacks: { Self → ℕ → Type 0 };
+
+    /// The pages that it may answer from.
+    ghost has: { Self → ℕ → Type 0 };
+
+    /// What holds of the bus before and after any calls; `memory` aside, all that stays.
+    ghost keeps: { Self → Self → Type 0 };
+
+    /// The word at an address, to be run.
+    fn fetch(&mut self, address: u32) -> Result<u32, BusError>
+        ensures answer { Answers (has self.old) (lacks self.old) address (fetched (memory self.old) address) result }
+        ensures same { memory self.new ≡ memory self.old }
+        ensures kept { keeps self.old self.new };
+
+    /// The number at an address, not extended.
+    fn load(&mut self, width: Width, address: u32) -> Result<u32, BusError>
+        ensures answer { Answers (has self.old) (lacks self.old) address (loaded (memory self.old) width address) result }
+        ensures same { memory self.new ≡ memory self.old }
+        ensures kept { keeps self.old self.new };
+
+    /// Stores the low bytes of a word.
+    fn store(&mut self, width: Width, address: u32, word: u32) -> Result<(), BusError>
+        ensures answer { Answers (has self.old) (lacks self.old) address (stored (memory self.old) width address word) (with_answer (λ _. memory self.new) result) }
+        ensures refused { OnErr result (memory self.new ≡ memory self.old) }
+        ensures kept { keeps self.old self.new };
+
+    /// Replaces the word at an address by the operation's result, in one step, and answers the old word.
+    fn amo(&mut self, address: u32, operation: AmoOperation, operand: u32) -> Result<u32, BusError>
+        ensures answer { Answers (has self.old) (lacks self.old) address (replaced (memory self.old) (λ old. amo_result operation old operand) address) (with_answer (λ old. (old, memory self.new)) result) }
+        ensures refused { OnErr result (memory self.new ≡ memory self.old) }
+        ensures kept { keeps self.old self.new };
+
+    /// Copies bytes of one page to a slice.
+    fn copy_out(&mut self, address: u32, to: &mut [u8]) -> Result<(), BusError>
+        requires within { page_offset address + length to.old ≤ 4096 }
+        ensures answer { Answers (has self.old) (lacks self.old) address (copied_out (memory self.old) address (length to.old)) (with_answer (λ _. to.new) result) }
+        ensures refused { OnErr result (to.new ≡ to.old) }
+        ensures same { memory self.new ≡ memory self.old }
+        ensures kept { keeps self.old self.new };
+
+    /// Copies a slice into one page.
+    fn copy_in(&mut self, address: u32, from: &[u8]) -> Result<(), BusError>
+        requires within { page_offset address + length from.now ≤ 4096 }
+        ensures answer { Answers (has self.old) (lacks self.old) address (copied_in (memory self.old) address from.now) (with_answer (λ _. memory self.new) result) }
+        ensures refused { OnErr result (memory self.new ≡ memory self.old) }
+        ensures kept { keeps self.old self.new };
+
+    // `keeps` is a preorder, and no page is lacked or had after it that was not before.
+    ghost keeps_itself: { (bus : Self) → keeps bus bus };
+
+    ghost keeps_on: { (before between after : Self) → keeps before between → keeps between after → keeps before after };
+
+    ghost lacked_before: { (before after : Self) (page : ℕ) → keeps before after → lacks after page → lacks before page };
+
+    ghost had_before: { (before after : Self) (page : ℕ) → keeps before after → has after page → has before page };
+}

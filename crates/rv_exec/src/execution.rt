@@ -1,0 +1,143 @@
+ghost use Rattle.std.specs.Prelude.{◌≡◌, All, Contains};
+ghost use Rattle.page_memory.specs.Memory.{Memory};
+ghost use Rattle.rv_exec.specs.Registers.{Registers};
+ghost use Rattle.rv_exec.specs.Line.{line, insn_line, jumped, branched, computed};
+ghost use Rattle.rv_exec.specs.Uses.{pages_used, data_pages};
+ghost use Rattle.rv_exec.specs.Outcomes.{Follows, UnlessDone, MatchAbsent};
+
+use crate::arithmetic::{add, branches, operate, operate_immediate, shift, without_lowest_bit};
+use crate::bus::{Bus, BusError};
+use crate::cause::Cause;
+use crate::outcome::Outcome;
+use crate::regs::Regs;
+use rv_isa::{Insn, Reg, decode};
+
+/// Runs a hart's next instruction: fetches the word at pc and does what the instruction table says of it.
+///
+/// Takes no memory.
+#[inline]
+pub fn execute<B: Bus>(regs: &mut Regs, bus: &mut B) -> Outcome
+    ensures line { Follows (line regs.old (B.memory bus.old)) result regs.new (B.memory bus.new) }
+    ensures registers_stay { UnlessDone result (regs.new ≡ regs.old) }
+    ensures memory_stays { UnlessDone result (B.memory bus.new ≡ B.memory bus.old) }
+
+    // Absent only for a page that the instruction uses and the bus lacks; else it used pages that the bus has.
+    ensures absent { MatchAbsent result (λ page. Contains (pages_used regs.old (B.memory bus.old)) page × B.lacks bus.old page) (All (B.has bus.old) (pages_used regs.old (B.memory bus.old))) }
+    ensures kept { B.keeps bus.old bus.new }
+{
+    let pc = regs.pc();
+    match bus.fetch(pc) {
+        Ok(word) => match decode(word) {
+            Some(insn) => perform(regs, bus, &insn),
+            None => Outcome::Trap(Cause::IllegalInstruction, word),
+        },
+        Err(BusError::Fault(fault)) => Outcome::Trap(Cause::of_fetch(fault), pc),
+        Err(BusError::Absent(page)) => Outcome::Absent(page),
+    }
+}
+
+/// Does what the table says of an instruction that was fetched at pc.
+#[inline]
+#[tactic(auto, unfolding(crate::specs::Line::insn_line, crate::specs::Uses::data_pages))]
+fn perform<B: Bus>(regs: &mut Regs, bus: &mut B, insn: &Insn) -> Outcome
+    ensures line { Follows (insn_line regs.old (B.memory bus.old) insn.now) result regs.new (B.memory bus.new) }
+    ensures registers_stay { UnlessDone result (regs.new ≡ regs.old) }
+    ensures memory_stays { UnlessDone result (B.memory bus.new ≡ B.memory bus.old) }
+    ensures absent { MatchAbsent result (λ page. Contains (data_pages regs.old (B.memory bus.old) insn.now) page × B.lacks bus.old page) (All (B.has bus.old) (data_pages regs.old (B.memory bus.old) insn.now)) }
+    ensures kept { B.keeps bus.old bus.new }
+{
+    match *insn {
+        Insn::Lui { rd, immediate } => compute(regs, rd, immediate.value() << 12),
+        Insn::Auipc { rd, immediate } => {
+            let sum = add(regs.pc(), immediate.value() << 12);
+            compute(regs, rd, sum)
+        }
+        Insn::Jal { rd, offset } => {
+            let target = add(regs.pc(), offset.word());
+            jump(regs, rd, target)
+        }
+        Insn::Jalr { rd, rs1, offset } => {
+            let target = without_lowest_bit(add(regs.read(rs1), offset.word()));
+            jump(regs, rd, target)
+        }
+        Insn::Branch {
+            kind,
+            rs1,
+            rs2,
+            offset,
+        } => {
+            let target = add(regs.pc(), offset.word());
+            let taken = branches(kind, regs.read(rs1), regs.read(rs2));
+            branch(regs, target, taken)
+        }
+        Insn::OpImmediate {
+            kind,
+            rd,
+            rs1,
+            immediate,
+        } => {
+            let value = operate_immediate(kind, regs.read(rs1), immediate.word());
+            compute(regs, rd, value)
+        }
+        Insn::Shift {
+            kind,
+            rd,
+            rs1,
+            amount,
+        } => {
+            let value = shift(kind, regs.read(rs1), u32::from(amount.value()));
+            compute(regs, rd, value)
+        }
+        Insn::Op { kind, rd, rs1, rs2 } => {
+            let value = operate(kind, regs.read(rs1), regs.read(rs2));
+            compute(regs, rd, value)
+        }
+        Insn::Ecall => Outcome::Ecall,
+        Insn::Ebreak => Outcome::Trap(Cause::Breakpoint, regs.pc()),
+    }
+}
+
+/// Writes a value to rd, and moves pc on.
+#[inline]
+#[tactic(auto, unfolding(crate::specs::Line::computed))]
+fn compute(regs: &mut Regs, rd: Reg, value: u32) -> Outcome
+    ensures done { result ≡ Outcome.Done }
+    ensures written { regs.new ≡ computed regs.old rd value }
+{
+    regs.set_pc(regs.next_pc());
+    regs.write(rd, value);
+    Outcome::Done
+}
+
+/// Jumps to a target, and keeps the address of the next instruction in rd.
+#[inline]
+#[tactic(auto, unfolding(crate::specs::Line::jumped))]
+fn jump(regs: &mut Regs, rd: Reg, target: u32) -> Outcome
+    ensures line { (memory : Memory) → Follows (jumped regs.old memory rd target) result regs.new memory }
+    ensures registers_stay { UnlessDone result (regs.new ≡ regs.old) }
+    ensures present { MatchAbsent result (λ page. ⊥) (Unit {0}) }
+{
+    if target % 4 == 0 {
+        let link = regs.next_pc();
+        regs.set_pc(target);
+        regs.write(rd, link);
+        Outcome::Done
+    } else {
+        Outcome::Trap(Cause::InstructionMisaligned, target)
+    }
+}
+
+/// Jumps to a target where the branch is taken.
+#[inline]
+fn branch(regs: &mut Regs, target: u32, taken: bool) -> Outcome
+    ensures line { (memory : Memory) → Follows (branched regs.old memory target taken) result regs.new memory }
+    ensures registers_stay { UnlessDone result (regs.new ≡ regs.old) }
+    ensures present { MatchAbsent result (λ page. ⊥) (Unit {0}) }
+{
+    if taken {
+        jump(regs, Reg::from_index(0), target)
+    } else {
+        regs.set_pc(regs.next_pc());
+        Outcome::Done
+    }
+}

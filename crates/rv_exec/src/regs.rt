@@ -1,0 +1,83 @@
+ghost use Rattle.std.specs.Prelude.{◌≡◌};
+ghost use Rattle.rv_exec.specs.Registers.{register, with_register, with_pc, next_pc, cleared};
+
+use rv_isa::Reg;
+use std::marker::Model;
+
+/// A hart's registers: pc and `x1` to `x31`. `x0` reads 0 and is never written.
+#[derive(Clone, Copy, Debug, PartialEq, Eq)]
+pub struct Regs {
+    pc: u32,
+    /// By number; the entry of `x0` stays 0, so that a read needs no test.
+    x: [u32; 32],
+}
+
+impl Model for Regs {
+    ghost use Rattle.std.specs.Prelude.{◌≡◌, ◌∷◌, drop, slice_index, length};
+    ghost use Rattle.rv_exec.specs.Registers.{Registers};
+
+    ghost Value = { Registers };
+
+    ghost view = { λ regs. record { pc = regs.pc; x = drop 1 regs.x } };
+
+    ghost invariant = { λ regs. (length regs.x ≡ 32) × (slice_index regs.x 0 ≡ 0) };
+
+    ghost inverse = { λ value. record { pc = value.pc; x = 0 ∷ value.x } };
+
+    ghost use Rattle.std.proofs.Common.{ap};
+    ghost use Rattle.rv_exec.specs.declared.regs.Regs.TheInside.{Inside};
+    ghost use Rattle.rv_exec.specs.RegistersLaws.{with_zero};
+
+    ghost inverse_ok = { λ regs lawful. ap (λ x. let inside : Inside = record { pc = regs.pc; x = x } in inside) (with_zero regs.x lawful.0 lawful.1) };
+}
+
+impl Regs {
+    /// The registers of a hart that is to begin at pc: all others are 0.
+    #[tactic(auto, unfolding(crate::specs::Registers::cleared))]
+    pub fn new(pc: u32) -> Self
+        ensures { result ≡ cleared pc }
+    {
+        Regs { pc, x: [0; 32] }
+    }
+
+    #[inline]
+    pub fn pc(&self) -> u32
+        ensures { result ≡ self.now.pc }
+    {
+        self.pc
+    }
+
+    /// The address of the instruction after the one at pc.
+    #[inline]
+    #[tactic(auto, unfolding(crate::specs::Registers::next_pc))]
+    pub fn next_pc(&self) -> u32
+        ensures { result ≡ next_pc self.now }
+    {
+        self.pc.wrapping_add(4)
+    }
+
+    #[inline]
+    #[tactic(auto, unfolding(crate::specs::Registers::with_pc))]
+    pub fn set_pc(&mut self, pc: u32)
+        ensures { self.new ≡ with_pc self.old pc }
+    {
+        self.pc = pc;
+    }
+
+    #[inline]
+    #[tactic(auto, using(crate::specs::RegistersLaws::read_at))]
+    pub fn read(&self, index: Reg) -> u32
+        ensures { result ≡ register self.now index }
+    {
+        self.x[index.index() as usize]
+    }
+
+    #[inline]
+    #[tactic(auto, using(crate::specs::RegistersLaws::written_at))]
+    pub fn write(&mut self, index: Reg, value: u32)
+        ensures { self.new ≡ with_register self.old index value }
+    {
+        self.x[index.index() as usize] = value;
+        self.x[0] = 0;
+    }
+}

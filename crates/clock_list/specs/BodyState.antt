@@ -1,6 +1,6 @@
 -- The state that the fields of a body stand for.
-use Rattle.std.specs.Prelude.{ℕ, ◌<◌, length}
-use Rattle.clock_list.specs.declared.entry.Key.{Key}
+use Rattle.std.specs.Prelude.{◌<◌, length}
+use Rattle.clock_list.specs.declared.key.Key.{Key}
 use Rattle.clock_list.specs.declared.body.Body.{Body}
 use Rattle.clock_list.specs.ClockPro.{ClockState, place}
 
@@ -11,7 +11,7 @@ state_of b = record {
   asked = b.asked;
   entries = b.entries.items;
   cold_hand = b.cold_hand;
-  test_hand = b.test_hand
+  test_hand = b.test_hand;
 }
 
 -- the list has an entry of the key

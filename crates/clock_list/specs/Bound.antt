@@ -1,9 +1,9 @@
 -- The bound on how long the questions go on with no victim.
 use Rattle.std.specs.Prelude.{◌≡◌, ℕ, ◌+◌, ◌-◌, ◌*◌, cond, nat_lt, Option, Some, None, List, [], ◌∷◌, Result, Ok, Err}
-use Rattle.clock_list.specs.declared.entry.Key.{Key}
-use Rattle.clock_list.specs.declared.entry.Bit.{Bit}
-use Rattle.clock_list.specs.declared.entry.Verdict.{Verdict}
-use Rattle.clock_list.specs.declared.entry.Verdict.TheVariants.{GoOn, Victim}
+use Rattle.clock_list.specs.declared.key.Key.{Key}
+use Rattle.clock_list.specs.declared.answer.Bit.{Bit}
+use Rattle.clock_list.specs.declared.answer.Verdict.{Verdict}
+use Rattle.clock_list.specs.declared.answer.Verdict.TheVariants.{GoOn, Victim}
 use Rattle.clock_list.specs.declared.refusal.Refusal.{Refusal}
 use Rattle.clock_list.specs.ClockPro.{ClockState, hot_count, cold_count, answered}
 

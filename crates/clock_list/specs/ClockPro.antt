@@ -2,18 +2,18 @@
 --
 -- The list is a circle whose front is where the hot hand stands. The next of an entry is the one behind it, and the next of the last
 -- is the front. The other two hands stand on an entry each, told by its key, or on none where the list is empty.
-use Rattle.std.specs.Prelude.{◌≡◌, ℕ, suc, ◌+◌, ◌-◌, ◌*◌, Bool, true, false, ◌==◌, ◌&&◌, ◌||◌, not, cond, nat_lt, min, max, List, [], ◌∷◌, ◌++◌, take, drop, set, filter, find, option_map, unwrap_or, is_some, Option, Some, None, Result, Ok, Err}
+use Rattle.std.specs.Prelude.{ℕ, suc, ◌+◌, ◌-◌, ◌*◌, Bool, true, false, ◌==◌, ◌&&◌, ◌||◌, not, cond, nat_lt, min, max, List, [], ◌∷◌, ◌++◌, take, drop, set, filter, find, option_map, unwrap_or, Option, Some, None, Result, Ok, Err}
 use Rattle.std.specs.List.{list_any}
-use Rattle.clock_list.specs.declared.entry.Key.{Key}
+use Rattle.clock_list.specs.declared.key.Key.{Key}
 use Rattle.clock_list.specs.declared.entry.Entry.{Entry}
 use Rattle.clock_list.specs.declared.entry.EntryKind.{EntryKind}
 use Rattle.clock_list.specs.declared.entry.EntryKind.TheVariants.{Hot, Test, Cold, Shadow}
-use Rattle.clock_list.specs.declared.entry.Kind.{Kind}
-use Rattle.clock_list.specs.declared.entry.Kind.TheVariants as kind
-use Rattle.clock_list.specs.declared.entry.Bit.{Bit}
-use Rattle.clock_list.specs.declared.entry.Bit.TheVariants.{Zero, One, Gone}
-use Rattle.clock_list.specs.declared.entry.Verdict.{Verdict}
-use Rattle.clock_list.specs.declared.entry.Verdict.TheVariants.{GoOn, Victim}
+use Rattle.clock_list.specs.declared.answer.Kind.{Kind}
+use Rattle.clock_list.specs.declared.answer.Kind.TheVariants as kind
+use Rattle.clock_list.specs.declared.answer.Bit.{Bit}
+use Rattle.clock_list.specs.declared.answer.Bit.TheVariants.{Zero, One, Gone}
+use Rattle.clock_list.specs.declared.answer.Verdict.{Verdict}
+use Rattle.clock_list.specs.declared.answer.Verdict.TheVariants.{GoOn, Victim}
 use Rattle.clock_list.specs.declared.refusal.Refusal.{Refusal}
 use Rattle.clock_list.specs.declared.refusal.Refusal.TheVariants.{AlreadyResident, NoQuestion, NotThere, Full}
 
@@ -107,7 +107,7 @@ unfoldable pub relisted : List Entry → ClockState → ClockState
 relisted new s = record s {
   entries = new;
   cold_hand = settled s.entries new s.cold_hand;
-  test_hand = settled s.entries new s.test_hand
+  test_hand = settled s.entries new s.test_hand;
 }
 
 -- the entry of the key is taken out
@@ -120,7 +120,7 @@ unfoldable pub appended : Entry → ClockState → ClockState
 appended e s = record s {
   entries = s.entries ++ e ∷ [];
   cold_hand = Some (unwrap_or s.cold_hand e.key);
-  test_hand = Some (unwrap_or s.test_hand e.key)
+  test_hand = Some (unwrap_or s.test_hand e.key);
 }
 
 -- the entry of the key becomes of this kind, where it stands
@@ -147,8 +147,8 @@ asks_hot s = nat_lt (s.frames - s.share) (hot_count s.entries) || (cold_count s.
 unfoldable pub asked_entry : ClockState → Option Entry
 asked_entry s =
     cond (asks_hot s)
-      (find (λ e. is_hot e.kind) s.entries)
-      (find (λ e. is_cold e.kind) (round (place_of s.cold_hand s.entries) s.entries))
+    (find (λ e. is_hot e.kind) s.entries)
+    (find (λ e. is_cold e.kind) (round (place_of s.cold_hand s.entries) s.entries))
 
 -- The answer for a hot entry.
 
@@ -205,8 +205,8 @@ trimmed_tests (e ∷ es) = cond (is_shadow e.kind) 1 (cond (is_in_test e.kind) 1
 abbrev pub trimmed_list : ℕ → List Entry → List Entry
 trimmed_list i l =
     cond (list_any (λ e. is_shadow e.kind) (drop i l))
-      (take i l ++ trimmed_part (drop i l))
-      (trimmed_part (take i l) ++ trimmed_part (drop i l))
+    (take i l ++ trimmed_part (drop i l))
+    (trimmed_part (take i l) ++ trimmed_part (drop i l))
 
 -- From the test hand on to the first shadow each test ends. The hand stops on that shadow, which goes: the hand rests on its next.
 unfoldable pub trimmed_once : ClockState → ClockState

@@ -1,6 +1,6 @@
 -- What holds of every state that the calls reach from an empty list of 4 to 4096 frames.
-use Rattle.std.specs.Prelude.{◌≡◌, ℕ, ◌+◌, ◌*◌, ◌≤◌, ◌<◌, List, [], length, Option, Some, None}
-use Rattle.clock_list.specs.declared.entry.Key.{Key}
+use Rattle.std.specs.Prelude.{◌≡◌, ◌+◌, ◌*◌, ◌≤◌, ◌<◌, List, length, Option, Some, None}
+use Rattle.clock_list.specs.declared.key.Key.{Key}
 use Rattle.clock_list.specs.declared.entry.Entry.{Entry}
 use Rattle.clock_list.specs.ClockPro.{ClockState, number, has_key, hot_count, cold_count, shadow_count}
 

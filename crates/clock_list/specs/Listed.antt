@@ -1,11 +1,10 @@
 -- What a look-up finds stands in the list.
-use Rattle.std.specs.Prelude.{◌≡◌, ℕ, suc, ◌+◌, ◌<◌, Bool, true, false, ◌&&◌, ◌||◌, ◌==◌, cond, Option, Some, None, is_some, option_map, find, List, [], ◌∷◌, ◌++◌, take, drop, length, refl}
+use Rattle.std.specs.Prelude.{◌≡◌, ℕ, suc, ◌<◌, Bool, true, false, ◌||◌, cond, Some, is_some, option_map, find, List, [], ◌∷◌, take, drop, length, refl}
 use Rattle.std.specs.List.{list_any}
-use Rattle.std.proofs.Common.{arith, sym, ap, ◌∙◌, rules}
-use Rattle.std.proofs.lemmas.Grind.{common_steps}
+use Rattle.std.proofs.Common.{arith, sym, ap, ◌∙◌}
 use Rattle.std.proofs.lemmas.List.{take-append-drop}
 use Rattle.std.proofs.lemmas.List.Folds.{list_any-append}
-use Rattle.clock_list.specs.declared.entry.Key.{Key}
+use Rattle.clock_list.specs.declared.key.Key.{Key}
 use Rattle.clock_list.specs.declared.entry.Entry.{Entry}
 use Rattle.clock_list.specs.ClockPro.{ClockState, has_key, place, place_of, place_of, round, is_hot, is_cold, asks_hot, asked_entry, kind_of}
 
@@ -17,8 +16,8 @@ pub place_within : (k : Key) (l : List Entry) → list_any (has_key k) l ≡ tru
 place_within k [] h = cc
 place_within k (e ∷ es) h =
     elim (has_key k e) as (λ t. t || list_any (has_key k) es ≡ true → cond t 0 (suc (place k es)) < suc (length es)) [
-      true ↦ λ _. omega arith
-    | false ↦ λ g. omega (arith, place_within k es g)
+      | true ↦ λ _. omega arith
+      | false ↦ λ g. omega (arith, place_within k es g)
     ] h
 
 or_true : (b : Bool) → b || true ≡ true
@@ -34,8 +33,8 @@ pub found_any : (p : Entry → Bool) (l : List Entry) (x : Entry) → find p l �
 found_any p [] x h = cc
 found_any p (e ∷ es) x h =
     elim (p e) as (λ t. cond t (Some e) (find p es) ≡ Some x → has_key x.key e || list_any (has_key x.key) es ≡ true) [
-      true ↦ λ g. let same : e ≡ x = cc in rw (← same) (rw (has_key_refl e) refl)
-    | false ↦ λ g. rw (found_any p es x g) (or_true (has_key x.key e))
+      | true ↦ λ g. let same : e ≡ x = cc in rw (← same) (rw (has_key_refl e) refl)
+      | false ↦ λ g. rw (found_any p es x g) (or_true (has_key x.key e))
     ] h
 
 pub list_any-round : (q : Entry → Bool) (i : ℕ) (l : List Entry) → list_any q (round i l) ≡ list_any q l
@@ -55,14 +54,14 @@ pub asked_listed : (s : ClockState) (x : Entry) → asked_entry s ≡ Some x →
 unfolding asked_entry
 asked_listed s x h =
     elim (asks_hot s) as (λ t. cond t (find (λ e. is_hot e.kind) s.entries) (find (λ e. is_cold e.kind) (round (place_of s.cold_hand s.entries) s.entries)) ≡ Some x → place x.key s.entries < length s.entries) [
-      true ↦ λ g. found_listed (λ e. is_hot e.kind) s.entries x g
-    | false ↦ λ g. found_listed_round (λ e. is_cold e.kind) (place_of s.cold_hand s.entries) s.entries x g
+      | true ↦ λ g. found_listed (λ e. is_hot e.kind) s.entries x g
+      | false ↦ λ g. found_listed_round (λ e. is_cold e.kind) (place_of s.cold_hand s.entries) s.entries x g
     ] h
 
 pub kind_listed : (k : Key) (l : List Entry) → is_some (kind_of k l) ≡ true → place k l < length l
 kind_listed k [] h = cc
 kind_listed k (e ∷ es) h =
     elim (has_key k e) as (λ t. is_some (option_map (λ (x : Entry). x.kind) (cond t (Some e) (find (has_key k) es))) ≡ true → cond t 0 (suc (place k es)) < suc (length es)) [
-      true ↦ λ _. omega arith
-    | false ↦ λ g. omega (arith, kind_listed k es g)
+      | true ↦ λ _. omega arith
+      | false ↦ λ g. omega (arith, kind_listed k es g)
     ] h

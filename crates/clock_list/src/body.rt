@@ -4,12 +4,14 @@ ghost use Rattle.std.specs.Prelude.{◌≡◌, ◌≤◌, ◌<◌, ◌+◌, ◌-
 ghost use Rattle.clock_list.specs.ClockPro.{place, relisted, removed, appended, marked, sent_to_end, grown, fallen, turned_to, cold_hand_on, shadowed, trimmed_once, trimmed, asked_entry, asks_hot, opening, question_of, purged, gone_on, gives_up, heeded, test_answered, cold_answered, answered, is_full, new_admitted, shadow_admitted, admitted, new_restored, shadow_restored, restored, withdrawn};
 ghost use Rattle.clock_list.specs.Lawful.{HasFewEntries};
 
-use crate::entry::{Bit, Entry, EntryKind, Key, Kind, Verdict};
+use crate::answer::{Bit, Kind, Verdict};
+use crate::entry::{Entry, EntryKind};
+use crate::key::Key;
 use crate::rebuild::{rebuild_trimmed, rebuild_turned, rebuild_without, rebuild_without_process};
 use crate::refusal::Refusal;
 use crate::scan::{
-    cold_count, first_cold_from, first_hot, first_key_from, first_shadow_from, hot_count, kind_of, place,
-    place_of, settled, shadow_count, test_count,
+    cold_count, first_cold_from, first_hot, first_key_from, first_shadow_from, hot_count, kind_of,
+    place, place_of, settled, shadow_count, test_count,
 };
 use std::alloc::{AllocError, Global};
 use std::mem;
@@ -21,7 +23,7 @@ pub(crate) struct Body {
     pub(crate) share: usize,
     pub(crate) asked: usize,
     pub(crate) entries: Vec<Entry>,
-    pub(crate) spare: Vec<Entry>,
+    spare: Vec<Entry>,
     pub(crate) cold_hand: Option<Key>,
     pub(crate) test_hand: Option<Key>,
     ghost least: { 4 ≤ frames },

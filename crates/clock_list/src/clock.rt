@@ -5,7 +5,9 @@ ghost use Rattle.clock_list.specs.ClockPro.{ClockState, question_of, answered, a
 ghost use Rattle.clock_list.specs.Lawful.{Lawful};
 ghost use Rattle.clock_list.specs.Bound.{left, NothingResident};
 
-use crate::entry::{Bit, EntryKind, Key, Kind, Verdict};
+use crate::answer::{Bit, Kind, Verdict};
+use crate::entry::EntryKind;
+use crate::key::Key;
 use crate::refusal::Refusal;
 
 /// A list of pages under CLOCK-Pro, which names the page that is to leave its frame.

@@ -1,26 +1,11 @@
 ghost use Rattle.std.specs.Prelude.{◌≡◌};
 ghost use Rattle.clock_list.specs.ClockPro.{has_key, is_hot, is_cold, is_shadow, is_in_test};
 
+use crate::key::Key;
 use std::fmt;
 
-/// A page: a process by its number, and the number of one of its virtual pages.
-#[derive(Clone, Copy, Debug, PartialEq, Eq, Hash)]
-pub struct Key {
-    pub process: u32,
-    pub vpn: u32,
-}
-
-/// As `P/V`, both in decimal.
-impl fmt::Display for Key {
-    fn fmt<W: fmt::Write>(&self, f: &mut fmt::Formatter<W>) -> fmt::Result {
-        let process = self.process;
-        let vpn = self.vpn;
-        write!(f, "{process}/{vpn}")
-    }
-}
-
 /// What the list knows of a page.
-#[derive(Clone, Copy, Debug, PartialEq, Eq, Hash)]
+#[derive(Clone, Copy, Debug, PartialEq, Eq)]
 pub enum EntryKind {
     /// resident, and used again within its test
     Hot,
@@ -83,7 +68,7 @@ impl EntryKind {
 }
 
 /// One place of the list.
-#[derive(Clone, Copy, Debug, PartialEq, Eq, Hash)]
+#[derive(Clone, Copy, Debug, PartialEq, Eq)]
 pub struct Entry {
     pub key: Key,
     pub kind: EntryKind,
@@ -95,35 +80,4 @@ impl Entry {
     {
         self.key.process == key.process && self.key.vpn == key.vpn
     }
-}
-
-/// What a page that is admitted becomes.
-#[derive(Clone, Copy, Debug, PartialEq, Eq, Hash)]
-pub enum Kind {
-    Hot,
-    Test,
-}
-
-impl fmt::Display for Kind {
-    fn fmt<W: fmt::Write>(&self, f: &mut fmt::Formatter<W>) -> fmt::Result {
-        f.write_str(match self {
-            Kind::Hot => "hot",
-            Kind::Test => "test",
-        })
-    }
-}
-
-/// The answer to a question: the page's accessed bit, or that the page is no longer resident.
-#[derive(Clone, Copy, Debug, PartialEq, Eq, Hash)]
-pub enum Bit {
-    Zero,
-    One,
-    Gone,
-}
-
-/// What an answer leads to: the next question, or a page that is to leave.
-#[derive(Clone, Copy, Debug, PartialEq, Eq, Hash)]
-pub enum Verdict {
-    GoOn,
-    Victim(Key),
 }

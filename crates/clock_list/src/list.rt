@@ -5,15 +5,19 @@ ghost use Rattle.clock_list.specs.ClockPro.{opening, question_of, answered, admi
 ghost use Rattle.clock_list.specs.Lawful.{Lawful};
 ghost use Rattle.clock_list.specs.Bound.{left, NothingResident};
 
+use crate::answer::{Bit, Kind, Verdict};
 use crate::body::Body;
 use crate::clock::Clock;
-use crate::entry::{Bit, EntryKind, Key, Kind, Verdict};
+use crate::entry::EntryKind;
+use crate::key::Key;
 use crate::refusal::Refusal;
 use crate::scan::process_count;
 use std::alloc::Global;
 use std::marker::Model;
 
-/// CLOCK-Pro over a vector of entries. All its memory is taken by `new`, and each call takes time in the order of the list's length.
+/// CLOCK-Pro over a vector of entries. All its memory is taken by `new`.
+///
+/// A call takes time in the order of the list's length, and as much again for each shadow under a hand that it takes out of the list.
 #[derive(Debug, Drop)]
 pub struct ClockList {
     body: Body,

@@ -1,6 +1,8 @@
 //! The policy told move by move, one entry at a time, with its loops written out: what the list's equations are tested against.
 
-use crate::entry::{Bit, Entry, EntryKind, Key, Kind, Verdict};
+use crate::answer::{Bit, Kind, Verdict};
+use crate::entry::{Entry, EntryKind};
+use crate::key::Key;
 use crate::refusal::Refusal;
 use std::alloc::{AllocError, Global};
 
@@ -216,10 +218,7 @@ impl Walked {
         }
     }
 
-    pub(crate) fn answer(
-        &mut self,
-        bit: Bit,
-    ) -> Result<Result<Verdict, Refusal>, AllocError> {
+    pub(crate) fn answer(&mut self, bit: Bit) -> Result<Result<Verdict, Refusal>, AllocError> {
         let Some(x) = self.asked_entry() else {
             return Ok(Err(Refusal::NoQuestion));
         };
@@ -292,7 +291,12 @@ impl Walked {
     pub(crate) fn purge(&mut self, process: u32) -> u32 {
         let mut gone = 0u32;
         for _ in 0..self.list.len() {
-            match self.list.iter().find(|e| e.key.process == process).map(|e| e.key) {
+            match self
+                .list
+                .iter()
+                .find(|e| e.key.process == process)
+                .map(|e| e.key)
+            {
                 Some(key) => {
                     self.remove(key);
                     gone = gone.saturating_add(1);

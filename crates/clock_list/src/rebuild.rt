@@ -4,7 +4,8 @@ ghost use Rattle.std.specs.Prelude.{◌≡◌, ◌≤◌, ◌<◌, ◌+◌, ◌*
 ghost use Rattle.std.specs.List.{list_any};
 ghost use Rattle.clock_list.specs.ClockPro.{test_ended, tests_ended, trimmed_part, trimmed_tests, trimmed_list, round, hot_left, is_shadow, is_of};
 
-use crate::entry::{Bit, Entry, EntryKind};
+use crate::answer::Bit;
+use crate::entry::{Entry, EntryKind};
 use crate::scan::has_shadow;
 
 fn copy(to: &mut Vec<Entry>, from: &[Entry])

@@ -4,7 +4,7 @@ ghost use Rattle.clock_list.specs.RefusalNumber.{refusal_number};
 use thiserror::Error;
 
 /// Why a call of the list was refused. A refused call changes nothing, and the refusals of a call are tested in this order.
-#[derive(Clone, Copy, Debug, PartialEq, Eq, Hash, Error)]
+#[derive(Clone, Copy, Debug, PartialEq, Eq, Error)]
 pub enum Refusal {
     #[error("the page is resident already")]
     AlreadyResident,

@@ -4,8 +4,9 @@ ghost use Rattle.std.specs.Prelude.{◌≡◌, ◌≤◌, ◌*◌, length, IsNon
 ghost use Rattle.clock_list.specs.ClockPro.{ClockState};
 ghost use Rattle.clock_list.specs.Bound.{NothingResident, run_state, run_victim};
 
+use crate::answer::{Bit, Verdict};
 use crate::clock::Clock;
-use crate::entry::{Bit, Key, Verdict};
+use crate::key::Key;
 
 /// Answers the questions by the bits in turn, until one names a victim or nothing is resident.
 ///

@@ -4,7 +4,8 @@ ghost use Rattle.std.specs.Prelude.{◌≡◌, ◌≤◌, ◌<◌, ℕ, length, 
 ghost use Rattle.std.specs.List.{list_any};
 ghost use Rattle.clock_list.specs.ClockPro.{hot_count, cold_count, shadow_count, test_count, place, place_of, round, key_of, stays_in, settled, is_hot, is_cold, is_shadow, kind_of, number, is_of};
 
-use crate::entry::{Entry, EntryKind, Key};
+use crate::entry::{Entry, EntryKind};
+use crate::key::Key;
 
 #[tactic(auto, using(crate::specs::Counts::number_is))]
 pub(crate) fn hot_count(entries: &[Entry]) -> usize
@@ -68,10 +69,7 @@ pub(crate) fn place_of(entries: &[Entry], hand: Option<Key>) -> usize
 pub(crate) fn kind_of(entries: &[Entry], key: Key) -> Option<EntryKind>
     ensures { result ≡ kind_of key entries.now }
 {
-    entries
-        .iter()
-        .find(|e| e.has_key(key))
-        .map(|e| e.kind)
+    entries.iter().find(|e| e.has_key(key)).map(|e| e.kind)
 }
 
 pub(crate) fn first_hot(entries: &[Entry]) -> Option<Entry>

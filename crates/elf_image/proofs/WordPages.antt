@@ -13,7 +13,7 @@ use Rattle.std.proofs.lemmas.Bool.Decides.{eqb_tells}
 use Rattle.std.proofs.lemmas.List.Folds.{list_any_at}
 use Rattle.page_memory.specs.Words.{page_number, page_offset}
 use Rattle.elf_image.specs.declared.image.ImagePage.{ImagePage}
-use Rattle.elf_image.specs.Image.{ImageContent, IsLawful, bytes_of, filled, word_page, word_pages, most_words, readable_code}
+use Rattle.elf_image.specs.Image.{ImageContent, ArePages, IsLawful, bytes_of, filled, word_page, word_pages, most_words, readable_code}
 
 length-bytes_of : (words : List ℕ) → length (bytes_of words) ≡ 4 * length words
 length-bytes_of [] = refl
@@ -77,10 +77,12 @@ lawful_words words pages some few e =
     let count : length pages ≡ word_pages words = ap length e ∙ length-map-range_with_len (word_page words) 0 (word_pages words) in
     let most : word_pages words ≤ 4032 = omega arith in
     record {
+      pages = record {
       rising = λ i j d below within. let a = ap (λ (p : ImagePage). p.number) (at i d (omega arith)) in let b = ap (λ (p : ImagePage). p.number) (at j d within) in omega arith;
       low = λ i d within. let a = ap (λ (p : ImagePage). p.number) (at i d within) in omega arith;
       few = omega arith;
       readable = λ i d within _. subst (λ (p : ImagePage). IsTrue (may Load p.page.rights)) (sym (at i d within)) refl;
+      };
       entered = entered pages count most e;
     }
   where

@@ -13,15 +13,19 @@ pub record ImageContent : Type 0 where
   pub entry : ℕ
   pub pages : List ImagePage
 
+-- pages that an image may have
+pub record ArePages (pages : List ImagePage) : Type 0 where
+  -- they come by rising number, and so no number twice
+  pub rising : (i j : ℕ) (d : ImagePage) → i < j → j < length pages → (slice_index_or pages i d).number < (slice_index_or pages j d).number
+  -- they lie below 0x70000000
+  pub low : (i : ℕ) (d : ImagePage) → i < length pages → (slice_index_or pages i d).number < 458752
+  pub few : length pages ≤ 4032
+  -- what may be written may be read
+  pub readable : (i : ℕ) (d : ImagePage) → i < length pages → IsTrue (may Store (slice_index_or pages i d).page.rights) → IsTrue (may Load (slice_index_or pages i d).page.rights)
+
 -- what every image keeps
 pub record IsLawful (image : ImageContent) : Type 0 where
-  -- pages come by rising number, and so no number twice
-  pub rising : (i j : ℕ) (d : ImagePage) → i < j → j < length image.pages → (slice_index_or image.pages i d).number < (slice_index_or image.pages j d).number
-  -- every page lies below 0x70000000
-  pub low : (i : ℕ) (d : ImagePage) → i < length image.pages → (slice_index_or image.pages i d).number < 458752
-  pub few : length image.pages ≤ 4032
-  -- what may be written may be read
-  pub readable : (i : ℕ) (d : ImagePage) → i < length image.pages → IsTrue (may Store (slice_index_or image.pages i d).page.rights) → IsTrue (may Load (slice_index_or image.pages i d).page.rights)
+  pub pages : ArePages image.pages
   -- the entry lies in a page that may be executed
   pub entered : IsTrue (list_any (λ listed. (listed.number == page_number image.entry) && may Fetch listed.page.rights) image.pages)
 

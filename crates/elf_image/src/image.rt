@@ -1,5 +1,5 @@
 ghost use Rattle.std.specs.Prelude.{◌≡◌};
-ghost use Rattle.elf_image.specs.Image.{IsLawful};
+ghost use Rattle.elf_image.specs.Image.{ArePages, IsLawful};
 
 use std::marker::Model;
 
@@ -49,6 +49,7 @@ impl Image {
     pub fn pages(&self) -> &[ImagePage]
         ensures pages { result.now ≡ self.now.pages }
         ensures lawful { IsLawful self.now }
+        ensures ordered { ArePages self.now.pages }
     {
         self.pages.as_slice()
     }

@@ -1,5 +1,5 @@
 -- What an answer of `serve` says of the call's effect.
-use Rattle.std.specs.Prelude.{◌≡◌, ℕ, ◌<◌, length, Result, Ok, Err}
+use Rattle.std.specs.Prelude.{◌≡◌, ℕ, ◌<◌, List, length, All, Contains, Result, Ok, Err}
 use Rattle.page_memory.specs.Memory.{Memory}
 use Rattle.rv_exec.specs.Registers.{Registers}
 use Rattle.env_calls.specs.declared.served.Served.{Served}
@@ -20,8 +20,8 @@ Lengthens env (Runs regs after memory) = length env.output < length after.output
 Lengthens env (Exits status regs after memory) = length env.output < length after.output
 Lengthens env (Traps cause value) = ⊥
 
--- a fact of the page that is absent, one where memory is wanting, and one of each other answer
-abbrev pub MatchServed : {A : Type 0} → Result A ServeStop → (ℕ → Type 0) → Type 0 → Type 0 → Type 0
-MatchServed (Ok served) P Q R = R
-MatchServed (Err (Absent page)) P Q R = P page
-MatchServed (Err NoMemory) P Q R = Q
+-- of these pages, which the call uses, the bus has each; or it lacks the one that is absent
+abbrev pub UsesPages : {A : Type 0} → (has lacks : ℕ → Type 0) → List ℕ → Result A ServeStop → Type 0
+UsesPages has lacks pages (Ok served) = All has pages
+UsesPages has lacks pages (Err (Absent page)) = Contains pages page × lacks page
+UsesPages has lacks pages (Err NoMemory) = All has pages

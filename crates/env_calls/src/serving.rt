@@ -1,18 +1,26 @@
-ghost use Rattle.std.specs.Prelude.{◌≡◌, ℕ, ◌+◌, ◌<◌, ◌≤◌, ◌^◌, All, Contains, IfOk, OnErr};
+ghost use Rattle.std.specs.Prelude.{◌≡◌, ◌+◌, ◌<◌, ◌≤◌, Err, IfOk, OnErr};
 ghost use Rattle.page_memory.specs.Words.{page_offset};
 ghost use Rattle.page_memory.specs.Memory.{copied_out};
 ghost use Rattle.rv_exec.specs.Registers.{register};
 ghost use Rattle.rv_exec.specs.Uses.{page_of_access};
 ghost use Rattle.rv_exec.specs.Line.{computed};
 ghost use Rattle.env_calls.specs.Calls.{call, call_pages, write, wrote, write_pages, count_in_page, a0, a1, a2};
-ghost use Rattle.env_calls.specs.Serving.{Serves, Lengthens, MatchServed};
+ghost use Rattle.env_calls.specs.Serving.{Serves, Lengthens, UsesPages};
 
 use crate::calls::Call;
 use crate::env::Env;
 use crate::served::{ServeStop, Served};
 use page_memory::{PAGE_SIZE, offset_in_page};
 use rv_exec::{Bus, BusError, Regs};
-use rv_isa::Reg;
+
+/// The numbers of the registers that a call's number, arguments and answer are in.
+const A0: u8 = 10;
+
+const A1: u8 = 11;
+
+const A2: u8 = 12;
+
+const A7: u8 = 17;
 
 /// The answer -14: the address is in no page that the call may use.
 const BAD_ADDRESS: u32 = 0xFFFF_FFF2;
@@ -31,19 +39,24 @@ pub fn serve<B: Bus>(
     regs: &mut Regs,
     bus: &mut B,
 ) -> Result<Served, ServeStop>
-    ensures served { IfOk result (λ served. Serves (call hart regs.old env.old (B.memory bus.old)) served regs.new env.new (B.memory bus.new)) }
+    ensures served { let effect = call hart regs.old env.old (B.memory bus.old) in
+        IfOk result (λ served. Serves effect served regs.new env.new (B.memory bus.new)) }
     ensures regs_stay { OnErr result (regs.new ≡ regs.old) }
     ensures env_stays { OnErr result (env.new ≡ env.old) }
     ensures memory_stays { OnErr result (B.memory bus.new ≡ B.memory bus.old) }
 
-    // Absent only for a page that the call uses and the bus lacks, and no memory only for output; else it used pages that the bus has.
-    ensures stopped { MatchServed result (λ page. Contains (call_pages regs.old (B.memory bus.old)) page × B.lacks bus.old page) (Lengthens env.old (call hart regs.old env.old (B.memory bus.old)) × All (B.has bus.old) (call_pages regs.old (B.memory bus.old))) (All (B.has bus.old) (call_pages regs.old (B.memory bus.old))) }
+    // Absent only for a page that the call uses and the bus lacks; else the bus has all that it used.
+    ensures pages { let used = call_pages regs.old (B.memory bus.old) in
+        UsesPages (B.has bus.old) (B.lacks bus.old) used result }
+
+    // Only output takes memory.
+    ensures no_memory { result ≡ Err ServeStop.NoMemory → Lengthens env.old (call hart regs.old env.old (B.memory bus.old)) }
     ensures kept { B.keeps bus.old bus.new }
 {
-    match Call::from_number(regs.read(Reg::from_index(17))) {
+    match Call::from_number(regs.x(A7)) {
         Some(Call::Write) => serve_write(env, regs, bus),
         Some(Call::Exit) => {
-            let status = regs.read(Reg::from_index(10));
+            let status = regs.x(A0);
             regs.set_pc(regs.next_pc());
             Ok(Served::Ended(status))
         }
@@ -58,7 +71,7 @@ fn answer(regs: &mut Regs, value: u32) -> Served
     ensures answered { regs.new ≡ computed regs.old a0 value }
 {
     regs.set_pc(regs.next_pc());
-    regs.write(Reg::from_index(10), value);
+    regs.set_x(A0, value);
     Served::Continue
 }
 
@@ -75,15 +88,21 @@ fn count_in_page(address: u32, length: u32) -> u32
 /// Serves a write.
 #[tactic(auto, unfolding(crate::specs::Calls::answers, crate::specs::Calls::write, crate::specs::Calls::write_pages))]
 fn serve_write<B: Bus>(env: &mut Env, regs: &mut Regs, bus: &mut B) -> Result<Served, ServeStop>
-    ensures served { IfOk result (λ served. Serves (write regs.old env.old (B.memory bus.old) (register regs.old a1) (register regs.old a2)) served regs.new env.new (B.memory bus.new)) }
+    ensures served { let memory = B.memory bus.old in
+        let effect = write regs.old env.old memory (register regs.old a1) (register regs.old a2) in
+        IfOk result (λ served. Serves effect served regs.new env.new (B.memory bus.new)) }
     ensures regs_stay { OnErr result (regs.new ≡ regs.old) }
     ensures env_stays { OnErr result (env.new ≡ env.old) }
     ensures memory_stays { OnErr result (B.memory bus.new ≡ B.memory bus.old) }
-    ensures stopped { MatchServed result (λ page. Contains (write_pages (B.memory bus.old) (register regs.old a1) (register regs.old a2)) page × B.lacks bus.old page) (Lengthens env.old (write regs.old env.old (B.memory bus.old) (register regs.old a1) (register regs.old a2)) × All (B.has bus.old) (write_pages (B.memory bus.old) (register regs.old a1) (register regs.old a2))) (All (B.has bus.old) (write_pages (B.memory bus.old) (register regs.old a1) (register regs.old a2))) }
+    ensures pages { let used = write_pages (B.memory bus.old) (register regs.old a1) (register regs.old a2) in
+        UsesPages (B.has bus.old) (B.lacks bus.old) used result }
+    ensures no_memory { let memory = B.memory bus.old in
+        let effect = write regs.old env.old memory (register regs.old a1) (register regs.old a2) in
+        result ≡ Err ServeStop.NoMemory → Lengthens env.old effect }
     ensures kept { B.keeps bus.old bus.new }
 {
-    let address = regs.read(Reg::from_index(11));
-    let length = regs.read(Reg::from_index(12));
+    let address = regs.x(A1);
+    let length = regs.x(A2);
     if length == 0 {
         Ok(answer(regs, 0))
     } else {
@@ -102,11 +121,17 @@ fn write_in_page<B: Bus>(
 ) -> Result<Served, ServeStop>
     requires within { page_offset address + count ≤ 4096 }
     requires some { 0 < count }
-    ensures served { IfOk result (λ served. Serves (wrote regs.old env.old (B.memory bus.old) count (copied_out (B.memory bus.old) address count)) served regs.new env.new (B.memory bus.new)) }
+    ensures served { let bytes = copied_out (B.memory bus.old) address count in
+        let effect = wrote regs.old env.old (B.memory bus.old) count bytes in
+        IfOk result (λ served. Serves effect served regs.new env.new (B.memory bus.new)) }
     ensures regs_stay { OnErr result (regs.new ≡ regs.old) }
     ensures env_stays { OnErr result (env.new ≡ env.old) }
     ensures memory_stays { OnErr result (B.memory bus.new ≡ B.memory bus.old) }
-    ensures stopped { MatchServed result (λ page. Contains (page_of_access address (copied_out (B.memory bus.old) address count)) page × B.lacks bus.old page) (Lengthens env.old (wrote regs.old env.old (B.memory bus.old) count (copied_out (B.memory bus.old) address count)) × All (B.has bus.old) (page_of_access address (copied_out (B.memory bus.old) address count))) (All (B.has bus.old) (page_of_access address (copied_out (B.memory bus.old) address count))) }
+    ensures pages { let used = page_of_access address (copied_out (B.memory bus.old) address count) in
+        UsesPages (B.has bus.old) (B.lacks bus.old) used result }
+    ensures no_memory { let bytes = copied_out (B.memory bus.old) address count in
+        let effect = wrote regs.old env.old (B.memory bus.old) count bytes in
+        result ≡ Err ServeStop.NoMemory → Lengthens env.old effect }
     ensures kept { B.keeps bus.old bus.new }
 {
     let mut page = [0; PAGE_SIZE];

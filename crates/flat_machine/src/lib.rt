@@ -1,13 +1,14 @@
-// A library with one function.
+//! The reference: a process on flat memory, its steps, and its runs by a schedule.
 #![tactic(auto)]
 
-ghost use Rattle.std.specs.Prelude.{◌≡◌};
-ghost use Rattle.flat_machine.specs.Echo.{echo_of};
+mod end;
+mod opening;
+mod process;
+mod running;
+mod schedule;
+mod stepping;
 
-// The `ensures` clause is the contract: what `echo` returns is `echo_of` of its argument, a definition
-// in `specs/Echo.antt`, which a caller's clause can cite too.
-pub fn echo(x: usize) -> usize
-    ensures { result ≡ echo_of x }
-{
-    x
-}
+pub use end::{End, KillCause};
+pub use process::FlatProcess;
+pub use schedule::{MOST_TURNS, Schedule, ScheduleError, Turn};
+pub use stepping::StepRefusal;

@@ -13,7 +13,7 @@ use Rattle.rv_exec.specs.declared.outcome.Outcome.TheVariants.{Done, Ecall, Trap
 use Rattle.rv_exec.specs.Registers.{Registers}
 use Rattle.rv_exec.specs.Line.{Line, Traps, insn_line, decoded_line, fetched_line, line}
 use Rattle.rv_exec.specs.Uses.{data_pages, decoded_pages, fetched_pages, pages_used}
-use Rattle.rv_exec.specs.Outcomes.{Follows, MatchAbsent}
+use Rattle.rv_exec.specs.Outcomes.{UsesPages}
 
 -- ---- the line
 
@@ -56,24 +56,23 @@ contains_behind : (page other : ℕ) (pages : List ℕ) → Contains pages page 
 contains_behind page other pages h = (suc h.0, omega arith, h.2)
 
 -- the pages of an instruction are that of its fetch and those of its data
-pub absent_insn : (has lacks has' lacks' : ℕ → Type 0) (regs : Registers) (memory memory' : Memory) (word : ℕ) (insn : Insn) (outcome : Outcome)
+pub uses_insn : (has lacks has' lacks' : ℕ → Type 0) (regs : Registers) (memory memory' : Memory) (word : ℕ) (insn : Insn) (outcome : Outcome)
     → fetched memory regs.pc ≡ Ok word → insn_of word ≡ Some insn → memory' ≡ memory
     → ((page : ℕ) → has' page → has page) → ((page : ℕ) → lacks' page → lacks page) → has (page_number regs.pc)
-    → MatchAbsent outcome (λ page. Contains (data_pages regs memory' insn) page × lacks' page) (All has' (data_pages regs memory' insn))
-    → MatchAbsent outcome (λ page. Contains (pages_used regs memory) page × lacks page) (All has (pages_used regs memory))
-absent_insn has lacks has' lacks' regs memory memory' word insn outcome h d e had lacked first rest =
-    let whole : pages_used regs memory ≡ page_number regs.pc ∷ data_pages regs memory' insn =
+    → UsesPages has' lacks' (data_pages regs memory' insn) outcome
+    → UsesPages has lacks (pages_used regs memory) outcome
+uses_insn has lacks has' lacks' regs memory memory' word insn outcome h d e had lacked first rest =
+    let data_used : List ℕ = data_pages regs memory' insn in
+    let whole : pages_used regs memory ≡ page_number regs.pc ∷ data_used =
     pages_insn regs memory word insn h d ∙ ap (λ m. page_number regs.pc ∷ data_pages regs m insn) (sym e) in
-    let P : List ℕ → Type 0 = λ pages. MatchAbsent outcome (λ page. Contains pages page × lacks page) (All has pages) in
-    let all : All has' (data_pages regs memory' insn) → All has (page_number regs.pc ∷ data_pages regs memory' insn) =
-    λ g. all_front has (page_number regs.pc) (data_pages regs memory' insn) first (λ k d b. had _ (g k d b)) in
-    subst P (sym whole)
-    (elim outcome as (λ o. MatchAbsent o (λ page. Contains (data_pages regs memory' insn) page × lacks' page) (All has' (data_pages regs memory' insn))
-    → MatchAbsent o (λ page. Contains (page_number regs.pc ∷ data_pages regs memory' insn) page × lacks page) (All has (page_number regs.pc ∷ data_pages regs memory' insn))) [
+    let all : All has' data_used → All has (page_number regs.pc ∷ data_used) =
+    λ g. all_front has (page_number regs.pc) data_used first (λ k d b. had _ (g k d b)) in
+    subst (λ pages. UsesPages has lacks pages outcome) (sym whole)
+    (elim outcome as (λ o. UsesPages has' lacks' data_used o → UsesPages has lacks (page_number regs.pc ∷ data_used) o) [
       | Done ↦ all
       | Ecall ↦ all
       | Trap cause value ↦ all
-      | Absent page ↦ λ g. (contains_behind page (page_number regs.pc) (data_pages regs memory' insn) g.0, lacked page g.1)
+      | Absent page ↦ λ g. (contains_behind page (page_number regs.pc) data_used g.0, lacked page g.1)
     ] rest)
 
 pub all_illegal : (has : ℕ → Type 0) (regs : Registers) (memory : Memory) (word : ℕ) → fetched memory regs.pc ≡ Ok word → insn_of word ≡ None → has (page_number regs.pc) → All has (pages_used regs memory)

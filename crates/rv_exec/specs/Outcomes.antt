@@ -1,5 +1,5 @@
 -- What an outcome of `execute` says of the line that the hart's next step is.
-use Rattle.std.specs.Prelude.{◌≡◌, ℕ}
+use Rattle.std.specs.Prelude.{◌≡◌, ℕ, List, All, Contains}
 use Rattle.page_memory.specs.Memory.{Memory}
 use Rattle.rv_exec.specs.declared.outcome.Outcome.{Outcome}
 use Rattle.rv_exec.specs.declared.outcome.Outcome.TheVariants.{Done, Ecall, Trap, Absent}
@@ -20,9 +20,15 @@ UnlessDone Ecall fact = fact
 UnlessDone (Trap cause value) fact = fact
 UnlessDone (Absent page) fact = fact
 
--- a fact of an absent page, or another where the answer is not one
-abbrev pub MatchAbsent : Outcome → (ℕ → Type 0) → Type 0 → Type 0
-MatchAbsent Done P Q = Q
-MatchAbsent Ecall P Q = Q
-MatchAbsent (Trap cause value) P Q = Q
-MatchAbsent (Absent page) P Q = P page
+-- of these pages, which the instruction uses, the bus has each; or it lacks the one that is absent
+abbrev pub UsesPages : (has lacks : ℕ → Type 0) → List ℕ → Outcome → Type 0
+UsesPages has lacks pages Done = All has pages
+UsesPages has lacks pages Ecall = All has pages
+UsesPages has lacks pages (Trap cause value) = All has pages
+UsesPages has lacks pages (Absent page) = Contains pages page × lacks page
+
+abbrev pub IsPresent : Outcome → Type 0
+IsPresent Done = Unit {0}
+IsPresent Ecall = Unit {0}
+IsPresent (Trap cause value) = Unit {0}
+IsPresent (Absent page) = ⊥

@@ -14,6 +14,16 @@ pub enum BusError {
     Absent(u32),
 }
 
+impl From<MemoryFault> for BusError {
+    ghost use Rattle.rv_exec.specs.declared.bus.BusError.TheVariants.{Fault};
+
+    ghost from_gives = { λ fault refusal. refusal ≡ Fault fault };
+
+    fn from(fault: MemoryFault) -> BusError {
+        BusError::Fault(fault)
+    }
+}
+
 /// What instructions reach memory through: each call is one access, and memory is flat.
 ///
 /// A bus may answer that a page is absent, and then it is to be asked again once the page is there.
@@ -35,32 +45,41 @@ pub trait Bus {
 
     /// The word at an address, to be run.
     fn fetch(&mut self, address: u32) -> Result<u32, BusError>
-        ensures answer { Answers (has self.old) (lacks self.old) address (fetched (memory self.old) address) result }
+        ensures answer { let expected = fetched (memory self.old) address in
+            Answers (has self.old) (lacks self.old) address expected result }
         ensures same { memory self.new ≡ memory self.old }
         ensures kept { keeps self.old self.new };
 
     /// The number at an address, not extended.
     fn load(&mut self, width: Width, address: u32) -> Result<u32, BusError>
-        ensures answer { Answers (has self.old) (lacks self.old) address (loaded (memory self.old) width address) result }
+        ensures answer { let expected = loaded (memory self.old) width address in
+            Answers (has self.old) (lacks self.old) address expected result }
         ensures same { memory self.new ≡ memory self.old }
         ensures kept { keeps self.old self.new };
 
     /// Stores the low bytes of a word.
     fn store(&mut self, width: Width, address: u32, word: u32) -> Result<(), BusError>
-        ensures answer { Answers (has self.old) (lacks self.old) address (stored (memory self.old) width address word) (with_answer (λ _. memory self.new) result) }
+        ensures answer { let expected = stored (memory self.old) width address word in
+            let after = with_answer (λ _. memory self.new) result in
+            Answers (has self.old) (lacks self.old) address expected after }
         ensures refused { OnErr result (memory self.new ≡ memory self.old) }
         ensures kept { keeps self.old self.new };
 
     /// Replaces the word at an address by the operation's result, in one step, and answers the old word.
     fn amo(&mut self, address: u32, operation: AmoOperation, operand: u32) -> Result<u32, BusError>
-        ensures answer { Answers (has self.old) (lacks self.old) address (replaced (memory self.old) (λ old. amo_result operation old operand) address) (with_answer (λ old. (old, memory self.new)) result) }
+        ensures answer { let update = λ (old : ℕ). amo_result operation old operand in
+            let expected = replaced (memory self.old) update address in
+            let after = with_answer (λ old. (old, memory self.new)) result in
+            Answers (has self.old) (lacks self.old) address expected after }
         ensures refused { OnErr result (memory self.new ≡ memory self.old) }
         ensures kept { keeps self.old self.new };
 
     /// Copies bytes of one page to a slice.
     fn copy_out(&mut self, address: u32, to: &mut [u8]) -> Result<(), BusError>
         requires within { page_offset address + length to.old ≤ 4096 }
-        ensures answer { Answers (has self.old) (lacks self.old) address (copied_out (memory self.old) address (length to.old)) (with_answer (λ _. to.new) result) }
+        ensures answer { let expected = copied_out (memory self.old) address (length to.old) in
+            let copied = with_answer (λ _. to.new) result in
+            Answers (has self.old) (lacks self.old) address expected copied }
         ensures refused { OnErr result (to.new ≡ to.old) }
         ensures same { memory self.new ≡ memory self.old }
         ensures kept { keeps self.old self.new };
@@ -68,7 +87,9 @@ pub trait Bus {
     /// Copies a slice into one page.
     fn copy_in(&mut self, address: u32, from: &[u8]) -> Result<(), BusError>
         requires within { page_offset address + length from.now ≤ 4096 }
-        ensures answer { Answers (has self.old) (lacks self.old) address (copied_in (memory self.old) address from.now) (with_answer (λ _. memory self.new) result) }
+        ensures answer { let expected = copied_in (memory self.old) address from.now in
+            let after = with_answer (λ _. memory self.new) result in
+            Answers (has self.old) (lacks self.old) address expected after }
         ensures refused { OnErr result (memory self.new ≡ memory self.old) }
         ensures kept { keeps self.old self.new };
 

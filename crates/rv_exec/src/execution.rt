@@ -1,9 +1,8 @@
-ghost use Rattle.std.specs.Prelude.{◌≡◌, All, Contains};
+ghost use Rattle.std.specs.Prelude.{◌≡◌, ◌<◌};
 ghost use Rattle.page_memory.specs.Memory.{Memory};
-ghost use Rattle.rv_exec.specs.Registers.{Registers};
 ghost use Rattle.rv_exec.specs.Line.{line, insn_line, jumped, branched, computed};
 ghost use Rattle.rv_exec.specs.Uses.{pages_used, data_pages};
-ghost use Rattle.rv_exec.specs.Outcomes.{Follows, UnlessDone, MatchAbsent};
+ghost use Rattle.rv_exec.specs.Outcomes.{Follows, UnlessDone, UsesPages, IsPresent};
 
 use crate::arithmetic::{add, branches, operate, operate_immediate, shift, without_lowest_bit};
 use crate::bus::{Bus, BusError};
@@ -21,8 +20,9 @@ pub fn execute<B: Bus>(regs: &mut Regs, bus: &mut B) -> Outcome
     ensures registers_stay { UnlessDone result (regs.new ≡ regs.old) }
     ensures memory_stays { UnlessDone result (B.memory bus.new ≡ B.memory bus.old) }
 
-    // Absent only for a page that the instruction uses and the bus lacks; else it used pages that the bus has.
-    ensures absent { MatchAbsent result (λ page. Contains (pages_used regs.old (B.memory bus.old)) page × B.lacks bus.old page) (All (B.has bus.old) (pages_used regs.old (B.memory bus.old))) }
+    // Absent only for a page that the instruction uses and the bus lacks; else the bus has all that it used.
+    ensures pages { let used = pages_used regs.old (B.memory bus.old) in
+        UsesPages (B.has bus.old) (B.lacks bus.old) used result }
     ensures kept { B.keeps bus.old bus.new }
 {
     let pc = regs.pc();
@@ -40,10 +40,12 @@ pub fn execute<B: Bus>(regs: &mut Regs, bus: &mut B) -> Outcome
 #[inline]
 #[tactic(auto, unfolding(crate::specs::Line::insn_line, crate::specs::Uses::data_pages))]
 fn perform<B: Bus>(regs: &mut Regs, bus: &mut B, insn: &Insn) -> Outcome
-    ensures line { Follows (insn_line regs.old (B.memory bus.old) insn.now) result regs.new (B.memory bus.new) }
+    ensures line { let line = insn_line regs.old (B.memory bus.old) insn.now in
+        Follows line result regs.new (B.memory bus.new) }
     ensures registers_stay { UnlessDone result (regs.new ≡ regs.old) }
     ensures memory_stays { UnlessDone result (B.memory bus.new ≡ B.memory bus.old) }
-    ensures absent { MatchAbsent result (λ page. Contains (data_pages regs.old (B.memory bus.old) insn.now) page × B.lacks bus.old page) (All (B.has bus.old) (data_pages regs.old (B.memory bus.old) insn.now)) }
+    ensures pages { let used = data_pages regs.old (B.memory bus.old) insn.now in
+        UsesPages (B.has bus.old) (B.lacks bus.old) used result }
     ensures kept { B.keeps bus.old bus.new }
 {
     match *insn {
@@ -54,11 +56,11 @@ fn perform<B: Bus>(regs: &mut Regs, bus: &mut B, insn: &Insn) -> Outcome
         }
         Insn::Jal { rd, offset } => {
             let target = add(regs.pc(), offset.word());
-            jump(regs, rd, target)
+            jump(regs, rd.index(), target)
         }
         Insn::Jalr { rd, rs1, offset } => {
             let target = without_lowest_bit(add(regs.read(rs1), offset.word()));
-            jump(regs, rd, target)
+            jump(regs, rd.index(), target)
         }
         Insn::Branch {
             kind,
@@ -109,18 +111,19 @@ fn compute(regs: &mut Regs, rd: Reg, value: u32) -> Outcome
     Outcome::Done
 }
 
-/// Jumps to a target, and keeps the address of the next instruction in rd.
+/// Jumps to a target, and keeps the address of the next instruction in the register of this number.
 #[inline]
 #[tactic(auto, unfolding(crate::specs::Line::jumped))]
-fn jump(regs: &mut Regs, rd: Reg, target: u32) -> Outcome
-    ensures line { (memory : Memory) → Follows (jumped regs.old memory rd target) result regs.new memory }
+fn jump(regs: &mut Regs, link: u8, target: u32) -> Outcome
+    requires { link < 32 }
+    ensures line { (memory : Memory) → Follows (jumped regs.old memory link target) result regs.new memory }
     ensures registers_stay { UnlessDone result (regs.new ≡ regs.old) }
-    ensures present { MatchAbsent result (λ page. ⊥) (Unit {0}) }
+    ensures present { IsPresent result }
 {
     if target % 4 == 0 {
-        let link = regs.next_pc();
+        let next = regs.next_pc();
         regs.set_pc(target);
-        regs.write(rd, link);
+        regs.set_x(link, next);
         Outcome::Done
     } else {
         Outcome::Trap(Cause::InstructionMisaligned, target)
@@ -132,10 +135,10 @@ fn jump(regs: &mut Regs, rd: Reg, target: u32) -> Outcome
 fn branch(regs: &mut Regs, target: u32, taken: bool) -> Outcome
     ensures line { (memory : Memory) → Follows (branched regs.old memory target taken) result regs.new memory }
     ensures registers_stay { UnlessDone result (regs.new ≡ regs.old) }
-    ensures present { MatchAbsent result (λ page. ⊥) (Unit {0}) }
+    ensures present { IsPresent result }
 {
     if taken {
-        jump(regs, Reg::from_index(0), target)
+        jump(regs, 0, target)
     } else {
         regs.set_pc(regs.next_pc());
         Outcome::Done

@@ -9,6 +9,7 @@ mod arithmetic;
 mod bus;
 mod cause;
 mod execution;
+mod flat_bus;
 mod outcome;
 mod regs;
 

@@ -1,4 +1,4 @@
-ghost use Rattle.std.specs.Prelude.{◌≡◌};
+ghost use Rattle.std.specs.Prelude.{◌≡◌, ◌<◌};
 ghost use Rattle.rv_exec.specs.Registers.{register, with_register, with_pc, next_pc, cleared};
 
 use rv_isa::Reg;
@@ -64,20 +64,40 @@ impl Regs {
         self.pc = pc;
     }
 
+    /// The value of a register that an instruction names.
     #[inline]
-    #[tactic(auto, using(crate::specs::RegistersLaws::read_at))]
-    pub fn read(&self, index: Reg) -> u32
-        ensures { result ≡ register self.now index }
+    pub fn read(&self, named: Reg) -> u32
+        ensures { result ≡ register self.now named }
     {
-        self.x[index.index() as usize]
+        self.x(named.index())
     }
 
+    /// Writes the register that an instruction names.
+    #[inline]
+    pub fn write(&mut self, named: Reg, value: u32)
+        ensures { self.new ≡ with_register self.old named value }
+    {
+        self.set_x(named.index(), value);
+    }
+
+    /// The value of a register by its number: 0 for `x0`.
+    #[inline]
+    #[tactic(auto, using(crate::specs::RegistersLaws::read_at))]
+    pub fn x(&self, number: u8) -> u32
+        requires { number < 32 }
+        ensures { result ≡ register self.now number }
+    {
+        self.x[number as usize]
+    }
+
+    /// Writes a register by its number; what is written to `x0` is lost.
     #[inline]
     #[tactic(auto, using(crate::specs::RegistersLaws::written_at))]
-    pub fn write(&mut self, index: Reg, value: u32)
-        ensures { self.new ≡ with_register self.old index value }
+    pub fn set_x(&mut self, number: u8, value: u32)
+        requires { number < 32 }
+        ensures { self.new ≡ with_register self.old number value }
     {
-        self.x[index.index() as usize] = value;
+        self.x[number as usize] = value;
         self.x[0] = 0;
     }
 }

@@ -1,13 +1,14 @@
-// A library with one function.
+//! Sv32 page tables.
 #![tactic(auto)]
 
-ghost use Rattle.std.specs.Prelude.{◌≡◌};
-ghost use Rattle.sv32_table.specs.Echo.{echo_of};
+mod fault;
+mod page_tables;
+mod pte;
+mod tables;
+mod walk;
 
-// The `ensures` clause is the contract: what `echo` returns is `echo_of` of its argument, a definition
-// in `specs/Echo.antt`, which a caller's clause can cite too.
-pub fn echo(x: usize) -> usize
-    ensures { result ≡ echo_of x }
-{
-    x
-}
+pub use fault::{MapFault, NoTable, WalkFault};
+pub use page_tables::PageTables;
+pub use pte::{Pte, Shape};
+pub use tables::{MAX_TABLES, TABLE_PPN, Tables};
+pub use walk::Leaf;

@@ -23,7 +23,7 @@ impl Model for Reg {
 impl Reg {
     /// The register of an index below 32.
     #[inline]
-    pub(crate) fn from_index(index: u8) -> Self
+    pub fn from_index(index: u8) -> Self
         requires { index < 32 }
         ensures { result ≡ index }
     {

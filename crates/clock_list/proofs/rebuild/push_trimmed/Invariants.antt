@@ -1,4 +1,4 @@
-use Rattle.std.proofs.Common.{◌≡◌, ◌+◌, ◌≤◌, ◌++◌, drop, take, vec_len, vec_capacity}
+use Rattle.std.proofs.Common.{◌≡◌, ◌+◌, ◌≤◌, ◌++◌, drop, vec_len, vec_capacity}
 use Rattle.clock_list.specs.ClockPro.{trimmed_part, trimmed_tests}
 use Rattle.clock_list.proofs.rebuild.push_trimmed.Given as goal
 
@@ -8,5 +8,5 @@ invariant-loop-i l = record {
   tests : l.tests + trimmed_tests (drop l.i l.part) ≡ trimmed_tests l.part;
   few : l.tests ≤ l.i;
   len : vec_len l.to ≤ vec_len l.initial.to + l.i;
-  capacity : vec_capacity l.initial.to ≤ vec_capacity l.to
+  capacity : vec_capacity l.initial.to ≤ vec_capacity l.to;
 }

@@ -1,4 +1,4 @@
-use Rattle.std.proofs.Common.{◌≡◌, ◌+◌, ◌≤◌, ◌++◌, drop, take, vec_len, vec_capacity}
+use Rattle.std.proofs.Common.{◌≡◌, ◌≤◌, ◌++◌, drop, vec_len, vec_capacity}
 use Rattle.std.specs.Prelude.{filter, not}
 use Rattle.clock_list.specs.ClockPro.{is_of}
 use Rattle.clock_list.proofs.rebuild.rebuild_without_process.Given as goal
@@ -7,5 +7,5 @@ abbrev pub invariant-loop-entry : goal.invariant-loop-entry
 invariant-loop-entry l = record {
   items : l.to.items ++ filter (λ e. not (is_of l.process e)) (drop l.entry-index l.entries) ≡ filter (λ e. not (is_of l.process e)) l.entries;
   len : vec_len l.to ≤ l.entry-index;
-  capacity : vec_capacity l.initial.to ≤ vec_capacity l.to
+  capacity : vec_capacity l.initial.to ≤ vec_capacity l.to;
 }

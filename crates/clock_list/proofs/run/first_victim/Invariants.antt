@@ -12,5 +12,5 @@ invariant-loop-bit g l =
       moved : run_state (drop l.bit-index l.bits) now ≡ run_state l.bits start;
       victim : run_victim (drop l.bit-index l.bits) now ≡ run_victim l.bits start;
       lawful : Lawful now;
-      fewer : left now + l.bit-index ≤ 5 * start.frames
+      fewer : left now + l.bit-index ≤ 5 * start.frames;
     }

@@ -3,7 +3,7 @@ use Rattle.std.proofs.Common.{◌≡◌, ℕ, sym, ap, ◌∙◌, subst, Option,
 use Rattle.page_memory.specs.Words.{page_number}
 use Rattle.page_memory.specs.Memory.{fetched}
 use Rattle.rv_exec.specs.Line.{line, insn_line}
-use Rattle.rv_exec.specs.LineLaws.{line_insn, line_illegal, line_fault, absent_insn, all_illegal, all_fault, contains_fetch}
+use Rattle.rv_exec.specs.LineLaws.{line_insn, line_illegal, line_fault, uses_insn, all_illegal, all_fault, contains_fetch}
 use Rattle.rv_exec.specs.Outcomes.{Follows}
 use Rattle.rv_exec.proofs.execution.execute.Goals as goal
 
@@ -17,26 +17,26 @@ returns-in-Some-clause-line g c =
     ∙ ap (λ m. insn_line regs m c.in-Some.insn) (sym c.in-Ok.ensures.same) in
     subst (λ l. Follows l c.perform.result c.perform.new.regs (g.B.Bus.memory c.perform.new.bus)) (sym whole) c.perform.ensures.line
 
-pub returns-in-Some-clause-absent : goal.returns-in-Some-clause-absent
-returns-in-Some-clause-absent g c =
+pub returns-in-Some-clause-pages : goal.returns-in-Some-clause-pages
+returns-in-Some-clause-pages g c =
     let regs = c.args.regs.now in
     let memory = g.B.Bus.memory c.args.bus.now in
     let fetch : fetched memory regs.pc ≡ Ok c.in-Ok.word = rw (← c.pc-pc.ensures) c.in-Ok.ensures.answer.0 in
     let first : g.B.Bus.has c.args.bus.now (page_number regs.pc) = rw (← c.pc-pc.ensures) c.in-Ok.ensures.answer.1 in
-    absent_insn (g.B.Bus.has c.args.bus.now) (g.B.Bus.lacks c.args.bus.now) (g.B.Bus.has c.fetch.new.self) (g.B.Bus.lacks c.fetch.new.self)
+    uses_insn (g.B.Bus.has c.args.bus.now) (g.B.Bus.lacks c.args.bus.now) (g.B.Bus.has c.fetch.new.self) (g.B.Bus.lacks c.fetch.new.self)
     regs memory (g.B.Bus.memory c.fetch.new.self) c.in-Ok.word c.in-Some.insn c.perform.result
     fetch (sym c.in-Some.ensures.value) c.in-Ok.ensures.same
     (λ page h. g.met.B.Bus.had_before _ _ page c.in-Ok.ensures.kept h)
     (λ page h. g.met.B.Bus.lacked_before _ _ page c.in-Ok.ensures.kept h)
-    first c.perform.ensures.absent
+    first c.perform.ensures.pages
 
 pub returns-in-None-clause-line : goal.returns-in-None-clause-line
 returns-in-None-clause-line g c =
     let fetch : fetched (g.B.Bus.memory c.args.bus.now) c.args.regs.now.pc ≡ Ok c.in-Ok.word = rw (← c.pc-pc.ensures) c.in-Ok.ensures.answer.0 in
     line_illegal c.args.regs.now (g.B.Bus.memory c.args.bus.now) c.in-Ok.word fetch (sym c.in-None.ensures.value)
 
-pub returns-in-None-clause-absent : goal.returns-in-None-clause-absent
-returns-in-None-clause-absent g c =
+pub returns-in-None-clause-pages : goal.returns-in-None-clause-pages
+returns-in-None-clause-pages g c =
     let fetch : fetched (g.B.Bus.memory c.args.bus.now) c.args.regs.now.pc ≡ Ok c.in-Ok.word = rw (← c.pc-pc.ensures) c.in-Ok.ensures.answer.0 in
     let first : g.B.Bus.has c.args.bus.now (page_number c.args.regs.now.pc) = rw (← c.pc-pc.ensures) c.in-Ok.ensures.answer.1 in
     all_illegal (g.B.Bus.has c.args.bus.now) c.args.regs.now (g.B.Bus.memory c.args.bus.now) c.in-Ok.word fetch (sym c.in-None.ensures.value) first
@@ -47,14 +47,14 @@ returns-in-Err-Fault-clause-line g c =
     rw (← c.pc-pc.ensures) (rw (c.in-Err-Fault.field-0-is) at c.in-Err-Fault.ensures.answer) in
     rw (c.of_fetch.ensures, c.pc-pc.ensures) (line_fault c.args.regs.now (g.B.Bus.memory c.args.bus.now) c.in-Err-Fault.fault fetch)
 
-pub returns-in-Err-Fault-clause-absent : goal.returns-in-Err-Fault-clause-absent
-returns-in-Err-Fault-clause-absent g c =
+pub returns-in-Err-Fault-clause-pages : goal.returns-in-Err-Fault-clause-pages
+returns-in-Err-Fault-clause-pages g c =
     let fetch : fetched (g.B.Bus.memory c.args.bus.now) c.args.regs.now.pc ≡ Err c.in-Err-Fault.fault =
     rw (← c.pc-pc.ensures) (rw (c.in-Err-Fault.field-0-is) at c.in-Err-Fault.ensures.answer) in
     all_fault (g.B.Bus.has c.args.bus.now) c.args.regs.now (g.B.Bus.memory c.args.bus.now) c.in-Err-Fault.fault fetch
 
-pub returns-in-Err-Absent-clause-absent : goal.returns-in-Err-Absent-clause-absent
-returns-in-Err-Absent-clause-absent g c =
+pub returns-in-Err-Absent-clause-pages : goal.returns-in-Err-Absent-clause-pages
+returns-in-Err-Absent-clause-pages g c =
     let answer = rw (c.in-Err-Absent.field-0-is) at c.in-Err-Absent.ensures.answer in
     let page : c.in-Err-Absent.page ≡ page_number c.args.regs.now.pc = rw (← c.pc-pc.ensures) answer.0 in
     let allowed : IsOk (fetched (g.B.Bus.memory c.args.bus.now) c.args.regs.now.pc) = rw (← c.pc-pc.ensures) answer.2 in

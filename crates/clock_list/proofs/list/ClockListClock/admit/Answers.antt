@@ -1,7 +1,4 @@
 -- the call keeps the state lawful
-use Rattle.std.proofs.Common.{◌≡◌, subst, sym}
-use Rattle.clock_list.specs.ClockPro.{ClockState, admitted}
-use Rattle.clock_list.specs.Lawful.{Lawful}
 use Rattle.clock_list.specs.ClockLaws.{admitted_lawful}
 use Rattle.clock_list.specs.BodyState.{state_of}
 use Rattle.clock_list.proofs.list.ClockListClock.admit.Goals as goal

@@ -1,9 +1,5 @@
 -- the call keeps the state lawful
-use Rattle.std.proofs.Common.{◌≡◌, ◌<◌, subst, sym, ◌∙◌}
-use Rattle.clock_list.specs.ClockPro.{ClockState, answered}
-use Rattle.clock_list.specs.Lawful.{Lawful}
 use Rattle.clock_list.specs.ClockLaws.{answered_lawful, lowers_at}
-use Rattle.clock_list.specs.Bound.{left}
 use Rattle.clock_list.specs.QuestionLaws.{refused_nowhere}
 use Rattle.clock_list.specs.BodyState.{state_of}
 use Rattle.clock_list.proofs.list.ClockListClock.answer.Goals as goal

@@ -1,7 +1,4 @@
 -- the call keeps the state lawful
-use Rattle.std.proofs.Common.{◌≡◌, subst, sym}
-use Rattle.clock_list.specs.ClockPro.{ClockState, restored}
-use Rattle.clock_list.specs.Lawful.{Lawful}
 use Rattle.clock_list.specs.ClockLaws.{restored_lawful}
 use Rattle.clock_list.specs.BodyState.{state_of}
 use Rattle.clock_list.proofs.list.ClockListClock.restore.Goals as goal

@@ -1,0 +1,67 @@
+ghost use Rattle.std.specs.Prelude.{◌≡◌, ◌++◌, map, IfOk, OnOk};
+ghost use Rattle.std.specs.List.{range_with_len};
+ghost use Rattle.std.specs.FinMap.{from_entries};
+ghost use Rattle.elf_image.specs.Image.{ArePages};
+ghost use Rattle.flat_machine.specs.Process.{opening, opening_pages, image_entry, stack_entry};
+
+use std::alloc::{AllocError, Global};
+
+use elf_image::{Image, ImagePage};
+use env_calls::Env;
+use page_memory::{FlatMemory, Page, Rights};
+use rv_exec::Regs;
+use rv_isa::Reg;
+
+use crate::process::FlatProcess;
+
+/// Where the first hart's stack pointer stands.
+const STACK_TOP: u32 = 0x7FFF_FFF0;
+
+/// The numbers of the stack's pages: 0x7FFC0000 to 0x7FFFFFFF.
+const STACK_START: u32 = 0x7_FFC0;
+const STACK_END: u32 = 0x8_0000;
+
+impl FlatProcess {
+    /// A process that is to run an image on an input.
+    #[tactic(auto, unfolding(crate::specs::Process::opening))]
+    pub fn new(alloc: Global, image: &Image, input: Vec<u8>) -> Result<Self, AllocError>
+        ensures { IfOk result (λ process. process ≡ opening image.now input.items) }
+    {
+        let mut regs = Regs::new(image.entry());
+        let stack_pointer = Reg::from_index(2);
+        regs.write(stack_pointer, STACK_TOP);
+        let memory = opening_memory(alloc, image.pages())?;
+        Ok(FlatProcess {
+            regs,
+            env: Env::new(alloc, input),
+            memory,
+            end: None,
+        })
+    }
+}
+
+/// The memory of an image's pages and the stack.
+fn opening_memory(alloc: Global, pages: &[ImagePage]) -> Result<FlatMemory, AllocError>
+    requires { ArePages pages.now }
+    ensures { IfOk result (λ memory. memory ≡ from_entries (opening_pages pages.now)) }
+{
+    let mut memory = image_memory(alloc, pages)?;
+    for number in STACK_START..STACK_END {
+        let page = Page::zeroed(alloc, Rights::READ_WRITE)?;
+        memory.map_page(alloc, number, page)?;
+    }
+    Ok(memory)
+}
+
+/// The memory of an image's pages.
+fn image_memory(alloc: Global, pages: &[ImagePage]) -> Result<FlatMemory, AllocError>
+    requires { ArePages pages.now }
+    ensures { IfOk result (λ memory. memory ≡ from_entries (map image_entry pages.now)) }
+{
+    let mut memory = FlatMemory::new(alloc)?;
+    for listed in pages {
+        let page = listed.page.copied(alloc)?;
+        memory.map_page(alloc, listed.number, page)?;
+    }
+    Ok(memory)
+}

@@ -1,0 +1,66 @@
+ghost use Rattle.std.specs.Prelude.{◌≡◌, option_copied};
+ghost use Rattle.flat_machine.specs.Process.{hart_registers};
+ghost use Rattle.page_memory.specs.Memory.{byte_at};
+
+use std::marker::Model;
+
+use env_calls::Env;
+use page_memory::FlatMemory;
+use rv_exec::Regs;
+
+use crate::end::End;
+
+/// A process on flat memory. It has one hart, hart 0.
+#[derive(Drop)]
+pub struct FlatProcess {
+    pub(crate) regs: Regs,
+    pub(crate) env: Env,
+    pub(crate) memory: FlatMemory,
+    pub(crate) end: Option<End>,
+}
+
+impl Model for FlatProcess {
+    ghost use Rattle.flat_machine.specs.Process.{Process};
+    ghost use Rattle.flat_machine.specs.ProcessCode.{process_code};
+
+    ghost Value = { Process };
+
+    ghost coded = { process_code };
+
+    ghost view = { λ process. record {
+      registers = process.regs;
+      environment = process.env;
+      memory = process.memory;
+      ending = process.end
+    } };
+}
+
+impl FlatProcess {
+    /// A hart's registers, where the hart was started.
+    pub fn regs(&self, hart: u32) -> Option<&Regs>
+        ensures { option_copied result ≡ hart_registers hart self.now }
+    {
+        if hart == 0 { Some(&self.regs) } else { None }
+    }
+
+    /// The byte at an address, where a page is mapped there.
+    pub fn byte(&self, address: u32) -> Option<u8>
+        ensures { result ≡ byte_at self.now.memory address }
+    {
+        self.memory.byte(address)
+    }
+
+    /// What was written so far.
+    pub fn output(&self) -> &[u8]
+        ensures { result.now ≡ self.now.environment.output }
+    {
+        self.env.output()
+    }
+
+    /// How the process ended, if it did.
+    pub fn end(&self) -> Option<End>
+        ensures { result ≡ self.now.ending }
+    {
+        self.end
+    }
+}

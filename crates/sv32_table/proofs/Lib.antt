@@ -1,0 +1,7 @@
+pub mod EntryChanges
+pub mod EntryWords
+pub mod TreeCalls
+pub mod TableWords
+pub mod Translation
+pub mod NewTable
+pub mod Writes

@@ -1,0 +1,139 @@
+-- What the calls of `Tables` do to tables that form a tree, as `PageTables` cites it.
+use Rattle.std.proofs.Common.{◌≡◌, ℕ, ◌/◌, ◌%◌, ◌^◌, ◌<◌, Bool, true, false, cond, refl, sym, ap, ◌∙◌, subst, arith, lit≤, List, [], ◌∷◌, length, Option, Some, None, option_map, Result, Ok, Err, ◌↔◌, IsErrOf, OnOk, OnErr}
+use Rattle.std.proofs.lemmas.List.{get_or-replicate, length-replicate}
+use Rattle.page_memory.specs.declared.words.Access.{Access}
+use Rattle.sv32_table.specs.declared.pte.Pte.{Pte}
+use Rattle.sv32_table.specs.declared.fault.MapFault.{MapFault}
+use Rattle.sv32_table.specs.declared.fault.MapFault.TheVariants.{TooManyTables}
+use Rattle.sv32_table.specs.declared.fault.WalkFault.{WalkFault}
+use Rattle.sv32_table.specs.declared.walk.Leaf.{Leaf as Translation}
+use Rattle.page_memory.specs.declared.rights.Rights.{Rights}
+use Rattle.sv32_table.specs.Entry.{Entry, entry_of, word_of, shape_of, blank, leaf_entry}
+use Rattle.sv32_table.specs.Tables.{IsSized, word_in, table_for, zero_table, pointed_by, mapped, marked, found, walked}
+use Rattle.sv32_table.specs.EntryAt.{entry_in, entry_at, pointed, IsTree, walk_entry, walked_entry, unmapped_entry, unaccessed_entry, valid_word, accessed_of, ChangesEntry}
+use Rattle.sv32_table.proofs.EntryWords.{entry_of-word_of, software_small}
+use Rattle.sv32_table.proofs.Writes.{table_for-pointed}
+use Rattle.sv32_table.proofs.EntryChanges.{IsTree-mapped, entry_at-mapped, IsTree-marked, entry_at-marked, found-entry_at, walk_by_entry}
+
+-- the root alone
+root_word : (index : ℕ) → index < 1024 → word_in (zero_table ∷ []) 0 index ≡ 0
+unfolding word_in zero_table
+root_word index small = get_or-replicate {A = ℕ} 1024 index 0 0 small
+
+root_pointed : (index : ℕ) → index < 1024 → pointed (zero_table ∷ []) index ≡ None
+unfolding pointed pointed_by entry_of shape_of
+root_pointed index small = rw (root_word index small) refl
+
+root_sized : IsSized (zero_table ∷ [])
+unfolding zero_table
+root_sized =
+    record {
+      rooted = omega arith;
+      few = lit≤ tt;
+      sized = λ table within. let first : table ≡ 0 = omega arith in rw first (length-replicate {A = ℕ} 1024 0);
+    }
+
+pub IsTree_new : (tables : List (List ℕ)) → tables ≡ zero_table ∷ [] → IsTree tables
+IsTree_new tables is = rw is root
+  where
+    root : IsTree (zero_table ∷ [])
+    root =
+        record {
+          sized = root_sized;
+          empty = λ index small none. root_word index small;
+          below = λ index table small is. let clash : ◌≡◌ {A = Option ℕ} (Some table) None = sym is ∙ root_pointed index small in cc;
+          apart = λ index index' table small small' is is'. let clash : ◌≡◌ {A = Option ℕ} (Some table) None = sym is ∙ root_pointed index small in cc;
+        }
+
+pub entry_at_new : (tables : List (List ℕ)) → tables ≡ zero_table ∷ [] → (q : ℕ) → q < 2 ^ 20 → entry_at tables q ≡ blank
+unfolding entry_at entry_in
+entry_at_new tables is q fits =
+    let none : table_for (zero_table ∷ []) q ≡ None = table_for-pointed (zero_table ∷ []) q ∙ root_pointed (q / 1024) (omega arith) in
+    rw (is, none) refl
+
+-- `map`
+pub tree_after_map : (old new : List (List ℕ)) (vpn word : ℕ) → IsTree old → vpn < 2 ^ 20 → (table_for old vpn ≡ None → length old < 0x200000)
+    → new ≡ mapped old vpn word → IsTree new
+tree_after_map old new vpn word tree fits room is = rw is (IsTree-mapped old vpn word tree fits room)
+
+leaf_small : (ppn : ℕ) (rights : Rights) (accessed : Bool) → (leaf_entry ppn rights accessed).software < 4
+unfolding leaf_entry
+leaf_small ppn rights accessed = omega arith
+
+pub entries_after_map : (old new : List (List ℕ)) (vpn ppn : ℕ) (rights : Rights) (accessed : Bool) → IsTree old → vpn < 2 ^ 20
+    → (table_for old vpn ≡ None → length old < 0x200000) → new ≡ mapped old vpn (word_of (leaf_entry ppn rights accessed))
+    → ChangesEntry old new vpn (leaf_entry ppn rights accessed)
+entries_after_map old new vpn ppn rights accessed tree fits room is =
+    let back = entry_of-word_of (leaf_entry ppn rights accessed) (leaf_small ppn rights accessed) in
+    rw is (subst (λ (x : Entry). ChangesEntry old (mapped old vpn (word_of (leaf_entry ppn rights accessed))) vpn x) back
+    (entry_at-mapped old vpn (word_of (leaf_entry ppn rights accessed)) tree fits room))
+
+-- `unmap` and `test_and_clear_accessed`
+pub tree_after_mark : (old new : List (List ℕ)) (vpn : ℕ) (change : Entry → ℕ) → IsTree old → vpn < 2 ^ 20 → new ≡ marked old vpn change → IsTree new
+tree_after_mark old new vpn change tree fits is = rw is (IsTree-marked old vpn change tree fits)
+
+pub entries_after_unmap : (old new : List (List ℕ)) (vpn : ℕ) → IsTree old → vpn < 2 ^ 20 → new ≡ marked old vpn (λ _. 0)
+    → ChangesEntry old new vpn (unmapped_entry (entry_at old vpn))
+unfolding unmapped_entry entry_of
+entries_after_unmap old new vpn tree fits is = rw is (entry_at-marked old vpn (λ _. 0) tree fits)
+
+entry_at_small : (tables : List (List ℕ)) (vpn : ℕ) → (entry_at tables vpn).software < 4
+unfolding entry_at entry_in
+entry_at_small tables vpn = by_table (table_for tables vpn)
+  where
+    by_table : (o : Option ℕ) → (entry_in tables vpn o).software < 4
+    by_table None = omega arith
+    by_table (Some table) = software_small (word_in tables table (vpn % 1024))
+
+pub entries_after_clear : (old new : List (List ℕ)) (vpn : ℕ) → IsTree old → vpn < 2 ^ 20 → new ≡ marked old vpn (λ e. word_of (record e { accessed = false }))
+    → ChangesEntry old new vpn (unaccessed_entry (entry_at old vpn))
+unfolding unaccessed_entry
+entries_after_clear old new vpn tree fits is =
+    let e = entry_at old vpn in
+    let clear : Entry = record e { accessed = false } in
+    let back : entry_of (word_of clear) ≡ clear = entry_of-word_of clear (entry_at_small old vpn) in
+    let change : Entry → ℕ = λ e. word_of (record e { accessed = false }) in
+    rw is (subst (λ (x : Entry). ChangesEntry old (marked old vpn change) vpn (cond e.valid x e)) back (entry_at-marked old vpn change tree fits))
+
+pub found_entry : (tables : List (List ℕ)) (vpn : ℕ) → found tables vpn ≡ valid_word (entry_at tables vpn)
+found_entry tables vpn = found-entry_at tables vpn
+
+pub accessed_found : (tables : List (List ℕ)) (vpn : ℕ)
+    → option_map (λ (pte : Pte). (entry_of pte.0).accessed) (found tables vpn) ≡ accessed_of (entry_at tables vpn)
+unfolding accessed_of valid_word
+accessed_found tables vpn =
+    ap (option_map (λ (pte : Pte). (entry_of pte.0).accessed)) (found-entry_at tables vpn) ∙ by_valid e.valid
+  where
+    e : Entry
+    e = entry_at tables vpn
+
+    by_valid : (b : Bool) → option_map (λ (pte : Pte). (entry_of pte.0).accessed) (cond b (Some (record { 0 = word_of e })) None) ≡ cond b (Some e.accessed) None
+    by_valid true = ap (λ (x : Entry). Some x.accessed) (entry_of-word_of e (entry_at_small tables vpn))
+    by_valid false = refl
+
+-- `walk`
+pub tree_after_walk : (old new : List (List ℕ)) (address : ℕ) (access : Access) → IsTree old → address < 2 ^ 32 → new ≡ (walked old address access).1 → IsTree new
+tree_after_walk old new address access tree fits is = rw is ((walk_by_entry old address access tree fits).1)
+
+pub answer_of_walk : (old : List (List ℕ)) (address : ℕ) (access : Access) (result : Result Translation WalkFault) → IsTree old → address < 2 ^ 32 → result ≡ (walked old address access).0
+    → result ≡ walk_entry (entry_at old (address / 0x1000)) address access
+answer_of_walk old address access result tree fits is = is ∙ (walk_by_entry old address access tree fits).0
+
+pub entries_after_walk : (old new : List (List ℕ)) (address : ℕ) (access : Access) → IsTree old → address < 2 ^ 32 → new ≡ (walked old address access).1
+    → ChangesEntry old new (address / 0x1000) (walked_entry (entry_at old (address / 0x1000)) access)
+entries_after_walk old new address access tree fits is = rw is ((walk_by_entry old address access tree fits).2)
+
+-- a `map` that was done had room for a table, where it needed one
+room_of_ok : (old : List (List ℕ)) (vpn : ℕ) → IsTree old → ((table_for old vpn ≡ None) × (length old ≡ 0x200000) → ⊥)
+    → table_for old vpn ≡ None → length old < 0x200000
+room_of_ok old vpn tree not_full none =
+    let few = tree.sized.few in
+    let apart : length old ≡ 0x200000 → ⊥ = λ full. not_full (none, full) in
+    omega arith
+
+pub tree_after_mapping : (old new : List (List ℕ)) (vpn word : ℕ) (result : Result Unit MapFault) → IsTree old → vpn < 2 ^ 20
+    → IsErrOf result TooManyTables ↔ ((table_for old vpn ≡ None) × (length old ≡ 0x200000))
+    → OnOk result (new ≡ mapped old vpn word) → OnErr result (new ≡ old) → IsTree new
+tree_after_mapping old new vpn word (Ok done) tree fits full ok err =
+    tree_after_map old new vpn word tree fits (room_of_ok old vpn tree (λ held. let clash = full.1 held in cc)) ok
+tree_after_mapping old new vpn word (Err fault) tree fits full ok err = rw err tree

@@ -1,0 +1,127 @@
+ghost use Rattle.std.specs.Prelude.{◌≡◌, ◌<◌, ◌/◌, ◌^◌, List, ℕ, length, IfOk, IsErrOf, OnOk, OnErr};
+ghost use Rattle.sv32_table.specs.Entry.{blank, leaf_entry};
+ghost use Rattle.sv32_table.specs.EntryAt.{entry_at, ChangesEntry, walk_entry, walked_entry, valid_word, unmapped_entry, accessed_of, unaccessed_entry};
+ghost use Rattle.sv32_table.specs.TranslationProcess.{IsTranslation};
+
+use crate::fault::{MapFault, WalkFault};
+use crate::pte::Pte;
+use crate::tables::{MAX_TABLES, Tables};
+use crate::walk::Leaf;
+use page_memory::{Access, Rights};
+use std::alloc::{AllocError, Global};
+use std::marker::Model;
+
+/// The Sv32 page tables of one process, as `map` alone makes them: they form a tree, so that each page has an entry of
+/// its own, and a call for one page leaves the entries of the others.
+#[derive(Drop)]
+pub struct PageTables {
+    tables: Tables,
+}
+
+impl Model for PageTables {
+    ghost use Rattle.std.specs.Prelude.{List, ℕ};
+
+    ghost Value = { List (List ℕ) };
+
+    ghost use Rattle.sv32_table.specs.EntryAt.{IsTree};
+
+    ghost view = { λ t. t.tables };
+
+    ghost invariant = { λ t. IsTree t.tables };
+}
+
+impl PageTables {
+    /// Tables in which no page has an entry.
+    #[tactic(auto, using(crate::proofs::TreeCalls::IsTree_new, crate::proofs::TreeCalls::entry_at_new))]
+    pub fn new(alloc: Global) -> Result<PageTables, AllocError>
+        ensures { IfOk result (λ tables. (q : ℕ) → q < 2 ^ 20 → entry_at tables q ≡ blank) }
+    {
+        Ok(PageTables {
+            tables: Tables::new(alloc)?,
+        })
+    }
+
+    /// Translates an address for an access in user mode, as `Tables::walk` does.
+    #[tactic(auto, using(crate::proofs::TreeCalls::answer_of_walk, crate::proofs::TreeCalls::tree_after_walk, crate::proofs::TreeCalls::entries_after_walk))]
+    pub fn walk(&mut self, address: u32, access: Access) -> Result<Leaf, WalkFault>
+        ensures leaf { result ≡ walk_entry (entry_at self.old (address / 0x1000)) address access }
+        ensures entries { ChangesEntry self.old self.new (address / 0x1000) (walked_entry (entry_at self.old (address / 0x1000)) access) }
+        ensures manual { IsTranslation self.old address access result self.new }
+    {
+        self.tables.walk(address, access)
+    }
+
+    /// Gives a page the leaf of this physical page with V, U, the rights, and A as given.
+    #[tactic(auto, using(crate::proofs::TreeCalls::tree_after_map, crate::proofs::TreeCalls::entries_after_map))]
+    pub fn map(
+        &mut self,
+        vpn: u32,
+        ppn: u32,
+        rights: Rights,
+        accessed: bool,
+    ) -> Result<(), MapFault>
+        requires vpn { vpn < 2 ^ 20 }
+        requires ppn { ppn < 2 ^ 22 }
+        ensures ok { OnOk result (ChangesEntry self.old self.new vpn (leaf_entry ppn rights accessed)) }
+        ensures too_many { IsErrOf result MapFault.TooManyTables → length self.old ≡ MAX_TABLES }
+        ensures err { OnErr result (self.new ≡ self.old) }
+    {
+        self.tables.map(vpn, ppn, rights, accessed)
+    }
+
+    /// Takes a page's entry away and answers it, or `None` where the page has none with V. It takes no memory.
+    #[tactic(auto, using(crate::proofs::TreeCalls::found_entry, crate::proofs::TreeCalls::tree_after_mark, crate::proofs::TreeCalls::entries_after_unmap))]
+    pub fn unmap(&mut self, vpn: u32) -> Option<Pte>
+        requires { vpn < 2 ^ 20 }
+        ensures answer { result ≡ valid_word (entry_at self.old vpn) }
+        ensures entries { ChangesEntry self.old self.new vpn (unmapped_entry (entry_at self.old vpn)) }
+    {
+        self.tables.unmap(vpn)
+    }
+
+    /// Clears A in a page's entry and answers what it was, or `None` where the page has none with V. It takes no memory.
+    #[tactic(auto, using(crate::proofs::TreeCalls::accessed_found, crate::proofs::TreeCalls::tree_after_mark, crate::proofs::TreeCalls::entries_after_clear))]
+    pub fn test_and_clear_accessed(&mut self, vpn: u32) -> Option<bool>
+        requires { vpn < 2 ^ 20 }
+        ensures answer { result ≡ accessed_of (entry_at self.old vpn) }
+        ensures entries { ChangesEntry self.old self.new vpn (unaccessed_entry (entry_at self.old vpn)) }
+    {
+        self.tables.test_and_clear_accessed(vpn)
+    }
+
+    /// A page's entry, or `None` where it has none with V.
+    #[tactic(auto, using(crate::proofs::TreeCalls::found_entry))]
+    pub fn lookup(&self, vpn: u32) -> Option<Pte>
+        requires { vpn < 2 ^ 20 }
+        ensures { result ≡ valid_word (entry_at self.now vpn) }
+    {
+        self.tables.lookup(vpn)
+    }
+}
+
+#[cfg(test)]
+mod tests {
+    use super::*;
+    use crate::fault::WalkFault;
+    use std::test::Fail;
+
+    #[test]
+    fn pages_have_entries_of_their_own(rt: HostRuntime) -> Result<(), Fail> {
+        let mut tables = PageTables::new(rt.alloc())?;
+        tables.map(0x12, 5, Rights::READ | Rights::WRITE, true)?;
+        tables.map(0x13, 6, Rights::READ, true)?;
+        assert_eq!(rt; tables.walk(0x1_2ABC, Access::Store)?.physical, 0x5ABC);
+        assert_eq!(rt;
+            tables.walk(0x1_3000, Access::Store),
+            Err(WalkFault::PageFault)
+        );
+        assert_eq!(rt; tables.test_and_clear_accessed(0x13), Some(true));
+        assert_eq!(rt; tables.lookup(0x12), Some(Pte(0x14D7)));
+        assert_eq!(rt; tables.unmap(0x12), Some(Pte(0x14D7)));
+        assert_eq!(rt;
+            (tables.lookup(0x12), tables.lookup(0x13)),
+            (None, Some(Pte(0x1813)))
+        );
+        Ok(())
+    }
+}

@@ -1,0 +1,16 @@
+use crate::pte::Pte;
+
+/// The place of a leaf: a word of a table, of the root's (a superpage's) or of another's.
+#[derive(Clone, Copy)]
+pub(crate) struct Place {
+    pub table: usize,
+    pub index: usize,
+    pub superpage: bool,
+}
+
+/// What a walk found: the leaf as the walk left it, and the physical address.
+#[derive(Clone, Copy, PartialEq, Eq, Debug)]
+pub struct Leaf {
+    pub pte: Pte,
+    pub physical: u64,
+}

@@ -9,3 +9,4 @@ pub mod Listed
 pub mod QuestionLaws
 pub mod RefusalNumber
 pub mod Steady
+pub mod Text

@@ -9,6 +9,11 @@ pub enum Kind {
 }
 
 impl fmt::Display for Kind {
+    ghost use Rattle.std.specs.Prelude.{Some};
+    ghost use Rattle.clock_list.specs.Text.{kind_text};
+
+    ghost output = { λ k. Some (kind_text k) };
+
     fn fmt<W: fmt::Write>(&self, f: &mut fmt::Formatter<W>) -> fmt::Result {
         f.write_str(match self {
             Kind::Hot => "hot",

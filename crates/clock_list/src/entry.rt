@@ -18,6 +18,11 @@ pub enum EntryKind {
 }
 
 impl fmt::Display for EntryKind {
+    ghost use Rattle.std.specs.Prelude.{Some};
+    ghost use Rattle.clock_list.specs.Text.{entry_kind_text};
+
+    ghost output = { λ k. Some (entry_kind_text k) };
+
     fn fmt<W: fmt::Write>(&self, f: &mut fmt::Formatter<W>) -> fmt::Result {
         f.write_str(match self {
             EntryKind::Hot => "hot",

@@ -9,6 +9,11 @@ pub struct Key {
 
 /// As `P/V`, both in decimal.
 impl fmt::Display for Key {
+    ghost use Rattle.std.specs.Prelude.{Some};
+    ghost use Rattle.clock_list.specs.Text.{key_text};
+
+    ghost output = { λ k. Some (key_text k) };
+
     fn fmt<W: fmt::Write>(&self, f: &mut fmt::Formatter<W>) -> fmt::Result {
         let process = self.process;
         let vpn = self.vpn;

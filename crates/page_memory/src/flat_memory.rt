@@ -50,13 +50,6 @@ impl FlatMemory {
         self.pages.insert(alloc, number, page)
     }
 
-    /// Whether a page is mapped.
-    pub fn is_mapped(&self, number: u32) -> bool
-        ensures { result ≡ map.contains_key self.now number }
-    {
-        self.pages.get(number).is_some()
-    }
-
     /// Fetches the instruction word at an address.
     #[inline]
     #[tactic(auto, unfolding(crate::specs::Memory::fetched))]

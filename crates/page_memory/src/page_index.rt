@@ -1,4 +1,4 @@
-ghost use Rattle.std.specs.Prelude.{◌≡◌, ◌==◌, ℕ, ◌+◌, ◌<◌, ◌≤◌, ◌^◌, List, [], ◌∷◌, ◌++◌, IfOk, OnOk, OnErr, length, position, ◌/◌};
+ghost use Rattle.std.specs.Prelude.{◌≡◌, ◌==◌, ℕ, ◌+◌, ◌<◌, ◌^◌, List, [], ◌∷◌, ◌++◌, IfOk, OnOk, OnErr, length, position, ◌/◌};
 ghost use Rattle.page_memory.specs.PageIndex.{number_at, Keeps};
 
 use crate::words::PAGE_COUNT;
@@ -70,22 +70,6 @@ impl PageIndex {
         keep(&mut self.directory, alloc, page, number)?;
         self.pages.push_reserved(page);
         Ok(())
-    }
-
-    /// How many pages are listed.
-    #[tactic(auto, using(crate::proofs::Indexing::few))]
-    pub fn len(&self) -> usize
-        ensures count { result ≡ length self.now }
-        ensures few { result ≤ 2 ^ 20 }
-    {
-        self.pages.len()
-    }
-
-    /// The page numbers, in the order in which they came.
-    pub fn pages(&self) -> &[u32]
-        ensures { result.now ≡ self.now }
-    {
-        self.pages.as_slice()
     }
 }
 

@@ -1,5 +1,4 @@
 pub mod EntryChanges
-pub mod EntryWords
 pub mod TreeCalls
 pub mod TableWords
 pub mod Translation

@@ -1,4 +1,4 @@
-ghost use Rattle.std.specs.Prelude.{⊤, ◌≡◌, ◌<◌, ◌^◌, true, false, [], ◌∷◌, codes, ℕ, if◌then◌else◌};
+ghost use Rattle.std.specs.Prelude.{⊤, ◌≡◌, ◌<◌, ◌^◌, true, false, [], ◌∷◌, codes, ℕ, if◌then◌else◌, IsTrue, ◌↔◌};
 ghost use Rattle.sv32_table.specs.Entry.{entry_of, word_of, shape_of, has_reserved, allows, is_aligned, touched, leaf_entry, pointer_entry, weigh};
 
 use bitflags::{Flag, Flags, bitflag_items};
@@ -77,7 +77,7 @@ impl Pte {
     }
 
     /// The physical page number.
-    #[tactic(auto, using(crate::proofs::EntryWords::ppn_part))]
+    #[tactic(auto, using(crate::specs::EntryWords::ppn_part))]
     pub fn ppn(self) -> u32
         ensures ppn { result ≡ (entry_of self.0).ppn }
         ensures small { result < 2 ^ 22 }
@@ -85,49 +85,49 @@ impl Pte {
         self.0 / 1024
     }
 
-    #[tactic(auto, using(crate::proofs::EntryWords::valid_flag))]
+    #[tactic(auto, using(crate::specs::EntryWords::valid_flag))]
     pub(crate) fn is_valid(self) -> bool
         ensures { result ≡ (entry_of self.0).valid }
     {
         self.contains(Pte::VALID)
     }
 
-    #[tactic(auto, using(crate::proofs::EntryWords::read_flag))]
+    #[tactic(auto, using(crate::specs::EntryWords::read_flag))]
     pub(crate) fn is_readable(self) -> bool
         ensures { result ≡ (entry_of self.0).read }
     {
         self.contains(Pte::READ)
     }
 
-    #[tactic(auto, using(crate::proofs::EntryWords::write_flag))]
+    #[tactic(auto, using(crate::specs::EntryWords::write_flag))]
     pub(crate) fn is_writable(self) -> bool
         ensures { result ≡ (entry_of self.0).write }
     {
         self.contains(Pte::WRITE)
     }
 
-    #[tactic(auto, using(crate::proofs::EntryWords::execute_flag))]
+    #[tactic(auto, using(crate::specs::EntryWords::execute_flag))]
     pub(crate) fn is_executable(self) -> bool
         ensures { result ≡ (entry_of self.0).execute }
     {
         self.contains(Pte::EXECUTE)
     }
 
-    #[tactic(auto, using(crate::proofs::EntryWords::user_flag))]
+    #[tactic(auto, using(crate::specs::EntryWords::user_flag))]
     pub(crate) fn is_user(self) -> bool
         ensures { result ≡ (entry_of self.0).user }
     {
         self.contains(Pte::USER)
     }
 
-    #[tactic(auto, using(crate::proofs::EntryWords::accessed_flag))]
+    #[tactic(auto, using(crate::specs::EntryWords::accessed_flag))]
     pub fn is_accessed(self) -> bool
         ensures { result ≡ (entry_of self.0).accessed }
     {
         self.contains(Pte::ACCESSED)
     }
 
-    #[tactic(auto, using(crate::proofs::EntryWords::dirty_flag))]
+    #[tactic(auto, using(crate::specs::EntryWords::dirty_flag))]
     pub fn is_dirty(self) -> bool
         ensures { result ≡ (entry_of self.0).dirty }
     {
@@ -146,6 +146,22 @@ impl Pte {
         } else {
             Shape::Pointer
         }
+    }
+
+    #[inline]
+    #[tactic(auto, unfolding(crate::specs::Entry::shape_of))]
+    pub(crate) fn is_pointer(self) -> bool
+        ensures { IsTrue result ↔ (shape_of (entry_of self.0) ≡ Shape.Pointer) }
+    {
+        self.is_valid() && !self.is_readable() && !self.is_writable() && !self.is_executable()
+    }
+
+    #[inline]
+    #[tactic(auto, unfolding(crate::specs::Entry::shape_of))]
+    pub(crate) fn is_leaf(self) -> bool
+        ensures { IsTrue result ↔ (shape_of (entry_of self.0) ≡ Shape.Leaf) }
+    {
+        self.is_valid() && (self.is_readable() || (self.is_executable() && !self.is_writable()))
     }
 
     /// Whether a pointer has one of the bits U, A and D, which are reserved in it.
@@ -178,7 +194,7 @@ impl Pte {
     }
 
     /// The entry with A set, and with D too after a store (step 7).
-    #[tactic(auto, using(crate::proofs::EntryWords::touched_by_store), unfolding(crate::specs::Entry::touched))]
+    #[tactic(auto, using(crate::specs::EntryWords::touched_by_store), unfolding(crate::specs::Entry::touched))]
     pub(crate) fn touched(self, access: Access) -> Pte
         ensures { result.0 ≡ word_of (touched access (entry_of self.0)) }
     {
@@ -188,14 +204,14 @@ impl Pte {
         }
     }
 
-    #[tactic(auto, using(crate::proofs::EntryWords::word_of_accessed))]
+    #[tactic(auto, using(crate::specs::EntryWords::word_of_accessed))]
     fn with_accessed(self) -> Pte
         ensures { result.0 ≡ word_of (record (entry_of self.0) { accessed = true }) }
     {
         Pte(self.0 | Pte::ACCESSED.0)
     }
 
-    #[tactic(auto, using(crate::proofs::EntryWords::word_of_dirty))]
+    #[tactic(auto, using(crate::specs::EntryWords::word_of_dirty))]
     fn with_dirty(self) -> Pte
         ensures { result.0 ≡ word_of (record (entry_of self.0) { dirty = true }) }
     {
@@ -203,7 +219,7 @@ impl Pte {
     }
 
     /// The entry with A clear.
-    #[tactic(auto, using(crate::proofs::EntryWords::word_of_not_accessed, crate::proofs::EntryWords::same_accessed, crate::proofs::EntryWords::accessed_room))]
+    #[tactic(auto, using(crate::specs::EntryWords::word_of_not_accessed, crate::specs::EntryWords::same_accessed, crate::specs::EntryWords::accessed_room))]
     pub(crate) fn without_accessed(self) -> Pte
         ensures { result.0 ≡ word_of (record (entry_of self.0) { accessed = false }) }
     {

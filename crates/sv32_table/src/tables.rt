@@ -1,7 +1,7 @@
 ghost use Rattle.std.specs.Prelude.{◌≡◌, ◌<◌, ◌≤◌, ◌+◌, ◌/◌, ◌%◌, ◌^◌, ◌∷◌, ◌++◌, [], List, ℕ, true, length, IfOk, IfSome, IsErr, IsErrOf, OnOk, OnErr, ◌↔◌, None, option_map, false};
 ghost use Rattle.sv32_table.specs.Entry.{Entry, entry_of, word_of, leaf_entry};
 ghost use Rattle.sv32_table.specs.TranslationProcess.{IsTranslation};
-ghost use Rattle.sv32_table.specs.Tables.{word_in, with_word, table_of, walk_end, walked, physical_of, permits, zero_table, mapped, marked, found, table_for, with_table};
+ghost use Rattle.sv32_table.specs.Tables.{word_in, with_word, table_of, walk_end, root_step, walked, physical_of, permits, zero_table, mapped, marked, found, table_for, with_table};
 
 use crate::fault::{MapFault, NoTable, WalkFault};
 use crate::pte::{Pte, Shape};
@@ -204,7 +204,7 @@ impl Tables {
     }
 
     /// Where a walk for an address ends (translation process, steps 2 to 4).
-    #[tactic(auto, unfolding(crate::specs::Tables::walk_end, crate::specs::Tables::root_step, crate::specs::Tables::next_step, crate::specs::Tables::last_step))]
+    #[tactic(auto, unfolding(crate::specs::Tables::walk_end, crate::specs::Tables::root_step))]
     fn walk_end(&self, address: u32) -> Result<Place, WalkFault>
         ensures place { result ≡ walk_end self.now address }
         ensures within { IfOk result (λ place. (place.table < length self.now) × (place.index < 1024)) }
@@ -212,17 +212,26 @@ impl Tables {
         let _ = &self.tables;
         let index = (address / 0x40_0000) as usize;
         let root = Pte(self.word(0, index));
-        match root.shape() {
-            Shape::Invalid => return Err(WalkFault::PageFault),
-            Shape::Leaf => {
-                return Ok(Place {
-                    table: 0,
-                    index,
-                    superpage: true,
-                });
-            }
-            Shape::Pointer => {}
+        // Most walks go on to a table, so that this is tested first.
+        if root.is_pointer() {
+            return self.pointer_end(root, address);
         }
+        if !root.is_leaf() {
+            return Err(WalkFault::PageFault);
+        }
+        Ok(Place {
+            table: 0,
+            index,
+            superpage: true,
+        })
+    }
+
+    /// Where a walk ends that this pointer leads on.
+    #[tactic(auto, unfolding(crate::specs::Tables::root_step, crate::specs::Tables::next_step, crate::specs::Tables::last_step))]
+    fn pointer_end(&self, root: Pte, address: u32) -> Result<Place, WalkFault>
+        ensures place { result ≡ root_step self.now address (entry_of root.0) Shape.Pointer }
+        ensures within { IfOk result (λ place. (place.table < length self.now) × (place.index < 1024)) }
+    {
         if root.has_reserved() {
             return Err(WalkFault::PageFault);
         }
@@ -230,14 +239,14 @@ impl Tables {
             return Err(WalkFault::AccessFault);
         };
         let index = (address / 0x1000 % 1024) as usize;
-        match Pte(self.word(table, index)).shape() {
-            Shape::Leaf => Ok(Place {
-                table,
-                index,
-                superpage: false,
-            }),
-            Shape::Invalid | Shape::Pointer => Err(WalkFault::PageFault),
+        if !Pte(self.word(table, index)).is_leaf() {
+            return Err(WalkFault::PageFault);
         }
+        Ok(Place {
+            table,
+            index,
+            superpage: false,
+        })
     }
 
     /// Translates an address for an access in user mode (privileged manual, Sv32 virtual address translation process).

@@ -1,13 +1,13 @@
 -- What a step does, and the pages that it uses, by its line.
-use Rattle.std.specs.Prelude.{◌≡◌, ℕ, List, [], ◌++◌}
-use Rattle.std.proofs.Common.{ap, ◌∙◌}
+use Rattle.std.specs.Prelude.{◌≡◌, ℕ, [], ◌++◌}
+use Rattle.std.proofs.Common.{ap}
 use Rattle.page_memory.specs.Memory.{Memory}
 use Rattle.rv_exec.specs.declared.cause.Cause.{Cause}
 use Rattle.rv_exec.specs.Registers.{Registers}
 use Rattle.rv_exec.specs.Line as line
 use Rattle.rv_exec.specs.Uses.{pages_used}
 use Rattle.env_calls.specs.Environment.{Environment}
-use Rattle.env_calls.specs.Effect.{Effect, Runs, Traps}
+use Rattle.env_calls.specs.Effect.{Runs, Traps}
 use Rattle.env_calls.specs.Calls.{call, call_pages}
 use Rattle.env_calls.specs.Step.{effect, effect_of, step_pages, served_pages}
 

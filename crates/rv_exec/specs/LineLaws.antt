@@ -1,5 +1,5 @@
 -- What a hart's next line and the pages that it uses are, by what memory answers to the fetch.
-use Rattle.std.specs.Prelude.{◌≡◌, ℕ, zero, suc, ◌<◌, List, [], ◌∷◌, length, Option, Some, None, Result, Ok, Err, All, Contains, IsOk, slice_index_or, refl}
+use Rattle.std.specs.Prelude.{◌≡◌, ℕ, zero, suc, List, [], ◌∷◌, Some, None, Result, Ok, Err, All, Contains, IsOk, refl}
 use Rattle.std.proofs.Common.{arith, ap, sym, subst, ◌∙◌}
 use Rattle.page_memory.specs.declared.fault.MemoryFault.{MemoryFault}
 use Rattle.page_memory.specs.Words.{page_number}
@@ -11,7 +11,7 @@ use Rattle.rv_exec.specs.Causes.{fetch_cause}
 use Rattle.rv_exec.specs.declared.outcome.Outcome.{Outcome}
 use Rattle.rv_exec.specs.declared.outcome.Outcome.TheVariants.{Done, Ecall, Trap, Absent}
 use Rattle.rv_exec.specs.Registers.{Registers}
-use Rattle.rv_exec.specs.Line.{Line, Traps, insn_line, decoded_line, fetched_line, line}
+use Rattle.rv_exec.specs.Line.{Traps, insn_line, decoded_line, fetched_line, line}
 use Rattle.rv_exec.specs.Uses.{data_pages, decoded_pages, fetched_pages, pages_used}
 use Rattle.rv_exec.specs.Outcomes.{UsesPages}
 

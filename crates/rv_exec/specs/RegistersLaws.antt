@@ -1,7 +1,7 @@
 -- How an array of 32 words, whose first stays 0, stands for x1 to x31.
 use Rattle.std.specs.Prelude.{◌≡◌, ℕ, zero, suc, List, [], ◌∷◌, drop, length, slice_index, slice_set, refl}
 use Rattle.std.proofs.Common.{arith, ap, sym}
-use Rattle.rv_exec.specs.Registers.{Registers, register, with_register}
+use Rattle.rv_exec.specs.Registers.{register, with_register}
 
 -- nothing but the first word is left out
 pub with_zero : (xs : List ℕ) → length xs ≡ 32 → slice_index xs 0 ≡ 0 → 0 ∷ drop 1 xs ≡ xs

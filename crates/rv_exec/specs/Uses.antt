@@ -1,5 +1,5 @@
 -- The pages that an instruction uses, each where its access is aligned and the page has the right.
-use Rattle.std.specs.Prelude.{ℕ, List, [], ◌∷◌, ◌++◌, Option, Some, None, option_and_then, Result, Ok, Err}
+use Rattle.std.specs.Prelude.{ℕ, List, [], ◌∷◌, Option, Some, None, Result, Ok, Err}
 use Rattle.page_memory.specs.declared.fault.MemoryFault.{MemoryFault}
 use Rattle.page_memory.specs.Words.{page_number}
 use Rattle.page_memory.specs.Memory.{Memory, fetched}

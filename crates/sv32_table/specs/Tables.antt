@@ -1,5 +1,6 @@
--- The tables of a process: table k, of 1024 words, stands in physical page 0x200000 + k, and the root is table 0. Here a
--- walk is a function on the list of tables; `SvWalk` has it over physical memory, in the manual's steps.
+-- The tables of a process: table k, of 1024 words, stands in physical page 0x200000 + k, and the root is table 0. Here
+-- each call is a function on the list of tables; `TranslationProcess` has the walk over physical memory, in the
+-- manual's steps.
 use Rattle.std.specs.Prelude.{◌≡◌, ℕ, ◌+◌, ◌-◌, ◌*◌, ◌/◌, ◌%◌, ◌<◌, ◌≤◌, Bool, true, false, ◌&&◌, ◌||◌, not, nat_le, nat_lt, if◌then◌else◌, List, [], ◌∷◌, ◌++◌, length, replicate, slice_index, slice_index_or, slice_set, Option, Some, None, Result, Ok, Err}
 use Rattle.page_memory.specs.declared.words.Access.{Access}
 use Rattle.sv32_table.specs.Entry.{Entry, entry_of, word_of, shape_of, has_reserved, allows, is_aligned, touched, pointer_entry}

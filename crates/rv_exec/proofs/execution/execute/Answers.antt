@@ -1,5 +1,5 @@
 -- The line and its pages are those that memory's answer to the fetch leads to.
-use Rattle.std.proofs.Common.{◌≡◌, ℕ, sym, ap, ◌∙◌, subst, Option, Some, None, Ok, Err, IsOk}
+use Rattle.std.proofs.Common.{◌≡◌, sym, ap, ◌∙◌, subst, Ok, Err, IsOk}
 use Rattle.page_memory.specs.Words.{page_number}
 use Rattle.page_memory.specs.Memory.{fetched}
 use Rattle.rv_exec.specs.Line.{line, insn_line}

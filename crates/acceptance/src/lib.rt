@@ -1,13 +1,15 @@
-// A library with one function.
+//! Tests of what the crates do together: the program on files that the tests make, and calls of several crates.
 #![tactic(auto)]
 
-ghost use Rattle.std.specs.Prelude.{◌≡◌};
-ghost use Rattle.acceptance.specs.Echo.{echo_of};
-
-// The `ensures` clause is the contract: what `echo` returns is `echo_of` of its argument, a definition
-// in `specs/Echo.antt`, which a caller's clause can cite too.
-pub fn echo(x: usize) -> usize
-    ensures { result ≡ echo_of x }
-{
-    x
-}
+#[cfg(test)]
+mod calls;
+#[cfg(test)]
+mod clock;
+#[cfg(test)]
+mod codec;
+#[cfg(test)]
+mod flat;
+#[cfg(test)]
+mod runs;
+#[cfg(test)]
+mod usage;

@@ -1,13 +1,16 @@
-// A library with one function.
+//! The program `paged`: its command line, the files that it reads, and what it prints.
 #![tactic(auto)]
 
-ghost use Rattle.std.specs.Prelude.{◌≡◌};
-ghost use Rattle.paged_cli.specs.Echo.{echo_of};
+mod arguments;
+mod clock_command;
+mod clock_script;
+mod fault;
+mod files;
+mod flat_command;
+mod lines;
+mod numbers;
+mod process_lines;
+mod program;
+mod words_file;
 
-// The `ensures` clause is the contract: what `echo` returns is `echo_of` of its argument, a definition
-// in `specs/Echo.antt`, which a caller's clause can cite too.
-pub fn echo(x: usize) -> usize
-    ensures { result ≡ echo_of x }
-{
-    x
-}
+pub use program::run_paged;

@@ -1,0 +1,63 @@
+//! Runs of the program on files in a folder of their own.
+
+use paged_cli::run_paged;
+use std::{env, fs, io, process};
+
+/// What a run left behind.
+#[derive(Drop)]
+pub struct Run {
+    pub status: u8,
+    pub out: String,
+    pub err: String,
+}
+
+/// Runs the program on some words.
+pub fn run_words(rt: &HostRuntime, words: &[&str]) -> io::Result<Run> {
+    let mut out = Vec::new(rt.alloc());
+    let mut err = Vec::new(rt.alloc());
+    let status = run_paged(rt, words, &mut io::empty(), &mut out, &mut err);
+    let (Ok(out), Ok(err)) = (String::from_utf8(out), String::from_utf8(err)) else {
+        return Err(io::Error::from(io::ErrorKind::InvalidData));
+    };
+    Ok(Run { status, out, err })
+}
+
+/// A file that is there while a test runs.
+#[derive(Drop)]
+pub struct TestFile {
+    pub path: String,
+}
+
+impl TestFile {
+    /// Writes a file for the test of this name.
+    pub fn new(rt: &HostRuntime, test: &str, content: &[u8]) -> io::Result<TestFile> {
+        let id = process::id(rt.process());
+        let name = format!(in rt.alloc(); "paged-{test}-{id}")?;
+        let folder = env::temp_dir(rt)?;
+        let path = folder.join(rt.alloc(), name.as_str())?;
+        fs::write(rt, path.as_path(), content)?;
+        Ok(TestFile {
+            path: String::from_str(rt.alloc(), path.as_path().as_str())?,
+        })
+    }
+
+    pub fn remove(self, rt: &HostRuntime) -> io::Result<()> {
+        fs::remove_file(rt, self.path.as_str())
+    }
+}
+
+/// Runs `paged flat` on a file of this content.
+pub fn run_flat(rt: &HostRuntime, test: &str, content: &[u8]) -> io::Result<Run> {
+    let file = TestFile::new(rt, test, content)?;
+    let done = run_words(rt, &["flat", file.path.as_str()]);
+    file.remove(rt)?;
+    done
+}
+
+/// Runs `paged clock` for four frames on a script.
+pub fn run_clock(rt: &HostRuntime, test: &str, script: &str) -> io::Result<Run> {
+    let file = TestFile::new(rt, test, script.as_bytes())?;
+    let done = run_words(rt, &["clock", "4", file.path.as_str()]);
+    file.remove(rt)?;
+    done
+}

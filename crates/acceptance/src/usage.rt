@@ -1,0 +1,120 @@
+//! Command lines and files that are refused.
+
+use crate::runs::{Run, TestFile, run_words};
+use std::process::Abort;
+use std::test::Fail;
+
+/// A refusal: nothing on standard output, these words on standard error, and status 2.
+fn expect_fault(rt: &impl Abort, done: &Run, fault: &str) {
+    assert_eq!(rt; done.out.as_str(), "");
+    assert_eq!(rt; done.err.as_str(), fault);
+    assert_eq!(rt; done.status, 2);
+}
+
+#[test]
+fn refuses_bad_usage(rt: HostRuntime) -> Result<(), Fail> {
+    let lines = [
+        [].as_slice(),
+        ["--help"].as_slice(),
+        ["-h"].as_slice(),
+        ["help"].as_slice(),
+        ["--version"].as_slice(),
+        ["fly", "x"].as_slice(),
+        ["FLAT", "x"].as_slice(),
+        ["--", "flat", "x"].as_slice(),
+        ["--limit", "5", "flat", "x"].as_slice(),
+        ["flat"].as_slice(),
+        ["flat", "--help"].as_slice(),
+        ["flat", "x", "y"].as_slice(),
+        ["flat", "-x"].as_slice(),
+        ["flat", "--frames", "4", "x"].as_slice(),
+        ["flat", "--input", "x", "y"].as_slice(),
+        ["flat", "--limit", "x"].as_slice(),
+        ["flat", "x", "--limit"].as_slice(),
+        ["flat", "--limit", "0", "x"].as_slice(),
+        ["flat", "--limit", "1000000001", "x"].as_slice(),
+        ["flat", "--limit", "18446744073709551617", "x"].as_slice(),
+        ["flat", "--limit", "+5", "x"].as_slice(),
+        ["flat", "--limit", "-5", "x"].as_slice(),
+        ["flat", "--limit=-5", "x"].as_slice(),
+        ["flat", "--limit=", "x"].as_slice(),
+        ["flat", "--limit", "", "x"].as_slice(),
+        ["flat", "--limit", "0x5", "x"].as_slice(),
+        ["flat", "--limit", " 5", "x"].as_slice(),
+        ["flat", "--limit", "5", "--limit", "5", "x"].as_slice(),
+        ["flat", "--limit", "5", "--limit=6", "x"].as_slice(),
+        ["clock", "4"].as_slice(),
+        ["clock", "4", "x", "y"].as_slice(),
+        ["clock", "3", "x"].as_slice(),
+        ["clock", "4097", "x"].as_slice(),
+        ["clock", "0x4", "x"].as_slice(),
+        ["clock", "+4", "x"].as_slice(),
+        ["clock", "", "x"].as_slice(),
+        ["clock", "--limit", "5", "4", "x"].as_slice(),
+    ];
+    for words in lines {
+        let done = run_words(&rt, words)?;
+        expect_fault(&rt, &done, "paged: bad usage\n");
+    }
+    Ok(())
+}
+
+#[test]
+fn refuses_bad_words(rt: HostRuntime) -> Result<(), Fail> {
+    let images: [&[u8]; 17] = [
+        b"",
+        b"\n.words\n00000013\n",
+        b"words\n00000013\n",
+        b".words \n00000013\n",
+        b".words\r\n00000013\n",
+        b".WORDS\n00000013\n",
+        b".words\n00000013\r\n",
+        b".words\n\n00000013\n",
+        b".words\n00000013\n\n",
+        b".words\n0000013\n",
+        b".words\n000000013\n",
+        b".words\n0x000013\n",
+        b".words\n+0000013\n",
+        b".words\n0000001G\n",
+        b".words\n00000013 \n",
+        b".words\n000000\xC3\xA9\n",
+        b"\x7FELF",
+    ];
+    for image in images {
+        let file = TestFile::new(&rt, "refuses_bad_words", image)?;
+        let done = run_words(&rt, &["flat", file.path.as_str()])?;
+        let fault = format!(in rt.alloc(); "paged: {}: bad words\n", file.path)?;
+        file.remove(&rt)?;
+        expect_fault(&rt, &done, fault.as_str());
+    }
+    Ok(())
+}
+
+#[test]
+fn refuses_an_image_of_no_words(rt: HostRuntime) -> Result<(), Fail> {
+    let images: [&[u8]; 2] = [b".words", b".words\n"];
+    for image in images {
+        let file = TestFile::new(&rt, "refuses_an_image_of_no_words", image)?;
+        let done = run_words(&rt, &["flat", file.path.as_str()])?;
+        let fault = format!(in rt.alloc(); "paged: {}: elf fault 15\n", file.path)?;
+        file.remove(&rt)?;
+        expect_fault(&rt, &done, fault.as_str());
+    }
+    Ok(())
+}
+
+#[test]
+fn refuses_what_cannot_be_read(rt: HostRuntime) -> Result<(), Fail> {
+    for name in ["no/such/file", "/", ""] {
+        let fault = format!(in rt.alloc(); "paged: {name}: cannot read\n")?;
+        expect_fault(&rt, &run_words(&rt, &["flat", name])?, fault.as_str());
+        expect_fault(&rt, &run_words(&rt, &["clock", "4", name])?, fault.as_str());
+    }
+    // A script has to be UTF-8.
+    let file = TestFile::new(&rt, "refuses_what_cannot_be_read", b"ask\n#\xFF\n")?;
+    let done = run_words(&rt, &["clock", "4", file.path.as_str()])?;
+    let fault = format!(in rt.alloc(); "paged: {}: cannot read\n", file.path)?;
+    file.remove(&rt)?;
+    expect_fault(&rt, &done, fault.as_str());
+    Ok(())
+}

@@ -1,0 +1,107 @@
+//! `paged clock`: a replacement list that answers the lines of a script.
+
+use crate::clock_script::{ClockCall, call_on_line};
+use crate::fault::Fault;
+use crate::files::read_text;
+use crate::lines::split_line;
+use clock_list::{Clock, ClockList, Key, Refusal, Verdict};
+use std::io::Write;
+use std::rt::Files;
+use std::{fmt, io};
+
+/// Plays the script in a file on a new list.
+pub fn run_clock<'a, R: Files + AllocGlobal, W: Write>(
+    rt: &R,
+    frames: u32,
+    script: &'a str,
+    out: &mut W,
+) -> Result<(), Fault<'a>> {
+    let text = read_text(rt, script)?;
+    match ClockList::new(rt.alloc(), frames as usize) {
+        Ok(mut list) => play(&mut list, text.as_str().as_bytes(), out),
+        Err(_) => Err(Fault::NoMemory),
+    }
+}
+
+/// Writes a reply for each call of a script. A bad line ends it behind the replies so far.
+fn play<'a, C: Clock, W: Write>(list: &mut C, text: &[u8], out: &mut W) -> Result<(), Fault<'a>> {
+    let mut number = 0u64;
+    let mut rest = text;
+    while !rest.is_empty() {
+        let (line, others) = split_line(rest);
+        number += 1;
+        match call_on_line(line) {
+            Ok(Some(call)) => reply(list, call, out)?,
+            Ok(None) => {}
+            Err(_) => return Err(Fault::BadLine(number)),
+        }
+        rest = others;
+    }
+    Ok(())
+}
+
+/// Makes a call, and writes the line that tells what came of it.
+fn reply<C: Clock, W: Write>(list: &mut C, call: ClockCall, out: &mut W) -> io::Result<()> {
+    match call {
+        ClockCall::Admit(key) => match list.admit(key) {
+            Ok(kind) => writeln!(out, "{kind}"),
+            Err(refusal) => write_refusal(refusal, out),
+        },
+        ClockCall::Ask => match list.question() {
+            Some(key) => writeln!(out, "ask {key}"),
+            None => writeln!(out, "ask none"),
+        },
+        ClockCall::Answer(bit) => match list.answer(bit) {
+            Ok(Verdict::GoOn) => writeln!(out, "go on"),
+            Ok(Verdict::Victim(key)) => writeln!(out, "victim {key}"),
+            Err(refusal) => write_refusal(refusal, out),
+        },
+        ClockCall::Restore(key) => match list.restore(key) {
+            Ok(()) => writeln!(out, "restored"),
+            Err(refusal) => write_refusal(refusal, out),
+        },
+        ClockCall::Withdraw(key) => match list.withdraw(key) {
+            Ok(()) => writeln!(out, "withdrawn"),
+            Err(refusal) => write_refusal(refusal, out),
+        },
+        ClockCall::Purge(process) => {
+            let purged = list.purge(process);
+            writeln!(out, "purged {purged}")
+        }
+        ClockCall::Show => write_list(list, out),
+    }
+}
+
+fn write_refusal<W: Write>(refusal: Refusal, out: &mut W) -> io::Result<()> {
+    let number = refusal.number();
+    writeln!(out, "refused {number}")
+}
+
+/// The state of a list in one line: the numbers, the hands, and the entries from the front.
+fn write_list<C: Clock, W: Write>(list: &C, out: &mut W) -> io::Result<()> {
+    let share = list.share();
+    let asked = list.asked();
+    let cold = Hand(list.cold_hand());
+    let test = Hand(list.test_hand());
+    write!(out, "share {share} asked {asked} cold {cold} test {test}:")?;
+    for i in 0..usize::MAX {
+        let Some((key, kind)) = list.entry(i) else {
+            break;
+        };
+        write!(out, " {key}={kind}")?;
+    }
+    writeln!(out)
+}
+
+/// A hand, which stands on a page or, in an empty list, on none.
+#[derive(Clone, Copy)]
+struct Hand(Option<Key>);
+
+impl fmt::Display for Hand {
+    fn fmt<W: fmt::Write>(&self, f: &mut fmt::Formatter<W>) -> fmt::Result {
+        match self.0 {
+            Some(key) => write!(f, "{key}"),
+            None => f.write_str("-"),
+        }
+    }
+}

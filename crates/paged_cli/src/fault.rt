@@ -1,0 +1,37 @@
+use std::alloc::AllocError;
+use std::io;
+use thiserror::Error;
+
+/// Why a command stops. Each is printed on standard error behind `paged: `.
+#[derive(Clone, Copy, Debug, PartialEq, Eq, Error)]
+pub enum Fault<'a> {
+    #[error("bad usage")]
+    BadUsage,
+    #[error("{0}: cannot read")]
+    CannotRead(&'a str),
+    #[error("{0}: elf fault {1}")]
+    ElfFault(&'a str, u8),
+    #[error("{0}: bad words")]
+    BadWords(&'a str),
+    /// Lines are counted from 1.
+    #[error("line {0}: bad line")]
+    BadLine(u64),
+    #[error("no memory")]
+    NoMemory,
+    /// What a command had to say could not be written.
+    #[error("cannot write")]
+    CannotWrite,
+}
+
+impl From<AllocError> for Fault<'_> {
+    fn from(_: AllocError) -> Self {
+        Fault::NoMemory
+    }
+}
+
+/// Of what is written to standard output.
+impl From<io::Error> for Fault<'_> {
+    fn from(_: io::Error) -> Self {
+        Fault::CannotWrite
+    }
+}

@@ -3,16 +3,16 @@
 use Rattle.std.specs.Prelude.{ℕ, nat_lt, if◌then◌else◌}
 use Rattle.std.specs.Int.RustNames.{bit_and, bit_or, bit_xor, int_lt}
 use Rattle.rv_exec.specs.Arithmetic.{word_sum, signed_word}
-use Rattle.rv_exec.specs.declared.amo.AmoOperation.{AmoOperation}
-use Rattle.rv_exec.specs.declared.amo.AmoOperation.TheVariants.{Add, Swap, Xor, Or, And, Min, Max, MinUnsigned, MaxUnsigned}
+use Rattle.rv_isa.specs.declared.kinds.AmoKind.{AmoKind}
+use Rattle.rv_isa.specs.declared.kinds.AmoKind.TheVariants.{Amoadd, Amoswap, Amoxor, Amoor, Amoand, Amomin, Amomax, Amominu, Amomaxu}
 
-unfoldable pub amo_result : AmoOperation → ℕ → ℕ → ℕ
-amo_result Add old operand = word_sum old operand
-amo_result Swap old operand = operand
-amo_result Xor old operand = bit_xor old operand
-amo_result Or old operand = bit_or old operand
-amo_result And old operand = bit_and old operand
-amo_result Min old operand = if int_lt (signed_word operand) (signed_word old) then operand else old
-amo_result Max old operand = if int_lt (signed_word old) (signed_word operand) then operand else old
-amo_result MinUnsigned old operand = if nat_lt operand old then operand else old
-amo_result MaxUnsigned old operand = if nat_lt old operand then operand else old
+unfoldable pub amo_result : AmoKind → ℕ → ℕ → ℕ
+amo_result Amoadd old operand = word_sum old operand
+amo_result Amoswap old operand = operand
+amo_result Amoxor old operand = bit_xor old operand
+amo_result Amoor old operand = bit_or old operand
+amo_result Amoand old operand = bit_and old operand
+amo_result Amomin old operand = if int_lt (signed_word operand) (signed_word old) then operand else old
+amo_result Amomax old operand = if int_lt (signed_word old) (signed_word operand) then operand else old
+amo_result Amominu old operand = if nat_lt operand old then operand else old
+amo_result Amomaxu old operand = if nat_lt old operand then operand else old

@@ -19,3 +19,13 @@ cause_number StorePageFault = 15
 abbrev pub fetch_cause : MemoryFault → Cause
 fetch_cause Misaligned = InstructionMisaligned
 fetch_cause PageFault = InstructionPageFault
+
+-- why a load traps that memory refuses
+abbrev pub load_cause : MemoryFault → Cause
+load_cause Misaligned = LoadMisaligned
+load_cause PageFault = LoadPageFault
+
+-- why a store or an atomic operation traps that memory refuses
+abbrev pub store_cause : MemoryFault → Cause
+store_cause Misaligned = StoreMisaligned
+store_cause PageFault = StorePageFault

@@ -1,16 +1,21 @@
 -- The line of the instruction table that a hart's next step is: what it does to registers and memory
 -- (unprivileged manual, "RV32I Base Integer Instruction Set"; the traps' causes and values are this project's profile).
-use Rattle.std.specs.Prelude.{ℕ, ◌*◌, ◌%◌, ◌^◌, ◌==◌, Bool, true, false, Option, Some, None, Result, Ok, Err}
+use Rattle.std.specs.Prelude.{ℕ, ◌*◌, ◌%◌, ◌^◌, ◌==◌, ℤ, Bool, true, false, Option, Some, None, Result, Ok, Err}
 use Rattle.page_memory.specs.declared.fault.MemoryFault.{MemoryFault}
-use Rattle.page_memory.specs.Memory.{Memory, fetched}
+use Rattle.page_memory.specs.Memory.{Memory, fetched, loaded, stored, replaced}
 use Rattle.rv_isa.specs.declared.instruction.Insn.{Insn}
-use Rattle.rv_isa.specs.declared.instruction.Insn.TheVariants.{Lui, Auipc, Jal, Jalr, Branch, OpImmediate, Shift, Op, Ecall, Ebreak}
+use Rattle.rv_isa.specs.declared.instruction.Insn.TheVariants.{Lui, Auipc, Jal, Jalr, Branch, Load, Store, OpImmediate, Shift, Op, Fence, Amo, Ecall, Ebreak}
+use Rattle.rv_isa.specs.declared.kinds.LoadKind.{LoadKind}
+use Rattle.rv_isa.specs.declared.kinds.StoreKind.{StoreKind}
+use Rattle.rv_isa.specs.declared.kinds.AmoKind.{AmoKind}
 use Rattle.rv_isa.specs.Table.{insn_of}
 use Rattle.rv_exec.specs.declared.cause.Cause.{Cause}
 use Rattle.rv_exec.specs.declared.cause.Cause.TheVariants.{InstructionMisaligned, IllegalInstruction, Breakpoint}
-use Rattle.rv_exec.specs.Causes.{fetch_cause}
+use Rattle.rv_exec.specs.Causes.{fetch_cause, load_cause, store_cause}
 use Rattle.rv_exec.specs.Registers.{Registers, register, with_register, with_pc, next_pc}
 use Rattle.rv_exec.specs.Arithmetic.{word_sum, word_of, even, result_of, immediate_operation, shift_operation, is_taken}
+use Rattle.rv_exec.specs.Access.{load_width, store_width, extended}
+use Rattle.rv_exec.specs.Amo.{amo_result}
 
 -- what a step does: new registers and memory, an environment call, or a trap with its value
 pub data Line : Type 0 where
@@ -40,9 +45,39 @@ abbrev pub branched : Registers → Memory → ℕ → Bool → Line
 branched regs memory target true = jumped regs memory 0 target
 branched regs memory target false = Next (with_pc regs (next_pc regs)) memory
 
+-- ---- loads, stores and atomic operations: what memory's answer does. A load traps where memory refuses it, also one
+-- whose value is lost in x0
+
+-- the address of a load or a store
+abbrev pub address_at : Registers → ℕ → ℤ → ℕ
+address_at regs rs1 offset = word_sum (register regs rs1) (word_of offset)
+
+abbrev pub after_load : Registers → Memory → LoadKind → ℕ → ℕ → Result ℕ MemoryFault → Line
+after_load regs memory kind rd address (Ok number) = Next (computed regs rd (extended kind number)) memory
+after_load regs memory kind rd address (Err fault) = Traps (load_cause fault) address
+
+unfoldable pub load_line : Registers → Memory → LoadKind → ℕ → ℕ → Line
+load_line regs memory kind rd address = after_load regs memory kind rd address (loaded memory (load_width kind) address)
+
+abbrev pub after_store : Registers → ℕ → Result Memory MemoryFault → Line
+after_store regs address (Ok changed) = Next (with_pc regs (next_pc regs)) changed
+after_store regs address (Err fault) = Traps (store_cause fault) address
+
+unfoldable pub store_line : Registers → Memory → StoreKind → ℕ → ℕ → Line
+store_line regs memory kind address word = after_store regs address (stored memory (store_width kind) address word)
+
+abbrev pub after_amo : Registers → ℕ → ℕ → Result (ℕ × Memory) MemoryFault → Line
+after_amo regs rd address (Ok answer) = Next (computed regs rd answer.0) answer.1
+after_amo regs rd address (Err fault) = Traps (store_cause fault) address
+
+-- rd gets the old word, and the operation's result is stored in its place, in one step
+unfoldable pub amo_line : Registers → Memory → AmoKind → ℕ → ℕ → ℕ → Line
+amo_line regs memory kind rd address operand =
+    after_amo regs rd address (replaced memory (λ old. amo_result kind old operand) address)
+
 -- ---- the lines
 
--- what an instruction does
+-- what an instruction does. Execution is sequentially consistent: FENCE and the flags of an atomic operation order nothing more
 unfoldable pub insn_line : Registers → Memory → Insn → Line
 insn_line regs memory (Lui rd immediate) = Next (computed regs rd (immediate * 2 ^ 12)) memory
 insn_line regs memory (Auipc rd immediate) = Next (computed regs rd (word_sum regs.pc (immediate * 2 ^ 12))) memory
@@ -50,12 +85,18 @@ insn_line regs memory (Jal rd offset) = jumped regs memory rd (word_sum regs.pc 
 insn_line regs memory (Jalr rd rs1 offset) = jumped regs memory rd (even (word_sum (register regs rs1) (word_of offset)))
 insn_line regs memory (Branch kind rs1 rs2 offset) =
     branched regs memory (word_sum regs.pc (word_of offset)) (is_taken kind (register regs rs1) (register regs rs2))
+insn_line regs memory (Load kind rd rs1 offset) = load_line regs memory kind rd (address_at regs rs1 offset)
+insn_line regs memory (Store kind rs1 rs2 offset) =
+    store_line regs memory kind (address_at regs rs1 offset) (register regs rs2)
 insn_line regs memory (OpImmediate kind rd rs1 immediate) =
     Next (computed regs rd (result_of (immediate_operation kind) (register regs rs1) (word_of immediate))) memory
 insn_line regs memory (Shift kind rd rs1 amount) =
     Next (computed regs rd (result_of (shift_operation kind) (register regs rs1) amount)) memory
 insn_line regs memory (Op kind rd rs1 rs2) =
     Next (computed regs rd (result_of kind (register regs rs1) (register regs rs2))) memory
+insn_line regs memory (Fence kept rd rs1) = Next (with_pc regs (next_pc regs)) memory
+insn_line regs memory (Amo kind acquire release rd rs1 rs2) =
+    amo_line regs memory kind rd (register regs rs1) (register regs rs2)
 insn_line regs memory Ecall = Call
 insn_line regs memory Ebreak = Traps Breakpoint regs.pc
 

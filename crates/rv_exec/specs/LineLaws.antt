@@ -45,11 +45,11 @@ pages_fault : (regs : Registers) (memory : Memory) (fault : MemoryFault) → fet
 unfolding pages_used
 pages_fault regs memory fault h = ap (fetched_pages regs memory) h
 
-all_front : (P : ℕ → Type 0) (page : ℕ) (pages : List ℕ) → P page → All P pages → All P (page ∷ pages)
+pub all_front : (P : ℕ → Type 0) (page : ℕ) (pages : List ℕ) → P page → All P pages → All P (page ∷ pages)
 all_front P page pages h g zero d k = h
 all_front P page pages h g (suc k) d b = g k d (omega arith)
 
-all_none : (P : ℕ → Type 0) → All P []
+pub all_none : (P : ℕ → Type 0) → All P []
 all_none P k d h = absurd (omega arith)
 
 contains_behind : (page other : ℕ) (pages : List ℕ) → Contains pages page → Contains (other ∷ pages) page

@@ -1,49 +1,36 @@
 ghost use Rattle.std.specs.Prelude.{◌≡◌};
 ghost use Rattle.rv_exec.specs.Amo.{amo_result};
 
-/// What an atomic memory operation does with the old word and its operand.
-#[derive(Clone, Copy, Debug, PartialEq, Eq)]
-pub enum AmoOperation {
-    Add,
-    Swap,
-    Xor,
-    Or,
-    And,
-    Min,
-    Max,
-    MinUnsigned,
-    MaxUnsigned,
-}
+use rv_isa::AmoKind;
 
-impl AmoOperation {
-    /// The word that is stored in place of the old one.
-    #[inline]
-    #[tactic(auto, unfolding(crate::specs::Amo::amo_result, crate::specs::Arithmetic::word_sum))]
-    pub fn apply(self, old: u32, operand: u32) -> u32
-        ensures { result ≡ amo_result self old operand }
-    {
-        match self {
-            AmoOperation::Add => old.wrapping_add(operand),
-            AmoOperation::Swap => operand,
-            AmoOperation::Xor => old ^ operand,
-            AmoOperation::Or => old | operand,
-            AmoOperation::And => old & operand,
-            AmoOperation::Min => {
-                if operand.cast_signed() < old.cast_signed() {
-                    operand
-                } else {
-                    old
-                }
+/// The word that an atomic memory operation stores, of the old word and its operand
+/// (unprivileged manual, "Zaamo").
+#[inline]
+#[tactic(auto, unfolding(crate::specs::Amo::amo_result, crate::specs::Arithmetic::word_sum))]
+pub fn amo_word(operation: AmoKind, old: u32, operand: u32) -> u32
+    ensures { result ≡ amo_result operation old operand }
+{
+    match operation {
+        AmoKind::Amoadd => old.wrapping_add(operand),
+        AmoKind::Amoswap => operand,
+        AmoKind::Amoxor => old ^ operand,
+        AmoKind::Amoor => old | operand,
+        AmoKind::Amoand => old & operand,
+        AmoKind::Amomin => {
+            if operand.cast_signed() < old.cast_signed() {
+                operand
+            } else {
+                old
             }
-            AmoOperation::Max => {
-                if old.cast_signed() < operand.cast_signed() {
-                    operand
-                } else {
-                    old
-                }
-            }
-            AmoOperation::MinUnsigned => { if operand < old { operand } else { old } }
-            AmoOperation::MaxUnsigned => { if old < operand { operand } else { old } }
         }
+        AmoKind::Amomax => {
+            if old.cast_signed() < operand.cast_signed() {
+                operand
+            } else {
+                old
+            }
+        }
+        AmoKind::Amominu => { if operand < old { operand } else { old } }
+        AmoKind::Amomaxu => { if old < operand { operand } else { old } }
     }
 }

@@ -1,6 +1,10 @@
 ghost use Rattle.std.specs.Prelude.{◌≡◌};
 ghost use Rattle.rv_exec.specs.Arithmetic.{word_sum, even, result_of, immediate_operation, shift_operation, is_taken};
 
+use crate::multiplication::{
+    divide, divide_unsigned, multiply_high, multiply_high_mixed, multiply_high_unsigned, remainder,
+    remainder_unsigned,
+};
 use rv_isa::{BranchKind, ImmediateKind, OpKind, ShiftKind};
 
 /// The sum of two words, which wraps.
@@ -38,6 +42,14 @@ pub fn operate(kind: OpKind, a: u32, b: u32) -> u32
         OpKind::Sra => a.cast_signed().wrapping_shr(b).cast_unsigned(),
         OpKind::Or => a | b,
         OpKind::And => a & b,
+        OpKind::Mul => a.wrapping_mul(b),
+        OpKind::Mulh => multiply_high(a, b),
+        OpKind::Mulhsu => multiply_high_mixed(a, b),
+        OpKind::Mulhu => multiply_high_unsigned(a, b),
+        OpKind::Div => divide(a, b),
+        OpKind::Divu => divide_unsigned(a, b),
+        OpKind::Rem => remainder(a, b),
+        OpKind::Remu => remainder_unsigned(a, b),
     }
 }
 

@@ -2,8 +2,8 @@ ghost use Rattle.std.specs.Prelude.{◌≡◌, ℕ, ◌+◌, ◌≤◌, length, 
 ghost use Rattle.page_memory.specs.Words.{page_offset};
 ghost use Rattle.page_memory.specs.Memory.{Memory, fetched, loaded, stored, replaced, copied_out, copied_in};
 
-use crate::amo::AmoOperation;
 use page_memory::{MemoryFault, Width};
+use rv_isa::AmoKind;
 
 /// Why a bus refuses an access. It has changed neither memory nor what a `&mut` slice holds.
 #[derive(Clone, Copy, Debug, PartialEq, Eq)]
@@ -66,7 +66,7 @@ pub trait Bus {
         ensures kept { keeps self.old self.new };
 
     /// Replaces the word at an address by the operation's result, in one step, and answers the old word.
-    fn amo(&mut self, address: u32, operation: AmoOperation, operand: u32) -> Result<u32, BusError>
+    fn amo(&mut self, address: u32, operation: AmoKind, operand: u32) -> Result<u32, BusError>
         ensures answer { let update = λ (old : ℕ). amo_result operation old operand in
             let expected = replaced (memory self.old) update address in
             let after = with_answer (λ old. (old, memory self.new)) result in

@@ -1,5 +1,5 @@
 ghost use Rattle.std.specs.Prelude.{◌≡◌};
-ghost use Rattle.rv_exec.specs.Causes.{cause_number, fetch_cause};
+ghost use Rattle.rv_exec.specs.Causes.{cause_number, fetch_cause, load_cause, store_cause};
 
 use page_memory::MemoryFault;
 
@@ -49,6 +49,28 @@ impl Cause {
         match fault {
             MemoryFault::Misaligned => Cause::InstructionMisaligned,
             MemoryFault::PageFault => Cause::InstructionPageFault,
+        }
+    }
+
+    /// Why a load traps that memory refuses.
+    #[inline]
+    pub(crate) fn of_load(fault: MemoryFault) -> Self
+        ensures { result ≡ load_cause fault }
+    {
+        match fault {
+            MemoryFault::Misaligned => Cause::LoadMisaligned,
+            MemoryFault::PageFault => Cause::LoadPageFault,
+        }
+    }
+
+    /// Why a store or an atomic operation traps that memory refuses.
+    #[inline]
+    pub(crate) fn of_store(fault: MemoryFault) -> Self
+        ensures { result ≡ store_cause fault }
+    {
+        match fault {
+            MemoryFault::Misaligned => Cause::StoreMisaligned,
+            MemoryFault::PageFault => Cause::StorePageFault,
         }
     }
 }

@@ -1,15 +1,17 @@
 ghost use Rattle.std.specs.Prelude.{◌≡◌, ◌<◌};
 ghost use Rattle.page_memory.specs.Memory.{Memory};
-ghost use Rattle.rv_exec.specs.Line.{line, insn_line, jumped, branched, computed};
+ghost use Rattle.rv_exec.specs.Line.{line, insn_line, jumped, branched};
 ghost use Rattle.rv_exec.specs.Uses.{pages_used, data_pages};
 ghost use Rattle.rv_exec.specs.Outcomes.{Follows, UnlessDone, UsesPages, IsPresent};
 
+use crate::accesses::{perform_amo, perform_load, perform_store};
+use crate::advance::{advance, compute};
 use crate::arithmetic::{add, branches, operate, operate_immediate, shift, without_lowest_bit};
 use crate::bus::{Bus, BusError};
 use crate::cause::Cause;
 use crate::outcome::Outcome;
 use crate::regs::Regs;
-use rv_isa::{Insn, Reg, decode};
+use rv_isa::{Insn, decode};
 
 /// Runs a hart's next instruction: fetches the word at pc and does what the instruction table says of it.
 ///
@@ -72,6 +74,25 @@ fn perform<B: Bus>(regs: &mut Regs, bus: &mut B, insn: &Insn) -> Outcome
             let taken = branches(kind, regs.read(rs1), regs.read(rs2));
             branch(regs, target, taken)
         }
+        Insn::Load {
+            kind,
+            rd,
+            rs1,
+            offset,
+        } => {
+            let address = add(regs.read(rs1), offset.word());
+            perform_load(regs, bus, kind, rd, address)
+        }
+        Insn::Store {
+            kind,
+            rs1,
+            rs2,
+            offset,
+        } => {
+            let address = add(regs.read(rs1), offset.word());
+            let word = regs.read(rs2);
+            perform_store(regs, bus, kind, address, word)
+        }
         Insn::OpImmediate {
             kind,
             rd,
@@ -94,21 +115,22 @@ fn perform<B: Bus>(regs: &mut Regs, bus: &mut B, insn: &Insn) -> Outcome
             let value = operate(kind, regs.read(rs1), regs.read(rs2));
             compute(regs, rd, value)
         }
+        // Execution is sequentially consistent: there is nothing left to order.
+        Insn::Fence { .. } => advance(regs),
+        Insn::Amo {
+            kind,
+            rd,
+            rs1,
+            rs2,
+            ..
+        } => {
+            let address = regs.read(rs1);
+            let operand = regs.read(rs2);
+            perform_amo(regs, bus, kind, rd, address, operand)
+        }
         Insn::Ecall => Outcome::Ecall,
         Insn::Ebreak => Outcome::Trap(Cause::Breakpoint, regs.pc()),
     }
-}
-
-/// Writes a value to rd, and moves pc on.
-#[inline]
-#[tactic(auto, unfolding(crate::specs::Line::computed))]
-fn compute(regs: &mut Regs, rd: Reg, value: u32) -> Outcome
-    ensures done { result ≡ Outcome.Done }
-    ensures written { regs.new ≡ computed regs.old rd value }
-{
-    regs.set_pc(regs.next_pc());
-    regs.write(rd, value);
-    Outcome::Done
 }
 
 /// Jumps to a target, and keeps the address of the next instruction in the register of this number.
@@ -140,7 +162,6 @@ fn branch(regs: &mut Regs, target: u32, taken: bool) -> Outcome
     if taken {
         jump(regs, 0, target)
     } else {
-        regs.set_pc(regs.next_pc());
-        Outcome::Done
+        advance(regs)
     }
 }

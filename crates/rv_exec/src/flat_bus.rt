@@ -2,9 +2,10 @@ ghost use Rattle.std.specs.Prelude.{◌≡◌, ℕ, Ok, Err, IfOk, IfErr, OnErr}
 ghost use Rattle.page_memory.specs.Memory.{replaced};
 ghost use Rattle.rv_exec.specs.Amo.{amo_result};
 
-use crate::amo::AmoOperation;
+use crate::amo::amo_word;
 use crate::bus::{Bus, BusError};
 use page_memory::{FlatMemory, MemoryFault, Width};
+use rv_isa::AmoKind;
 
 // Flat memory is a bus of its own: every page is there.
 impl Bus for FlatMemory {
@@ -40,12 +41,7 @@ impl Bus for FlatMemory {
     }
 
     #[inline]
-    fn amo(
-        &mut self,
-        address: u32,
-        operation: AmoOperation,
-        operand: u32,
-    ) -> Result<u32, BusError> {
+    fn amo(&mut self, address: u32, operation: AmoKind, operand: u32) -> Result<u32, BusError> {
         Ok(replace(self, address, operation, operand)?)
     }
 
@@ -64,7 +60,7 @@ impl Bus for FlatMemory {
 fn replace(
     memory: &mut FlatMemory,
     address: u32,
-    operation: AmoOperation,
+    operation: AmoKind,
     operand: u32,
 ) -> Result<u32, MemoryFault>
     ensures ok { let update = λ (old : ℕ). amo_result operation old operand in
@@ -74,6 +70,6 @@ fn replace(
     ensures err { OnErr result (memory.new ≡ memory.old) }
 {
     let old = memory.load_to_replace(address)?;
-    memory.store(Width::Word, address, operation.apply(old, operand))?;
+    memory.store(Width::Word, address, amo_word(operation, old, operand))?;
     Ok(old)
 }

@@ -4,16 +4,21 @@
 //! through a [`Bus`] alone, so that the same instructions run on flat and on paged memory.
 #![tactic(auto)]
 
+mod accesses;
+mod advance;
 mod amo;
 mod arithmetic;
 mod bus;
 mod cause;
 mod execution;
 mod flat_bus;
+mod multiplication;
 mod outcome;
 mod regs;
+#[cfg(test)]
+mod tests;
 
-pub use amo::AmoOperation;
+pub use amo::amo_word;
 pub use bus::{Bus, BusError};
 pub use cause::Cause;
 pub use execution::execute;

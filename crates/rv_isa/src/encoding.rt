@@ -1,12 +1,14 @@
 ghost use Rattle.std.specs.Prelude.{◌≡◌, ℕ, ◌^◌, ◌<◌};
-ghost use Rattle.rv_isa.specs.Table.{Agrees, IsRFormat, IsIFormat, IsBFormat, IsUFormat, IsJFormat, branch_code, immediate_code, shift_code, op_code};
+ghost use Rattle.rv_isa.specs.Table.{Agrees, IsRFormat, IsIFormat, IsSFormat, IsBFormat, IsUFormat, IsJFormat, IsFenceFormat, IsAmoFormat, branch_code, load_code, store_code, immediate_code, shift_code, op_code, amo_code, flag_code};
 
 use super::fields::field;
 use super::instruction::Insn;
-use super::kinds::{BranchKind, Code, ImmediateKind, OpKind, ShiftKind};
-use super::operands::{BranchOffset, Immediate, JumpOffset, Reg, UpperImmediate};
+use super::kinds::{
+    AmoKind, BranchKind, Code, ImmediateKind, LoadKind, OpKind, ShiftKind, StoreKind,
+};
+use super::operands::{BranchOffset, FenceBits, Immediate, JumpOffset, Reg, UpperImmediate};
 
-/// The word of an instruction.
+/// The word of an instruction, in the formats of the unprivileged manual.
 pub fn encode(insn: Insn) -> u32
     ensures found { Agrees result insn }
     ensures only { (word : ℕ) → word < 2 ^ 32 → Agrees word insn → word ≡ result }
@@ -29,6 +31,18 @@ fn word_of(insn: Insn) -> u32
             rs2,
             offset,
         } => { b_format(0b110_0011, branch_code(kind), rs1, rs2, offset) }
+        Insn::Load {
+            kind,
+            rd,
+            rs1,
+            offset,
+        } => i_format(0b000_0011, load_code(kind), rd, rs1, offset),
+        Insn::Store {
+            kind,
+            rs1,
+            rs2,
+            offset,
+        } => s_format(0b010_0011, store_code(kind), rs1, rs2, offset),
         Insn::OpImmediate {
             kind,
             rd,
@@ -48,6 +62,18 @@ fn word_of(insn: Insn) -> u32
             rs1,
             rs2.index(),
         ),
+        Insn::Fence { bits, rd, rs1 } => fence_format(0b000_1111, bits, rd, rs1),
+        Insn::Amo {
+            kind,
+            acquire,
+            release,
+            rd,
+            rs1,
+            rs2,
+        } => {
+            let ordering = (flag_code(acquire), flag_code(release));
+            amo_format(amo_code(kind), ordering, rd, rs1, rs2)
+        }
         Insn::Ecall => 0x0000_0073,
         Insn::Ebreak => 0x0010_0073,
     }
@@ -77,6 +103,20 @@ fn i_format(opcode: u32, funct3: u32, rd: Reg, rs1: Reg, immediate: Immediate) -
     let rs1 = u32::from(rs1.index());
     let rd = u32::from(rd.index());
     (immediate << 20) + (rs1 << 15) + (funct3 << 12) + (rd << 7) + opcode
+}
+
+/// A word of the S format.
+fn s_format(opcode: u32, funct3: u32, rs1: Reg, rs2: Reg, immediate: Immediate) -> u32
+    requires opcode_fits { opcode < 2 ^ 7 }
+    requires funct3_fits { funct3 < 2 ^ 3 }
+    ensures { IsSFormat result opcode funct3 rs1 rs2 immediate }
+{
+    let immediate = immediate.word();
+    let rs2 = u32::from(rs2.index());
+    let rs1 = u32::from(rs1.index());
+    let high = field(immediate, 11, 5);
+    let low = field(immediate, 4, 0);
+    (high << 25) + (rs2 << 20) + (rs1 << 15) + (funct3 << 12) + (low << 7) + opcode
 }
 
 /// A word of the B format.
@@ -114,6 +154,39 @@ fn j_format(opcode: u32, rd: Reg, offset: JumpOffset) -> u32
     (high << 21) + (low << 12) + (rd << 7) + opcode
 }
 
+/// A fence's word, with funct3 0.
+fn fence_format(opcode: u32, bits: FenceBits, rd: Reg, rs1: Reg) -> u32
+    requires { opcode < 2 ^ 7 }
+    ensures { IsFenceFormat result opcode 0 bits rd rs1 }
+{
+    let bits = u32::from(bits.value());
+    let rs1 = u32::from(rs1.index());
+    let rd = u32::from(rd.index());
+    (bits << 20) + (rs1 << 15) + (rd << 7) + opcode
+}
+
+/// A word of opcode AMO on 32 bits; the ordering is the acquire and the release flag.
+fn amo_format(funct5: u32, ordering: (u32, u32), rd: Reg, rs1: Reg, rs2: Reg) -> u32
+    requires funct5_fits { funct5 < 2 ^ 5 }
+    requires acquire_fits { ordering.0 < 2 }
+    requires release_fits { ordering.1 < 2 }
+    ensures { IsAmoFormat result 0b0101111 funct5 ordering.0 ordering.1 0b010 rd rs1 rs2 }
+{
+    let rs2 = u32::from(rs2.index());
+    let rs1 = u32::from(rs1.index());
+    let rd = u32::from(rd.index());
+    let funct7 = (funct5 << 2) + (ordering.0 << 1) + ordering.1;
+    (funct7 << 25) + (rs2 << 20) + (rs1 << 15) + (0b010 << 12) + (rd << 7) + 0b010_1111
+}
+
+/// A flag as a bit.
+fn flag_code(flag: bool) -> u32
+    ensures value { result ≡ flag_code flag }
+    ensures below { result < 2 }
+{
+    if flag { 1 } else { 0 }
+}
+
 fn branch_code(kind: BranchKind) -> u32
     ensures value { result ≡ branch_code kind }
     ensures below { result < 2 ^ 3 }
@@ -125,6 +198,30 @@ fn branch_code(kind: BranchKind) -> u32
         BranchKind::Bge => 0b101,
         BranchKind::Bltu => 0b110,
         BranchKind::Bgeu => 0b111,
+    }
+}
+
+fn load_code(kind: LoadKind) -> u32
+    ensures value { result ≡ load_code kind }
+    ensures below { result < 2 ^ 3 }
+{
+    match kind {
+        LoadKind::Lb => 0b000,
+        LoadKind::Lh => 0b001,
+        LoadKind::Lw => 0b010,
+        LoadKind::Lbu => 0b100,
+        LoadKind::Lhu => 0b101,
+    }
+}
+
+fn store_code(kind: StoreKind) -> u32
+    ensures value { result ≡ store_code kind }
+    ensures below { result < 2 ^ 3 }
+{
+    match kind {
+        StoreKind::Sb => 0b000,
+        StoreKind::Sh => 0b001,
+        StoreKind::Sw => 0b010,
     }
 }
 
@@ -171,6 +268,31 @@ fn op_code(kind: OpKind) -> Code
         OpKind::Sra => (0b010_0000, 0b101),
         OpKind::Or => (0b000_0000, 0b110),
         OpKind::And => (0b000_0000, 0b111),
+        OpKind::Mul => (0b000_0001, 0b000),
+        OpKind::Mulh => (0b000_0001, 0b001),
+        OpKind::Mulhsu => (0b000_0001, 0b010),
+        OpKind::Mulhu => (0b000_0001, 0b011),
+        OpKind::Div => (0b000_0001, 0b100),
+        OpKind::Divu => (0b000_0001, 0b101),
+        OpKind::Rem => (0b000_0001, 0b110),
+        OpKind::Remu => (0b000_0001, 0b111),
     };
     Code { funct7, funct3 }
+}
+
+fn amo_code(kind: AmoKind) -> u32
+    ensures value { result ≡ amo_code kind }
+    ensures below { result < 2 ^ 5 }
+{
+    match kind {
+        AmoKind::Amoadd => 0b00000,
+        AmoKind::Amoswap => 0b00001,
+        AmoKind::Amoxor => 0b00100,
+        AmoKind::Amoor => 0b01000,
+        AmoKind::Amoand => 0b01100,
+        AmoKind::Amomin => 0b10000,
+        AmoKind::Amomax => 0b10100,
+        AmoKind::Amominu => 0b11000,
+        AmoKind::Amomaxu => 0b11100,
+    }
 }

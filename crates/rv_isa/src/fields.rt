@@ -1,8 +1,10 @@
 ghost use Rattle.std.specs.Prelude.{◌≡◌, pos, ◌-ℤ◌, ◌+◌, ◌-◌, ◌*◌, ◌^◌, ◌<◌, ◌≤◌};
-ghost use Rattle.rv_isa.specs.Bits.{bits};
-ghost use Rattle.rv_isa.specs.Table.{i_immediate, b_immediate, u_immediate, j_immediate};
+ghost use Rattle.rv_isa.specs.Bits.{bits, signed};
+ghost use Rattle.rv_isa.specs.Table.{i_immediate, s_immediate, b_immediate, u_immediate, j_immediate};
 
-use super::operands::{BranchOffset, Immediate, JumpOffset, Reg, ShiftAmount, UpperImmediate};
+use super::operands::{
+    BranchOffset, FenceBits, Immediate, JumpOffset, Reg, ShiftAmount, UpperImmediate,
+};
 
 /// Bits `high` to `low` of a word, as a number.
 #[inline(always)]
@@ -55,6 +57,30 @@ pub(crate) fn immediate(word: u32) -> Immediate
     ensures { result ≡ i_immediate word }
 {
     Immediate::from_value(word.cast_signed() >> 20)
+}
+
+/// The word's upper seven bits, as a signed number.
+#[inline(always)]
+fn signed_funct7(word: u32) -> i32
+    ensures { result ≡ signed 7 (bits word 31 25) }
+{
+    word.cast_signed() >> 25
+}
+
+/// The immediate of the S format.
+#[inline(always)]
+pub(crate) fn store_immediate(word: u32) -> Immediate
+    ensures { result ≡ s_immediate word }
+{
+    Immediate::from_value(signed_funct7(word) * 0x20 + field(word, 11, 7).cast_signed())
+}
+
+/// The bits of a fence.
+#[inline(always)]
+pub(crate) fn fence_bits(word: u32) -> FenceBits
+    ensures { result ≡ bits word 31 20 }
+{
+    FenceBits::from_value(field(word, 31, 20) as u16)
 }
 
 /// The immediate of the U format.

@@ -1,7 +1,9 @@
-use super::kinds::{BranchKind, ImmediateKind, OpKind, ShiftKind};
-use super::operands::{BranchOffset, Immediate, JumpOffset, Reg, ShiftAmount, UpperImmediate};
+use super::kinds::{AmoKind, BranchKind, ImmediateKind, LoadKind, OpKind, ShiftKind, StoreKind};
+use super::operands::{
+    BranchOffset, FenceBits, Immediate, JumpOffset, Reg, ShiftAmount, UpperImmediate,
+};
 
-/// An instruction of the table, with operands that are in range by their types.
+/// An instruction of RV32I, M or Zaamo (unprivileged manual), with operands that are in range by their types.
 ///
 /// Registers are named as in the manual: `rd` is written, `rs1` and `rs2` are read.
 #[derive(Clone, Copy, Debug, PartialEq, Eq)]
@@ -34,6 +36,20 @@ pub enum Insn {
         rs2: Reg,
         offset: BranchOffset,
     },
+    /// A load from `rs1` plus the offset.
+    Load {
+        kind: LoadKind,
+        rd: Reg,
+        rs1: Reg,
+        offset: Immediate,
+    },
+    /// A store of `rs2` to `rs1` plus the offset.
+    Store {
+        kind: StoreKind,
+        rs1: Reg,
+        rs2: Reg,
+        offset: Immediate,
+    },
     /// A register and an immediate.
     OpImmediate {
         kind: ImmediateKind,
@@ -51,6 +67,21 @@ pub enum Insn {
     /// Two registers.
     Op {
         kind: OpKind,
+        rd: Reg,
+        rs1: Reg,
+        rs2: Reg,
+    },
+    /// Memory ordering: all the fields of the word but its opcode and funct3 are kept.
+    Fence {
+        bits: FenceBits,
+        rd: Reg,
+        rs1: Reg,
+    },
+    /// An atomic memory operation at `rs1`.
+    Amo {
+        kind: AmoKind,
+        acquire: bool,
+        release: bool,
         rd: Reg,
         rs1: Reg,
         rs2: Reg,

@@ -28,7 +28,7 @@ pub enum ShiftKind {
     Srai,
 }
 
-/// What is done with two registers (opcode OP).
+/// What is done with two registers (opcode OP): RV32I, then M.
 #[derive(Clone, Copy, Debug, PartialEq, Eq)]
 pub enum OpKind {
     Add,
@@ -41,6 +41,46 @@ pub enum OpKind {
     Sra,
     Or,
     And,
+    Mul,
+    Mulh,
+    Mulhsu,
+    Mulhu,
+    Div,
+    Divu,
+    Rem,
+    Remu,
+}
+
+/// What a load reads and how it fills the register (opcode LOAD).
+#[derive(Clone, Copy, Debug, PartialEq, Eq)]
+pub enum LoadKind {
+    Lb,
+    Lh,
+    Lw,
+    Lbu,
+    Lhu,
+}
+
+/// What a store writes (opcode STORE).
+#[derive(Clone, Copy, Debug, PartialEq, Eq)]
+pub enum StoreKind {
+    Sb,
+    Sh,
+    Sw,
+}
+
+/// What an atomic memory operation makes of the old word and `rs2` (opcode AMO, Zaamo).
+#[derive(Clone, Copy, Debug, PartialEq, Eq)]
+pub enum AmoKind {
+    Amoadd,
+    Amoswap,
+    Amoxor,
+    Amoor,
+    Amoand,
+    Amomin,
+    Amomax,
+    Amominu,
+    Amomaxu,
 }
 
 /// The codes of the formats that have both.

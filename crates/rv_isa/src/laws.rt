@@ -11,7 +11,8 @@ pub fn one_instruction()
 /// An instruction has one word.
 #[tactic(auto, using(crate::specs::FormatLaws::agrees_once))]
 pub fn one_word()
-    ensures { (first second : ℕ) (insn : Insn) → first < 2 ^ 32 → second < 2 ^ 32 → Agrees first insn → Agrees second insn → first ≡ second }
+    ensures { (first second : ℕ) (insn : Insn) → first < 2 ^ 32 → second < 2 ^ 32
+        → Agrees first insn → Agrees second insn → first ≡ second }
 {}
 
 /// Looking a word up in the table finds the instruction that it agrees with.

@@ -18,7 +18,9 @@ mod text;
 pub use decoding::decode;
 pub use encoding::encode;
 pub use instruction::Insn;
-pub use kinds::{BranchKind, ImmediateKind, OpKind, ShiftKind};
+pub use kinds::{AmoKind, BranchKind, ImmediateKind, LoadKind, OpKind, ShiftKind, StoreKind};
 pub use laws::{one_instruction, one_word, table_lookup};
-pub use operands::{BranchOffset, Immediate, JumpOffset, Reg, ShiftAmount, UpperImmediate};
+pub use operands::{
+    BranchOffset, FenceBits, Immediate, JumpOffset, Reg, ShiftAmount, UpperImmediate,
+};
 pub use text::write_text;

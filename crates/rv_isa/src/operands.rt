@@ -1,4 +1,5 @@
 mod branch;
+mod fence;
 mod jump;
 mod register;
 mod shift;
@@ -6,6 +7,7 @@ mod signed;
 mod upper;
 
 pub use branch::BranchOffset;
+pub use fence::FenceBits;
 pub use jump::JumpOffset;
 pub use register::Reg;
 pub use shift::ShiftAmount;

@@ -6,6 +6,9 @@ use std::test::Fail;
 fn words_are_instructions(rt: HostRuntime) -> Result<(), Fail> {
     let table = [
         (0x0050_0093, "addi x1,x0,5"),
+        (0x0220_8533, "mul x10,x1,x2"),
+        (0x0063_A2AF, "amoadd.w x5,x6,(x7)"),
+        (0x0FF0_000F, "fence"),
         (0xFFDF_F06F, "jal x0,-4"),
         (0x0001_05B7, "lui x11,16"),
         (0x0000_0297, "auipc x5,0"),
@@ -17,6 +20,11 @@ fn words_are_instructions(rt: HostRuntime) -> Result<(), Fail> {
         (0x0050_D113, "srli x2,x1,5"),
         (0x4050_D113, "srai x2,x1,5"),
         (0x4020_8533, "sub x10,x1,x2"),
+        (0x0081_2283, "lw x5,8(x2)"),
+        (0x0051_2423, "sw x5,8(x2)"),
+        (0xFE55_0FA3, "sb x5,-1(x10)"),
+        (0x0330_000F, "fence 51,x0,x0"),
+        (0xE69F_A22F, "amomaxu.w.aqrl x4,x9,(x31)"),
         (0x0000_0073, "ecall"),
         (0x0010_0073, "ebreak"),
     ];
@@ -37,9 +45,14 @@ fn other_words_are_outside_the_table(rt: HostRuntime) {
         0x0000_0000,
         0xFFFF_FFFF,
         0x0250_9113,
-        0x0220_8533,
+        0x0420_8533,
+        0x1003_A2AF,
+        0x0063_B2AF,
+        0x0000_100F,
         0x0020_0073,
         0x0000_1067,
+        0x0000_3003,
+        0x0000_3023,
     ] {
         assert_eq!(rt; decode(word), None, "{word:#010x}");
     }
@@ -54,6 +67,7 @@ fn operands_have_ranges(rt: HostRuntime) -> Result<(), Fail> {
         0xF_FFFF
     );
     assert_eq!(rt; ShiftAmount::new(32), None);
+    assert_eq!(rt; FenceBits::new(4096), None);
     assert_eq!(rt; Immediate::new(-2048).ok_or("12 bits")?.word(), 0xFFFF_F800);
     assert_eq!(rt; BranchOffset::new(4095), None);
     assert_eq!(rt;

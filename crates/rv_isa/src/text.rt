@@ -1,5 +1,5 @@
 use super::instruction::Insn;
-use super::kinds::{BranchKind, ImmediateKind, OpKind, ShiftKind};
+use super::kinds::{AmoKind, BranchKind, ImmediateKind, LoadKind, OpKind, ShiftKind, StoreKind};
 use super::operands::Reg;
 use std::fmt;
 use std::fmt::Write;
@@ -30,6 +30,18 @@ impl fmt::Display for Insn {
                 rs2,
                 offset,
             } => { write!(f, "{} {rs1},{rs2},{}", branch_name(*kind), offset.value()) }
+            Insn::Load {
+                kind,
+                rd,
+                rs1,
+                offset,
+            } => write!(f, "{} {rd},{}({rs1})", load_name(*kind), offset.value()),
+            Insn::Store {
+                kind,
+                rs1,
+                rs2,
+                offset,
+            } => write!(f, "{} {rs2},{}({rs1})", store_name(*kind), offset.value()),
             Insn::OpImmediate {
                 kind,
                 rd,
@@ -50,9 +62,39 @@ impl fmt::Display for Insn {
                 amount,
             } => { write!(f, "{} {rd},{rs1},{}", shift_name(*kind), amount.value()) }
             Insn::Op { kind, rd, rs1, rs2 } => write!(f, "{} {rd},{rs1},{rs2}", op_name(*kind)),
+            Insn::Fence { bits, rd, rs1 } => {
+                if bits.value() == FULL_FENCE && rd.index() == 0 && rs1.index() == 0 {
+                    f.write_str("fence")
+                } else {
+                    write!(f, "fence {},{rd},{rs1}", bits.value())
+                }
+            }
+            Insn::Amo {
+                kind,
+                acquire,
+                release,
+                rd,
+                rs1,
+                rs2,
+            } => {
+                let ordering = ordering_name(*acquire, *release);
+                write!(f, "{}.w{ordering} {rd},{rs2},({rs1})", amo_name(*kind))
+            }
             Insn::Ecall => f.write_str("ecall"),
             Insn::Ebreak => f.write_str("ebreak"),
         }
+    }
+}
+
+/// The bits of a plain `fence`: all accesses before it, then all after it.
+const FULL_FENCE: u16 = 0x0FF;
+
+fn ordering_name(acquire: bool, release: bool) -> &'static str {
+    match (acquire, release) {
+        (false, false) => "",
+        (true, false) => ".aq",
+        (false, true) => ".rl",
+        (true, true) => ".aqrl",
     }
 }
 
@@ -64,6 +106,24 @@ fn branch_name(kind: BranchKind) -> &'static str {
         BranchKind::Bge => "bge",
         BranchKind::Bltu => "bltu",
         BranchKind::Bgeu => "bgeu",
+    }
+}
+
+fn load_name(kind: LoadKind) -> &'static str {
+    match kind {
+        LoadKind::Lb => "lb",
+        LoadKind::Lh => "lh",
+        LoadKind::Lw => "lw",
+        LoadKind::Lbu => "lbu",
+        LoadKind::Lhu => "lhu",
+    }
+}
+
+fn store_name(kind: StoreKind) -> &'static str {
+    match kind {
+        StoreKind::Sb => "sb",
+        StoreKind::Sh => "sh",
+        StoreKind::Sw => "sw",
     }
 }
 
@@ -98,5 +158,27 @@ fn op_name(kind: OpKind) -> &'static str {
         OpKind::Sra => "sra",
         OpKind::Or => "or",
         OpKind::And => "and",
+        OpKind::Mul => "mul",
+        OpKind::Mulh => "mulh",
+        OpKind::Mulhsu => "mulhsu",
+        OpKind::Mulhu => "mulhu",
+        OpKind::Div => "div",
+        OpKind::Divu => "divu",
+        OpKind::Rem => "rem",
+        OpKind::Remu => "remu",
+    }
+}
+
+fn amo_name(kind: AmoKind) -> &'static str {
+    match kind {
+        AmoKind::Amoadd => "amoadd",
+        AmoKind::Amoswap => "amoswap",
+        AmoKind::Amoxor => "amoxor",
+        AmoKind::Amoor => "amoor",
+        AmoKind::Amoand => "amoand",
+        AmoKind::Amomin => "amomin",
+        AmoKind::Amomax => "amomax",
+        AmoKind::Amominu => "amominu",
+        AmoKind::Amomaxu => "amomaxu",
     }
 }

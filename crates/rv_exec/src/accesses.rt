@@ -1,0 +1,128 @@
+//! Loads, stores and atomic memory operations: one access of the bus each (unprivileged manual, "Load and Store
+//! Instructions" and "Zaamo").
+ghost use Rattle.std.specs.Prelude.{◌≡◌};
+ghost use Rattle.rv_exec.specs.Access.{load_width, store_width, extended};
+ghost use Rattle.rv_exec.specs.Line.{load_line, store_line, amo_line};
+ghost use Rattle.rv_exec.specs.Uses.{load_pages, store_pages, amo_pages};
+ghost use Rattle.rv_exec.specs.Outcomes.{Follows, UnlessDone, UsesPages};
+
+use crate::advance::{advance, compute};
+use crate::bus::{Bus, BusError};
+use crate::cause::Cause;
+use crate::outcome::Outcome;
+use crate::regs::Regs;
+use page_memory::Width;
+use rv_isa::{AmoKind, LoadKind, Reg, StoreKind};
+
+/// Loads from an address into rd.
+#[inline]
+#[tactic(auto, using(crate::specs::AccessLaws::loading))]
+pub fn perform_load<B: Bus>(
+    regs: &mut Regs,
+    bus: &mut B,
+    kind: LoadKind,
+    rd: Reg,
+    address: u32,
+) -> Outcome
+    ensures line { let line = load_line regs.old (B.memory bus.old) kind rd address in
+        Follows line result regs.new (B.memory bus.new) }
+    ensures registers_stay { UnlessDone result (regs.new ≡ regs.old) }
+    ensures memory_stays { UnlessDone result (B.memory bus.new ≡ B.memory bus.old) }
+    ensures pages { let used = load_pages (B.memory bus.old) kind address in
+        UsesPages (B.has bus.old) (B.lacks bus.old) used result }
+    ensures kept { B.keeps bus.old bus.new }
+{
+    match bus.load(width_of_load(kind), address) {
+        Ok(number) => compute(regs, rd, extend(kind, number)),
+        Err(BusError::Fault(fault)) => Outcome::Trap(Cause::of_load(fault), address),
+        Err(BusError::Absent(page)) => Outcome::Absent(page),
+    }
+}
+
+/// Stores the low bytes of a word at an address.
+#[inline]
+#[tactic(auto, using(crate::specs::AccessLaws::storing))]
+pub fn perform_store<B: Bus>(
+    regs: &mut Regs,
+    bus: &mut B,
+    kind: StoreKind,
+    address: u32,
+    word: u32,
+) -> Outcome
+    ensures line { let line = store_line regs.old (B.memory bus.old) kind address word in
+        Follows line result regs.new (B.memory bus.new) }
+    ensures registers_stay { UnlessDone result (regs.new ≡ regs.old) }
+    ensures memory_stays { UnlessDone result (B.memory bus.new ≡ B.memory bus.old) }
+    ensures pages { let used = store_pages (B.memory bus.old) kind address word in
+        UsesPages (B.has bus.old) (B.lacks bus.old) used result }
+    ensures kept { B.keeps bus.old bus.new }
+{
+    match bus.store(width_of_store(kind), address, word) {
+        Ok(()) => advance(regs),
+        Err(BusError::Fault(fault)) => Outcome::Trap(Cause::of_store(fault), address),
+        Err(BusError::Absent(page)) => Outcome::Absent(page),
+    }
+}
+
+/// Replaces the word at an address by the operation's result, and keeps the old word in rd.
+#[inline]
+#[tactic(auto, using(crate::specs::AccessLaws::replacing))]
+pub fn perform_amo<B: Bus>(
+    regs: &mut Regs,
+    bus: &mut B,
+    kind: AmoKind,
+    rd: Reg,
+    address: u32,
+    operand: u32,
+) -> Outcome
+    ensures line { let line = amo_line regs.old (B.memory bus.old) kind rd address operand in
+        Follows line result regs.new (B.memory bus.new) }
+    ensures registers_stay { UnlessDone result (regs.new ≡ regs.old) }
+    ensures memory_stays { UnlessDone result (B.memory bus.new ≡ B.memory bus.old) }
+    ensures pages { let used = amo_pages (B.memory bus.old) kind address operand in
+        UsesPages (B.has bus.old) (B.lacks bus.old) used result }
+    ensures kept { B.keeps bus.old bus.new }
+{
+    match bus.amo(address, kind, operand) {
+        Ok(old) => compute(regs, rd, old),
+        Err(BusError::Fault(fault)) => Outcome::Trap(Cause::of_store(fault), address),
+        Err(BusError::Absent(page)) => Outcome::Absent(page),
+    }
+}
+
+/// How much a load reads.
+#[inline]
+fn width_of_load(kind: LoadKind) -> Width
+    ensures { result ≡ load_width kind }
+{
+    match kind {
+        LoadKind::Lb | LoadKind::Lbu => Width::Byte,
+        LoadKind::Lh | LoadKind::Lhu => Width::Half,
+        LoadKind::Lw => Width::Word,
+    }
+}
+
+/// How much a store writes.
+#[inline]
+fn width_of_store(kind: StoreKind) -> Width
+    ensures { result ≡ store_width kind }
+{
+    match kind {
+        StoreKind::Sb => Width::Byte,
+        StoreKind::Sh => Width::Half,
+        StoreKind::Sw => Width::Word,
+    }
+}
+
+/// The word that a loaded number fills a register with.
+#[inline]
+#[tactic(auto, unfolding(crate::specs::Access::extended))]
+fn extend(kind: LoadKind, number: u32) -> u32
+    ensures { result ≡ extended kind number }
+{
+    match kind {
+        LoadKind::Lb => i32::from(((number % 0x100) as u8).cast_signed()).cast_unsigned(),
+        LoadKind::Lh => i32::from(((number % 0x1_0000) as u16).cast_signed()).cast_unsigned(),
+        LoadKind::Lw | LoadKind::Lbu | LoadKind::Lhu => number,
+    }
+}

@@ -11,49 +11,52 @@ fn expect_fault(rt: &impl Abort, done: &Run, fault: &str) {
     assert_eq!(rt; done.status, 2);
 }
 
+/// Command lines, their words parted by `|`.
+const BAD_LINES: [&str; 36] = [
+    "--help",
+    "-h",
+    "help",
+    "--version",
+    "fly|x",
+    "FLAT|x",
+    "--|flat|x",
+    "--limit|5|flat|x",
+    "flat",
+    "flat|--help",
+    "flat|x|y",
+    "flat|-x",
+    "flat|--frames|4|x",
+    "flat|--input|x|y",
+    "flat|--limit|x",
+    "flat|x|--limit",
+    "flat|--limit|0|x",
+    "flat|--limit|1000000001|x",
+    "flat|--limit|18446744073709551617|x",
+    "flat|--limit|+5|x",
+    "flat|--limit|-5|x",
+    "flat|--limit=-5|x",
+    "flat|--limit=|x",
+    "flat|--limit||x",
+    "flat|--limit|0x5|x",
+    "flat|--limit| 5|x",
+    "flat|--limit|5|--limit|5|x",
+    "flat|--limit|5|--limit=6|x",
+    "clock|4",
+    "clock|4|x|y",
+    "clock|3|x",
+    "clock|4097|x",
+    "clock|0x4|x",
+    "clock|+4|x",
+    "clock||x",
+    "clock|--limit|5|4|x",
+];
+
 #[test]
 fn refuses_bad_usage(rt: HostRuntime) -> Result<(), Fail> {
-    let lines = [
-        [].as_slice(),
-        ["--help"].as_slice(),
-        ["-h"].as_slice(),
-        ["help"].as_slice(),
-        ["--version"].as_slice(),
-        ["fly", "x"].as_slice(),
-        ["FLAT", "x"].as_slice(),
-        ["--", "flat", "x"].as_slice(),
-        ["--limit", "5", "flat", "x"].as_slice(),
-        ["flat"].as_slice(),
-        ["flat", "--help"].as_slice(),
-        ["flat", "x", "y"].as_slice(),
-        ["flat", "-x"].as_slice(),
-        ["flat", "--frames", "4", "x"].as_slice(),
-        ["flat", "--input", "x", "y"].as_slice(),
-        ["flat", "--limit", "x"].as_slice(),
-        ["flat", "x", "--limit"].as_slice(),
-        ["flat", "--limit", "0", "x"].as_slice(),
-        ["flat", "--limit", "1000000001", "x"].as_slice(),
-        ["flat", "--limit", "18446744073709551617", "x"].as_slice(),
-        ["flat", "--limit", "+5", "x"].as_slice(),
-        ["flat", "--limit", "-5", "x"].as_slice(),
-        ["flat", "--limit=-5", "x"].as_slice(),
-        ["flat", "--limit=", "x"].as_slice(),
-        ["flat", "--limit", "", "x"].as_slice(),
-        ["flat", "--limit", "0x5", "x"].as_slice(),
-        ["flat", "--limit", " 5", "x"].as_slice(),
-        ["flat", "--limit", "5", "--limit", "5", "x"].as_slice(),
-        ["flat", "--limit", "5", "--limit=6", "x"].as_slice(),
-        ["clock", "4"].as_slice(),
-        ["clock", "4", "x", "y"].as_slice(),
-        ["clock", "3", "x"].as_slice(),
-        ["clock", "4097", "x"].as_slice(),
-        ["clock", "0x4", "x"].as_slice(),
-        ["clock", "+4", "x"].as_slice(),
-        ["clock", "", "x"].as_slice(),
-        ["clock", "--limit", "5", "4", "x"].as_slice(),
-    ];
-    for words in lines {
-        let done = run_words(&rt, words)?;
+    expect_fault(&rt, &run_words(&rt, &[])?, "paged: bad usage\n");
+    for line in BAD_LINES {
+        let words: Vec<&str> = line.split('|').collect(rt.alloc())?;
+        let done = run_words(&rt, words.as_slice())?;
         expect_fault(&rt, &done, "paged: bad usage\n");
     }
     Ok(())

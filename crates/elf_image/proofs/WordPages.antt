@@ -30,7 +30,7 @@ bytes_more words i h =
 over_zeros : (before bytes : List ℕ) (place n : ℕ) → length before ≡ place → length bytes ≡ 4 → overwritten (before ++ replicate n 0) place bytes ≡ (before ++ bytes) ++ replicate (n - 4) 0
 over_zeros before bytes place n e four =
     subst (λ p. overwritten (before ++ replicate n 0) p bytes ≡ (before ++ bytes) ++ replicate (n - 4) 0) e
-      (rw (take-append_seam, drop-append-add before (replicate n 0) (length bytes), drop-replicate, four) (sym (append_assoc before bytes (replicate (n - 4) 0))))
+    (rw (take-append_seam, drop-append-add before (replicate n 0) (length bytes), drop-replicate, four) (sym (append_assoc before bytes (replicate (n - 4) 0))))
 
 pub word_written : (words bytes : List ℕ) (address i : ℕ) → address ≡ 4 * i → i < length words → length words ≤ 1024 → bytes ≡ bytes_of (take i words) ++ replicate (4096 - 4 * i) 0 → overwritten bytes (page_offset address) (little_bytes 4 (slice_index words i)) ≡ bytes_of (take (i + 1) words) ++ replicate (4096 - 4 * (i + 1)) 0
 word_written words bytes address i at h few is =
@@ -78,22 +78,24 @@ lawful_words words pages some few e =
     let most : word_pages words ≤ 4032 = omega arith in
     record {
       pages = record {
-      rising = λ i j d below within. let a = ap (λ (p : ImagePage). p.number) (at i d (omega arith)) in let b = ap (λ (p : ImagePage). p.number) (at j d within) in omega arith;
-      low = λ i d within. let a = ap (λ (p : ImagePage). p.number) (at i d within) in omega arith;
-      few = omega arith;
-      readable = λ i d within _. subst (λ (p : ImagePage). IsTrue (may Load p.page.rights)) (sym (at i d within)) refl;
+        rising = λ i j d below within. let a = ap (λ (p : ImagePage). p.number) (at i d (omega arith)) in let b = ap (λ (p : ImagePage). p.number) (at j d within) in omega arith;
+        low = λ i d within. let a = ap (λ (p : ImagePage). p.number) (at i d within) in omega arith;
+        few = omega arith;
+        readable = λ i d within _. subst (λ (p : ImagePage). IsTrue (may Load p.page.rights)) (sym (at i d within)) refl;
       };
       entered = entered pages count most e;
     }
   where
     some_page : word_pages words ≢ 0
     some_page none = some (no_words words (omega arith))
+
     entered : (pages : List ImagePage) → length pages ≡ word_pages words → word_pages words ≤ 4032 → pages ≡ map (word_page words) (range_with_len 0 (word_pages words)) → IsTrue (list_any (λ listed. (listed.number == 16) && may Fetch listed.page.rights) pages)
     entered [] count most e = absurd (some_page (sym count))
     entered (p ∷ rest) count most e = list_any_at (λ (listed : ImagePage). (listed.number == 16) && may Fetch listed.page.rights) (p ∷ rest) 0 p (omega arith) (ap (λ (listed : ImagePage). (listed.number == 16) && may Fetch listed.page.rights) first)
       where
         first : p ≡ word_page words 0
         first = ap (λ l. slice_index_or l 0 p) e ∙ get_or-map-range_with_len (word_page words) 0 (word_pages words) 0 0 p (omega arith) refl
+
     at : (i : ℕ) (d : ImagePage) → i < length pages → slice_index_or pages i d ≡ word_page words i
     at i d within =
         let count : length pages ≡ word_pages words = ap length e ∙ length-map-range_with_len (word_page words) 0 (word_pages words) in

@@ -2,7 +2,6 @@ ghost use Rattle.std.specs.Prelude.{◌≡◌};
 ghost use Rattle.elf_image.specs.Faults.{fault_number};
 
 use std::alloc::AllocError;
-
 use thiserror::Error;
 
 /// Why no image is made, in the order in which it is tested.

@@ -1,9 +1,8 @@
 ghost use Rattle.std.specs.Prelude.{◌≡◌};
 ghost use Rattle.elf_image.specs.Image.{ArePages, IsLawful};
 
-use std::marker::Model;
-
 use page_memory::Page;
+use std::marker::Model;
 
 /// A page of an image: its number, and its rights and bytes.
 #[derive(Drop)]

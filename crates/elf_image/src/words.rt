@@ -3,12 +3,10 @@ ghost use Rattle.std.specs.List.{range_with_len};
 ghost use Rattle.elf_image.specs.Image.{image_of_words, word_page, word_pages, filled, bytes_of, most_words, readable_code};
 ghost use Rattle.elf_image.specs.declared.fault.ElfFault.{ElfFault};
 
-use std::alloc::{AllocError, Global};
-
-use page_memory::{Page, Rights, Width};
-
 use crate::fault::ElfFault;
 use crate::image::{Image, ImagePage};
+use page_memory::{Page, Rights, Width};
+use std::alloc::{AllocError, Global};
 
 /// The address at which an image of words begins, and which is its entry.
 const ENTRY: u32 = 0x1_0000;

@@ -54,16 +54,16 @@ KeysBelow-stack start (suc k) = (omega arith, subst (λ n. KeysBelow n (map stac
 pub images_below : (pages : List ImagePage) (i : ℕ) (d : ImagePage) → ArePages pages → i < length pages → KeysBelow (slice_index_or pages i d).number (map image_entry (take i pages))
 images_below pages i d are h =
     KeysBelow-images _ (take i pages) (λ j e l.
-      let shorter : j < i = (let cut = length-take i pages in omega arith) in
-      let at : slice_index_or (take i pages) j e ≡ slice_index_or pages j d = get_or-take i pages j e shorter ∙ get_or_default pages j e d (omega arith) in
-      subst (λ (p : ImagePage). p.number < (slice_index_or pages i d).number) (sym at) (are.rising j i d shorter h))
+    let shorter : j < i = (let cut = length-take i pages in omega arith) in
+    let at : slice_index_or (take i pages) j e ≡ slice_index_or pages j d = get_or-take i pages j e shorter ∙ get_or_default pages j e d (omega arith) in
+    subst (λ (p : ImagePage). p.number < (slice_index_or pages i d).number) (sym at) (are.rising j i d shorter h))
 
 -- the pages of an image and of the stack so far have numbers below the next one of the stack
 pub stack_below : (pages : List ImagePage) (number : ℕ) → ArePages pages → 524224 ≤ number → KeysBelow number (map image_entry pages ++ map stack_entry (range_with_len 524224 (number - 524224)))
 stack_below pages number are h =
     KeysBelow-append number (map image_entry pages) _
-      (KeysBelow-above 458752 number _ (omega arith) (KeysBelow-images 458752 pages are.low))
-      (let at : 524224 + (number - 524224) ≡ number = omega arith in subst (λ n. KeysBelow n (map stack_entry (range_with_len 524224 (number - 524224)))) at (KeysBelow-stack 524224 (number - 524224)))
+    (KeysBelow-above 458752 number _ (omega arith) (KeysBelow-images 458752 pages are.low))
+    (let at : 524224 + (number - 524224) ≡ number = omega arith in subst (λ n. KeysBelow n (map stack_entry (range_with_len 524224 (number - 524224)))) at (KeysBelow-stack 524224 (number - 524224)))
 
 -- one more page of the stack
 pub one_more_stack : (pages : List ImagePage) (k number : ℕ) → 524224 + k ≡ number

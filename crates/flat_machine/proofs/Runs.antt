@@ -59,14 +59,14 @@ pub stops_within : (xs zs : List ℕ) (hart n k before_steps : ℕ) (refusal : S
 stops_within xs zs hart n k before_steps refusal before between after h count ran more refused =
     let front : length (replicate n hart) ≡ n = length-replicate n hart in
     let cut : take (before_steps + k) (xs ++ (replicate n hart ++ zs)) ≡ xs ++ replicate k hart =
-        ap (λ b. take (b + k) (xs ++ (replicate n hart ++ zs))) count
-        ∙ take-append-add xs (replicate n hart ++ zs) k
-        ∙ ap (λ l. xs ++ l) (take-append-le k (replicate n hart) zs (omega arith) ∙ take_replicated n k hart (omega arith)) in
+    ap (λ b. take (b + k) (xs ++ (replicate n hart ++ zs))) count
+    ∙ take-append-add xs (replicate n hart ++ zs) k
+    ∙ ap (λ l. xs ++ l) (take-append-le k (replicate n hart) zs (omega arith) ∙ take_replicated n k hart (omega arith)) in
     let at : slice_index (xs ++ (replicate n hart ++ zs)) (before_steps + k) ≡ hart =
-        ap (λ b. slice_index (xs ++ (replicate n hart ++ zs)) (b + k)) count
-        ∙ get_or-append-add xs (replicate n hart ++ zs) k 0
-        ∙ get_or_append_left (replicate n hart) zs 0 k (omega arith)
-        ∙ get_or-replicate n k hart 0 h in
+    ap (λ b. slice_index (xs ++ (replicate n hart ++ zs)) (b + k)) count
+    ∙ get_or-append-add xs (replicate n hart ++ zs) k 0
+    ∙ get_or_append_left (replicate n hart) zs 0 k (omega arith)
+    ∙ get_or-replicate n k hart 0 h in
     record {
       there = omega (arith, length-append xs (replicate n hart ++ zs), length-append (replicate n hart) zs);
       ran = ap (λ l. flat_run l before) cut ∙ flat_run_append xs (replicate k hart) before between ran ∙ more;

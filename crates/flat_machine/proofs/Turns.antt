@@ -65,11 +65,11 @@ joined_more turns hart is fresh few =
     record {
       few = omega arith;
       small = λ k d h. below_more (λ i. (slice_index_or (turns ++ record { hart = hart; count = 1 } ∷ []) i d).count ≤ 2 ^ 32 - 1) (length turns)
-        (λ i l. subst (λ (t : Turn). t.count ≤ 2 ^ 32 - 1) (sym (get_or_append_left turns _ d i l)) (is.small i d l))
-        (subst (λ (t : Turn). t.count ≤ 2 ^ 32 - 1) (sym (get_or-append_seam turns (record { hart = hart; count = 1 }) [] d)) (omega arith)) k (omega arith);
+          (λ i l. subst (λ (t : Turn). t.count ≤ 2 ^ 32 - 1) (sym (get_or_append_left turns _ d i l)) (is.small i d l))
+          (subst (λ (t : Turn). t.count ≤ 2 ^ 32 - 1) (sym (get_or-append_seam turns (record { hart = hart; count = 1 }) [] d)) (omega arith)) k (omega arith);
       some = λ k d h. below_more (λ i. 0 < (slice_index_or (turns ++ record { hart = hart; count = 1 } ∷ []) i d).count) (length turns)
-        (λ i l. subst (λ (t : Turn). 0 < t.count) (sym (get_or_append_left turns _ d i l)) (is.some i d l))
-        (subst (λ (t : Turn). 0 < t.count) (sym (get_or-append_seam turns (record { hart = hart; count = 1 }) [] d)) (omega arith)) k (omega arith);
+          (λ i l. subst (λ (t : Turn). 0 < t.count) (sym (get_or_append_left turns _ d i l)) (is.some i d l))
+          (subst (λ (t : Turn). 0 < t.count) (sym (get_or-append_seam turns (record { hart = hart; count = 1 }) [] d)) (omega arith)) k (omega arith);
       joined = λ k d h same. joined_at k d (omega arith) same;
     }
   where
@@ -110,9 +110,9 @@ joined_up turns last t is at there small =
       small = λ k d h. counts (λ n. n ≤ 2 ^ 32 - 1) k d (omega arith) (omega arith) (is.small k d (omega arith));
       some = λ k d h. counts (λ n. 0 < n) k d (omega arith) (omega arith) (is.some k d (omega arith));
       joined = λ k d h same.
-        let before : k ≢ last = omega arith in
-        ap (λ (u : Turn). u.count) (get_or-set_other turns last k (record { hart = t.hart; count = t.count + 1 }) d before)
-        ∙ is.joined k d (omega arith) (sym (hart_stays k d) ∙ same ∙ hart_stays (k + 1) d);
+          let before : k ≢ last = omega arith in
+          ap (λ (u : Turn). u.count) (get_or-set_other turns last k (record { hart = t.hart; count = t.count + 1 }) d before)
+          ∙ is.joined k d (omega arith) (sym (hart_stays k d) ∙ same ∙ hart_stays (k + 1) d);
     }
   where
     hart_stays : (k : ℕ) (d : Turn) → (slice_index_or (slice_set turns last (record { hart = t.hart; count = t.count + 1 })) k d).hart ≡ (slice_index_or turns k d).hart
@@ -125,6 +125,7 @@ joined_up turns last t is at there small =
               ∙ ap (λ i. (slice_index_or turns i d).hart) (sym here.1)
           | inr apart ↦ ap (λ (u : Turn). u.hart) (get_or-set_other turns last k (record { hart = t.hart; count = t.count + 1 }) d apart.1)
         ]
+
     counts : (P : ℕ → Type 0) (k : ℕ) (d : Turn) → k < length turns → P (t.count + 1) → P (slice_index_or turns k d).count → P (slice_index_or (slice_set turns last (record { hart = t.hart; count = t.count + 1 })) k d).count
     counts P k d h up stay =
         elim (eqb_tells k last) [

@@ -45,7 +45,7 @@ opening image input = record {
   registers = with_register (cleared image.entry) 2 2147483632;
   environment = record { input = input; output = [] };
   memory = from_entries (opening_pages image.pages);
-  ending = None
+  ending = None;
 }
 
 -- ---- steps

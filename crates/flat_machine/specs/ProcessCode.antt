@@ -14,7 +14,7 @@ use Rattle.flat_machine.specs.Process.{Process}
 abbrev pub process_code : Coded Process
 process_code =
     code_by (Registers × (Environment × (Memory × Option End)))
-      (coded× regs.the_row.coded (coded× env.the_row.coded (coded× memory.the_row.coded (coded_option end.the_row.coded))))
-      (λ p. (p.registers, (p.environment, (p.memory, p.ending))))
-      (λ t. record { registers = t.0; environment = t.1.0; memory = t.1.1.0; ending = t.1.1.1 })
-      (λ _. refl)
+    (coded× regs.the_row.coded (coded× env.the_row.coded (coded× memory.the_row.coded (coded_option end.the_row.coded))))
+    (λ p. (p.registers, (p.environment, (p.memory, p.ending))))
+    (λ t. record { registers = t.0; environment = t.1.0; memory = t.1.1.0; ending = t.1.1.1 })
+    (λ _. refl)

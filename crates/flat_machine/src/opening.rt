@@ -4,21 +4,20 @@ ghost use Rattle.std.specs.FinMap.{from_entries};
 ghost use Rattle.elf_image.specs.Image.{ArePages};
 ghost use Rattle.flat_machine.specs.Process.{opening, opening_pages, image_entry, stack_entry};
 
-use std::alloc::{AllocError, Global};
-
+use crate::process::FlatProcess;
 use elf_image::{Image, ImagePage};
 use env_calls::Env;
 use page_memory::{FlatMemory, Page, Rights};
 use rv_exec::Regs;
 use rv_isa::Reg;
-
-use crate::process::FlatProcess;
+use std::alloc::{AllocError, Global};
 
 /// Where the first hart's stack pointer stands.
 const STACK_TOP: u32 = 0x7FFF_FFF0;
 
 /// The numbers of the stack's pages: 0x7FFC0000 to 0x7FFFFFFF.
 const STACK_START: u32 = 0x7_FFC0;
+
 const STACK_END: u32 = 0x8_0000;
 
 impl FlatProcess {

@@ -2,13 +2,11 @@ ghost use Rattle.std.specs.Prelude.{◌≡◌, option_copied};
 ghost use Rattle.flat_machine.specs.Process.{hart_registers};
 ghost use Rattle.page_memory.specs.Memory.{byte_at};
 
-use std::marker::Model;
-
+use crate::end::End;
 use env_calls::Env;
 use page_memory::FlatMemory;
 use rv_exec::Regs;
-
-use crate::end::End;
+use std::marker::Model;
 
 /// A process on flat memory. It has one hart, hart 0.
 #[derive(Drop)]
@@ -31,7 +29,7 @@ impl Model for FlatProcess {
       registers = process.regs;
       environment = process.env;
       memory = process.memory;
-      ending = process.end
+      ending = process.end;
     } };
 }
 

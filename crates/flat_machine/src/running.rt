@@ -4,11 +4,10 @@ ghost use Rattle.flat_machine.specs.Process.{flat_run};
 ghost use Rattle.flat_machine.specs.Refusals.{Refuses, StopsAt};
 ghost use Rattle.flat_machine.specs.Schedule.{written_out};
 
-use std::alloc::AllocError;
-
 use crate::process::FlatProcess;
 use crate::schedule::Schedule;
 use crate::stepping::StepRefusal;
+use std::alloc::AllocError;
 
 impl FlatProcess {
     /// Runs a schedule. It stops at the first step that is refused, and tells how many were done: those

@@ -3,7 +3,6 @@ ghost use Rattle.flat_machine.specs.Schedule.{written_out, continues, IsJoined};
 
 use std::alloc::{AllocError, Global};
 use std::marker::Model;
-
 use thiserror::Error;
 
 /// How many entries a schedule may have.

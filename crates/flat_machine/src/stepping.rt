@@ -2,12 +2,11 @@ ghost use Rattle.std.specs.Prelude.{◌≡◌, Some, OnOk, OnErr, IfErr};
 ghost use Rattle.flat_machine.specs.Process.{flat_step};
 ghost use Rattle.flat_machine.specs.Refusals.{Refuses, CallsNow};
 
+use crate::end::End;
+use crate::process::FlatProcess;
 use env_calls::{ServeStop, Served, serve};
 use rv_exec::{Outcome, execute};
 use thiserror::Error;
-
-use crate::end::End;
-use crate::process::FlatProcess;
 
 /// Why a step is not taken, in the order in which it is tested.
 #[derive(Clone, Copy, PartialEq, Eq, Debug, Error)]
@@ -39,7 +38,12 @@ impl FlatProcess {
             Outcome::Ecall => self.answer_call(hart),
             Outcome::Trap(cause, value) => {
                 let pc = self.regs.pc();
-                self.end = Some(End::Trapped { hart, cause, pc, value });
+                self.end = Some(End::Trapped {
+                    hart,
+                    cause,
+                    pc,
+                    value,
+                });
                 Ok(())
             }
             Outcome::Absent(_) => unreachable!(),

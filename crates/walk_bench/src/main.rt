@@ -22,7 +22,10 @@ fn walks(tables: &mut Tables, count: u32) -> u64 {
 fn main(rt: HostRuntime) -> Result<()> {
     let mut count: u32 = 1000;
     for argument in env::args(&rt)?.skip(1) {
-        count = argument.as_str().parse::<u32>().context("reading the number of walks")?;
+        count = argument
+            .as_str()
+            .parse::<u32>()
+            .context("reading the number of walks")?;
     }
     let mut tables = Tables::new(rt.alloc())?;
     for vpn in 0..4096u32 {

@@ -6,5 +6,5 @@ abbrev pub invariant-loop-word : goal.invariant-loop-word
 invariant-loop-word l = record {
   at : l.address ≡ 4 * l.word-index;
   rights : l.page.rights ≡ readable_code;
-  bytes : l.page.bytes ≡ bytes_of (take l.word-index l.words) ++ replicate (4096 - 4 * l.word-index) 0
+  bytes : l.page.bytes ≡ bytes_of (take l.word-index l.words) ++ replicate (4096 - 4 * l.word-index) 0;
 }

@@ -16,8 +16,8 @@ returns-in-Err-clause-refused c =
     let stop = c.in-Err.ensures.refused in
     let whole = ap written_out (sym c.turns-turn-items.ensures.turns) ∙ turns_split c.turns-turn-items.result.now c.loop-turn.turn-index turn c.loop-turn-test.true at in
     subst (λ n. StopsAt (written_out c.args.schedule.now) c.args.self.now c.in-Err.refusal (c.loop-turn.before + n) c.repeat.new.self) (sym c.from.ensures)
-      (subst (λ l. StopsAt l c.args.self.now c.in-Err.refusal (c.loop-turn.before + c.in-Err.done) c.repeat.new.self) (sym whole)
-        (stops_within _ _ turn.hart turn.count c.in-Err.done c.loop-turn.before c.in-Err.refusal c.args.self.now c.loop-turn.self c.repeat.new.self stop.0 c.loop-turn.invariant.counted c.loop-turn.invariant.ran stop.1 stop.2))
+    (subst (λ l. StopsAt l c.args.self.now c.in-Err.refusal (c.loop-turn.before + c.in-Err.done) c.repeat.new.self) (sym whole)
+    (stops_within _ _ turn.hart turn.count c.in-Err.done c.loop-turn.before c.in-Err.refusal c.args.self.now c.loop-turn.self c.repeat.new.self stop.0 c.loop-turn.invariant.counted c.loop-turn.invariant.ran stop.1 stop.2))
 
 pub loop-turn-preserved : goal.loop-turn-preserved
 loop-turn-preserved c =

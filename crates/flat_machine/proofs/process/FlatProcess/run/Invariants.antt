@@ -7,5 +7,5 @@ abbrev pub invariant-loop-turn : goal.invariant-loop-turn
 invariant-loop-turn l = record {
   ran : flat_run (written_out (take l.turn-index l.turn-items)) l.initial.self ≡ Some l.self;
   counted : l.before ≡ length (written_out (take l.turn-index l.turn-items));
-  bounded : l.before ≤ 4294967295 * l.turn-index
+  bounded : l.before ≤ 4294967295 * l.turn-index;
 }

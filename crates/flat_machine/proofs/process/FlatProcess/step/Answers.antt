@@ -9,7 +9,7 @@ pub returns-in-Done-clause-ok : goal.returns-in-Done-clause-ok
 returns-in-Done-clause-ok c =
     let goes = not_ended c.self.inside.end (sym c.is_some.ensures ∙ c.if-is_some.false) in
     subst (λ (p : Process). flat_step c.args.hart p ≡ Some (record { registers = c.execute.new.regs; environment = c.self.inside.env; memory = c.execute.new.bus; ending = c.self.inside.end })) c.self.view_is
-      (step_next c.args.hart (record { registers = c.self.inside.regs; environment = c.self.inside.env; memory = c.self.inside.memory; ending = c.self.inside.end }) c.execute.new.regs c.execute.new.bus goes c.if-hart-ne0.false c.in-Done.ensures.line)
+    (step_next c.args.hart (record { registers = c.self.inside.regs; environment = c.self.inside.env; memory = c.self.inside.memory; ending = c.self.inside.end }) c.execute.new.regs c.execute.new.bus goes c.if-hart-ne0.false c.in-Done.ensures.line)
 
 pub returns-in-Trap-clause-ok : goal.returns-in-Trap-clause-ok
 returns-in-Trap-clause-ok c =
@@ -18,5 +18,5 @@ returns-in-Trap-clause-ok c =
     let memory = sym c.in-Trap.ensures.memory_stays in
     let pc = ap (λ (r : Registers). r.pc) regs ∙ sym c.pc-pc.ensures in
     subst (λ (p : Process). flat_step c.args.hart p ≡ Some (record { registers = c.execute.new.regs; environment = c.self.inside.env; memory = c.execute.new.bus; ending = Some (Trapped c.args.hart c.in-Trap.cause c.pc-pc.result c.in-Trap.value) })) c.self.view_is
-      (step_trap c.args.hart (record { registers = c.self.inside.regs; environment = c.self.inside.env; memory = c.self.inside.memory; ending = c.self.inside.end }) c.in-Trap.cause c.in-Trap.value goes c.if-hart-ne0.false c.in-Trap.ensures.line
-       ∙ (λ i. Some (record { registers = regs i; environment = c.self.inside.env; memory = memory i; ending = Some (Trapped c.args.hart c.in-Trap.cause (pc i) c.in-Trap.value) })))
+    (step_trap c.args.hart (record { registers = c.self.inside.regs; environment = c.self.inside.env; memory = c.self.inside.memory; ending = c.self.inside.end }) c.in-Trap.cause c.in-Trap.value goes c.if-hart-ne0.false c.in-Trap.ensures.line
+    ∙ (λ i. Some (record { registers = regs i; environment = c.self.inside.env; memory = memory i; ending = Some (Trapped c.args.hart c.in-Trap.cause (pc i) c.in-Trap.value) })))

@@ -55,4 +55,4 @@ invariant_of-self-2 c =
     let count = c.deref.ensures.len in
     let length_is = ap length c.deref.ensures.value in
     subst IsJoined (sym (c.push_reserved.ensures.items ∙ ap (λ t. t ++ record { hart = c.args.hart; count = 1 } ∷ []) c.reserve.ensures.items))
-      (joined_more c.self.inside.turns.items c.args.hart c.self.invariant e (omega arith))
+    (joined_more c.self.inside.turns.items c.args.hart c.self.invariant e (omega arith))

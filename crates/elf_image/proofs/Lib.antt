@@ -1,1 +1,15 @@
+pub mod Headers
+pub mod HeadersBack
+pub mod LoadedImages
+pub mod LoadedPages
+pub mod LoadedRuns
+pub mod Overlaps
+pub mod PageBytes
+pub mod PageRuns
+pub mod PartImages
+pub mod Reading
+pub mod Tiles
+pub mod TouchedRanges
 pub mod WordPages
+pub mod WrittenBytes
+pub mod WrittenImages

@@ -1,5 +1,5 @@
 -- A page's bytes as its words are written one after another.
-use Rattle.std.proofs.Common.{◌≡◌, ◌≢◌, ℕ, zero, suc, ◌+◌, ◌-◌, ◌*◌, ◌/◌, ◌%◌, ◌<◌, ◌≤◌, min, List, [], ◌∷◌, ◌++◌, length, take, drop, replicate, map, get_or, slice_index, slice_index_or, flat_map, arith, refl, sym, ap, ◌∙◌, subst, append_assoc, append-nil, length-append, take_all, length-drop, length-take, inl, inr, IsTrue, Bool, true, false, ◌&&◌, ◌==◌, eq-eqb}
+use Rattle.std.proofs.Common.{◌≡◌, ◌≢◌, ℕ, zero, suc, ◌+◌, ◌-◌, ◌*◌, ◌/◌, ◌%◌, ◌<◌, ◌≤◌, min, List, [], ◌∷◌, ◌++◌, length, take, drop, replicate, map, get_or, slice_index, slice_index_or, flat_map, arith, refl, sym, ap, ◌∙◌, subst, append_assoc, append-nil, length-append, take_all, length-drop, length-take, inl, inr, IsTrue, Bool, true, false, ◌&&◌, ◌==◌, eq-eqb, lit<}
 use Rattle.std.specs.List.{range_with_len, list_any}
 use Rattle.std.proofs.lemmas.List.{take_more, length-replicate, drop-replicate}
 use Rattle.std.proofs.lemmas.Grind.{flat_map-append, common_steps}
@@ -14,6 +14,7 @@ use Rattle.std.proofs.lemmas.List.Folds.{list_any_at}
 use Rattle.page_memory.specs.Words.{page_number, page_offset}
 use Rattle.elf_image.specs.declared.image.ImagePage.{ImagePage}
 use Rattle.elf_image.specs.Image.{ImageContent, ArePages, IsLawful, bytes_of, filled, word_page, word_pages, most_words, readable_code}
+use Rattle.elf_image.specs.PartsLaws.{neighbours}
 
 length-bytes_of : (words : List ℕ) → length (bytes_of words) ≡ 4 * length words
 length-bytes_of [] = refl
@@ -81,6 +82,8 @@ lawful_words words pages some few e =
         rising = λ i j d below within. let a = ap (λ (p : ImagePage). p.number) (at i d (omega arith)) in let b = ap (λ (p : ImagePage). p.number) (at j d within) in omega arith;
         low = λ i d within. let a = ap (λ (p : ImagePage). p.number) (at i d within) in omega arith;
         few = omega arith;
+        compact = (neighbours 16 pages (omega arith) (λ i d within. ap (λ (p : ImagePage). p.number) (at i d within))).1;
+        plain = λ i d within. subst (λ (p : ImagePage). p.page.rights.0 < 8) (sym (at i d within)) (lit< tt);
         readable = λ i d within _. subst (λ (p : ImagePage). IsTrue (may Load p.page.rights)) (sym (at i d within)) refl;
       };
       entered = entered pages count most e;

@@ -1,13 +1,13 @@
 -- Images: an entry, and pages with rights by rising number, below 0x70000000.
-use Rattle.std.specs.Prelude.{◌≡◌, ℕ, ◌+◌, ◌-◌, ◌*◌, ◌/◌, ◌<◌, ◌≤◌, ◌^◌, List, ◌++◌, length, map, take, drop, replicate, get_or, IsTrue, flat_map, slice_index_or, ◌==◌, ◌&&◌}
+use Rattle.std.specs.Prelude.{ℕ, ◌+◌, ◌-◌, ◌*◌, ◌/◌, ◌<◌, ◌≤◌, List, ◌++◌, length, map, take, drop, replicate, IsTrue, flat_map, slice_index_or, ◌==◌, ◌&&◌}
 use Rattle.std.specs.List.{range_with_len, list_any}
 use Rattle.byteorder.specs.Endian.{little_bytes}
 use Rattle.page_memory.specs.Words.{page_number}
-use Rattle.page_memory.specs.Rights.{may, has}
-use Rattle.page_memory.specs.Memory.{Page}
+use Rattle.page_memory.specs.Rights.{may}
 use Rattle.page_memory.specs.declared.rights.Rights.{Rights}
 use Rattle.page_memory.specs.declared.words.Access.TheVariants.{Fetch, Load, Store}
 use Rattle.elf_image.specs.declared.image.ImagePage.{ImagePage}
+use Rattle.elf_image.specs.Regions.{regions}
 
 pub record ImageContent : Type 0 where
   pub entry : ℕ
@@ -20,6 +20,10 @@ pub record ArePages (pages : List ImagePage) : Type 0 where
   -- they lie below 0x70000000
   pub low : (i : ℕ) (d : ImagePage) → i < length pages → (slice_index_or pages i d).number < 458752
   pub few : length pages ≤ 4032
+  -- they lie in at most 56 regions of 4 MiB
+  pub compact : length (regions pages) ≤ 56
+  -- they have no rights but to read, to write and to execute
+  pub plain : (i : ℕ) (d : ImagePage) → i < length pages → (slice_index_or pages i d).page.rights.0 < 8
   -- what may be written may be read
   pub readable : (i : ℕ) (d : ImagePage) → i < length pages → IsTrue (may Store (slice_index_or pages i d).page.rights) → IsTrue (may Load (slice_index_or pages i d).page.rights)
 

@@ -1,9 +1,28 @@
-//! Program images: the pages that a process begins with, and its entry.
+//! Program images: the pages that a process begins with, and its entry; from words, from parts, and from ELF files
+//! and back.
 #![tactic(auto)]
 
 mod fault;
+mod file_header;
+mod header_tests;
 mod image;
+mod loading;
+mod parts;
+mod program_header;
+mod read;
+#[cfg(test)]
+mod read_tests;
+mod runs;
+mod segments;
+mod touched;
 mod words;
+#[cfg(test)]
+mod write_tests;
+mod writing;
+mod written_law;
 
 pub use fault::ElfFault;
 pub use image::{Image, ImagePage};
+pub use read::read_elf;
+pub use writing::write_elf;
+pub use written_law::written_files_are_read_back;

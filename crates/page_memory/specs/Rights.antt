@@ -1,6 +1,6 @@
 -- Rights are a set of bits, and an access needs one of them.
-use Rattle.std.specs.Prelude.{ℕ, Bool, ◌==◌}
-use Rattle.std.specs.Int.RustNames.{bit_and}
+use Rattle.std.specs.Prelude.{ℕ, Bool, ◌==◌, if◌then◌else◌}
+use Rattle.std.specs.Int.RustNames.{bit_and, bit_or}
 use Rattle.page_memory.specs.declared.rights.Rights.{Rights}
 use Rattle.page_memory.specs.declared.words.Access.{Access}
 use Rattle.page_memory.specs.declared.words.Access.TheVariants.{Fetch, Load, Store}
@@ -14,3 +14,11 @@ abbrev pub may : Access → Rights → Bool
 may Fetch rights = has rights 4
 may Load rights = has rights 1
 may Store rights = has rights 2
+
+-- the rights to read, to write and to execute among these
+abbrev pub known : Rights → Rights
+known rights = record { 0 = bit_and rights.0 7 }
+
+-- and to read where they are to write
+unfoldable pub readable : Rights → Rights
+readable rights = if may Store rights then record { 0 = bit_or (known rights).0 1 } else known rights

@@ -54,6 +54,13 @@ impl Page {
         self.rights
     }
 
+    /// Changes what the page may be used for.
+    pub fn set_rights(&mut self, rights: Rights)
+        ensures { self.new ≡ record self.old { rights = rights } }
+    {
+        self.rights = rights;
+    }
+
     #[inline]
     pub fn bytes(&self) -> &[u8]
         ensures bytes { result.now ≡ self.now.bytes }

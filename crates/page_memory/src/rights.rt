@@ -1,5 +1,5 @@
 ghost use Rattle.std.specs.Prelude.{⊤, ◌≡◌, [], ◌∷◌, codes, ℕ, Bool};
-ghost use Rattle.page_memory.specs.Rights.{may};
+ghost use Rattle.page_memory.specs.Rights.{may, readable};
 
 use crate::words::Access;
 use bitflags::{Flag, Flags, bitflag_items};
@@ -41,6 +41,9 @@ impl Flags for Rights {
     }
 }
 
+/// All that a page may be used for.
+const ALL: Rights = Rights(7);
+
 impl Rights {
     /// The rights of data: to read and to write.
     pub const READ_WRITE: Rights = Rights(3);
@@ -58,5 +61,18 @@ impl Rights {
             Access::Load => Rights::READ,
             Access::Store => Rights::WRITE,
         })
+    }
+
+    /// The rights to read, to write and to execute among these, and to read where they are to write.
+    #[tactic(auto, unfolding(crate::specs::Rights::readable))]
+    pub fn readable(self) -> Rights
+        ensures { result ≡ readable self }
+    {
+        let known = self.intersection(ALL);
+        if self.allow(Access::Store) {
+            known.union(Rights::READ)
+        } else {
+            known
+        }
     }
 }

@@ -1,0 +1,59 @@
+ghost use Rattle.std.specs.Prelude.{◌≡◌, ◌+◌, ◌-◌, ◌/◌, ◌*◌, ◌<◌, ◌≤◌, ◌++◌, length, IfOk, IfErr, OnOk};
+ghost use Rattle.std.specs.List.{All, AllPairs, range_with_len, filter};
+ghost use Rattle.elf_image.specs.ElfFiles.{end_of, touches, touched_pages};
+ghost use Rattle.elf_image.specs.Segments.{TouchTooMany};
+
+use crate::fault::ElfFault;
+use crate::program_header::ProgramHeader;
+use std::alloc::{AllocError, Global};
+
+/// The most pages that an image may have.
+const MOST_PAGES: usize = 4032;
+
+/// The numbers of the pages that segments touch, by rising number, where these are at most 4032.
+pub(crate) fn touched_pages(alloc: Global, loaded: &[ProgramHeader]) -> Result<Vec<u32>, ElfFault>
+    requires full { All (λ segment. 0 < segment.memory_size) loaded.now }
+    requires low { All (λ segment. end_of segment ≤ 0x7000_0000) loaded.now }
+    requires apart { AllPairs (λ one other. end_of one ≤ other.address) loaded.now }
+    ensures pages { IfOk result (λ touched. touched.items ≡ touched_pages loaded.now) }
+    ensures few { IfOk result (λ touched. length touched.items ≤ 4032) }
+    ensures refused { IfErr result (TouchTooMany loaded.now) }
+{
+    let mut touched = Vec::new(alloc);
+    let mut next = 0;
+    for segment in loaded {
+        let first = segment.first_page().max(next);
+        let end = segment.end_page();
+        if touched.len() + (end - first) as usize > MOST_PAGES {
+            return Err(ElfFault::TooLarge);
+        }
+        push_range(&mut touched, first, end)?;
+        next = end;
+    }
+    Ok(touched)
+}
+
+/// Appends the numbers from one up to another.
+fn push_range(numbers: &mut Vec<u32>, first: u32, end: u32) -> Result<(), AllocError>
+    requires { first ≤ end }
+    ensures { OnOk result (numbers.new.items ≡ numbers.old.items ++ range_with_len first (end - first)) }
+{
+    for number in first..end {
+        numbers.push(number)?;
+    }
+    Ok(())
+}
+
+/// The segments of a list by address that touch a page: they stand side by side.
+pub(crate) fn touching(loaded: &[ProgramHeader], page: u32) -> &[ProgramHeader]
+    requires low { page < 458752 }
+    requires full { All (λ segment. 0 < segment.memory_size) loaded.now }
+    requires apart { AllPairs (λ one other. end_of one ≤ other.address) loaded.now }
+    ensures { result.now ≡ filter (touches page) loaded.now }
+{
+    let start = u64::from(page) * 4096;
+    let before = loaded.partition_point(|segment| segment.end() <= start);
+    let rest = &loaded[before..];
+    let count = rest.partition_point(|segment| (segment.address as u64) < start + 4096);
+    &rest[..count]
+}

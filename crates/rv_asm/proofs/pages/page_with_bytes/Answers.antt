@@ -1,0 +1,11 @@
+use Rattle.std.proofs.Common.{◌≡◌, ◌∙◌, ap, replicate}
+use Rattle.page_memory.specs.Memory.{Page, overwritten}
+use Rattle.rv_asm.proofs.PageCuts.{written_first}
+use Rattle.rv_asm.proofs.pages.page_with_bytes.Goals as goal
+
+pub returns : goal.returns
+returns c =
+    c.put_bytes.ensures ∙ (λ i. record {
+      rights = ap (λ (p : Page). p.rights) c.in_ok-page.ensures i;
+      bytes = (ap (λ (p : Page). overwritten p.bytes 0 c.args.bytes.now) c.in_ok-page.ensures ∙ written_first c.args.bytes.now) i;
+    })

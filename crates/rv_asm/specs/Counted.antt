@@ -1,0 +1,16 @@
+-- What the code keeps beside the items of a program: where each name stands, and how many bytes each section has.
+use Rattle.std.specs.Prelude.{◌≡◌, ◌≤◌, ℕ, List, Option}
+use Rattle.std.specs.Str.{bytes_eq}
+use Rattle.std.specs.HashMap.{HashMap, get_by}
+use denote.Ref.{Bor}
+use Rattle.rv_asm.specs.declared.section.Section.TheVariants.{Text, Data}
+use Rattle.rv_asm.specs.declared.item.Item.{Item}
+use Rattle.rv_asm.specs.declared.place.Place.{Place}
+use Rattle.rv_asm.specs.Program.{size, place_of}
+
+pub record IsCounted {S : Type 0} (items : List Item) (places : HashMap (Bor (List ℕ)) Place S) (text bytes : ℕ) : Type 0 where
+  pub text_size : text ≡ size Text items
+  pub data_size : bytes ≡ size Data items
+  pub text_fits : text ≤ 262144
+  pub data_fits : bytes ≤ 1048576
+  pub names : (name : List ℕ) → get_by (λ k. bytes_eq name k.now) places ≡ place_of items name

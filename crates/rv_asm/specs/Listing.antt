@@ -1,0 +1,97 @@
+-- What an assembled program is: its entry, its pages, its words and the bytes of its data.
+use Rattle.std.specs.Prelude.{◌≡◌, ℕ, ◌+◌, ◌-◌, ◌*◌, ◌/◌, ◌==◌, nat_lt, List, ◌++◌, length, map, take, drop, codes, Option, Some, None, Result, Ok, Err, if◌then◌else◌, Bool, true, false}
+use Rattle.std.specs.List.{range_with_len}
+use Rattle.page_memory.specs.declared.rights.Rights.{Rights}
+use Rattle.elf_image.specs.declared.image.ImagePage.{ImagePage}
+use Rattle.elf_image.specs.Image.{ImageContent, bytes_of, filled}
+use Rattle.rv_isa.specs.declared.instruction.Insn.{Insn}
+use Rattle.rv_asm.specs.declared.fault.FaultKind.TheVariants.{Empty}
+use Rattle.rv_asm.specs.declared.section.Section.{Section}
+use Rattle.rv_asm.specs.declared.section.Section.TheVariants.{Text, Data}
+use Rattle.rv_asm.specs.declared.place.Place.{Place}
+use Rattle.rv_asm.specs.declared.item.Item.{Item}
+use Rattle.rv_asm.specs.Steps.{FaultAt, chained, mapped}
+use Rattle.rv_asm.specs.Program.{size, place_of, section_start}
+use Rattle.rv_asm.specs.FirstPass.{Progress, first_pass}
+use Rattle.rv_asm.specs.SecondPass.{Sections, second_pass}
+use Rattle.rv_asm.specs.Words.{Spell, instruction_of}
+
+-- the rights of the text's pages: to read and to execute; and of the data's: to read and to write
+abbrev pub text_rights : Rights
+text_rights = record { 0 = 5 }
+
+abbrev pub data_rights : Rights
+data_rights = record { 0 = 3 }
+
+-- how many pages bytes need
+abbrev pub page_count : List ℕ → ℕ
+page_count bytes = (length bytes + 4095) / 4096
+
+-- the k-th page of bytes that begin with page `first`: zeros stand behind the last byte
+abbrev pub page_at : ℕ → Rights → List ℕ → ℕ → ImagePage
+page_at first rights bytes k =
+    record { number = first + k; page = record { rights = rights; bytes = filled (take 4096 (drop (4096 * k) bytes)) } }
+
+-- the pages of bytes that begin with page `first`
+unfoldable pub pages_of : ℕ → Rights → List ℕ → List ImagePage
+pages_of first rights bytes = map (page_at first rights bytes) (range_with_len 0 (page_count bytes))
+
+-- the entry: the label `_start`, where it stands in the text before its end; else where the text begins
+abbrev pub entry_if : Bool → ℕ → ℕ
+entry_if true offset = 0x10000 + offset
+entry_if false offset = 0x10000
+
+abbrev pub entry_in : ℕ → Section → ℕ → ℕ
+entry_in end Text offset = entry_if (nat_lt offset end) offset
+entry_in end Data offset = 0x10000
+
+abbrev pub entry_at : ℕ → Option Place → ℕ
+entry_at end None = 0x10000
+entry_at end (Some place) = entry_in end place.section place.offset
+
+unfoldable pub entry_of : List Item → ℕ
+entry_of items = entry_at (size Text items) (place_of items (codes "_start"))
+
+-- a program with its sections
+pub record Assembly : Type 0 where
+  pub items : List Item
+  pub sections : Sections
+
+-- what is known of a listing
+pub record ListingContent : Type 0 where
+  pub image : ImageContent
+  pub words : List ℕ
+  pub instructions : List (Option Insn)
+  pub data_bytes : ℕ
+
+-- the image of words and bytes of a program
+unfoldable pub image_of : List Item → List ℕ → List ℕ → ImageContent
+image_of items words bytes =
+    record {
+      entry = entry_of items;
+      pages = pages_of 16 text_rights (bytes_of words) ++ pages_of (section_start items Data / 4096) data_rights bytes;
+    }
+
+-- a listing of an assembly
+pub record Lists (assembly : Assembly) (listing : ListingContent) : Type 0 where
+  pub words : Spell listing.words assembly.sections.text
+  pub instructions : listing.instructions ≡ map instruction_of assembly.sections.text
+  pub image : listing.image ≡ image_of assembly.items listing.words assembly.sections.bytes
+  pub data_bytes : listing.data_bytes ≡ length assembly.sections.bytes
+
+-- a source with no word of text
+abbrev pub unless_empty : Bool → List Item → Result Assembly FaultAt
+unless_empty true items = Err (record { line = 0; kind = Empty })
+unless_empty false items = mapped (λ sections. record { items = items; sections = sections }) (second_pass items)
+
+unfoldable pub laid_out : List Item → Result Assembly FaultAt
+laid_out items = unless_empty (size Text items == 0) items
+
+-- the assembly of a source, or its first fault
+unfoldable pub assembled : List ℕ → Result Assembly FaultAt
+assembled source = chained (λ progress. laid_out progress.items) (first_pass source)
+
+-- a listing of what is told, where it is an assembly
+abbrev pub ListsTold : Result Assembly FaultAt → ListingContent → Type 0
+ListsTold (Ok assembly) listing = Lists assembly listing
+ListsTold (Err fault) listing = ⊥

@@ -1,0 +1,67 @@
+-- A program: labels and what is put into the two sections, in the order of the source; and its addresses.
+use Rattle.std.specs.Prelude.{ℕ, ◌+◌, ◌*◌, ◌/◌, Bool, true, false, List, [], ◌∷◌, ◌++◌, Option, Some, None, option_map, if◌then◌else◌}
+use Rattle.std.specs.Str.{bytes_eq}
+use Rattle.rv_asm.specs.declared.section.Section.{Section}
+use Rattle.rv_asm.specs.declared.section.Section.TheVariants.{Text, Data}
+use Rattle.rv_asm.specs.declared.part.Code.{Code}
+use Rattle.rv_asm.specs.declared.part.Code.TheVariants.{Fixed, LoadAddress, Jump, Branch, Number, Address}
+use Rattle.rv_asm.specs.declared.part.Datum.{Datum}
+use Rattle.rv_asm.specs.declared.part.Datum.TheVariants.{Word, Pointer, Half, Byte, Zeros}
+use Rattle.rv_asm.specs.declared.item.Item.{Item}
+use Rattle.rv_asm.specs.declared.item.Item.TheVariants.{Label, InText, InData}
+use Rattle.rv_asm.specs.declared.place.Place.{Place}
+
+-- how many bytes a part of the text takes: its words are of four bytes, and an address takes two of them
+abbrev pub code_length : Code → ℕ
+code_length (Fixed insn) = 4
+code_length (LoadAddress rd label) = 8
+code_length (Jump rd label) = 4
+code_length (Branch kind rs1 rs2 label) = 4
+code_length (Number number) = 4
+code_length (Address label) = 4
+
+-- how many bytes a part of the data takes
+abbrev pub datum_length : Datum → ℕ
+datum_length (Word number) = 4
+datum_length (Pointer label) = 4
+datum_length (Half number) = 2
+datum_length (Byte number) = 1
+datum_length (Zeros count) = count
+
+-- how many bytes an item takes in a section
+abbrev pub item_length : Section → Item → ℕ
+item_length section (Label of name) = 0
+item_length Text (InText line code) = code_length code
+item_length Data (InText line code) = 0
+item_length Text (InData line datum) = 0
+item_length Data (InData line datum) = datum_length datum
+
+-- how many bytes a program's section has
+unfoldable pub size : Section → List Item → ℕ
+size section [] = 0
+size section (item ∷ items) = item_length section item + size section items
+
+-- the section of a label of this name
+abbrev pub labelled : List ℕ → Item → Option Section
+labelled name (Label section other) = if bytes_eq other name then Some section else None
+labelled name (InText line code) = None
+labelled name (InData line datum) = None
+
+-- the place of a name behind an item, from its place in what follows
+abbrev pub place_from : Item → Option Section → Option Place → Option Place
+place_from item (Some section) below = Some (record { section = section; offset = 0 })
+place_from item None below = option_map (λ place. record { section = place.section; offset = item_length place.section item + place.offset }) below
+
+-- where the label of a name stands: its section, and how many bytes the section has before it
+unfoldable pub place_of : List Item → List ℕ → Option Place
+place_of [] name = None
+place_of (item ∷ items) name = place_from item (labelled name item) (place_of items name)
+
+-- the address at which a section begins: the text at 0x00010000, the data at the next multiple of 4096 after it
+abbrev pub section_start : List Item → Section → ℕ
+section_start items Text = 0x10000
+section_start items Data = (0x10000 + size Text items + 4095) / 4096 * 4096
+
+-- the address of the label of a name
+unfoldable pub address_of : List Item → List ℕ → Option ℕ
+address_of items name = option_map (λ place. section_start items place.section + place.offset) (place_of items name)

@@ -1,0 +1,81 @@
+//! From a source to its listing.
+
+ghost use Rattle.std.specs.Prelude.{◌≡◌, ◌<◌, IfOk, IfErr, Ok};
+ghost use Rattle.rv_asm.specs.Steps.{Fails};
+ghost use Rattle.rv_asm.specs.Program.{size};
+ghost use Rattle.rv_asm.specs.declared.section.Section.TheVariants.{Text};
+ghost use Rattle.rv_asm.specs.SecondPass.{second_pass};
+ghost use Rattle.rv_asm.specs.Assembly.{Assembles, IsFirstFault};
+ghost use Rattle.rv_asm.specs.Listing.{Lists, ListsTold, assembled};
+
+use crate::fault::{AsmError, FaultKind};
+use crate::first_pass::read_source;
+use crate::listing::Listing;
+use crate::pages::{bytes_of_words, with_pages};
+use crate::program::Program;
+use crate::second_pass::fill_sections;
+use crate::section::Section;
+use crate::sections::Sections;
+use elf_image::Image;
+use page_memory::Rights;
+use std::alloc::{AllocError, Global};
+
+/// The number of the text's first page.
+const TEXT_PAGE: u32 = 0x10;
+
+/// How many bytes a page has.
+const PAGE_SIZE: u32 = 4096;
+
+/// Assembles a source.
+///
+/// Refused with its first fault, as [`FaultKind`] orders them: that of the first line which has one by its form, its statement,
+/// its labels or its size; else, where there is no word of text, `Empty` at line 0; else that of the first part of the text or
+/// the data whose label stands nowhere or is out of reach. Want of memory comes last.
+pub fn assemble(alloc: Global, source: &str) -> Result<Listing, AsmError>
+    ensures listing { IfOk result (Assembles source.now) }
+    ensures refusal { IfErr result (IsFirstFault source.now) }
+{
+    assemble_in_passes(alloc, source)
+}
+
+/// Assembles a source in two passes.
+fn assemble_in_passes(alloc: Global, source: &str) -> Result<Listing, AsmError>
+    ensures listing { IfOk result (ListsTold (assembled source.now)) }
+    ensures refusal { IfErr result (Fails (assembled source.now)) }
+{
+    let program = read_source(alloc, source.as_bytes())?;
+    if program.has_no_text() {
+        return Err(AsmError::Fault {
+            line: 0,
+            kind: FaultKind::Empty,
+        });
+    }
+    let sections = fill_sections(alloc, &program)?;
+    Ok(make_listing(alloc, &program, sections)?)
+}
+
+/// The listing of a program and its sections.
+fn make_listing(
+    alloc: Global,
+    program: &Program<'_>,
+    sections: Sections,
+) -> Result<Listing, AllocError>
+    requires put { second_pass program.now.items ≡ Ok sections }
+    requires some { 0 < size Text program.now.items }
+    ensures { IfOk result (Lists (record { items = program.now.items; sections = sections })) }
+{
+    let _ = program.items();
+    let (words, instructions, bytes) = sections.into_parts();
+    let code = bytes_of_words(alloc, &words)?;
+    let pages = with_pages(
+        alloc,
+        Vec::new(alloc),
+        TEXT_PAGE,
+        Rights::READ_EXECUTE,
+        &code,
+    )?;
+    let first = program.start(Section::Data) / PAGE_SIZE;
+    let pages = with_pages(alloc, pages, first, Rights::READ_WRITE, &bytes)?;
+    let image = Image::from_parts(program.entry(), pages).unwrap();
+    Ok(Listing::new(image, words, instructions, bytes.len() as u32))
+}

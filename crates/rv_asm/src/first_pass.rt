@@ -1,0 +1,139 @@
+//! The first pass: line by line to the items of a program.
+
+ghost use Rattle.std.specs.Prelude.{◌≡◌, IfOk, IfErr, map};
+ghost use Rattle.rv_asm.specs.Faults.{Refuses};
+ghost use Rattle.rv_asm.specs.Forms.{effect_value};
+ghost use Rattle.rv_asm.specs.Steps.{Fails};
+ghost use Rattle.rv_asm.specs.Program.{labelled};
+ghost use Rattle.rv_asm.specs.FirstPass.{first_pass, with_line, with_labels, with_items, with_effect, effect_of_name};
+ghost use Rattle.rv_asm.specs.declared.item.Item.TheVariants.{InText, InData};
+
+use crate::fault::{AsmError, Refusal};
+use crate::item::Item;
+use crate::line::Line;
+use crate::operand::Operand;
+use crate::part::{Code, Datum, Effect};
+use crate::program::Program;
+use crate::scanning::scan_line;
+use crate::section::Section;
+use crate::source::next_line;
+use crate::span::Span;
+use crate::statements::read_statement;
+use std::alloc::Global;
+
+/// The program of a source.
+#[tactic(auto, using(crate::proofs::FirstLoops::lines_go_on, crate::proofs::FirstLoops::lines_end), unfolding(crate::specs::FirstPass::first_pass))]
+pub(crate) fn read_source<'a>(alloc: Global, source: &'a [u8]) -> Result<Program<'a>, AsmError>
+    ensures program { IfOk result (λ program. first_pass source.now ≡ Ok program) }
+    ensures refusal { IfErr result (Fails (first_pass source.now)) }
+{
+    let mut program = Program::new(alloc);
+    let mut line = 0;
+    let mut rest = source;
+    while let Some((text, below)) = next_line(rest) {
+        line += 1;
+        program = match with_line(alloc, line, program, text) {
+            Ok(more) => more,
+            Err(refusal) => return Err(refusal.on_line(line)),
+        };
+        rest = below;
+    }
+    Ok(program)
+}
+
+/// The program with one more line. Faults come in the order of their kinds.
+#[tactic(auto, unfolding(crate::specs::FirstPass::with_line))]
+fn with_line<'a>(
+    alloc: Global,
+    line: usize,
+    program: Program<'a>,
+    text: &'a [u8],
+) -> Result<Program<'a>, Refusal>
+    ensures program { IfOk result (λ more. with_line line program.entry text.now ≡ Ok more) }
+    ensures refusal { IfErr result (Refuses (with_line line program.entry text.now)) }
+{
+    let Line {
+        labels,
+        name,
+        operands,
+    } = scan_line(alloc, text)?;
+    let effect = read_effect(alloc, program.section(), name, operands.as_slice())?;
+    let program = with_labels(program, labels)?;
+    with_effect(line, program, effect)
+}
+
+/// What a line does: a line with no statement stays in its section.
+fn read_effect<'a>(
+    alloc: Global,
+    section: Section,
+    name: Option<Span<'a>>,
+    operands: &[Operand<'a>],
+) -> Result<Effect<'a>, Refusal>
+    ensures effect { IfOk result (λ effect. effect_of_name section operands.now name.entry ≡ Ok (effect_value effect)) }
+    ensures refusal { IfErr result (Refuses (effect_of_name section operands.now name.entry)) }
+{
+    match name {
+        Some(name) => read_statement(alloc, section, name.bytes(), operands),
+        None => Ok(Effect::Enter(section)),
+    }
+}
+
+/// The program with a line's labels.
+#[tactic(auto, using(crate::proofs::FirstLoops::labels_go_on, crate::proofs::FirstLoops::labels_end))]
+fn with_labels<'a>(mut program: Program<'a>, labels: Vec<Span<'a>>) -> Result<Program<'a>, Refusal>
+    ensures program { IfOk result (λ more. with_labels program.entry labels.entry.items ≡ Ok more) }
+    ensures refusal { IfErr result (Refuses (with_labels program.entry labels.entry.items)) }
+{
+    for name in labels {
+        program = program.with_label(name)?;
+    }
+    Ok(program)
+}
+
+/// The program after what a line does.
+fn with_effect<'a>(
+    line: usize,
+    program: Program<'a>,
+    effect: Effect<'a>,
+) -> Result<Program<'a>, Refusal>
+    ensures program { IfOk result (λ more. with_effect line program.entry (effect_value effect.entry) ≡ Ok more) }
+    ensures refusal { IfErr result (Refuses (with_effect line program.entry (effect_value effect.entry))) }
+{
+    match effect {
+        Effect::Enter(section) => Ok(program.entered(section)),
+        Effect::Text(parts) => with_text(line, program, parts),
+        Effect::Data(parts) => with_data(line, program, parts),
+    }
+}
+
+/// The program with more parts of its text.
+#[tactic(auto, using(crate::proofs::FirstLoops::items_go_on, crate::proofs::FirstLoops::items_end))]
+fn with_text<'a>(
+    line: usize,
+    mut program: Program<'a>,
+    parts: Vec<Code<'a>>,
+) -> Result<Program<'a>, Refusal>
+    ensures program { IfOk result (λ more. with_items program.entry (map (InText line) parts.entry.items) ≡ Ok more) }
+    ensures refusal { IfErr result (Refuses (with_items program.entry (map (InText line) parts.entry.items))) }
+{
+    for code in parts {
+        program = program.with_code(line, code)?;
+    }
+    Ok(program)
+}
+
+/// The program with more parts of its data.
+#[tactic(auto, using(crate::proofs::FirstLoops::items_go_on, crate::proofs::FirstLoops::items_end))]
+fn with_data<'a>(
+    line: usize,
+    mut program: Program<'a>,
+    parts: Vec<Datum<'a>>,
+) -> Result<Program<'a>, Refusal>
+    ensures program { IfOk result (λ more. with_items program.entry (map (InData line) parts.entry.items) ≡ Ok more) }
+    ensures refusal { IfErr result (Refuses (with_items program.entry (map (InData line) parts.entry.items))) }
+{
+    for datum in parts {
+        program = program.with_datum(line, datum)?;
+    }
+    Ok(program)
+}

@@ -1,0 +1,10 @@
+use crate::operand::Operand;
+use crate::span::Span;
+
+/// A line by its form: labels, then perhaps a statement's name, then its operands.
+#[derive(Drop)]
+pub struct Line<'a> {
+    pub labels: Vec<Span<'a>>,
+    pub name: Option<Span<'a>>,
+    pub operands: Vec<Operand<'a>>,
+}

@@ -1,0 +1,74 @@
+//! The pages of a section.
+
+ghost use Rattle.std.specs.Prelude.{◌≡◌, ◌<◌, ◌≤◌, ◌+◌, ◌*◌, ◌++◌, ◌^◌, IfOk, length, flat_map};
+ghost use Rattle.elf_image.specs.Image.{bytes_of, filled};
+ghost use Rattle.rv_asm.specs.Listing.{page_at, page_count, pages_of};
+
+use elf_image::ImagePage;
+use page_memory::{Page, Rights};
+use std::alloc::{AllocError, Global};
+
+/// How many bytes a page has.
+const PAGE_SIZE: usize = 4096;
+
+/// The bytes of words, the lowest of each first.
+pub(crate) fn bytes_of_words(alloc: Global, words: &[u32]) -> Result<Vec<u8>, AllocError>
+    ensures { IfOk result (λ bytes. bytes.items ≡ bytes_of words.now) }
+{
+    let mut bytes = Vec::new(alloc);
+    for word in words {
+        bytes.extend_from_slice(&word.to_le_bytes())?;
+    }
+    Ok(bytes)
+}
+
+/// The pages with those of more bytes behind them, from a page's number on.
+#[tactic(auto, unfolding(crate::specs::Listing::pages_of))]
+pub(crate) fn with_pages(
+    alloc: Global,
+    mut pages: Vec<ImagePage>,
+    first: u32,
+    rights: Rights,
+    bytes: &[u8],
+) -> Result<Vec<ImagePage>, AllocError>
+    requires few { length bytes.now ≤ 1048576 }
+    requires low { first < 2 ^ 16 }
+    ensures { IfOk result (λ all. all.items ≡ pages.items ++ pages_of first rights bytes.now) }
+{
+    for place in 0..(bytes.len() + PAGE_SIZE - 1) / PAGE_SIZE {
+        pages.push(page_of_bytes(alloc, first, rights, bytes, place)?)?;
+    }
+    Ok(pages)
+}
+
+/// One of these pages.
+fn page_of_bytes(
+    alloc: Global,
+    first: u32,
+    rights: Rights,
+    bytes: &[u8],
+    place: usize,
+) -> Result<ImagePage, AllocError>
+    requires there { 4096 * place < length bytes.now }
+    requires few { length bytes.now ≤ 1048576 }
+    requires low { first < 2 ^ 16 }
+    ensures { IfOk result (λ page. page ≡ page_at first rights bytes.now place) }
+{
+    let start = place * PAGE_SIZE;
+    let end = (start + PAGE_SIZE).min(bytes.len());
+    let page = page_with_bytes(alloc, rights, &bytes[start..end])?;
+    Ok(ImagePage {
+        number: first + place as u32,
+        page,
+    })
+}
+
+/// A page that begins with these bytes.
+fn page_with_bytes(alloc: Global, rights: Rights, bytes: &[u8]) -> Result<Page, AllocError>
+    requires { length bytes.now ≤ 4096 }
+    ensures { IfOk result (λ page. page ≡ record { rights = rights; bytes = filled bytes.now }) }
+{
+    let mut page = Page::zeroed(alloc, rights)?;
+    page.put_bytes(0, bytes);
+    Ok(page)
+}

@@ -1,0 +1,57 @@
+use crate::section::Section;
+use crate::span::Span;
+use rv_isa::{BranchKind, Insn, Reg};
+
+/// What a statement puts into the text, once pseudo-instructions are gone: one word, or two for an address.
+#[derive(Drop)]
+pub enum Code<'a> {
+    /// One instruction, whole.
+    Fixed(Insn),
+    /// The two instructions that put a label's address into a register.
+    LoadAddress {
+        rd: Reg,
+        label: Span<'a>,
+    },
+    /// A jump to a label.
+    Jump {
+        rd: Reg,
+        label: Span<'a>,
+    },
+    /// A branch to a label.
+    Branch {
+        kind: BranchKind,
+        rs1: Reg,
+        rs2: Reg,
+        label: Span<'a>,
+    },
+    /// A word that is a number.
+    Number(u32),
+    /// A word that is a label's address.
+    Address(Span<'a>),
+}
+
+/// What a statement puts into the data.
+#[derive(Drop)]
+pub enum Datum<'a> {
+    /// A word that is a number.
+    Word(u32),
+    /// A word that is a label's address.
+    Pointer(Span<'a>),
+    /// Two bytes.
+    Half(u16),
+    /// One byte.
+    Byte(u8),
+    /// A number of zero bytes.
+    Zeros(u32),
+}
+
+/// What a statement does.
+#[derive(Drop)]
+pub enum Effect<'a> {
+    /// The statements that follow belong to this section.
+    Enter(Section),
+    /// It puts this into the text.
+    Text(Vec<Code<'a>>),
+    /// It puts this into the data.
+    Data(Vec<Datum<'a>>),
+}

@@ -1,0 +1,8 @@
+use crate::section::Section;
+
+/// Where a label stands: its section, and how many bytes the section has before it.
+#[derive(Clone, Copy, Debug, PartialEq, Eq)]
+pub(crate) struct Place {
+    pub(crate) section: Section,
+    pub(crate) offset: u32,
+}

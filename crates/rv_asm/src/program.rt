@@ -1,0 +1,204 @@
+ghost use Rattle.std.specs.Prelude.{◌≡◌, ◌<◌, ◌≤◌, ◌+◌, ◌^◌, ◌==◌, IfOk, IfErr, IfSome, option_map, ℕ, List};
+ghost use Rattle.rv_asm.specs.Faults.{Refuses};
+ghost use Rattle.rv_asm.specs.Program.{place_of, size, address_of, section_start, labelled};
+ghost use Rattle.rv_asm.specs.Listing.{entry_of};
+ghost use Rattle.rv_asm.specs.FirstPass.{no_lines, with_label, with_item};
+ghost use Rattle.rv_asm.specs.declared.section.Section.TheVariants.{Text, Data};
+ghost use Rattle.rv_asm.specs.declared.item.Item.TheVariants.{InText, InData};
+
+use crate::fault::{FaultKind, Refusal};
+use crate::item::Item;
+use crate::part::{Code, Datum};
+use crate::place::Place;
+use crate::section::Section;
+use crate::span::Span;
+use std::alloc::Global;
+use std::collections::HashMap;
+use std::marker::Model;
+
+/// The address at which the text begins.
+pub(crate) const TEXT_START: u32 = 0x1_0000;
+
+/// How many bytes a page has.
+const PAGE_SIZE: u32 = 4096;
+
+/// The most bytes that the text may have: 65536 words.
+const MOST_TEXT: u32 = 0x4_0000;
+
+/// The most bytes that the data may have.
+const MOST_DATA: u32 = 0x10_0000;
+
+/// A program as far as its source is read: its items in the order of the source, the section to which the next line
+/// belongs, where each name stands, and how many bytes each section has.
+#[derive(Drop)]
+pub(crate) struct Program<'a> {
+    section: Section,
+    items: Vec<Item<'a>>,
+    places: HashMap<&'a [u8], Place>,
+    text_size: u32,
+    data_size: u32,
+}
+
+impl<'a> Model for Program<'a> {
+    ghost use Rattle.rv_asm.specs.FirstPass.{Progress};
+
+    ghost Value = { Progress };
+
+    ghost use Rattle.rv_asm.specs.Counted.{IsCounted};
+
+    ghost view = { λ program. record { section = program.section; items = program.items.items } };
+
+    ghost invariant = { λ program. IsCounted program.items.items program.places program.text_size program.data_size };
+}
+
+impl<'a> Program<'a> {
+    /// The program of no lines.
+    pub(crate) fn new(alloc: Global) -> Self
+        ensures { result ≡ no_lines }
+    {
+        Program {
+            section: Section::Text,
+            items: Vec::new(alloc),
+            places: HashMap::new(alloc),
+            text_size: 0,
+            data_size: 0,
+        }
+    }
+
+    /// The section to which the next line belongs.
+    pub(crate) fn section(&self) -> Section
+        ensures { result ≡ self.now.section }
+    {
+        self.section
+    }
+
+    /// The items, in the order of the source.
+    pub(crate) fn items(&self) -> &[Item<'a>]
+        ensures items { result.now ≡ self.now.items }
+        ensures text_fits { size Text self.now.items ≤ 262144 }
+        ensures data_fits { size Data self.now.items ≤ 1048576 }
+    {
+        self.items.as_slice()
+    }
+
+    /// The same program, where the next line belongs to a section.
+    pub(crate) fn entered(mut self, section: Section) -> Self
+        ensures { result ≡ record self.entry { section = section } }
+    {
+        self.section = section;
+        self
+    }
+
+    /// Where the next item of a section stands.
+    fn end(&self, section: Section) -> Place
+        ensures { result ≡ record { section = section; offset = size section self.now.items } }
+    {
+        let offset = match section {
+            Section::Text => self.text_size,
+            Section::Data => self.data_size,
+        };
+        Place { section, offset }
+    }
+
+    /// The place of a name.
+    fn place(&self, name: &[u8]) -> Option<Place>
+        ensures place { result ≡ place_of self.now.items name.now }
+        ensures low { IfSome result (λ place. place.offset ≤ 1048576) }
+    {
+        self.places.get(name).copied()
+    }
+
+    /// The address at which a section begins: the text at 0x00010000, the data at the next multiple of 4096 after it.
+    pub(crate) fn start(&self, section: Section) -> u32
+        ensures start { result ≡ section_start self.now.items section }
+        ensures below { result ≤ 0x10000 + 262144 + 4096 }
+    {
+        match section {
+            Section::Text => TEXT_START,
+            Section::Data => (TEXT_START + self.text_size).div_ceil(PAGE_SIZE) * PAGE_SIZE,
+        }
+    }
+
+    /// Whether the text has no word.
+    pub(crate) fn has_no_text(&self) -> bool
+        ensures { result ≡ (size Text self.now.items == 0) }
+    {
+        self.text_size == 0
+    }
+
+    /// The entry: the label `_start`, where it stands in the text before its end; else where the text begins.
+    #[tactic(auto, unfolding(crate::specs::Listing::entry_of))]
+    pub(crate) fn entry(&self) -> u32
+        ensures { result ≡ entry_of self.now.items }
+    {
+        match self.place(b"_start") {
+            Some(
+                Place {
+                    section: Section::Text,
+                    offset,
+                },
+            ) if offset < self.text_size => TEXT_START + offset,
+            _ => TEXT_START,
+        }
+    }
+
+    /// The address of a label, if it stands anywhere.
+    #[tactic(auto, unfolding(crate::specs::Program::address_of))]
+    pub(crate) fn address_of(&self, name: &[u8]) -> Option<u32>
+        ensures address { result ≡ address_of self.now.items name.now }
+        ensures below { IfSome result (λ address. address < 2 ^ 31) }
+    {
+        match self.place(name) {
+            Some(place) => Some(self.start(place.section) + place.offset),
+            None => None,
+        }
+    }
+
+    /// The program with one more label, at the end of the section.
+    pub(crate) fn with_label(mut self, name: Span<'a>) -> Result<Self, Refusal>
+        ensures program { IfOk result (λ program. with_label self.entry name.entry ≡ Ok program) }
+        ensures refusal { IfErr result (Refuses (with_label self.entry name.entry)) }
+    {
+        if self.place(name.bytes()).is_some() {
+            return Err(Refusal::Fault(FaultKind::LabelTwice));
+        }
+        let section = self.section;
+        let place = self.end(section);
+        self.places.insert(name.bytes(), place)?;
+        self.items.push(Item::Label { section, name })?;
+        Ok(self)
+    }
+
+    /// The program with one more part of its text, from a line.
+    pub(crate) fn with_code(self, line: usize, code: Code<'a>) -> Result<Self, Refusal>
+        ensures program { IfOk result (λ program. with_item self.entry (InText line code.entry) ≡ Ok program) }
+        ensures refusal { IfErr result (Refuses (with_item self.entry (InText line code.entry))) }
+    {
+        self.with_item(Item::InText { line, code })
+    }
+
+    /// The program with one more part of its data, from a line.
+    pub(crate) fn with_datum(self, line: usize, datum: Datum<'a>) -> Result<Self, Refusal>
+        ensures program { IfOk result (λ program. with_item self.entry (InData line datum.entry) ≡ Ok program) }
+        ensures refusal { IfErr result (Refuses (with_item self.entry (InData line datum.entry))) }
+    {
+        self.with_item(Item::InData { line, datum })
+    }
+
+    /// The program with one more part, where there is room for it.
+    fn with_item(mut self, item: Item<'a>) -> Result<Self, Refusal>
+        requires { (name : List ℕ) → labelled name item ≡ None }
+        ensures program { IfOk result (λ program. with_item self.entry item.entry ≡ Ok program) }
+        ensures refusal { IfErr result (Refuses (with_item self.entry item.entry)) }
+    {
+        let text = item.length(Section::Text);
+        let data = item.length(Section::Data);
+        if text > MOST_TEXT - self.text_size || data > MOST_DATA - self.data_size {
+            return Err(Refusal::Fault(FaultKind::TooLong));
+        }
+        self.items.push(item)?;
+        self.text_size += text;
+        self.data_size += data;
+        Ok(self)
+    }
+}

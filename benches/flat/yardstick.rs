@@ -47,6 +47,44 @@ impl Memory {
         }
     }
 
+    fn page_mut(&mut self, address: u32, right: u8) -> Result<&mut Page, Fault> {
+        let leaf = self.leaves[(address >> 22) as usize].as_ref().ok_or(Fault::Page)?;
+        match leaf[(address >> 12 & 1023) as usize] {
+            0 => Err(Fault::Page),
+            place => {
+                let page = &mut self.pages[place as usize - 1];
+                if page.rights & right == right { Ok(page) } else { Err(Fault::Page) }
+            }
+        }
+    }
+
+    fn load(&self, address: u32, width: Width) -> Result<u32, Fault> {
+        if address % width.bytes() != 0 {
+            return Err(Fault::Misaligned);
+        }
+        let page = self.page(address, READ)?;
+        let offset = (address & 4095) as usize;
+        Ok(match width {
+            Width::Byte => page.bytes[offset].into(),
+            Width::Half => u16::from_le_bytes(page.bytes[offset..offset + 2].try_into().unwrap()).into(),
+            Width::Word => u32::from_le_bytes(page.bytes[offset..offset + 4].try_into().unwrap()),
+        })
+    }
+
+    fn store(&mut self, address: u32, width: Width, value: u32) -> Result<(), Fault> {
+        if address % width.bytes() != 0 {
+            return Err(Fault::Misaligned);
+        }
+        let page = self.page_mut(address, WRITE)?;
+        let offset = (address & 4095) as usize;
+        match width {
+            Width::Byte => page.bytes[offset] = value as u8,
+            Width::Half => page.bytes[offset..offset + 2].copy_from_slice(&(value as u16).to_le_bytes()),
+            Width::Word => page.bytes[offset..offset + 4].copy_from_slice(&value.to_le_bytes()),
+        }
+        Ok(())
+    }
+
     fn fetch(&self, address: u32) -> Result<u32, Fault> {
         if address % 4 != 0 {
             return Err(Fault::Misaligned);
@@ -58,10 +96,23 @@ impl Memory {
 }
 
 #[derive(Clone, Copy)]
+enum Width { Byte, Half, Word }
+
+impl Width {
+    fn bytes(self) -> u32 {
+        match self {
+            Width::Byte => 1,
+            Width::Half => 2,
+            Width::Word => 4,
+        }
+    }
+}
+
+#[derive(Clone, Copy)]
 enum Branch { Eq, Ne, Lt, Ge, Ltu, Geu }
 
 #[derive(Clone, Copy)]
-enum Alu { Add, Sub, Sll, Slt, Sltu, Xor, Srl, Sra, Or, And }
+enum Alu { Add, Sub, Sll, Slt, Sltu, Xor, Srl, Sra, Or, And, Mul, Mulh, Mulhsu, Mulhu, Div, Divu, Rem, Remu }
 
 #[derive(Clone, Copy)]
 enum Insn {
@@ -70,6 +121,8 @@ enum Insn {
     Jal { rd: u8, offset: u32 },
     Jalr { rd: u8, rs1: u8, offset: u32 },
     Branch { kind: Branch, rs1: u8, rs2: u8, offset: u32 },
+    Load { width: Width, signed: bool, rd: u8, rs1: u8, offset: u32 },
+    Store { width: Width, rs1: u8, rs2: u8, offset: u32 },
     Immediate { kind: Alu, rd: u8, rs1: u8, value: u32 },
     Op { kind: Alu, rd: u8, rs1: u8, rs2: u8 },
     Ecall,
@@ -105,6 +158,28 @@ fn decode(word: u32) -> Option<Insn> {
             rs2,
             offset: ((word as i32 >> 31) as u32) << 12 | (word >> 7 & 1) << 11 | (word >> 25 & 0x3F) << 5 | (word >> 8 & 15) << 1,
         },
+        0b0000011 => {
+            let (width, signed) = match funct3 {
+                0 => (Width::Byte, true),
+                1 => (Width::Half, true),
+                2 => (Width::Word, false),
+                4 => (Width::Byte, false),
+                5 => (Width::Half, false),
+                _ => return None,
+            };
+            Insn::Load { width, signed, rd, rs1, offset: i }
+        }
+        0b0100011 => Insn::Store {
+            width: match funct3 {
+                0 => Width::Byte,
+                1 => Width::Half,
+                2 => Width::Word,
+                _ => return None,
+            },
+            rs1,
+            rs2,
+            offset: ((word as i32 >> 25) as u32) << 5 | (word >> 7 & 31),
+        },
         0b0010011 => {
             let kind = match (funct3, funct7) {
                 (0, _) => Alu::Add,
@@ -132,6 +207,14 @@ fn decode(word: u32) -> Option<Insn> {
                 (5, 0b0100000) => Alu::Sra,
                 (6, 0) => Alu::Or,
                 (7, 0) => Alu::And,
+                (0, 1) => Alu::Mul,
+                (1, 1) => Alu::Mulh,
+                (2, 1) => Alu::Mulhsu,
+                (3, 1) => Alu::Mulhu,
+                (4, 1) => Alu::Div,
+                (5, 1) => Alu::Divu,
+                (6, 1) => Alu::Rem,
+                (7, 1) => Alu::Remu,
                 _ => return None,
             },
             rd,
@@ -156,6 +239,16 @@ fn alu(kind: Alu, a: u32, b: u32) -> u32 {
         Alu::Sra => (a as i32 >> (b & 31)) as u32,
         Alu::Or => a | b,
         Alu::And => a & b,
+        Alu::Mul => a.wrapping_mul(b),
+        Alu::Mulh => (i64::from(a as i32) * i64::from(b as i32) >> 32) as u32,
+        Alu::Mulhsu => (i64::from(a as i32) * i64::from(b) >> 32) as u32,
+        Alu::Mulhu => (u64::from(a) * u64::from(b) >> 32) as u32,
+        Alu::Div if b == 0 => u32::MAX,
+        Alu::Div => (a as i32).wrapping_div(b as i32) as u32,
+        Alu::Divu => a.checked_div(b).unwrap_or(u32::MAX),
+        Alu::Rem if b == 0 => a,
+        Alu::Rem => (a as i32).wrapping_rem(b as i32) as u32,
+        Alu::Remu => a.checked_rem(b).unwrap_or(a),
     }
 }
 
@@ -216,6 +309,29 @@ impl Machine {
                 };
                 if taken {
                     return self.jump(0, self.pc.wrapping_add(offset));
+                }
+            }
+            Insn::Load { width, signed, rd, rs1, offset } => {
+                let address = self.x[rs1 as usize].wrapping_add(offset);
+                match self.memory.load(address, width) {
+                    Ok(value) => {
+                        let value = match width {
+                            Width::Byte if signed => value as i8 as u32,
+                            Width::Half if signed => value as i16 as u32,
+                            _ => value,
+                        };
+                        self.set(rd, value);
+                    }
+                    Err(Fault::Misaligned) => return Some(End::Trap(4, address)),
+                    Err(Fault::Page) => return Some(End::Trap(13, address)),
+                }
+            }
+            Insn::Store { width, rs1, rs2, offset } => {
+                let address = self.x[rs1 as usize].wrapping_add(offset);
+                match self.memory.store(address, width, self.x[rs2 as usize]) {
+                    Ok(()) => {}
+                    Err(Fault::Misaligned) => return Some(End::Trap(6, address)),
+                    Err(Fault::Page) => return Some(End::Trap(15, address)),
                 }
             }
             Insn::Immediate { kind, rd, rs1, value } => self.set(rd, alu(kind, self.x[rs1 as usize], value)),

@@ -2,6 +2,8 @@
 #![tactic(auto)]
 
 #[cfg(test)]
+mod asm;
+#[cfg(test)]
 mod calls;
 #[cfg(test)]
 mod clock;
@@ -11,5 +13,7 @@ mod codec;
 mod flat;
 #[cfg(test)]
 mod runs;
+#[cfg(test)]
+mod source;
 #[cfg(test)]
 mod usage;

@@ -12,7 +12,7 @@ fn expect_fault(rt: &impl Abort, done: &Run, fault: &str) {
 }
 
 /// Command lines, their words parted by `|`.
-const BAD_LINES: [&str; 36] = [
+const BAD_LINES: [&str; 40] = [
     "--help",
     "-h",
     "help",
@@ -21,6 +21,10 @@ const BAD_LINES: [&str; 36] = [
     "FLAT|x",
     "--|flat|x",
     "--limit|5|flat|x",
+    "asm|x",
+    "asm|x|y|z",
+    "asm|-x|y",
+    "asm|--limit|5|x|y",
     "flat",
     "flat|--help",
     "flat|x|y",
@@ -64,13 +68,7 @@ fn refuses_bad_usage(rt: HostRuntime) -> Result<(), Fail> {
 
 #[test]
 fn refuses_bad_words(rt: HostRuntime) -> Result<(), Fail> {
-    let images: [&[u8]; 17] = [
-        b"",
-        b"\n.words\n00000013\n",
-        b"words\n00000013\n",
-        b".words \n00000013\n",
-        b".words\r\n00000013\n",
-        b".WORDS\n00000013\n",
+    let images: [&[u8]; 11] = [
         b".words\n00000013\r\n",
         b".words\n\n00000013\n",
         b".words\n00000013\n\n",
@@ -81,7 +79,7 @@ fn refuses_bad_words(rt: HostRuntime) -> Result<(), Fail> {
         b".words\n0000001G\n",
         b".words\n00000013 \n",
         b".words\n000000\xC3\xA9\n",
-        b"\x7FELF",
+        b".words\n\xFF\n",
     ];
     for image in images {
         let file = TestFile::new(&rt, "refuses_bad_words", image)?;

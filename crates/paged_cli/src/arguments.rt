@@ -13,6 +13,8 @@ use std::convert::AsStr;
 /// What is asked for on the command line.
 #[derive(Clone, Copy, Debug, PartialEq, Eq)]
 pub enum Request<'a> {
+    /// Assemble a source into an ELF file.
+    Asm { source: &'a str, target: &'a str },
     /// Run an image on flat memory for at most `limit` instructions.
     Flat { limit: u32, image: &'a str },
     /// Play a script on a replacement list for `frames` frames.
@@ -42,10 +44,19 @@ pub fn read_request<'a, S: AsStr>(alloc: Global, words: &'a [S]) -> Result<Reque
         }
     };
     match matches.subcommand() {
+        Some(("asm", matches)) => asm_request(matches),
         Some(("flat", matches)) => flat_request(matches),
         Some(("clock", matches)) => clock_request(matches),
         _ => Err(Fault::BadUsage),
     }
+}
+
+fn asm_request<'a>(matches: &ArgMatches<'a>) -> Result<Request<'a>, Fault<'a>>
+    ensures { IfOk result IsInRange }
+{
+    let source = matches.get_str("source").ok_or(Fault::BadUsage)?;
+    let target = matches.get_str("target").ok_or(Fault::BadUsage)?;
+    Ok(Request::Asm { source, target })
 }
 
 fn flat_request<'a>(matches: &ArgMatches<'a>) -> Result<Request<'a>, Fault<'a>>
@@ -81,6 +92,9 @@ fn in_range<'a>(text: &str, least: u32, most: u32) -> Result<u32, Fault<'a>>
 
 /// The commands and what each takes.
 fn paged<'a>(alloc: Global) -> Result<Command<'a>, AllocError> {
+    let asm = Command::new(alloc, "asm")
+        .arg(Arg::new(alloc, "source").required(true))?
+        .arg(Arg::new(alloc, "target").required(true))?;
     let flat = Command::new(alloc, "flat")
         .arg(Arg::new(alloc, "limit").long("limit"))?
         .arg(Arg::new(alloc, "image").required(true))?;
@@ -90,6 +104,7 @@ fn paged<'a>(alloc: Global) -> Result<Command<'a>, AllocError> {
     Command::new(alloc, "paged")
         .no_binary_name(true)
         .subcommand_required(true)
+        .subcommand(asm)?
         .subcommand(flat)?
         .subcommand(clock)
 }

@@ -33,6 +33,10 @@ pub fn read_file<'a, R: Files + AllocGlobal>(rt: &R, name: &'a str) -> Result<Ve
 
 /// The text of a file, which has to be UTF-8.
 pub fn read_text<'a, R: Files + AllocGlobal>(rt: &R, name: &'a str) -> Result<String, Fault<'a>> {
-    let bytes = read_file(rt, name)?;
+    text_of(read_file(rt, name)?, name)
+}
+
+/// The text that a file's bytes are.
+pub fn text_of(bytes: Vec<u8>, name: &str) -> Result<String, Fault<'_>> {
     String::from_utf8(bytes).map_err(|_| Fault::CannotRead(name))
 }

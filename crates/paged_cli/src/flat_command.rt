@@ -1,10 +1,8 @@
 //! `paged flat`: an image run on flat memory.
 
 use crate::fault::Fault;
-use crate::files::read_file;
+use crate::image_file::read_image;
 use crate::process_lines::{status_of_end, write_process};
-use crate::words_file::{WordsError, words_of_file};
-use elf_image::{ElfFault, Image};
 use flat_machine::{End, FlatProcess, KillCause};
 use std::io::Write;
 use std::rt::Files;
@@ -22,19 +20,4 @@ pub fn run_flat<'a, R: Files + AllocGlobal, W: Write>(
     let end = process.end().unwrap_or(End::Killed(KillCause::Limit));
     write_process(0, process.output(), end, steps, out)?;
     Ok(status_of_end(end))
-}
-
-/// The image that a file holds.
-fn read_image<'a, R: Files + AllocGlobal>(rt: &R, name: &'a str) -> Result<Image, Fault<'a>> {
-    let bytes = read_file(rt, name)?;
-    let words = match words_of_file(rt.alloc(), bytes.as_slice()) {
-        Ok(words) => words,
-        Err(WordsError::BadWords) => return Err(Fault::BadWords(name)),
-        Err(WordsError::NoMemory) => return Err(Fault::NoMemory),
-    };
-    match Image::from_words(rt.alloc(), words.as_slice()) {
-        Ok(image) => Ok(image),
-        Err(ElfFault::NoMemory) => Err(Fault::NoMemory),
-        Err(fault) => Err(Fault::ElfFault(name, fault.number())),
-    }
 }

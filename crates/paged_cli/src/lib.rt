@@ -2,11 +2,14 @@
 #![tactic(auto)]
 
 mod arguments;
+mod asm_command;
 mod clock_command;
 mod clock_script;
 mod fault;
 mod files;
 mod flat_command;
+mod image_file;
+mod image_kind;
 mod lines;
 mod numbers;
 mod process_lines;

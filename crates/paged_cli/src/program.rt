@@ -1,6 +1,7 @@
 //! A run of the program.
 
 use crate::arguments::{Request, read_request};
+use crate::asm_command::run_asm;
 use crate::clock_command::run_clock;
 use crate::fault::Fault;
 use crate::flat_command::run_flat;
@@ -37,6 +38,10 @@ fn run_words<'a, R: Files + AllocGlobal, S: AsStr, O: Write>(
     out: &mut O,
 ) -> Result<u8, Fault<'a>> {
     match read_request(rt.alloc(), words)? {
+        Request::Asm { source, target } => {
+            run_asm(rt, source, target, out)?;
+            Ok(0)
+        }
         Request::Flat { limit, image } => run_flat(rt, limit, image, out),
         Request::Clock { frames, script } => {
             run_clock(rt, frames, script, out)?;

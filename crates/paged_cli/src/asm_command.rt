@@ -1,0 +1,30 @@
+//! `paged asm`: a source made into an ELF file.
+
+use crate::fault::Fault;
+use crate::image_file::read_source;
+use elf_image::write_elf;
+use std::fs;
+use std::io::Write;
+use std::rt::Files;
+
+/// Writes the ELF file of a source, and what it holds: its words of text, its bytes of data before padding, its entry.
+pub fn run_asm<'a, R: Files + AllocGlobal, W: Write>(
+    rt: &R,
+    source: &'a str,
+    target: &'a str,
+    out: &mut W,
+) -> Result<(), Fault<'a>> {
+    let listing = read_source(rt, source)?;
+    let file = write_elf(rt.alloc(), listing.image())?;
+    if fs::write(rt, target, file.as_slice()).is_err() {
+        return Err(Fault::CannotRead(target));
+    }
+    writeln!(
+        out,
+        "words {} data {} entry 0x{:08X}",
+        listing.words().len(),
+        listing.data_bytes(),
+        listing.image().entry()
+    )?;
+    Ok(())
+}

@@ -1,0 +1,36 @@
+//! The ways in which files hold images.
+
+ghost use Rattle.std.specs.Prelude.{◌≡◌, ◌↔◌};
+ghost use Rattle.paged_cli.specs.ImageKind.{BeginsAsElf, BeginsAsWords};
+
+use crate::lines::split_line;
+
+/// What the file of an image is.
+#[derive(Clone, Copy, Debug, PartialEq, Eq)]
+pub enum ImageKind {
+    /// An ELF file.
+    Elf,
+    /// A line `.words`, then words in hexadecimal digits.
+    Words,
+    /// The source of a program.
+    Source,
+}
+
+/// What a file is: an ELF file by its first four bytes, words by its first line, and else a source.
+pub fn kind_of_file(file: &[u8]) -> ImageKind
+    ensures elf { (result ≡ ImageKind.Elf) ↔ BeginsAsElf file.now }
+    ensures words { (result ≡ ImageKind.Words) ↔ ((¬ BeginsAsElf file.now) × BeginsAsWords file.now) }
+{
+    if file.starts_with(b"\x7FELF") {
+        return ImageKind::Elf;
+    }
+    if file.is_empty() {
+        return ImageKind::Source;
+    }
+    let (first, _) = split_line(file);
+    if first == b".words".as_slice() {
+        ImageKind::Words
+    } else {
+        ImageKind::Source
+    }
+}

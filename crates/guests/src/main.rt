@@ -1,4 +1,4 @@
-//! Runs the guests of `examples/`, whose folder is this program's `data`, and shows how each one goes.
+//! Runs guests of `examples/` and shows how each one goes. They are copied into `data/`, and the gate compares the copies.
 #![tactic(auto)]
 
 use paged_cli::run_paged;

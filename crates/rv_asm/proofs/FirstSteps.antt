@@ -1,16 +1,14 @@
 -- What one label, one part and one line do to a program.
-use Rattle.std.proofs.Common.{◌≡◌, ℕ, ◌+◌, ◌-◌, ◌≤◌, ◌<◌, ◌⊎◌, inl, inr, List, [], ◌∷◌, ◌++◌, Bool, true, false, cond, ◌&&◌, Option, Some, None, Result, Ok, Err, arith, rules, refl, sym, ap, ◌∙◌, subst}
+use Rattle.std.proofs.Common.{◌≡◌, ℕ, ◌+◌, ◌≤◌, ◌<◌, ◌⊎◌, inl, inr, List, [], ◌∷◌, ◌++◌, Bool, true, false, ◌&&◌, Option, Some, None, Ok, Err, arith, refl, sym, ap, ◌∙◌, subst}
 use Rattle.std.specs.Prelude.{is_some, nat_le}
 use Rattle.std.proofs.lemmas.Bool.Decides.{nat_tests}
-use Rattle.rv_asm.specs.declared.fault.FaultKind.{FaultKind}
 use Rattle.rv_asm.specs.declared.fault.FaultKind.TheVariants.{LabelTwice, TooLong}
 use Rattle.rv_asm.specs.declared.section.Section.{Section}
 use Rattle.rv_asm.specs.declared.section.Section.TheVariants.{Text, Data}
 use Rattle.rv_asm.specs.declared.item.Item.{Item}
-use Rattle.rv_asm.specs.declared.item.Item.TheVariants.{Label, InText, InData}
-use Rattle.rv_asm.specs.declared.place.Place.{Place}
+use Rattle.rv_asm.specs.declared.item.Item.TheVariants.{Label}
 use Rattle.rv_asm.specs.Program.{size, item_length, place_of}
-use Rattle.rv_asm.specs.FirstPass.{Progress, with_label, unless_there, with_item, if_fits, fits}
+use Rattle.rv_asm.specs.FirstPass.{Progress, with_label, with_item, if_fits, fits}
 use Rattle.rv_asm.proofs.Places.{size_push}
 
 pub label_twice : (progress : Progress) (name : List ℕ) → is_some (place_of progress.items name) ≡ true → with_label progress name ≡ Err LabelTwice

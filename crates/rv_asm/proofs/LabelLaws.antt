@@ -1,16 +1,15 @@
 -- Where labels stand, and that none stands twice.
-use Rattle.std.proofs.Common.{◌≡◌, ℕ, ◌+◌, ◌≤◌, List, [], ◌∷◌, ◌++◌, map, Bool, true, false, Option, Some, None, arith, rules, refl, sym, ap, ◌∙◌, subst, append_assoc}
-use Rattle.std.specs.Prelude.{⊤, option_map, is_some, if◌then◌else◌}
+use Rattle.std.proofs.Common.{◌≡◌, ℕ, ◌+◌, List, [], ◌∷◌, ◌++◌, Bool, true, false, Option, Some, None, refl, sym, ap, ◌∙◌}
+use Rattle.std.specs.Prelude.{option_map, if◌then◌else◌}
 use Rattle.std.specs.Str.{bytes_eq}
 use Rattle.std.proofs.lemmas.Slice.Eq.{bytes_eq-Decides}
 use Rattle.std.proofs.lemmas.Bool.{false≢true}
 use Rattle.rv_asm.specs.declared.section.Section.{Section}
-use Rattle.rv_asm.specs.declared.section.Section.TheVariants.{Text, Data}
 use Rattle.rv_asm.specs.declared.item.Item.{Item}
 use Rattle.rv_asm.specs.declared.item.Item.TheVariants.{Label, InText, InData}
 use Rattle.rv_asm.specs.declared.place.Place.{Place}
 use Rattle.rv_asm.specs.Program.{size, item_length, labelled, place_from, place_of, section_start, address_of}
-use Rattle.rv_asm.specs.Assembly.{Lacks, Distinct, HasAddress}
+use Rattle.rv_asm.specs.Assembly.{Lacks, HasAddress}
 
 none_below : (item : Item) (below : Option Place) → place_from item None below ≡ None → below ≡ None
 none_below item None is = refl

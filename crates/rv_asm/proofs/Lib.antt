@@ -8,6 +8,7 @@ pub mod LineLaws
 pub mod ListLemmas
 pub mod NameLemmas
 pub mod Numerals
+pub mod OneFault
 pub mod OperandSteps
 pub mod PageCuts
 pub mod PagesPass

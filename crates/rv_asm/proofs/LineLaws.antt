@@ -1,5 +1,5 @@
 -- What the first pass says of a source, in the words of the relation.
-use Rattle.std.proofs.Common.{◌≡◌, ℕ, ◌+◌, ◌≤◌, ◌<◌, List, [], ◌∷◌, ◌++◌, map, length, Bool, true, false, ◌&&◌, Option, Some, None, Result, Ok, Err, arith, rules, refl, sym, ap, ◌∙◌, subst, append_assoc, append-nil, zero-add, add-zero}
+use Rattle.std.proofs.Common.{◌≡◌, ℕ, ◌+◌, List, [], ◌∷◌, ◌++◌, map, length, Bool, true, false, ◌&&◌, Result, Ok, Err, arith, refl, sym, ap, ◌∙◌, subst, append_assoc, append-nil, zero-add}
 use Rattle.std.specs.Prelude.{⊤, is_some, nat_le}
 use Rattle.std.proofs.lemmas.Bool.{false≢true}
 use Rattle.std.proofs.lemmas.Bool.Decides.{nat_tests}
@@ -38,7 +38,7 @@ distinct_push (InText line code ∷ items) section name d lacks = distinct_push 
 distinct_push (InData line datum ∷ items) section name d lacks = distinct_push items section name d lacks
 
 -- what stands before a label has no other of its name
-lacks_label : (items rest : List Item) (section : Section) (name : List ℕ) → Lacks (items ++ Label section name ∷ rest) name → ⊥
+pub lacks_label : (items rest : List Item) (section : Section) (name : List ℕ) → Lacks (items ++ Label section name ∷ rest) name → ⊥
 unfolding Lacks
 lacks_label [] rest section name lacks = lacks.0 refl
 lacks_label (Label s first ∷ items) rest section name lacks = lacks_label items rest section name lacks.1
@@ -125,7 +125,7 @@ from_fits items f =
     let d : nat_le (size Data items) 1048576 ≡ true = let h = f.bytes in grind (arith, nat_tests) in
     rw (t, d) refl
 
-fits_front : (items more : List Item) → Fits (items ++ more) → Fits items
+pub fits_front : (items more : List Item) → Fits (items ++ more) → Fits items
 fits_front items more f =
     let t = f.text in
     let d = f.bytes in

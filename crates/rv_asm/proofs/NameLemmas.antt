@@ -1,5 +1,5 @@
 -- A search through a table finds what the table has for a name.
-use Rattle.std.proofs.Common.{◌≡◌, ℕ, Bool, true, false, List, [], ◌∷◌, map, find, cond, refl, option_map, Bor, Option, Some, IfSome, nat_lt, ◌<◌, ◌++◌}
+use Rattle.std.proofs.Common.{◌≡◌, ℕ, Bool, true, false, List, [], ◌∷◌, map, find, cond, refl, option_map, Bor, Some, IfSome, nat_lt, ◌<◌, ◌++◌}
 use Rattle.std.specs.Str.{bytes_eq}
 use Rattle.std.specs.List.{list_all}
 use Rattle.std.specs.Bool.{⊤}

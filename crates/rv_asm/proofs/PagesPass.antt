@@ -1,5 +1,5 @@
 -- The pages of a program make an image.
-use Rattle.std.proofs.Common.{◌≡◌, ℕ, zero, suc, ◌+◌, ◌-◌, ◌*◌, ◌/◌, ◌<◌, ◌≤◌, List, [], ◌∷◌, ◌++◌, length, map, flat_map, Bool, true, false, ◌&&◌, ◌||◌, ◌==◌, Option, Some, None, arith, rules, refl, sym, ap, ◌∙◌, subst, length-append, add-zero, add-one, inl, inr, get_or, eq-eqb}
+use Rattle.std.proofs.Common.{◌≡◌, ℕ, zero, suc, ◌+◌, ◌*◌, ◌/◌, ◌<◌, ◌≤◌, List, [], ◌∷◌, ◌++◌, length, map, Bool, true, false, ◌&&◌, ◌||◌, ◌==◌, Option, Some, None, arith, refl, sym, ap, ◌∙◌, subst, length-append, add-zero, eq-eqb}
 use Rattle.std.specs.Prelude.{Result, Ok, Err}
 use Rattle.std.specs.Result.{result_err, IsOk}
 use Rattle.std.specs.Prelude.{⊤, nat_le, nat_lt, slice_index_or, codes}
@@ -9,13 +9,13 @@ use Rattle.std.proofs.lemmas.List.Folds.{list_any_at, list_any-append}
 use Rattle.std.proofs.lemmas.List.FromFn.{get_or-map-range_with_len, length-map-range_with_len}
 use Rattle.byteorder.specs.Endian.{little_bytes}
 use Rattle.page_memory.specs.declared.rights.Rights.{Rights}
-use Rattle.page_memory.specs.declared.words.Access.TheVariants.{Fetch, Load, Store}
+use Rattle.page_memory.specs.declared.words.Access.TheVariants.{Fetch}
 use Rattle.page_memory.specs.Rights.{may, readable}
 use Rattle.page_memory.specs.Words.{page_number}
 use Rattle.elf_image.specs.declared.image.ImagePage.{ImagePage}
-use Rattle.elf_image.specs.Image.{ImageContent, bytes_of}
-use Rattle.elf_image.specs.Parts.{too_high, rising, entered, parts_fault, readable_page, image_of_parts}
-use Rattle.elf_image.specs.PartsLaws.{Pass, no_fault_from_pass, neighbours}
+use Rattle.elf_image.specs.Image.{bytes_of}
+use Rattle.elf_image.specs.Parts.{too_high, entered, parts_fault, readable_page, image_of_parts}
+use Rattle.elf_image.specs.PartsLaws.{no_fault_from_pass, neighbours}
 use Rattle.rv_asm.specs.declared.section.Section.{Section}
 use Rattle.rv_asm.specs.declared.section.Section.TheVariants.{Text, Data}
 use Rattle.rv_asm.specs.declared.place.Place.{Place}

@@ -1,14 +1,13 @@
 -- What the second pass says of a program, in the words of the relation.
-use Rattle.std.proofs.Common.{◌≡◌, ℕ, ◌+◌, ◌*◌, ◌/◌, ◌%◌, ◌≤◌, ◌<◌, List, [], ◌∷◌, ◌++◌, length, Bool, true, false, ◌&&◌, ◌==◌, Option, Some, None, Result, Ok, Err, arith, rules, refl, sym, ap, ◌∙◌, subst, append_assoc, append-nil, length-append, zero-add, add-zero, ℤ, pos, ◌⊎◌, inl, inr}
-use Rattle.std.specs.Prelude.{⊤, ◌-ℤ◌, ◌+ℤ◌, ◌≤ℤ◌, ◌<ℤ◌, negsuc, nat_le, nat_lt, unsigned_abs, if◌then◌else◌}
+use Rattle.std.proofs.Common.{◌≡◌, ℕ, ◌+◌, ◌*◌, ◌%◌, ◌≤◌, ◌<◌, List, [], ◌∷◌, ◌++◌, length, Bool, true, false, ◌&&◌, ◌==◌, Option, Some, None, Result, Ok, Err, arith, refl, sym, ap, ◌∙◌, subst, append_assoc, append-nil, pos}
+use Rattle.std.specs.Prelude.{◌-ℤ◌, nat_le, nat_lt, if◌then◌else◌}
 use Rattle.byteorder.specs.Endian.{little_bytes}
 use Rattle.std.proofs.lemmas.Int.{ints}
 use Rattle.std.proofs.lemmas.Grind.{common_steps}
 use Rattle.std.proofs.lemmas.Bool.{false≢true}
 use Rattle.std.proofs.lemmas.Bool.Decides.{nat_tests}
-use Rattle.rv_isa.specs.Operands.{IsImmediate, IsBranchOffset, IsJumpOffset}
+use Rattle.rv_isa.specs.Operands.{IsBranchOffset, IsJumpOffset}
 use Rattle.rv_isa.specs.declared.instruction.Insn.TheVariants.{Jal, Branch as BranchInsn}
-use Rattle.rv_isa.specs.declared.kinds.BranchKind.{BranchKind}
 use Rattle.rv_asm.specs.declared.fault.FaultKind.{FaultKind}
 use Rattle.rv_asm.specs.declared.fault.FaultKind.TheVariants.{NoLabel, Range}
 use Rattle.rv_asm.specs.declared.section.Section.TheVariants.{Text, Data}
@@ -23,8 +22,8 @@ use Rattle.rv_asm.specs.declared.word.TextWord.TheVariants.{Instruction, Plain}
 use Rattle.rv_asm.specs.Steps.{FaultAt, chained, mapped, on_line}
 use Rattle.rv_asm.specs.Program.{size, address_of}
 use Rattle.rv_asm.specs.SecondPass.{Sections, at_label, upper_part, low_part, load_words, reaches, if_reached, jump_words, branch_words, code_words, datum_bytes, next_address, put, put_all, no_sections, second_pass}
-use Rattle.rv_asm.specs.Assembly.{HasAddress, Lacks, IsSplit, PutsWords, PutsBytes, TextAt, DataAt, Holds, HasPut, code_label, datum_label, TooFar, PartFault, no_label, no_datum_label, too_far}
-use Rattle.rv_asm.proofs.Places.{size_push, size_append}
+use Rattle.rv_asm.specs.Assembly.{Lacks, IsSplit, PutsWords, PutsBytes, TextAt, DataAt, Holds, HasPut, code_label, datum_label, TooFar, PartFault, no_label, no_datum_label, too_far}
+use Rattle.rv_asm.proofs.Places.{size_push}
 use Rattle.rv_asm.proofs.LabelLaws.{address_found, no_address}
 use Rattle.rv_asm.proofs.SecondSteps.{put_length, pass_length}
 

@@ -1,8 +1,7 @@
 -- Sizes and places of a program that grows by one item.
-use Rattle.std.proofs.Common.{◌≡◌, ℕ, ◌+◌, ◌≤◌, List, [], ◌∷◌, ◌++◌, Bool, true, false, cond, Option, Some, None, arith, rules, refl, sym, ap, ◌∙◌, subst, zero-add, add-zero}
-use Rattle.std.specs.Prelude.{option_map, IfSome}
+use Rattle.std.proofs.Common.{◌≡◌, ℕ, ◌+◌, ◌≤◌, List, [], ◌∷◌, ◌++◌, Bool, true, false, cond, Option, Some, None, arith, refl, sym, ap, ◌∙◌, subst, zero-add, add-zero}
+use Rattle.std.specs.Prelude.{IfSome}
 use Rattle.std.specs.Str.{bytes_eq}
-use Rattle.std.specs.Map.{update}
 use Rattle.std.specs.HashMap as hash
 use Rattle.std.specs.HashMap.{HashMap}
 use denote.Ref.{Bor}
@@ -11,7 +10,7 @@ use Rattle.std.proofs.lemmas.Map.Text.{hash_map_updates_str}
 use Rattle.rv_asm.specs.declared.section.Section.{Section}
 use Rattle.rv_asm.specs.declared.section.Section.TheVariants.{Text, Data}
 use Rattle.rv_asm.specs.declared.item.Item.{Item}
-use Rattle.rv_asm.specs.declared.item.Item.TheVariants.{Label, InText, InData}
+use Rattle.rv_asm.specs.declared.item.Item.TheVariants.{Label}
 use Rattle.rv_asm.specs.declared.place.Place.{Place}
 use Rattle.rv_asm.specs.Program.{size, item_length, labelled, place_from, place_of}
 use Rattle.rv_asm.specs.Counted.{IsCounted}

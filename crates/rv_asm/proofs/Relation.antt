@@ -1,22 +1,20 @@
 -- The two passes meet the relation.
-use Rattle.std.proofs.Common.{◌≡◌, ℕ, ◌+◌, ◌<◌, List, [], ◌∷◌, ◌++◌, length, Bool, true, false, ◌==◌, Result, Ok, Err, refl, sym, ap, ◌∙◌, subst, arith, zero-add}
-use Rattle.std.specs.Prelude.{⊤}
+use Rattle.std.proofs.Common.{◌≡◌, ℕ, ◌+◌, ◌<◌, List, length, Bool, true, false, ◌==◌, Result, Ok, Err, refl, ◌∙◌, subst, arith, zero-add}
 use Rattle.std.proofs.lemmas.Bool.Decides.{nat_tests}
 use Rattle.rv_asm.specs.declared.fault.AsmError.{AsmError}
 use Rattle.rv_asm.specs.declared.fault.AsmError.TheVariants.{Fault, NoMemory}
-use Rattle.rv_asm.specs.declared.fault.FaultKind.TheVariants.{Empty}
 use Rattle.rv_asm.specs.declared.section.Section.{Section}
-use Rattle.rv_asm.specs.declared.section.Section.TheVariants.{Text, Data}
+use Rattle.rv_asm.specs.declared.section.Section.TheVariants.{Text}
 use Rattle.rv_asm.specs.declared.item.Item.{Item}
 use Rattle.rv_asm.specs.Steps.{FaultAt, Fails, chained, mapped}
 use Rattle.rv_asm.specs.Source.{lines_of}
 use Rattle.rv_asm.specs.Program.{size}
 use Rattle.rv_asm.specs.FirstPass.{Progress, no_lines, with_lines, first_pass}
 use Rattle.rv_asm.specs.SecondPass.{Sections, second_pass}
-use Rattle.rv_asm.specs.Listing.{Assembly, ListingContent, Lists, ListsTold, unless_empty, laid_out, assembled}
+use Rattle.rv_asm.specs.Listing.{Assembly, ListingContent, ListsTold, unless_empty, laid_out, assembled}
 use Rattle.rv_asm.specs.Assembly.{HasProgram, Holds, Assembles, FirstFault, in_line, no_text, in_part, IsFirstFault}
-use Rattle.rv_asm.proofs.LineLaws.{LinesSaid, LinesRead, LinesStop, lines_said, program_read}
-use Rattle.rv_asm.proofs.PartLaws.{holds, StopsAt, stops}
+use Rattle.rv_asm.proofs.LineLaws.{LinesSaid, lines_said, program_read}
+use Rattle.rv_asm.proofs.PartLaws.{holds, stops}
 
 -- a program with its sections
 pub record HasAssembly (source : List ℕ) (assembly : Assembly) : Type 0 where

@@ -1,8 +1,8 @@
 -- Items one after another in the second pass, and how much each puts.
-use Rattle.std.proofs.Common.{◌≡◌, ℕ, ◌+◌, ◌*◌, ◌-◌, ◌<◌, ◌≤◌, List, [], ◌∷◌, ◌++◌, length, drop, get_or, replicate, Bool, true, false, Option, Some, None, Result, Ok, Err, refl, sym, ap, ◌∙◌, subst, arith, length-append, length-drop, drop-cons, add-one, add-zero, zero-add}
+use Rattle.std.proofs.Common.{◌≡◌, ℕ, ◌+◌, ◌*◌, ◌<◌, ◌≤◌, List, [], ◌∷◌, ◌++◌, length, drop, get_or, Bool, true, false, Option, Some, None, Result, Ok, Err, refl, sym, ap, ◌∙◌, subst, arith, length-append, length-drop, drop-cons, add-one, add-zero, zero-add}
 use Rattle.std.proofs.lemmas.List.{length-replicate}
 use Rattle.byteorder.specs.Endian.{little_bytes}
-use Rattle.std.specs.Prelude.{⊤, ℤ, pos, ◌-ℤ◌}
+use Rattle.std.specs.Prelude.{⊤, pos, ◌-ℤ◌}
 use Rattle.rv_isa.specs.declared.instruction.Insn.TheVariants.{Jal, Branch as BranchInsn}
 use Rattle.rv_asm.specs.declared.word.TextWord.TheVariants.{Instruction, Plain}
 use Rattle.rv_asm.specs.declared.fault.FaultKind.{FaultKind}

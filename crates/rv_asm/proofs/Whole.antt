@@ -1,16 +1,16 @@
 -- The two passes one after the other.
-use Rattle.std.proofs.Common.{◌≡◌, ℕ, ◌*◌, ◌<◌, ◌≤◌, List, length, Bool, true, false, ◌==◌, Result, Ok, Err, refl, sym, ap, ◌∙◌, subst, arith}
+use Rattle.std.proofs.Common.{◌≡◌, ℕ, ◌<◌, List, true, false, ◌==◌, Ok, Err, sym, ap, ◌∙◌, subst, arith}
 use Rattle.std.proofs.lemmas.Bool.Decides.{nat_tests}
 use Rattle.rv_asm.specs.declared.fault.AsmError.{AsmError}
 use Rattle.rv_asm.specs.declared.fault.AsmError.TheVariants.{Fault, NoMemory}
 use Rattle.rv_asm.specs.declared.fault.FaultKind.TheVariants.{Empty}
-use Rattle.rv_asm.specs.declared.section.Section.TheVariants.{Text, Data}
+use Rattle.rv_asm.specs.declared.section.Section.TheVariants.{Text}
 use Rattle.rv_asm.specs.declared.item.Item.{Item}
-use Rattle.rv_asm.specs.Steps.{FaultAt, Fails, chained, mapped}
+use Rattle.rv_asm.specs.Steps.{Fails, chained, mapped}
 use Rattle.rv_asm.specs.Program.{size}
 use Rattle.rv_asm.specs.FirstPass.{Progress, first_pass}
 use Rattle.rv_asm.specs.SecondPass.{Sections, second_pass}
-use Rattle.rv_asm.specs.Listing.{Assembly, ListingContent, Lists, ListsTold, unless_empty, laid_out, assembled}
+use Rattle.rv_asm.specs.Listing.{ListingContent, Lists, ListsTold, unless_empty, laid_out, assembled}
 
 pub first_refuses : (source : List ℕ) (error : AsmError) → Fails (first_pass source) error → Fails (assembled source) error
 unfolding assembled

@@ -1,7 +1,7 @@
 -- The assembler as a relation between a source, its program and a listing, and the first fault of a source. It stands apart
 -- from any pass over the source: a program is what the lines say, a label's address is its section's start and the sizes of
 -- what stands before it in that section, and each part's words stand at the address of the part.
-use Rattle.std.specs.Prelude.{◌≡◌, ℕ, ◌+◌, ◌*◌, ◌<◌, ◌≤◌, ℤ, pos, ◌-ℤ◌, ◌+ℤ◌, ⊤, List, [], ◌∷◌, ◌++◌, length, map, replicate, Option, Some, None, Result, Ok, Err}
+use Rattle.std.specs.Prelude.{◌≡◌, ℕ, ◌+◌, ◌*◌, ◌<◌, ◌≤◌, ℤ, pos, ◌-ℤ◌, ◌+ℤ◌, ⊤, List, [], ◌∷◌, ◌++◌, length, map, replicate, Option, Some, None, Ok, Err}
 use Rattle.byteorder.specs.Endian.{little_bytes}
 use Rattle.rv_isa.specs.Operands.{IsImmediate, IsBranchOffset, IsJumpOffset}
 use Rattle.rv_isa.specs.declared.instruction.Insn.TheVariants.{Lui, OpImmediate, Jal, Branch as BranchInsn}

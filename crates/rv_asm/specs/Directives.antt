@@ -1,6 +1,6 @@
 -- What directives put into a section.
 -- Source: assembly programmer's manual, "Pseudo Ops".
-use Rattle.std.specs.Prelude.{ℕ, ◌==◌, Bool, true, false, not, pos, negsuc, List, [], ◌∷◌, map, Result, Ok, Err, if◌then◌else◌}
+use Rattle.std.specs.Prelude.{ℕ, ◌==◌, Bool, true, false, negsuc, List, [], ◌∷◌, map, Result, Ok, Err, if◌then◌else◌}
 use Rattle.std.specs.List.{list_all}
 use Rattle.std.specs.Int.{w8, w16, w32}
 use Rattle.rv_asm.specs.declared.operand.Operand.{Operand}

@@ -1,5 +1,5 @@
 -- The faults of a source, by the numbers with which they are printed.
-use Rattle.std.specs.Prelude.{◌≡◌, ℕ, Result, Ok, Err, ⊤}
+use Rattle.std.specs.Prelude.{◌≡◌, ℕ, Result, Err, ⊤}
 use Rattle.rv_asm.specs.declared.fault.FaultKind.{FaultKind}
 use Rattle.rv_asm.specs.declared.fault.FaultKind.TheVariants.{BadLine, UnknownName, Operand, Range, LabelTwice, NoLabel, TooLong, Empty}
 use Rattle.rv_asm.specs.declared.fault.AsmError.{AsmError}

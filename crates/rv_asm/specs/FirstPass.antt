@@ -1,5 +1,5 @@
 -- The first pass over a source: line by line to the items of its program, and to the first fault that can be told without addresses.
-use Rattle.std.specs.Prelude.{ℕ, ◌+◌, ◌≤◌, ◌&&◌, nat_le, Bool, true, false, List, [], ◌∷◌, ◌++◌, map, Option, Some, None, is_some, Result, Ok, Err, if◌then◌else◌}
+use Rattle.std.specs.Prelude.{ℕ, ◌+◌, ◌&&◌, nat_le, Bool, true, false, List, [], ◌∷◌, ◌++◌, map, Option, Some, None, is_some, Result, Ok, Err}
 use Rattle.rv_asm.specs.declared.fault.FaultKind.{FaultKind}
 use Rattle.rv_asm.specs.declared.fault.FaultKind.TheVariants.{LabelTwice, TooLong}
 use Rattle.rv_asm.specs.declared.section.Section.{Section}
@@ -11,7 +11,7 @@ use Rattle.rv_asm.specs.Forms.{Line, Effect, Enter, Text as TextEffect, Data as 
 use Rattle.rv_asm.specs.Lines.{line_form}
 use Rattle.rv_asm.specs.Statements.{statement_effect}
 use Rattle.rv_asm.specs.Source.{lines_of}
-use Rattle.rv_asm.specs.Steps.{FaultAt, chained, mapped, on_line}
+use Rattle.rv_asm.specs.Steps.{FaultAt, chained, on_line}
 use Rattle.rv_asm.specs.Program.{size, place_of}
 
 -- a program so far, and the section to which the next line belongs

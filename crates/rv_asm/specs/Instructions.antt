@@ -1,6 +1,6 @@
 -- What a statement of the text puts there, by its operands.
 -- Source: unprivileged manual, "RV32/64G Instruction Set Listings"; assembly programmer's manual, "Pseudoinstructions".
-use Rattle.std.specs.Prelude.{ℕ, Bool, true, false, ℤ, pos, negsuc, List, [], ◌∷◌, Option, Some, None, Result, Ok, Err, is_ok, if◌then◌else◌}
+use Rattle.std.specs.Prelude.{ℕ, Bool, ℤ, pos, negsuc, List, [], ◌∷◌, Option, Some, None, Result, Ok, Err, is_ok, if◌then◌else◌}
 use Rattle.std.specs.Int.{w32}
 use Rattle.rv_isa.specs.declared.kinds.OpKind.{OpKind}
 use Rattle.rv_isa.specs.declared.kinds.ImmediateKind.{ImmediateKind}

@@ -1,5 +1,5 @@
 -- What an assembled program is: its entry, its pages, its words and the bytes of its data.
-use Rattle.std.specs.Prelude.{◌≡◌, ℕ, ◌+◌, ◌-◌, ◌*◌, ◌/◌, ◌==◌, nat_lt, List, ◌++◌, length, map, take, drop, codes, Option, Some, None, Result, Ok, Err, if◌then◌else◌, Bool, true, false}
+use Rattle.std.specs.Prelude.{◌≡◌, ℕ, ◌+◌, ◌*◌, ◌/◌, ◌==◌, nat_lt, List, ◌++◌, length, map, take, drop, codes, Option, Some, None, Result, Ok, Err, Bool, true, false}
 use Rattle.std.specs.List.{range_with_len}
 use Rattle.page_memory.specs.declared.rights.Rights.{Rights}
 use Rattle.elf_image.specs.declared.image.ImagePage.{ImagePage}
@@ -12,7 +12,7 @@ use Rattle.rv_asm.specs.declared.place.Place.{Place}
 use Rattle.rv_asm.specs.declared.item.Item.{Item}
 use Rattle.rv_asm.specs.Steps.{FaultAt, chained, mapped}
 use Rattle.rv_asm.specs.Program.{size, place_of, section_start}
-use Rattle.rv_asm.specs.FirstPass.{Progress, first_pass}
+use Rattle.rv_asm.specs.FirstPass.{first_pass}
 use Rattle.rv_asm.specs.SecondPass.{Sections, second_pass}
 use Rattle.rv_asm.specs.Words.{Spell, instruction_of}
 

@@ -1,21 +1,15 @@
 -- The names of the statements.
 -- Source: unprivileged manual, "RV32/64G Instruction Set Listings"; assembly programmer's manual, "Pseudoinstructions".
 -- LR.W and SC.W are not among them.
-use Rattle.std.specs.Prelude.{ℕ, Bool, true, false, List, [], ◌∷◌, ◌++◌, ◌==◌, Option, Some, None, option_map, codes}
+use Rattle.std.specs.Prelude.{ℕ, Bool, true, false, List, [], ◌∷◌, ◌==◌, Option, option_map, codes}
 use Rattle.std.specs.Option.{option_or, option_zip}
 use Rattle.std.specs.List.{before_first, after_first}
 use Rattle.rv_asm.specs.Names.{named}
-use Rattle.rv_isa.specs.declared.kinds.OpKind.{OpKind}
 use Rattle.rv_isa.specs.declared.kinds.OpKind.TheVariants.{Add, Sub, Sll, Slt, Sltu, Xor, Srl, Sra, Or, And, Mul, Mulh, Mulhsu, Mulhu, Div, Divu, Rem, Remu}
-use Rattle.rv_isa.specs.declared.kinds.ImmediateKind.{ImmediateKind}
 use Rattle.rv_isa.specs.declared.kinds.ImmediateKind.TheVariants.{Addi, Slti, Sltiu, Xori, Ori, Andi}
-use Rattle.rv_isa.specs.declared.kinds.ShiftKind.{ShiftKind}
 use Rattle.rv_isa.specs.declared.kinds.ShiftKind.TheVariants.{Slli, Srli, Srai}
-use Rattle.rv_isa.specs.declared.kinds.LoadKind.{LoadKind}
 use Rattle.rv_isa.specs.declared.kinds.LoadKind.TheVariants.{Lb, Lh, Lw, Lbu, Lhu}
-use Rattle.rv_isa.specs.declared.kinds.StoreKind.{StoreKind}
 use Rattle.rv_isa.specs.declared.kinds.StoreKind.TheVariants.{Sb, Sh, Sw}
-use Rattle.rv_isa.specs.declared.kinds.BranchKind.{BranchKind}
 use Rattle.rv_isa.specs.declared.kinds.BranchKind.TheVariants.{Beq, Bne, Blt, Bge, Bltu, Bgeu}
 use Rattle.rv_isa.specs.declared.kinds.AmoKind.{AmoKind}
 use Rattle.rv_isa.specs.declared.kinds.AmoKind.TheVariants.{Amoadd, Amoswap, Amoxor, Amoor, Amoand, Amomin, Amomax, Amominu, Amomaxu}

@@ -1,5 +1,5 @@
 -- A program: labels and what is put into the two sections, in the order of the source; and its addresses.
-use Rattle.std.specs.Prelude.{ℕ, ◌+◌, ◌*◌, ◌/◌, Bool, true, false, List, [], ◌∷◌, ◌++◌, Option, Some, None, option_map, if◌then◌else◌}
+use Rattle.std.specs.Prelude.{ℕ, ◌+◌, ◌*◌, ◌/◌, List, [], ◌∷◌, Option, Some, None, option_map, if◌then◌else◌}
 use Rattle.std.specs.Str.{bytes_eq}
 use Rattle.rv_asm.specs.declared.section.Section.{Section}
 use Rattle.rv_asm.specs.declared.section.Section.TheVariants.{Text, Data}

@@ -1,9 +1,8 @@
 -- The two parts of a word make the word, and each fits its field.
-use Rattle.std.proofs.Common.{◌≡◌, ℕ, suc, ◌+◌, ◌-◌, ◌*◌, ◌/◌, ◌%◌, ◌^◌, ◌<◌, ◌≤◌, ℤ, pos, negsuc, ◌+ℤ◌, ◌-ℤ◌, ◌⊎◌, inl, inr, Bool, true, false, cond, Ok, Err, int_le, arith, refl, sym, ap, ◌∙◌}
+use Rattle.std.proofs.Common.{◌≡◌, ℕ, suc, ◌+◌, ◌-◌, ◌*◌, ◌%◌, ◌^◌, ◌<◌, ◌≤◌, ℤ, pos, negsuc, ◌+ℤ◌, ◌⊎◌, inl, inr, Bool, true, false, cond, Ok, Err, int_le, arith, refl, sym, ap}
 use Rattle.std.specs.Int.{w32, cast_unsigned}
 use Rattle.std.proofs.Math.Decide.{dec_lt}
 use Rattle.std.proofs.lemmas.Int.{ints}
-use Rattle.rv_isa.specs.Bits.{signed}
 use Rattle.rv_isa.specs.BitsLaws.{signed-small, signed-large}
 use Rattle.rv_isa.specs.Operands.{IsImmediate}
 use Rattle.rv_asm.specs.declared.fault.FaultKind.TheVariants.{Range as OutOfRange}

@@ -1,5 +1,5 @@
 -- The words of a text: what each is as a number, and whose instruction's.
-use Rattle.std.specs.Prelude.{◌≡◌, ℕ, List, [], ◌∷◌, ◌++◌, map, Option, Some, None}
+use Rattle.std.specs.Prelude.{◌≡◌, ℕ, List, [], ◌∷◌, map, Option, Some, None}
 use Rattle.rv_isa.specs.Table.{Agrees}
 use Rattle.rv_isa.specs.declared.instruction.Insn.{Insn}
 use Rattle.rv_asm.specs.declared.word.TextWord.{TextWord}

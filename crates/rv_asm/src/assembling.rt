@@ -1,11 +1,13 @@
 //! From a source to its listing.
 
-ghost use Rattle.std.specs.Prelude.{◌≡◌, ◌<◌, IfOk, IfErr, Ok};
+ghost use Rattle.std.specs.Prelude.{◌≡◌, ◌<◌, IfOk, IfErr, Ok, Err, ℕ, ◌⊎◌};
 ghost use Rattle.rv_asm.specs.Steps.{Fails};
 ghost use Rattle.rv_asm.specs.Program.{size};
 ghost use Rattle.rv_asm.specs.declared.section.Section.TheVariants.{Text};
 ghost use Rattle.rv_asm.specs.SecondPass.{second_pass};
-ghost use Rattle.rv_asm.specs.Assembly.{Assembles, IsFirstFault};
+ghost use Rattle.rv_asm.specs.declared.fault.AsmError.{AsmError};
+ghost use Rattle.rv_asm.specs.declared.fault.FaultKind.{FaultKind};
+ghost use Rattle.rv_asm.specs.Assembly.{Assembles, FirstFault, IsFirstFault};
 ghost use Rattle.rv_asm.specs.Listing.{Lists, ListsTold, assembled};
 
 use crate::fault::{AsmError, FaultKind};
@@ -34,6 +36,7 @@ const PAGE_SIZE: u32 = 4096;
 pub fn assemble(alloc: Global, source: &str) -> Result<Listing, AsmError>
     ensures listing { IfOk result (Assembles source.now) }
     ensures refusal { IfErr result (IsFirstFault source.now) }
+    ensures exact { (line : ℕ) (kind : FaultKind) → FirstFault source.now line kind → (result ≡ Err (AsmError.Fault line kind)) ⊎ (result ≡ Err AsmError.NoMemory) }
 {
     assemble_in_passes(alloc, source)
 }

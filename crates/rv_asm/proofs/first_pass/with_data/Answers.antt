@@ -1,9 +1,7 @@
-use Rattle.std.proofs.Common.{◌≡◌, ◌∙◌, ap, sym, map, List, ℕ, arith}
+use Rattle.std.proofs.Common.{◌∙◌, ap, sym, map, arith}
 use Rattle.std.specs.Vec.Iter.{into_iter_items}
 use Rattle.std.proofs.lemmas.Result.{err_from_is_err_and}
-use Rattle.rv_asm.specs.Faults.{Refuses}
-use Rattle.rv_asm.specs.FirstPass.{with_labels, with_items}
-use Rattle.rv_asm.specs.declared.item.Item.TheVariants.{InText, InData}
+use Rattle.rv_asm.specs.declared.item.Item.TheVariants.{InData}
 use Rattle.rv_asm.proofs.FirstLoops.{items_refuse, items_end, no_items}
 use Rattle.rv_asm.proofs.first_pass.with_data.Goals as goal
 

@@ -1,7 +1,7 @@
 use Rattle.std.proofs.Common.{◌≡◌, map}
 use Rattle.std.specs.Vec.Iter.{into_iter_items}
-use Rattle.rv_asm.specs.FirstPass.{with_labels, with_items}
-use Rattle.rv_asm.specs.declared.item.Item.TheVariants.{InText, InData}
+use Rattle.rv_asm.specs.FirstPass.{with_items}
+use Rattle.rv_asm.specs.declared.item.Item.TheVariants.{InData}
 use Rattle.rv_asm.proofs.first_pass.with_data.Given as goal
 
 abbrev pub invariant-loop-datum : goal.invariant-loop-datum

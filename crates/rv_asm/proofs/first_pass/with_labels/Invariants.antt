@@ -1,7 +1,6 @@
-use Rattle.std.proofs.Common.{◌≡◌, map}
+use Rattle.std.proofs.Common.{◌≡◌}
 use Rattle.std.specs.Vec.Iter.{into_iter_items}
-use Rattle.rv_asm.specs.FirstPass.{with_labels, with_items}
-use Rattle.rv_asm.specs.declared.item.Item.TheVariants.{InText, InData}
+use Rattle.rv_asm.specs.FirstPass.{with_labels}
 use Rattle.rv_asm.proofs.first_pass.with_labels.Given as goal
 
 abbrev pub invariant-loop-name : goal.invariant-loop-name

@@ -1,4 +1,4 @@
-use Rattle.std.proofs.Common.{◌≡◌, ◌∙◌, ◌+◌, ◌-◌, ◌*◌, ap, take, drop}
+use Rattle.std.proofs.Common.{◌∙◌, ◌+◌, ◌-◌, ◌*◌, ap, take, drop}
 use Rattle.elf_image.specs.Image.{filled}
 use Rattle.rv_asm.proofs.PageCuts.{page_cut}
 use Rattle.rv_asm.proofs.pages.page_of_bytes.Goals as goal

@@ -1,4 +1,4 @@
-use Rattle.std.proofs.Common.{◌≡◌, ◌∙◌, ap, replicate}
+use Rattle.std.proofs.Common.{◌∙◌, ap}
 use Rattle.page_memory.specs.Memory.{Page, overwritten}
 use Rattle.rv_asm.proofs.PageCuts.{written_first}
 use Rattle.rv_asm.proofs.pages.page_with_bytes.Goals as goal

@@ -1,5 +1,3 @@
-use Rattle.std.proofs.Common.{rules, ◌≡◌, ℕ, List, refl, arith, ap, ◌∙◌, sym}
-use Rattle.rv_asm.specs.Program.{place_of, size}
 use Rattle.rv_asm.proofs.Places.{counted_none}
 use Rattle.rv_asm.proofs.program.Program.new.Goals as goal
 

@@ -1,6 +1,4 @@
-use Rattle.std.proofs.Common.{◌≡◌, ◌∙◌, ap}
-use Rattle.rv_asm.specs.Program.{place_of}
-use Rattle.rv_asm.specs.FirstPass.{Progress}
+use Rattle.std.proofs.Common.{◌∙◌}
 use Rattle.rv_asm.proofs.Places.{place_low}
 use Rattle.rv_asm.proofs.program.Program.place.Goals as goal
 

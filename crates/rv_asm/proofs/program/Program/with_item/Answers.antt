@@ -1,5 +1,4 @@
-use Rattle.std.proofs.Common.{rules, ◌≡◌, ℕ, List, refl, arith, ap, ◌∙◌, sym, true, false, inl, inr}
-use Rattle.rv_asm.specs.Program.{place_of, size}
+use Rattle.std.proofs.Common.{arith, inl, inr}
 use Rattle.rv_asm.proofs.Places.{counted_item}
 use Rattle.rv_asm.proofs.FirstSteps.{item_added, item_refused}
 use Rattle.rv_asm.proofs.program.Program.with_item.Goals as goal

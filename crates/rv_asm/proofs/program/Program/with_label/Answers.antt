@@ -1,4 +1,4 @@
-use Rattle.std.proofs.Common.{rules, ◌≡◌, ℕ, List, refl, arith, ap, ◌∙◌, sym, true, false, None}
+use Rattle.std.proofs.Common.{ap, ◌∙◌, sym}
 use Rattle.std.specs.Prelude.{is_some}
 use Rattle.rv_asm.specs.Program.{place_of, size}
 use Rattle.rv_asm.specs.FirstPass.{Progress}

@@ -1,4 +1,4 @@
-use Rattle.std.proofs.Common.{◌≡◌, ◌∙◌, ap, length, sym, arith}
+use Rattle.std.proofs.Common.{ap, length, arith}
 use Rattle.rv_asm.specs.SecondPass.{Sections}
 use Rattle.rv_asm.proofs.Spelling.{spell_length}
 use Rattle.rv_asm.proofs.sections.Sections.count.Goals as goal

@@ -1,5 +1,3 @@
-use Rattle.std.proofs.Common.{◌≡◌, ◌∙◌, ap}
-use Rattle.rv_asm.specs.SecondPass.{no_sections}
 use Rattle.rv_asm.proofs.Spelling.{are_none, none_from}
 use Rattle.rv_asm.proofs.sections.Sections.new.Goals as goal
 

@@ -1,4 +1,4 @@
-use Rattle.std.proofs.Common.{◌≡◌, ◌∙◌, ap, ◌++◌, ◌∷◌, []}
+use Rattle.std.proofs.Common.{◌∙◌, ap, ◌++◌, ◌∷◌, []}
 use Rattle.rv_asm.specs.SecondPass.{Sections}
 use Rattle.rv_asm.proofs.Spelling.{are_more, words_more}
 use Rattle.rv_asm.proofs.sections.Sections.with_word.Goals as goal

@@ -1,8 +1,8 @@
-use Rattle.std.proofs.Common.{rules, arith, ◌≡◌, ◌<◌, ◌≤◌, ◌∷◌, [], ◌++◌, Ok, Err, length, get_or}
+use Rattle.std.proofs.Common.{arith, ◌≡◌, ◌<◌, ◌≤◌, ◌∷◌, [], ◌++◌, Ok, Err, length}
 use Rattle.std.proofs.lemmas.Grind.{common_steps}
 use Rattle.rv_asm.specs.declared.fault.FaultKind.{FaultKind}
 use Rattle.rv_asm.specs.Directives.{each_of, text_word}
-use Rattle.rv_asm.proofs.ListLemmas.{continued, starts, goes_on, stops, ends}
+use Rattle.rv_asm.proofs.ListLemmas.{starts, goes_on, stops, ends}
 use Rattle.rv_asm.proofs.statements.data.each_text_word.Goals as goal
 
 pub loop-operand-init : goal.loop-operand-init

@@ -1,4 +1,5 @@
 pub mod Cutting
+pub mod Entries
 pub mod EscapeLemmas
 pub mod FirstLoops
 pub mod FirstSteps

@@ -32,7 +32,7 @@ use Rattle.rv_asm.proofs.PartLaws.{holds, StopsAt, stops}
 
 -- ---- labels
 
-place_label : (front back : List Item) (section : Section) (name : List ℕ) → Distinct (front ++ Label section name ∷ back) → place_of (front ++ Label section name ∷ back) name ≡ Some (record { section = section; offset = size section front })
+pub place_label : (front back : List Item) (section : Section) (name : List ℕ) → Distinct (front ++ Label section name ∷ back) → place_of (front ++ Label section name ∷ back) name ≡ Some (record { section = section; offset = size section front })
 unfolding place_of size Distinct
 place_label [] back section name d = rw ((bytes_eq-Decides name name).1 refl) refl
 place_label (Label s other ∷ front) back section name d = by_test (bytes_eq other name) refl (place_label front back section name d.1)

@@ -1,5 +1,5 @@
 -- The two passes meet the relation.
-use Rattle.std.proofs.Common.{◌≡◌, ℕ, ◌+◌, ◌<◌, List, length, Bool, true, false, ◌==◌, Result, Ok, Err, refl, ◌∙◌, subst, arith, zero-add}
+use Rattle.std.proofs.Common.{ap, ◌≡◌, ℕ, ◌+◌, ◌<◌, List, length, Bool, true, false, ◌==◌, Result, Ok, Err, refl, ◌∙◌, subst, arith, zero-add}
 use Rattle.std.proofs.lemmas.Bool.Decides.{nat_tests}
 use Rattle.rv_asm.specs.declared.fault.AsmError.{AsmError}
 use Rattle.rv_asm.specs.declared.fault.AsmError.TheVariants.{Fault, NoMemory}
@@ -13,6 +13,9 @@ use Rattle.rv_asm.specs.FirstPass.{Progress, no_lines, with_lines, first_pass}
 use Rattle.rv_asm.specs.SecondPass.{Sections, second_pass}
 use Rattle.rv_asm.specs.Listing.{Assembly, ListingContent, ListsTold, unless_empty, laid_out, assembled}
 use Rattle.rv_asm.specs.Assembly.{HasProgram, Holds, Assembles, FirstFault, in_line, no_text, in_part, IsFirstFault}
+use Rattle.elf_image.specs.Image.{ImageContent}
+use Rattle.rv_asm.specs.Listing.{Lists, entry_of, image_of}
+use Rattle.rv_asm.proofs.Entries.{enters}
 use Rattle.rv_asm.proofs.LineLaws.{LinesSaid, lines_said, program_read}
 use Rattle.rv_asm.proofs.PartLaws.{holds, stops}
 
@@ -49,6 +52,10 @@ said source = by_lines (with_lines 0 no_lines (lines_of source)) (lines_said 0 n
         let program = program_read stop.good stop.m stop.read in
         in_line stop.good stop.bad stop.below stop.m.section stop.m.items stop.cut program (stop.number ∙ zero-add (length stop.good + 1)) (stop.wrong program.distinct)
 
+entry_listed : (assembly : Assembly) (listing : ListingContent) → Lists assembly listing → listing.image.entry ≡ entry_of assembly.items
+unfolding image_of
+entry_listed assembly listing l = ap (λ (image : ImageContent). image.entry) l.image
+
 pub assembles : (source : List ℕ) (listing : ListingContent) → ListsTold (assembled source) listing → Assembles source listing
 assembles source listing lists = by_told (assembled source) (said source) lists
   where
@@ -61,6 +68,7 @@ assembles source listing lists = by_told (assembled source) (said source) lists
       program = s.program;
       some = s.some;
       holds = s.holds;
+      enters = enters assembly.items listing.image.entry s.program.distinct (entry_listed assembly listing l);
       lists = l;
     }
     by_told (Err fault) s l = absurd l

@@ -1,7 +1,7 @@
 -- The assembler as a relation between a source, its program and a listing, and the first fault of a source. It stands apart
 -- from any pass over the source: a program is what the lines say, a label's address is its section's start and the sizes of
 -- what stands before it in that section, and each part's words stand at the address of the part.
-use Rattle.std.specs.Prelude.{◌≡◌, ℕ, ◌+◌, ◌*◌, ◌<◌, ◌≤◌, ℤ, pos, ◌-ℤ◌, ◌+ℤ◌, ⊤, List, [], ◌∷◌, ◌++◌, length, map, replicate, Option, Some, None, Ok, Err}
+use Rattle.std.specs.Prelude.{◌≡◌, ℕ, ◌+◌, ◌*◌, ◌<◌, ◌≤◌, ℤ, pos, ◌-ℤ◌, ◌+ℤ◌, ⊤, List, [], ◌∷◌, ◌++◌, length, map, replicate, Option, Some, None, Ok, Err, codes}
 use Rattle.byteorder.specs.Endian.{little_bytes}
 use Rattle.rv_isa.specs.Operands.{IsImmediate, IsBranchOffset, IsJumpOffset}
 use Rattle.rv_isa.specs.declared.instruction.Insn.TheVariants.{Lui, OpImmediate, Jal, Branch as BranchInsn}
@@ -147,6 +147,11 @@ pub record Holds (items : List Item) (text : List TextWord) (bytes : List ℕ) :
   pub text_size : 4 * length text ≡ size Text items
   pub data_size : length bytes ≡ size Data items
 
+-- the entry is where the label `_start` stands, if it stands in the text before its end; else it is where the text begins
+pub record EntersAt (items : List Item) (entry : ℕ) : Type 0 where
+  pub labelled : (front back : List Item) → items ≡ front ++ Label Text (codes "_start") ∷ back → size Text front < size Text items → entry ≡ 0x10000 + size Text front
+  pub unlabelled : ((front back : List Item) → items ≡ front ++ Label Text (codes "_start") ∷ back → size Text front < size Text items → ⊥) → entry ≡ 0x10000
+
 -- a source assembles to a listing
 pub record Assembles (source : List ℕ) (listing : ListingContent) : Type 0 where
   pub section : Section
@@ -156,6 +161,7 @@ pub record Assembles (source : List ℕ) (listing : ListingContent) : Type 0 whe
   pub program : HasProgram (lines_of source) section items
   pub some : 0 < size Text items
   pub holds : Holds items text bytes
+  pub enters : EntersAt items listing.image.entry
   pub lists : Lists (record { items = items; sections = record { text = text; bytes = bytes } }) listing
 
 -- ---- faults

@@ -24,6 +24,8 @@ mod sections;
 mod source;
 mod span;
 mod statements;
+#[cfg(test)]
+mod tests;
 mod word;
 
 pub use assembling::assemble;

@@ -1,0 +1,53 @@
+//! A whole source, and the first fault of some.
+
+use super::*;
+use std::test::Fail;
+
+/// The line and the number of a source's first fault.
+fn first_fault(rt: &HostRuntime, source: &str) -> Option<(usize, u8)> {
+    match assemble(rt.alloc(), source) {
+        Err(AsmError::Fault { line, kind }) => Some((line, kind.number())),
+        _ => None,
+    }
+}
+
+#[test]
+fn sources_have_a_first_fault(rt: HostRuntime) {
+    let table = [
+        ("nop $", (1, 1)),
+        ("foo t0", (1, 2)),
+        ("addi t0, t0", (1, 3)),
+        ("addi t0, t0, 2048", (1, 4)),
+        ("a: a: nop", (1, 5)),
+        ("j away", (1, 6)),
+        ("", (0, 8)),
+        (".data\n.word 1", (0, 8)),
+        ("nop\nnop $", (2, 1)),
+        ("j away\nnop $", (2, 1)),
+    ];
+    for (source, fault) in table {
+        assert_eq!(rt; first_fault(&rt, source), Some(fault), "{source}");
+    }
+}
+
+/// A program with both sections: `la` of a label of the data, and a branch back.
+#[test]
+fn program_has_both_sections(rt: HostRuntime) -> Result<(), Fail> {
+    let source =
+        "nop\n_start: la a0, here\nbeqz a0, _start\n.word here\n.data\n.byte 1\nhere: .half 2\n";
+    let listing = assemble(rt.alloc(), source).ok().ok_or("no listing")?;
+    let words = [
+        0x0000_0013,
+        0x0001_1537,
+        0x0015_0513,
+        0xFE05_0CE3,
+        0x0001_1001,
+    ];
+    assert_eq!(rt; listing.words(), words.as_slice());
+    assert_eq!(rt; listing.instructions().len(), 5);
+    assert_eq!(rt; listing.instructions()[4], None);
+    assert_eq!(rt; listing.data_bytes(), 3);
+    assert_eq!(rt; listing.image().entry(), 0x0001_0004);
+    assert_eq!(rt; listing.image().pages().len(), 2);
+    Ok(())
+}

@@ -1,4 +1,4 @@
-//! Runs guests of `examples/` and shows how each one goes. They are copied into `data/`, and the gate compares the copies.
+//! Runs guests and shows how each one goes. They stand in `data/`, which `examples` at the top of the repository leads to.
 #![tactic(auto)]
 
 use paged_cli::run_paged;

@@ -4,7 +4,7 @@ use Rattle.std.specs.List.{range_with_len, list_any, filter}
 use Rattle.std.proofs.lemmas.List.FromFn.{get_or-map-range_with_len, length-map-range_with_len, map-range_with_len_more, filter_of_map_range_with_len_more}
 use Rattle.std.proofs.lemmas.List.Folds.{list_any-append, list_any_at}
 use Rattle.elf_image.specs.declared.program_header.ProgramHeader.{ProgramHeader}
-use Rattle.elf_image.specs.declared.header_tests.HeaderTest.TheVariants.{IsDynamic, IsOutOfFile, IsLargerInFile, IsOutOfRange}
+use Rattle.elf_image.specs.declared.header_checks.HeaderTest.TheVariants.{IsDynamic, IsOutOfFile, IsLargerInFile, IsOutOfRange}
 use Rattle.elf_image.specs.declared.fault.ElfFault.TheVariants.{Dynamic, SegmentOutOfFile, SizeOrder, Range}
 use Rattle.elf_image.specs.ElfFiles.{header_at, headers_offset, headers_count, program_headers, load_headers, segments, program_fault, is_load, is_dynamic, is_out_of_file, is_larger_in_file, is_out_of_range}
 use Rattle.elf_image.specs.HeaderTests.{fails}

@@ -1,7 +1,7 @@
 -- The tests of program headers by name, as the code goes through the headers for each.
 use Rattle.std.specs.Prelude.{ℕ, Bool, ◌&&◌}
-use Rattle.elf_image.specs.declared.header_tests.HeaderTest.{HeaderTest}
-use Rattle.elf_image.specs.declared.header_tests.HeaderTest.TheVariants.{IsDynamic, IsOutOfFile, IsLargerInFile, IsOutOfRange}
+use Rattle.elf_image.specs.declared.header_checks.HeaderTest.{HeaderTest}
+use Rattle.elf_image.specs.declared.header_checks.HeaderTest.TheVariants.{IsDynamic, IsOutOfFile, IsLargerInFile, IsOutOfRange}
 use Rattle.elf_image.specs.declared.program_header.ProgramHeader.{ProgramHeader}
 use Rattle.elf_image.specs.ElfFiles.{is_load, is_dynamic, is_out_of_file, is_larger_in_file, is_out_of_range}
 

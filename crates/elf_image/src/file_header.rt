@@ -2,19 +2,11 @@ ghost use Rattle.std.specs.Prelude.{◌≡◌, ◌+◌, ◌≤◌, length, slice
 ghost use Rattle.elf_image.specs.ElfFiles.{half_at, word_at, is_short, is_not_elf, is_wrong_class, is_wrong_type, is_wrong_machine, has_flags, has_no_headers, headers_count, headers_offset, header_fault};
 
 use crate::fault::ElfFault;
+use crate::format::{EXECUTABLE_FILE, HEADER_SIZE, PROGRAM_HEADER_SIZE, RISC_V, VERSION};
 use byteorder::{ByteOrder, LittleEndian};
-
-/// How many bytes the ELF header has.
-const HEADER_SIZE: usize = 52;
-
-/// How many bytes a program header has.
-pub(crate) const PROGRAM_HEADER_SIZE: usize = 32;
 
 /// The first four bytes of an ELF file.
 const MAGIC: u32 = 0x464C_457F;
-
-/// `e_machine` of RISC-V.
-const RISC_V: u16 = 243;
 
 /// Bits of `e_flags` that ask for what this machine does not have: compressed instructions, a
 /// floating-point ABI, RVE.
@@ -107,7 +99,7 @@ fn is_wrong_type(file: &[u8]) -> bool
     requires { 52 ≤ length file.now }
     ensures { result ≡ is_wrong_type file.now }
 {
-    !(half_at(file, 16) == 2 && word_at(file, 20) == 1)
+    !(half_at(file, 16) == EXECUTABLE_FILE && word_at(file, 20) == VERSION)
 }
 
 /// Whether it is for another machine than RISC-V.
@@ -133,5 +125,5 @@ fn has_no_headers(file: &[u8]) -> bool
 {
     let count = headers_count(file) as usize;
     let end = headers_offset(file) as usize + PROGRAM_HEADER_SIZE * count;
-    count > 0 && (half_at(file, 42) != 32 || end > file.len())
+    count > 0 && (half_at(file, 42) as usize != PROGRAM_HEADER_SIZE || end > file.len())
 }

@@ -2,9 +2,11 @@
 //! and back.
 #![tactic(auto)]
 
+mod bounds;
 mod fault;
 mod file_header;
-mod header_tests;
+mod format;
+mod header_checks;
 mod image;
 mod loading;
 mod parts;
@@ -24,5 +26,6 @@ mod written_law;
 pub use fault::ElfFault;
 pub use image::{Image, ImagePage};
 pub use read::read_elf;
+pub use words::TEXT_START;
 pub use writing::write_elf;
 pub use written_law::written_files_are_read_back;

@@ -3,19 +3,13 @@ ghost use Rattle.std.specs.List.{All, AllPairs, list_any};
 ghost use Rattle.elf_image.specs.ElfFiles.{end_of, touches, fills, filled_byte, loaded_byte, bytes_between, loaded_page};
 ghost use Rattle.elf_image.specs.Segments.{IsSound, has_flag, given_rights};
 
+use crate::format::{EXECUTABLE, READABLE, WRITABLE};
 use crate::image::ImagePage;
 use crate::program_header::ProgramHeader;
 use crate::touched::touching;
 use bitflags::Flags;
-use page_memory::{Page, Rights};
+use page_memory::{PAGE_SIZE, Page, Rights};
 use std::alloc::{AllocError, Global};
-
-/// The bits of `p_flags`.
-const EXECUTABLE: u32 = 1;
-
-const WRITABLE: u32 = 2;
-
-const READABLE: u32 = 4;
 
 /// The pages of these numbers, as segments load them.
 pub(crate) fn load_pages(
@@ -94,10 +88,10 @@ fn copy(file: &[u8], segment: &ProgramHeader, number: u32, page: &mut Page)
     ensures rights { page.new.rights ≡ page.old.rights }
     ensures bytes { (f : ℕ → ℕ) → page.old.bytes ≡ bytes_between f (4096 * number) 4096 → page.new.bytes ≡ bytes_between (λ address. cond (fills address segment.now) (filled_byte file.now address segment.now) (f address)) (4096 * number) 4096 }
 {
-    let page_start = 4096 * u64::from(number);
+    let page_start = PAGE_SIZE as u64 * u64::from(number);
     let address = u64::from(segment.address);
     let start = address.max(page_start);
-    let end = (address + u64::from(segment.file_size)).min(page_start + 4096);
+    let end = (address + u64::from(segment.file_size)).min(page_start + PAGE_SIZE as u64);
     if start < end {
         let from = segment.offset as usize + (start - address) as usize;
         let count = (end - start) as usize;

@@ -3,21 +3,10 @@ ghost use Rattle.std.specs.Result.{result_err};
 ghost use Rattle.elf_image.specs.Parts.{image_of_parts, parts_fault, too_high, rising, entered, readable_page};
 ghost use Rattle.elf_image.specs.Regions.{regions};
 
+use crate::bounds::{END_PAGE, MOST_PAGES, MOST_REGIONS, REGION_PAGES};
 use crate::fault::ElfFault;
 use crate::image::{Image, ImagePage};
 use page_memory::{Access, page_of};
-
-/// The number of the first page that no image may have.
-const END_PAGE: u32 = 0x7_0000;
-
-/// The most pages that an image may have.
-const MOST_PAGES: usize = 4032;
-
-/// The most regions of 4 MiB in which these may lie.
-const MOST_REGIONS: usize = 56;
-
-/// How many pages lie in a region of 4 MiB.
-const REGION_PAGES: u32 = 1024;
 
 impl Image {
     /// The image of an entry and pages by rising number, where a page that may be written may be

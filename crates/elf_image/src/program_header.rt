@@ -2,6 +2,8 @@ ghost use Rattle.std.specs.Prelude.{◌≡◌, ◌+◌, ◌/◌, ◌≤◌, leng
 ghost use Rattle.elf_image.specs.ElfFiles.{header_at, is_load, is_dynamic, is_out_of_file, is_larger_in_file, is_out_of_range, end_of};
 
 use crate::file_header::word_at;
+use crate::format::{DYNAMIC, INTERPRETER, LOAD};
+use page_memory::PAGE_SIZE;
 
 /// What a program header of an ELF file says of a segment.
 #[derive(Clone, Copy, PartialEq, Eq, Debug)]
@@ -19,14 +21,6 @@ pub struct ProgramHeader {
     /// `p_flags`.
     pub flags: u32,
 }
-
-/// `p_type` of a segment that is loaded.
-const LOAD: u32 = 1;
-
-/// `p_type` of the tables for a dynamic linker, and of its name.
-const DYNAMIC: u32 = 2;
-
-const INTERPRETER: u32 = 3;
 
 /// The first address that no image may have.
 const END_OF_RANGE: u64 = 0x7000_0000;
@@ -96,7 +90,7 @@ impl ProgramHeader {
     pub(crate) fn first_page(&self) -> u32
         ensures { result ≡ self.now.address / 4096 }
     {
-        self.address / 4096
+        self.address / PAGE_SIZE as u32
     }
 
     /// The number of the first page behind it.
@@ -104,6 +98,6 @@ impl ProgramHeader {
         requires { end_of self.now ≤ 0x7000_0000 }
         ensures { result ≡ (end_of self.now + 4095) / 4096 }
     {
-        ((self.end() + 4095) / 4096) as u32
+        self.end().div_ceil(PAGE_SIZE as u64) as u32
     }
 }

@@ -6,7 +6,7 @@ ghost use Rattle.elf_image.specs.declared.fault.ElfFault.TheVariants.{NoMemory};
 
 use crate::fault::ElfFault;
 use crate::file_header::{entry, header_fault};
-use crate::header_tests::program_fault;
+use crate::header_checks::program_fault;
 use crate::image::Image;
 use crate::loading::load_pages;
 use crate::program_header::ProgramHeader;

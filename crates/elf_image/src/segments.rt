@@ -4,7 +4,8 @@ ghost use Rattle.std.specs.List.Sorted.{IsPermutation, IsNonDecreasingBy};
 ghost use Rattle.elf_image.specs.ElfFiles.{headers_offset, headers_count, segments, overlap};
 ghost use Rattle.elf_image.specs.Segments.{is_segment};
 
-use crate::file_header::{PROGRAM_HEADER_SIZE, headers_count, headers_offset};
+use crate::file_header::{headers_count, headers_offset};
+use crate::format::PROGRAM_HEADER_SIZE;
 use crate::program_header::ProgramHeader;
 use std::alloc::{AllocError, Global};
 

@@ -3,12 +3,11 @@ ghost use Rattle.std.specs.List.{All, AllPairs, range_with_len, filter};
 ghost use Rattle.elf_image.specs.ElfFiles.{end_of, touches, touched_pages};
 ghost use Rattle.elf_image.specs.Segments.{TouchTooMany};
 
+use crate::bounds::MOST_PAGES;
 use crate::fault::ElfFault;
 use crate::program_header::ProgramHeader;
+use page_memory::PAGE_SIZE;
 use std::alloc::{AllocError, Global};
-
-/// The most pages that an image may have.
-const MOST_PAGES: usize = 4032;
 
 /// The numbers of the pages that segments touch, by rising number, where these are at most 4032.
 pub(crate) fn touched_pages(alloc: Global, loaded: &[ProgramHeader]) -> Result<Vec<u32>, ElfFault>
@@ -51,9 +50,9 @@ pub(crate) fn touching(loaded: &[ProgramHeader], page: u32) -> &[ProgramHeader]
     requires apart { AllPairs (λ one other. end_of one ≤ other.address) loaded.now }
     ensures { result.now ≡ filter (touches page) loaded.now }
 {
-    let start = u64::from(page) * 4096;
+    let start = u64::from(page) * PAGE_SIZE as u64;
     let before = loaded.partition_point(|segment| segment.end() <= start);
     let rest = &loaded[before..];
-    let count = rest.partition_point(|segment| (segment.address as u64) < start + 4096);
+    let count = rest.partition_point(|segment| (segment.address as u64) < start + PAGE_SIZE as u64);
     &rest[..count]
 }

@@ -3,22 +3,20 @@ ghost use Rattle.std.specs.List.{range_with_len};
 ghost use Rattle.elf_image.specs.Image.{image_of_words, word_page, word_pages, filled, bytes_of, most_words, readable_code};
 ghost use Rattle.elf_image.specs.declared.fault.ElfFault.{ElfFault};
 
+use crate::bounds::MOST_PAGES;
 use crate::fault::ElfFault;
 use crate::image::{Image, ImagePage};
 use page_memory::{Page, Rights, Width};
 use std::alloc::{AllocError, Global};
 
-/// The address at which an image of words begins, and which is its entry.
-const ENTRY: u32 = 0x1_0000;
+/// The address at which the words of a program begin that names none.
+pub const TEXT_START: u32 = 0x1_0000;
 
-/// The number of its first page.
+/// The number of its page.
 const FIRST_PAGE: u32 = 0x10;
 
 /// How many words a page holds.
 const PAGE_WORDS: usize = 1024;
-
-/// The most pages that an image may have.
-const MOST_PAGES: usize = 4032;
 
 impl Image {
     /// The image of a list of words: they stand from 0x00010000 on, in pages that may be read and
@@ -35,7 +33,7 @@ impl Image {
             return Err(ElfFault::EntryNotExecutable);
         }
         let pages = pages_of_words(alloc, words)?;
-        Ok(Image::new(ENTRY, pages))
+        Ok(Image::new(TEXT_START, pages))
     }
 }
 
@@ -45,7 +43,7 @@ fn pages_of_words(alloc: Global, words: &[u32]) -> Result<Vec<ImagePage>, AllocE
     ensures { IfOk result (λ pages. pages.items ≡ map (word_page words.now) (range_with_len 0 (word_pages words.now))) }
 {
     let mut pages = Vec::new(alloc);
-    for place in 0..(words.len() + PAGE_WORDS - 1) / PAGE_WORDS {
+    for place in 0..words.len().div_ceil(PAGE_WORDS) {
         pages.push(page_of_words(alloc, words, place)?)?;
     }
     Ok(pages)

@@ -1,9 +1,13 @@
-ghost use Rattle.std.specs.Prelude.{◌≡◌, ℕ, ◌+◌, ◌*◌, ◌<◌, ◌≤◌, ◌^◌, ◌++◌, [], length, flat_map, slice_index_or, IfOk, OnOk, List};
+ghost use Rattle.std.specs.Prelude.{◌≡◌, ℕ, ◌+◌, ◌*◌, ◌<◌, ◌≤◌, ◌^◌, ◌++◌, [], cond, length, flat_map, slice_index_or, IfOk, OnOk, List};
 ghost use Rattle.byteorder.specs.Endian.{little_bytes};
 ghost use Rattle.elf_image.specs.Image.{bytes_of};
 ghost use Rattle.elf_image.specs.WrittenFiles.{halves, file_header, flags_of, segment_header, page_bytes, elf_file, file_front, pages_offset, HasRoom};
 ghost use Rattle.elf_image.specs.declared.runs.Run.{Run};
 
+use crate::format::{
+    EXECUTABLE, EXECUTABLE_FILE, HEADER_SIZE, LOAD, PROGRAM_HEADER_SIZE, READABLE, RISC_V, VERSION,
+    WRITABLE,
+};
 use crate::image::{Image, ImagePage};
 use crate::runs::{Run, runs_of};
 use byteorder::{ByteOrder, LittleEndian};
@@ -24,14 +28,11 @@ pub fn write_elf(alloc: Global, image: &Image) -> Result<Vec<u8>, AllocError>
     Ok(file)
 }
 
-/// The bytes of an ELF header.
-const HEADER_SIZE: usize = 52;
-
-/// The bytes of a program header.
-const SEGMENT_HEADER_SIZE: usize = 32;
-
 /// `e_ident`: the magic number, 32 bits, little-endian, version 1.
 const IDENTIFICATION: [u8; 16] = [0x7F, 0x45, 0x4C, 0x46, 1, 1, 1, 0, 0, 0, 0, 0, 0, 0, 0, 0];
+
+/// The bytes of a page, and so `p_align`.
+const PAGE: u32 = PAGE_SIZE as u32;
 
 /// Appends a 16-bit number.
 fn put_half(file: &mut Vec<u8>, half: u16) -> Result<(), AllocError>
@@ -76,9 +77,19 @@ fn put_header(file: &mut Vec<u8>, entry: u32, count: u16) -> Result<(), AllocErr
     ensures { OnOk result (file.new.items ≡ file.old.items ++ file_header entry count) }
 {
     file.extend_from_slice(&IDENTIFICATION)?;
-    put_halves(file, &[2, 243])?;
-    put_words(file, &[1, entry, 52, 0, 0])?;
-    put_halves(file, &[52, 32, count, 0, 0, 0])
+    put_halves(file, &[EXECUTABLE_FILE, RISC_V])?;
+    put_words(file, &[VERSION, entry, HEADER_SIZE as u32, 0, 0])?;
+    put_halves(
+        file,
+        &[
+            HEADER_SIZE as u16,
+            PROGRAM_HEADER_SIZE as u16,
+            count,
+            0,
+            0,
+            0,
+        ],
+    )
 }
 
 /// `p_flags`.
@@ -86,10 +97,17 @@ fn put_header(file: &mut Vec<u8>, entry: u32, count: u16) -> Result<(), AllocErr
 fn flags_of(rights: Rights) -> u32
     ensures { result ≡ flags_of rights }
 {
-    let read = if rights.allow(Access::Load) { 4 } else { 0 };
-    let write = if rights.allow(Access::Store) { 2 } else { 0 };
-    let execute = if rights.allow(Access::Fetch) { 1 } else { 0 };
+    let read = flag_where(rights.allow(Access::Load), READABLE);
+    let write = flag_where(rights.allow(Access::Store), WRITABLE);
+    let execute = flag_where(rights.allow(Access::Fetch), EXECUTABLE);
     read + (write + execute)
+}
+
+/// A bit of `p_flags`, where it is to be set.
+fn flag_where(is_set: bool, flag: u32) -> u32
+    ensures { result ≡ cond is_set flag 0 }
+{
+    if is_set { flag } else { 0 }
 }
 
 /// Appends the program header of a run, where the pages' bytes begin at an offset.
@@ -97,13 +115,13 @@ fn put_segment_header(file: &mut Vec<u8>, start: u32, run: &Run) -> Result<(), A
     requires { HasRoom start run.now }
     ensures { OnOk result (file.new.items ≡ file.old.items ++ segment_header start run.now) }
 {
-    let offset = start + 4096 * run.place;
-    let address = 4096 * run.number;
-    let size = 4096 * run.count;
+    let offset = start + PAGE * run.place;
+    let address = PAGE * run.number;
+    let size = PAGE * run.count;
     let flags = flags_of(run.rights);
     put_words(
         file,
-        &[1, offset, address, address, size, size, flags, 4096],
+        &[LOAD, offset, address, address, size, size, flags, PAGE],
     )
 }
 
@@ -125,7 +143,7 @@ fn offset_of_pages(count: usize) -> usize
     ensures offset { result ≡ pages_offset count }
     ensures small { result < 2 ^ 24 }
 {
-    (HEADER_SIZE + SEGMENT_HEADER_SIZE * count + PAGE_SIZE - 1) / PAGE_SIZE * PAGE_SIZE
+    (HEADER_SIZE + PROGRAM_HEADER_SIZE * count + PAGE_SIZE - 1) / PAGE_SIZE * PAGE_SIZE
 }
 
 /// Writes what stands before the pages' bytes into an empty file.

@@ -1,7 +1,7 @@
 -- In which of the three ways a file holds an image.
 use Rattle.std.specs.Prelude.{◌≡◌, ℕ, List, [], ◌∷◌, IsTrue, nat_eq, take, codes}
 use Rattle.std.specs.List.{starts_with}
-use Rattle.paged_cli.specs.Lines.{lines_of}
+use Rattle.text_lines.specs.Text.{lines_of}
 
 -- the four bytes with which ELF files begin: 7F, then `ELF`
 abbrev pub BeginsAsElf : List ℕ → Type 0

@@ -2,7 +2,7 @@
 use Rattle.std.specs.Prelude.{◌≡◌, ℕ, List, [], ◌∷◌, length, map, drop, take, codes}
 use Rattle.std.specs.List.{AllByRecursion}
 use Rattle.std.specs.Str.Parse.{AllDigits, digits_value}
-use Rattle.paged_cli.specs.Lines.{lines_of}
+use Rattle.text_lines.specs.Text.{lines_of}
 
 -- eight hexadecimal digits, their letters in either case
 abbrev pub IsWordLine : List ℕ → Type 0

@@ -3,11 +3,11 @@
 use crate::clock_script::{ClockCall, call_on_line};
 use crate::fault::Fault;
 use crate::files::read_text;
-use crate::lines::split_line;
 use clock_list::{Clock, ClockList, Key, Refusal, Verdict};
 use std::io::Write;
 use std::rt::Files;
 use std::{fmt, io};
+use text_lines::next_line;
 
 /// Plays the script in a file on a new list.
 pub fn run_clock<'a, R: Files + AllocGlobal, W: Write>(
@@ -27,8 +27,7 @@ pub fn run_clock<'a, R: Files + AllocGlobal, W: Write>(
 fn play<'a, C: Clock, W: Write>(list: &mut C, text: &[u8], out: &mut W) -> Result<(), Fault<'a>> {
     let mut number = 0u64;
     let mut rest = text;
-    while !rest.is_empty() {
-        let (line, others) = split_line(rest);
+    while let Some((line, others)) = next_line(rest) {
         number += 1;
         match call_on_line(line) {
             Ok(Some(call)) => reply(list, call, out)?,

@@ -2,13 +2,13 @@
 
 ghost use Rattle.std.specs.Prelude.{◌≡◌, ◌↔◌, ◌∷◌, [], IfOk, IfSome, IsErr, None, Ok, Err, position};
 ghost use Rattle.std.specs.Option.{SomeIff};
-ghost use Rattle.paged_cli.specs.Lines.{words_of};
+ghost use Rattle.text_lines.specs.Text.{words_of};
 ghost use Rattle.paged_cli.specs.ClockScript.{IsSkipped, IsWritten, IsKey, key_value, is_slash};
 ghost use Rattle.paged_cli.specs.declared.clock_script.ClockCall.{ClockCall};
 
-use crate::lines::split_word;
 use crate::numbers::{number, numeral};
 use clock_list::{Bit, Key};
+use text_lines::next_word;
 use thiserror::Error;
 
 /// The highest number of a process in a script.
@@ -45,13 +45,13 @@ pub fn call_on_line(line: &[u8]) -> Result<Option<ClockCall>, BadLine>
         None | Some(b'#') => return Ok(None),
         Some(_) => {}
     }
-    let Some((name, rest)) = split_word(line) else {
+    let Some((name, rest)) = next_word(line) else {
         return Err(BadLine);
     };
-    let call = match split_word(rest) {
+    let call = match next_word(rest) {
         None => call_without(name),
         Some((argument, rest)) => {
-            if split_word(rest).is_some() {
+            if next_word(rest).is_some() {
                 return Err(BadLine);
             }
             call_with(name, argument)

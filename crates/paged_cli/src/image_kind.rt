@@ -3,7 +3,7 @@
 ghost use Rattle.std.specs.Prelude.{◌≡◌, ◌↔◌};
 ghost use Rattle.paged_cli.specs.ImageKind.{BeginsAsElf, BeginsAsWords};
 
-use crate::lines::split_line;
+use text_lines::next_line;
 
 /// What the file of an image is.
 #[derive(Clone, Copy, Debug, PartialEq, Eq)]
@@ -24,13 +24,8 @@ pub fn kind_of_file(file: &[u8]) -> ImageKind
     if file.starts_with(b"\x7FELF") {
         return ImageKind::Elf;
     }
-    if file.is_empty() {
-        return ImageKind::Source;
-    }
-    let (first, _) = split_line(file);
-    if first == b".words".as_slice() {
-        ImageKind::Words
-    } else {
-        ImageKind::Source
+    match next_line(file) {
+        Some((first, _)) if first == b".words".as_slice() => ImageKind::Words,
+        _ => ImageKind::Source,
     }
 }

@@ -10,7 +10,6 @@ mod files;
 mod flat_command;
 mod image_file;
 mod image_kind;
-mod lines;
 mod numbers;
 mod process_lines;
 mod program;

@@ -3,12 +3,12 @@
 ghost use Rattle.std.specs.Prelude.{◌≡◌, IfOk, length};
 ghost use Rattle.std.specs.Option.{SomeIff};
 ghost use Rattle.std.specs.Str.Parse.{digits_value};
-ghost use Rattle.paged_cli.specs.Lines.{lines_of};
+ghost use Rattle.text_lines.specs.Text.{lines_of};
 ghost use Rattle.paged_cli.specs.WordsFile.{IsWordLine, AreWordLines, IsWordsFile, words_on, words_in};
 
-use crate::lines::split_line;
 use crate::numbers::numeral;
 use std::alloc::{AllocError, Global};
+use text_lines::next_line;
 use thiserror::Error;
 
 /// Why a file gives no words.
@@ -27,14 +27,10 @@ pub fn words_of_file(alloc: Global, text: &[u8]) -> Result<Vec<u32>, WordsError>
     ensures words { IfOk result (λ words. words.items ≡ words_in text.now) }
     ensures bad { result ≡ Err WordsError.BadWords → ¬ IsWordsFile text.now }
 {
-    if text.is_empty() {
-        return Err(WordsError::BadWords);
+    match next_line(text) {
+        Some((first, rest)) if first == b".words".as_slice() => words_of_lines(alloc, rest),
+        _ => Err(WordsError::BadWords),
     }
-    let (first, rest) = split_line(text);
-    if first != b".words".as_slice() {
-        return Err(WordsError::BadWords);
-    }
-    words_of_lines(alloc, rest)
 }
 
 /// The words of a text in which each line is one word.
@@ -45,8 +41,7 @@ fn words_of_lines(alloc: Global, text: &[u8]) -> Result<Vec<u32>, WordsError>
 {
     let mut words = Vec::new(alloc);
     let mut rest = text;
-    while !rest.is_empty() {
-        let (line, others) = split_line(rest);
+    while let Some((line, others)) = next_line(rest) {
         let Some(word) = word_on_line(line) else {
             return Err(WordsError::BadWords);
         };

@@ -1,4 +1,3 @@
-pub mod Cutting
 pub mod Entries
 pub mod EscapeLemmas
 pub mod FirstLoops
@@ -10,6 +9,7 @@ pub mod ListLemmas
 pub mod NameLemmas
 pub mod Numerals
 pub mod OneFault
+pub mod OneListing
 pub mod OperandSteps
 pub mod PageCuts
 pub mod PagesPass

@@ -20,7 +20,7 @@ use Rattle.rv_asm.specs.declared.item.Item.{Item}
 use Rattle.rv_asm.specs.declared.item.Item.TheVariants.{Label, InText, InData}
 use Rattle.rv_asm.specs.declared.word.TextWord.{TextWord}
 use Rattle.rv_asm.specs.Forms.{Line, Effect}
-use Rattle.rv_asm.specs.Source.{lines_of}
+use Rattle.text_lines.specs.Text.{lines_of}
 use Rattle.rv_asm.specs.Steps.{FaultAt, Fails, chained, mapped}
 use Rattle.rv_asm.specs.Program.{size, place_from, place_of, section_start, address_of}
 use Rattle.rv_asm.specs.FirstPass.{Progress, no_lines, effect_of, with_lines, first_pass}
@@ -49,7 +49,7 @@ address_is items name address d has =
     let place : place_of items name ≡ Some (record { section = has.section; offset = size has.section has.front }) = ap (λ l. place_of l name) has.stands ∙ place_label has.front has.back has.section name (subst Distinct has.stands d) in
     ap (option_map (λ place. section_start items place.section + place.offset)) place ∙ ap Some (sym has.is)
 
-one_address : (items : List Item) (name : List ℕ) (one other : ℕ) → Distinct items → HasAddress items name one → HasAddress items name other → one ≡ other
+pub one_address : (items : List Item) (name : List ℕ) (one other : ℕ) → Distinct items → HasAddress items name one → HasAddress items name other → one ≡ other
 one_address items name one other d a b = some_same (sym (address_is items name one d a) ∙ address_is items name other d b)
   where
     some_same : {x y : ℕ} → Some x ≡ Some y → x ≡ y
@@ -136,10 +136,10 @@ data Apart {A : Type 0} (front : List A) (x : A) (above : List A) (y : A) : Type
   first : (between : List A) → above ≡ front ++ x ∷ between → Apart front x above y
   second : (between : List A) → front ≡ above ++ y ∷ between → Apart front x above y
 
-cons_head : {A : Type 0} (x y : A) (xs ys : List A) → x ∷ xs ≡ y ∷ ys → x ≡ y
+pub cons_head : {A : Type 0} (x y : A) (xs ys : List A) → x ∷ xs ≡ y ∷ ys → x ≡ y
 cons_head x y xs ys e = cc
 
-cons_tail : {A : Type 0} (x y : A) (xs ys : List A) → x ∷ xs ≡ y ∷ ys → xs ≡ ys
+pub cons_tail : {A : Type 0} (x y : A) (xs ys : List A) → x ∷ xs ≡ y ∷ ys → xs ≡ ys
 cons_tail x y xs ys e = cc
 
 apart : {A : Type 0} (front back above below : List A) (x y : A) → front ++ x ∷ back ≡ above ++ y ∷ below → Apart front x above y
@@ -169,7 +169,7 @@ one_reading section text labels others effect another a b =
     let lines : a.line ≡ b.line = ok_value (sym a.form ∙ b.form) in
     (a.named ∙ ap (λ (l : Line). l.labels) lines ∙ sym b.named, ok_value (sym a.does ∙ ap (effect_of section) lines ∙ b.does))
 
-one_program : (before : ℕ) (section : Section) (lines : List (List ℕ)) (items others : List Item) (last another : Section) → Tells before section lines items last → Tells before section lines others another → (items ≡ others) × (last ≡ another)
+pub one_program : (before : ℕ) (section : Section) (lines : List (List ℕ)) (items others : List Item) (last another : Section) → Tells before section lines items last → Tells before section lines others another → (items ≡ others) × (last ≡ another)
 unfolding Tells
 one_program before section [] items others last another a b = (a.0 ∙ sym b.0, a.1 ∙ sym b.1)
 one_program before section (text ∷ below) items others last another a b =

@@ -1,7 +1,8 @@
 -- What the second pass says of a program, in the words of the relation.
-use Rattle.std.proofs.Common.{◌≡◌, ℕ, ◌+◌, ◌*◌, ◌%◌, ◌≤◌, ◌<◌, List, [], ◌∷◌, ◌++◌, length, Bool, true, false, ◌&&◌, ◌==◌, Option, Some, None, Result, Ok, Err, arith, refl, sym, ap, ◌∙◌, subst, append_assoc, append-nil, pos}
-use Rattle.std.specs.Prelude.{◌-ℤ◌, nat_le, nat_lt, if◌then◌else◌}
+use Rattle.std.proofs.Common.{◌≡◌, ℕ, ◌+◌, ◌*◌, ◌%◌, ◌≤◌, ◌<◌, List, [], ◌∷◌, ◌++◌, length, Bool, true, false, ◌&&◌, ◌==◌, Option, Some, None, Result, Ok, Err, arith, refl, sym, ap, ◌∙◌, subst, append_assoc, append-nil, pos, ◌+ℤ◌}
+use Rattle.std.specs.Prelude.{◌-ℤ◌, nat_le, nat_lt}
 use Rattle.byteorder.specs.Endian.{little_bytes}
+use Rattle.std.proofs.Math.Decide.{dec_lt}
 use Rattle.std.proofs.lemmas.Int.{ints}
 use Rattle.std.proofs.lemmas.Grind.{common_steps}
 use Rattle.std.proofs.lemmas.Bool.{false≢true}
@@ -21,8 +22,10 @@ use Rattle.rv_asm.specs.declared.word.TextWord.{TextWord}
 use Rattle.rv_asm.specs.declared.word.TextWord.TheVariants.{Instruction, Plain}
 use Rattle.rv_asm.specs.Steps.{FaultAt, chained, mapped, on_line}
 use Rattle.rv_asm.specs.Program.{size, address_of}
-use Rattle.rv_asm.specs.SecondPass.{Sections, at_label, upper_part, low_part, load_words, reaches, if_reached, jump_words, branch_words, code_words, datum_bytes, next_address, put, put_all, no_sections, second_pass}
+use Rattle.rv_asm.specs.SecondPass.{Sections, at_label, load_words, reaches, if_reached, jump_words, branch_words, code_words, datum_bytes, next_address, put, put_all, no_sections, second_pass}
 use Rattle.rv_asm.specs.Assembly.{Lacks, IsSplit, PutsWords, PutsBytes, TextAt, DataAt, Holds, HasPut, code_label, datum_label, TooFar, PartFault, no_label, no_datum_label, too_far}
+use Rattle.rv_asm.specs.Split.{upper_part, low_part}
+use Rattle.rv_asm.specs.SplitLaws.{low_part_small, low_part_large, low_part_fits}
 use Rattle.rv_asm.proofs.Places.{size_push}
 use Rattle.rv_asm.proofs.LabelLaws.{address_found, no_address}
 use Rattle.rv_asm.proofs.SecondSteps.{put_length, pass_length}
@@ -72,15 +75,14 @@ jump_missed here target e is =
     false≢true (sym e ∙ t)
 
 split : (address : ℕ) → IsSplit address (upper_part address) (low_part address)
-split address = by_test (nat_lt (address % 4096) 2048) refl
+split address = record { whole = parts_are_whole; signed = low_part_fits address }
   where
-    by_test : (b : Bool) → nat_lt (address % 4096) 2048 ≡ b → IsSplit address (upper_part address) (if b then pos (address % 4096) else pos (address % 4096) -ℤ pos 4096)
-    by_test true e =
-        let l : address % 4096 < 2048 = grind (arith, nat_tests) in
-        record { whole = omega (arith, ints); signed = record { low = omega (arith, ints); high = omega (arith, ints) } }
-    by_test false e =
-        let l : 2048 ≤ address % 4096 = grind (arith, nat_tests) in
-        record { whole = omega (arith, ints); signed = record { low = omega (arith, ints); high = omega (arith, ints) } }
+    parts_are_whole : pos (upper_part address * 4096) +ℤ low_part address ≡ pos address
+    parts_are_whole =
+        elim (dec_lt (address % 4096) 2048) [
+          | yes small ↦ rw (low_part_small address small) (omega (arith, ints))
+          | no large ↦ (let big : 2048 ≤ address % 4096 = omega arith in rw (low_part_large address big) (omega (arith, ints)))
+        ]
 
 -- ---- parts
 

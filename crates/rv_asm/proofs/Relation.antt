@@ -7,7 +7,7 @@ use Rattle.rv_asm.specs.declared.section.Section.{Section}
 use Rattle.rv_asm.specs.declared.section.Section.TheVariants.{Text}
 use Rattle.rv_asm.specs.declared.item.Item.{Item}
 use Rattle.rv_asm.specs.Steps.{FaultAt, Fails, chained, mapped}
-use Rattle.rv_asm.specs.Source.{lines_of}
+use Rattle.text_lines.specs.Text.{lines_of}
 use Rattle.rv_asm.specs.Program.{size}
 use Rattle.rv_asm.specs.FirstPass.{Progress, no_lines, with_lines, first_pass}
 use Rattle.rv_asm.specs.SecondPass.{Sections, second_pass}

@@ -22,7 +22,7 @@ use Rattle.rv_asm.specs.declared.word.TextWord.{TextWord}
 use Rattle.rv_asm.specs.declared.word.TextWord.TheVariants.{Instruction, Plain}
 use Rattle.rv_asm.specs.Forms.{Line, Effect, Enter, Text as TextEffect, Data as DataEffect}
 use Rattle.rv_asm.specs.Lines.{line_form}
-use Rattle.rv_asm.specs.Source.{lines_of}
+use Rattle.text_lines.specs.Text.{lines_of}
 use Rattle.rv_asm.specs.Program.{size, section_start}
 use Rattle.rv_asm.specs.FirstPass.{effect_of}
 use Rattle.rv_asm.specs.Listing.{ListingContent, Lists}

@@ -10,7 +10,7 @@ use Rattle.rv_asm.specs.declared.item.Item.TheVariants.{Label, InText, InData}
 use Rattle.rv_asm.specs.Forms.{Line, Effect, Enter, Text as TextEffect, Data as DataEffect}
 use Rattle.rv_asm.specs.Lines.{line_form}
 use Rattle.rv_asm.specs.Statements.{statement_effect}
-use Rattle.rv_asm.specs.Source.{lines_of}
+use Rattle.text_lines.specs.Text.{lines_of}
 use Rattle.rv_asm.specs.Steps.{FaultAt, chained, on_line}
 use Rattle.rv_asm.specs.Program.{size, place_of}
 

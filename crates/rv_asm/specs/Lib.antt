@@ -19,7 +19,6 @@ pub mod Readings
 pub mod Registers
 pub mod SecondPass
 pub mod Shapes
-pub mod Source
 pub mod Split
 pub mod SplitLaws
 pub mod Statements

@@ -1,6 +1,6 @@
 -- The second pass over a program: item by item to the words of its text and the bytes of its data, and to the first fault
 -- that only addresses tell.
-use Rattle.std.specs.Prelude.{ℕ, ◌+◌, ◌*◌, ◌/◌, ◌%◌, ◌==◌, ◌&&◌, ℤ, pos, ◌-ℤ◌, nat_le, nat_lt, Bool, true, false, List, [], ◌∷◌, ◌++◌, length, replicate, Option, Some, None, Result, Ok, Err, if◌then◌else◌}
+use Rattle.std.specs.Prelude.{ℕ, ◌+◌, ◌*◌, ◌%◌, ◌==◌, ◌&&◌, pos, ◌-ℤ◌, nat_le, nat_lt, Bool, true, false, List, [], ◌∷◌, ◌++◌, length, replicate, Option, Some, None, Result, Ok, Err}
 use Rattle.byteorder.specs.Endian.{little_bytes}
 use Rattle.rv_isa.specs.declared.instruction.Insn.TheVariants.{Lui, OpImmediate, Jal, Branch as BranchInsn}
 use Rattle.rv_isa.specs.declared.kinds.ImmediateKind.TheVariants.{Addi}
@@ -19,6 +19,7 @@ use Rattle.rv_asm.specs.declared.word.Words.{Words}
 use Rattle.rv_asm.specs.declared.word.Words.TheVariants.{One, Two}
 use Rattle.rv_asm.specs.Steps.{FaultAt, chained, mapped, on_line}
 use Rattle.rv_asm.specs.Program.{address_of}
+use Rattle.rv_asm.specs.Split.{upper_part, low_part}
 
 -- the words of the text and the bytes of the data
 pub record Sections : Type 0 where
@@ -34,13 +35,7 @@ abbrev pub at_label : {A : Type 0} → (ℕ → Result A FaultKind) → Option �
 at_label next (Some address) = next address
 at_label next None = Err NoLabel
 
--- an address in two parts: its upper 20 bits, one more where the lower 12 are taken as negative; and these
-abbrev pub upper_part : ℕ → ℕ
-upper_part address = (address + 2048) / 4096
-
-abbrev pub low_part : ℕ → ℤ
-low_part address = if nat_lt (address % 4096) 2048 then pos (address % 4096) else pos (address % 4096) -ℤ pos 4096
-
+-- the two instructions that put an address into a register
 abbrev pub load_words : ℕ → ℕ → List TextWord
 load_words rd address =
     Instruction (Lui rd (upper_part address)) ∷ Instruction (OpImmediate Addi rd rd (low_part address)) ∷ []

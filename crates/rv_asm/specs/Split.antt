@@ -7,6 +7,10 @@ use Rattle.rv_isa.specs.Bits.{signed}
 unfoldable pub low_part : ℕ → ℤ
 low_part word = signed 12 (word % 4096)
 
--- the upper twenty bits, one more where the low part is negative
+-- what is above the low part, one more where that is negative
+abbrev pub upper_part : ℕ → ℕ
+upper_part word = (word + 2048) / 4096
+
+-- the upper part as `lui` has it: twenty bits
 unfoldable pub high_part : ℕ → ℕ
-high_part word = (word + 2048) / 4096 % 2 ^ 20
+high_part word = upper_part word % 2 ^ 20

@@ -18,15 +18,9 @@ use crate::program::Program;
 use crate::second_pass::fill_sections;
 use crate::section::Section;
 use crate::sections::Sections;
-use elf_image::Image;
-use page_memory::Rights;
+use elf_image::{Image, TEXT_START};
+use page_memory::{Rights, page_of};
 use std::alloc::{AllocError, Global};
-
-/// The number of the text's first page.
-const TEXT_PAGE: u32 = 0x10;
-
-/// How many bytes a page has.
-const PAGE_SIZE: u32 = 4096;
 
 /// Assembles a source.
 ///
@@ -73,11 +67,11 @@ fn make_listing(
     let pages = with_pages(
         alloc,
         Vec::new(alloc),
-        TEXT_PAGE,
+        page_of(TEXT_START),
         Rights::READ_EXECUTE,
         &code,
     )?;
-    let first = program.start(Section::Data) / PAGE_SIZE;
+    let first = page_of(program.start(Section::Data));
     let pages = with_pages(alloc, pages, first, Rights::READ_WRITE, &bytes)?;
     let image = Image::from_parts(program.entry(), pages).unwrap();
     Ok(Listing::new(image, words, instructions, bytes.len() as u32))

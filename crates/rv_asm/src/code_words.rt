@@ -4,15 +4,14 @@ ghost use Rattle.std.specs.Prelude.{◌≡◌, ◌<◌, ◌+◌, ◌%◌, ◌^�
 ghost use Rattle.rv_isa.specs.declared.kinds.BranchKind.{BranchKind};
 ghost use Rattle.rv_asm.specs.Steps.{mapped};
 ghost use Rattle.rv_asm.specs.Program.{address_of};
-ghost use Rattle.rv_asm.specs.SecondPass.{code_words, words_list, at_label, load_words, jump_words, branch_words, upper_part, low_part, reaches};
+ghost use Rattle.rv_asm.specs.SecondPass.{code_words, words_list, at_label, load_words, jump_words, branch_words, reaches};
 
 use crate::fault::FaultKind;
 use crate::part::Code;
 use crate::program::Program;
+use crate::statements::split;
 use crate::word::{TextWord, Words};
-use rv_isa::{
-    BranchKind, BranchOffset, Immediate, ImmediateKind, Insn, JumpOffset, Reg, UpperImmediate,
-};
+use rv_isa::{BranchKind, BranchOffset, ImmediateKind, Insn, JumpOffset, Reg};
 
 /// The words of a part of the text that stands at an address.
 #[tactic(auto, unfolding(crate::specs::SecondPass::code_words))]
@@ -52,32 +51,23 @@ pub(crate) fn code_words(
 }
 
 /// The two instructions that put an address into a register.
+#[tactic(auto, unfolding(crate::specs::Split::high_part))]
 fn load_words(rd: Reg, address: u32) -> Words
     requires { address < 2 ^ 31 }
     ensures { words_list result ≡ load_words rd address }
 {
-    let upper = UpperImmediate::new((address + 0x800) >> 12).unwrap();
-    let low = Immediate::new(low_part(address)).unwrap();
     Words::Two(
         TextWord::Instruction(Insn::Lui {
             rd,
-            immediate: upper,
+            immediate: split::high(address),
         }),
         TextWord::Instruction(Insn::OpImmediate {
             kind: ImmediateKind::Addi,
             rd,
             rs1: rd,
-            immediate: low,
+            immediate: split::low(address),
         }),
     )
-}
-
-/// The low 12 bits of an address, taken signed.
-fn low_part(address: u32) -> i32
-    ensures { result ≡ low_part address }
-{
-    let low = (address % 0x1000) as i32;
-    if low < 0x800 { low } else { low - 0x1000 }
 }
 
 /// The jump from an address to another, if it reaches.

@@ -16,10 +16,10 @@ use crate::part::{Code, Datum, Effect};
 use crate::program::Program;
 use crate::scanning::scan_line;
 use crate::section::Section;
-use crate::source::next_line;
 use crate::span::Span;
 use crate::statements::read_statement;
 use std::alloc::Global;
+use text_lines::next_line;
 
 /// The program of a source.
 #[tactic(auto, using(crate::proofs::FirstLoops::lines_go_on, crate::proofs::FirstLoops::lines_end), unfolding(crate::specs::FirstPass::first_pass))]

@@ -1,9 +1,13 @@
-//! Laws on the tokens of a line.
+//! Laws on the definitions of the assembler: of tokens, and of listings.
 
 ghost use Rattle.std.specs.Str.Parse.{IsNumeral, digits_value};
 ghost use Rattle.rv_asm.specs.Numbers.{number_of, too_large};
 ghost use Rattle.std.specs.Prelude.{◌≡◌, ◌≤◌, pos, neg_ℤ, ℕ, List, [], ◌∷◌, ◌++◌, Some};
+ghost use Rattle.std.specs.Prelude.{◌<◌, ◌^◌};
+ghost use Rattle.std.specs.List.{AllByRecursion};
 ghost use Rattle.rv_asm.specs.Bytes.{class_of};
+ghost use Rattle.rv_asm.specs.Listing.{ListingContent};
+ghost use Rattle.rv_asm.specs.Assembly.{Assembles};
 ghost use Rattle.rv_asm.specs.Tokens.{tokens_of, followed, word_token};
 ghost use Rattle.rv_asm.specs.TokenLaws.{AllOfNames, EndsNames, IsText};
 ghost use Rattle.rv_asm.specs.declared.scanning.bytes.ByteClass.TheVariants.{Word};
@@ -41,4 +45,11 @@ pub fn numbers_stand_for_their_value()
         → number_of (45 ∷ digits) ≡ Some (neg_ℤ (pos (digits_value 10 digits))) }
     ensures hexadecimal { (digits : List ℕ) → IsNumeral 16 digits → digits_value 16 digits ≤ too_large
         → number_of (48 ∷ 120 ∷ digits) ≡ Some (pos (digits_value 16 digits)) }
+{}
+
+/// A source has one listing: the relation leaves nothing open.
+pub fn one_listing()
+    ensures { (source : List ℕ) (one other : ListingContent)
+        → AllByRecursion (λ word. word < 2 ^ 32) one.words → AllByRecursion (λ word. word < 2 ^ 32) other.words
+        → Assembles source one → Assembles source other → one ≡ other }
 {}

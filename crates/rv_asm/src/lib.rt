@@ -21,7 +21,6 @@ mod scanning;
 mod second_pass;
 mod section;
 mod sections;
-mod source;
 mod span;
 mod statements;
 #[cfg(test)]
@@ -31,8 +30,8 @@ mod word;
 pub use assembling::assemble;
 pub use fault::{AsmError, FaultKind};
 pub use laws::{
-    blanks_and_comments_give_no_tokens, numbers_stand_for_their_value, texts_reach_to_their_quote,
-    words_reach_to_their_end,
+    blanks_and_comments_give_no_tokens, numbers_stand_for_their_value, one_listing,
+    texts_reach_to_their_quote, words_reach_to_their_end,
 };
 pub use listing::Listing;
 pub use statements::loaded_word;

@@ -5,11 +5,8 @@ ghost use Rattle.elf_image.specs.Image.{bytes_of, filled};
 ghost use Rattle.rv_asm.specs.Listing.{page_at, page_count, pages_of};
 
 use elf_image::ImagePage;
-use page_memory::{Page, Rights};
+use page_memory::{PAGE_SIZE, Page, Rights};
 use std::alloc::{AllocError, Global};
-
-/// How many bytes a page has.
-const PAGE_SIZE: usize = 4096;
 
 /// The bytes of words, the lowest of each first.
 pub(crate) fn bytes_of_words(alloc: Global, words: &[u32]) -> Result<Vec<u8>, AllocError>
@@ -35,7 +32,7 @@ pub(crate) fn with_pages(
     requires low { first < 2 ^ 16 }
     ensures { IfOk result (λ all. all.items ≡ pages.items ++ pages_of first rights bytes.now) }
 {
-    for place in 0..(bytes.len() + PAGE_SIZE - 1) / PAGE_SIZE {
+    for place in 0..bytes.len().div_ceil(PAGE_SIZE) {
         pages.push(page_of_bytes(alloc, first, rights, bytes, place)?)?;
     }
     Ok(pages)

@@ -12,15 +12,14 @@ use crate::part::{Code, Datum};
 use crate::place::Place;
 use crate::section::Section;
 use crate::span::Span;
+use elf_image::TEXT_START;
+use page_memory::PAGE_SIZE;
 use std::alloc::Global;
 use std::collections::HashMap;
 use std::marker::Model;
 
-/// The address at which the text begins.
-pub(crate) const TEXT_START: u32 = 0x1_0000;
-
 /// How many bytes a page has.
-const PAGE_SIZE: u32 = 4096;
+const PAGE: u32 = PAGE_SIZE as u32;
 
 /// The most bytes that the text may have: 65536 words.
 const MOST_TEXT: u32 = 0x4_0000;
@@ -115,7 +114,7 @@ impl<'a> Program<'a> {
     {
         match section {
             Section::Text => TEXT_START,
-            Section::Data => (TEXT_START + self.text_size).div_ceil(PAGE_SIZE) * PAGE_SIZE,
+            Section::Data => (TEXT_START + self.text_size).div_ceil(PAGE) * PAGE,
         }
     }
 

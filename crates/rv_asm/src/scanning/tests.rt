@@ -1,7 +1,6 @@
 use crate::fault::{FaultKind, Refusal};
 use crate::operand::Operand;
 use crate::scanning::scan_line;
-use crate::source::next_line;
 use std::test::Fail;
 
 #[test]
@@ -98,18 +97,4 @@ fn bad_lines(rt: HostRuntime) {
             "{text}"
         );
     }
-}
-
-#[test]
-fn lines_of_a_source(rt: HostRuntime) {
-    let mut rest = b"a\r\n\nb".as_slice();
-    for expected in [b"a\r".as_slice(), b"".as_slice(), b"b".as_slice()] {
-        let Some((line, more)) = next_line(rest) else {
-            assert!(rt; false);
-            return;
-        };
-        assert_eq!(rt; line, expected);
-        rest = more;
-    }
-    assert!(rt; next_line(rest).is_none());
 }

@@ -1,5 +1,5 @@
 use Rattle.std.proofs.Common.{◌≡◌, ◌+◌, ◌≤◌, length}
-use Rattle.rv_asm.specs.Source.{lines_of}
+use Rattle.text_lines.specs.Text.{lines_of}
 use Rattle.rv_asm.specs.FirstPass.{first_pass, with_lines}
 use Rattle.rv_asm.proofs.first_pass.read_source.Given as goal
 

@@ -3,7 +3,7 @@ use Rattle.std.proofs.Common.{◌≡◌, ℕ, ◌+◌, ◌-◌, ◌<◌, ◌≤�
 use Rattle.std.specs.Prelude.{position}
 use Rattle.std.specs.List.{position_or_len}
 use Rattle.std.proofs.lemmas.Grind.{common_steps}
-use Rattle.paged_cli.specs.Lines.{parts_at, ahead}
+use Rattle.text_lines.specs.Text.{parts_at, ahead}
 
 first_here : (ends : ℕ → Bool) (c : ℕ) (text : List ℕ) → ends c ≡ true → position_or_len ends (c ∷ text) ≡ 0
 first_here ends c text e = rw e refl

@@ -3,7 +3,7 @@ use Rattle.std.specs.List.{range_with_len, list_any}
 use Rattle.elf_image.specs.ElfFiles.{program_headers, header_at, headers_count}
 use Rattle.elf_image.specs.HeaderTests.{fails}
 use Rattle.elf_image.proofs.Headers.{header_of, any_goes_on, any_stops}
-use Rattle.elf_image.proofs.header_tests.any_fails.Goals as goal
+use Rattle.elf_image.proofs.header_checks.any_fails.Goals as goal
 
 pub returns-then-fails : goal.returns-then-fails
 unfolding program_headers

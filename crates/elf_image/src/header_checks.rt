@@ -4,7 +4,8 @@ ghost use Rattle.elf_image.specs.ElfFiles.{program_headers, program_fault, heade
 ghost use Rattle.elf_image.specs.HeaderTests.{fails};
 
 use crate::fault::ElfFault;
-use crate::file_header::{PROGRAM_HEADER_SIZE, headers_count, headers_offset};
+use crate::file_header::{headers_count, headers_offset};
+use crate::format::PROGRAM_HEADER_SIZE;
 use crate::program_header::ProgramHeader;
 
 /// What is tested of each program header.

@@ -32,6 +32,7 @@ const NO_SUCH_CALL: u32 = 0xFFFF_FFDA;
 ///
 /// 64 (write) copies at most a2 bytes at a1, up to the end of their page, to the output, and answers how
 /// many; 94 ends the process with the status in a0. Any other number answers -38.
+#[cold]
 #[tactic(auto, unfolding(crate::specs::Calls::answers, crate::specs::Calls::call, crate::specs::Calls::call_pages))]
 pub fn serve<B: Bus>(
     env: &mut Env,

@@ -28,6 +28,7 @@ impl FlatProcess {
 
     /// Steps the hart whose turn it is until the process has ended or the limit is reached, and tells
     /// how many steps that took. Where memory for the output is wanting, the steps before stand.
+    #[inline(never)]
     pub fn run_for(&mut self, limit: u64) -> Result<u64, AllocError>
         ensures ran { IfOk result (λ steps. flat_run (replicate steps 0) self.old ≡ Some self.new) }
         ensures within { IfOk result (λ steps. steps ≤ limit) }

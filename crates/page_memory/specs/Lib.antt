@@ -3,3 +3,4 @@ pub mod Rights
 pub mod PageIndex
 pub mod Memory
 pub mod PageMap
+pub mod ZeroedLaws

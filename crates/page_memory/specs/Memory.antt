@@ -1,7 +1,7 @@
 -- Memory: a finite map from page numbers to pages, and what an access to it answers. An access is
 -- refused where its address is no multiple of its width, then where no page is mapped there or the
 -- page lacks the right (unprivileged manual, loads and stores; privileged manual, page faults).
-use Rattle.std.specs.Prelude.{ℕ, ◌+◌, ◌%◌, ◌==◌, Bool, true, false, List, ◌++◌, length, take, drop, slice_index, Option, Some, None, option_map, Result, Ok, Err, ◌∷◌, []}
+use Rattle.std.specs.Prelude.{ℕ, zero, suc, ◌+◌, ◌%◌, ◌==◌, Bool, true, false, List, ◌++◌, length, replicate, take, drop, slice_index, Option, Some, None, option_map, Result, Ok, Err, ◌∷◌, []}
 use Rattle.std.specs.Ordering.{nat_cmp}
 use Rattle.std.specs.FinMap.{FinMap, get, insert}
 use Rattle.byteorder.specs.Endian.{little_number, little_bytes}
@@ -92,3 +92,20 @@ copied_in memory address bytes = answered (memory_with memory address bytes) (us
 -- the byte at an address, where a page is mapped there
 unfoldable pub byte_at : Memory → ℕ → Option ℕ
 byte_at memory address = option_map (λ page. slice_index page.bytes (page_offset address)) (get memory (page_number address))
+
+-- a page of zeros that may be read and written
+abbrev pub zero_page : Page
+zero_page = record { rights = record { 0 = 3 }; bytes = replicate 4096 0 }
+
+abbrev pub zeroed_unless : Option Page → Memory → ℕ → Memory
+zeroed_unless None memory number = insert memory number zero_page
+zeroed_unless (Some page) memory number = memory
+
+-- the memory with a page of zeros at a number where none is mapped
+unfoldable pub zeroed_at : ℕ → Memory → Memory
+zeroed_at number memory = zeroed_unless (get memory number) memory number
+
+-- the memory with pages of zeros at so many numbers from the first on, wherever none is mapped
+unfoldable pub with_zeroed : ℕ → ℕ → Memory → Memory
+with_zeroed first zero memory = memory
+with_zeroed first (suc count) memory = zeroed_at (first + count) (with_zeroed first count memory)

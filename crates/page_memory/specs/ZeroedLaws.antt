@@ -1,0 +1,61 @@
+-- What memory holds once pages of zeros were mapped in a range.
+use Rattle.std.proofs.Common.{◌≡◌, ◌≢◌, ℕ, zero, suc, ◌+◌, ◌<◌, ◌≤◌, ◌==◌, ◌&&◌, ◌||◌, nat_lt, nat_le, Bool, true, false, cond, Option, Some, None, if◌then◌else◌, ap, ◌∙◌, sym, refl, eq-eqb, ne_eqb, inl, inr, arith}
+use Rattle.std.proofs.lemmas.Bool.Decides.{nat_tests, eqb_tells}
+use Rattle.std.specs.Ordering.{nat_cmp, eq_by_cmp}
+use Rattle.std.specs.Cmp.{nat_cmp_total}
+use Rattle.std.specs.FinMap.{get, insert, get-insert}
+use Rattle.page_memory.specs.Memory.{Page, Memory, zero_page, zeroed_unless, zeroed_at, with_zeroed}
+
+-- a page that was mapped stays as it was; a new page of zeros is where the test says so
+abbrev pub kept_or_zero : Option Page → Bool → Option Page
+kept_or_zero (Some page) zeroed = Some page
+kept_or_zero None true = Some zero_page
+kept_or_zero None false = None
+
+same_key : (q page : ℕ) → eq_by_cmp nat_cmp q page ≡ (q == page)
+same_key q page = grind (arith, nat_tests)
+
+stays : (page : Option Page) → kept_or_zero page false ≡ page
+stays None = refl
+stays (Some page) = refl
+
+at_number : (number : ℕ) (memory : Memory) (q : ℕ) (found : Option Page) → get memory number ≡ found → get (zeroed_unless found memory number) q ≡ kept_or_zero (get memory q) (q == number)
+at_number number memory q None none =
+    get-insert nat_cmp_total memory number zero_page q ∙ ap (λ b. cond b (Some zero_page) (get memory q)) (same_key q number)
+    ∙ elim (eqb_tells q number) [
+      | inl same ↦ rw same.0 (sym (ap (λ p. kept_or_zero p true) (ap (get memory) same.1 ∙ none)))
+      | inr apart ↦ rw apart.0 (sym (stays (get memory q)))
+    ]
+at_number number memory q (Some page) some =
+    elim (eqb_tells q number) [
+      | inl same ↦ rw same.0 (let here : get memory q ≡ Some page = ap (get memory) same.1 ∙ some in rw here refl)
+      | inr apart ↦ rw apart.0 (sym (stays (get memory q)))
+    ]
+
+-- one page of zeros
+pub get-zeroed_at : (number : ℕ) (memory : Memory) (q : ℕ) → get (zeroed_at number memory) q ≡ kept_or_zero (get memory q) (q == number)
+unfolding zeroed_at
+get-zeroed_at number memory q = at_number number memory q (get memory number) refl
+
+twice : (page : Option Page) (a b : Bool) → kept_or_zero (kept_or_zero page a) b ≡ kept_or_zero page (a || b)
+twice None true b = refl
+twice None false b = refl
+twice (Some page) a b = refl
+
+-- whether a page number is among so many from the first on
+abbrev pub in_range : ℕ → ℕ → ℕ → Bool
+in_range first count number = nat_le first number && nat_lt number (first + count)
+
+none_in : (first q : ℕ) → in_range first 0 q ≡ false
+none_in first q = grind (arith, nat_tests)
+
+one_more : (first count q : ℕ) → (in_range first count q || (q == first + count)) ≡ in_range first (suc count) q
+one_more first count q = grind (arith, nat_tests)
+
+-- pages of zeros in a range: what was mapped stays, and the range's other pages are zero
+pub get-with_zeroed : (first count : ℕ) (memory : Memory) (q : ℕ) → get (with_zeroed first count memory) q ≡ kept_or_zero (get memory q) (in_range first count q)
+unfolding with_zeroed
+get-with_zeroed first zero memory q = sym (ap (kept_or_zero (get memory q)) (none_in first q) ∙ stays (get memory q))
+get-with_zeroed first (suc count) memory q =
+    get-zeroed_at (first + count) (with_zeroed first count memory) q ∙ ap (λ p. kept_or_zero p (q == first + count)) (get-with_zeroed first count memory q)
+    ∙ twice (get memory q) (in_range first count q) (q == first + count) ∙ ap (kept_or_zero (get memory q)) (one_more first count q)

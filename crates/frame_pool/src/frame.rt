@@ -1,4 +1,4 @@
-ghost use Rattle.std.specs.Prelude.{◌≡◌, ◌+◌, ◌≤◌, length, vec_len};
+ghost use Rattle.std.specs.Prelude.{◌≡◌, ◌+◌, ◌<◌, ◌≤◌, length, vec_len};
 ghost use Rattle.std.specs.Borrow.{sem};
 
 use std::alloc::{AllocError, Global};
@@ -16,14 +16,14 @@ pub struct Frame<L: Ledger> {
 }
 
 impl<L: Ledger> Model for Frame<L> {
-    ghost use Rattle.std.specs.Prelude.{◌≡◌};
+    ghost use Rattle.std.specs.Prelude.{◌≡◌, ◌<◌};
     ghost use Rattle.frame_pool.specs.FrameValue.{FrameValue};
 
     ghost Value = { FrameValue };
 
     ghost view = { λ f. record { number = f.number; bytes = f.bytes.value } };
 
-    ghost invariant = { λ f. f.share.parts ≡ 1 };
+    ghost invariant = { λ f. (f.share.parts ≡ 1) × (f.number < 4096) };
 }
 
 impl<L: Ledger> Frame<L> {
@@ -33,7 +33,8 @@ impl<L: Ledger> Frame<L> {
 
     /// A frame of zero bytes, which stands for the share.
     pub(crate) fn zeroed(alloc: Global, number: u32, share: Share<L>) -> Result<Self, AllocError>
-        requires { share.parts ≡ 1 }
+        requires share { share.parts ≡ 1 }
+        requires number { number < 4096 }
         ensures { IfOk result (λ frame. frame ≡ zero_frame number) }
     {
         Ok(Frame {
@@ -43,9 +44,10 @@ impl<L: Ledger> Frame<L> {
         })
     }
 
-    /// The number by which page tables name the frame.
+    /// The number by which page tables name the frame. It is below `MAX_FRAMES`.
     pub fn number(&self) -> u32
-        ensures { result ≡ self.now.number }
+        ensures number { result ≡ self.now.number }
+        ensures number_small { result < 4096 }
     {
         self.number
     }
@@ -72,6 +74,20 @@ impl<L: Ledger> Frame<L> {
     {
         *self.bytes_mut() = *bytes;
     }
+
+    /// Gives up the frame, and merges its share into one. The share cannot have more parts than the ledger: where it has
+    /// them all, every frame of the pool was given up.
+    pub fn give_up(self, all: &mut Share<L>)
+        ensures parts { all.new.parts ≡ all.old.parts + 1 }
+        ensures within { all.new.parts ≤ L.parts }
+    {
+        let Frame {
+            number: _,
+            bytes: _,
+            share,
+        } = self;
+        all.merge(share);
+    }
 }
 
 /// Gives up frames, and merges their shares into one.
@@ -86,12 +102,7 @@ pub fn gather<L: Ledger>(frames: Vec<Frame<L>>, all: &mut Share<L>)
     let none = all.empty();
     all.merge(none);
     for frame in frames {
-        let Frame {
-            number: _,
-            bytes: _,
-            share,
-        } = frame;
-        all.merge(share);
+        frame.give_up(all);
     }
 }
 

@@ -100,6 +100,7 @@ impl<L: Ledger> FramePool<L> {
         ensures empty { IsNone result ↔ (self.old.free ≡ []) }
         ensures taken { IfSome result (λ frame. self.old.free ≡ self.new.free ++ frame ∷ []) }
         ensures whole { IfSome result (λ frame. length frame.bytes ≡ 4096) }
+        ensures none { IfNone result (self.new.free ≡ self.old.free) }
         ensures size { self.new.size ≡ self.old.size }
     {
         let frame = self.free.pop()?;

@@ -1,4 +1,4 @@
-ghost use Rattle.std.specs.Prelude.{◌≡◌, ◌≤◌, ◌↔◌, [], ◌∷◌, ◌++◌, length, vec_len, IsTrue, OnOk, OnErr, IfErr, IsErr, IsNone, IfSome};
+ghost use Rattle.std.specs.Prelude.{◌≡◌, ◌≤◌, ◌↔◌, [], ◌∷◌, ◌++◌, length, vec_len, IsTrue, OnOk, OnErr, IfErr, IsErr, IsNone, IfNone, IfSome};
 
 use std::marker::Model;
 
@@ -58,6 +58,7 @@ impl<S> SlotPool<S> {
     pub fn take(&mut self) -> Option<S>
         ensures empty { IsNone result ↔ (self.old.free ≡ []) }
         ensures taken { IfSome result (λ slot. self.old.free ≡ self.new.free ++ slot ∷ []) }
+        ensures none { IfNone result (self.new.free ≡ self.old.free) }
         ensures size { self.new.size ≡ self.old.size }
     {
         self.free.pop()

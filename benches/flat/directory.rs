@@ -1,12 +1,11 @@
-//! A plain Rust interpreter of the same instructions: the yardstick of this benchmark.
+//! A plain Rust interpreter of the same design as `paged flat`: pages behind a directory, words made into an enum first.
 //!
 //! It decodes each word anew, matches on the decoded instruction, checks a page's rights for each
 //! access, and keeps no cache of decoded instructions.
-use std::io::Write;
+mod elf;
 
-const READ: u8 = 1;
-const WRITE: u8 = 2;
-const EXECUTE: u8 = 4;
+use elf::{EXECUTE, READ, WRITE};
+use std::io::Write;
 
 struct Page {
     rights: u8,
@@ -370,14 +369,15 @@ impl Machine {
 }
 
 fn main() {
-    let path = std::env::args().nth(1).expect("the file of words");
-    let text = std::fs::read_to_string(path).expect("readable");
-    let words: Vec<u32> = text.lines().skip(1).map(|line| u32::from_str_radix(line, 16).expect("a word")).collect();
-    let mut machine = Machine { x: [0; 32], pc: 0x1_0000, memory: Memory::new(), output: Vec::new() };
-    for (place, chunk) in words.chunks(1024).enumerate() {
-        let page = machine.memory.map(0x10 + place as u32, READ | EXECUTE);
-        for (k, word) in chunk.iter().enumerate() {
-            page.bytes[4 * k..4 * k + 4].copy_from_slice(&word.to_le_bytes());
+    let path = std::env::args().nth(1).expect("an ELF file");
+    let (entry, segments) = elf::read(&path);
+    let mut machine = Machine { x: [0; 32], pc: entry, memory: Memory::new(), output: Vec::new() };
+    for segment in &segments {
+        for number in segment.pages() {
+            machine.memory.map(number, segment.rights);
+        }
+        for (address, byte) in (segment.address..).zip(&segment.bytes) {
+            machine.memory.page_mut(address, segment.rights).ok().unwrap().bytes[(address & 4095) as usize] = *byte;
         }
     }
     for number in 0x7_FFC0..0x8_0000 {
@@ -396,7 +396,10 @@ fn main() {
     out.write_all(&machine.output).unwrap();
     match end {
         End::Exited(status) => write!(out, "\nprocess 0 exited {status} after {steps} steps\n"),
-        End::Trap(cause, value) => write!(out, "\nprocess 0 trap {cause} value 0x{value:08X} after {steps} steps\n"),
+        End::Trap(cause, value) => {
+            let pc = machine.pc;
+            write!(out, "\nprocess 0 trap {cause} hart 0 pc 0x{pc:08X} value 0x{value:08X} after {steps} steps\n")
+        }
     }
     .unwrap();
 }

@@ -1,16 +1,16 @@
 -- How the pages that a process begins with are mapped one after another.
-use Rattle.std.proofs.Common.{◌≡◌, ◌≢◌, ℕ, zero, suc, ◌+◌, ◌-◌, ◌<◌, ◌≤◌, List, [], ◌∷◌, ◌++◌, length, take, map, get_or, slice_index_or, Option, Some, None, false, cond, arith, refl, sym, ap, ◌∙◌, subst, length-append, ne_eqb, append_assoc}
+use Rattle.std.proofs.Common.{◌≡◌, ℕ, zero, suc, ◌+◌, ◌-◌, ◌<◌, ◌≤◌, List, [], ◌∷◌, ◌++◌, length, take, map, slice_index_or, Some, None, false, cond, arith, refl, sym, ap, ◌∙◌, subst, append_assoc}
 use Rattle.std.specs.List.{range_with_len}
 use Rattle.std.specs.Ordering.{nat_cmp, eq_by_cmp}
 use Rattle.std.specs.Cmp.{nat_cmp_total}
-use Rattle.std.specs.FinMap.{FinMap, get, insert, empty, from_entries, find, get-from_entries, from_entries_push, nat_cmp-IsAntisymmetric}
-use Rattle.std.proofs.lemmas.List.{map-append, take_more, length_push, take_all, length-take, get_or-take, get_or_default}
+use Rattle.std.specs.FinMap.{get, insert, from_entries, find, get-from_entries, from_entries_push, nat_cmp-IsAntisymmetric}
+use Rattle.std.proofs.lemmas.List.{map-append, take_more, length-take, get_or-take, get_or_default}
 use Rattle.std.proofs.lemmas.List.FromFn.{map-range_with_len_more}
 use Rattle.std.proofs.lemmas.Bool.Decides.{nat_tests}
-use Rattle.page_memory.specs.Memory.{Page, Memory}
+use Rattle.page_memory.specs.Memory.{Page}
 use Rattle.elf_image.specs.declared.image.ImagePage.{ImagePage}
 use Rattle.elf_image.specs.Image.{ArePages}
-use Rattle.flat_machine.specs.Process.{image_entry, stack_entry, opening_pages}
+use Rattle.flat_machine.specs.Process.{image_entry, stack_entry}
 
 -- every page number is below a number
 abbrev pub KeysBelow : ℕ → List (ℕ × Page) → Type 0

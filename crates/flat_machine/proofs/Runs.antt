@@ -1,5 +1,5 @@
 -- Runs one after another, and where a run by turns stops.
-use Rattle.std.proofs.Common.{◌≡◌, ℕ, zero, suc, ◌+◌, ◌-◌, ◌*◌, ◌<◌, ◌≤◌, List, [], ◌∷◌, ◌++◌, length, take, drop, replicate, slice_index, slice_index_or, flat_map, Option, Some, None, option_and_then, arith, refl, sym, ap, ◌∙◌, subst, take-append-drop, drop-cons, append-nil, length-append, add-one}
+use Rattle.std.proofs.Common.{◌≡◌, ℕ, zero, suc, ◌+◌, ◌<◌, ◌≤◌, List, [], ◌∷◌, ◌++◌, length, take, drop, replicate, slice_index, slice_index_or, Some, None, option_and_then, arith, refl, sym, ap, ◌∙◌, subst, take-append-drop, drop-cons, append-nil, length-append, add-one}
 use Rattle.std.proofs.lemmas.Option.{none-some}
 use Rattle.std.proofs.lemmas.List.{replicate-append-replicate, length-replicate, get_or_append_left, get_or-append-add, get_or-replicate, take-append-le, take_more}
 use Rattle.std.proofs.lemmas.Grind.{flat_map-append}

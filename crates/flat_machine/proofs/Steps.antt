@@ -1,16 +1,16 @@
 -- What a step is, by the line of its instruction.
-use Rattle.std.proofs.Common.{◌≡◌, ◌==◌, ◌&&◌, ℕ, Bool, true, false, Option, Some, None, is_none, is_some, IsTrue, ap, ◌∙◌, refl, sym, eq-eqb, cond}
+use Rattle.std.proofs.Common.{◌≡◌, ◌==◌, ◌&&◌, ℕ, false, Option, Some, None, is_none, is_some, ap, ◌∙◌, refl, eq-eqb, cond}
 use Rattle.page_memory.specs.Memory.{Memory}
 use Rattle.rv_exec.specs.declared.cause.Cause.{Cause}
 use Rattle.rv_exec.specs.Registers.{Registers}
 use Rattle.rv_exec.specs.Line as line
 use Rattle.env_calls.specs.Environment.{Environment}
-use Rattle.env_calls.specs.Effect.{Effect, Runs, Exits, Traps}
+use Rattle.env_calls.specs.Effect.{Effect, Runs, Exits}
 use Rattle.env_calls.specs.Calls.{call}
 use Rattle.env_calls.specs.Step.{effect}
 use Rattle.env_calls.specs.StepLaws.{effect_next, effect_call, effect_traps}
 use Rattle.flat_machine.specs.declared.end.End.TheVariants.{Exited, Trapped}
-use Rattle.flat_machine.specs.Process.{Process, after, may_step, flat_step}
+use Rattle.flat_machine.specs.Process.{Process, after, flat_step}
 use Rattle.flat_machine.specs.Refusals.{CallsNow}
 
 -- what is no `Some` is `None`

@@ -1,5 +1,5 @@
 -- When a step is refused, and when it makes a call.
-use Rattle.std.specs.Prelude.{◌≡◌, ◌≢◌, ℕ, Option, Some, None, IsSome, ◌<◌, List, length, take, slice_index}
+use Rattle.std.specs.Prelude.{◌≡◌, ◌≢◌, ℕ, Some, None, IsSome, ◌<◌, List, length, take, slice_index}
 use Rattle.rv_exec.specs.Line as line
 use Rattle.env_calls.specs.Serving.{Lengthens}
 use Rattle.env_calls.specs.Step.{effect}

@@ -10,5 +10,5 @@ mod stepping;
 
 pub use end::{End, KillCause};
 pub use process::FlatProcess;
-pub use schedule::{MOST_TURNS, Schedule, ScheduleError, Turn};
+pub use schedule::{MOST_TURNS, Schedule, ScheduleFull, Turn};
 pub use stepping::StepRefusal;

@@ -3,7 +3,7 @@
 ghost use Rattle.std.specs.Prelude.{◌≡◌};
 ghost use Rattle.paged_cli.specs.ExitStatus.{exit_status};
 
-use flat_machine::{End, KillCause};
+use flat_machine::End;
 use std::io::Write;
 use std::{fmt, io};
 
@@ -54,7 +54,7 @@ impl fmt::Display for Ending {
                     "trap {cause} hart {hart} pc 0x{pc:08X} value 0x{value:08X}"
                 )
             }
-            End::Killed(KillCause::Limit) => f.write_str("killed limit"),
+            End::Killed(cause) => write!(f, "killed {cause}"),
         }
     }
 }

@@ -1,6 +1,5 @@
-use Rattle.std.proofs.Common.{◌≡◌, ◌++◌, ◌∷◌, [], ◌+◌, ℕ, length, slice_index_or, take, map, None, arith, ap, sym, ◌∙◌, subst}
+use Rattle.std.proofs.Common.{◌++◌, ◌∷◌, [], take, map, arith, ap, sym, ◌∙◌, subst}
 use Rattle.std.specs.FinMap.{get, insert, from_entries}
-use Rattle.page_memory.specs.Memory.{Page}
 use Rattle.elf_image.specs.declared.image.ImagePage.{ImagePage}
 use Rattle.flat_machine.specs.Process.{image_entry}
 use Rattle.flat_machine.proofs.Pages.{KeysBelow, images_below, unmapped, mapped, one_more_image}

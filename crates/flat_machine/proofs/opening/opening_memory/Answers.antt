@@ -1,7 +1,6 @@
-use Rattle.std.proofs.Common.{◌≡◌, ◌++◌, ◌∷◌, [], ◌-◌, ◌+◌, ℕ, length, map, None, arith, ap, sym, ◌∙◌, subst}
+use Rattle.std.proofs.Common.{◌≡◌, ◌++◌, ◌-◌, ◌+◌, map, arith, ap, ◌∙◌}
 use Rattle.std.specs.FinMap.{get, insert, from_entries}
 use Rattle.std.specs.List.{range_with_len}
-use Rattle.page_memory.specs.Memory.{Page}
 use Rattle.flat_machine.specs.Process.{image_entry, stack_entry}
 use Rattle.flat_machine.proofs.Pages.{stack_below, unmapped, mapped, one_more_stack}
 use Rattle.flat_machine.proofs.opening.opening_memory.Goals as goal

@@ -1,6 +1,4 @@
-use Rattle.std.proofs.Common.{◌≡◌, None, Some, sym, ap, ◌∙◌, subst, refl}
-use Rattle.env_calls.specs.Calls.{call}
-use Rattle.env_calls.specs.Effect.{Effect}
+use Rattle.std.proofs.Common.{◌≡◌, Some, sym, subst, refl}
 use Rattle.env_calls.specs.Serving.{Lengthens}
 use Rattle.env_calls.specs.Step.{effect}
 use Rattle.env_calls.specs.StepLaws.{effect_call}

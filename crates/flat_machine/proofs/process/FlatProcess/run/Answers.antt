@@ -1,4 +1,4 @@
-use Rattle.std.proofs.Common.{◌≡◌, ℕ, ◌+◌, ◌≤◌, ◌*◌, length, take, drop, replicate, arith, refl, ap, sym, ◌∙◌, slice_index_or, subst}
+use Rattle.std.proofs.Common.{◌+◌, arith, refl, ap, sym, ◌∙◌, slice_index_or, subst}
 use Rattle.std.proofs.lemmas.List.{get_or_default}
 use Rattle.flat_machine.specs.declared.schedule.Turn.{Turn}
 use Rattle.flat_machine.specs.Schedule.{written_out}

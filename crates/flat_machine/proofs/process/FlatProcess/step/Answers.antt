@@ -1,4 +1,4 @@
-use Rattle.std.proofs.Common.{◌≡◌, None, Some, sym, ap, ◌∙◌, subst}
+use Rattle.std.proofs.Common.{◌≡◌, Some, sym, ap, ◌∙◌, subst}
 use Rattle.rv_exec.specs.Registers.{Registers}
 use Rattle.flat_machine.specs.declared.end.End.TheVariants.{Trapped}
 use Rattle.flat_machine.specs.Process.{Process, flat_step}

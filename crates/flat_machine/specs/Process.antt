@@ -2,7 +2,7 @@
 use Rattle.std.specs.Prelude.{ℕ, ◌==◌, ◌&&◌, Bool, List, [], ◌∷◌, ◌++◌, map, replicate, Option, Some, None, is_none, option_and_then, if◌then◌else◌}
 use Rattle.std.specs.List.{range_with_len}
 use Rattle.std.specs.FinMap.{from_entries}
-use Rattle.page_memory.specs.Memory.{Page, Memory}
+use Rattle.page_memory.specs.Memory.{Page, Memory, zero_page}
 use Rattle.rv_exec.specs.Registers.{Registers, cleared, with_register}
 use Rattle.elf_image.specs.declared.image.ImagePage.{ImagePage}
 use Rattle.elf_image.specs.Image.{ImageContent}
@@ -32,7 +32,7 @@ image_entry listed = (listed.number, listed.page)
 
 -- a page of the stack: zeros that may be read and written
 abbrev pub stack_entry : ℕ → ℕ × Page
-stack_entry number = (number, record { rights = record { 0 = 3 }; bytes = replicate 4096 0 })
+stack_entry number = (number, zero_page)
 
 -- the pages that a process begins with: its image's, and 64 of stack from 0x7FFC0000 to 0x7FFFFFFF
 abbrev pub opening_pages : List ImagePage → List (ℕ × Page)

@@ -1,8 +1,8 @@
 -- The state that the fields of a body stand for.
 use Rattle.std.specs.Prelude.{◌<◌, length}
-use Rattle.clock_list.specs.declared.key.Key.{Key}
+use Rattle.clock_policy.specs.declared.key.Key.{Key}
 use Rattle.clock_list.specs.declared.body.Body.{Body}
-use Rattle.clock_list.specs.ClockPro.{ClockState, place}
+use Rattle.clock_policy.specs.ClockPro.{ClockState, place}
 
 abbrev pub state_of : Body → ClockState
 state_of b = record {

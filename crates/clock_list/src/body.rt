@@ -1,18 +1,15 @@
 //! The list with its hands, and the policy's moves on it.
 
 ghost use Rattle.std.specs.Prelude.{◌≡◌, ◌≤◌, ◌<◌, ◌+◌, ◌-◌, ◌*◌, ℕ, vec_len, vec_capacity, IfOk, OnErr, Ok, Err, ◌≢◌};
-ghost use Rattle.clock_list.specs.ClockPro.{place, relisted, removed, appended, marked, sent_to_end, grown, fallen, turned_to, cold_hand_on, shadowed, trimmed_once, trimmed, asked_entry, asks_hot, opening, question_of, purged, gone_on, gives_up, heeded, test_answered, cold_answered, answered, is_full, new_admitted, shadow_admitted, admitted, new_restored, shadow_restored, restored, withdrawn};
-ghost use Rattle.clock_list.specs.Lawful.{HasFewEntries};
+ghost use Rattle.clock_policy.specs.ClockPro.{place, relisted, removed, appended, marked, sent_to_end, grown, fallen, turned_to, cold_hand_on, shadowed, trimmed_once, trimmed, asked_entry, asks_hot, opening, question_of, purged, gone_on, gives_up, heeded, test_answered, cold_answered, answered, is_full, new_admitted, shadow_admitted, admitted, new_restored, shadow_restored, restored, withdrawn};
+ghost use Rattle.clock_policy.specs.Lawful.{HasFewEntries};
 
-use crate::answer::{Bit, Kind, Verdict};
-use crate::entry::{Entry, EntryKind};
-use crate::key::Key;
 use crate::rebuild::{rebuild_trimmed, rebuild_turned, rebuild_without, rebuild_without_process};
-use crate::refusal::Refusal;
 use crate::scan::{
     cold_count, first_cold_from, first_hot, first_key_from, first_shadow_from, hot_count, kind_of,
     place, place_of, settled, shadow_count, test_count,
 };
+use clock_policy::{Bit, Entry, EntryKind, Key, Kind, Refusal, Verdict};
 use std::alloc::{AllocError, Global};
 use std::mem;
 
@@ -39,7 +36,7 @@ impl Body {
     ghost use Rattle.clock_list.specs.BodyState.{state_of, Lists};
 
     /// An empty list, with room for two entries a frame.
-    #[tactic(auto, unfolding(crate::specs::ClockPro::opening))]
+    #[tactic(auto, unfolding(clock_policy::specs::ClockPro::opening))]
     pub(crate) fn new(alloc: Global, frames: usize) -> Result<Self, AllocError>
         requires least { 4 ≤ frames }
         requires most { frames ≤ 4096 }
@@ -59,7 +56,7 @@ impl Body {
     }
 
     /// Takes the list in `spare` for the old one, and settles the hands.
-    #[tactic(auto, unfolding(crate::specs::ClockPro::relisted))]
+    #[tactic(auto, unfolding(clock_policy::specs::ClockPro::relisted))]
     fn relist(&mut self)
         requires { vec_len self.old.spare ≤ 2 * self.old.frames }
         ensures moved { state_of self.new ≡ relisted self.old.spare.items (state_of self.old) }
@@ -71,7 +68,7 @@ impl Body {
         mem::swap(&mut self.entries, &mut self.spare);
     }
 
-    #[tactic(auto, unfolding(crate::specs::ClockPro::removed))]
+    #[tactic(auto, unfolding(clock_policy::specs::ClockPro::removed))]
     pub(crate) fn remove(&mut self, key: Key)
         requires { Lists self.old key }
         ensures moved { state_of self.new ≡ removed key (state_of self.old) }
@@ -83,7 +80,7 @@ impl Body {
         self.relist();
     }
 
-    #[tactic(auto, unfolding(crate::specs::ClockPro::appended))]
+    #[tactic(auto, unfolding(clock_policy::specs::ClockPro::appended))]
     pub(crate) fn append(&mut self, entry: Entry)
         requires { vec_len self.old.entries < 2 * self.old.frames }
         ensures moved { state_of self.new ≡ appended entry (state_of self.old) }
@@ -93,7 +90,7 @@ impl Body {
         self.test_hand = Some(self.test_hand.unwrap_or(entry.key));
     }
 
-    #[tactic(auto, unfolding(crate::specs::ClockPro::sent_to_end))]
+    #[tactic(auto, unfolding(clock_policy::specs::ClockPro::sent_to_end))]
     pub(crate) fn send_to_end(&mut self, key: Key, kind: EntryKind)
         requires { Lists self.old key }
         ensures moved { state_of self.new ≡ sent_to_end key kind (state_of self.old) }
@@ -102,7 +99,7 @@ impl Body {
         self.append(Entry { key, kind });
     }
 
-    #[tactic(auto, unfolding(crate::specs::ClockPro::marked))]
+    #[tactic(auto, unfolding(clock_policy::specs::ClockPro::marked))]
     pub(crate) fn mark(&mut self, key: Key, kind: EntryKind)
         requires { Lists self.old key }
         ensures moved { state_of self.new ≡ marked key kind (state_of self.old) }
@@ -112,14 +109,14 @@ impl Body {
         self.entries[i] = Entry { key, kind };
     }
 
-    #[tactic(auto, unfolding(crate::specs::ClockPro::grown))]
+    #[tactic(auto, unfolding(clock_policy::specs::ClockPro::grown))]
     pub(crate) fn grow(&mut self)
         ensures moved { state_of self.new ≡ grown (state_of self.old) }
     {
         self.share = (self.share + 1).min(self.frames - 1);
     }
 
-    #[tactic(auto, unfolding(crate::specs::ClockPro::fallen))]
+    #[tactic(auto, unfolding(clock_policy::specs::ClockPro::fallen))]
     fn fall(&mut self, tests: usize)
         ensures moved { state_of self.new ≡ fallen tests (state_of self.old) }
     {
@@ -127,7 +124,7 @@ impl Body {
     }
 
     /// The hot hand goes to the hot entry, which is answered.
-    #[tactic(auto, unfolding(crate::specs::ClockPro::turned_to))]
+    #[tactic(auto, unfolding(clock_policy::specs::ClockPro::turned_to))]
     pub(crate) fn turn_to(&mut self, bit: Bit, hot: Entry)
         requires { Lists self.old hot.key }
         ensures moved { state_of self.new ≡ turned_to bit hot (state_of self.old) }
@@ -139,7 +136,7 @@ impl Body {
         self.fall(tests);
     }
 
-    #[tactic(auto, unfolding(crate::specs::ClockPro::cold_hand_on))]
+    #[tactic(auto, unfolding(clock_policy::specs::ClockPro::cold_hand_on))]
     pub(crate) fn set_cold_hand(&mut self, key: Key)
         ensures moved { state_of self.new ≡ cold_hand_on key (state_of self.old) }
         ensures same { self.new.entries ≡ self.old.entries }
@@ -149,7 +146,7 @@ impl Body {
     }
 
     /// The entry becomes a shadow where it stands, and the cold hand goes to its next.
-    #[tactic(auto, unfolding(crate::specs::ClockPro::shadowed))]
+    #[tactic(auto, unfolding(clock_policy::specs::ClockPro::shadowed))]
     pub(crate) fn shadow(&mut self, key: Key)
         requires { Lists self.old key }
         ensures moved { state_of self.new ≡ shadowed key (state_of self.old) }
@@ -159,7 +156,7 @@ impl Body {
         self.cold_hand = first_key_from(&self.entries, i + 1);
     }
 
-    #[tactic(auto, unfolding(crate::specs::ClockPro::trimmed_once))]
+    #[tactic(auto, unfolding(clock_policy::specs::ClockPro::trimmed_once))]
     fn trim_once(&mut self)
         ensures moved { state_of self.new ≡ trimmed_once (state_of self.old) }
     {
@@ -170,7 +167,7 @@ impl Body {
         self.fall(tests);
     }
 
-    #[tactic(auto, unfolding(crate::specs::ClockPro::trimmed))]
+    #[tactic(auto, unfolding(clock_policy::specs::ClockPro::trimmed))]
     pub(crate) fn trim(&mut self)
         ensures moved { state_of self.new ≡ trimmed (state_of self.old) }
     {
@@ -179,7 +176,7 @@ impl Body {
         }
     }
 
-    #[tactic(auto, unfolding(crate::specs::ClockPro::purged))]
+    #[tactic(auto, unfolding(clock_policy::specs::ClockPro::purged))]
     pub(crate) fn purge(&mut self, process: u32)
         ensures moved { state_of self.new ≡ purged process (state_of self.old) }
     {
@@ -194,7 +191,7 @@ impl Body {
     }
 
     /// The entry that the question names.
-    #[tactic(auto, unfolding(crate::specs::ClockPro::asked_entry))]
+    #[tactic(auto, unfolding(clock_policy::specs::ClockPro::asked_entry))]
     pub(crate) fn asked_entry(&self) -> Option<Entry>
         ensures { result ≡ asked_entry (state_of self.now) }
     {
@@ -205,14 +202,14 @@ impl Body {
         }
     }
 
-    #[tactic(auto, unfolding(crate::specs::ClockPro::question_of))]
+    #[tactic(auto, unfolding(clock_policy::specs::ClockPro::question_of))]
     pub(crate) fn question(&self) -> Option<Key>
         ensures { result ≡ question_of (state_of self.now) }
     {
         self.asked_entry().map(|x| x.key)
     }
 
-    #[tactic(auto, unfolding(crate::specs::ClockPro::gone_on))]
+    #[tactic(auto, unfolding(clock_policy::specs::ClockPro::gone_on))]
     fn go_on(&mut self) -> Verdict
         ensures moved { state_of self.new ≡ (gone_on (state_of self.old)).0 }
         ensures answer { Ok result ≡ (gone_on (state_of self.old)).1 }
@@ -221,7 +218,7 @@ impl Body {
         Verdict::GoOn
     }
 
-    #[tactic(auto, unfolding(crate::specs::ClockPro::gives_up))]
+    #[tactic(auto, unfolding(clock_policy::specs::ClockPro::gives_up))]
     fn give_up(&mut self, key: Key) -> Verdict
         ensures moved { state_of self.new ≡ (gives_up key (state_of self.old)).0 }
         ensures answer { Ok result ≡ (gives_up key (state_of self.old)).1 }
@@ -286,7 +283,7 @@ impl Body {
         }
     }
 
-    #[tactic(auto, unfolding(crate::specs::ClockPro::answered))]
+    #[tactic(auto, unfolding(clock_policy::specs::ClockPro::answered))]
     pub(crate) fn answer(&mut self, bit: Bit) -> Result<Verdict, Refusal>
         ensures moved { state_of self.new ≡ (answered bit (state_of self.old)).0 }
         ensures answer { result ≡ (answered bit (state_of self.old)).1 }
@@ -307,14 +304,14 @@ impl Body {
         }
     }
 
-    #[tactic(auto, using(crate::specs::Counts::length_is))]
+    #[tactic(auto, using(clock_policy::specs::Counts::length_is))]
     fn is_full(&self) -> bool
         ensures { result ≡ is_full (state_of self.now) }
     {
         hot_count(&self.entries) + cold_count(&self.entries) == self.frames
     }
 
-    #[tactic(auto, using(crate::specs::Counts::length_is))]
+    #[tactic(auto, using(clock_policy::specs::Counts::length_is))]
     fn admit_new(&mut self, key: Key) -> Result<Kind, Refusal>
         requires { HasFewEntries (state_of self.old) }
         ensures moved { state_of self.new ≡ (new_admitted key (state_of self.old)).0 }
@@ -347,7 +344,7 @@ impl Body {
         Ok(Kind::Hot)
     }
 
-    #[tactic(auto, using(crate::specs::Listed::kind_listed), unfolding(crate::specs::ClockPro::admitted))]
+    #[tactic(auto, using(clock_policy::specs::Listed::kind_listed), unfolding(clock_policy::specs::ClockPro::admitted))]
     pub(crate) fn admit(&mut self, key: Key) -> Result<Kind, Refusal>
         requires { HasFewEntries (state_of self.old) }
         ensures moved { state_of self.new ≡ (admitted key (state_of self.old)).0 }
@@ -364,7 +361,7 @@ impl Body {
         }
     }
 
-    #[tactic(auto, using(crate::specs::Counts::length_is))]
+    #[tactic(auto, using(clock_policy::specs::Counts::length_is))]
     fn restore_new(&mut self, key: Key) -> Result<(), Refusal>
         requires { HasFewEntries (state_of self.old) }
         ensures moved { state_of self.new ≡ (new_restored key (state_of self.old)).0 }
@@ -396,7 +393,7 @@ impl Body {
         Ok(())
     }
 
-    #[tactic(auto, using(crate::specs::Listed::kind_listed), unfolding(crate::specs::ClockPro::restored))]
+    #[tactic(auto, using(clock_policy::specs::Listed::kind_listed), unfolding(clock_policy::specs::ClockPro::restored))]
     pub(crate) fn restore(&mut self, key: Key) -> Result<(), Refusal>
         requires { HasFewEntries (state_of self.old) }
         ensures moved { state_of self.new ≡ (restored key (state_of self.old)).0 }
@@ -413,7 +410,7 @@ impl Body {
         }
     }
 
-    #[tactic(auto, using(crate::specs::Listed::kind_listed), unfolding(crate::specs::ClockPro::withdrawn))]
+    #[tactic(auto, using(clock_policy::specs::Listed::kind_listed), unfolding(clock_policy::specs::ClockPro::withdrawn))]
     pub(crate) fn withdraw(&mut self, key: Key) -> Result<(), Refusal>
         ensures moved { state_of self.new ≡ (withdrawn key (state_of self.old)).0 }
         ensures answer { result ≡ (withdrawn key (state_of self.old)).1 }

@@ -1,18 +1,14 @@
 //! The list as a vector.
 
 ghost use Rattle.std.specs.Prelude.{◌≡◌, ◌≢◌, ◌≤◌, ◌<◌, ◌*◌, ◌↔◌, ◌⊎◌, ℕ, IfOk, IfErr, OnOk, OnErr, IsOk, Ok, Err, slice_get, option_map};
-ghost use Rattle.clock_list.specs.ClockPro.{opening, question_of, answered, admitted, restored, withdrawn, purged, purge_count};
-ghost use Rattle.clock_list.specs.Lawful.{Lawful};
-ghost use Rattle.clock_list.specs.Bound.{left, NothingResident};
+ghost use Rattle.clock_policy.specs.ClockPro.{opening, question_of, answered, admitted, restored, withdrawn, purged, purge_count};
+ghost use Rattle.clock_policy.specs.Lawful.{Lawful};
+ghost use Rattle.clock_policy.specs.Bound.{left, NothingResident};
 
-use crate::answer::{Bit, Kind, Verdict};
 use crate::body::Body;
-use crate::clock::Clock;
-use crate::entry::EntryKind;
-use crate::key::Key;
-use crate::refusal::Refusal;
-use crate::scan::process_count;
-use std::alloc::Global;
+use crate::scan::{kind_of, process_count};
+use clock_policy::{Bit, Clock, Entry, EntryKind, Key, Kind, NewRefusal, Refusal, Verdict};
+use std::alloc::{AllocError, Global};
 use std::marker::Model;
 
 /// CLOCK-Pro over a vector of entries. All its memory is taken by `new`.
@@ -24,37 +20,30 @@ pub struct ClockList {
 }
 
 impl Model for ClockList {
-    ghost use Rattle.clock_list.specs.ClockPro.{ClockState};
+    ghost use Rattle.clock_policy.specs.ClockPro.{ClockState};
 
     ghost Value = { ClockState };
 
     ghost use Rattle.clock_list.specs.BodyState.{state_of};
-    ghost use Rattle.clock_list.specs.Lawful.{Lawful};
+    ghost use Rattle.clock_policy.specs.Lawful.{Lawful};
 
     ghost view = { λ c. state_of c.body };
 
     ghost invariant = { λ c. Lawful (state_of c.body) };
 }
 
-impl ClockList {
-    /// An empty list for 4 to 4096 frames.
-    pub fn new(alloc: Global, frames: usize) -> Result<Self, Refusal>
-        ensures ok { IfOk result (λ clock. clock ≡ opening frames) }
-        ensures bad_size { (result ≡ Err Refusal.BadSize) ↔ ((frames < 4) ⊎ (4096 < frames)) }
-        ensures memory { IfErr result (λ e. e ≢ Refusal.BadSize → e ≡ Refusal.NoMemory) }
-    {
+impl Clock for ClockList {
+    ghost state = { λ c. c };
+
+    fn new(alloc: Global, frames: usize) -> Result<Self, NewRefusal> {
         if !(4..=4096).contains(&frames) {
-            return Err(Refusal::BadSize);
+            return Err(NewRefusal::BadSize);
         }
         match Body::new(alloc, frames) {
             Ok(body) => Ok(ClockList { body }),
-            Err(_) => Err(Refusal::NoMemory),
+            Err(_) => Err(NewRefusal::NoMemory),
         }
     }
-}
-
-impl Clock for ClockList {
-    ghost state = { λ c. c };
 
     fn frames(&self) -> usize {
         self.body.frames
@@ -74,6 +63,7 @@ impl Clock for ClockList {
         ensures exact { result ≡ (admitted key self.old).1 }
         ensures memory { result ≢ Err Refusal.NoMemory }
         ensures err { OnErr result (self.new ≡ self.old) }
+        ensures frames { self.new.frames ≡ self.old.frames }
         ensures lawful { Lawful self.new }
     {
         self.body.admit(key)
@@ -85,6 +75,7 @@ impl Clock for ClockList {
         ensures exact { result ≡ (restored key self.old).1 }
         ensures memory { result ≢ Err Refusal.NoMemory }
         ensures err { OnErr result (self.new ≡ self.old) }
+        ensures frames { self.new.frames ≡ self.old.frames }
         ensures lawful { Lawful self.new }
     {
         self.body.restore(key)
@@ -118,5 +109,13 @@ impl Clock for ClockList {
 
     fn entry(&self, i: usize) -> Option<(Key, EntryKind)> {
         self.body.entries.get(i).map(|e| (e.key, e.kind))
+    }
+
+    fn kind_of(&self, key: Key) -> Option<EntryKind> {
+        kind_of(&self.body.entries, key)
+    }
+
+    fn copy_entries(&self, to: &mut Vec<Entry>) -> Result<(), AllocError> {
+        to.extend_from_slice(&self.body.entries)
     }
 }

@@ -1,9 +1,6 @@
 //! The policy told move by move, one entry at a time, with its loops written out: what the list's equations are tested against.
 
-use crate::answer::{Bit, Kind, Verdict};
-use crate::entry::{Entry, EntryKind};
-use crate::key::Key;
-use crate::refusal::Refusal;
+use clock_policy::{Bit, Entry, EntryKind, Key, Kind, Refusal, Verdict};
 use std::alloc::{AllocError, Global};
 
 #[derive(Debug, Drop)]

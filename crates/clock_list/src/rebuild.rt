@@ -2,11 +2,10 @@
 
 ghost use Rattle.std.specs.Prelude.{◌≡◌, ◌≤◌, ◌<◌, ◌+◌, ◌*◌, ℕ, length, take, drop, ◌++◌, ◌∷◌, [], not, filter, vec_len, vec_capacity};
 ghost use Rattle.std.specs.List.{list_any};
-ghost use Rattle.clock_list.specs.ClockPro.{test_ended, tests_ended, trimmed_part, trimmed_tests, trimmed_list, round, hot_left, is_shadow, is_of};
+ghost use Rattle.clock_policy.specs.ClockPro.{test_ended, tests_ended, trimmed_part, trimmed_tests, trimmed_list, round, hot_left, is_shadow, is_of};
 
-use crate::answer::Bit;
-use crate::entry::{Entry, EntryKind};
 use crate::scan::has_shadow;
+use clock_policy::{Bit, Entry, EntryKind};
 
 fn copy(to: &mut Vec<Entry>, from: &[Entry])
     requires { vec_len to.old + length from.now ≤ vec_capacity to.old }
@@ -121,7 +120,7 @@ pub(crate) fn rebuild_turned(to: &mut Vec<Entry>, entries: &[Entry], i: usize, b
     }
 }
 
-#[tactic(auto, using(crate::specs::Counts::round_tests_then, crate::specs::Counts::round_tests_else, crate::specs::Counts::trimmed_list_then, crate::specs::Counts::trimmed_list_else))]
+#[tactic(auto, using(clock_policy::specs::Counts::round_tests_then, clock_policy::specs::Counts::round_tests_else, clock_policy::specs::Counts::trimmed_list_then, clock_policy::specs::Counts::trimmed_list_else))]
 /// The entries once trimmed from the place on, and how many tests that ended.
 pub(crate) fn rebuild_trimmed(to: &mut Vec<Entry>, entries: &[Entry], i: usize) -> usize
     requires listed { i ≤ length entries.now }

@@ -2,9 +2,9 @@
 use Rattle.std.specs.Prelude.{◌≡◌, ℕ, ◌==◌, List, [], ◌∷◌, ◌⊎◌, Bool, codes}
 use Rattle.std.specs.List.{before_first, after_first}
 use Rattle.std.specs.Str.Parse.{digits_value}
-use Rattle.clock_list.specs.declared.key.Key.{Key}
-use Rattle.clock_list.specs.declared.answer.Bit.{Bit}
-use Rattle.clock_list.specs.declared.answer.Bit.TheVariants.{Zero, One, Gone}
+use Rattle.clock_policy.specs.declared.key.Key.{Key}
+use Rattle.clock_policy.specs.declared.answer.Bit.{Bit}
+use Rattle.clock_policy.specs.declared.answer.Bit.TheVariants.{Zero, One, Gone}
 use Rattle.paged_cli.specs.Numbers.{IsUpTo, IsNumber, number_value}
 use Rattle.paged_cli.specs.declared.clock_script.ClockCall.{ClockCall}
 use Rattle.paged_cli.specs.declared.clock_script.ClockCall.TheVariants.{Admit, Ask, Answer, Restore, Withdraw, Purge, Show}

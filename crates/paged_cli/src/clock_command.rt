@@ -3,7 +3,8 @@
 use crate::clock_script::{ClockCall, call_on_line};
 use crate::fault::Fault;
 use crate::files::read_text;
-use clock_list::{Clock, ClockList, Key, Refusal, Verdict};
+use clock_list::ClockList;
+use clock_policy::{Clock, Key, Refusal, Verdict};
 use std::io::Write;
 use std::rt::Files;
 use std::{fmt, io};

@@ -7,7 +7,7 @@ ghost use Rattle.paged_cli.specs.ClockScript.{IsSkipped, IsWritten, IsKey, key_v
 ghost use Rattle.paged_cli.specs.declared.clock_script.ClockCall.{ClockCall};
 
 use crate::numbers::{number, numeral};
-use clock_list::{Bit, Key};
+use clock_policy::{Bit, Key};
 use text_lines::next_word;
 use thiserror::Error;
 

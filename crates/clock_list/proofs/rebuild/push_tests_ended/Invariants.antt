@@ -1,5 +1,5 @@
 use Rattle.std.proofs.Common.{◌≡◌, ◌+◌, ◌≤◌, ◌++◌, drop, vec_len, vec_capacity}
-use Rattle.clock_list.specs.ClockPro.{tests_ended}
+use Rattle.clock_policy.specs.ClockPro.{tests_ended}
 use Rattle.clock_list.proofs.rebuild.push_tests_ended.Given as goal
 
 abbrev pub invariant-loop-entry : goal.invariant-loop-entry

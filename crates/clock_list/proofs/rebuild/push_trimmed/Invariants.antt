@@ -1,5 +1,5 @@
 use Rattle.std.proofs.Common.{◌≡◌, ◌+◌, ◌≤◌, ◌++◌, drop, vec_len, vec_capacity}
-use Rattle.clock_list.specs.ClockPro.{trimmed_part, trimmed_tests}
+use Rattle.clock_policy.specs.ClockPro.{trimmed_part, trimmed_tests}
 use Rattle.clock_list.proofs.rebuild.push_trimmed.Given as goal
 
 abbrev pub invariant-loop-i : goal.invariant-loop-i

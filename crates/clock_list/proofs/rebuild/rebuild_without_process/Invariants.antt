@@ -1,6 +1,6 @@
 use Rattle.std.proofs.Common.{◌≡◌, ◌≤◌, ◌++◌, drop, vec_len, vec_capacity}
 use Rattle.std.specs.Prelude.{filter, not}
-use Rattle.clock_list.specs.ClockPro.{is_of}
+use Rattle.clock_policy.specs.ClockPro.{is_of}
 use Rattle.clock_list.proofs.rebuild.rebuild_without_process.Given as goal
 
 abbrev pub invariant-loop-entry : goal.invariant-loop-entry

@@ -1,6 +1,9 @@
 -- the call keeps the state lawful
-use Rattle.clock_list.specs.ClockLaws.{answered_lawful, lowers_at}
-use Rattle.clock_list.specs.QuestionLaws.{refused_nowhere}
+use Rattle.std.proofs.Common.{ap, ◌∙◌}
+use Rattle.clock_policy.specs.ClockLaws.{answered_lawful, lowers_at}
+use Rattle.clock_policy.specs.QuestionLaws.{refused_nowhere}
+use Rattle.clock_policy.specs.ClockPro.{ClockState}
+use Rattle.clock_policy.specs.KeptLaws.{answered_frames}
 use Rattle.clock_list.specs.BodyState.{state_of}
 use Rattle.clock_list.proofs.list.ClockListClock.answer.Goals as goal
 
@@ -15,3 +18,7 @@ returns-clause-lowers c = λ on. rw (← c.self.view_is) (lowers_at c.args.bit (
 
 pub returns-clause-none : goal.returns-clause-none
 returns-clause-none c = rw (← c.self.view_is) (refused_nowhere c.args.bit (state_of c.self.inside.body) c.answer.result c.answer.ensures.answer)
+
+pub returns-clause-frames : goal.returns-clause-frames
+returns-clause-frames c =
+    ap (λ (t : ClockState). t.frames) c.answer.ensures.moved ∙ answered_frames c.args.bit (state_of c.self.inside.body) ∙ ap (λ (t : ClockState). t.frames) c.self.view_is

@@ -1,0 +1,12 @@
+pub mod Bound
+pub mod ClockLaws
+pub mod ClockPro
+pub mod CountLaws
+pub mod Counts
+pub mod KeptLaws
+pub mod Lawful
+pub mod Listed
+pub mod QuestionLaws
+pub mod RefusalNumber
+pub mod Steady
+pub mod Text

@@ -8,5 +8,7 @@ pub mod Lawful
 pub mod Listed
 pub mod QuestionLaws
 pub mod RefusalNumber
+pub mod ResidentLaws
+pub mod Residents
 pub mod Steady
 pub mod Text

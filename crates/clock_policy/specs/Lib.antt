@@ -1,3 +1,4 @@
+pub mod AdmitLaws
 pub mod Bound
 pub mod ClockLaws
 pub mod ClockPro

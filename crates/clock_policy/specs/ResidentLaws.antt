@@ -1,7 +1,6 @@
 -- How each call changes the number of resident entries that pass a test of their keys.
-use Rattle.std.specs.Prelude.{◌≡◌, ℕ, suc, ◌+◌, ◌*◌, ◌≤◌, ◌<◌, Bool, true, false, not, ◌==◌, ◌&&◌, cond, nat_lt, ◌⊎◌, Option, Some, None, is_some, is_ok, find, filter, slice_get, option_map, List, [], ◌∷◌, ◌++◌, take, drop, set, length, Result, Ok, Err, refl}
-use Rattle.std.proofs.Common.{arith, sym, ap, ◌∙◌, inl, inr}
-use Rattle.std.proofs.lemmas.Bool.Decides.{nat_tests}
+use Rattle.std.specs.Prelude.{◌≡◌, ℕ, ◌+◌, ◌*◌, Bool, true, false, ◌==◌, ◌&&◌, cond, nat_lt, Some, None, List, [], ◌∷◌, ◌++◌, take, drop, Result, Ok, Err, refl}
+use Rattle.std.proofs.Common.{arith, ap}
 use Rattle.clock_policy.specs.declared.key.Key.{Key}
 use Rattle.clock_policy.specs.declared.entry.Entry.{Entry}
 use Rattle.clock_policy.specs.declared.entry.EntryKind.{EntryKind}
@@ -10,20 +9,15 @@ use Rattle.clock_policy.specs.declared.answer.Bit.{Bit}
 use Rattle.clock_policy.specs.declared.answer.Bit.TheVariants.{Zero, One, Gone}
 use Rattle.clock_policy.specs.declared.answer.Verdict.{Verdict}
 use Rattle.clock_policy.specs.declared.answer.Verdict.TheVariants.{GoOn, Victim}
-use Rattle.clock_policy.specs.declared.answer.Kind.{Kind}
-use Rattle.clock_policy.specs.declared.answer.Kind.TheVariants as kind
 use Rattle.clock_policy.specs.declared.refusal.Refusal.{Refusal}
-use Rattle.clock_policy.specs.declared.refusal.Refusal.TheVariants.{AlreadyResident, Full}
-use Rattle.clock_policy.specs.ClockPro.{ClockState, Answer, number, has_key, place, place_of, round, key_of, is_hot, is_cold, is_shadow, hot_count, cold_count, shadow_count, test_ended, tests_ended, trimmed_part, trimmed_list, hot_left, relisted, removed, appended, marked, sent_to_end, grown, fallen, turned_to, cold_hand_on, shadowed, trimmed, trimmed_once, asked_entry, question_of, gone_on, gives_up, heeded, kind_answered, entry_answered, answered, is_full, kind_of, kind_admitted, admitted, kind_restored, restored, kind_withdrawn, withdrawn, is_of, purged}
-use Rattle.clock_policy.specs.Residents.{in_frame, is_resident, residents, is_key, found_in_frame, has_resident, is_gone, takes}
+use Rattle.clock_policy.specs.ClockPro.{ClockState, number, place, place_of, key_of, is_shadow, shadow_count, test_ended, tests_ended, trimmed_part, trimmed_list, hot_left, relisted, removed, appended, marked, sent_to_end, grown, fallen, turned_to, cold_hand_on, shadowed, trimmed, trimmed_once, asked_entry, question_of, gone_on, gives_up, heeded, kind_answered, entry_answered, answered}
+use Rattle.clock_policy.specs.Residents.{in_frame, is_resident, residents, is_gone, takes}
 use Rattle.clock_policy.specs.Lawful.{Lawful}
 use Rattle.clock_policy.specs.Counts.{any_shadow}
-use Rattle.clock_policy.specs.Listed.{has_key_refl}
-use Rattle.clock_policy.specs.CountLaws.{same_key, number-append, number-split, number-without, number-set, IsIn, place_holds}
+use Rattle.clock_policy.specs.CountLaws.{number-append, number-split, number-set, IsIn, place_holds}
 use Rattle.clock_policy.specs.ClockLaws.{removed_number, turned_number, sent_number, asked_in}
 use Rattle.clock_policy.specs.ClockLaws.{steady_of}
 use Rattle.clock_policy.specs.Steady.{Based, Steady}
-use Rattle.clock_policy.specs.QuestionLaws.{asked_resident}
 
 -- Tests that end leave the resident entries.
 

@@ -1,0 +1,47 @@
+ghost use Rattle.std.specs.Prelude.{◌<◌, ◌≤◌, length};
+
+use crate::translation::Translation;
+
+/// How many hints there are: as many pages in a row have one each.
+const HINTS: usize = 64;
+
+/// Where in a list the entries of pages were last put, by the pages' low bits. Nothing rests on a hint.
+#[derive(Drop)]
+pub(crate) struct Hints {
+    places: [u8; HINTS],
+}
+
+impl Hints {
+    pub fn new() -> Hints {
+        Hints { places: [0; HINTS] }
+    }
+
+    /// Where to look for the entry of a page first.
+    #[inline]
+    pub fn place(&self, page: u32) -> usize {
+        usize::from(self.places[(page as usize) % HINTS])
+    }
+
+    /// The entry of a page was put at this place.
+    pub fn put(&mut self, page: u32, place: usize)
+        requires { place < 256 }
+    {
+        self.places[(page as usize) % HINTS] = place as u8;
+    }
+
+    /// The entries stand in this order.
+    pub fn set(&mut self, entries: &[Translation])
+        requires { length entries.now ≤ 16 }
+    {
+        for (place, entry) in entries.iter().enumerate() {
+            self.put(entry.page, place);
+        }
+    }
+
+    /// The first entry is gone, and each other stands one place before.
+    pub fn first_is_gone(&mut self) {
+        for place in self.places.iter_mut() {
+            *place = place.saturating_sub(1);
+        }
+    }
+}

@@ -1,0 +1,15 @@
+//! The translations that a hart has cached: a bounded list, one for each page, of which the oldest goes first.
+//!
+//! What a cache answers is the list's alone. Beside it stands a table of hints, where in the list a page was last put:
+//! a hint is tested before it is used, so that it makes a look-up fast and changes no answer. No call takes memory.
+#![tactic(auto)]
+
+mod hints;
+mod tlb;
+mod translation;
+
+pub use tlb::{TLB_ENTRIES, Tlb};
+pub use translation::Translation;
+
+#[cfg(test)]
+mod tests;

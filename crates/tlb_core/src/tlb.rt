@@ -1,0 +1,177 @@
+ghost use Rattle.std.specs.Prelude.{◌≡◌, ◌<◌, ◌≤◌, ℕ, [], ◌∷◌, ◌++◌, length, is_some, Some, None, position, slice_set, IfSome};
+ghost use Rattle.tlb_core.specs.Cache.{OnePerPage, entry_of, is_of, filled, doomed, undoomed, with_room};
+
+use crate::hints::Hints;
+use crate::translation::Translation;
+use arrayvec::ArrayVec;
+use std::marker::Model;
+
+/// The most entries that a cache has.
+pub const TLB_ENTRIES: usize = 16;
+
+/// The translations that a hart has cached, the oldest first, at most one for each page.
+#[derive(Drop)]
+pub struct Tlb {
+    entries: ArrayVec<Translation, TLB_ENTRIES>,
+    hints: Hints,
+}
+
+impl Model for Tlb {
+    ghost use Rattle.std.specs.Prelude.{List};
+    ghost use Rattle.tlb_core.specs.declared.translation.Translation.{Translation};
+    ghost use Rattle.tlb_core.specs.Cache.{OnePerPage};
+
+    ghost Value = { List Translation };
+
+    ghost view = { λ t. t.entries.items };
+
+    ghost invariant = { λ t. OnePerPage t.entries.items };
+}
+
+impl Tlb {
+    /// A cache of no entry.
+    pub fn new() -> Tlb
+        ensures { result ≡ [] }
+    {
+        Tlb {
+            entries: ArrayVec::new(),
+            hints: Hints::new(),
+        }
+    }
+
+    /// The entries, the oldest first.
+    pub fn entries(&self) -> &[Translation]
+        ensures entries { result.now ≡ self.now }
+        ensures few { length self.now ≤ 16 }
+        ensures one_each { OnePerPage self.now }
+    {
+        self.entries.as_slice()
+    }
+
+    /// The entry of a page. It is looked for where the hint says, and then everywhere.
+    #[inline]
+    #[tactic(auto, using(crate::specs::CacheLaws::found_at))]
+    pub fn look(&self, page: u32) -> Option<Translation>
+        ensures { result ≡ entry_of page self.now }
+    {
+        match self.entries.as_slice().get(self.hints.place(page)) {
+            Some(entry) if entry.page == page => Some(*entry),
+            _ => self.search(page),
+        }
+    }
+
+    /// Whether there is an entry of a page.
+    pub fn holds(&self, page: u32) -> bool
+        ensures { result ≡ is_some (entry_of page self.now) }
+    {
+        self.look(page).is_some()
+    }
+
+    #[cold]
+    #[tactic(auto, using(crate::proofs::Places::find_at_place, crate::specs::CacheLaws::find_nowhere))]
+    fn search(&self, page: u32) -> Option<Translation>
+        ensures { result ≡ entry_of page self.now }
+    {
+        match self.place_of(page) {
+            Some(place) => Some(self.entries.as_slice()[place]),
+            None => None,
+        }
+    }
+
+    /// Puts an entry in: in place of its page's where there is one, else behind the others. The oldest of 16 goes for it.
+    #[tactic(auto, using(crate::proofs::Places::filled_in_place, crate::proofs::Places::filled_behind, crate::specs::CacheLaws::find_nowhere))]
+    pub fn fill(&mut self, entry: Translation)
+        ensures { self.new ≡ filled entry self.old }
+    {
+        match self.place_of(entry.page) {
+            Some(place) => self.replace(place, entry),
+            None => self.append(entry),
+        }
+    }
+
+    /// Puts an entry in at the place of its page's.
+    #[tactic(auto, using(crate::proofs::Places::refill_set))]
+    fn replace(&mut self, place: usize, entry: Translation)
+        requires place { position (is_of entry.page) self.old ≡ Some place }
+        requires within { place < length self.old }
+        ensures { self.new ≡ slice_set self.old place entry }
+    {
+        self.entries.as_mut_slice()[place] = entry;
+        self.hints.put(entry.page, place);
+    }
+
+    /// Where the entry of a page stands.
+    #[tactic(auto, using(crate::proofs::Places::place_within))]
+    fn place_of(&self, page: u32) -> Option<usize>
+        ensures place { result ≡ position (is_of page) self.now }
+        ensures within { IfSome result (λ place. place < length self.now) }
+    {
+        self.entries
+            .as_slice()
+            .iter()
+            .position(|entry| entry.page == page)
+    }
+
+    /// Puts the entry of a page that has none behind the others.
+    fn append(&mut self, entry: Translation)
+        requires { entry_of entry.page self.old ≡ None }
+        ensures { self.new ≡ with_room self.old ++ entry ∷ [] }
+    {
+        self.make_room();
+        let place = self.entries.len();
+        self.entries.push(entry);
+        self.hints.put(entry.page, place);
+    }
+
+    /// The oldest of 16 goes.
+    #[tactic(auto, using(crate::proofs::Places::one_per_page_room, crate::proofs::Places::room_made, crate::proofs::Places::room_there))]
+    fn make_room(&mut self)
+        ensures entries { self.new ≡ with_room self.old }
+        ensures room { length self.new < 16 }
+    {
+        if self.entries.is_full() {
+            self.entries.remove(0);
+            self.hints.first_is_gone();
+        }
+    }
+
+    /// Marks the entry of a page as one to be dropped.
+    #[tactic(auto, using(crate::proofs::Places::marked_whole))]
+    pub fn doom(&mut self, page: u32)
+        ensures { self.new ≡ doomed page self.old }
+    {
+        mark(self.entries.as_mut_slice(), page);
+    }
+
+    /// Drops each entry that is marked, and no other. The others keep their order.
+    pub fn drop_doomed(&mut self)
+        ensures { self.new ≡ undoomed self.old }
+    {
+        keep_undoomed(&mut self.entries);
+        self.hints.set(self.entries.as_slice());
+    }
+
+    /// Drops all entries.
+    pub fn clear(&mut self)
+        ensures { self.new ≡ [] }
+    {
+        self.entries.clear();
+    }
+}
+
+/// Marks the entries of a page.
+#[tactic(auto, using(crate::proofs::Places::marked_more, crate::proofs::Places::marked_all))]
+fn mark(entries: &mut [Translation], page: u32)
+    ensures { entries.new ≡ doomed page entries.old }
+{
+    for entry in entries.iter_mut() {
+        entry.doomed |= entry.page == page;
+    }
+}
+
+/// Keeps the entries that are not marked.
+fn keep_undoomed(entries: &mut ArrayVec<Translation, TLB_ENTRIES>)
+    ensures { entries.new.items ≡ undoomed entries.old.items }
+{
+    entries.retain(|entry| !entry.doomed);
+}

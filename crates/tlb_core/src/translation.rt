@@ -1,0 +1,33 @@
+use bitflags::Flags;
+use page_memory::Rights;
+
+/// What a hart has cached of a page's translation.
+#[derive(Clone, Copy, PartialEq, Eq, Debug)]
+pub struct Translation {
+    /// The virtual page number.
+    pub page: u32,
+    /// Where the page stands among its process's pages.
+    pub place: usize,
+    /// The physical page number of its frame.
+    pub frame: u32,
+    /// What the page may be used for.
+    pub rights: Rights,
+    /// Whether a store through this entry needs no walk: the leaf had its D set.
+    pub dirty: bool,
+    /// Whether the entry is to be dropped when the hart takes its notices.
+    pub doomed: bool,
+}
+
+/// What stands in a place that no entry has.
+impl Default for Translation {
+    fn default() -> Translation {
+        Translation {
+            page: 0,
+            place: 0,
+            frame: 0,
+            rights: Rights::empty(),
+            dirty: false,
+            doomed: false,
+        }
+    }
+}

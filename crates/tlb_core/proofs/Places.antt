@@ -1,15 +1,14 @@
 -- What stands where in a cache, and that each page keeps at most one entry.
-use Rattle.std.proofs.Common.{◌≡◌, ◌≢◌, ℕ, zero, suc, ◌+◌, ◌<◌, ◌≤◌, Bool, true, false, cond, refl, sym, ap, ◌∙◌, arith, List, [], ◌∷◌, ◌++◌, length, get_or, set, take, drop, map, add-one, Option, Some, None, ◌==◌, nat_lt}
-use Rattle.std.specs.Prelude.{find, position, filter, not, slice_get}
+use Rattle.std.proofs.Common.{◌≡◌, ◌≢◌, ℕ, zero, suc, ◌+◌, ◌<◌, ◌≤◌, Bool, true, false, cond, refl, sym, ap, ◌∙◌, arith, List, [], ◌∷◌, ◌++◌, length, get_or, set, take, drop, map, add-one, Option, Some, None, nat_lt}
+use Rattle.std.specs.Prelude.{find, position, not, slice_get}
 use Rattle.std.specs.List.{position_or_len, refill}
 use Rattle.std.proofs.Math.ListN.{length-set}
-use Rattle.std.proofs.lemmas.List.{get_or-map, length-map, map-set, set-get_or, get_or-drop, length-drop, get_or_append_left, get_or-append_right, take_all, drop_all, append-nil}
+use Rattle.std.proofs.lemmas.List.{get_or-map, length-map, map-set, set-get_or, get_or-drop, length-drop, take_all, drop_all, append-nil}
 use Rattle.std.proofs.lemmas.List.Folds.{find_at}
 use Rattle.std.proofs.lemmas.List.Quantifiers.{position-Some, all_pairs_push}
 use Rattle.std.proofs.lemmas.List.Kept.{AllPairs-filter}
 use Rattle.std.proofs.lemmas.Bool.Decides.{nat_tests}
 use Rattle.tlb_core.specs.declared.translation.Translation.{Translation}
-use Rattle.tlb_core.specs.CacheLaws.{find_nowhere}
 use Rattle.tlb_core.specs.Cache.{OnePerPage, is_of, entry_of, with_room, filled, filled_at, doomed, doomed_entry, undoomed}
 
 -- a search by place is a search
@@ -106,8 +105,10 @@ not_in_room page xs k d none within = by_room (nat_lt (length xs) 16) within
 
 pub one_per_page_behind : (xs rs ys : List Translation) (e : Translation) → OnePerPage rs → rs ≡ with_room xs → entry_of e.page xs ≡ None → ys ≡ rs ++ e ∷ [] → OnePerPage ys
 one_per_page_behind xs rs ys e one room none made =
-    rw made (record { apart = all_pairs_push (λ (a b : Translation). a.page ≢ b.page) rs e one.apart
-    (λ k d within. let there : k < length (with_room xs) = rw (← room) within in rw room (not_in_room e.page xs k d none there)) })
+    rw made (record {
+      apart = all_pairs_push (λ (a b : Translation). a.page ≢ b.page) rs e one.apart
+          (λ k d within. let there : k < length (with_room xs) = rw (← room) within in rw room (not_in_room e.page xs k d none there));
+    })
 
 -- marks change no page
 pages-doomed : (page : ℕ) (xs : List Translation) → pages (doomed page xs) ≡ pages xs

@@ -1,5 +1,5 @@
 -- A translation cache: the entries of pages, at most 16, at most one for each page, the oldest first.
-use Rattle.std.specs.Prelude.{◌≡◌, ◌≢◌, ℕ, Bool, true, ◌==◌, ◌||◌, not, nat_lt, if◌then◌else◌, Option, Some, None, List, [], ◌∷◌, ◌++◌, length, drop, map, filter, find, position, slice_set, AllPairs}
+use Rattle.std.specs.Prelude.{◌≢◌, ℕ, Bool, ◌==◌, ◌||◌, not, nat_lt, if◌then◌else◌, Option, Some, None, List, [], ◌∷◌, ◌++◌, length, drop, map, filter, find, position, slice_set, AllPairs}
 use Rattle.tlb_core.specs.declared.translation.Translation.{Translation}
 
 -- each page has at most one entry

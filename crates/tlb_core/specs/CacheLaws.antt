@@ -1,8 +1,7 @@
 -- Laws of translation caches for the crates above: what each call does to all entries, and to the entry of a page.
-use Rattle.std.specs.Prelude.{◌≡◌, ◌≢◌, ℕ, ◌+◌, ◌<◌, ◌≤◌, Bool, true, false, not, ◌||◌, ◌==◌, nat_lt, Option, Some, None, List, [], ◌∷◌, ◌++◌, length, drop, map, filter, find, position, slice_get, slice_set, All, refl, ◌⊎◌}
+use Rattle.std.specs.Prelude.{◌≡◌, ◌≢◌, ℕ, ◌<◌, ◌≤◌, Bool, true, false, not, ◌||◌, nat_lt, Option, Some, None, List, [], ◌∷◌, length, drop, map, filter, find, position, slice_get, All, refl, ◌⊎◌}
 use Rattle.std.proofs.Common.{sym, ◌∙◌, ap, arith, cond, get_or, inl, inr, option_map, suc, zero}
 use Rattle.std.specs.List.{position_or_len}
-use Rattle.std.specs.Option.{option_or}
 use Rattle.std.proofs.lemmas.List.Elements.{All-head, All-tail, All-nil, All-cons, All-set, All-push, All-drop, All-filter, All-map, All-weaker, filter_passes}
 use Rattle.std.proofs.lemmas.List.{get_or_default}
 use Rattle.std.proofs.lemmas.List.Folds.{find_at, find-set, find-append}
@@ -31,16 +30,16 @@ pub page-entry_of : (page : ℕ) (cache : List Translation) (e : Translation) �
 page-entry_of page [] e found = cc
 page-entry_of page (x ∷ xs) e found =
     elim (first_or_later page x e (find (is_of page) xs) found) [
-      inl here ↦ ap (λ (z : Translation). z.page) (sym here.0) ∙ here.1
-    | inr later ↦ page-entry_of page xs e later.1
+      | inl here ↦ ap (λ (z : Translation). z.page) (sym here.0) ∙ here.1
+      | inr later ↦ page-entry_of page xs e later.1
     ]
 
 pub All-entry_of : (P : Translation → Type 0) (page : ℕ) (cache : List Translation) (e : Translation) → All P cache → entry_of page cache ≡ Some e → P e
 All-entry_of P page [] e all found = cc
 All-entry_of P page (x ∷ xs) e all found =
     elim (first_or_later page x e (find (is_of page) xs) found) [
-      inl here ↦ let same : x ≡ e = here.0 in rw (← same) (All-head P x xs all)
-    | inr later ↦ All-entry_of P page xs e (All-tail P x xs all) later.1
+      | inl here ↦ let same : x ≡ e = here.0 in rw (← same) (All-head P x xs all)
+      | inr later ↦ All-entry_of P page xs e (All-tail P x xs all) later.1
     ]
 
 -- where a page has no entry, each entry is another's, and the other way round
@@ -201,11 +200,11 @@ kept_step : (q : ℕ) (x found : Translation) (xs kept : List Translation) → (
     → found.doomed ≡ false → find (is_of q) (x ∷ xs) ≡ Some found → find (is_of q) (cond (not x.doomed) (x ∷ kept) kept) ≡ Some found
 kept_step q x found xs kept later clear is =
     elim (first_or_later q x found (find (is_of q) xs) is) [
-      inl here ↦ let mark : x.doomed ≡ false = ap (λ (z : Translation). z.doomed) here.0 ∙ clear in
-        let of : x.page ≡ q = here.1 in
-        let test : is_of q x ≡ true = grind (arith, nat_tests) in
-        kept_first (not x.doomed) (ap not mark) test here.0
-    | inr behind ↦ by_mark behind.0 (later behind.1) (not x.doomed)
+      | inl here ↦ let mark : x.doomed ≡ false = ap (λ (z : Translation). z.doomed) here.0 ∙ clear in
+          let of : x.page ≡ q = here.1 in
+          let test : is_of q x ≡ true = grind (arith, nat_tests) in
+          kept_first (not x.doomed) (ap not mark) test here.0
+      | inr behind ↦ by_mark behind.0 (later behind.1) (not x.doomed)
     ]
   where
     kept_first : (b : Bool) → b ≡ true → is_of q x ≡ true → x ≡ found → find (is_of q) (cond b (x ∷ kept) kept) ≡ Some found

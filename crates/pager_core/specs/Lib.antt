@@ -1,0 +1,2 @@
+pub mod Pager
+pub mod Refusals

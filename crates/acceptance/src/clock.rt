@@ -1,6 +1,6 @@
-//! Runs of `paged clock` with four frames.
+//! Runs of `paged clock`, with four frames where nothing else is said.
 
-use crate::runs::{Run, run_clock};
+use crate::runs::{Run, run_clock, run_clock_for};
 use std::process::Abort;
 use std::test::Fail;
 
@@ -39,6 +39,25 @@ fn shadows_trimmed(rt: HostRuntime) -> Result<(), Fail> {
         share 1 asked 0 cold 0/6 test 0/2: 0/2=shadow 0/3=shadow 0/4=shadow 0/5=shadow 0/6=test 0/7=test 0/8=test\n\
         refused 1\nrefused 3\ntest\nrefused 4\n";
     expect_replies(&rt, &run_clock(&rt, "shadows_trimmed", script)?, replies);
+    Ok(())
+}
+
+/// As many pages as there are frames come in, and no more.
+#[test]
+fn frames_are_those_asked_for(rt: HostRuntime) -> Result<(), Fail> {
+    let script = "admit 0/1\nadmit 0/2\nadmit 0/3\nadmit 0/4\nadmit 0/5\nadmit 0/6\nadmit 0/7\n";
+    let cases = [
+        (
+            "4",
+            "test\ntest\ntest\ntest\nrefused 4\nrefused 4\nrefused 4\n",
+        ),
+        ("6", "test\ntest\ntest\ntest\ntest\ntest\nrefused 4\n"),
+        ("4096", "test\ntest\ntest\ntest\ntest\ntest\ntest\n"),
+    ];
+    for (frames, replies) in cases {
+        let done = run_clock_for(&rt, "frames_are_those_asked_for", frames, script)?;
+        expect_replies(&rt, &done, replies);
+    }
     Ok(())
 }
 

@@ -56,8 +56,13 @@ pub fn run_flat(rt: &HostRuntime, test: &str, content: &[u8]) -> io::Result<Run>
 
 /// Runs `paged clock` for four frames on a script.
 pub fn run_clock(rt: &HostRuntime, test: &str, script: &str) -> io::Result<Run> {
+    run_clock_for(rt, test, "4", script)
+}
+
+/// Runs `paged clock` for a number of frames on a script.
+pub fn run_clock_for(rt: &HostRuntime, test: &str, frames: &str, script: &str) -> io::Result<Run> {
     let file = TestFile::new(rt, test, script.as_bytes())?;
-    let done = run_words(rt, &["clock", "4", file.path.as_str()]);
+    let done = run_words(rt, &["clock", frames, file.path.as_str()]);
     file.remove(rt)?;
     done
 }

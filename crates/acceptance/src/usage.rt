@@ -12,7 +12,7 @@ fn expect_fault(rt: &impl Abort, done: &Run, fault: &str) {
 }
 
 /// Command lines, their words parted by `|`.
-const BAD_LINES: [&str; 40] = [
+const BAD_LINES: [&str; 42] = [
     "--help",
     "-h",
     "help",
@@ -30,7 +30,9 @@ const BAD_LINES: [&str; 40] = [
     "flat|x|y",
     "flat|-x",
     "flat|--frames|4|x",
-    "flat|--input|x|y",
+    "flat|--input|x",
+    "flat|x|--input",
+    "flat|--input|x|--input|y|z",
     "flat|--limit|x",
     "flat|x|--limit",
     "flat|--limit|0|x",
@@ -117,5 +119,26 @@ fn refuses_what_cannot_be_read(rt: HostRuntime) -> Result<(), Fail> {
     let fault = format!(in rt.alloc(); "paged: {}: cannot read\n", file.path)?;
     file.remove(&rt)?;
     expect_fault(&rt, &done, fault.as_str());
+    Ok(())
+}
+
+/// The image is read before the input.
+#[test]
+fn refuses_an_input_that_cannot_be_read(rt: HostRuntime) -> Result<(), Fail> {
+    let image = TestFile::new(
+        &rt,
+        "refuses_an_input_that_cannot_be_read",
+        b".words\n00000073\n",
+    )?;
+    let missing = "no/such/input";
+    let cases = [
+        ("no/such/image", "paged: no/such/image: cannot read\n"),
+        (image.path.as_str(), "paged: no/such/input: cannot read\n"),
+    ];
+    for (name, fault) in cases {
+        let done = run_words(&rt, &["flat", "--input", missing, name])?;
+        expect_fault(&rt, &done, fault);
+    }
+    image.remove(&rt)?;
     Ok(())
 }

@@ -1,7 +1,8 @@
 //! The command line.
 
-ghost use Rattle.std.specs.Prelude.{◌≤◌, IfOk};
-ghost use Rattle.paged_cli.specs.Request.{IsInRange};
+ghost use Rattle.std.specs.Prelude.{◌≡◌, IfOk, IfErr, OkIff};
+ghost use Rattle.std.specs.Str.Parse.{digits_value};
+ghost use Rattle.paged_cli.specs.Request.{IsInRange, IsBetween};
 
 use crate::fault::Fault;
 use crate::numbers::numeral;
@@ -14,11 +15,21 @@ use std::convert::AsStr;
 #[derive(Clone, Copy, Debug, PartialEq, Eq)]
 pub enum Request<'a> {
     /// Assemble a source into an ELF file.
-    Asm { source: &'a str, target: &'a str },
-    /// Run an image on flat memory for at most `limit` instructions.
-    Flat { limit: u32, image: &'a str },
+    Asm {
+        source: &'a str,
+        target: &'a str,
+    },
+    /// Run an image on flat memory for at most `limit` instructions, with a file's bytes as its input or none.
+    Flat {
+        limit: u32,
+        input: Option<&'a str>,
+        image: &'a str,
+    },
     /// Play a script on a replacement list for `frames` frames.
-    Clock { frames: u32, script: &'a str },
+    Clock {
+        frames: u32,
+        script: &'a str,
+    },
 }
 
 /// How many instructions run where no limit is given.
@@ -66,8 +77,13 @@ fn flat_request<'a>(matches: &ArgMatches<'a>) -> Result<Request<'a>, Fault<'a>>
         Some(text) => in_range(text, 1, MOST_LIMIT)?,
         None => DEFAULT_LIMIT,
     };
+    let input = matches.get_str("input");
     let image = matches.get_str("image").ok_or(Fault::BadUsage)?;
-    Ok(Request::Flat { limit, image })
+    Ok(Request::Flat {
+        limit,
+        input,
+        image,
+    })
 }
 
 fn clock_request<'a>(matches: &ArgMatches<'a>) -> Result<Request<'a>, Fault<'a>>
@@ -79,10 +95,10 @@ fn clock_request<'a>(matches: &ArgMatches<'a>) -> Result<Request<'a>, Fault<'a>>
     Ok(Request::Clock { frames, script })
 }
 
-/// A decimal number in a range.
+/// The number that a text writes in decimal, where it lies in a range.
 fn in_range<'a>(text: &str, least: u32, most: u32) -> Result<u32, Fault<'a>>
-    ensures low { IfOk result (λ number. least ≤ number) }
-    ensures high { IfOk result (λ number. number ≤ most) }
+    ensures number { OkIff result (IsBetween least most text.now) (digits_value 10 text.now) }
+    ensures refused { IfErr result (λ fault. fault ≡ Fault.BadUsage) }
 {
     match numeral(text.as_bytes(), 10, most) {
         Some(number) if number >= least => Ok(number),
@@ -97,6 +113,7 @@ fn paged<'a>(alloc: Global) -> Result<Command<'a>, AllocError> {
         .arg(Arg::new(alloc, "target").required(true))?;
     let flat = Command::new(alloc, "flat")
         .arg(Arg::new(alloc, "limit").long("limit"))?
+        .arg(Arg::new(alloc, "input").long("input"))?
         .arg(Arg::new(alloc, "image").required(true))?;
     let clock = Command::new(alloc, "clock")
         .arg(Arg::new(alloc, "frames").required(true))?

@@ -42,7 +42,11 @@ fn run_words<'a, R: Files + AllocGlobal, S: AsStr, O: Write>(
             run_asm(rt, source, target, out)?;
             Ok(0)
         }
-        Request::Flat { limit, image } => run_flat(rt, limit, image, out),
+        Request::Flat {
+            limit,
+            input,
+            image,
+        } => run_flat(rt, limit, input, image, out),
         Request::Clock { frames, script } => {
             run_clock(rt, frames, script, out)?;
             Ok(0)

@@ -1,0 +1,7 @@
+pub mod PageValue
+pub mod Kept
+pub mod Moves
+pub mod View
+pub mod StateLending
+pub mod Lending
+pub mod JobValue

@@ -1,0 +1,146 @@
+-- What a page becomes by each move, and what the move gives.
+use Rattle.std.specs.Prelude.{◌≡◌, ◌≢◌, ℕ, Bool, true, false, Option, Some, None, Result, Ok, Err, IsFalse}
+use Rattle.swap_slots.specs.Slot.{Rose}
+use Rattle.frame_pool.specs.FrameValue.{FrameValue}
+use Rattle.page_store.specs.JobValue.{JobValue, SavedValue}
+use Rattle.page_store.specs.declared.refusal.ReadFault.{ReadFault}
+use Rattle.page_store.specs.declared.refusal.ReadFault.TheVariants as read_fault
+use Rattle.page_store.specs.declared.refusal.FillFault.{FillFault}
+use Rattle.page_store.specs.declared.refusal.FillFault.TheVariants as fault
+use Rattle.page_store.specs.PageValue.{PageValue, Place, Fresh, Resident, Leaving, Saving, Away, Purged}
+use Rattle.page_store.specs.Kept.{kept}
+use Rattle.page_store.specs.declared.state.Keeping.{Keeping}
+use Rattle.page_store.specs.declared.state.Keeping.TheVariants as keeping
+use Rattle.page_store.specs.declared.answer.Collected.{Collected}
+use Rattle.page_store.specs.declared.answer.Collected.TheVariants as answer
+use Rattle.page_store.specs.declared.answer.SaveRefusal.{SaveRefusal}
+use Rattle.page_store.specs.declared.answer.SaveRefusal.TheVariants.{WrongPage, Mismatch, Device}
+use Rattle.page_store.specs.declared.refusal.LeaveRefusal.{LeaveRefusal}
+use Rattle.page_store.specs.declared.refusal.LeaveRefusal.TheVariants.{AlreadyLeaving, NotResident}
+
+-- a page that begins to leave, with the mark that its table entry had
+abbrev pub left : {S : Type 0} → Bool → Place S → Result (Place S) LeaveRefusal
+left mark Fresh = Err NotResident
+left mark (Resident frame slot) = Ok (Leaving frame slot mark)
+left mark (Leaving frame slot old) = Err AlreadyLeaving
+left mark (Saving frame) = Err AlreadyLeaving
+left mark (Away slot) = Err NotResident
+left mark Purged = Err NotResident
+
+-- a page that is leaving, mapped again, with the mark that it counts as changed
+abbrev pub brought_back : {S : Type 0} → Place S → Option (Place S × Bool)
+brought_back Fresh = None
+brought_back (Resident frame slot) = None
+brought_back (Leaving frame slot mark) = Some (Resident frame slot, mark)
+brought_back (Saving frame) = None
+brought_back (Away slot) = None
+brought_back Purged = None
+
+-- what an ended process's page gives back: its frame and its slot; a page that is being saved, or has neither, is left
+abbrev pub given_back : {S : Type 0} → Place S → Option (Option FrameValue × Option S)
+given_back Fresh = None
+given_back (Resident frame slot) = Some (Some frame, kept slot)
+given_back (Leaving frame slot mark) = Some (Some frame, kept slot)
+given_back (Saving frame) = None
+given_back (Away slot) = Some (None, Some slot)
+given_back Purged = None
+
+-- a page, the spare slot that is left, and the answer
+abbrev pub CollectedPage : Type 0 → Type 0 → Type 0
+CollectedPage L S = Place S × (Option S × Collected L S)
+
+-- a changed page is copied for a job that takes the slot
+abbrev pub job_of : {S : Type 0} → ℕ → ℕ → FrameValue → S → JobValue S
+job_of process vpn frame slot = record { process = process; vpn = vpn; copy = frame.bytes; slot = slot }
+
+module _ {L : Type 0} {S : Type 0} (process vpn : ℕ) where
+  -- a changed page with no slot of its own takes the spare one
+  abbrev pub with_spare : FrameValue → Bool → Option S → CollectedPage L S
+  with_spare frame mark None = (Leaving frame keeping.NoSlot mark, (None, answer.NoSlot))
+  with_spare frame mark (Some slot) = (Saving frame, (None, answer.Dirty (job_of process vpn frame slot)))
+
+  -- a leaving page that no cache holds: an unchanged one is dropped to its backing, a changed one goes to be saved
+  abbrev pub let_go : FrameValue → Keeping S → Bool → Option S → CollectedPage L S
+  let_go frame keeping.NoSlot false spare = (Fresh, (spare, answer.Clean frame))
+  let_go frame keeping.NoSlot true spare = with_spare frame true spare
+  let_go frame (keeping.Unsaved slot) mark spare = (Saving frame, (spare, answer.Dirty (job_of process vpn frame slot)))
+  let_go frame (keeping.Saved slot) false spare = (Away slot, (spare, answer.Clean frame))
+  let_go frame (keeping.Saved slot) true spare = (Saving frame, (spare, answer.Dirty (job_of process vpn frame slot)))
+
+  abbrev pub collect_leaving : FrameValue → Keeping S → Bool → Bool → Option S → CollectedPage L S
+  collect_leaving frame slot mark true spare = (Leaving frame slot mark, (spare, answer.NotYet))
+  collect_leaving frame slot mark false spare = let_go frame slot mark spare
+
+  -- a look at a page, of which caches hold translations or none
+  abbrev pub collected : Bool → Place S → Option S → CollectedPage L S
+  collected cached Fresh spare = (Fresh, (spare, answer.NotLeaving))
+  collected cached (Resident frame slot) spare = (Resident frame slot, (spare, answer.NotLeaving))
+  collected cached (Leaving frame slot mark) spare = collect_leaving frame slot mark cached spare
+  collected cached (Saving frame) spare = (Saving frame, (spare, answer.NotLeaving))
+  collected cached (Away slot) spare = (Away slot, (spare, answer.NotLeaving))
+  collected cached Purged spare = (Purged, (spare, answer.NotLeaving))
+
+-- of a page that is being saved, with its frame
+abbrev pub IfSaving : {S : Type 0} → Place S → (FrameValue → Type 0) → Type 0
+IfSaving Fresh P = ⊥
+IfSaving (Resident frame slot) P = ⊥
+IfSaving (Leaving frame slot mark) P = ⊥
+IfSaving (Saving frame) P = P frame
+IfSaving (Away slot) P = ⊥
+IfSaving Purged P = ⊥
+
+-- why a save that comes back does not free the frame, and what the page is then
+abbrev pub RefusesSave : {S : Type 0} → SavedValue S → Place S → Place S → SaveRefusal S → Type 0
+RefusesSave job old new (WrongPage back) = (back ≡ job) × (new ≡ old) × (¬ IfSaving old (λ _. Unit {0}))
+RefusesSave job old new Mismatch = IfSaving old (λ frame. (frame.bytes ≢ job.copy) × (new ≡ Leaving frame (keeping.Unsaved job.slot) true))
+RefusesSave job old new Device = IfSaving old (λ frame. (frame.bytes ≡ job.copy) × (IsFalse job.passed) × (new ≡ Leaving frame (keeping.Unsaved job.slot) true))
+
+-- of a page that is not in memory, where `fresh` says what holds of one that is as it began, and `away` of one in its slot
+abbrev pub IfAbsent : {S : Type 0} → Place S → Type 0 → (S → Type 0) → Type 0
+IfAbsent Fresh fresh away = fresh
+IfAbsent (Resident frame slot) fresh away = ⊥
+IfAbsent (Leaving frame slot mark) fresh away = ⊥
+IfAbsent (Saving frame) fresh away = ⊥
+IfAbsent (Away slot) fresh away = away slot
+IfAbsent Purged fresh away = ⊥
+
+-- of a resident page, with its frame and what it keeps
+abbrev pub IfResident : {S : Type 0} → Place S → (FrameValue → Keeping S → Type 0) → Type 0
+IfResident Fresh P = ⊥
+IfResident (Resident frame slot) P = P frame slot
+IfResident (Leaving frame slot mark) P = ⊥
+IfResident (Saving frame) P = ⊥
+IfResident (Away slot) P = ⊥
+IfResident Purged P = ⊥
+
+-- of a page in its slot
+abbrev pub IfAway : {S : Type 0} → Place S → (S → Type 0) → Type 0
+IfAway Fresh P = ⊥
+IfAway (Resident frame slot) P = ⊥
+IfAway (Leaving frame slot mark) P = ⊥
+IfAway (Saving frame) P = ⊥
+IfAway (Away slot) P = P slot
+IfAway Purged P = ⊥
+
+-- of what a page keeps, where it is a slot that it was loaded from
+abbrev pub IfSaved : {S : Type 0} → Keeping S → (S → Type 0) → Type 0
+IfSaved keeping.NoSlot P = ⊥
+IfSaved (keeping.Unsaved slot) P = ⊥
+IfSaved (keeping.Saved slot) P = P slot
+
+-- a page that was brought into a frame: one that was as it began keeps no slot, one that was away the slot that it was loaded from
+abbrev pub Filled : {S : Type 0} → FrameValue → PageValue S → PageValue S → Type 0
+Filled frame old new =
+    IfResident new.place (λ filled slot. (filled.number ≡ frame.number) × IfAbsent old.place ((filled.bytes ≡ old.origin.bytes) × (slot ≡ keeping.NoSlot)) (λ _. IfSaved slot (λ _. Unit {0})))
+
+-- why a page was not brought in, with the frame that is handed back
+abbrev pub RefusesFill : {S : Type 0} → (S → ℕ) → FrameValue → Place S → Place S → FrameValue → FillFault → Type 0
+RefusesFill failures frame old new back fault.NotAbsent =
+    (¬ IfAbsent old (Unit {0}) (λ _. Unit {0})) × (new ≡ old) × (back ≡ frame)
+RefusesFill failures frame old new back fault.Device =
+    (back.number ≡ frame.number) × IfAway old (λ slot. IfAway new (λ after. Rose (failures slot) (failures after)))
+
+-- why a byte of a page is not read
+abbrev pub RefusesRead : {S : Type 0} → (S → ℕ) → Place S → Place S → ReadFault → Type 0
+RefusesRead failures old new read_fault.Purged = (old ≡ Purged) × (new ≡ old)
+RefusesRead failures old new read_fault.Device = IfAway old (λ slot. IfAway new (λ after. Rose (failures slot) (failures after)))

@@ -1,0 +1,120 @@
+-- One page of a process: its state, what it shows, and its backing.
+use Rattle.std.specs.Prelude.{◌≡◌, ℕ, Bool, true, false, ◌||◌, List, [], Option, Some, None, IsFalse}
+use Rattle.page_memory.specs.Memory.{Page}
+use Rattle.frame_pool.specs.FrameValue.{FrameValue}
+use Rattle.page_store.specs.declared.state.Keeping.{Keeping}
+use Rattle.page_store.specs.declared.state.Keeping.TheVariants.{NoSlot, Unsaved, Saved}
+use Rattle.page_store.specs.declared.state.PageState.{PageState}
+use Rattle.page_store.specs.declared.state.PageState.TheVariants as stage
+
+-- where a page is, with its frame, its slot and, while it leaves, the mark whether it counts as changed; while it is
+-- being saved its slot is with its job
+pub data Place (S : Type 0) : Type 0 where
+  Fresh : Place S
+  Resident : FrameValue → Keeping S → Place S
+  Leaving : FrameValue → Keeping S → Bool → Place S
+  Saving : FrameValue → Place S
+  Away : S → Place S
+  Purged : Place S
+
+-- a page: what it began with (its rights and bytes), and where it is
+pub record PageValue (S : Type 0) : Type 0 where
+  pub origin : Page
+  pub place : Place S
+
+abbrev pub state_of : {S : Type 0} → Place S → PageState
+state_of Fresh = stage.Fresh
+state_of (Resident frame slot) = stage.Resident
+state_of (Leaving frame slot mark) = stage.Leaving
+state_of (Saving frame) = stage.Saving
+state_of (Away slot) = stage.Away
+state_of Purged = stage.Purged
+
+-- the frame that a page holds
+abbrev pub frame_of : {S : Type 0} → Place S → Option FrameValue
+frame_of Fresh = None
+frame_of (Resident frame slot) = Some frame
+frame_of (Leaving frame slot mark) = Some frame
+frame_of (Saving frame) = Some frame
+frame_of (Away slot) = None
+frame_of Purged = None
+
+-- the frame whose bytes may be written: of a page that is mapped, or that caches may hold still
+abbrev pub writable : {S : Type 0} → Place S → Option FrameValue
+writable Fresh = None
+writable (Resident frame slot) = Some frame
+writable (Leaving frame slot mark) = Some frame
+writable (Saving frame) = None
+writable (Away slot) = None
+writable Purged = None
+
+-- the slot that a page has at hand
+abbrev pub slot_of : {S : Type 0} → Place S → Keeping S
+slot_of Fresh = NoSlot
+slot_of (Resident frame slot) = slot
+slot_of (Leaving frame slot mark) = slot
+slot_of (Saving frame) = NoSlot
+slot_of (Away slot) = Saved slot
+slot_of Purged = NoSlot
+
+-- the bytes that a page shows, where its slot holds those of `held`
+abbrev pub shown : {S : Type 0} → (S → List ℕ) → List ℕ → Place S → List ℕ
+shown held origin Fresh = origin
+shown held origin (Resident frame slot) = frame.bytes
+shown held origin (Leaving frame slot mark) = frame.bytes
+shown held origin (Saving frame) = frame.bytes
+shown held origin (Away slot) = held slot
+shown held origin Purged = []
+
+abbrev pub content : {S : Type 0} → (S → List ℕ) → PageValue S → List ℕ
+content held page = shown held page.origin.bytes page.place
+
+-- what a slot backs a page with: the bytes in it if they were saved, else those that the page began with
+abbrev pub backed : {S : Type 0} → (S → List ℕ) → List ℕ → Keeping S → List ℕ
+backed held origin NoSlot = origin
+backed held origin (Unsaved slot) = origin
+backed held origin (Saved slot) = held slot
+
+abbrev pub backing_at : {S : Type 0} → (S → List ℕ) → List ℕ → Place S → List ℕ
+backing_at held origin Fresh = origin
+backing_at held origin (Resident frame slot) = backed held origin slot
+backing_at held origin (Leaving frame slot mark) = backed held origin slot
+backing_at held origin (Saving frame) = origin
+backing_at held origin (Away slot) = held slot
+backing_at held origin Purged = []
+
+-- a slot that holds nothing for its page yet
+abbrev pub is_unsaved : {S : Type 0} → Keeping S → Bool
+is_unsaved NoSlot = false
+is_unsaved (Unsaved slot) = true
+is_unsaved (Saved slot) = false
+
+-- whether a page counts as changed: by the dirty bit of its table entry while it is resident, by the mark that it took
+-- along while it leaves, and always while it is saved or has a slot that holds nothing for it yet
+abbrev pub changed : {S : Type 0} → Bool → Place S → Bool
+changed dirty Fresh = false
+changed dirty (Resident frame slot) = dirty || is_unsaved slot
+changed dirty (Leaving frame slot mark) = mark || is_unsaved slot
+changed dirty (Saving frame) = true
+changed dirty (Away slot) = false
+changed dirty Purged = false
+
+-- that the bytes of a page are known: those in a slot are if slots are honest
+abbrev pub Known : {S : Type 0} → Type 0 → Place S → Type 0
+Known honest Fresh = Unit {0}
+Known honest (Resident frame slot) = Unit {0}
+Known honest (Leaving frame slot mark) = Unit {0}
+Known honest (Saving frame) = Unit {0}
+Known honest (Away slot) = honest
+Known honest Purged = Unit {0}
+
+-- the backing of a page: the bytes that it would show if it lost its frame now
+abbrev pub backing : {S : Type 0} → (S → List ℕ) → PageValue S → List ℕ
+backing held page = backing_at held page.origin.bytes page.place
+
+-- a page that does not count as changed equals its backing
+abbrev pub BackedAt : {S : Type 0} → (S → List ℕ) → List ℕ → Bool → Place S → Type 0
+BackedAt held origin dirty place = IsFalse (changed dirty place) → shown held origin place ≡ backing_at held origin place
+
+abbrev pub Backed : {S : Type 0} → (S → List ℕ) → Bool → PageValue S → Type 0
+Backed held dirty page = BackedAt held page.origin.bytes dirty page.place

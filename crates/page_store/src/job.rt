@@ -1,0 +1,135 @@
+ghost use Rattle.std.specs.Prelude.{◌≡◌, ◌≤◌, ◌↔◌, IsTrue, IsFalse};
+ghost use Rattle.swap_slots.specs.Slot.{Rose};
+
+use std::marker::Model;
+use swap_slots::SwapSlot;
+
+/// A page to be saved: a copy of its bytes, and the slot that they are for.
+#[derive(Drop)]
+pub struct SaveJob<S: SwapSlot> {
+    process: u32,
+    vpn: u32,
+    copy: [u8; 4096],
+    slot: S,
+}
+
+impl<S: SwapSlot> Model for SaveJob<S> {
+    ghost use Rattle.page_store.specs.JobValue.{JobValue};
+
+    ghost Value = { JobValue S };
+
+    ghost view = { λ j. record { process = j.process; vpn = j.vpn; copy = j.copy; slot = j.slot } };
+}
+
+impl<S: SwapSlot> SaveJob<S> {
+    /// The job of saving a page.
+    pub(crate) fn new(process: u32, vpn: u32, bytes: &[u8; 4096], slot: S) -> Self
+        ensures { result ≡ record { process = process; vpn = vpn; copy = bytes.now; slot = slot } }
+    {
+        SaveJob {
+            process,
+            vpn,
+            copy: *bytes,
+            slot,
+        }
+    }
+
+    /// The process that the page belongs to.
+    pub fn process(&self) -> u32
+        ensures { result ≡ self.now.process }
+    {
+        self.process
+    }
+
+    /// The page's number.
+    pub fn vpn(&self) -> u32
+        ensures { result ≡ self.now.vpn }
+    {
+        self.vpn
+    }
+
+    /// Writes the copy to the slot. Takes no memory, and waits for nothing but the device.
+    pub fn run(self) -> SavedJob<S>
+        ensures process { result.process ≡ self.process }
+        ensures vpn { result.vpn ≡ self.vpn }
+        ensures copy { result.copy ≡ self.copy }
+        ensures saved { S.honest → IsTrue result.passed → S.content result.slot ≡ self.copy }
+        ensures fault { IsFalse result.passed → Rose (S.failures self.slot) (S.failures result.slot) }
+        ensures counted { S.failures self.slot ≤ S.failures result.slot }
+    {
+        let SaveJob {
+            process,
+            vpn,
+            copy,
+            mut slot,
+        } = self;
+        let passed = slot.save(&copy).is_ok();
+        SavedJob {
+            process,
+            vpn,
+            copy,
+            slot,
+            passed,
+        }
+    }
+}
+
+/// A page that was written to its slot, or that its device failed to write.
+#[derive(Drop)]
+pub struct SavedJob<S: SwapSlot> {
+    process: u32,
+    vpn: u32,
+    copy: [u8; 4096],
+    slot: S,
+    passed: bool,
+}
+
+impl<S: SwapSlot> Model for SavedJob<S> {
+    ghost use Rattle.std.specs.Prelude.{◌≡◌, IsTrue};
+    ghost use Rattle.page_store.specs.JobValue.{SavedValue};
+
+    ghost Value = { SavedValue S };
+
+    ghost view = { λ j. record { process = j.process; vpn = j.vpn; copy = j.copy; slot = j.slot; passed = j.passed } };
+
+    ghost invariant = { λ j. S.honest → IsTrue j.passed → S.content j.slot ≡ j.copy };
+}
+
+impl<S: SwapSlot> SavedJob<S> {
+    /// The process that the page belongs to.
+    pub fn process(&self) -> u32
+        ensures { result ≡ self.now.process }
+    {
+        self.process
+    }
+
+    /// The page's number.
+    pub fn vpn(&self) -> u32
+        ensures { result ≡ self.now.vpn }
+    {
+        self.vpn
+    }
+
+    /// Whether the bytes are those of the copy.
+    pub(crate) fn is_copy(&self, bytes: &[u8; 4096]) -> bool
+        ensures { IsTrue result ↔ (bytes.now ≡ self.now.copy) }
+    {
+        *bytes == self.copy
+    }
+
+    /// The slot, and whether it holds the copy.
+    pub(crate) fn into_slot(self) -> (S, bool)
+        ensures slot { result.0 ≡ self.slot }
+        ensures passed { result.1 ≡ self.passed }
+        ensures saved { S.honest → IsTrue self.passed → S.content self.slot ≡ self.copy }
+    {
+        let SavedJob {
+            process: _,
+            vpn: _,
+            copy: _,
+            slot,
+            passed,
+        } = self;
+        (slot, passed)
+    }
+}

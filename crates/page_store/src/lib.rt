@@ -1,0 +1,20 @@
+//! One page of a process, wherever its bytes are: not yet used, in a frame, or in a slot.
+//!
+//! A `StoredPage` moves between these states, and what it shows stays the same by each move. At most one frame and one
+//! slot belong to it; both are moved in and out, and never copied.
+#![tactic(auto)]
+
+mod answer;
+mod job;
+mod page;
+mod refusal;
+mod state;
+
+pub use answer::{Collected, SaveRefusal};
+pub use job::{SaveJob, SavedJob};
+pub use page::StoredPage;
+pub use refusal::{FillFault, LeaveRefusal, NotLeaving, ReadFault};
+pub use state::{Keeping, PageState};
+
+#[cfg(test)]
+mod tests;

@@ -1,0 +1,352 @@
+ghost use Rattle.std.specs.Prelude.{◌≡◌, ◌≢◌, ◌<◌, ◌↔◌, slice_index, ℕ, List, Ok, Err, Some, None, OnOk, OnErr, IfOk, IfErr, IsErr, IsTrue, false, OnSome, IfNone, option_copied, option_map};
+ghost use Rattle.page_store.specs.Moves.{left, brought_back, given_back, collected, collect_leaving, job_of, RefusesSave, Filled, RefusesFill, RefusesRead, IfAway};
+ghost use Rattle.page_store.specs.PageValue.{Leaving, Saving, Away, Purged, Backed, BackedAt, shown, Known, content, state_of, frame_of, writable};
+ghost use Rattle.page_store.specs.View.{place_of};
+
+use crate::answer::{Collected, SaveRefusal};
+use crate::job::{SaveJob, SavedJob};
+use crate::refusal::{FillFault, LeaveRefusal, NotLeaving, ReadFault};
+use crate::state::{Keeping, Origin, PageState, State};
+use frame_pool::Frame;
+use page_memory::{Page, Rights};
+use std::marker::Model;
+use std::mem;
+use std::sync::ledger::Ledger;
+use swap_slots::SwapSlot;
+
+/// One page of a process.
+#[derive(Drop)]
+pub struct StoredPage<L: Ledger, S: SwapSlot> {
+    origin: Origin,
+    state: State<L, S>,
+}
+
+impl<L: Ledger, S: SwapSlot> Model for StoredPage<L, S> {
+    ghost use Rattle.page_store.specs.PageValue.{PageValue};
+    ghost use Rattle.page_store.specs.View.{origin_of, place_of};
+
+    ghost Value = { PageValue S };
+
+    ghost view = { λ p. record { origin = origin_of p.origin; place = place_of p.state } };
+}
+
+impl<L: Ledger, S: SwapSlot> StoredPage<L, S> {
+    ghost use Rattle.std.specs.Borrow.{sem};
+    ghost use Rattle.std.specs.Option.{option_copied_mut};
+    ghost use Rattle.page_store.specs.Lending.{LendsBytes};
+    ghost use Rattle.frame_pool.specs.FrameValue.{zero_bytes};
+    ghost use Rattle.page_store.specs.PageValue.{Fresh};
+
+    /// A page of an image.
+    pub fn of_image(page: Page) -> Self
+        ensures { result ≡ record { origin = page; place = Fresh } }
+    {
+        StoredPage {
+            origin: Origin::Image(page),
+            state: State::Fresh,
+        }
+    }
+
+    /// A page that begins with zeros.
+    pub fn zeroed(rights: Rights) -> Self
+        ensures { result ≡ record { origin = record { rights = rights; bytes = zero_bytes }; place = Fresh } }
+    {
+        StoredPage {
+            origin: Origin::Zeros(rights),
+            state: State::Fresh,
+        }
+    }
+
+    /// What the page may be used for.
+    pub fn rights(&self) -> Rights
+        ensures { result ≡ self.now.origin.rights }
+    {
+        self.origin.rights()
+    }
+
+    /// Where the page is.
+    pub fn state(&self) -> PageState
+        ensures { result ≡ state_of self.now.place }
+    {
+        match self.state {
+            State::Fresh => PageState::Fresh,
+            State::Resident(..) => PageState::Resident,
+            State::Leaving(..) => PageState::Leaving,
+            State::Saving(..) => PageState::Saving,
+            State::Away(..) => PageState::Away,
+            State::Purged => PageState::Purged,
+        }
+    }
+
+    /// The page's frame, if it has one.
+    #[inline]
+    pub fn frame(&self) -> Option<&Frame<L>>
+        ensures { option_copied result ≡ frame_of self.now.place }
+    {
+        match &self.state {
+            State::Resident(frame, _) => Some(frame),
+            State::Leaving(frame, _, _) => Some(frame),
+            State::Saving(frame) => Some(frame),
+            _ => None,
+        }
+    }
+
+    /// Lends the bytes of the page's frame to be written, where the page has one and is not being saved.
+    #[inline]
+    pub fn bytes_mut(&mut self) -> Option<&mut [u8; 4096]>
+        ensures* writes_back { sem 𝓛 (LendsBytes L.row S.row L.Ledger S.SwapSlot self.entry result) }
+        ensures bytes { option_copied_mut result ≡ option_map (λ f. f.bytes) (writable self.old.place) }
+    {
+        self.state.bytes_mut()
+    }
+
+    /// Brings the page into a frame, from its slot or as it began. A refusal hands the frame back and leaves the page.
+    pub fn fill(&mut self, mut frame: Frame<L>) -> Result<(), (Frame<L>, FillFault)>
+        ensures filled { OnOk result (Filled frame self.old self.new) }
+        ensures refused { IfErr result (λ back. RefusesFill S.failures frame self.old.place self.new.place back.0 back.1) }
+        ensures content { Known S.honest self.old.place → content S.content self.new ≡ content S.content self.old }
+        ensures backed { Known S.honest self.old.place → OnOk result (Backed S.content false self.new) }
+        ensures origin { self.new.origin ≡ self.old.origin }
+    {
+        match mem::replace(&mut self.state, State::Purged) {
+            State::Fresh => {
+                self.origin.write_to(&mut frame);
+                self.state = State::Resident(frame, Keeping::NoSlot);
+                Ok(())
+            }
+            State::Away(mut slot) => {
+                if slot.load(frame.bytes_mut()).is_err() {
+                    self.state = State::Away(slot);
+                    return Err((frame, FillFault::Device));
+                }
+                self.state = State::Resident(frame, Keeping::Saved(slot));
+                Ok(())
+            }
+            other => {
+                self.state = other;
+                Err((frame, FillFault::NotAbsent))
+            }
+        }
+    }
+
+    /// Begins to leave its frame, with the mark whether it counts as changed.
+    pub fn leave(&mut self, changed: bool) -> Result<(), LeaveRefusal>
+        ensures ok { OnOk result (left changed self.old.place ≡ Ok self.new.place) }
+        ensures refused { IfErr result (λ refusal. left changed self.old.place ≡ Err refusal) }
+        ensures err { OnErr result (self.new ≡ self.old) }
+        ensures content { content S.content self.new ≡ content S.content self.old }
+        ensures backed { OnOk result (Backed S.content changed self.old → Backed S.content changed self.new) }
+        ensures origin { self.new.origin ≡ self.old.origin }
+    {
+        match mem::replace(&mut self.state, State::Purged) {
+            State::Resident(frame, slot) => {
+                self.state = State::Leaving(frame, slot, changed);
+                Ok(())
+            }
+            State::Leaving(frame, slot, mark) => {
+                self.state = State::Leaving(frame, slot, mark);
+                Err(LeaveRefusal::AlreadyLeaving)
+            }
+            State::Saving(frame) => {
+                self.state = State::Saving(frame);
+                Err(LeaveRefusal::AlreadyLeaving)
+            }
+            other => {
+                self.state = other;
+                Err(LeaveRefusal::NotResident)
+            }
+        }
+    }
+
+    /// Ends to leave, with the mark whether it counts as changed.
+    pub fn bring_back(&mut self) -> Result<bool, NotLeaving>
+        ensures ok { IfOk result (λ changed. brought_back self.old.place ≡ Some (self.new.place, changed)) }
+        ensures refused { IsErr result ↔ (brought_back self.old.place ≡ None) }
+        ensures err { OnErr result (self.new ≡ self.old) }
+        ensures content { content S.content self.new ≡ content S.content self.old }
+        ensures backed { IfOk result (λ changed. Backed S.content false self.old → Backed S.content changed self.new) }
+        ensures origin { self.new.origin ≡ self.old.origin }
+    {
+        match mem::replace(&mut self.state, State::Purged) {
+            State::Leaving(frame, slot, changed) => {
+                self.state = State::Resident(frame, slot);
+                Ok(changed)
+            }
+            other => {
+                self.state = other;
+                Err(NotLeaving)
+            }
+        }
+    }
+
+    /// Looks whether a page that is leaving can let its frame go, where `cached` says whether caches hold translations
+    /// to it. A changed page without a slot takes the spare one.
+    pub fn collect(
+        &mut self,
+        process: u32,
+        vpn: u32,
+        cached: bool,
+        spare: &mut Option<S>,
+    ) -> Collected<L, S>
+        ensures answer { (self.new.place, (spare.new, result)) ≡ collected process vpn cached self.old.place spare.old }
+        ensures content { Backed S.content false self.old → content S.content self.new ≡ content S.content self.old }
+        ensures origin { self.new.origin ≡ self.old.origin }
+    {
+        match mem::replace(&mut self.state, State::Purged) {
+            State::Leaving(frame, slot, changed) => {
+                let (state, answer) = collect_leaving(
+                    process,
+                    vpn,
+                    (frame, slot, changed),
+                    cached,
+                    spare,
+                );
+                self.state = state;
+                answer
+            }
+            other => {
+                self.state = other;
+                Collected::NotLeaving
+            }
+        }
+    }
+
+    /// Ends the save of the page, where the frame holds what was saved.
+    pub fn saved(&mut self, job: SavedJob<S>) -> Result<Frame<L>, SaveRefusal<S>>
+        ensures freed { IfOk result (λ frame. (self.old.place ≡ Saving frame) × (self.new.place ≡ Away job.slot) × (frame.bytes ≡ job.copy) × IsTrue job.passed) }
+        ensures refused { IfErr result (RefusesSave job self.old.place self.new.place) }
+        ensures content { S.honest → content S.content self.new ≡ content S.content self.old }
+        ensures origin { self.new.origin ≡ self.old.origin }
+    {
+        match mem::replace(&mut self.state, State::Purged) {
+            State::Saving(frame) => {
+                let same = job.is_copy(frame.bytes());
+                let (slot, passed) = job.into_slot();
+                if !same {
+                    self.state = State::Leaving(frame, Keeping::Unsaved(slot), true);
+                    return Err(SaveRefusal::Mismatch);
+                }
+                if !passed {
+                    self.state = State::Leaving(frame, Keeping::Unsaved(slot), true);
+                    return Err(SaveRefusal::Device);
+                }
+                self.state = State::Away(slot);
+                Ok(frame)
+            }
+            other => {
+                self.state = other;
+                Err(SaveRefusal::WrongPage(job))
+            }
+        }
+    }
+
+    /// The byte at an offset in the page, which is loaded from the slot where the page is away.
+    pub fn read(&mut self, offset: usize) -> Result<u8, ReadFault>
+        requires { offset < 4096 }
+        ensures byte { Known S.honest self.old.place → IfOk result (λ byte. byte ≡ slice_index (content S.content self.old) offset) }
+        ensures mapped { OnOk result (self.old.place ≢ Purged) }
+        ensures refused { IfErr result (RefusesRead S.failures self.old.place self.new.place) }
+        ensures state { state_of self.new.place ≡ state_of self.old.place }
+        ensures at_hand { (¬ IfAway self.old.place (λ _. Unit {0})) → self.new ≡ self.old }
+        ensures content { Known S.honest self.old.place → content S.content self.new ≡ content S.content self.old }
+        ensures origin { self.new.origin ≡ self.old.origin }
+    {
+        let State::Away(slot) = &mut self.state else {
+            return self.byte_at_hand(offset);
+        };
+        let mut page = [0; 4096];
+        if slot.load(&mut page).is_err() {
+            return Err(ReadFault::Device);
+        }
+        Ok(page[offset])
+    }
+
+    /// The same for a page that is not away.
+    fn byte_at_hand(&self, offset: usize) -> Result<u8, ReadFault>
+        requires within { offset < 4096 }
+        requires at_hand { ¬ IfAway self.now.place (λ _. Unit {0}) }
+        ensures byte { IfOk result (λ byte. byte ≡ slice_index (content S.content self.now) offset) }
+        ensures purged { IsErr result ↔ (self.now.place ≡ Purged) }
+        ensures refused { IfErr result (λ fault. fault ≡ ReadFault.Purged) }
+    {
+        match &self.state {
+            State::Fresh => Ok(self.origin.byte(offset)),
+            State::Resident(frame, _) => Ok(frame.bytes()[offset]),
+            State::Leaving(frame, _, _) => Ok(frame.bytes()[offset]),
+            State::Saving(frame) => Ok(frame.bytes()[offset]),
+            State::Away(_) => unreachable!(),
+            State::Purged => Err(ReadFault::Purged),
+        }
+    }
+
+    /// Gives up the frame and the slot, for good. A page that has neither, or is being saved, is left.
+    pub fn give_back(&mut self) -> Option<(Option<Frame<L>>, Option<S>)>
+        ensures given { result ≡ given_back self.old.place }
+        ensures purged { OnSome result (self.new.place ≡ Purged) }
+        ensures left { IfNone result (self.new ≡ self.old) }
+        ensures origin { self.new.origin ≡ self.old.origin }
+    {
+        match mem::replace(&mut self.state, State::Purged) {
+            State::Resident(frame, slot) => Some((Some(frame), slot.into_slot())),
+            State::Leaving(frame, slot, _) => Some((Some(frame), slot.into_slot())),
+            State::Away(slot) => Some((None, Some(slot))),
+            other => {
+                self.state = other;
+                None
+            }
+        }
+    }
+}
+
+/// What becomes of a page that is leaving, and the answer.
+fn collect_leaving<L: Ledger, S: SwapSlot>(
+    process: u32,
+    vpn: u32,
+    page: (Frame<L>, Keeping<S>, bool),
+    cached: bool,
+    spare: &mut Option<S>,
+) -> (State<L, S>, Collected<L, S>)
+    ensures answer { (place_of result.0, (spare.new, result.1)) ≡ collect_leaving process vpn page.0 page.1 page.2 cached spare.old }
+    ensures shown { (origin : List ℕ) → BackedAt S.content origin false (Leaving page.0 page.1 page.2) → shown S.content origin (place_of result.0) ≡ page.0.bytes }
+{
+    let (frame, slot, changed) = page;
+    if cached {
+        return (State::Leaving(frame, slot, changed), Collected::NotYet);
+    }
+    match slot {
+        Keeping::NoSlot => {
+            if !changed {
+                return (State::Fresh, Collected::Clean(frame));
+            }
+            match spare.take() {
+                Some(slot) => start_saving(process, vpn, frame, slot),
+                None => (
+                    State::Leaving(frame, Keeping::NoSlot, true),
+                    Collected::NoSlot,
+                ),
+            }
+        }
+        Keeping::Unsaved(slot) => start_saving(process, vpn, frame, slot),
+        Keeping::Saved(slot) => {
+            if changed {
+                start_saving(process, vpn, frame, slot)
+            } else {
+                (State::Away(slot), Collected::Clean(frame))
+            }
+        }
+    }
+}
+
+/// A changed page and the job of saving it.
+fn start_saving<L: Ledger, S: SwapSlot>(
+    process: u32,
+    vpn: u32,
+    frame: Frame<L>,
+    slot: S,
+) -> (State<L, S>, Collected<L, S>)
+    ensures page { place_of result.0 ≡ Saving frame }
+    ensures job { result.1 ≡ Collected.Dirty (job_of process vpn frame slot) }
+{
+    let job = SaveJob::new(process, vpn, frame.bytes(), slot);
+    (State::Saving(frame), Collected::Dirty(job))
+}

@@ -1,0 +1,33 @@
+use thiserror::Error;
+
+/// Why a page was not brought in, in the order in which the reasons are tested.
+#[derive(Clone, Copy, PartialEq, Eq, Debug, Error)]
+pub enum FillFault {
+    #[error("the page is not absent")]
+    NotAbsent,
+    #[error("the device failed")]
+    Device,
+}
+
+/// Why a page does not begin to leave its frame, in the order in which the reasons are tested.
+#[derive(Clone, Copy, PartialEq, Eq, Debug, Error)]
+pub enum LeaveRefusal {
+    #[error("the page is leaving already")]
+    AlreadyLeaving,
+    #[error("the page is not resident")]
+    NotResident,
+}
+
+/// The page is not leaving, so there is nothing to bring back.
+#[derive(Clone, Copy, PartialEq, Eq, Debug, Error)]
+#[error("the page is not leaving")]
+pub struct NotLeaving;
+
+/// Why a byte of a page can't be read, in the order in which the reasons are tested.
+#[derive(Clone, Copy, PartialEq, Eq, Debug, Error)]
+pub enum ReadFault {
+    #[error("the page was given back")]
+    Purged,
+    #[error("the device failed")]
+    Device,
+}

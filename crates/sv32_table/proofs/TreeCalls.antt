@@ -1,19 +1,20 @@
 -- What the calls of `Tables` do to tables that form a tree, as `PageTables` cites it.
-use Rattle.std.proofs.Common.{◌≡◌, ℕ, ◌/◌, ◌%◌, ◌^◌, ◌<◌, Bool, true, false, cond, refl, sym, ap, ◌∙◌, subst, arith, lit≤, List, [], ◌∷◌, length, Option, Some, None, option_map, Result, Ok, Err, ◌↔◌, IsErrOf, OnOk, OnErr}
+use Rattle.std.proofs.Common.{◌≡◌, ℕ, ◌+◌, ◌/◌, ◌%◌, ◌^◌, ◌<◌, ◌==◌, ◌||◌, ◌&&◌, Bool, true, false, cond, refl, sym, ap, ◌∙◌, subst, arith, lit≤, List, [], ◌∷◌, length, Option, Some, None, option_map, Result, Ok, Err, OnOk, OnErr}
+use Rattle.std.specs.Prelude.{is_some}
+use Rattle.std.proofs.lemmas.Bool.Decides.{nat_tests}
 use Rattle.std.proofs.lemmas.List.{get_or-replicate, length-replicate}
 use Rattle.page_memory.specs.declared.words.Access.{Access}
 use Rattle.sv32_table.specs.declared.pte.Pte.{Pte}
 use Rattle.sv32_table.specs.declared.fault.MapFault.{MapFault}
-use Rattle.sv32_table.specs.declared.fault.MapFault.TheVariants.{TooManyTables}
 use Rattle.sv32_table.specs.declared.fault.WalkFault.{WalkFault}
 use Rattle.sv32_table.specs.declared.walk.Leaf.{Leaf as Translation}
 use Rattle.page_memory.specs.declared.rights.Rights.{Rights}
-use Rattle.sv32_table.specs.Entry.{Entry, entry_of, word_of, shape_of, blank, leaf_entry}
+use Rattle.sv32_table.specs.Entry.{Entry, entry_of, word_of, shape_of, blank, leaf_entry, page_entry}
 use Rattle.sv32_table.specs.Tables.{IsSized, word_in, table_for, zero_table, pointed_by, mapped, marked, found, walked}
-use Rattle.sv32_table.specs.EntryAt.{entry_in, entry_at, pointed, IsTree, walk_entry, walked_entry, unmapped_entry, unaccessed_entry, valid_word, accessed_of, ChangesEntry}
+use Rattle.sv32_table.specs.EntryAt.{entry_in, entry_at, pointed, IsTree, walk_entry, walked_entry, unmapped_entry, unaccessed_entry, valid_word, accessed_of, dirty_of, ChangesEntry, has_table, SameTables, AddsTable}
 use Rattle.sv32_table.specs.EntryWords.{entry_of-word_of, software_small}
-use Rattle.sv32_table.proofs.Writes.{table_for-pointed}
-use Rattle.sv32_table.proofs.EntryChanges.{IsTree-mapped, entry_at-mapped, IsTree-marked, entry_at-marked, found-entry_at, walk_by_entry}
+use Rattle.sv32_table.specs.WriteLaws.{table_for-pointed, few_tables, pointers_below-none}
+use Rattle.sv32_table.specs.EntryChangeLaws.{AddsTable-mapped, SameTables-marked, IsTree-mapped, entry_at-mapped, IsTree-marked, entry_at-marked, found-entry_at, walk_by_entry}
 
 -- the root alone
 root_word : (index : ℕ) → index < 1024 → word_in (zero_table ∷ []) 0 index ≡ 0
@@ -43,6 +44,7 @@ IsTree_new tables is = rw is root
           empty = λ index small none. root_word index small;
           below = λ index table small is. let clash : ◌≡◌ {A = Option ℕ} (Some table) None = sym is ∙ root_pointed index small in cc;
           apart = λ index index' table small small' is is'. let clash : ◌≡◌ {A = Option ℕ} (Some table) None = sym is ∙ root_pointed index small in cc;
+          reached = ap (λ n. n + 1) (sym (pointers_below-none (zero_table ∷ []) 1024 (λ j below. root_pointed j below)));
         }
 
 pub entry_at_new : (tables : List (List ℕ)) → tables ≡ zero_table ∷ [] → (q : ℕ) → q < 2 ^ 20 → entry_at tables q ≡ blank
@@ -51,22 +53,56 @@ entry_at_new tables is q fits =
     let none : table_for (zero_table ∷ []) q ≡ None = table_for-pointed (zero_table ∷ []) q ∙ root_pointed (q / 1024) (omega arith) in
     rw (is, none) refl
 
--- `map`
-pub tree_after_map : (old new : List (List ℕ)) (vpn word : ℕ) → IsTree old → vpn < 2 ^ 20 → (table_for old vpn ≡ None → length old < 0x200000)
-    → new ≡ mapped old vpn word → IsTree new
-tree_after_map old new vpn word tree fits room is = rw is (IsTree-mapped old vpn word tree fits room)
+-- `map` and `remap`
+pub tree_after_map : (old new : List (List ℕ)) (vpn word : ℕ) → IsTree old → vpn < 2 ^ 20 → new ≡ mapped old vpn word → IsTree new
+tree_after_map old new vpn word tree fits is = rw is (IsTree-mapped old vpn word tree fits)
+
+pub tables_after_map : (old new : List (List ℕ)) (vpn word : ℕ) → IsTree old → vpn < 2 ^ 20 → new ≡ mapped old vpn word → AddsTable old new vpn
+tables_after_map old new vpn word tree fits is = rw is (AddsTable-mapped old vpn word tree fits)
 
 leaf_small : (ppn : ℕ) (rights : Rights) (accessed : Bool) → (leaf_entry ppn rights accessed).software < 4
 unfolding leaf_entry
 leaf_small ppn rights accessed = omega arith
 
+page_small : (ppn : ℕ) (rights : Rights) (accessed dirty : Bool) → (page_entry ppn rights accessed dirty).software < 4
+unfolding page_entry leaf_entry
+page_small ppn rights accessed dirty = omega arith
+
+entries_after : (old new : List (List ℕ)) (vpn : ℕ) (e : Entry) → IsTree old → vpn < 2 ^ 20 → e.software < 4 → new ≡ mapped old vpn (word_of e) → ChangesEntry old new vpn e
+entries_after old new vpn e tree fits small is =
+    let back = entry_of-word_of e small in
+    rw is (subst (λ (x : Entry). ChangesEntry old (mapped old vpn (word_of e)) vpn x) back (entry_at-mapped old vpn (word_of e) tree fits))
+
 pub entries_after_map : (old new : List (List ℕ)) (vpn ppn : ℕ) (rights : Rights) (accessed : Bool) → IsTree old → vpn < 2 ^ 20
-    → (table_for old vpn ≡ None → length old < 0x200000) → new ≡ mapped old vpn (word_of (leaf_entry ppn rights accessed))
-    → ChangesEntry old new vpn (leaf_entry ppn rights accessed)
-entries_after_map old new vpn ppn rights accessed tree fits room is =
-    let back = entry_of-word_of (leaf_entry ppn rights accessed) (leaf_small ppn rights accessed) in
-    rw is (subst (λ (x : Entry). ChangesEntry old (mapped old vpn (word_of (leaf_entry ppn rights accessed))) vpn x) back
-    (entry_at-mapped old vpn (word_of (leaf_entry ppn rights accessed)) tree fits room))
+    → new ≡ mapped old vpn (word_of (leaf_entry ppn rights accessed)) → ChangesEntry old new vpn (leaf_entry ppn rights accessed)
+entries_after_map old new vpn ppn rights accessed tree fits is =
+    entries_after old new vpn (leaf_entry ppn rights accessed) tree fits (leaf_small ppn rights accessed) is
+
+pub entries_after_remap : (old new : List (List ℕ)) (vpn ppn : ℕ) (rights : Rights) (accessed dirty : Bool) → IsTree old → vpn < 2 ^ 20
+    → new ≡ mapped old vpn (word_of (page_entry ppn rights accessed dirty)) → ChangesEntry old new vpn (page_entry ppn rights accessed dirty)
+entries_after_remap old new vpn ppn rights accessed dirty tree fits is =
+    entries_after old new vpn (page_entry ppn rights accessed dirty) tree fits (page_small ppn rights accessed dirty) is
+
+-- a page that has a table shares it with the pages of its 4 MiB
+pub same_after_remap : (old new : List (List ℕ)) (vpn word : ℕ) → IsTree old → vpn < 2 ^ 20 → has_table old vpn ≡ true → new ≡ mapped old vpn word → SameTables old new
+unfolding has_table
+same_after_remap old new vpn word tree fits there is q inside =
+    tables_after_map old new vpn word tree fits is q inside ∙ by_region (q / 1024 == vpn / 1024) refl
+  where
+    or_true : (b c : Bool) → b ≡ true → (b || c) ≡ b
+    or_true b true is = rw is refl
+    or_true b false is = rw is refl
+
+    or_false : (b : Bool) → (b || false) ≡ b
+    or_false true = refl
+    or_false false = refl
+
+    by_region : (b : Bool) → (q / 1024 == vpn / 1024) ≡ b → (is_some (table_for old q) || b) ≡ is_some (table_for old q)
+    by_region true here =
+        let e : q / 1024 ≡ vpn / 1024 = grind (arith, nat_tests) in
+        let same : table_for old q ≡ table_for old vpn = table_for-pointed old q ∙ ap (pointed old) e ∙ sym (table_for-pointed old vpn) in
+        or_true (is_some (table_for old q)) true (ap is_some same ∙ there)
+    by_region false here = or_false (is_some (table_for old q))
 
 -- `unmap` and `test_and_clear_accessed`
 pub tree_after_mark : (old new : List (List ℕ)) (vpn : ℕ) (change : Entry → ℕ) → IsTree old → vpn < 2 ^ 20 → new ≡ marked old vpn change → IsTree new
@@ -123,17 +159,47 @@ pub entries_after_walk : (old new : List (List ℕ)) (address : ℕ) (access : A
     → ChangesEntry old new (address / 0x1000) (walked_entry (entry_at old (address / 0x1000)) access)
 entries_after_walk old new address access tree fits is = rw is ((walk_by_entry old address access tree fits).2)
 
--- a `map` that was done had room for a table, where it needed one
-room_of_ok : (old : List (List ℕ)) (vpn : ℕ) → IsTree old → ((table_for old vpn ≡ None) × (length old ≡ 0x200000) → ⊥)
-    → table_for old vpn ≡ None → length old < 0x200000
-room_of_ok old vpn tree not_full none =
-    let few = tree.sized.few in
-    let apart : length old ≡ 0x200000 → ⊥ = λ full. not_full (none, full) in
-    omega arith
+-- which pages have a table stays
+pub tables_after_mark : (old new : List (List ℕ)) (vpn : ℕ) (change : Entry → ℕ) → IsTree old → vpn < 2 ^ 20 → new ≡ marked old vpn change → SameTables old new
+tables_after_mark old new vpn change tree fits is = rw is (SameTables-marked old vpn change tree fits)
 
+pub tables_after_walk : (old new : List (List ℕ)) (address : ℕ) (access : Access) → IsTree old → address < 2 ^ 32 → new ≡ (walked old address access).1 → SameTables old new
+tables_after_walk old new address access tree fits is = rw is ((walk_by_entry old address access tree fits).3)
+
+-- a `map` keeps the tree, done or not; it is never refused for want of a number
 pub tree_after_mapping : (old new : List (List ℕ)) (vpn word : ℕ) (result : Result Unit MapFault) → IsTree old → vpn < 2 ^ 20
-    → IsErrOf result TooManyTables ↔ ((table_for old vpn ≡ None) × (length old ≡ 0x200000))
     → OnOk result (new ≡ mapped old vpn word) → OnErr result (new ≡ old) → IsTree new
-tree_after_mapping old new vpn word (Ok done) tree fits full ok err =
-    tree_after_map old new vpn word tree fits (room_of_ok old vpn tree (λ held. let clash = full.1 held in cc)) ok
-tree_after_mapping old new vpn word (Err fault) tree fits full ok err = rw err tree
+tree_after_mapping old new vpn word (Ok done) tree fits ok err = tree_after_map old new vpn word tree fits ok
+tree_after_mapping old new vpn word (Err fault) tree fits ok err = rw err tree
+
+pub never_too_many : (old : List (List ℕ)) → IsTree old → length old ≡ 0x200000 → ⊥
+never_too_many old tree full = let few = few_tables old tree in omega arith
+
+pub no_table : (old : List (List ℕ)) (vpn : ℕ) → table_for old vpn ≡ None → has_table old vpn ≡ false
+unfolding has_table
+no_table old vpn none = ap is_some none
+
+-- whether a page's entry has D
+pub dirty_found : (tables : List (List ℕ)) (vpn : ℕ) (pte : Pte) → valid_word (entry_at tables vpn) ≡ Some pte → (entry_of pte.0).dirty ≡ dirty_of (entry_at tables vpn)
+unfolding dirty_of valid_word
+dirty_found tables vpn pte found = by_valid e.valid found
+  where
+    e : Entry
+    e = entry_at tables vpn
+
+    by_valid : (b : Bool) → cond b (Some (record { 0 = word_of e })) None ≡ Some pte → (entry_of pte.0).dirty ≡ (b && e.dirty)
+    by_valid true found =
+        let same : word_of e ≡ pte.0 = cc in
+        ap (λ w. (entry_of w).dirty) (sym same) ∙ ap (λ (x : Entry). x.dirty) (entry_of-word_of e (entry_at_small tables vpn))
+    by_valid false found = cc
+
+pub none_dirty : (tables : List (List ℕ)) (vpn : ℕ) → valid_word (entry_at tables vpn) ≡ None → dirty_of (entry_at tables vpn) ≡ false
+unfolding dirty_of valid_word
+none_dirty tables vpn none = by_valid e.valid none
+  where
+    e : Entry
+    e = entry_at tables vpn
+
+    by_valid : (b : Bool) → ◌≡◌ {A = Option Pte} (cond b (Some (record { 0 = word_of e })) None) None → (b && e.dirty) ≡ false
+    by_valid true none = cc
+    by_valid false none = refl

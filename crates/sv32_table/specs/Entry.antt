@@ -103,6 +103,10 @@ leaf_entry ppn rights accessed =
       ppn = ppn;
     }
 
+-- and with D as given: the entry of a page that is mapped again
+unfoldable pub page_entry : ℕ → Rights → Bool → Bool → Entry
+page_entry ppn rights accessed dirty = record (leaf_entry ppn rights accessed) { dirty = dirty }
+
 -- the pointer to the table in this physical page
 unfoldable pub pointer_entry : ℕ → Entry
 pointer_entry ppn = record blank { valid = true; ppn = ppn }

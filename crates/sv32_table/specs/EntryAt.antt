@@ -1,5 +1,5 @@
 -- The entry that a page has in tables that form a tree.
-use Rattle.std.specs.Prelude.{◌≡◌, ℕ, ◌+◌, ◌*◌, ◌%◌, ◌^◌, ◌<◌, Bool, true, false, ◌&&◌, ◌==◌, if◌then◌else◌, Option, Some, None, Result, Ok, Err, List, length}
+use Rattle.std.specs.Prelude.{◌≡◌, ℕ, ◌+◌, ◌*◌, ◌%◌, ◌^◌, ◌<◌, Bool, true, false, ◌&&◌, ◌==◌, if◌then◌else◌, Option, Some, None, Result, Ok, Err, List, length, zero, suc, is_some, ◌||◌, ◌/◌}
 use Rattle.page_memory.specs.declared.words.Access.{Access}
 use Rattle.sv32_table.specs.declared.pte.Pte.{Pte}
 use Rattle.sv32_table.specs.declared.pte.Shape.{Shape}
@@ -7,7 +7,7 @@ use Rattle.sv32_table.specs.declared.pte.Shape.TheVariants.{Invalid, Pointer, Le
 use Rattle.sv32_table.specs.declared.fault.WalkFault.{WalkFault}
 use Rattle.sv32_table.specs.declared.fault.WalkFault.TheVariants.{PageFault}
 use Rattle.sv32_table.specs.declared.walk.Leaf.{Leaf as Translation}
-use Rattle.sv32_table.specs.Entry.{Entry, entry_of, word_of, shape_of, allows, touched, blank}
+use Rattle.sv32_table.specs.Entry.{Entry, entry_of, word_of, shape_of, allows, touched, blank, weigh}
 use Rattle.sv32_table.specs.Tables.{IsSized, word_in, pointed_by, table_for}
 
 -- the entry of a page in its table, and a blank one where it has none
@@ -22,12 +22,19 @@ entry_at tables vpn = entry_in tables vpn (table_for tables vpn)
 unfoldable pub pointed : List (List ℕ) → ℕ → Option ℕ
 pointed tables index = let root = entry_of (word_in tables 0 index) in pointed_by (length tables) root (shape_of root)
 
--- the tables form a tree: a root word is 0 or points to a table other than the root, and no table is reached twice
+-- how many root words below this index point to a table
+unfoldable pub pointers_below : List (List ℕ) → ℕ → ℕ
+pointers_below tables zero = 0
+pointers_below tables (suc index) = weigh (is_some (pointed tables index)) 1 + pointers_below tables index
+
+-- the tables form a tree: a root word is 0 or points to a table other than the root, no table is reached twice, and each
+-- is reached: there are as many as root words that point to one, and the root
 pub record IsTree (tables : List (List ℕ)) : Type 0 where
   pub sized : IsSized tables
   pub empty : (index : ℕ) → index < 1024 → pointed tables index ≡ None → word_in tables 0 index ≡ 0
   pub below : (index table : ℕ) → index < 1024 → pointed tables index ≡ Some table → 0 < table
   pub apart : (index index' table : ℕ) → index < 1024 → index' < 1024 → pointed tables index ≡ Some table → pointed tables index' ≡ Some table → index ≡ index'
+  pub reached : length tables ≡ pointers_below tables 1024 + 1
 
 abbrev pub is_leaf : Shape → Bool
 is_leaf Leaf = true
@@ -63,3 +70,19 @@ ChangesEntry old new vpn e = (q : ℕ) → q < 2 ^ 20 → entry_at new q ≡ (if
 -- whether the entry has A, if it has V
 unfoldable pub accessed_of : Entry → Option Bool
 accessed_of e = if e.valid then Some e.accessed else None
+
+-- whether the entry has D, and V
+unfoldable pub dirty_of : Entry → Bool
+dirty_of e = e.valid && e.dirty
+
+-- whether there is a table for a page's entry: then mapping the page takes no memory
+unfoldable pub has_table : List (List ℕ) → ℕ → Bool
+has_table tables vpn = is_some (table_for tables vpn)
+
+-- there is a table for each page for which there was one, and for no other
+abbrev pub SameTables : List (List ℕ) → List (List ℕ) → Type 0
+SameTables old new = (q : ℕ) → q < 2 ^ 20 → has_table new q ≡ has_table old q
+
+-- and for the pages of this page's 4 MiB besides
+abbrev pub AddsTable : List (List ℕ) → List (List ℕ) → ℕ → Type 0
+AddsTable old new vpn = (q : ℕ) → q < 2 ^ 20 → has_table new q ≡ (has_table old q || q / 1024 == vpn / 1024)

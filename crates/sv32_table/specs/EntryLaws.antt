@@ -1,18 +1,14 @@
 -- Laws of entries for the crates above: what calls do to the entry of a mapped page.
 use Rattle.std.specs.Prelude.{◌≡◌, ℕ, ◌+◌, ◌*◌, ◌%◌, Bool, true, false, ◌&&◌, ◌||◌, if◌then◌else◌, Some, None, Ok, Err, refl}
-use Rattle.std.proofs.Common.{sym, ◌∙◌, lit<}
+use Rattle.std.proofs.Common.{sym, ap, ◌∙◌, lit<}
 use Rattle.page_memory.specs.declared.words.Access.{Access}
 use Rattle.page_memory.specs.declared.words.Access.TheVariants.{Fetch, Load, Store}
 use Rattle.page_memory.specs.declared.rights.Rights.{Rights}
 use Rattle.page_memory.specs.Rights.{has, may}
 use Rattle.sv32_table.specs.declared.fault.WalkFault.TheVariants.{PageFault}
-use Rattle.sv32_table.specs.Entry.{Entry, entry_of, word_of, shape_of, allows, touched, blank, leaf_entry}
-use Rattle.sv32_table.specs.EntryAt.{is_leaf, walk_entry, walked_entry, unmapped_entry, unaccessed_entry, accessed_of, valid_word}
+use Rattle.sv32_table.specs.Entry.{Entry, entry_of, word_of, shape_of, allows, touched, blank, leaf_entry, page_entry}
+use Rattle.sv32_table.specs.EntryAt.{is_leaf, walk_entry, walked_entry, unmapped_entry, unaccessed_entry, accessed_of, dirty_of, valid_word}
 use Rattle.sv32_table.specs.EntryWords.{entry_of-word_of}
-
--- the entry of a mapped page: its frame, its rights, A and D
-unfoldable pub page_entry : ℕ → Rights → Bool → Bool → Entry
-page_entry ppn rights accessed dirty = record (leaf_entry ppn rights accessed) { dirty = dirty }
 
 abbrev pub is_store : Access → Bool
 is_store Store = true
@@ -23,6 +19,16 @@ is_store Fetch = false
 pub leaf_entry-page_entry : (ppn : ℕ) (rights : Rights) (accessed : Bool) → leaf_entry ppn rights accessed ≡ page_entry ppn rights accessed false
 unfolding leaf_entry page_entry
 leaf_entry-page_entry ppn rights accessed = refl
+
+pub leaf_without_dirty : (ppn : ℕ) (rights : Rights) (accessed : Bool) → word_of (leaf_entry ppn rights accessed) ≡ word_of (page_entry ppn rights accessed false)
+leaf_without_dirty ppn rights accessed = ap word_of (leaf_entry-page_entry ppn rights accessed)
+
+pub leaf_with_dirty : (ppn : ℕ) (rights : Rights) (accessed : Bool) (word : ℕ) → word ≡ word_of (leaf_entry ppn rights accessed)
+    → word_of (record (entry_of word) { dirty = true }) ≡ word_of (page_entry ppn rights accessed true)
+unfolding page_entry leaf_entry
+leaf_with_dirty ppn rights accessed word is =
+    ap (λ w. word_of (record (entry_of w) { dirty = true })) is
+    ∙ ap (λ (x : Entry). word_of (record x { dirty = true })) (entry_of-word_of (leaf_entry ppn rights accessed) (lit< tt))
 
 -- as `unmap` and `test_and_clear_accessed` leave it, and what they answer
 pub unmapped_entry-page_entry : (ppn : ℕ) (rights : Rights) (accessed dirty : Bool) → unmapped_entry (page_entry ppn rights accessed dirty) ≡ blank
@@ -43,6 +49,10 @@ pub accessed_of-page_entry : (ppn : ℕ) (rights : Rights) (accessed dirty : Boo
 unfolding accessed_of page_entry leaf_entry
 accessed_of-page_entry ppn rights accessed dirty = refl
 
+pub dirty_of-page_entry : (ppn : ℕ) (rights : Rights) (accessed dirty : Bool) → dirty_of (page_entry ppn rights accessed dirty) ≡ dirty
+unfolding dirty_of page_entry leaf_entry
+dirty_of-page_entry ppn rights accessed dirty = refl
+
 -- and where there is none
 pub unmapped_entry-blank : unmapped_entry blank ≡ blank
 unfolding unmapped_entry
@@ -59,6 +69,10 @@ valid_word-blank = refl
 pub accessed_of-blank : accessed_of blank ≡ None
 unfolding accessed_of
 accessed_of-blank = refl
+
+pub dirty_of-blank : dirty_of blank ≡ false
+unfolding dirty_of
+dirty_of-blank = refl
 
 -- a walk where there is none is a page fault, which changes nothing
 pub walk_entry-blank : (address : ℕ) (access : Access) → walk_entry blank address access ≡ Err PageFault

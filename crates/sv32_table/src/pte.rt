@@ -1,5 +1,5 @@
 ghost use Rattle.std.specs.Prelude.{⊤, ◌≡◌, ◌<◌, ◌^◌, true, false, [], ◌∷◌, codes, ℕ, if◌then◌else◌, IsTrue, ◌↔◌};
-ghost use Rattle.sv32_table.specs.Entry.{entry_of, word_of, shape_of, has_reserved, allows, is_aligned, touched, leaf_entry, pointer_entry, weigh};
+ghost use Rattle.sv32_table.specs.Entry.{entry_of, word_of, shape_of, has_reserved, allows, is_aligned, touched, leaf_entry, page_entry, pointer_entry, weigh};
 
 use bitflags::{Flag, Flags, bitflag_items};
 use page_memory::{Access, Rights};
@@ -65,6 +65,16 @@ impl Pte {
             + weighed(rights.contains(Rights::WRITE), Pte::WRITE)
             + weighed(rights.contains(Rights::EXECUTE), Pte::EXECUTE);
         Pte(Pte::VALID.0 + Pte::USER.0 + rights + weighed(accessed, Pte::ACCESSED) + 1024 * ppn)
+    }
+
+    /// The leaf of a user page with D as given.
+    #[tactic(auto, using(crate::specs::EntryLaws::leaf_with_dirty, crate::specs::EntryLaws::leaf_without_dirty))]
+    pub(crate) fn page(ppn: u32, rights: Rights, accessed: bool, dirty: bool) -> Pte
+        requires { ppn < 2 ^ 22 }
+        ensures { result.0 ≡ word_of (page_entry ppn rights accessed dirty) }
+    {
+        let leaf = Pte::leaf(ppn, rights, accessed);
+        if dirty { leaf.with_dirty() } else { leaf }
     }
 
     /// The pointer to the table in a physical page.

@@ -1,5 +1,6 @@
 ghost use Rattle.std.specs.Prelude.{◌≡◌, ◌<◌, ◌≤◌, ◌+◌, ◌/◌, ◌%◌, ◌^◌, ◌∷◌, ◌++◌, [], List, ℕ, true, length, IfOk, IfSome, IsErr, IsErrOf, OnOk, OnErr, ◌↔◌, None, option_map, false};
 ghost use Rattle.sv32_table.specs.Entry.{Entry, entry_of, word_of, leaf_entry};
+ghost use Rattle.sv32_table.specs.EntryAt.{has_table};
 ghost use Rattle.sv32_table.specs.TranslationProcess.{IsTranslation};
 ghost use Rattle.sv32_table.specs.Tables.{word_in, with_word, table_of, walk_end, root_step, walked, physical_of, permits, zero_table, mapped, marked, found, table_for, with_table};
 
@@ -75,6 +76,7 @@ impl Tables {
         ensures ok { OnOk result (self.new ≡ mapped self.old vpn (word_of (leaf_entry ppn rights accessed))) }
         ensures too_many { IsErrOf result MapFault.TooManyTables ↔ ((table_for self.old vpn ≡ None) × (length self.old ≡ MAX_TABLES)) }
         ensures no_memory { IsErrOf result MapFault.NoMemory → table_for self.old vpn ≡ None }
+        ensures room { IsErrOf result MapFault.NoMemory → length self.old < MAX_TABLES }
         ensures err { OnErr result (self.new ≡ self.old) }
     {
         let leaf = Pte::leaf(ppn, rights, accessed);
@@ -87,6 +89,19 @@ impl Tables {
         };
         self.write(table, (vpn % 1024) as usize, leaf.0);
         Ok(())
+    }
+
+    /// Writes the word of a page that has a table. It takes no memory.
+    #[tactic(auto, unfolding(crate::specs::Tables::mapped, crate::specs::Tables::mapped_from, crate::specs::EntryAt::has_table))]
+    pub(crate) fn put(&mut self, vpn: u32, pte: Pte)
+        requires vpn { vpn < 2 ^ 20 }
+        requires table { has_table self.old vpn ≡ true }
+        ensures { self.new ≡ mapped self.old vpn pte.0 }
+    {
+        let Some(table) = self.table_for(vpn) else {
+            unreachable!()
+        };
+        self.write(table, (vpn % 1024) as usize, pte.0);
     }
 
     /// Takes a page's word away and answers it, or `None` where the page has no word with V. It takes no memory.
@@ -156,6 +171,7 @@ impl Tables {
         ensures ok { OnOk result (self.new ≡ with_table self.old index) }
         ensures table { IfOk result (λ table. (table ≡ length self.old) × (table < length self.new)) }
         ensures too_many { IsErrOf result MapFault.TooManyTables ↔ (length self.old ≡ MAX_TABLES) }
+        ensures room { IsErrOf result MapFault.NoMemory → length self.old < MAX_TABLES }
         ensures err { OnErr result (self.new ≡ self.old) }
     {
         let table = self.tables.len();

@@ -1,5 +1,6 @@
 -- Calls on tables that form a tree keep the tree, and change one page's entry alone.
-use Rattle.std.proofs.Common.{◌≡◌, ℕ, ◌/◌, ◌%◌, ◌^◌, ◌<◌, Bool, true, false, cond, refl, sym, ap, ◌∙◌, arith, List, length, Option, Some, None, Err, ◌==◌}
+use Rattle.std.proofs.Common.{◌≡◌, ℕ, ◌/◌, ◌%◌, ◌^◌, ◌<◌, Bool, true, false, ◌||◌, cond, refl, sym, ap, ◌∙◌, arith, List, length, Option, Some, None, Err, ◌==◌}
+use Rattle.std.specs.Prelude.{is_some}
 use Rattle.std.proofs.lemmas.Bool.Decides.{nat_tests}
 use Rattle.page_memory.specs.declared.words.Access.{Access}
 use Rattle.page_memory.specs.declared.words.Access.TheVariants.{Fetch, Load, Store}
@@ -9,10 +10,10 @@ use Rattle.sv32_table.specs.declared.pte.Shape.TheVariants.{Invalid, Pointer, Le
 use Rattle.sv32_table.specs.declared.fault.WalkFault.TheVariants.{PageFault}
 use Rattle.sv32_table.specs.Entry.{Entry, entry_of, word_of, shape_of, has_reserved, allows, touched, blank}
 use Rattle.sv32_table.specs.Tables.{Walked, word_in, with_word, table_of, pointed_by, table_for, with_table, mapped, mapped_from, found, found_from, word_if_valid, marked, marked_from, walked, walked_from, walk_end, root_step, next_step, last_step, translated, permits, physical_of}
-use Rattle.sv32_table.specs.EntryAt.{entry_in, entry_at, pointed, IsTree, walk_entry, walked_entry, valid_word, ChangesEntry}
+use Rattle.sv32_table.specs.EntryAt.{entry_in, entry_at, pointed, IsTree, walk_entry, walked_entry, valid_word, ChangesEntry, has_table, SameTables, AddsTable}
 use Rattle.sv32_table.specs.EntryWords.{entry_of-word_of, word_of-entry_of, software_small}
-use Rattle.sv32_table.proofs.Writes.{table_for-pointed, entry_at-with_word, IsTree-with_word}
-use Rattle.sv32_table.proofs.NewTable.{IsTree-with_table, entry_at-with_table, pointed_within, pointed-with_table_same, length-with_table}
+use Rattle.sv32_table.specs.WriteLaws.{table_for-pointed, entry_at-with_word, IsTree-with_word, few_tables, SameTables-with_word}
+use Rattle.sv32_table.specs.NewTableLaws.{AddsTable-with_table, IsTree-with_table, entry_at-with_table, pointed_within, pointed-with_table_same, length-with_table}
 
 -- the table of a page is one behind the root
 table_within : (tables : List (List ℕ)) (vpn table : ℕ) → table_for tables vpn ≡ Some table → table < length tables
@@ -23,41 +24,65 @@ table_below tables vpn table tree fits is = tree.below (vpn / 1024) table (omega
 
 -- `map`
 IsTree-mapped_from : (tables : List (List ℕ)) (vpn word : ℕ) (o : Option ℕ) → IsTree tables → vpn < 2 ^ 20 → table_for tables vpn ≡ o
-    → (o ≡ None → length tables < 0x200000) → IsTree (mapped_from tables vpn word o)
+    → IsTree (mapped_from tables vpn word o)
 unfolding mapped_from
-IsTree-mapped_from tables vpn word (Some table) tree fits is room =
+IsTree-mapped_from tables vpn word (Some table) tree fits is =
     IsTree-with_word tables table (vpn % 1024) word tree (table_below tables vpn table tree fits is) (table_within tables vpn table is)
-IsTree-mapped_from tables vpn word None tree fits is room =
-    let few = room refl in
+IsTree-mapped_from tables vpn word None tree fits is =
+    let few = few_tables tables tree in
+    let none = sym (table_for-pointed tables vpn) ∙ is in
     let some : 0 < length tables = let rooted = tree.sized.rooted in omega arith in
     let long = length-with_table tables (vpn / 1024) in
     IsTree-with_word (with_table tables (vpn / 1024)) (length tables) (vpn % 1024) word
-    (IsTree-with_table tables (vpn / 1024) tree few (omega arith)) some (omega arith)
+    (IsTree-with_table tables (vpn / 1024) tree few (omega arith) none) some (omega arith)
 
 entry_at-mapped_from : (tables : List (List ℕ)) (vpn word : ℕ) (o : Option ℕ) → IsTree tables → vpn < 2 ^ 20 → table_for tables vpn ≡ o
-    → (o ≡ None → length tables < 0x200000) → ChangesEntry tables (mapped_from tables vpn word o) vpn (entry_of word)
+    → ChangesEntry tables (mapped_from tables vpn word o) vpn (entry_of word)
 unfolding mapped_from
-entry_at-mapped_from tables vpn word (Some table) tree fits is room q fits' =
+entry_at-mapped_from tables vpn word (Some table) tree fits is q fits' =
     entry_at-with_word tables vpn table word q tree fits fits' (table_within tables vpn table is) is
-entry_at-mapped_from tables vpn word None tree fits is room q fits' =
-    let few = room refl in
+entry_at-mapped_from tables vpn word None tree fits is q fits' =
+    let few = few_tables tables tree in
     let index : vpn / 1024 < 1024 = omega arith in
     let new = with_table tables (vpn / 1024) in
     let long = length-with_table tables (vpn / 1024) in
     let there : table_for new vpn ≡ Some (length tables) = table_for-pointed new vpn ∙ pointed-with_table_same tables (vpn / 1024) tree.sized few index in
     let none = sym (table_for-pointed tables vpn) ∙ is in
-    entry_at-with_word new vpn (length tables) word q (IsTree-with_table tables (vpn / 1024) tree few index) fits fits' (omega arith) there
+    entry_at-with_word new vpn (length tables) word q (IsTree-with_table tables (vpn / 1024) tree few index none) fits fits' (omega arith) there
     ∙ ap (cond (q == vpn) (entry_of word)) (entry_at-with_table tables (vpn / 1024) q tree few index fits' none)
 
-pub IsTree-mapped : (tables : List (List ℕ)) (vpn word : ℕ) → IsTree tables → vpn < 2 ^ 20 → (table_for tables vpn ≡ None → length tables < 0x200000)
-    → IsTree (mapped tables vpn word)
+pub IsTree-mapped : (tables : List (List ℕ)) (vpn word : ℕ) → IsTree tables → vpn < 2 ^ 20 → IsTree (mapped tables vpn word)
 unfolding mapped
-IsTree-mapped tables vpn word tree fits room = IsTree-mapped_from tables vpn word (table_for tables vpn) tree fits refl room
+IsTree-mapped tables vpn word tree fits = IsTree-mapped_from tables vpn word (table_for tables vpn) tree fits refl
 
-pub entry_at-mapped : (tables : List (List ℕ)) (vpn word : ℕ) → IsTree tables → vpn < 2 ^ 20 → (table_for tables vpn ≡ None → length tables < 0x200000)
-    → ChangesEntry tables (mapped tables vpn word) vpn (entry_of word)
+pub entry_at-mapped : (tables : List (List ℕ)) (vpn word : ℕ) → IsTree tables → vpn < 2 ^ 20 → ChangesEntry tables (mapped tables vpn word) vpn (entry_of word)
 unfolding mapped
-entry_at-mapped tables vpn word tree fits room = entry_at-mapped_from tables vpn word (table_for tables vpn) tree fits refl room
+entry_at-mapped tables vpn word tree fits = entry_at-mapped_from tables vpn word (table_for tables vpn) tree fits refl
+
+AddsTable-mapped_from : (tables : List (List ℕ)) (vpn word : ℕ) (o : Option ℕ) → IsTree tables → vpn < 2 ^ 20 → table_for tables vpn ≡ o
+    → AddsTable tables (mapped_from tables vpn word o) vpn
+unfolding mapped_from has_table
+AddsTable-mapped_from tables vpn word None tree fits is q inside =
+    let some : 0 < length tables = let rooted = tree.sized.rooted in omega arith in
+    SameTables-with_word (with_table tables (vpn / 1024)) (length tables) (vpn % 1024) word some q inside
+    ∙ AddsTable-with_table tables vpn tree (few_tables tables tree) fits q inside
+AddsTable-mapped_from tables vpn word (Some table) tree fits is q inside =
+    SameTables-with_word tables table (vpn % 1024) word (table_below tables vpn table tree fits is) q inside ∙ by_region (q / 1024 == vpn / 1024) refl
+  where
+    or_false : (b : Bool) → b ≡ (b || false)
+    or_false true = refl
+    or_false false = refl
+
+    by_region : (b : Bool) → (q / 1024 == vpn / 1024) ≡ b → is_some (table_for tables q) ≡ (is_some (table_for tables q) || b)
+    by_region true here =
+        let e : q / 1024 ≡ vpn / 1024 = grind (arith, nat_tests) in
+        let there : table_for tables q ≡ Some table = table_for-pointed tables q ∙ ap (pointed tables) e ∙ sym (table_for-pointed tables vpn) ∙ is in
+        rw there refl
+    by_region false here = or_false (is_some (table_for tables q))
+
+pub AddsTable-mapped : (tables : List (List ℕ)) (vpn word : ℕ) → IsTree tables → vpn < 2 ^ 20 → AddsTable tables (mapped tables vpn word) vpn
+unfolding mapped
+AddsTable-mapped tables vpn word tree fits = AddsTable-mapped_from tables vpn word (table_for tables vpn) tree fits refl
 
 -- `unmap` and `test_and_clear_accessed`
 changes_nothing : (tables : List (List ℕ)) (vpn : ℕ) (e : Entry) → e ≡ entry_at tables vpn → ChangesEntry tables tables vpn e
@@ -99,6 +124,20 @@ pub entry_at-marked : (tables : List (List ℕ)) (vpn : ℕ) (change : Entry →
 unfolding marked entry_at
 entry_at-marked tables vpn change tree fits = entry_at-marked_from tables vpn change (table_for tables vpn) tree fits refl
 
+SameTables-marked_from : (tables : List (List ℕ)) (vpn : ℕ) (change : Entry → ℕ) (o : Option ℕ) → IsTree tables → vpn < 2 ^ 20 → table_for tables vpn ≡ o
+    → SameTables tables (marked_from tables vpn change o)
+unfolding marked_from
+SameTables-marked_from tables vpn change None tree fits is = λ q inside. refl
+SameTables-marked_from tables vpn change (Some table) tree fits is = by_valid (entry_of (word_in tables table (vpn % 1024))).valid
+  where
+    by_valid : (b : Bool) → SameTables tables (cond b (with_word tables table (vpn % 1024) (change (entry_of (word_in tables table (vpn % 1024))))) tables)
+    by_valid true = SameTables-with_word tables table (vpn % 1024) _ (table_below tables vpn table tree fits is)
+    by_valid false = λ q inside. refl
+
+pub SameTables-marked : (tables : List (List ℕ)) (vpn : ℕ) (change : Entry → ℕ) → IsTree tables → vpn < 2 ^ 20 → SameTables tables (marked tables vpn change)
+unfolding marked
+SameTables-marked tables vpn change tree fits = SameTables-marked_from tables vpn change (table_for tables vpn) tree fits refl
+
 -- what `unmap` answers
 found_by : (word : ℕ) (b : Bool) → word_if_valid word b ≡ cond b (Some (record { 0 = word_of (entry_of word) })) None
 unfolding word_if_valid
@@ -127,10 +166,10 @@ touched_small Fetch word = software_small word
 touched_small Load word = software_small word
 touched_small Store word = software_small word
 
--- a walk for a page with this entry gives this, keeps the tree, and changes the page's entry alone
-abbrev WalksBy : List (List ℕ) → ℕ → Access → Entry → Walked → Type 0
+-- a walk for a page with this entry gives this, keeps the tree and which pages have a table, and changes the page's entry alone
+abbrev pub WalksBy : List (List ℕ) → ℕ → Access → Entry → Walked → Type 0
 WalksBy tables address access e walk =
-    (walk.0 ≡ walk_entry e address access) × (IsTree walk.1) × (ChangesEntry tables walk.1 (address / 0x1000) (walked_entry e access))
+    (walk.0 ≡ walk_entry e address access) × (IsTree walk.1) × (ChangesEntry tables walk.1 (address / 0x1000) (walked_entry e access)) × SameTables tables walk.1
 
 -- steps 5 to 8, over the two tests
 leaf_walks : (tables : List (List ℕ)) (address : ℕ) (access : Access) (table : ℕ) → IsTree tables → address < 2 ^ 32 → table_for tables (address / 0x1000) ≡ Some table
@@ -150,9 +189,9 @@ leaf_walks tables address access table tree fits is shape shaped = by_shape shap
 
     by_shape : (shape : Shape) → shape_of e ≡ shape → (b : Bool) → allows access e ≡ b
         → WalksBy tables address access e (walked_from tables address access (last_step table (vpn % 1024) shape))
-    by_shape Invalid shaped b allowed = rw shaped (refl, tree, changes_nothing tables vpn e here)
-    by_shape Pointer shaped b allowed = rw shaped (refl, tree, changes_nothing tables vpn e here)
-    by_shape Leaf shaped false allowed = rw (shaped, allowed) (refl, tree, changes_nothing tables vpn e here)
+    by_shape Invalid shaped b allowed = rw shaped (refl, tree, changes_nothing tables vpn e here, (λ q inside. refl))
+    by_shape Pointer shaped b allowed = rw shaped (refl, tree, changes_nothing tables vpn e here, (λ q inside. refl))
+    by_shape Leaf shaped false allowed = rw (shaped, allowed) (refl, tree, changes_nothing tables vpn e here, (λ q inside. refl))
     by_shape Leaf shaped true allowed =
         let same = entry_of-word_of (touched access e) (touched_small access (word_in tables table (vpn % 1024))) in
         rw (shaped, allowed) (
@@ -160,6 +199,7 @@ leaf_walks tables address access table tree fits is shape shaped = by_shape shap
           IsTree-with_word tables table (vpn % 1024) _ tree (table_below tables vpn table tree (omega arith) is) (table_within tables vpn table is),
           (λ q fits'. entry_at-with_word tables vpn table (word_of (touched access e)) q tree (omega arith) fits' (table_within tables vpn table is) is
               ∙ ap (λ (x : Entry). cond (q == vpn) x (entry_at tables q)) same),
+          SameTables-with_word tables table (vpn % 1024) _ (table_below tables vpn table tree (omega arith) is),
         )
 
 -- a root word that points to a table leads a walk there
@@ -188,7 +228,7 @@ none_walks tables address access tree fits is =
     let region : address / 0x1000 / 1024 ≡ address / 0x400000 = omega arith in
     let none : pointed tables (address / 0x400000) ≡ None = ap (pointed tables) (sym region) ∙ sym (table_for-pointed tables (address / 0x1000)) ∙ is in
     let zero_word = tree.empty (address / 0x400000) (omega arith) none in
-    rw zero_word (refl, tree, changes_nothing tables (address / 0x1000) blank (sym (entry_at_none tables (address / 0x1000) is)))
+    rw zero_word (refl, tree, changes_nothing tables (address / 0x1000) blank (sym (entry_at_none tables (address / 0x1000) is)), (λ q inside. refl))
 
 -- and for one with a table
 some_walks : (tables : List (List ℕ)) (address : ℕ) (access : Access) (table : ℕ) → IsTree tables → address < 2 ^ 32 → table_for tables (address / 0x1000) ≡ Some table

@@ -1,5 +1,6 @@
 -- What a new table changes: the root word that points to it then, and no page's entry.
-use Rattle.std.proofs.Common.{◌≡◌, ℕ, ◌+◌, ◌-◌, ◌/◌, ◌%◌, ◌^◌, ◌<◌, ◌≤◌, Bool, true, false, cond, refl, sym, ap, ◌∙◌, arith, List, [], ◌∷◌, ◌++◌, length, get_or, Option, Some, None, ◌==◌, nat_le, nat_lt, ◌&&◌, length-append}
+use Rattle.std.proofs.Common.{◌≡◌, ℕ, ◌+◌, ◌-◌, ◌/◌, ◌%◌, ◌^◌, ◌<◌, ◌≤◌, Bool, true, false, cond, refl, sym, ap, ◌∙◌, arith, List, [], ◌∷◌, ◌++◌, length, get_or, Option, Some, None, ◌==◌, nat_le, nat_lt, ◌&&◌, ◌||◌, length-append}
+use Rattle.std.specs.Prelude.{is_some}
 use Rattle.std.proofs.Math.ListN.{get_or-append}
 use Rattle.std.proofs.Math.Seq.{get_or-append_seam}
 use Rattle.std.proofs.lemmas.List.{get_or-replicate, length-replicate}
@@ -8,9 +9,9 @@ use Rattle.sv32_table.specs.declared.pte.Shape.{Shape}
 use Rattle.sv32_table.specs.declared.pte.Shape.TheVariants.{Invalid, Pointer, Leaf}
 use Rattle.sv32_table.specs.Entry.{Entry, entry_of, word_of, shape_of, has_reserved, blank, pointer_entry}
 use Rattle.sv32_table.specs.Tables.{IsSized, word_in, with_word, table_of, pointed_by, table_for, zero_table, with_table}
-use Rattle.sv32_table.specs.EntryAt.{entry_in, entry_at, pointed, IsTree}
+use Rattle.sv32_table.specs.EntryAt.{entry_in, entry_at, pointed, IsTree, has_table, AddsTable}
 use Rattle.sv32_table.specs.EntryWords.{entry_of-word_of}
-use Rattle.sv32_table.proofs.Writes.{length-with_word, word_in-with_word_same, word_in-with_word_index, word_in-with_word_table, IsSized-with_word, table_for-pointed}
+use Rattle.sv32_table.specs.WriteLaws.{pointers_below-more, length-with_word, word_in-with_word_same, word_in-with_word_index, word_in-with_word_table, IsSized-with_word, table_for-pointed}
 
 abbrev grown : List (List ℕ) → List (List ℕ)
 grown tables = tables ++ zero_table ∷ []
@@ -181,13 +182,15 @@ pointed-with_table_other tables index j tree few small apart =
     by_root (Some k) is = pointed_by-more n (entry_of w) (shape_of (entry_of w)) k is
     by_root None is = rw (tree.empty j small is) (pointed_by-zero (n + 1))
 
-pub IsTree-with_table : (tables : List (List ℕ)) (index : ℕ) → IsTree tables → length tables < 0x200000 → index < 1024 → IsTree (with_table tables index)
-IsTree-with_table tables index tree few small =
+pub IsTree-with_table : (tables : List (List ℕ)) (index : ℕ) → IsTree tables → length tables < 0x200000 → index < 1024 → pointed tables index ≡ None → IsTree (with_table tables index)
+IsTree-with_table tables index tree few small blank =
     record {
       sized = IsSized-with_table tables index tree.sized few;
       empty = λ j inside none. empty_by j inside none (j == index) refl;
       below = λ j table inside is. below_by j table inside is (j == index) refl;
       apart = λ j j' table inside inside' is is'. apart_by j j' table inside inside' is is' (j == index) refl (j' == index) refl;
+      reached =
+          length-with_table tables index ∙ ap (λ n. n + 1) (tree.reached ∙ sym (pointers_below-more tables (with_table tables index) 1024 index (length tables) small blank new other));
     }
   where
     new : pointed (with_table tables index) index ≡ Some (length tables)
@@ -245,6 +248,33 @@ IsTree-with_table tables index tree few small =
         let e : j ≡ index → ⊥ = grind (arith, nat_tests) in
         let e' : j' ≡ index → ⊥ = grind (arith, nat_tests) in
         tree.apart j j' table inside inside' (sym (other j inside e) ∙ is) (sym (other j' inside' e') ∙ is')
+
+-- the pages of the 4 MiB have a table then, and the others what they had
+pub AddsTable-with_table : (tables : List (List ℕ)) (vpn : ℕ) → IsTree tables → length tables < 0x200000 → vpn < 2 ^ 20 → AddsTable tables (with_table tables (vpn / 1024)) vpn
+unfolding has_table
+AddsTable-with_table tables vpn tree few fits q inside = by_region (q / 1024 == vpn / 1024) refl
+  where
+    new : List (List ℕ)
+    new = with_table tables (vpn / 1024)
+
+    or_true : (b : Bool) → true ≡ (b || true)
+    or_true true = refl
+    or_true false = refl
+
+    or_false : (b : Bool) → b ≡ (b || false)
+    or_false true = refl
+    or_false false = refl
+
+    by_region : (b : Bool) → (q / 1024 == vpn / 1024) ≡ b → is_some (table_for new q) ≡ (is_some (table_for tables q) || b)
+    by_region true here =
+        let e : q / 1024 ≡ vpn / 1024 = grind (arith, nat_tests) in
+        let there : table_for new q ≡ Some (length tables) =
+        table_for-pointed new q ∙ ap (pointed new) e ∙ pointed-with_table_same tables (vpn / 1024) tree.sized few (omega arith) in
+        ap is_some there ∙ or_true (is_some (table_for tables q))
+    by_region false here =
+        let e : q / 1024 ≡ vpn / 1024 → ⊥ = grind (arith, nat_tests) in
+        ap is_some (table_for-pointed new q ∙ pointed-with_table_other tables (vpn / 1024) (q / 1024) tree few (omega arith) e ∙ sym (table_for-pointed tables q))
+        ∙ or_false (is_some (table_for tables q))
 
 -- no page's entry changes
 pub entry_at-with_table : (tables : List (List ℕ)) (index q : ℕ) → IsTree tables → length tables < 0x200000 → index < 1024 → q < 2 ^ 20

@@ -11,5 +11,6 @@ pub mod QuestionLaws
 pub mod RefusalNumber
 pub mod ResidentLaws
 pub mod Residents
+pub mod SettledLaws
 pub mod Steady
 pub mod Text

@@ -283,3 +283,65 @@ settled_rest old new (Some k) =
     find_keys (λ q. list_any (has_key q) new) (round (place k old) old)
     ∙ find_same (λ q. list_any (has_key q) new) (among (keys new)) (stays_among new) (keys (round (place k old) old))
     ∙ ap (find (among (keys new))) (keys-append (drop (place k old) old) (take (place k old) old) ∙ ap (λ (l : List Key). l ++ keys (take (place k old) old)) (from_place k old) ∙ ap (λ (l : List Key). from_key k (keys old) ++ l) (before_place k old))
+
+-- Two moves as one.
+
+split_key : (k : Key) (ks : List Key) → before_key k ks ++ from_key k ks ≡ ks
+split_key k [] = refl
+split_key k (q ∷ qs) =
+    elim (is_key k q) as (λ t. cond t [] (q ∷ before_key k qs) ++ cond t (q ∷ qs) (from_key k qs) ≡ q ∷ qs) [ true ↦ refl | false ↦ ap (λ (l : List Key). q ∷ l) (split_key k qs) ]
+
+none_swapped : (p : Key → Bool) (a b : List Key) → find p (a ++ b) ≡ None → find p (b ++ a) ≡ None
+none_swapped p a b h = find-append p b a ∙ swap (find p a) (find p b) (sym (find-append p a b) ∙ h)
+  where
+    swap : (x y : Option Key) → or_else x y ≡ None → or_else y x ≡ None
+    swap None None h = refl
+    swap None (Some k) h = cc
+    swap (Some k) y h = cc
+
+rest_composes : (p q : Key → Bool) → Within q p → (u v m a b : List Key) → a ++ b ≡ u ++ v → m ≡ filter p (v ++ u) → Apart (u ++ v) → rest q m (find p (b ++ a)) ≡ find q (b ++ a)
+rest_composes p q less u v m a b parts is apart =
+    elim (find p (b ++ a)) as (λ t. find p (b ++ a) ≡ t → rest q m t ≡ find q (b ++ a)) [
+      | None ↦ λ h.
+          let nothing : find p (u ++ v) ≡ None = ap (find p) (sym parts) ∙ none_swapped p b a h in
+          let left : find q m ≡ None = ap (find q) is ∙ find_filter p q less (v ++ u) ∙ find_none p q less (v ++ u) (none_swapped p u v nothing) in
+          left ∙ sym (find_none p q less (b ++ a) h)
+      | Some y ↦ λ h.
+          let holds : p y ≡ true = found_holds p (b ++ a) y h in
+          let found : among (b ++ a) y ≡ true = found_among p (b ++ a) y h in
+          let there : among (u ++ v) y ≡ true = ap (λ (l : List Key). among l y) (sym parts) ∙ among-append y a b ∙ or_swapped (among b y) (among a y) (sym (among-append y b a) ∙ found) in
+          let one : rest q m (Some y) ≡ rest q (v ++ u) (Some y) = ap (λ (l : List Key). rest q l (Some y)) is ∙ rest_filter p q less y holds (v ++ u) in
+          let two : rest q (u ++ v) (Some y) ≡ rest q (a ++ b) (Some y) = ap (λ (l : List Key). rest q l (Some y)) (sym parts) in
+          one ∙ rest_turned q u v y apart there ∙ two ∙ rest_again p q less a b y (rw parts apart) h
+    ] refl
+  where
+    or_swapped : (x y : Bool) → x || y ≡ true → y || x ≡ true
+    or_swapped true y h = or_true y
+    or_swapped false true h = refl
+    or_swapped false false h = h
+
+-- the list keeps some keys of the old one, in their order clockwise, wherever it begins
+pub record Clockwise (old mid : List Entry) : Type 0 where
+  pub passed : List Key
+  pub ahead : List Key
+  pub parts : keys old ≡ passed ++ ahead
+  pub kept : keys mid ≡ filter (among (keys mid)) (ahead ++ passed)
+
+-- A hand that was settled once, and once more, rests where it is settled at once.
+pub settled_composes : (old mid new : List Entry) (hand : Option Key) → Apart (keys old) → Clockwise old mid → Within (among (keys new)) (among (keys mid)) →
+    settled mid new (settled old mid hand) ≡ settled old new hand
+settled_composes old mid new hand apart order less =
+    ap (settled mid new) (settled_rest old mid hand)
+    ∙ settled_rest mid new (rest (among (keys mid)) (keys old) hand)
+    ∙ by_hand hand
+    ∙ sym (settled_rest old new hand)
+  where
+    by_hand : (hand : Option Key) → rest (among (keys new)) (keys mid) (rest (among (keys mid)) (keys old) hand) ≡ rest (among (keys new)) (keys old) hand
+    by_hand None =
+        let p : Key → Bool = among (keys mid) in
+        let q : Key → Bool = among (keys new) in
+        ap (λ (l : List Key). rest q (keys mid) (find p l)) (sym (append_none (keys old)))
+        ∙ rest_composes p q less order.passed order.ahead (keys mid) [] (keys old) order.parts order.kept (rw order.parts at apart)
+        ∙ ap (find q) (append_none (keys old))
+    by_hand (Some k) =
+        rest_composes (among (keys mid)) (among (keys new)) less order.passed order.ahead (keys mid) (before_key k (keys old)) (from_key k (keys old)) (split_key k (keys old) ∙ order.parts) order.kept (rw order.parts at apart)

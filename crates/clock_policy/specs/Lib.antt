@@ -12,5 +12,7 @@ pub mod RefusalNumber
 pub mod ResidentLaws
 pub mod Residents
 pub mod SettledLaws
+pub mod SingleMoveLaws
+pub mod SingleMoves
 pub mod Steady
 pub mod Text

@@ -13,10 +13,10 @@ use Rattle.clock_policy.specs.AdmitLaws.{one_key}
 
 -- Lists of keys.
 
-is_key_self : (k : Key) → is_key k k ≡ true
+pub is_key_self : (k : Key) → is_key k k ≡ true
 is_key_self k = grind arith
 
-is_one_key : (k q : Key) → is_key k q ≡ true → q ≡ k
+pub is_one_key : (k q : Key) → is_key k q ≡ true → q ≡ k
 is_one_key k q h = one_key q k (parts k q h).0 (parts k q h).1
   where
     parts : (k q : Key) → is_key k q ≡ true → (q.process ≡ k.process) × (q.vpn ≡ k.vpn)
@@ -84,7 +84,7 @@ found_holds p (k ∷ ks) y h =
       | false ↦ λ is g. found_holds p ks y g
     ] refl h
 
-or_true : (b : Bool) → b || true ≡ true
+pub or_true : (b : Bool) → b || true ≡ true
 or_true true = refl
 or_true false = refl
 
@@ -144,7 +144,7 @@ before_left y [] v h = cc
 before_left y (k ∷ ks) v h =
     elim (is_key y k) as (λ t. t || among ks y ≡ true → cond t [] (k ∷ before_key y (ks ++ v)) ≡ cond t [] (k ∷ before_key y ks)) [ true ↦ λ g. refl | false ↦ λ g. ap (λ (l : List Key). k ∷ l) (before_left y ks v g) ] h
 
-among-append : (y : Key) (u v : List Key) → among (u ++ v) y ≡ among u y || among v y
+pub among-append : (y : Key) (u v : List Key) → among (u ++ v) y ≡ among u y || among v y
 among-append y [] v = refl
 among-append y (k ∷ ks) v =
     elim (is_key y k) as (λ t. t || among (ks ++ v) y ≡ (t || among ks y) || among v y) [ true ↦ refl | false ↦ among-append y ks v ]
@@ -242,7 +242,7 @@ rest_filter p q less y holds ks =
 
 -- Entries and their keys.
 
-keys-append : (a b : List Entry) → keys (a ++ b) ≡ keys a ++ keys b
+pub keys-append : (a b : List Entry) → keys (a ++ b) ≡ keys a ++ keys b
 keys-append [] b = refl
 keys-append (e ∷ es) b = ap (λ (l : List Key). e.key ∷ l) (keys-append es b)
 
@@ -251,7 +251,7 @@ find_keys q [] = refl
 find_keys q (e ∷ es) =
     elim (q e.key) as (λ t. key_of (cond t (Some e) (find (λ e. q e.key) es)) ≡ cond t (Some e.key) (find q (keys es))) [ true ↦ refl | false ↦ find_keys q es ]
 
-stays_among : (l : List Entry) (k : Key) → list_any (has_key k) l ≡ among (keys l) k
+pub stays_among : (l : List Entry) (k : Key) → list_any (has_key k) l ≡ among (keys l) k
 stays_among [] k = refl
 stays_among (e ∷ es) k = ap (λ (t : Bool). is_key k e.key || t) (stays_among es k)
 
@@ -265,11 +265,11 @@ before_place k [] = refl
 before_place k (e ∷ es) =
     elim (has_key k e) as (λ t. keys (take (cond t 0 (suc (place k es))) (e ∷ es)) ≡ cond t [] (e.key ∷ before_key k (keys es))) [ true ↦ refl | false ↦ ap (λ (l : List Key). e.key ∷ l) (before_place k es) ]
 
-find_same : (p q : Key → Bool) → ((k : Key) → p k ≡ q k) → (ks : List Key) → find p ks ≡ find q ks
+pub find_same : (p q : Key → Bool) → ((k : Key) → p k ≡ q k) → (ks : List Key) → find p ks ≡ find q ks
 find_same p q same [] = refl
 find_same p q same (k ∷ ks) = rw (same k) (elim (q k) as (λ t. cond t (Some k) (find p ks) ≡ cond t (Some k) (find q ks)) [ true ↦ refl | false ↦ find_same p q same ks ])
 
-append_none : (ks : List Key) → ks ++ [] ≡ ks
+pub append_none : (ks : List Key) → ks ++ [] ≡ ks
 append_none [] = refl
 append_none (k ∷ ks) = ap (λ (l : List Key). k ∷ l) (append_none ks)
 

@@ -150,7 +150,7 @@ among-append y (k ∷ ks) v =
     elim (is_key y k) as (λ t. t || among (ks ++ v) y ≡ (t || among ks y) || among v y) [ true ↦ refl | false ↦ among-append y ks v ]
 
 -- a key of one part stands not in the other
-apart_left : (y : Key) (u v : List Key) → Apart (u ++ v) → among v y ≡ true → among u y ≡ false
+pub apart_left : (y : Key) (u v : List Key) → Apart (u ++ v) → among v y ≡ true → among u y ≡ false
 apart_left y [] v apart h = refl
 apart_left y (k ∷ ks) v apart h =
     elim (is_key y k) as (λ t. is_key y k ≡ t → t || among ks y ≡ false) [

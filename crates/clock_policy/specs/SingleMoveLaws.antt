@@ -12,9 +12,9 @@ use Rattle.clock_policy.specs.declared.answer.Bit.TheVariants.{Zero, One, Gone}
 use Rattle.clock_policy.specs.ClockPro.{ClockState, number, has_key, place, key_of, is_shadow, of_kind, settled, relisted, removed, marked, fallen, turned_to, test_ended, tests_ended, test_count, hot_left, is_of, purged}
 use Rattle.clock_policy.specs.Lawful.{Lawful, RestsIn}
 use Rattle.clock_policy.specs.Listed.{has_key_refl}
-use Rattle.clock_policy.specs.CountLaws.{IsIn, place_holds, number-append, any_number}
+use Rattle.clock_policy.specs.CountLaws.{IsIn, place_holds, number-append, any_number, number_any}
 use Rattle.clock_policy.specs.Residents.{is_key}
-use Rattle.clock_policy.specs.SettledLaws.{keys, among, Apart, Within, Clockwise, rest, settled_rest, settled_composes, is_key_self, is_one_key, or_true, among-append, find_same, keys-append, stays_among, append_none}
+use Rattle.clock_policy.specs.SettledLaws.{keys, among, Apart, Within, Clockwise, rest, settled_rest, settled_composes, is_key_self, is_one_key, from_key, before_key, or_true, among-append, find_same, keys-append, stays_among, append_none, apart_left}
 use Rattle.clock_policy.specs.SingleMoves.{front_turned, kind_passed, passed_of, front_passed, fronts_passed, front_answered, removed_of, each_removed}
 
 -- Keys that stay.
@@ -120,3 +120,129 @@ clockwise_kept g u v t same apart =
       parts = refl;
       kept = keys-append t v ∙ sym (ap (filter p) (append_none (keys (u ++ v)) ∙ keys-append u v) ∙ filter_keys-append p (keys u) (keys v) ∙ rw (parts.0, parts.1) refl);
     }
+
+-- Lists put in place of the old one.
+
+pub relisted_composes : (mid new : List Entry) (s : ClockState) → Apart (keys s.entries) → Clockwise s.entries mid → Within (among (keys new)) (among (keys mid)) → relisted new (relisted mid s) ≡ relisted new s
+unfolding relisted
+relisted_composes mid new s apart order less =
+    ap (λ (c : Option Key). record s { entries = new; cold_hand = c; test_hand = settled mid new (settled s.entries mid s.test_hand) }) (settled_composes s.entries mid new s.cold_hand apart order less)
+    ∙ ap (λ (c : Option Key). record s { entries = new; cold_hand = settled s.entries new s.cold_hand; test_hand = c }) (settled_composes s.entries mid new s.test_hand apart order less)
+
+-- a hand that stays is where it was
+rest_stays : (q : Key → Bool) (ks : List Key) (k : Key) → q k ≡ true → among ks k ≡ true → rest q ks (Some k) ≡ Some k
+rest_stays q ks k holds there = ap (find q) refl ∙ first ks k there holds _
+  where
+    first : (ks : List Key) (k : Key) → among ks k ≡ true → q k ≡ true → (more : List Key) → find q (from_key k ks ++ more) ≡ Some k
+    first [] k h g more = cc
+    first (x ∷ xs) k h g more =
+        elim (is_key k x) as (λ t. is_key k x ≡ t → t || among xs k ≡ true → find q (cond t (x ∷ xs) (from_key k xs) ++ more) ≡ Some k) [
+          | true ↦ λ is _. rw (is_one_key k x is, g) refl
+          | false ↦ λ is there. first xs k there g more
+        ] refl h
+
+settled_same : (l : List Entry) (hand : Option Key) → RestsIn l hand → settled l l hand ≡ hand
+settled_same [] None rests = settled_rest [] [] None
+settled_same (e ∷ es) None rests = absurd (omega arith)
+settled_same l (Some k) rests =
+    let there : among (keys l) k ≡ true = sym (stays_among l k) ∙ number_any (has_key k) l rests in
+    settled_rest l l (Some k) ∙ rest_stays (among (keys l)) (keys l) k there there
+
+pub relisted_same : (s : ClockState) → Lawful s → relisted s.entries s ≡ s
+unfolding relisted
+relisted_same s h =
+    ap (λ (c : Option Key). record s { cold_hand = c; test_hand = settled s.entries s.entries s.test_hand }) (settled_same s.entries s.cold_hand h.cold_hand_rests)
+    ∙ ap (λ (c : Option Key). record s { test_hand = c }) (settled_same s.entries s.test_hand h.test_hand_rests)
+
+-- The purge.
+
+-- the entry behind others of other keys is taken out
+without_at : (e : Entry) (t v : List Entry) → among (keys t) e.key ≡ false →
+    let l = t ++ e ∷ v in take (place e.key l) l ++ drop (place e.key l + 1) l ≡ t ++ v
+without_at e t v apart = rw add-one (without e t v apart)
+  where
+    without : (e : Entry) (t v : List Entry) → among (keys t) e.key ≡ false →
+        take (place e.key (t ++ e ∷ v)) (t ++ e ∷ v) ++ drop (suc (place e.key (t ++ e ∷ v))) (t ++ e ∷ v) ≡ t ++ v
+    without e [] v apart = rw (has_key_refl e) refl
+    without e (d ∷ ds) v apart =
+        elim (has_key e.key d) as (λ b. b || among (keys ds) e.key ≡ false → take (cond b 0 (suc (place e.key (ds ++ e ∷ v)))) (d ∷ (ds ++ e ∷ v)) ++ drop (suc (cond b 0 (suc (place e.key (ds ++ e ∷ v))))) (d ∷ (ds ++ e ∷ v)) ≡ d ∷ (ds ++ v)) [
+          | true ↦ λ g. cc
+          | false ↦ λ g. ap (λ (l : List Entry). d ∷ l) (without e ds v g)
+        ] apart
+
+removed_from : (k : Key) (l : List Entry) (s : ClockState) → removed k (relisted l s) ≡ relisted (take (place k l) l ++ drop (place k l + 1) l) (relisted l s)
+unfolding removed relisted
+removed_from k l s = refl
+
+one_less : (e : Entry) (t v : List Entry) → Within (among (keys (t ++ v))) (among (keys (t ++ e ∷ v)))
+one_less e t v k h =
+    ap (λ (l : List Key). among l k) (keys-append t (e ∷ v)) ∙ among-append k (keys t) (e.key ∷ keys v)
+    ∙ wider (among (keys t) k) (is_key k e.key) (among (keys v) k) (sym (among-append k (keys t) (keys v)) ∙ sym (ap (λ (l : List Key). among l k) (keys-append t v)) ∙ h)
+  where
+    wider : (a b c : Bool) → a || c ≡ true → a || (b || c) ≡ true
+    wider true b c h = refl
+    wider false true c h = refl
+    wider false false c h = h
+
+removed_at : (e : Entry) (t v : List Entry) (s : ClockState) → among (keys t) e.key ≡ false → Apart (keys s.entries) → Clockwise s.entries (t ++ e ∷ v) → removed e.key (relisted (t ++ e ∷ v) s) ≡ relisted (t ++ v) s
+removed_at e t v s alone apart order =
+    removed_from e.key (t ++ e ∷ v) s
+    ∙ ap (λ (l : List Entry). relisted l (relisted (t ++ e ∷ v) s)) (without_at e t v alone)
+    ∙ relisted_composes (t ++ e ∷ v) (t ++ v) s apart order (one_less e t v)
+
+abbrev stays : ℕ → Entry → Bool
+stays process e = not (is_of process e)
+
+filter-append : (g : Entry → Bool) (a b : List Entry) → filter g (a ++ b) ≡ filter g a ++ filter g b
+filter-append g [] b = refl
+filter-append g (e ∷ es) b =
+    elim (g e) as (λ t. cond t (e ∷ filter g (es ++ b)) (filter g (es ++ b)) ≡ cond t (e ∷ filter g es) (filter g es) ++ filter g b) [ true ↦ ap (λ (l : List Entry). e ∷ l) (filter-append g es b) | false ↦ filter-append g es b ]
+
+none_before : (e : Entry) (u v : List Entry) → Apart (keys (u ++ e ∷ v)) → among (keys u) e.key ≡ false
+none_before e u v apart = apart_left e.key (keys u) (keys (e ∷ v)) (rw (keys-append u (e ∷ v)) at apart) (rw (is_key_self e.key) refl)
+
+none_kept : (g : Entry → Bool) (e : Entry) (u : List Entry) → among (keys u) e.key ≡ false → among (keys (filter g u)) e.key ≡ false
+none_kept g e u h =
+    ap (λ (l : List Key). among l e.key) (sym (append_none (keys (filter g u)))) ∙ kept_among g u [] e.key (ap (λ (l : List Key). among l e.key) (append_none (keys u)) ∙ h)
+
+step_removed : (process : ℕ) (e : Entry) (u v : List Entry) (s : ClockState) → s.entries ≡ u ++ e ∷ v → Apart (keys s.entries) →
+    removed_of process e (relisted (filter (stays process) u ++ e ∷ v) s) ≡ relisted (filter (stays process) (u ++ e ∷ []) ++ v) s
+step_removed process e u v s is apart =
+    let g : Entry → Bool = stays process in
+    let there : Apart (keys (u ++ e ∷ v)) = rw is at apart in
+    let parts : Apart (keys u ++ keys (e ∷ v)) = rw (keys-append u (e ∷ v)) at there in
+    let order : Clockwise s.entries (filter g u ++ e ∷ v) = rw is (clockwise_kept g u (e ∷ v) (filter g u) refl parts) in
+    elim (is_of process e) as (λ t. is_of process e ≡ t → cond t (removed e.key (relisted (filter g u ++ e ∷ v) s)) (relisted (filter g u ++ e ∷ v) s) ≡ relisted (filter g (u ++ e ∷ []) ++ v) s) [
+      | true ↦ λ gone.
+          removed_at e (filter g u) v s (none_kept g e u (none_before e u v there)) apart order
+          ∙ ap (λ (l : List Entry). relisted (l ++ v) s) (sym (filter-append g u (e ∷ []) ∙ rw gone (append_nil (filter g u))))
+      | false ↦ λ kept.
+          ap (λ (l : List Entry). relisted l s) (sym (ap (λ (l : List Entry). l ++ v) (filter-append g u (e ∷ []) ∙ rw kept refl) ∙ append_assoc (filter g u) (e ∷ []) v))
+    ] refl
+  where
+    append_nil : (l : List Entry) → l ++ [] ≡ l
+    append_nil [] = refl
+    append_nil (e ∷ es) = ap (λ (l : List Entry). e ∷ l) (append_nil es)
+
+each_from : (process : ℕ) (v u : List Entry) (s : ClockState) → s.entries ≡ u ++ v → Apart (keys s.entries) → each_removed process v (relisted (filter (stays process) u ++ v) s) ≡ relisted (filter (stays process) (u ++ v) ++ []) s
+each_from process [] u s is apart = ap (λ (l : List Entry). relisted (filter (stays process) l ++ []) s) (sym (append_end u))
+  where
+    append_end : (l : List Entry) → l ++ [] ≡ l
+    append_end [] = refl
+    append_end (e ∷ es) = ap (λ (l : List Entry). e ∷ l) (append_end es)
+each_from process (e ∷ es) u s is apart =
+    ap (each_removed process es) (step_removed process e u es s is apart)
+    ∙ each_from process es (u ++ e ∷ []) s (is ∙ sym (append_assoc u (e ∷ []) es)) apart
+    ∙ ap (λ (l : List Entry). relisted (filter (stays process) l ++ []) s) (append_assoc u (e ∷ []) es)
+
+-- The purge takes the entries of the process out, one after another.
+pub purged_by_moves : (process : ℕ) (s : ClockState) → Lawful s → each_removed process s.entries s ≡ purged process s
+unfolding purged
+purged_by_moves process s h =
+    ap (each_removed process s.entries) (sym (relisted_same s h))
+    ∙ each_from process s.entries [] s refl (apart_of s.entries h.distinct)
+    ∙ ap (λ (l : List Entry). relisted l s) (append_end (filter (stays process) s.entries))
+  where
+    append_end : (l : List Entry) → l ++ [] ≡ l
+    append_end [] = refl
+    append_end (e ∷ es) = ap (λ (l : List Entry). e ∷ l) (append_end es)

@@ -4,6 +4,7 @@ pub mod ClockLaws
 pub mod ClockPro
 pub mod CountLaws
 pub mod Counts
+pub mod HotMoveLaws
 pub mod KeptLaws
 pub mod Lawful
 pub mod Listed

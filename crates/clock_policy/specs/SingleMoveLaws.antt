@@ -82,7 +82,7 @@ kept_keys g (e ∷ es) a apart =
       | false ↦ rw (kept_among g es a e.key apart.0) (kept_keys g es a apart.1)
     ]
 
-or_comm : (a b : Bool) → a || b ≡ b || a
+pub or_comm : (a b : Bool) → a || b ≡ b || a
 or_comm true b = sym (or_true b)
 or_comm false true = refl
 or_comm false false = refl
@@ -184,7 +184,7 @@ one_less e t v k h =
     wider false true c h = refl
     wider false false c h = h
 
-removed_at : (e : Entry) (t v : List Entry) (s : ClockState) → among (keys t) e.key ≡ false → Apart (keys s.entries) → Clockwise s.entries (t ++ e ∷ v) → removed e.key (relisted (t ++ e ∷ v) s) ≡ relisted (t ++ v) s
+pub removed_at : (e : Entry) (t v : List Entry) (s : ClockState) → among (keys t) e.key ≡ false → Apart (keys s.entries) → Clockwise s.entries (t ++ e ∷ v) → removed e.key (relisted (t ++ e ∷ v) s) ≡ relisted (t ++ v) s
 removed_at e t v s alone apart order =
     removed_from e.key (t ++ e ∷ v) s
     ∙ ap (λ (l : List Entry). relisted l (relisted (t ++ e ∷ v) s)) (without_at e t v alone)

@@ -1,0 +1,101 @@
+-- The hot answer's equation is single moves, one after another: the front is passed until the entry that is asked stands there.
+use Rattle.std.specs.Prelude.{◌≡◌, ℕ, zero, suc, ◌+◌, ◌-◌, ◌≤◌, max, Bool, true, false, not, ◌||◌, cond, Option, Some, None, filter, slice_get, List, [], ◌∷◌, ◌++◌, take, drop, set, length, refl}
+use Rattle.std.proofs.Common.{arith, sym, ap, ◌∙◌, append_assoc, add-one}
+use Rattle.std.proofs.lemmas.List.{take-append-drop}
+use Rattle.clock_policy.specs.declared.key.Key.{Key}
+use Rattle.clock_policy.specs.declared.entry.Entry.{Entry}
+use Rattle.clock_policy.specs.declared.entry.EntryKind.{EntryKind}
+use Rattle.clock_policy.specs.declared.entry.EntryKind.TheVariants.{Hot, Test, Cold, Shadow}
+use Rattle.clock_policy.specs.declared.answer.Bit.{Bit}
+use Rattle.clock_policy.specs.declared.answer.Bit.TheVariants.{Zero, One, Gone}
+use Rattle.clock_policy.specs.ClockPro.{ClockState, number, has_key, place, is_shadow, is_in_test, of_kind, settled, relisted, removed, marked, fallen, turned_to, test_ended, tests_ended, test_count, hot_left}
+use Rattle.clock_policy.specs.Lawful.{Lawful}
+use Rattle.clock_policy.specs.Listed.{has_key_refl}
+use Rattle.clock_policy.specs.CountLaws.{IsIn, place_holds, number-append}
+use Rattle.clock_policy.specs.Residents.{is_key}
+use Rattle.clock_policy.specs.SettledLaws.{keys, among, Apart, Within, Clockwise, rest, settled_rest, is_key_self, among-append, find_same, keys-append, from_key, before_key}
+use Rattle.clock_policy.specs.SingleMoves.{front_turned, kind_passed, passed_of, front_passed, fronts_passed, front_answered}
+use Rattle.clock_policy.specs.SingleMoveLaws.{apart_of, or_comm, clockwise_behind, relisted_same, removed_at}
+
+-- Moves of a front.
+
+-- lists with the same keys settle a hand alike
+settled_alike : (old a b : List Entry) (hand : Option Key) → ((k : Key) → among (keys a) k ≡ among (keys b) k) → settled old a hand ≡ settled old b hand
+settled_alike old a b hand same = settled_rest old a hand ∙ by_hand hand ∙ sym (settled_rest old b hand)
+  where
+    by_hand : (hand : Option Key) → rest (among (keys a)) (keys old) hand ≡ rest (among (keys b)) (keys old) hand
+    by_hand None = find_same (among (keys a)) (among (keys b)) same (keys old)
+    by_hand (Some k) = find_same (among (keys a)) (among (keys b)) same (from_key k (keys old) ++ before_key k (keys old))
+
+turned_keys : (e y : Entry) (r : List Entry) → y.key ≡ e.key → (k : Key) → among (keys (e ∷ r)) k ≡ among (keys (r ++ y ∷ [])) k
+turned_keys e y r same k =
+    or_comm (is_key k e.key) (among (keys r) k)
+    ∙ ap (λ (t : Bool). among (keys r) k || t) (sym (or_false (is_key k y.key) ∙ ap (is_key k) same))
+    ∙ sym (among-append k (keys r) (y.key ∷ []))
+    ∙ ap (λ (l : List Key). among l k) (sym (keys-append r (y ∷ [])))
+  where
+    or_false : (b : Bool) → b || false ≡ b
+    or_false true = refl
+    or_false false = refl
+
+front_at : (n : ℕ) (e y : Entry) (r : List Entry) (s : ClockState) → y.key ≡ e.key → record (fallen n (relisted (e ∷ r) s)) { entries = r ++ y ∷ [] } ≡ fallen n (relisted (r ++ y ∷ []) s)
+unfolding fallen relisted
+front_at n e y r s same =
+    ap (λ (c : Option Key). record s { share = max (s.share - n) 1; entries = r ++ y ∷ []; cold_hand = c; test_hand = settled s.entries (e ∷ r) s.test_hand }) (settled_alike s.entries (e ∷ r) (r ++ y ∷ []) s.cold_hand (turned_keys e y r same))
+    ∙ ap (λ (c : Option Key). record s { share = max (s.share - n) 1; entries = r ++ y ∷ []; cold_hand = settled s.entries (r ++ y ∷ []) s.cold_hand; test_hand = c }) (settled_alike s.entries (e ∷ r) (r ++ y ∷ []) s.test_hand (turned_keys e y r same))
+
+front_kept : (n : ℕ) (e : Entry) (r : List Entry) (s : ClockState) → front_turned (fallen n (relisted (e ∷ r) s)) ≡ record (fallen n (relisted (e ∷ r) s)) { entries = r ++ e ∷ [] }
+unfolding front_turned fallen relisted
+front_kept n e r s = refl
+
+front_cold : (n : ℕ) (e : Entry) (r : List Entry) (s : ClockState) → front_turned (marked e.key Cold (fallen n (relisted (e ∷ r) s))) ≡ record (fallen n (relisted (e ∷ r) s)) { entries = r ++ of_kind Cold e ∷ [] }
+unfolding front_turned marked fallen relisted
+front_cold n e r s = rw (has_key_refl e) refl
+
+front_gone : (n : ℕ) (k : Key) (s : ClockState) → removed k (fallen n s) ≡ fallen n (removed k s)
+unfolding removed relisted fallen
+front_gone n k s = refl
+
+fallen_again : (m n : ℕ) (s : ClockState) → fallen m (fallen n s) ≡ fallen (n + m) s
+unfolding fallen
+fallen_again m n s = ap (λ (c : ℕ). record s { share = c }) (shares s.share m n)
+  where
+    shares : (c m n : ℕ) → max (max (c - n) 1 - m) 1 ≡ max (c - (n + m)) 1
+    shares c m n = omega arith
+
+-- A stage of the hand's way: the entries before were passed.
+
+abbrev stage : List Entry → List Entry → ClockState → ClockState
+stage u v s = fallen (test_count u) (relisted (v ++ tests_ended u) s)
+
+tests_ended-append : (a b : List Entry) → tests_ended (a ++ b) ≡ tests_ended a ++ tests_ended b
+tests_ended-append [] b = refl
+tests_ended-append (e ∷ es) b = ap (λ (l : List Entry). test_ended e.kind e ++ l) (tests_ended-append es b) ∙ sym (append_assoc (test_ended e.kind e) (tests_ended es) (tests_ended b))
+
+ended_keys : (u : List Entry) → keys (tests_ended u) ≡ keys (filter (λ e. not (is_shadow e.kind)) u)
+ended_keys [] = refl
+ended_keys (e ∷ es) =
+    elim e.kind as (λ t. keys (test_ended t e ++ tests_ended es) ≡ keys (cond (not (is_shadow t)) (e ∷ filter (λ e. not (is_shadow e.kind)) es) (filter (λ e. not (is_shadow e.kind)) es))) [
+      | Hot ↦ ap (λ (l : List Key). e.key ∷ l) (ended_keys es)
+      | Test ↦ ap (λ (l : List Key). e.key ∷ l) (ended_keys es)
+      | Cold ↦ ap (λ (l : List Key). e.key ∷ l) (ended_keys es)
+      | Shadow ↦ ended_keys es
+    ]
+
+append_nil : (l : List Entry) → l ++ [] ≡ l
+append_nil [] = refl
+append_nil (e ∷ es) = ap (λ (l : List Entry). e ∷ l) (append_nil es)
+
+-- the next stage, from what the front leaves and how many tests ended
+next_stage : (u v : List Entry) (e : Entry) (s : ClockState) (left : List Entry) (n : ℕ) → test_ended e.kind e ≡ left → cond (is_in_test e.kind) 1 0 ≡ n →
+    fallen (test_count u + n) (relisted ((v ++ tests_ended u) ++ left) s) ≡ stage (u ++ e ∷ []) v s
+next_stage u v e s left n is tests =
+    ap (λ (c : ℕ). fallen c (relisted ((v ++ tests_ended u) ++ left) s)) (counted u e n tests)
+    ∙ ap (λ (l : List Entry). fallen (test_count (u ++ e ∷ [])) (relisted l s)) (listed u v e left is)
+  where
+    counted : (u : List Entry) (e : Entry) (n : ℕ) → cond (is_in_test e.kind) 1 0 ≡ n → test_count u + n ≡ test_count (u ++ e ∷ [])
+    counted u e n tests = omega (arith, number-append (λ e. is_in_test e.kind) u (e ∷ []))
+
+    listed : (u v : List Entry) (e : Entry) (left : List Entry) → test_ended e.kind e ≡ left → (v ++ tests_ended u) ++ left ≡ v ++ tests_ended (u ++ e ∷ [])
+    listed u v e left is =
+        append_assoc v (tests_ended u) left ∙ ap (λ (l : List Entry). v ++ l) (sym (tests_ended-append u (e ∷ []) ∙ ap (λ (l : List Entry). tests_ended u ++ l) (append_nil (test_ended e.kind e) ∙ is)))

@@ -1,20 +1,19 @@
 -- The hot answer's equation is single moves, one after another: the front is passed until the entry that is asked stands there.
-use Rattle.std.specs.Prelude.{◌≡◌, ℕ, zero, suc, ◌+◌, ◌-◌, ◌≤◌, max, Bool, true, false, not, ◌||◌, cond, Option, Some, None, filter, slice_get, List, [], ◌∷◌, ◌++◌, take, drop, set, length, refl}
+use Rattle.std.specs.Prelude.{◌≡◌, ℕ, zero, suc, ◌+◌, ◌-◌, ◌≤◌, max, Bool, true, false, not, ◌||◌, cond, Option, Some, None, filter, slice_get, List, [], ◌∷◌, ◌++◌, take, drop, length, refl}
 use Rattle.std.proofs.Common.{arith, sym, ap, ◌∙◌, append_assoc, add-one}
-use Rattle.std.proofs.lemmas.List.{take-append-drop}
 use Rattle.clock_policy.specs.declared.key.Key.{Key}
 use Rattle.clock_policy.specs.declared.entry.Entry.{Entry}
 use Rattle.clock_policy.specs.declared.entry.EntryKind.{EntryKind}
 use Rattle.clock_policy.specs.declared.entry.EntryKind.TheVariants.{Hot, Test, Cold, Shadow}
 use Rattle.clock_policy.specs.declared.answer.Bit.{Bit}
 use Rattle.clock_policy.specs.declared.answer.Bit.TheVariants.{Zero, One, Gone}
-use Rattle.clock_policy.specs.ClockPro.{ClockState, number, has_key, place, is_shadow, is_in_test, of_kind, settled, relisted, removed, marked, fallen, turned_to, test_ended, tests_ended, test_count, hot_left}
+use Rattle.clock_policy.specs.ClockPro.{ClockState, place, is_shadow, is_in_test, of_kind, settled, relisted, removed, marked, fallen, turned_to, test_ended, tests_ended, test_count, hot_left}
 use Rattle.clock_policy.specs.Lawful.{Lawful}
 use Rattle.clock_policy.specs.Listed.{has_key_refl}
 use Rattle.clock_policy.specs.CountLaws.{IsIn, place_holds, number-append}
 use Rattle.clock_policy.specs.Residents.{is_key}
-use Rattle.clock_policy.specs.SettledLaws.{keys, among, Apart, Within, Clockwise, rest, settled_rest, is_key_self, among-append, find_same, keys-append, from_key, before_key}
-use Rattle.clock_policy.specs.SingleMoves.{front_turned, kind_passed, passed_of, front_passed, fronts_passed, front_answered}
+use Rattle.clock_policy.specs.SettledLaws.{keys, among, Apart, Clockwise, rest, settled_rest, among-append, find_same, keys-append, from_key, before_key}
+use Rattle.clock_policy.specs.SingleMoves.{front_turned, kind_passed, front_passed, fronts_passed, front_answered}
 use Rattle.clock_policy.specs.SingleMoveLaws.{apart_of, or_comm, clockwise_behind, relisted_same, removed_at}
 
 -- Moves of a front.
@@ -99,3 +98,96 @@ next_stage u v e s left n is tests =
     listed : (u v : List Entry) (e : Entry) (left : List Entry) → test_ended e.kind e ≡ left → (v ++ tests_ended u) ++ left ≡ v ++ tests_ended (u ++ e ∷ [])
     listed u v e left is =
         append_assoc v (tests_ended u) left ∙ ap (λ (l : List Entry). v ++ l) (sym (tests_ended-append u (e ∷ []) ∙ ap (λ (l : List Entry). tests_ended u ++ l) (append_nil (test_ended e.kind e) ∙ is)))
+
+front_of : (n : ℕ) (e : Entry) (r : List Entry) (s : ClockState) → front_passed (fallen n (relisted (e ∷ r) s)) ≡ kind_passed e.kind e.key (fallen n (relisted (e ∷ r) s))
+unfolding fallen relisted
+front_of n e r s = refl
+
+stage_order : (u v : List Entry) (e : Entry) (s : ClockState) → s.entries ≡ u ++ e ∷ v → Apart (keys s.entries) → Clockwise s.entries (e ∷ (v ++ tests_ended u))
+stage_order u v e s is apart =
+    let there : Apart (keys (u ++ e ∷ v)) = rw is at apart in
+    rw is (clockwise_behind (λ e. not (is_shadow e.kind)) u (e ∷ v) (tests_ended u) (ended_keys u) (rw (keys-append u (e ∷ v)) at there))
+
+-- the front of a list goes
+front_removed : (n : ℕ) (e : Entry) (r : List Entry) (s : ClockState) → Apart (keys s.entries) → Clockwise s.entries (e ∷ r) → removed e.key (fallen n (relisted (e ∷ r) s)) ≡ fallen n (relisted (r ++ []) s)
+front_removed n e r s apart order =
+    front_gone n e.key (relisted (e ∷ r) s)
+    ∙ ap (fallen n) (removed_at e [] r s refl apart order)
+    ∙ ap (λ (l : List Entry). fallen n (relisted l s)) (sym (append_nil r))
+
+stage_step : (u v : List Entry) (e : Entry) (s : ClockState) → s.entries ≡ u ++ e ∷ v → Apart (keys s.entries) → front_passed (stage u (e ∷ v) s) ≡ stage (u ++ e ∷ []) v s
+stage_step u v e s is apart =
+    front_of (test_count u) e (v ++ tests_ended u) s ∙ by_kind e.kind u v e s refl (stage_order u v e s is apart) apart
+  where
+    by_kind : (t : EntryKind) (u v : List Entry) (e : Entry) (s : ClockState) → e.kind ≡ t → Clockwise s.entries (e ∷ (v ++ tests_ended u)) → Apart (keys s.entries) →
+        kind_passed t e.key (fallen (test_count u) (relisted (e ∷ (v ++ tests_ended u)) s)) ≡ stage (u ++ e ∷ []) v s
+    by_kind Hot u v e s is order apart =
+        front_kept (test_count u) e (v ++ tests_ended u) s ∙ front_at (test_count u) e e (v ++ tests_ended u) s refl
+        ∙ ap (λ (c : ℕ). fallen c (relisted ((v ++ tests_ended u) ++ e ∷ []) s)) (omega arith)
+        ∙ next_stage u v e s (e ∷ []) 0 (ap (λ (k : EntryKind). test_ended k e) is) (ap {B = ℕ} (λ (k : EntryKind). cond (is_in_test k) 1 0) is)
+    by_kind Test u v e s is order apart =
+        ap (fallen 1) (front_cold (test_count u) e (v ++ tests_ended u) s ∙ front_at (test_count u) e (of_kind Cold e) (v ++ tests_ended u) s refl)
+        ∙ fallen_again 1 (test_count u) (relisted ((v ++ tests_ended u) ++ of_kind Cold e ∷ []) s)
+        ∙ next_stage u v e s (of_kind Cold e ∷ []) 1 (ap (λ (k : EntryKind). test_ended k e) is) (ap {B = ℕ} (λ (k : EntryKind). cond (is_in_test k) 1 0) is)
+    by_kind Cold u v e s is order apart =
+        front_kept (test_count u) e (v ++ tests_ended u) s ∙ front_at (test_count u) e e (v ++ tests_ended u) s refl
+        ∙ ap (λ (c : ℕ). fallen c (relisted ((v ++ tests_ended u) ++ e ∷ []) s)) (omega arith)
+        ∙ next_stage u v e s (e ∷ []) 0 (ap (λ (k : EntryKind). test_ended k e) is) (ap {B = ℕ} (λ (k : EntryKind). cond (is_in_test k) 1 0) is)
+    by_kind Shadow u v e s is order apart =
+        ap (fallen 1) (front_removed (test_count u) e (v ++ tests_ended u) s apart order)
+        ∙ fallen_again 1 (test_count u) (relisted ((v ++ tests_ended u) ++ []) s)
+        ∙ next_stage u v e s [] 1 (ap (λ (k : EntryKind). test_ended k e) is) (ap {B = ℕ} (λ (k : EntryKind). cond (is_in_test k) 1 0) is)
+
+stages : (w u v : List Entry) (s : ClockState) → s.entries ≡ u ++ (w ++ v) → Apart (keys s.entries) → fronts_passed (length w) (stage u (w ++ v) s) ≡ stage (u ++ w) v s
+stages [] u v s is apart = ap (λ (l : List Entry). stage l v s) (sym (append_nil u))
+stages (e ∷ es) u v s is apart =
+    ap (fronts_passed (length es)) (stage_step u (es ++ v) e s is apart)
+    ∙ stages es (u ++ e ∷ []) v s (is ∙ sym (append_assoc u (e ∷ []) (es ++ v))) apart
+    ∙ ap (λ (l : List Entry). stage l v s) (append_assoc u (e ∷ []) es)
+
+fallen_is : (s : ClockState) → max (s.share - 0) 1 ≡ s.share → fallen 0 s ≡ s
+unfolding fallen
+fallen_is s h = ap (λ (c : ℕ). record s { share = c }) h
+
+-- nothing was passed yet
+first_stage : (s : ClockState) → Lawful s → stage [] s.entries s ≡ s
+first_stage s h = ap (λ (l : List Entry). fallen 0 (relisted l s)) (append_nil s.entries) ∙ ap (fallen 0) (relisted_same s h) ∙ none_fallen s h
+  where
+    same_share : (c : ℕ) → 1 ≤ c → max (c - 0) 1 ≡ c
+    same_share c h = omega arith
+
+    none_fallen : (s : ClockState) → Lawful s → fallen 0 s ≡ s
+    none_fallen s h = fallen_is s (same_share s.share h.share_low)
+
+last_stage : (bit : Bit) (x : Entry) (w z : List Entry) (s : ClockState) → s.entries ≡ w ++ x ∷ z → Apart (keys s.entries) →
+    front_answered bit x.key (stage w (x ∷ z) s) ≡ fallen (test_count w) (relisted (z ++ tests_ended w ++ hot_left bit x) s)
+last_stage Zero x w z s is apart = front_cold (test_count w) x (z ++ tests_ended w) s ∙ front_at (test_count w) x (of_kind Cold x) (z ++ tests_ended w) s refl
+last_stage One x w z s is apart = front_kept (test_count w) x (z ++ tests_ended w) s ∙ front_at (test_count w) x x (z ++ tests_ended w) s refl
+last_stage Gone x w z s is apart = front_removed (test_count w) x (z ++ tests_ended w) s apart (stage_order w z x s is apart)
+
+split_at : (x : Entry) (l : List Entry) (i : ℕ) → slice_get l i ≡ Some x → take i l ++ x ∷ drop (i + 1) l ≡ l
+split_at x l i h = rw add-one (split x l i h)
+  where
+    split : (x : Entry) (l : List Entry) (i : ℕ) → slice_get l i ≡ Some x → take i l ++ x ∷ drop (suc i) l ≡ l
+    split x [] i h = cc
+    split x (e ∷ es) zero h = let same : e ≡ x = cc in rw same refl
+    split x (e ∷ es) (suc i) h = ap (λ (l : List Entry). e ∷ l) (split x es i h)
+
+-- The hot hand goes to the entry by passing each front before it.
+pub turned_by_moves : (bit : Bit) (x : Entry) (s : ClockState) → Lawful s → IsIn x s.entries →
+    front_answered bit x.key (fronts_passed (place x.key s.entries) s) ≡ turned_to bit x s
+unfolding turned_to
+turned_by_moves bit x s h in_list =
+    let l : List Entry = s.entries in
+    let i : ℕ = place x.key l in
+    let parts : take i l ++ x ∷ drop (i + 1) l ≡ l = split_at x l i (place_holds x l (h.distinct x.key) in_list) in
+    ap (λ (t : ClockState). front_answered bit x.key (fronts_passed i t)) (sym (first_stage s h))
+    ∙ ap (λ (m : List Entry). front_answered bit x.key (fronts_passed i (stage [] m s))) (sym parts)
+    ∙ ap (λ (n : ℕ). front_answered bit x.key (fronts_passed n (stage [] (take i l ++ x ∷ drop (i + 1) l) s))) (taken x l i (place_holds x l (h.distinct x.key) in_list))
+    ∙ ap (front_answered bit x.key) (stages (take i l) [] (x ∷ drop (i + 1) l) s (sym parts) (apart_of l h.distinct))
+    ∙ last_stage bit x (take i l) (drop (i + 1) l) s (sym parts) (apart_of l h.distinct)
+  where
+    taken : (x : Entry) (l : List Entry) (i : ℕ) → slice_get l i ≡ Some x → i ≡ length (take i l)
+    taken x [] i h = cc
+    taken x (e ∷ es) zero h = refl
+    taken x (e ∷ es) (suc i) h = ap (λ (n : ℕ). suc n) (taken x es i h)

@@ -1,12 +1,11 @@
 -- "A hand on what went rests on the next that stays" composes: moves that take entries out one after another leave the hands where one
 -- move with the same outcome leaves them.
-use Rattle.std.specs.Prelude.{◌≡◌, ℕ, suc, ◌+◌, ◌≤◌, Bool, true, false, ◌==◌, ◌&&◌, ◌||◌, cond, ◌⊎◌, Option, Some, None, find, filter, map, List, [], ◌∷◌, ◌++◌, take, drop, refl}
+use Rattle.std.specs.Prelude.{◌≡◌, suc, Bool, true, false, ◌||◌, cond, Option, Some, None, find, filter, List, [], ◌∷◌, ◌++◌, take, drop, refl}
 use Rattle.std.specs.List.{list_any}
-use Rattle.std.proofs.Common.{arith, sym, ap, ◌∙◌, append_assoc, inl, inr}
-use Rattle.std.proofs.lemmas.List.{take-append-drop}
+use Rattle.std.proofs.Common.{arith, sym, ap, ◌∙◌, append_assoc}
 use Rattle.clock_policy.specs.declared.key.Key.{Key}
 use Rattle.clock_policy.specs.declared.entry.Entry.{Entry}
-use Rattle.clock_policy.specs.ClockPro.{number, has_key, place, place_of, round, key_of, stays_in, settled}
+use Rattle.clock_policy.specs.ClockPro.{has_key, place, round, key_of, settled}
 use Rattle.clock_policy.specs.Residents.{is_key}
 use Rattle.clock_policy.specs.Counts.{or_else}
 use Rattle.clock_policy.specs.AdmitLaws.{one_key}

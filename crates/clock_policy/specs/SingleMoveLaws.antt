@@ -1,21 +1,15 @@
 -- The equations of the hot answer and of the purge are single moves, one after another.
-use Rattle.std.specs.Prelude.{◌≡◌, ℕ, zero, suc, ◌+◌, ◌-◌, ◌*◌, ◌≤◌, ◌<◌, max, Bool, true, false, not, ◌&&◌, ◌||◌, cond, Option, Some, None, find, filter, slice_get, List, [], ◌∷◌, ◌++◌, take, drop, set, length, refl}
-use Rattle.std.specs.List.{list_any}
+use Rattle.std.specs.Prelude.{◌≡◌, ℕ, suc, ◌+◌, ◌≤◌, Bool, true, false, not, ◌||◌, cond, Option, Some, None, find, filter, List, [], ◌∷◌, ◌++◌, take, drop, refl}
 use Rattle.std.proofs.Common.{arith, sym, ap, ◌∙◌, append_assoc, add-one}
-use Rattle.std.proofs.lemmas.List.{take-append-drop}
 use Rattle.clock_policy.specs.declared.key.Key.{Key}
 use Rattle.clock_policy.specs.declared.entry.Entry.{Entry}
-use Rattle.clock_policy.specs.declared.entry.EntryKind.{EntryKind}
-use Rattle.clock_policy.specs.declared.entry.EntryKind.TheVariants.{Hot, Test, Cold, Shadow}
-use Rattle.clock_policy.specs.declared.answer.Bit.{Bit}
-use Rattle.clock_policy.specs.declared.answer.Bit.TheVariants.{Zero, One, Gone}
-use Rattle.clock_policy.specs.ClockPro.{ClockState, number, has_key, place, key_of, is_shadow, of_kind, settled, relisted, removed, marked, fallen, turned_to, test_ended, tests_ended, test_count, hot_left, is_of, purged}
+use Rattle.clock_policy.specs.ClockPro.{ClockState, number, has_key, place, settled, relisted, removed, is_of, purged}
 use Rattle.clock_policy.specs.Lawful.{Lawful, RestsIn}
 use Rattle.clock_policy.specs.Listed.{has_key_refl}
-use Rattle.clock_policy.specs.CountLaws.{IsIn, place_holds, number-append, any_number, number_any}
+use Rattle.clock_policy.specs.CountLaws.{any_number, number_any}
 use Rattle.clock_policy.specs.Residents.{is_key}
-use Rattle.clock_policy.specs.SettledLaws.{keys, among, Apart, Within, Clockwise, rest, settled_rest, settled_composes, is_key_self, is_one_key, from_key, before_key, or_true, among-append, find_same, keys-append, stays_among, append_none, apart_left}
-use Rattle.clock_policy.specs.SingleMoves.{front_turned, kind_passed, passed_of, front_passed, fronts_passed, front_answered, removed_of, each_removed}
+use Rattle.clock_policy.specs.SettledLaws.{keys, among, Apart, Within, Clockwise, rest, settled_rest, settled_composes, is_key_self, is_one_key, from_key, or_true, among-append, keys-append, stays_among, append_none, apart_left}
+use Rattle.clock_policy.specs.SingleMoves.{removed_of, each_removed}
 
 -- Keys that stay.
 

@@ -24,10 +24,35 @@ fn sources_have_a_first_fault(rt: HostRuntime) {
         (".data\n.word 1", (0, 8)),
         ("nop\nnop $", (2, 1)),
         ("j away\nnop $", (2, 1)),
+        // Of a distance, in the second pass: the data begin 4096 bytes behind the text.
+        ("beqz a0, far\n.data\nfar: .byte 1", (1, 4)),
+        ("nop\nla a0, away", (2, 6)),
+        ("nop\n.data\n.word away", (3, 6)),
     ];
     for (source, fault) in table {
         assert_eq!(rt; first_fault(&rt, source), Some(fault), "{source}");
     }
+}
+
+/// A section that is one item too long, and a jump over one that is full.
+#[test]
+fn sections_have_a_greatest_size(rt: HostRuntime) -> Result<(), Fail> {
+    let mut full = String::from_str(rt.alloc(), "j far\n.data\n")?;
+    for _ in 0..16 {
+        full.push_str(".space 65536\n")?;
+    }
+    assert_eq!(rt; first_fault(&rt, full.as_str()), Some((1, 6)));
+    full.push_str("far:\n")?;
+    assert_eq!(rt; first_fault(&rt, full.as_str()), Some((1, 4)));
+    full.push_str(".byte 1\n")?;
+    assert_eq!(rt; first_fault(&rt, full.as_str()), Some((20, 7)));
+
+    let mut text = String::new(rt.alloc());
+    for _ in 0..65_537 {
+        text.push_str("nop\n")?;
+    }
+    assert_eq!(rt; first_fault(&rt, text.as_str()), Some((65_537, 7)));
+    Ok(())
 }
 
 /// A program with both sections: `la` of a label of the data, and a branch back.

@@ -1,6 +1,6 @@
 -- Laws of translation caches for the crates above: what each call does to all entries, and to the entry of a page.
-use Rattle.std.specs.Prelude.{◌≡◌, ◌≢◌, ℕ, ◌<◌, ◌≤◌, Bool, true, false, not, ◌||◌, nat_lt, Option, Some, None, List, [], ◌∷◌, length, drop, map, filter, find, position, slice_get, All, refl, ◌⊎◌}
-use Rattle.std.proofs.Common.{sym, ◌∙◌, ap, arith, cond, get_or, inl, inr, option_map, suc, zero}
+use Rattle.std.specs.Prelude.{◌≡◌, ◌≢◌, ℕ, ◌<◌, ◌≤◌, Bool, true, false, not, ◌||◌, nat_lt, Option, Some, None, List, [], ◌∷◌, length, drop, map, filter, find, position, slice_get, All, is_some, refl, ◌⊎◌}
+use Rattle.std.proofs.Common.{sym, ◌∙◌, ap, subst, arith, cond, get_or, inl, inr, option_map, suc, zero}
 use Rattle.std.specs.List.{position_or_len}
 use Rattle.std.proofs.lemmas.List.Elements.{All-head, All-tail, All-nil, All-cons, All-set, All-push, All-drop, All-filter, All-map, All-weaker, filter_passes}
 use Rattle.std.proofs.lemmas.List.{get_or_default}
@@ -219,3 +219,28 @@ pub undoomed-entry_of : (q : ℕ) (found : Translation) (cache : List Translatio
 unfolding undoomed
 undoomed-entry_of q found [] clear is = cc
 undoomed-entry_of q found (x ∷ xs) clear is = kept_step q x found xs (filter (λ e. not e.doomed) xs) (undoomed-entry_of q found xs clear) clear is
+
+-- an entry after `doom`, by whether it is the page's
+pub doomed_entry-cases : (P : Translation → Type 0) (page : ℕ) (e : Translation) → (e.page ≡ page → P (record e { doomed = true })) → (e.page ≢ page → P e)
+    → P (doomed_entry page e)
+doomed_entry-cases P page e its other = by_test (is_of page e) refl
+  where
+    or_true : (m : Bool) → true ≡ (m || true)
+    or_true true = refl
+    or_true false = refl
+
+    or_false : (m : Bool) → m ≡ (m || false)
+    or_false true = refl
+    or_false false = refl
+
+    by_test : (b : Bool) → is_of page e ≡ b → P (record e { doomed = e.doomed || b })
+    by_test true test = let of : e.page ≡ page = grind (arith, nat_tests) in subst (λ (m : Bool). P (record e { doomed = m })) (or_true e.doomed) (its of)
+    by_test false test = let apart : e.page ≢ page = grind (arith, nat_tests) in subst (λ (m : Bool). P (record e { doomed = m })) (or_false e.doomed) (other apart)
+
+-- where a page is not held, each entry is another's
+pub All-not_held : (page : ℕ) (cache : List Translation) → is_some (entry_of page cache) ≡ false → All (λ e. e.page ≢ page) cache
+All-not_held page cache none = All-none page cache (nothing (entry_of page cache) none)
+  where
+    nothing : (o : Option Translation) → is_some o ≡ false → o ≡ None
+    nothing (Some e) is = cc
+    nothing None is = refl

@@ -9,8 +9,8 @@ use std::test::Fail;
 /// Memory whose pages 0x10 and 0x11 may be read.
 fn two_pages(alloc: Global) -> Result<FlatMemory, AllocError> {
     let mut memory = FlatMemory::new(alloc)?;
-    memory.map_page(alloc, 0x10, Page::zeroed(alloc, Rights::READ)?)?;
-    memory.map_page(alloc, 0x11, Page::zeroed(alloc, Rights::READ)?)?;
+    memory.map_page(0x10, Page::zeroed(alloc, Rights::READ)?)?;
+    memory.map_page(0x11, Page::zeroed(alloc, Rights::READ)?)?;
     Ok(memory)
 }
 

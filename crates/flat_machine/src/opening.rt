@@ -47,7 +47,7 @@ fn opening_memory(alloc: Global, pages: &[ImagePage]) -> Result<FlatMemory, Allo
     let mut memory = image_memory(alloc, pages)?;
     for number in STACK_START..STACK_END {
         let page = Page::zeroed(alloc, Rights::READ_WRITE)?;
-        memory.map_page(alloc, number, page)?;
+        memory.map_page(number, page)?;
     }
     Ok(memory)
 }
@@ -60,7 +60,7 @@ fn image_memory(alloc: Global, pages: &[ImagePage]) -> Result<FlatMemory, AllocE
     let mut memory = FlatMemory::new(alloc)?;
     for listed in pages {
         let page = listed.page.copied(alloc)?;
-        memory.map_page(alloc, listed.number, page)?;
+        memory.map_page(listed.number, page)?;
     }
     Ok(memory)
 }

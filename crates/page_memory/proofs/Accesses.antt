@@ -1,18 +1,18 @@
 -- What an access to memory answers, case by case.
-use Rattle.std.proofs.Common.{◌≡◌, ◌≢◌, ℕ, ◌%◌, ◌==◌, Bool, true, false, List, Option, Some, None, Result, Ok, Err, ap, ◌∙◌, sym, refl, eq-eqb, ne_eqb, cond, inl, inr}
-use Rattle.std.proofs.lemmas.Bool.Decides.{eqb_tells}
-use Rattle.page_memory.proofs.PageEntries.{same_key}
-use Rattle.std.specs.Ordering.{nat_cmp, eq_by_cmp}
-use Rattle.std.specs.Cmp.{nat_cmp_total}
-use Rattle.std.specs.FinMap.{get, insert, get-insert, same_map, nat_cmp-IsAntisymmetric}
+use Rattle.std.proofs.Common.{◌≡◌, ◌≢◌, ℕ, ◌%◌, true, false, List, Some, None, option_and_then, Result, Ok, Err, ap, ◌∙◌, sym, eq-eqb, ne_eqb}
+use Rattle.page_memory.specs.Entries.{place_of, value_at, with_value}
+use Rattle.page_memory.specs.EntriesLaws.{value_by_place, replaced_value}
+use Rattle.std.specs.Ordering.{nat_cmp}
+use Rattle.std.specs.FinMap.{get, from_entries}
 use Rattle.byteorder.specs.Endian.{little_bytes}
 use Rattle.page_memory.specs.declared.words.Access.{Access}
-use Rattle.page_memory.specs.declared.words.Access.TheVariants.{Fetch, Load, Store}
+use Rattle.page_memory.specs.declared.words.Access.TheVariants.{Store}
 use Rattle.page_memory.specs.declared.words.Width.{Width}
+use Rattle.page_memory.specs.declared.fault.MemoryFault.{MemoryFault}
 use Rattle.page_memory.specs.declared.fault.MemoryFault.TheVariants.{Misaligned, PageFault}
-use Rattle.page_memory.specs.Words.{page_number, bytes_in}
+use Rattle.page_memory.specs.Words.{page_number, page_offset, bytes_in}
 use Rattle.page_memory.specs.Rights.{may}
-use Rattle.page_memory.specs.Memory.{Page, Memory, usable, aligned_page, stored, copied_in, memory_with, with_right, page_if, if_aligned, answered}
+use Rattle.page_memory.specs.Memory.{Page, Memory, usable, aligned_page, stored, copied_in, memory_with, overwritten, with_right, page_if, if_aligned, answered}
 
 usable_found : (memory : Memory) (access : Access) (address : ℕ) (page : Page) → get memory (page_number address) ≡ Some page → may access page.rights ≡ true → usable memory access address ≡ Ok page
 unfolding usable
@@ -58,17 +58,31 @@ pub copied_done : (memory : Memory) (address : ℕ) (bytes : List ℕ) (page : P
 unfolding copied_in
 copied_done memory address bytes page found allowed = ap (answered (memory_with memory address bytes)) (usable_found memory Store address page found allowed)
 
--- a page put back as it was found leaves the memory as it was
-pub put_back : (memory : Memory) (number : ℕ) (page : Page) → get memory number ≡ Some page → insert memory number page ≡ memory
-put_back memory number page found = same_map nat_cmp_total nat_cmp-IsAntisymmetric _ _ (λ q. get-insert nat_cmp_total memory number page q ∙ same q)
-  where
-    same : (q : ℕ) → cond (eq_by_cmp nat_cmp q number) (Some page) (get memory q) ≡ get memory q
-    same q =
-        elim (eqb_tells number q) [
-          | inl at ↦ ap (λ b. cond b (Some page) (get memory q)) (same_key q number ∙ at.0) ∙ sym found ∙ ap (get memory) at.1
-          | inr apart ↦ ap (λ b. cond b (Some page) (get memory q)) (same_key q number ∙ apart.0)
-        ]
+pub usable_by_place : (entries : List (ℕ × Page)) (access : Access) (address : ℕ) → usable (from_entries {R = nat_cmp} entries) access address ≡ with_right access (option_and_then (λ k. value_at k entries) (place_of (page_number address) entries))
+unfolding usable
+usable_by_place entries access address = ap (with_right access) (value_by_place entries (page_number address))
 
-pub ruleset stores = (stored_misaligned, stored_unmapped, stored_forbidden, stored_done, put_back)
+-- what an access by a page's place is
+found_at : (entries : List (ℕ × Page)) (number place : ℕ) (page : Page) → place_of number entries ≡ Some place → value_at place entries ≡ Some page → get (from_entries {R = nat_cmp} entries) number ≡ Some page
+found_at entries number place page at is = value_by_place entries number ∙ ap (option_and_then (λ k. value_at k entries)) at ∙ is
 
-pub ruleset copies = (copied_unmapped, copied_forbidden, copied_done, put_back)
+pub stored_at : (entries : List (ℕ × Page)) (width : Width) (address word place : ℕ) (page : Page) → address % bytes_in width ≡ 0 → place_of (page_number address) entries ≡ Some place → value_at place entries ≡ Some page → may Store page.rights ≡ true → stored (from_entries entries) width address word ≡ Ok (from_entries (with_value entries place (record page { bytes = overwritten page.bytes (page_offset address) (little_bytes (bytes_in width) word) })))
+stored_at entries width address word place page aligned at is allowed =
+    stored_done (from_entries entries) width address word page aligned (found_at entries (page_number address) place page at is) allowed
+    ∙ ap Ok (sym (replaced_value entries (page_number address) place _ at))
+
+pub copied_at : (entries : List (ℕ × Page)) (address : ℕ) (bytes : List ℕ) (place : ℕ) (page : Page) → place_of (page_number address) entries ≡ Some place → value_at place entries ≡ Some page → may Store page.rights ≡ true → copied_in (from_entries entries) address bytes ≡ Ok (from_entries (with_value entries place (record page { bytes = overwritten page.bytes (page_offset address) bytes })))
+copied_at entries address bytes place page at is allowed =
+    copied_done (from_entries entries) address bytes page (found_at entries (page_number address) place page at is) allowed
+    ∙ ap Ok (sym (replaced_value entries (page_number address) place _ at))
+
+-- a fault in the answer of an access to its page
+pub not_stored_at : (memory : Memory) (width : Width) (address word : ℕ) (fault : MemoryFault) → address % bytes_in width ≡ 0 → with_right Store (get memory (page_number address)) ≡ Err fault → stored memory width address word ≡ Err fault
+unfolding stored usable
+not_stored_at memory width address word fault aligned is = ap (answered (memory_with memory address (little_bytes (bytes_in width) word))) (aligned_usable memory Store (bytes_in width) address _ aligned is)
+
+pub not_copied : (memory : Memory) (address : ℕ) (bytes : List ℕ) (fault : MemoryFault) → with_right Store (get memory (page_number address)) ≡ Err fault → copied_in memory address bytes ≡ Err fault
+unfolding copied_in usable
+not_copied memory address bytes fault is = ap (answered (memory_with memory address bytes)) is
+
+pub ruleset not_stored = (stored_misaligned, not_stored_at)

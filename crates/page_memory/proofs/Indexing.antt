@@ -1,16 +1,17 @@
 -- What a page index's invariant says of a look-up, and how it is kept.
-use Rattle.std.proofs.Common.{◌≡◌, ◌≢◌, ℕ, zero, suc, ◌+◌, ◌-◌, ◌*◌, ◌/◌, ◌%◌, ◌^◌, ◌<◌, ◌≤◌, ◌⊎◌, inl, inr, List, [], ◌∷◌, ◌++◌, length, slice_index, slice_set, slice_index_or, get_or, get_or-set_same, get_or-set_other, length-set, replicate, take, drop, Option, Some, None, position, ◌==◌, eqb, nat_lt, Bool, true, false, cond, ◌||◌, if◌then◌else◌, arith, refl, sym, ap, ◌∙◌, subst, ne_eqb, eq-eqb, eqb-true, lt-ltb, le-ltb, length-append, below_more, eq-zero-or-pos}
+use Rattle.std.proofs.Common.{◌≡◌, ◌≢◌, ℕ, zero, suc, ◌+◌, ◌-◌, ◌/◌, ◌%◌, ◌^◌, ◌<◌, ◌≤◌, inl, inr, List, [], ◌∷◌, ◌++◌, length, slice_index, slice_set, slice_index_or, get_or, get_or-set_same, get_or-set_other, length-set, replicate, take, drop, Option, Some, None, position, ◌==◌, eqb, Bool, true, false, ◌||◌, if◌then◌else◌, arith, refl, sym, ap, ◌∙◌, subst, ne_eqb, eq-eqb, eqb-true, lt-ltb, le-ltb, below_more, eq-zero-or-pos}
 use Rattle.std.specs.Global.{Box}
-use Rattle.std.specs.List.{position_or_len, IsDistinct, list_any}
+use Rattle.std.specs.List.{position_or_len, list_any}
 use Rattle.std.proofs.lemmas.List.Sums.{position_or_len_is}
 use Rattle.std.proofs.lemmas.Map.Keys.{IsDistinct-from_apart}
 use Rattle.std.proofs.lemmas.Map.Steps.{length-le_from_distinct_below}
-use Rattle.std.proofs.lemmas.Bool.Decides.{nat_tests, eqb_tells}
-use Rattle.std.proofs.lemmas.List.{get_or_default, get_or_append_left, length_push, get_or-replicate, length-replicate}
+use Rattle.std.proofs.lemmas.Bool.Decides.{eqb_tells, leb_tells}
+use Rattle.std.proofs.lemmas.List.Quantifiers.{position-Some}
+use Rattle.std.proofs.lemmas.List.{get_or_default, get_or_append_left, length_push, get_or-replicate, length-replicate, length-take-le, take-take, take_all}
 use Rattle.std.proofs.lemmas.Option.{none-some}
 use Rattle.std.proofs.Math.Seq.{get_or-append_seam}
 use Rattle.std.proofs.lemmas.Grind.{common_steps}
-use Rattle.page_memory.specs.PageIndex.{kept, number_at, Indexes, Keeps}
+use Rattle.page_memory.specs.PageIndex.{kept, number_at, Indexes, Keeps, Remembers}
 
 -- a list's first place of an element is the one place where it stands
 first_place : (pages : List ℕ) (page i : ℕ) → i ≤ length pages → ((k : ℕ) → k < i → slice_index pages k ≢ page) → (i < length pages → slice_index pages i ≡ page) → position_or_len (λ listed. listed == page) pages ≡ i
@@ -165,3 +166,77 @@ empty_index directory e =
       within = λ page. let zeroed : number_at directory page ≡ 0 = ap (λ d. number_at d page) e ∙ no_leaf 1024 page in omega arith;
       found = λ page some. let zeroed : number_at directory page ≡ 0 = ap (λ d. number_at d page) e ∙ no_leaf 1024 page in absurd (omega arith);
     }
+
+-- no page is remembered
+pub none_remembered : (pages : List ℕ) (place : ℕ) → Remembers pages (2 ^ 20) place
+none_remembered pages place = record { stands = λ small. absurd (omega arith) }
+
+-- a listed page's place is the same in a longer list
+still_there : (pages : List ℕ) (more page place : ℕ) → position (λ listed. listed == page) pages ≡ Some place → position (λ listed. listed == page) (pages ++ more ∷ []) ≡ Some place
+still_there pages more page place at =
+    let here = position-Some (λ listed. listed == page) pages place 0 at in
+    let within : place < length (pages ++ more ∷ []) = omega (arith, here.0, length_push pages more) in
+    let same : slice_index (pages ++ more ∷ []) place ≡ page = get_or_append_left pages (more ∷ []) 0 place here.0 ∙ eqb-true _ _ here.1 in
+    place_within (pages ++ more ∷ []) page place within
+    (first_place (pages ++ more ∷ []) page place (omega arith) (λ k h e. let other : eqb (get_or pages k 0) page ≡ false = here.2 k h in let k_in : k < length pages = omega (arith, here.0) in ne_from other (sym (get_or_append_left pages (more ∷ []) 0 k k_in) ∙ e)) (λ h. same))
+  where
+    ne_from : {a b : ℕ} → eqb a b ≡ false → a ≡ b → ⊥
+    ne_from {a} {b} f e = let t : eqb a b ≡ true = eq-eqb a b e in cc
+
+pub still_remembered : (pages : List ℕ) (more page place : ℕ) → Remembers pages page place → Remembers (pages ++ more ∷ []) page place
+still_remembered pages more page place is = record { stands = λ small. still_there pages more page place (is.stands small) }
+
+-- one page fewer
+pub one_less : (old new : List (Option (Box (List ℕ)))) (pages : List ℕ) (page : ℕ) → Indexes old (pages ++ page ∷ []) → Keeps old new page 0 → Indexes new pages
+one_less old new pages page is keeps =
+    let longer : length (pages ++ page ∷ []) ≡ length pages + 1 = length_push pages page in
+    let last : slice_index (pages ++ page ∷ []) (length pages) ≡ page = get_or-append_seam pages page [] 0 in
+    let at_last : number_at old page ≡ length pages + 1 = subst (λ p. number_at old p ≡ length pages + 1) last (is.listed (length pages) (omega arith)) in
+    let gone : number_at new page ≡ 0 = kept_here old new page 0 keeps in
+    let number : (k : ℕ) → k < length pages → number_at old (slice_index pages k) ≡ k + 1 = λ k h. subst (λ p. number_at old p ≡ k + 1) (get_or_append_left pages (page ∷ []) 0 k h) (is.listed k (omega arith)) in
+    let not_page : (k : ℕ) → k < length pages → slice_index pages k ≢ page = λ k h e. let at : number_at old page ≡ k + 1 = subst (λ p. number_at old p ≡ k + 1) e (number k h) in omega arith in
+    record {
+      wide = keeps.wide ∙ is.wide;
+      small = λ k h. subst (λ p. p < 2 ^ 20) (get_or_append_left pages (page ∷ []) 0 k h) (is.small k (omega arith));
+      listed = λ k h. kept_elsewhere old new page 0 (slice_index pages k) keeps (not_page k h) ∙ number k h;
+      within = λ other. within_less other gone longer last;
+      found = λ other some. found_less other gone longer last some;
+    }
+  where
+    below_last : (other : ℕ) → other ≢ page → length (pages ++ page ∷ []) ≡ length pages + 1 → slice_index (pages ++ page ∷ []) (length pages) ≡ page → number_at old other ≤ length pages
+    below_last other apart longer last =
+        elim (leb_tells (number_at old other) (length pages)) [
+          | inl low ↦ low.1
+          | inr high ↦ let above = high.1 in let w = is.within other in let e : number_at old other - 1 ≡ length pages = omega arith in absurd (apart (sym (is.found other (omega arith)) ∙ ap (λ i. slice_index (pages ++ page ∷ []) i) e ∙ last))
+        ]
+
+    within_less : (other : ℕ) → number_at new page ≡ 0 → length (pages ++ page ∷ []) ≡ length pages + 1 → slice_index (pages ++ page ∷ []) (length pages) ≡ page → number_at new other ≤ length pages
+    within_less other gone longer last =
+        elim (eqb_tells other page) [
+          | inl same ↦ let e = ap (number_at new) same.1 in omega arith
+          | inr apart ↦ let e = kept_elsewhere old new page 0 other keeps apart.1 in let b = below_last other apart.1 longer last in omega arith
+        ]
+
+    found_less : (other : ℕ) → number_at new page ≡ 0 → length (pages ++ page ∷ []) ≡ length pages + 1 → slice_index (pages ++ page ∷ []) (length pages) ≡ page → 0 < number_at new other → slice_index pages (number_at new other - 1) ≡ other
+    found_less other gone longer last some =
+        elim (eqb_tells other page) [
+          | inl same ↦ let e = ap (number_at new) same.1 in absurd (omega arith)
+          | inr apart ↦
+              let e = kept_elsewhere old new page 0 other keeps apart.1 in
+              let b = below_last other apart.1 longer last in
+              let l : number_at old other - 1 < length pages = omega arith in
+              rw e (sym (get_or_append_left pages (page ∷ []) 0 _ l) ∙ is.found other (omega arith))
+        ]
+
+-- a list that loses its last element, turn by turn
+pub one_shorter : (l : List ℕ) (n : ℕ) → take (length (take (length l - n) l) - 1) (take (length l - n) l) ≡ take (length l - (n + 1)) l
+one_shorter l n = let e = length-take-le (length l - n) l (omega arith) in rw e (take-take (length l - n - 1) (length l - n) l (omega arith) ∙ ap (λ k. take k l) (omega arith))
+
+pub cut_off : (l : List ℕ) (n count : ℕ) → n ≡ length l - count → take (length l - n) l ≡ take count l
+cut_off l n count e =
+    elim (leb_tells count (length l)) [
+      | inl low ↦ let at = low.1 in ap (λ k. take k l) (omega arith)
+      | inr high ↦ let above = high.1 in take_all (length l - n) l (omega arith) ∙ sym (take_all count l (omega arith))
+    ]
+
+pub ruleset cuts = (one_shorter, cut_off)

@@ -1,4 +1,4 @@
 pub mod Indexing
-pub mod PageEntries
 pub mod Overwriting
 pub mod Accesses
+pub mod PlacedEntries

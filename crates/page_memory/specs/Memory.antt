@@ -1,7 +1,7 @@
 -- Memory: a finite map from page numbers to pages, and what an access to it answers. An access is
 -- refused where its address is no multiple of its width, then where no page is mapped there or the
 -- page lacks the right (unprivileged manual, loads and stores; privileged manual, page faults).
-use Rattle.std.specs.Prelude.{ℕ, zero, suc, ◌+◌, ◌%◌, ◌==◌, Bool, true, false, List, ◌++◌, length, replicate, take, drop, slice_index, Option, Some, None, option_map, Result, Ok, Err, ◌∷◌, []}
+use Rattle.std.specs.Prelude.{ℕ, zero, suc, ◌+◌, ◌%◌, ◌==◌, Bool, true, false, List, ◌++◌, length, replicate, take, drop, slice_index, Option, Some, None, option_map, Result, Ok, Err}
 use Rattle.std.specs.Ordering.{nat_cmp}
 use Rattle.std.specs.FinMap.{FinMap, get, insert}
 use Rattle.byteorder.specs.Endian.{little_number, little_bytes}

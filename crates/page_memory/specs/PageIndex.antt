@@ -1,7 +1,6 @@
 -- How a page index finds a page number's place: a directory of leaves, as a two-level page table has.
-use Rattle.std.specs.Prelude.{◌≡◌, ℕ, zero, suc, ◌+◌, ◌-◌, ◌*◌, ◌/◌, ◌%◌, ◌^◌, ◌<◌, ◌≤◌, List, length, slice_index, slice_index_or, Option, Some, None, refl, ◌==◌, if◌then◌else◌}
+use Rattle.std.specs.Prelude.{◌≡◌, ℕ, ◌+◌, ◌-◌, ◌/◌, ◌%◌, ◌^◌, ◌<◌, ◌≤◌, List, length, slice_index, slice_index_or, Option, Some, None, position, ◌==◌, if◌then◌else◌}
 use Rattle.std.specs.Global.{Box}
-use Rattle.std.proofs.Common.{arith, sym, ap, ◌∙◌}
 
 -- what a leaf keeps for its n-th page: the page's place and 1, or 0
 abbrev pub kept : Option (Box (List ℕ)) → ℕ → ℕ
@@ -24,3 +23,7 @@ pub record Indexes (directory : List (Option (Box (List ℕ)))) (pages : List �
 pub record Keeps (old new : List (Option (Box (List ℕ)))) (page number : ℕ) : Type 0 where
   pub wide : length new ≡ length old
   pub numbers : (other : ℕ) → number_at new other ≡ (if other == page then number else number_at old other)
+
+-- a page number that is remembered stands at the place that is kept with it
+pub record Remembers (pages : List ℕ) (page place : ℕ) : Type 0 where
+  pub stands : page < 2 ^ 20 → position (λ listed. listed == page) pages ≡ Some place

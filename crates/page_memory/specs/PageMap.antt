@@ -1,11 +1,10 @@
 -- What a page map ends as, where a `&mut` to one of its values is returned.
-use Rattle.std.specs.Prelude.{ℕ, Option}
-use Rattle.std.specs.Borrow.{Lends, LendsIf, Fml, RattleType, MutBor}
-use Rattle.std.specs.Ordering.{nat_cmp}
-use Rattle.std.specs.FinMap.{FinMap, insert}
+use Rattle.std.specs.Prelude.{ℕ, List}
+use Rattle.std.specs.Borrow.{Lends, Fml, RattleType, MutBor}
+use Rattle.page_memory.specs.Entries.{with_value}
 use Rattle.page_memory.specs.contracts.page_map.PageMap.{the_row}
 
-module _ (T : RattleType) (pages : MutBor (FinMap nat_cmp T.Denot)) (page : ℕ) where
-  -- once the borrow ends, the page has the last value written through it
-  abbrev pub LendsValue : Option (MutBor T.Denot) → Fml
-  LendsValue value = LendsIf (the_row T) T pages value (insert pages.now page) pages.now
+module _ (T : RattleType) (pages : MutBor (List (ℕ × T.Denot))) (place : ℕ) where
+  -- once the borrow ends, the place has the last value written through it
+  abbrev pub LendsValue : MutBor T.Denot → Fml
+  LendsValue value = Lends (the_row T) T pages value (with_value pages.now place)

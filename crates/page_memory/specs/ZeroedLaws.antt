@@ -1,9 +1,11 @@
 -- What memory holds once pages of zeros were mapped in a range.
-use Rattle.std.proofs.Common.{◌≡◌, ◌≢◌, ℕ, zero, suc, ◌+◌, ◌<◌, ◌≤◌, ◌==◌, ◌&&◌, ◌||◌, nat_lt, nat_le, Bool, true, false, cond, Option, Some, None, if◌then◌else◌, ap, ◌∙◌, sym, refl, eq-eqb, ne_eqb, inl, inr, arith}
+use Rattle.std.proofs.Common.{◌≡◌, ℕ, zero, suc, ◌+◌, ◌==◌, ◌&&◌, ◌||◌, nat_lt, nat_le, Bool, true, false, cond, List, option_and_then, Option, Some, None, ap, ◌∙◌, sym, refl, inl, inr, arith}
 use Rattle.std.proofs.lemmas.Bool.Decides.{nat_tests, eqb_tells}
 use Rattle.std.specs.Ordering.{nat_cmp, eq_by_cmp}
 use Rattle.std.specs.Cmp.{nat_cmp_total}
-use Rattle.std.specs.FinMap.{get, insert, get-insert}
+use Rattle.std.specs.FinMap.{get, get-insert, from_entries}
+use Rattle.page_memory.specs.Entries.{place_of, value_at, added_unless, added, with_added}
+use Rattle.page_memory.specs.EntriesLaws.{value_by_place, has_value, inserted, no_value}
 use Rattle.page_memory.specs.Memory.{Page, Memory, zero_page, zeroed_unless, zeroed_at, with_zeroed}
 
 -- a page that was mapped stays as it was; a new page of zeros is where the test says so
@@ -59,3 +61,18 @@ get-with_zeroed first zero memory q = sym (ap (kept_or_zero (get memory q)) (non
 get-with_zeroed first (suc count) memory q =
     get-zeroed_at (first + count) (with_zeroed first count memory) q ∙ ap (λ p. kept_or_zero p (q == first + count)) (get-with_zeroed first count memory q)
     ∙ twice (get memory q) (in_range first count q) (q == first + count) ∙ ap (kept_or_zero (get memory q)) (one_more first count q)
+
+-- the page map that stands for a memory gets the same pages
+zero_case : (entries : List (ℕ × Page)) (number : ℕ) (place : Option ℕ) → place_of number entries ≡ place → from_entries {R = nat_cmp} (added_unless place number zero_page entries) ≡ zeroed_unless (get (from_entries {R = nat_cmp} entries) number) (from_entries entries) number
+zero_case entries number None absent = inserted entries number zero_page absent ∙ ap (λ o. zeroed_unless o (from_entries entries) number) (sym (no_value entries number absent))
+zero_case entries number (Some place) at =
+    let value = has_value entries number place at in
+    let found : get (from_entries {R = nat_cmp} entries) number ≡ Some value.0 = value_by_place entries number ∙ ap (option_and_then (λ k. value_at k entries)) at ∙ value.1 in
+    sym (ap (λ o. zeroed_unless o (from_entries entries) number) found)
+
+pub added_zeroed : (entries : List (ℕ × Page)) (first count : ℕ) → from_entries {R = nat_cmp} (with_added first count zero_page entries) ≡ with_zeroed first count (from_entries entries)
+unfolding with_added with_zeroed added zeroed_at
+added_zeroed entries first zero = refl
+added_zeroed entries first (suc count) =
+    zero_case (with_added first count zero_page entries) (first + count) (place_of (first + count) (with_added first count zero_page entries)) refl
+    ∙ ap (zeroed_at (first + count)) (added_zeroed entries first count)

@@ -1,4 +1,4 @@
-ghost use Rattle.std.specs.Prelude.{◌≡◌, ◌==◌, ℕ, ◌+◌, ◌<◌, ◌^◌, List, [], ◌∷◌, ◌++◌, IfOk, OnOk, OnErr, length, position, ◌/◌};
+ghost use Rattle.std.specs.Prelude.{◌≡◌, ◌==◌, ℕ, ◌+◌, ◌-◌, ◌<◌, ◌^◌, List, [], ◌∷◌, ◌++◌, IfOk, OnOk, OnErr, IfSome, length, take, position, ◌/◌};
 ghost use Rattle.page_memory.specs.PageIndex.{number_at, Keeps};
 
 use crate::words::PAGE_COUNT;
@@ -8,25 +8,31 @@ use std::marker::Model;
 /// How many page numbers a leaf of the directory serves.
 const LEAF_PAGES: u32 = 1024;
 
+/// Where no page is remembered.
+const NO_PAGE: u32 = PAGE_COUNT;
+
 /// A list of different page numbers that answers in constant time at which place one stands.
 ///
 /// It is laid out as a two-level page table: a directory of 1024 leaves, of which only those that are
-/// needed are there, and each leaf has a number for each of its 1024 pages.
+/// needed are there, and each leaf has a number for each of its 1024 pages. The place of one page is
+/// remembered beside it, so that to find that page again takes no look-up.
 #[derive(Drop)]
 pub struct PageIndex {
     directory: Vec<Option<Box<[u32; 1024]>>>,
     pages: Vec<u32>,
+    remembered: u32,
+    place: usize,
 }
 
 impl Model for PageIndex {
     ghost use Rattle.std.specs.Prelude.{List, ℕ};
-    ghost use Rattle.page_memory.specs.PageIndex.{Indexes};
+    ghost use Rattle.page_memory.specs.PageIndex.{Indexes, Remembers};
 
     ghost Value = { List ℕ };
 
     ghost view = { λ index. index.pages.items };
 
-    ghost invariant = { λ index. Indexes index.directory.items index.pages.items };
+    ghost invariant = { λ index. Indexes index.directory.items index.pages.items × Remembers index.pages.items index.remembered index.place };
 }
 
 impl PageIndex {
@@ -41,19 +47,67 @@ impl PageIndex {
         Ok(PageIndex {
             directory,
             pages: Vec::new(alloc),
+            remembered: NO_PAGE,
+            place: 0,
         })
+    }
+
+    /// How many pages are listed.
+    #[inline]
+    pub fn len(&self) -> usize
+        ensures { result ≡ length self.now }
+    {
+        self.pages.len()
     }
 
     /// The place of a page number in the list.
     #[inline]
     pub fn find(&self, page: u32) -> Option<usize>
-        ensures { result ≡ position (λ listed. listed == page) self.now }
+        requires { page < 2 ^ 20 }
+        ensures place { result ≡ position (λ listed. listed == page) self.now }
+        ensures within { IfSome result (λ place. place < length self.now) }
     {
         let number = number_in(&self.directory, page);
         if number == 0 {
             None
         } else {
             Some(number as usize - 1)
+        }
+    }
+
+    /// The same, found at once where the page is the one that is remembered.
+    #[inline]
+    pub fn find_remembered(&self, page: u32) -> Option<usize>
+        requires { page < 2 ^ 20 }
+        ensures place { result ≡ position (λ listed. listed == page) self.now }
+        ensures within { IfSome result (λ place. place < length self.now) }
+    {
+        if page == self.remembered {
+            Some(self.place)
+        } else {
+            self.find(page)
+        }
+    }
+
+    /// Remembers a page's place, if it is listed.
+    #[inline]
+    pub fn remember(&mut self, page: u32)
+        requires { page < 2 ^ 20 }
+        ensures { self.new ≡ self.old }
+    {
+        if page != self.remembered {
+            self.remember_another(page);
+        }
+    }
+
+    #[cold]
+    fn remember_another(&mut self, page: u32)
+        requires { page < 2 ^ 20 }
+        ensures { self.new ≡ self.old }
+    {
+        if let Some(place) = self.find(page) {
+            self.remembered = page;
+            self.place = place;
         }
     }
 
@@ -71,16 +125,37 @@ impl PageIndex {
         self.pages.push_reserved(page);
         Ok(())
     }
+
+    /// Keeps only so many pages, the first ones.
+    #[tactic(auto, using(crate::proofs::Indexing::cuts))]
+    pub fn truncate(&mut self, count: usize)
+        ensures { self.new ≡ take count self.old }
+    {
+        for _ in 0..self.len().saturating_sub(count) {
+            self.pop();
+        }
+    }
+
+    /// Takes the last page off the list.
+    fn pop(&mut self)
+        ensures { self.new ≡ take (length self.old - 1) self.old }
+    {
+        if let Some(page) = self.pages.pop() {
+            clear(&mut self.directory, page);
+            self.remembered = NO_PAGE;
+        }
+    }
 }
 
 /// What the directory keeps for a page: its place and 1, or 0.
 #[inline]
 fn number_in(directory: &[Option<Box<[u32; 1024]>>], page: u32) -> u32
+    requires { page / 1024 < length directory.now }
     ensures { result ≡ number_at directory.now page }
 {
-    match directory.get((page / LEAF_PAGES) as usize) {
-        Some(Some(leaf)) => leaf[(page % LEAF_PAGES) as usize],
-        _ => 0,
+    match &directory[(page / LEAF_PAGES) as usize] {
+        Some(leaf) => leaf[(page % LEAF_PAGES) as usize],
+        None => 0,
     }
 }
 
@@ -106,4 +181,14 @@ fn keep(
         }
     }
     Ok(())
+}
+
+/// Keeps 0 for a page.
+fn clear(directory: &mut [Option<Box<[u32; 1024]>>], page: u32)
+    requires { page / 1024 < length directory.old }
+    ensures { Keeps directory.old directory.new page 0 }
+{
+    if let Some(leaf) = &mut directory[(page / LEAF_PAGES) as usize] {
+        leaf[(page % LEAF_PAGES) as usize] = 0;
+    }
 }

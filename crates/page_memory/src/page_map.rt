@@ -1,8 +1,8 @@
-ghost use Rattle.std.specs.Prelude.{◌≡◌, ℕ, ◌<◌, ◌^◌, IfOk, OnOk, OnErr, option_copied, length};
-ghost use Rattle.std.specs.Option.{option_copied_mut};
+ghost use Rattle.std.specs.Prelude.{◌≡◌, ℕ, ◌<◌, ◌^◌, [], ◌∷◌, ◌++◌, None, Some, IfOk, IfSome, OnErr, length, take};
 ghost use Rattle.std.specs.Ordering.{nat_cmp};
 ghost use Rattle.std.specs.FinMap as map;
 ghost use Rattle.std.specs.Borrow.{sem};
+ghost use Rattle.page_memory.specs.Entries.{place_of, pages_of, value_at};
 ghost use Rattle.page_memory.specs.PageMap.{LendsValue};
 
 use crate::page_index::PageIndex;
@@ -10,6 +10,9 @@ use std::alloc::{AllocError, Global};
 use std::marker::Model;
 
 /// Values by page number, each found in constant time.
+///
+/// Each page has a place, in the order in which the pages got their values. A page keeps its place as
+/// long as it has a value, so that whoever holds a place reaches the value with no look-up.
 #[derive(Drop)]
 pub struct PageMap<T> {
     index: PageIndex,
@@ -17,25 +20,23 @@ pub struct PageMap<T> {
 }
 
 impl<T> Model for PageMap<T> {
-    ghost use Rattle.std.specs.Prelude.{◌≡◌, length};
-    ghost use Rattle.std.specs.Ordering.{nat_cmp};
-    ghost use Rattle.std.specs.FinMap as map;
+    ghost use Rattle.std.specs.Prelude.{◌≡◌, ℕ, List, length};
     ghost use Rattle.std.specs.List.{zip};
-    ghost use Rattle.std.specs.Coded.{coded_ℕ};
+    ghost use Rattle.std.specs.Coded.{coded_ℕ, coded×, coded_list};
 
-    ghost Value = { map.FinMap nat_cmp T };
+    ghost Value = { List (ℕ × T) };
 
-    ghost coded = { map.code coded_ℕ T.code };
+    ghost coded = { coded_list (coded× coded_ℕ T.code) };
 
-    ghost view = { λ pages. map.from_entries (zip pages.index pages.values.items) };
+    ghost view = { λ pages. zip pages.index pages.values.items };
 
-    ghost invariant = { λ pages. length pages.index ≡ length pages.values.items };
+    ghost invariant = { λ pages. length pages.values.items ≡ length pages.index };
 }
 
 impl<T> PageMap<T> {
     /// A map of no page.
     pub fn new(alloc: Global) -> Result<Self, AllocError>
-        ensures { IfOk result (λ pages. pages ≡ map.empty) }
+        ensures { IfOk result (λ pages. pages ≡ []) }
     {
         Ok(PageMap {
             index: PageIndex::new(alloc)?,
@@ -43,37 +44,95 @@ impl<T> PageMap<T> {
         })
     }
 
-    /// A page's value.
+    /// How many pages have a value.
     #[inline]
-    pub fn get(&self, page: u32) -> Option<&T>
-        ensures { option_copied result ≡ map.get self.now page }
+    #[tactic(auto, using(crate::proofs::PlacedEntries::of_values))]
+    pub fn len(&self) -> usize
+        ensures { result ≡ length self.now }
     {
-        let place = self.index.find(page)?;
-        self.values.get(place)
+        let _ = &self.index;
+        self.values.len()
     }
 
-    /// A page's value, to be changed.
+    /// The place of a page that has a value.
     #[inline]
-    pub fn get_mut(&mut self, page: u32) -> Option<&mut T>
-        ensures* writes_back { sem 𝓛 (LendsValue T.row self.entry page result) }
-        ensures value { option_copied_mut result ≡ map.get self.old page }
+    #[tactic(auto, using(crate::proofs::PlacedEntries::of_values))]
+    pub fn place(&self, page: u32) -> Option<usize>
+        requires { page < 2 ^ 20 }
+        ensures place { result ≡ place_of page self.now }
+        ensures within { IfSome result (λ place. place < length self.now) }
     {
-        let place = self.index.find(page)?;
-        self.values.get_mut(place)
+        let _ = &self.values;
+        self.index.find(page)
     }
 
-    /// Gives a value to a page that has none.
-    pub fn insert(&mut self, alloc: Global, page: u32, value: T) -> Result<(), AllocError>
+    /// The same, found at once where the page is the one that was remembered last.
+    #[inline]
+    #[tactic(auto, using(crate::proofs::PlacedEntries::of_values))]
+    pub fn place_remembered(&self, page: u32) -> Option<usize>
+        requires { page < 2 ^ 20 }
+        ensures place { result ≡ place_of page self.now }
+        ensures within { IfSome result (λ place. place < length self.now) }
+    {
+        let _ = &self.values;
+        self.index.find_remembered(page)
+    }
+
+    /// Remembers a page's place.
+    #[inline]
+    pub fn remember(&mut self, page: u32)
+        requires { page < 2 ^ 20 }
+        ensures { self.new ≡ self.old }
+    {
+        self.index.remember(page);
+    }
+
+    /// The value at a place.
+    #[inline]
+    pub fn at(&self, place: usize) -> &T
+        requires { place < length self.now }
+        ensures { value_at place self.now ≡ Some result.now }
+    {
+        let _ = &self.index;
+        &self.values[place]
+    }
+
+    /// The value at a place, to be changed.
+    #[inline]
+    pub fn at_mut(&mut self, place: usize) -> &mut T
+        requires { place < length self.old }
+        ensures* writes_back { sem 𝓛 (LendsValue T.row self.entry place result) }
+        ensures value { value_at place self.old ≡ Some result.now }
+    {
+        let _ = &self.index;
+        &mut self.values[place]
+    }
+
+    /// Gives a value to a page that has none, at the place behind the others.
+    pub fn insert(&mut self, alloc: Global, page: u32, value: T) -> Result<usize, AllocError>
     where
         T: Drop,
         requires small { page < 2 ^ 20 }
-        requires absent { map.get self.old page ≡ None }
-        ensures ok { OnOk result (self.new ≡ map.insert self.old page value) }
+        requires absent { place_of page self.old ≡ None }
+        ensures ok { IfOk result (λ place. self.new ≡ self.old ++ (page, value) ∷ []) }
+        ensures place { IfOk result (λ place. place ≡ length self.old) }
         ensures err { OnErr result (self.new ≡ self.old) }
     {
+        let place = self.values.len();
         self.values.reserve(1)?;
         self.index.push(alloc, page)?;
         self.values.push_reserved(value);
-        Ok(())
+        Ok(place)
+    }
+
+    /// Keeps only the values at so many places, the first ones.
+    #[tactic(auto, using(crate::proofs::PlacedEntries::zip_take))]
+    pub fn truncate(&mut self, count: usize)
+    where
+        T: Drop,
+        ensures { self.new ≡ take count self.old }
+    {
+        self.index.truncate(count);
+        self.values.truncate(count);
     }
 }

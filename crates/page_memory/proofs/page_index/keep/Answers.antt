@@ -1,4 +1,4 @@
-use Rattle.std.proofs.Common.{◌≡◌, ℕ, List, Option, None, get_or, slice_index_or, slice_set, replicate, ap, sym, ◌∙◌, ◌/◌, ◌%◌}
+use Rattle.std.proofs.Common.{None, slice_set, ap, ◌∙◌, ◌/◌, ◌%◌}
 use Rattle.std.proofs.lemmas.List.{get_or_default}
 use Rattle.page_memory.proofs.Indexing.{new_leaf}
 use Rattle.page_memory.proofs.page_index.keep.Goals as goal

@@ -1,6 +1,8 @@
 -- Entries by page number: a page's place is where its entry stands in the list.
-use Rattle.std.specs.Prelude.{ℕ, zero, suc, ◌+◌, ◌==◌, List, [], ◌∷◌, ◌++◌, Option, Some, None, map, position}
+use Rattle.std.specs.Prelude.{◌≡◌, ℕ, zero, suc, ◌+◌, ◌==◌, List, [], ◌∷◌, ◌++◌, Option, Some, None, map, position}
 use Rattle.std.specs.List.{slice_get}
+use Rattle.std.specs.Ordering.{nat_cmp}
+use Rattle.std.specs.FinMap.{FinMap, insert, from_entries}
 
 module _ {T : Type 0} where
   abbrev pub pages_of : List (ℕ × T) → List ℕ
@@ -35,3 +37,11 @@ module _ {T : Type 0} where
   unfoldable pub with_added : ℕ → ℕ → T → List (ℕ × T) → List (ℕ × T)
   with_added first zero value entries = entries
   with_added first (suc count) value entries = added (first + count) value (with_added first count value entries)
+
+-- what entries stand for: the memory, or another map, in which each page has what its entry stands for
+unfoldable pub map_by : {S T : Type 0} → (S → T) → List (ℕ × S) → FinMap nat_cmp T
+map_by f entries = from_entries (map (λ e. (e.0, f e.1)) entries)
+
+-- one page has another value, or gets its first one; every other page is as it was
+pub record ChangesPage {T : Type 0} (old new : List (ℕ × T)) (page : ℕ) (value : T) : Type 0 where
+  pub changed : from_entries {R = nat_cmp} new ≡ insert (from_entries old) page value

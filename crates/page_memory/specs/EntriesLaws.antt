@@ -3,8 +3,8 @@ use Rattle.std.proofs.Common.{◌≡◌, ℕ, zero, suc, ◌+◌, List, [], ◌�
 use Rattle.std.specs.List.{position_or_len}
 use Rattle.std.specs.Ordering.{nat_cmp, eq_by_cmp}
 use Rattle.std.specs.Cmp.{nat_cmp_total}
-use Rattle.std.specs.FinMap.{get, insert, from_entries, find, get-from_entries, get-insert, same_map, from_entries_push, nat_cmp-IsAntisymmetric}
-use Rattle.std.proofs.lemmas.Bool.Decides.{nat_tests}
+use Rattle.std.specs.FinMap.{FinMap, get, insert, from_entries, find, get-from_entries, get-insert, same_map, from_entries_push, nat_cmp-IsAntisymmetric}
+use Rattle.std.proofs.lemmas.Bool.Decides.{nat_tests, eqb_tells}
 use Rattle.std.proofs.lemmas.Option.{none-some, same_Some, slice_get_cases}
 use Rattle.std.proofs.lemmas.List.Quantifiers.{position-Some}
 use Rattle.std.proofs.Math.Seq.{take-append_seam}
@@ -43,6 +43,17 @@ never_first (Some k) e = let z : suc k ≡ 0 = same_Some _ _ e in omega arith
 place_before : (o : Option ℕ) (i : ℕ) → option_map (λ i. suc i) o ≡ Some (suc i) → o ≡ Some i
 place_before None i e = absurd (none-some _ e)
 place_before (Some k) i e = let z : suc k ≡ suc i = same_Some _ _ e in ap Some (omega arith)
+
+-- a value put back as it was found leaves the map as it was
+pub put_back : {T : Type 0} (m : FinMap nat_cmp T) (key : ℕ) (value : T) → get m key ≡ Some value → insert m key value ≡ m
+put_back m key value found = same_map nat_cmp_total nat_cmp-IsAntisymmetric _ _ (λ q. get-insert nat_cmp_total m key value q ∙ same q)
+  where
+    same : (q : ℕ) → cond (eq_by_cmp nat_cmp q key) (Some value) (get m q) ≡ get m q
+    same q =
+        elim (eqb_tells key q) [
+          | inl at ↦ ap (λ b. cond b (Some value) (get m q)) (same_key q key ∙ at.0) ∙ sym found ∙ ap (get m) at.1
+          | inr apart ↦ ap (λ b. cond b (Some value) (get m q)) (same_key q key ∙ apart.0)
+        ]
 
 module _ {T : Type 0} where
   later_value : (v : T) (values : List T) (o : Option ℕ) → option_and_then (λ k. slice_get (v ∷ values) k) (option_map (λ i. suc i) o) ≡ option_and_then (λ k. slice_get values k) o

@@ -6,3 +6,4 @@ pub mod Entries
 pub mod EntriesLaws
 pub mod PageMap
 pub mod ZeroedLaws
+pub mod StandsForLaws

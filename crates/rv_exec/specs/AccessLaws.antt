@@ -13,19 +13,22 @@ use Rattle.rv_exec.specs.Access.{load_width, store_width, extended}
 use Rattle.rv_exec.specs.Amo.{amo_result}
 use Rattle.rv_exec.specs.Line.{Next, Traps, computed, after_load, load_line, after_store, store_line, after_amo, amo_line}
 use Rattle.rv_exec.specs.LineLaws.{all_front, all_none}
+use Rattle.rv_exec.specs.Outcomes.{Used}
 use Rattle.rv_exec.specs.Uses.{page_of_access, load_pages, store_pages, amo_pages}
 
 -- ---- the page of an access
 
-all_allowed : {A : Type 0} (has : ℕ → Type 0) (address : ℕ) (expected : Result A MemoryFault) (answer : A)
-    → expected ≡ Ok answer → has (page_number address) → All has (page_of_access address expected)
-all_allowed has address expected answer h page = subst (λ found. All has (page_of_access address found)) (sym h) (all_front has (page_number address) [] page (all_none has))
+pub used_allowed : {A : Type 0} (has marks : ℕ → Type 0) (address : ℕ) (expected : Result A MemoryFault) (answer : A)
+    → expected ≡ Ok answer → has (page_number address) → marks (page_number address) → Used has marks (page_of_access address expected)
+used_allowed has marks address expected answer h page mark =
+    subst (λ found. Used has marks (page_of_access address found)) (sym h)
+    (all_front has (page_number address) [] page (all_none has), all_front marks (page_number address) [] mark (all_none marks))
 
-all_refused : {A : Type 0} (has : ℕ → Type 0) (address : ℕ) (expected : Result A MemoryFault) (fault : MemoryFault)
-    → expected ≡ Err fault → All has (page_of_access address expected)
-all_refused has address expected fault h = subst (λ found. All has (page_of_access address found)) (sym h) (all_none has)
+pub used_refused : {A : Type 0} (has marks : ℕ → Type 0) (address : ℕ) (expected : Result A MemoryFault) (fault : MemoryFault)
+    → expected ≡ Err fault → Used has marks (page_of_access address expected)
+used_refused has marks address expected fault h = subst (λ found. Used has marks (page_of_access address found)) (sym h) (all_none has, all_none marks)
 
-contains_page : {A : Type 0} (address : ℕ) (expected : Result A MemoryFault) (page : ℕ)
+pub contains_page : {A : Type 0} (address : ℕ) (expected : Result A MemoryFault) (page : ℕ)
     → page ≡ page_number address → IsOk expected → Contains (page_of_access address expected) page
 contains_page address (Ok answer) page e h = (zero, omega arith, sym e)
 contains_page address (Err fault) page e h = absurd (cc)
@@ -44,23 +47,23 @@ pub load_traps : (regs : Registers) (memory : Memory) (kind : LoadKind) (rd addr
 unfolding load_line
 load_traps regs memory kind rd address fault h = ap (after_load regs memory kind rd address) h
 
-pub load_has : (has : ℕ → Type 0) (memory : Memory) (kind : LoadKind) (address number : ℕ)
-    → loaded memory (load_width kind) address ≡ Ok number → has (page_number address)
-    → All has (load_pages memory kind address)
+pub load_used : (has marks : ℕ → Type 0) (memory : Memory) (kind : LoadKind) (address number : ℕ)
+    → loaded memory (load_width kind) address ≡ Ok number → has (page_number address) → marks (page_number address)
+    → Used has marks (load_pages memory kind address)
 unfolding load_pages
-load_has has memory kind address number h page = all_allowed has address (loaded memory (load_width kind) address) number h page
+load_used has marks memory kind address number h page mark = used_allowed has marks address (loaded memory (load_width kind) address) number h page mark
 
-pub load_needs_none : (has : ℕ → Type 0) (memory : Memory) (kind : LoadKind) (address : ℕ) (fault : MemoryFault)
-    → loaded memory (load_width kind) address ≡ Err fault → All has (load_pages memory kind address)
+pub load_uses_none : (has marks : ℕ → Type 0) (memory : Memory) (kind : LoadKind) (address : ℕ) (fault : MemoryFault)
+    → loaded memory (load_width kind) address ≡ Err fault → Used has marks (load_pages memory kind address)
 unfolding load_pages
-load_needs_none has memory kind address fault h = all_refused has address (loaded memory (load_width kind) address) fault h
+load_uses_none has marks memory kind address fault h = used_refused has marks address (loaded memory (load_width kind) address) fault h
 
 pub load_lacks : (memory : Memory) (kind : LoadKind) (address page : ℕ)
     → page ≡ page_number address → IsOk (loaded memory (load_width kind) address) → Contains (load_pages memory kind address) page
 unfolding load_pages
 load_lacks memory kind address page e h = contains_page address (loaded memory (load_width kind) address) page e h
 
-pub ruleset loading = (load_done, load_traps, load_has, load_needs_none, load_lacks)
+pub ruleset loading = (load_done, load_traps, load_used, load_uses_none, load_lacks)
 
 -- ---- stores
 
@@ -76,16 +79,16 @@ pub store_traps : (regs : Registers) (memory : Memory) (kind : StoreKind) (addre
 unfolding store_line
 store_traps regs memory kind address word fault h = ap (after_store regs address) h
 
-pub store_has : (has : ℕ → Type 0) (memory : Memory) (kind : StoreKind) (address word : ℕ) (changed : Memory)
-    → stored memory (store_width kind) address word ≡ Ok changed → has (page_number address)
-    → All has (store_pages memory kind address word)
+pub store_used : (has marks : ℕ → Type 0) (memory : Memory) (kind : StoreKind) (address word : ℕ) (changed : Memory)
+    → stored memory (store_width kind) address word ≡ Ok changed → has (page_number address) → marks (page_number address)
+    → Used has marks (store_pages memory kind address word)
 unfolding store_pages
-store_has has memory kind address word changed h page = all_allowed has address (stored memory (store_width kind) address word) changed h page
+store_used has marks memory kind address word changed h page mark = used_allowed has marks address (stored memory (store_width kind) address word) changed h page mark
 
-pub store_needs_none : (has : ℕ → Type 0) (memory : Memory) (kind : StoreKind) (address word : ℕ) (fault : MemoryFault)
-    → stored memory (store_width kind) address word ≡ Err fault → All has (store_pages memory kind address word)
+pub store_uses_none : (has marks : ℕ → Type 0) (memory : Memory) (kind : StoreKind) (address word : ℕ) (fault : MemoryFault)
+    → stored memory (store_width kind) address word ≡ Err fault → Used has marks (store_pages memory kind address word)
 unfolding store_pages
-store_needs_none has memory kind address word fault h = all_refused has address (stored memory (store_width kind) address word) fault h
+store_uses_none has marks memory kind address word fault h = used_refused has marks address (stored memory (store_width kind) address word) fault h
 
 pub store_lacks : (memory : Memory) (kind : StoreKind) (address word page : ℕ)
     → page ≡ page_number address → IsOk (stored memory (store_width kind) address word)
@@ -93,7 +96,7 @@ pub store_lacks : (memory : Memory) (kind : StoreKind) (address word page : ℕ)
 unfolding store_pages
 store_lacks memory kind address word page e h = contains_page address (stored memory (store_width kind) address word) page e h
 
-pub ruleset storing = (store_done, store_traps, store_has, store_needs_none, store_lacks)
+pub ruleset storing = (store_done, store_traps, store_used, store_uses_none, store_lacks)
 
 -- ---- atomic operations
 
@@ -109,18 +112,18 @@ pub amo_traps : (regs : Registers) (memory : Memory) (kind : AmoKind) (rd addres
 unfolding amo_line
 amo_traps regs memory kind rd address operand fault h = ap (after_amo regs rd address) h
 
-pub amo_has : (has : ℕ → Type 0) (memory : Memory) (kind : AmoKind) (address operand : ℕ) (answer : ℕ × Memory)
-    → replaced memory (λ word. amo_result kind word operand) address ≡ Ok answer → has (page_number address)
-    → All has (amo_pages memory kind address operand)
+pub amo_used : (has marks : ℕ → Type 0) (memory : Memory) (kind : AmoKind) (address operand : ℕ) (answer : ℕ × Memory)
+    → replaced memory (λ word. amo_result kind word operand) address ≡ Ok answer → has (page_number address) → marks (page_number address)
+    → Used has marks (amo_pages memory kind address operand)
 unfolding amo_pages
-amo_has has memory kind address operand answer h page =
-    all_allowed has address (replaced memory (λ word. amo_result kind word operand) address) answer h page
+amo_used has marks memory kind address operand answer h page mark =
+    used_allowed has marks address (replaced memory (λ word. amo_result kind word operand) address) answer h page mark
 
-pub amo_needs_none : (has : ℕ → Type 0) (memory : Memory) (kind : AmoKind) (address operand : ℕ) (fault : MemoryFault)
-    → replaced memory (λ word. amo_result kind word operand) address ≡ Err fault → All has (amo_pages memory kind address operand)
+pub amo_uses_none : (has marks : ℕ → Type 0) (memory : Memory) (kind : AmoKind) (address operand : ℕ) (fault : MemoryFault)
+    → replaced memory (λ word. amo_result kind word operand) address ≡ Err fault → Used has marks (amo_pages memory kind address operand)
 unfolding amo_pages
-amo_needs_none has memory kind address operand fault h =
-    all_refused has address (replaced memory (λ word. amo_result kind word operand) address) fault h
+amo_uses_none has marks memory kind address operand fault h =
+    used_refused has marks address (replaced memory (λ word. amo_result kind word operand) address) fault h
 
 pub amo_lacks : (memory : Memory) (kind : AmoKind) (address operand page : ℕ)
     → page ≡ page_number address → IsOk (replaced memory (λ word. amo_result kind word operand) address)
@@ -129,4 +132,4 @@ unfolding amo_pages
 amo_lacks memory kind address operand page e h =
     contains_page address (replaced memory (λ word. amo_result kind word operand) address) page e h
 
-pub ruleset replacing = (amo_done, amo_traps, amo_has, amo_needs_none, amo_lacks)
+pub ruleset replacing = (amo_done, amo_traps, amo_used, amo_uses_none, amo_lacks)

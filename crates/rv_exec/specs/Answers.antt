@@ -10,10 +10,10 @@ abbrev pub Refuses : {A : Type 0} → (ℕ → Type 0) → ℕ → Result A Memo
 Refuses lacks address expected (Fault fault) = expected ≡ Err fault
 Refuses lacks address expected (Absent page) = (page ≡ page_number address) × lacks page × IsOk expected
 
--- an answer is memory's, by a page that the bus has
-abbrev pub Answers : {A : Type 0} → (has lacks : ℕ → Type 0) → ℕ → Result A MemoryFault → Result A BusError → Type 0
-Answers has lacks address expected (Ok answer) = (expected ≡ Ok answer) × has (page_number address)
-Answers has lacks address expected (Err refusal) = Refuses lacks address expected refusal
+-- an answer is memory's, by a page that the bus has, and whose use it has marked
+abbrev pub Answers : {A : Type 0} → (has marks lacks : ℕ → Type 0) → ℕ → Result A MemoryFault → Result A BusError → Type 0
+Answers has marks lacks address expected (Ok answer) = (expected ≡ Ok answer) × (has (page_number address) × marks (page_number address))
+Answers has marks lacks address expected (Err refusal) = Refuses lacks address expected refusal
 
 -- a bus's answer with a value in place of its own
 abbrev pub with_answer : {A B : Type 0} → (A → B) → Result A BusError → Result B BusError

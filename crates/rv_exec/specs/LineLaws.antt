@@ -13,7 +13,7 @@ use Rattle.rv_exec.specs.declared.outcome.Outcome.TheVariants.{Done, Ecall, Trap
 use Rattle.rv_exec.specs.Registers.{Registers}
 use Rattle.rv_exec.specs.Line.{Traps, insn_line, decoded_line, fetched_line, line}
 use Rattle.rv_exec.specs.Uses.{data_pages, decoded_pages, fetched_pages, pages_used}
-use Rattle.rv_exec.specs.Outcomes.{UsesPages}
+use Rattle.rv_exec.specs.Outcomes.{Used, UsesPages}
 
 -- ---- the line
 
@@ -56,31 +56,37 @@ contains_behind : (page other : ℕ) (pages : List ℕ) → Contains pages page 
 contains_behind page other pages h = (suc h.0, omega arith, h.2)
 
 -- the pages of an instruction are that of its fetch and those of its data
-pub uses_insn : (has lacks has' lacks' : ℕ → Type 0) (regs : Registers) (memory memory' : Memory) (word : ℕ) (insn : Insn) (outcome : Outcome)
+pub uses_insn : (has marks lacks has' marks' lacks' : ℕ → Type 0) (regs : Registers) (memory memory' : Memory) (word : ℕ) (insn : Insn) (outcome : Outcome)
     → fetched memory regs.pc ≡ Ok word → insn_of word ≡ Some insn → memory' ≡ memory
-    → ((page : ℕ) → has' page → has page) → ((page : ℕ) → lacks' page → lacks page) → has (page_number regs.pc)
-    → UsesPages has' lacks' (data_pages regs memory' insn) outcome
-    → UsesPages has lacks (pages_used regs memory) outcome
-uses_insn has lacks has' lacks' regs memory memory' word insn outcome h d e had lacked first rest =
+    → ((page : ℕ) → has' page → has page) → ((page : ℕ) → lacks' page → lacks page) → ((page : ℕ) → marks page → marks' page)
+    → has (page_number regs.pc) → marks (page_number regs.pc)
+    → UsesPages has' marks' lacks' (data_pages regs memory' insn) outcome
+    → UsesPages has marks' lacks (pages_used regs memory) outcome
+uses_insn has marks lacks has' marks' lacks' regs memory memory' word insn outcome h d e had lacked marked first mark rest =
     let data_used : List ℕ = data_pages regs memory' insn in
     let whole : pages_used regs memory ≡ page_number regs.pc ∷ data_used =
     pages_insn regs memory word insn h d ∙ ap (λ m. page_number regs.pc ∷ data_pages regs m insn) (sym e) in
-    let all : All has' data_used → All has (page_number regs.pc ∷ data_used) =
-    λ g. all_front has (page_number regs.pc) data_used first (λ k d b. had _ (g k d b)) in
-    subst (λ pages. UsesPages has lacks pages outcome) (sym whole)
-    (elim outcome as (λ o. UsesPages has' lacks' data_used o → UsesPages has lacks (page_number regs.pc ∷ data_used) o) [
+    let all : Used has' marks' data_used → Used has marks' (page_number regs.pc ∷ data_used) =
+    λ g. (
+      all_front has (page_number regs.pc) data_used first (λ k d b. had _ (g.0 k d b)),
+      all_front marks' (page_number regs.pc) data_used (marked _ mark) g.1,
+    ) in
+    subst (λ pages. UsesPages has marks' lacks pages outcome) (sym whole)
+    (elim outcome as (λ o. UsesPages has' marks' lacks' data_used o → UsesPages has marks' lacks (page_number regs.pc ∷ data_used) o) [
       | Done ↦ all
       | Ecall ↦ all
       | Trap cause value ↦ all
       | Absent page ↦ λ g. (contains_behind page (page_number regs.pc) data_used g.0, lacked page g.1)
     ] rest)
 
-pub all_illegal : (has : ℕ → Type 0) (regs : Registers) (memory : Memory) (word : ℕ) → fetched memory regs.pc ≡ Ok word → insn_of word ≡ None → has (page_number regs.pc) → All has (pages_used regs memory)
-all_illegal has regs memory word h d first =
-    subst (All has) (sym (pages_illegal regs memory word h d)) (all_front has (page_number regs.pc) [] first (all_none has))
+pub used_illegal : (has marks : ℕ → Type 0) (regs : Registers) (memory : Memory) (word : ℕ) → fetched memory regs.pc ≡ Ok word → insn_of word ≡ None
+    → has (page_number regs.pc) → marks (page_number regs.pc) → Used has marks (pages_used regs memory)
+used_illegal has marks regs memory word h d first mark =
+    subst (Used has marks) (sym (pages_illegal regs memory word h d))
+    (all_front has (page_number regs.pc) [] first (all_none has), all_front marks (page_number regs.pc) [] mark (all_none marks))
 
-pub all_fault : (has : ℕ → Type 0) (regs : Registers) (memory : Memory) (fault : MemoryFault) → fetched memory regs.pc ≡ Err fault → All has (pages_used regs memory)
-all_fault has regs memory fault h = subst (All has) (sym (pages_fault regs memory fault h)) (all_none has)
+pub used_fault : (has marks : ℕ → Type 0) (regs : Registers) (memory : Memory) (fault : MemoryFault) → fetched memory regs.pc ≡ Err fault → Used has marks (pages_used regs memory)
+used_fault has marks regs memory fault h = subst (Used has marks) (sym (pages_fault regs memory fault h)) (all_none has, all_none marks)
 
 contains_first : (regs : Registers) (memory : Memory) (answer : Result ℕ MemoryFault) → IsOk answer → Contains (fetched_pages regs memory answer) (page_number regs.pc)
 contains_first regs memory (Ok word) h = (zero, omega arith, refl)

@@ -20,12 +20,16 @@ UnlessDone Ecall fact = fact
 UnlessDone (Trap cause value) fact = fact
 UnlessDone (Absent page) fact = fact
 
--- of these pages, which the instruction uses, the bus has each; or it lacks the one that is absent
-abbrev pub UsesPages : (has lacks : ℕ → Type 0) → List ℕ → Outcome → Type 0
-UsesPages has lacks pages Done = All has pages
-UsesPages has lacks pages Ecall = All has pages
-UsesPages has lacks pages (Trap cause value) = All has pages
-UsesPages has lacks pages (Absent page) = Contains pages page × lacks page
+-- the bus had each of these pages, and has marked the use of each
+abbrev pub Used : (has marks : ℕ → Type 0) → List ℕ → Type 0
+Used has marks pages = All has pages × All marks pages
+
+-- the pages that the instruction uses were used; or the bus lacked the one of them that is absent
+abbrev pub UsesPages : (has marks lacks : ℕ → Type 0) → List ℕ → Outcome → Type 0
+UsesPages has marks lacks pages Done = Used has marks pages
+UsesPages has marks lacks pages Ecall = Used has marks pages
+UsesPages has marks lacks pages (Trap cause value) = Used has marks pages
+UsesPages has marks lacks pages (Absent page) = Contains pages page × lacks page
 
 abbrev pub IsPresent : Outcome → Type 0
 IsPresent Done = Unit {0}

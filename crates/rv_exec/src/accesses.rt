@@ -29,7 +29,7 @@ pub fn perform_load<B: Bus>(
     ensures registers_stay { UnlessDone result (regs.new ≡ regs.old) }
     ensures memory_stays { UnlessDone result (B.memory bus.new ≡ B.memory bus.old) }
     ensures pages { let used = load_pages (B.memory bus.old) kind address in
-        UsesPages (B.has bus.old) (B.lacks bus.old) used result }
+        UsesPages (B.has bus.old) (B.marks bus.new) (B.lacks bus.old) used result }
     ensures kept { B.keeps bus.old bus.new }
 {
     match bus.load(width_of_load(kind), address) {
@@ -54,7 +54,7 @@ pub fn perform_store<B: Bus>(
     ensures registers_stay { UnlessDone result (regs.new ≡ regs.old) }
     ensures memory_stays { UnlessDone result (B.memory bus.new ≡ B.memory bus.old) }
     ensures pages { let used = store_pages (B.memory bus.old) kind address word in
-        UsesPages (B.has bus.old) (B.lacks bus.old) used result }
+        UsesPages (B.has bus.old) (B.marks bus.new) (B.lacks bus.old) used result }
     ensures kept { B.keeps bus.old bus.new }
 {
     match bus.store(width_of_store(kind), address, word) {
@@ -80,7 +80,7 @@ pub fn perform_amo<B: Bus>(
     ensures registers_stay { UnlessDone result (regs.new ≡ regs.old) }
     ensures memory_stays { UnlessDone result (B.memory bus.new ≡ B.memory bus.old) }
     ensures pages { let used = amo_pages (B.memory bus.old) kind address operand in
-        UsesPages (B.has bus.old) (B.lacks bus.old) used result }
+        UsesPages (B.has bus.old) (B.marks bus.new) (B.lacks bus.old) used result }
     ensures kept { B.keeps bus.old bus.new }
 {
     match bus.amo(address, kind, operand) {

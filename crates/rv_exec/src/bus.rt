@@ -34,11 +34,14 @@ pub trait Bus {
     /// The memory that the bus stands for.
     ghost memory: { Self → Memory };
 
-    /// The pages that it may answer absent.
+    /// The pages that it may answer absent: those that it does not hold, mapped or not.
     ghost lacks: { Self → ℕ → Type 0 };
 
     /// The pages that it may answer from.
     ghost has: { Self → ℕ → Type 0 };
+
+    /// The pages whose use it has marked.
+    ghost marks: { Self → ℕ → Type 0 };
 
     /// What holds of the bus before and after any calls; `memory` aside, all that stays.
     ghost keeps: { Self → Self → Type 0 };
@@ -46,14 +49,14 @@ pub trait Bus {
     /// The word at an address, to be run.
     fn fetch(&mut self, address: u32) -> Result<u32, BusError>
         ensures answer { let expected = fetched (memory self.old) address in
-            Answers (has self.old) (lacks self.old) address expected result }
+            Answers (has self.old) (marks self.new) (lacks self.old) address expected result }
         ensures same { memory self.new ≡ memory self.old }
         ensures kept { keeps self.old self.new };
 
     /// The number at an address, not extended.
     fn load(&mut self, width: Width, address: u32) -> Result<u32, BusError>
         ensures answer { let expected = loaded (memory self.old) width address in
-            Answers (has self.old) (lacks self.old) address expected result }
+            Answers (has self.old) (marks self.new) (lacks self.old) address expected result }
         ensures same { memory self.new ≡ memory self.old }
         ensures kept { keeps self.old self.new };
 
@@ -61,7 +64,7 @@ pub trait Bus {
     fn store(&mut self, width: Width, address: u32, word: u32) -> Result<(), BusError>
         ensures answer { let expected = stored (memory self.old) width address word in
             let after = with_answer (λ _. memory self.new) result in
-            Answers (has self.old) (lacks self.old) address expected after }
+            Answers (has self.old) (marks self.new) (lacks self.old) address expected after }
         ensures refused { OnErr result (memory self.new ≡ memory self.old) }
         ensures kept { keeps self.old self.new };
 
@@ -70,7 +73,7 @@ pub trait Bus {
         ensures answer { let update = λ (old : ℕ). amo_result operation old operand in
             let expected = replaced (memory self.old) update address in
             let after = with_answer (λ old. (old, memory self.new)) result in
-            Answers (has self.old) (lacks self.old) address expected after }
+            Answers (has self.old) (marks self.new) (lacks self.old) address expected after }
         ensures refused { OnErr result (memory self.new ≡ memory self.old) }
         ensures kept { keeps self.old self.new };
 
@@ -79,7 +82,7 @@ pub trait Bus {
         requires within { page_offset address + length to.old ≤ 4096 }
         ensures answer { let expected = copied_out (memory self.old) address (length to.old) in
             let copied = with_answer (λ _. to.new) result in
-            Answers (has self.old) (lacks self.old) address expected copied }
+            Answers (has self.old) (marks self.new) (lacks self.old) address expected copied }
         ensures refused { OnErr result (to.new ≡ to.old) }
         ensures same { memory self.new ≡ memory self.old }
         ensures kept { keeps self.old self.new };
@@ -89,11 +92,11 @@ pub trait Bus {
         requires within { page_offset address + length from.now ≤ 4096 }
         ensures answer { let expected = copied_in (memory self.old) address from.now in
             let after = with_answer (λ _. memory self.new) result in
-            Answers (has self.old) (lacks self.old) address expected after }
+            Answers (has self.old) (marks self.new) (lacks self.old) address expected after }
         ensures refused { OnErr result (memory self.new ≡ memory self.old) }
         ensures kept { keeps self.old self.new };
 
-    // `keeps` is a preorder, and no page is lacked or had after it that was not before.
+    // `keeps` is a preorder; no page is lacked or had after it that was not before, and what is marked stays so.
     ghost keeps_itself: { (bus : Self) → keeps bus bus };
 
     ghost keeps_on: { (before between after : Self) → keeps before between → keeps between after → keeps before after };
@@ -101,4 +104,6 @@ pub trait Bus {
     ghost lacked_before: { (before after : Self) (page : ℕ) → keeps before after → lacks after page → lacks before page };
 
     ghost had_before: { (before after : Self) (page : ℕ) → keeps before after → has after page → has before page };
+
+    ghost marked_on: { (before after : Self) (page : ℕ) → keeps before after → marks before page → marks after page };
 }

@@ -24,7 +24,7 @@ pub fn execute<B: Bus>(regs: &mut Regs, bus: &mut B) -> Outcome
 
     // Absent only for a page that the instruction uses and the bus lacks; else the bus has all that it used.
     ensures pages { let used = pages_used regs.old (B.memory bus.old) in
-        UsesPages (B.has bus.old) (B.lacks bus.old) used result }
+        UsesPages (B.has bus.old) (B.marks bus.new) (B.lacks bus.old) used result }
     ensures kept { B.keeps bus.old bus.new }
 {
     let pc = regs.pc();
@@ -47,7 +47,7 @@ fn perform<B: Bus>(regs: &mut Regs, bus: &mut B, insn: &Insn) -> Outcome
     ensures registers_stay { UnlessDone result (regs.new ≡ regs.old) }
     ensures memory_stays { UnlessDone result (B.memory bus.new ≡ B.memory bus.old) }
     ensures pages { let used = data_pages regs.old (B.memory bus.old) insn.now in
-        UsesPages (B.has bus.old) (B.lacks bus.old) used result }
+        UsesPages (B.has bus.old) (B.marks bus.new) (B.lacks bus.old) used result }
     ensures kept { B.keeps bus.old bus.new }
 {
     match *insn {

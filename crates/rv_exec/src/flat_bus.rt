@@ -15,6 +15,8 @@ impl Bus for FlatMemory {
 
     ghost has = { λ _ _. Unit {0} };
 
+    ghost marks = { λ _ _. Unit {0} };
+
     ghost keeps = { λ _ _. Unit {0} };
 
     ghost keeps_itself = { λ _. tt };
@@ -24,6 +26,8 @@ impl Bus for FlatMemory {
     ghost lacked_before = { λ _ _ _ _ lacked. lacked };
 
     ghost had_before = { λ _ _ _ _ had. had };
+
+    ghost marked_on = { λ _ _ _ _ marked. marked };
 
     #[inline]
     fn fetch(&mut self, address: u32) -> Result<u32, BusError> {

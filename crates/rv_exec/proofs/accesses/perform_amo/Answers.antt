@@ -2,18 +2,18 @@
 use Rattle.std.proofs.Common.{◌≡◌, Err}
 use Rattle.page_memory.specs.Memory.{replaced}
 use Rattle.rv_exec.specs.Amo.{amo_result}
-use Rattle.rv_exec.specs.AccessLaws.{amo_has, amo_needs_none}
+use Rattle.rv_exec.specs.AccessLaws.{amo_used, amo_uses_none}
 use Rattle.rv_exec.proofs.accesses.perform_amo.Goals as goal
 
 pub returns-in-Ok-clause-pages : goal.returns-in-Ok-clause-pages
 returns-in-Ok-clause-pages g c =
     let memory = g.B.Bus.memory c.args.bus.now in
     rw c.compute.ensures.done
-    (amo_has (g.B.Bus.has c.args.bus.now) memory c.args.kind c.args.address c.args.operand (c.in-Ok.old, g.B.Bus.memory c.amo.new.self) c.in-Ok.ensures.answer.0 c.in-Ok.ensures.answer.1)
+    (amo_used (g.B.Bus.has c.args.bus.now) (g.B.Bus.marks c.amo.new.self) memory c.args.kind c.args.address c.args.operand (c.in-Ok.old, g.B.Bus.memory c.amo.new.self) c.in-Ok.ensures.answer.0 c.in-Ok.ensures.answer.1.0 c.in-Ok.ensures.answer.1.1)
 
 pub returns-in-Err-Fault-clause-pages : goal.returns-in-Err-Fault-clause-pages
 returns-in-Err-Fault-clause-pages g c =
     let memory = g.B.Bus.memory c.args.bus.now in
     let answer : replaced memory (λ old. amo_result c.args.kind old c.args.operand) c.args.address ≡ Err c.in-Err-Fault.fault =
     rw (c.in-Err-Fault.field-0-is) at c.in-Err-Fault.ensures.answer in
-    amo_needs_none (g.B.Bus.has c.args.bus.now) memory c.args.kind c.args.address c.args.operand c.in-Err-Fault.fault answer
+    amo_uses_none (g.B.Bus.has c.args.bus.now) (g.B.Bus.marks c.amo.new.self) memory c.args.kind c.args.address c.args.operand c.in-Err-Fault.fault answer

@@ -2,7 +2,7 @@
 use Rattle.std.proofs.Common.{◌≡◌, Ok, Err}
 use Rattle.page_memory.specs.Memory.{stored}
 use Rattle.rv_exec.specs.Access.{store_width}
-use Rattle.rv_exec.specs.AccessLaws.{store_has, store_needs_none}
+use Rattle.rv_exec.specs.AccessLaws.{store_used, store_uses_none}
 use Rattle.rv_exec.proofs.accesses.perform_store.Goals as goal
 
 pub returns-in-Ok-clause-pages : goal.returns-in-Ok-clause-pages
@@ -11,11 +11,11 @@ returns-in-Ok-clause-pages g c =
     let changed = g.B.Bus.memory c.store.new.self in
     let answer : stored memory (store_width c.args.kind) c.args.address c.args.word ≡ Ok changed = rw (← c.width_of_store.ensures) c.in-Ok.ensures.answer.0 in
     rw c.advance.ensures.done
-    (store_has (g.B.Bus.has c.args.bus.now) memory c.args.kind c.args.address c.args.word changed answer c.in-Ok.ensures.answer.1)
+    (store_used (g.B.Bus.has c.args.bus.now) (g.B.Bus.marks c.store.new.self) memory c.args.kind c.args.address c.args.word changed answer c.in-Ok.ensures.answer.1.0 c.in-Ok.ensures.answer.1.1)
 
 pub returns-in-Err-Fault-clause-pages : goal.returns-in-Err-Fault-clause-pages
 returns-in-Err-Fault-clause-pages g c =
     let memory = g.B.Bus.memory c.args.bus.now in
     let answer : stored memory (store_width c.args.kind) c.args.address c.args.word ≡ Err c.in-Err-Fault.fault =
     rw (← c.width_of_store.ensures) (rw (c.in-Err-Fault.field-0-is) at c.in-Err-Fault.ensures.answer) in
-    store_needs_none (g.B.Bus.has c.args.bus.now) memory c.args.kind c.args.address c.args.word c.in-Err-Fault.fault answer
+    store_uses_none (g.B.Bus.has c.args.bus.now) (g.B.Bus.marks c.store.new.self) memory c.args.kind c.args.address c.args.word c.in-Err-Fault.fault answer

@@ -3,7 +3,7 @@ use Rattle.std.proofs.Common.{◌≡◌, sym, ap, ◌∙◌, subst, Ok, Err, IsO
 use Rattle.page_memory.specs.Words.{page_number}
 use Rattle.page_memory.specs.Memory.{fetched}
 use Rattle.rv_exec.specs.Line.{line, insn_line}
-use Rattle.rv_exec.specs.LineLaws.{line_insn, line_illegal, line_fault, uses_insn, all_illegal, all_fault, contains_fetch}
+use Rattle.rv_exec.specs.LineLaws.{line_insn, line_illegal, line_fault, uses_insn, used_illegal, used_fault, contains_fetch}
 use Rattle.rv_exec.specs.Outcomes.{Follows}
 use Rattle.rv_exec.proofs.execution.execute.Goals as goal
 
@@ -22,13 +22,16 @@ returns-in-Some-clause-pages g c =
     let regs = c.args.regs.now in
     let memory = g.B.Bus.memory c.args.bus.now in
     let fetch : fetched memory regs.pc ≡ Ok c.in-Ok.word = rw (← c.pc-pc.ensures) c.in-Ok.ensures.answer.0 in
-    let first : g.B.Bus.has c.args.bus.now (page_number regs.pc) = rw (← c.pc-pc.ensures) c.in-Ok.ensures.answer.1 in
-    uses_insn (g.B.Bus.has c.args.bus.now) (g.B.Bus.lacks c.args.bus.now) (g.B.Bus.has c.fetch.new.self) (g.B.Bus.lacks c.fetch.new.self)
+    let first : g.B.Bus.has c.args.bus.now (page_number regs.pc) = rw (← c.pc-pc.ensures) c.in-Ok.ensures.answer.1.0 in
+    let mark : g.B.Bus.marks c.fetch.new.self (page_number regs.pc) = rw (← c.pc-pc.ensures) c.in-Ok.ensures.answer.1.1 in
+    uses_insn (g.B.Bus.has c.args.bus.now) (g.B.Bus.marks c.fetch.new.self) (g.B.Bus.lacks c.args.bus.now)
+    (g.B.Bus.has c.fetch.new.self) (g.B.Bus.marks c.perform.new.bus) (g.B.Bus.lacks c.fetch.new.self)
     regs memory (g.B.Bus.memory c.fetch.new.self) c.in-Ok.word c.in-Some.insn c.perform.result
     fetch (sym c.in-Some.ensures.value) c.in-Ok.ensures.same
     (λ page h. g.met.B.Bus.had_before _ _ page c.in-Ok.ensures.kept h)
     (λ page h. g.met.B.Bus.lacked_before _ _ page c.in-Ok.ensures.kept h)
-    first c.perform.ensures.pages
+    (λ page h. g.met.B.Bus.marked_on _ _ page c.perform.ensures.kept h)
+    first mark c.perform.ensures.pages
 
 pub returns-in-None-clause-line : goal.returns-in-None-clause-line
 returns-in-None-clause-line g c =
@@ -38,8 +41,9 @@ returns-in-None-clause-line g c =
 pub returns-in-None-clause-pages : goal.returns-in-None-clause-pages
 returns-in-None-clause-pages g c =
     let fetch : fetched (g.B.Bus.memory c.args.bus.now) c.args.regs.now.pc ≡ Ok c.in-Ok.word = rw (← c.pc-pc.ensures) c.in-Ok.ensures.answer.0 in
-    let first : g.B.Bus.has c.args.bus.now (page_number c.args.regs.now.pc) = rw (← c.pc-pc.ensures) c.in-Ok.ensures.answer.1 in
-    all_illegal (g.B.Bus.has c.args.bus.now) c.args.regs.now (g.B.Bus.memory c.args.bus.now) c.in-Ok.word fetch (sym c.in-None.ensures.value) first
+    let first : g.B.Bus.has c.args.bus.now (page_number c.args.regs.now.pc) = rw (← c.pc-pc.ensures) c.in-Ok.ensures.answer.1.0 in
+    let mark : g.B.Bus.marks c.fetch.new.self (page_number c.args.regs.now.pc) = rw (← c.pc-pc.ensures) c.in-Ok.ensures.answer.1.1 in
+    used_illegal (g.B.Bus.has c.args.bus.now) (g.B.Bus.marks c.fetch.new.self) c.args.regs.now (g.B.Bus.memory c.args.bus.now) c.in-Ok.word fetch (sym c.in-None.ensures.value) first mark
 
 pub returns-in-Err-Fault-clause-line : goal.returns-in-Err-Fault-clause-line
 returns-in-Err-Fault-clause-line g c =
@@ -51,7 +55,7 @@ pub returns-in-Err-Fault-clause-pages : goal.returns-in-Err-Fault-clause-pages
 returns-in-Err-Fault-clause-pages g c =
     let fetch : fetched (g.B.Bus.memory c.args.bus.now) c.args.regs.now.pc ≡ Err c.in-Err-Fault.fault =
     rw (← c.pc-pc.ensures) (rw (c.in-Err-Fault.field-0-is) at c.in-Err-Fault.ensures.answer) in
-    all_fault (g.B.Bus.has c.args.bus.now) c.args.regs.now (g.B.Bus.memory c.args.bus.now) c.in-Err-Fault.fault fetch
+    used_fault (g.B.Bus.has c.args.bus.now) (g.B.Bus.marks c.fetch.new.self) c.args.regs.now (g.B.Bus.memory c.args.bus.now) c.in-Err-Fault.fault fetch
 
 pub returns-in-Err-Absent-clause-pages : goal.returns-in-Err-Absent-clause-pages
 returns-in-Err-Absent-clause-pages g c =

@@ -1,15 +1,24 @@
 -- What a step does, and the pages that it uses, by its line.
-use Rattle.std.specs.Prelude.{◌≡◌, ℕ, [], ◌++◌}
-use Rattle.std.proofs.Common.{ap}
+use Rattle.std.specs.Prelude.{◌≡◌, ℕ, suc, ◌+◌, List, [], ◌∷◌, ◌++◌, length, Result, Ok, Err, All, Contains}
+use Rattle.std.proofs.Common.{arith, ap, sym, subst, ◌∙◌, append-nil, length-append}
+use Rattle.std.proofs.lemmas.List.{get_or_append_left, get_or-append-add}
 use Rattle.page_memory.specs.Memory.{Memory}
 use Rattle.rv_exec.specs.declared.cause.Cause.{Cause}
 use Rattle.rv_exec.specs.Registers.{Registers}
 use Rattle.rv_exec.specs.Line as line
+use Rattle.rv_exec.specs.LineLaws.{all_front}
+use Rattle.rv_exec.specs.Outcomes.{Used}
 use Rattle.rv_exec.specs.Uses.{pages_used}
+use Rattle.env_calls.specs.declared.served.Served.{Served}
+use Rattle.env_calls.specs.declared.served.Served.TheVariants as served
+use Rattle.env_calls.specs.declared.served.ServeStop.{ServeStop}
+use Rattle.env_calls.specs.declared.served.ServeStop.TheVariants.{Absent, NoMemory}
 use Rattle.env_calls.specs.Environment.{Environment}
-use Rattle.env_calls.specs.Effect.{Runs, Traps}
+use Rattle.env_calls.specs.Effect.{Effect, Runs, Traps}
 use Rattle.env_calls.specs.Calls.{call, call_pages}
 use Rattle.env_calls.specs.Step.{effect, effect_of, step_pages, served_pages}
+use Rattle.env_calls.specs.Serving.{Serves, UsesPages}
+use Rattle.env_calls.specs.Stepping.{IsEffect, served_step}
 
 pub effect_next : (hart : ℕ) (regs : Registers) (env : Environment) (memory : Memory) (regs' : Registers) (memory' : Memory)
     → line.line regs memory ≡ line.Next regs' memory' → effect hart regs env memory ≡ Runs regs' env memory'
@@ -26,16 +35,87 @@ pub effect_traps : (hart : ℕ) (regs : Registers) (env : Environment) (memory :
 unfolding effect
 effect_traps hart regs env memory cause value e = ap (effect_of hart regs env memory) e
 
-pub pages_call : (regs : Registers) (memory : Memory) → line.line regs memory ≡ line.Call → step_pages regs memory ≡ pages_used regs memory ++ call_pages regs memory
+-- ---- the pages
+
+pages_call : (regs : Registers) (memory : Memory) → line.line regs memory ≡ line.Call → step_pages regs memory ≡ pages_used regs memory ++ call_pages regs memory
 unfolding step_pages
 pages_call regs memory e = ap (λ l. pages_used regs memory ++ served_pages regs memory l) e
 
-pub pages_next : (regs : Registers) (memory : Memory) (regs' : Registers) (memory' : Memory)
-    → line.line regs memory ≡ line.Next regs' memory' → step_pages regs memory ≡ pages_used regs memory ++ []
+pages_next : (regs : Registers) (memory : Memory) (regs' : Registers) (memory' : Memory)
+    → line.line regs memory ≡ line.Next regs' memory' → step_pages regs memory ≡ pages_used regs memory
 unfolding step_pages
-pages_next regs memory regs' memory' e = ap (λ l. pages_used regs memory ++ served_pages regs memory l) e
+pages_next regs memory regs' memory' e =
+    ap (λ l. pages_used regs memory ++ served_pages regs memory l) e ∙ append-nil (pages_used regs memory)
 
-pub pages_traps : (regs : Registers) (memory : Memory) (cause : Cause) (value : ℕ)
-    → line.line regs memory ≡ line.Traps cause value → step_pages regs memory ≡ pages_used regs memory ++ []
+pages_traps : (regs : Registers) (memory : Memory) (cause : Cause) (value : ℕ)
+    → line.line regs memory ≡ line.Traps cause value → step_pages regs memory ≡ pages_used regs memory
 unfolding step_pages
-pages_traps regs memory cause value e = ap (λ l. pages_used regs memory ++ served_pages regs memory l) e
+pages_traps regs memory cause value e =
+    ap (λ l. pages_used regs memory ++ served_pages regs memory l) e ∙ append-nil (pages_used regs memory)
+
+pub used_next : (has marks : ℕ → Type 0) (regs : Registers) (memory : Memory) (regs' : Registers) (memory' : Memory)
+    → line.line regs memory ≡ line.Next regs' memory' → Used has marks (pages_used regs memory) → Used has marks (step_pages regs memory)
+used_next has marks regs memory regs' memory' e used = subst (Used has marks) (sym (pages_next regs memory regs' memory' e)) used
+
+pub used_traps : (has marks : ℕ → Type 0) (regs : Registers) (memory : Memory) (cause : Cause) (value : ℕ)
+    → line.line regs memory ≡ line.Traps cause value → Used has marks (pages_used regs memory) → Used has marks (step_pages regs memory)
+used_traps has marks regs memory cause value e used = subst (Used has marks) (sym (pages_traps regs memory cause value e)) used
+
+contains_before : (page : ℕ) (pages others : List ℕ) → Contains pages page → Contains (pages ++ others) page
+contains_before page pages others h = (h.0, omega (arith, h.1, length-append pages others), get_or_append_left pages others page h.0 h.1 ∙ h.2)
+
+contains_after : (page : ℕ) (others pages : List ℕ) → Contains pages page → Contains (others ++ pages) page
+contains_after page others pages h = (length others + h.0, omega (arith, h.1, length-append others pages), get_or-append-add others pages h.0 page ∙ h.2)
+
+-- the step needs the pages of its instruction, whatever becomes of it
+pub step_contains : (regs : Registers) (memory : Memory) (page : ℕ) → Contains (pages_used regs memory) page → Contains (step_pages regs memory) page
+unfolding step_pages
+step_contains regs memory page h = contains_before page (pages_used regs memory) (served_pages regs memory (line.line regs memory)) h
+
+all_append : (P : ℕ → Type 0) (xs ys : List ℕ) → All P xs → All P ys → All P (xs ++ ys)
+all_append P [] ys a b = b
+all_append P (x ∷ xs) ys a b = all_front P x (xs ++ ys) (a 0 x (omega arith)) (all_append P xs ys (λ k d h. a (suc k) d (omega arith)) b)
+
+used_both : (has marks has' marks' : ℕ → Type 0) (front back : List ℕ) → ((page : ℕ) → has' page → has page) → ((page : ℕ) → marks page → marks' page)
+    → Used has marks front → Used has' marks' back → Used has marks' (front ++ back)
+used_both has marks has' marks' front back had marked first rest =
+    (all_append has front back first.0 (λ k d h. had _ (rest.0 k d h)), all_append marks' front back (λ k d h. marked _ (first.1 k d h)) rest.1)
+
+call_pages_after : (regs regs' : Registers) (memory memory' : Memory) → line.line regs memory ≡ line.Call → regs' ≡ regs → memory' ≡ memory
+    → step_pages regs memory ≡ pages_used regs memory ++ call_pages regs' memory'
+call_pages_after regs regs' memory memory' e same_regs same_memory =
+    let used = pages_used regs memory in
+    pages_call regs memory e ∙ ap (λ r. used ++ call_pages r memory) (sym same_regs) ∙ ap (λ m. used ++ call_pages regs' m) (sym same_memory)
+
+-- the pages of a step that makes a call, where the bus that the instruction left was asked for the call's
+pub used_call : (has marks has' marks' : ℕ → Type 0) (regs regs' : Registers) (memory memory' : Memory)
+    → line.line regs memory ≡ line.Call → regs' ≡ regs → memory' ≡ memory → ((page : ℕ) → has' page → has page) → ((page : ℕ) → marks page → marks' page)
+    → Used has marks (pages_used regs memory) → Used has' marks' (call_pages regs' memory') → Used has marks' (step_pages regs memory)
+used_call has marks has' marks' regs regs' memory memory' e same_regs same_memory had marked first rest =
+    subst (Used has marks') (sym (call_pages_after regs regs' memory memory' e same_regs same_memory))
+    (used_both has marks has' marks' (pages_used regs memory) (call_pages regs' memory') had marked first rest)
+
+-- the same where the call stopped
+pub stopped_call : (A B : Type 0) (has marks lacks has' marks' lacks' : ℕ → Type 0) (regs regs' : Registers) (memory memory' : Memory) (stop : ServeStop)
+    → line.line regs memory ≡ line.Call → regs' ≡ regs → memory' ≡ memory
+    → ((page : ℕ) → has' page → has page) → ((page : ℕ) → lacks' page → lacks page) → ((page : ℕ) → marks page → marks' page)
+    → Used has marks (pages_used regs memory) → UsesPages {A = A} has' marks' lacks' (call_pages regs' memory') (Err stop)
+    → UsesPages {A = B} has marks' lacks (step_pages regs memory) (Err stop)
+stopped_call A B has marks lacks has' marks' lacks' regs regs' memory memory' stop e same_regs same_memory had lacked marked first rest =
+    elim stop as (λ s. UsesPages {A = A} has' marks' lacks' (call_pages regs' memory') (Err s) → UsesPages {A = B} has marks' lacks (step_pages regs memory) (Err s)) [
+      | Absent page ↦ λ more. (subst (λ pages. Contains pages page) (sym (call_pages_after regs regs' memory memory' e same_regs same_memory))
+      (contains_after page (pages_used regs memory) (call_pages regs' memory') more.0), lacked page more.1)
+      | NoMemory ↦ λ more. used_call has marks has' marks' regs regs' memory memory' e same_regs same_memory had marked first more
+    ] rest
+
+-- ---- what became of the hart
+
+pub is_effect : (e : Effect) (served : Served) (regs : Registers) (env : Environment) (memory : Memory)
+    → Serves e served regs env memory → IsEffect e (served_step served) regs env memory
+is_effect e served.Continue regs env memory h = h
+is_effect e served.Yield regs env memory h = h
+is_effect e served.HartDone regs env memory h = h
+is_effect e (served.Ended status) regs env memory h = h
+is_effect e (served.Spawned hart first) regs env memory h = h
+
+pub ruleset stepping = (effect_next, effect_call, effect_traps, used_next, used_traps, step_contains)

@@ -1,6 +1,7 @@
 ghost use Rattle.std.specs.Prelude.{◌≡◌};
 ghost use Rattle.env_calls.specs.declared.served.ServeStop.TheVariants.{NoMemory};
 
+use rv_exec::Regs;
 use std::alloc::AllocError;
 use thiserror::Error;
 
@@ -9,8 +10,14 @@ use thiserror::Error;
 pub enum Served {
     /// It goes on.
     Continue,
+    /// It goes on, and lets others have their turn.
+    Yield,
+    /// It is done; another hart of its process is live.
+    HartDone,
     /// Its process ends with this exit status.
     Ended(u32),
+    /// It goes on, and a new hart with this number and these registers is started.
+    Spawned { hart: u32, regs: Regs },
 }
 
 /// Why a call could not be served yet. Nothing has changed.

@@ -1,9 +1,10 @@
-ghost use Rattle.std.specs.Prelude.{◌≡◌, ℕ, ◌+◌, ◌≤◌, length, OnErr};
+ghost use Rattle.std.specs.Prelude.{◌≡◌, ℕ, ◌+◌, ◌^◌, ◌<◌, ◌≤◌, length, OnOk, OnErr, IsErr};
 ghost use Rattle.page_memory.specs.Words.{page_offset};
-ghost use Rattle.page_memory.specs.Memory.{Memory, fetched, loaded, stored, replaced, copied_out, copied_in};
+ghost use Rattle.page_memory.specs.Memory.{Memory, fetched, loaded, stored, replaced, copied_out, copied_in, with_zeroed};
 
 use page_memory::{MemoryFault, Width};
 use rv_isa::AmoKind;
+use std::alloc::AllocError;
 
 /// Why a bus refuses an access. It has changed neither memory nor what a `&mut` slice holds.
 #[derive(Clone, Copy, Debug, PartialEq, Eq)]
@@ -94,6 +95,15 @@ pub trait Bus {
             let after = with_answer (λ _. memory self.new) result in
             Answers (has self.old) (marks self.new) (lacks self.old) address expected after }
         ensures refused { OnErr result (memory self.new ≡ memory self.old) }
+        ensures kept { keeps self.old self.new };
+
+    /// Maps pages of zeros that may be read and written at so many page numbers from the first on, wherever
+    /// none is mapped: all of them, or none where memory is wanting.
+    fn map_zeroed(&mut self, first: u32, count: u32) -> Result<(), AllocError>
+        requires within { first + count ≤ 2 ^ 20 }
+        ensures mapped { OnOk result (memory self.new ≡ with_zeroed first count (memory self.old)) }
+        ensures refused { OnErr result (memory self.new ≡ memory self.old) }
+        ensures some { IsErr result → 0 < count }
         ensures kept { keeps self.old self.new };
 
     // `keeps` is a preorder; no page is lacked or had after it that was not before, and what is marked stays so.

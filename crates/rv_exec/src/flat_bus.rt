@@ -6,6 +6,7 @@ use crate::amo::amo_word;
 use crate::bus::{Bus, BusError};
 use page_memory::{FlatMemory, MemoryFault, Width};
 use rv_isa::AmoKind;
+use std::alloc::AllocError;
 
 // Flat memory is a bus of its own: every page is there.
 impl Bus for FlatMemory {
@@ -55,6 +56,10 @@ impl Bus for FlatMemory {
 
     fn copy_in(&mut self, address: u32, from: &[u8]) -> Result<(), BusError> {
         Ok(FlatMemory::copy_in(self, address, from)?)
+    }
+
+    fn map_zeroed(&mut self, first: u32, count: u32) -> Result<(), AllocError> {
+        FlatMemory::map_zeroed(self, first, count)
     }
 }
 

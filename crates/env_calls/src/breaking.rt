@@ -1,0 +1,58 @@
+//! The call that moves the break.
+ghost use Rattle.std.specs.Prelude.{◌≡◌, ◌+◌, ◌*◌, ◌^◌, ◌<◌, ◌≤◌, true, Err, IfOk, OnErr};
+ghost use Rattle.rv_exec.specs.Registers.{register};
+ghost use Rattle.env_calls.specs.Calls.{move_break, moved_break, pages_to_add, a0};
+ghost use Rattle.env_calls.specs.Serving.{Serves, TakesMemory};
+
+use crate::answering::{A0, answer};
+use crate::env::Env;
+use crate::served::{ServeStop, Served};
+use rv_exec::{Bus, Regs};
+
+/// Serves a request to move the break: the break that stands is the answer.
+#[tactic(auto, unfolding(crate::specs::Calls::move_break, crate::specs::Calls::answers))]
+pub fn serve_break<B: Bus>(env: &mut Env, regs: &mut Regs, bus: &mut B) -> Result<Served, ServeStop>
+    ensures served { let effect = move_break regs.old env.old (B.memory bus.old) (register regs.old a0) in
+        IfOk result (λ served. Serves effect served regs.new env.new (B.memory bus.new)) }
+    ensures regs_stay { OnErr result (regs.new ≡ regs.old) }
+    ensures env_stays { OnErr result (env.new ≡ env.old) }
+    ensures memory_stays { OnErr result (B.memory bus.new ≡ B.memory bus.old) }
+    ensures stop { OnErr result (result ≡ Err ServeStop.NoMemory) }
+    ensures no_memory { let effect = move_break regs.old env.old (B.memory bus.old) (register regs.old a0) in
+        result ≡ Err ServeStop.NoMemory → TakesMemory env.old effect }
+    ensures kept { B.keeps bus.old bus.new }
+{
+    let request = regs.x(A0);
+    if env.grants(request) {
+        grant_break(env, regs, bus, request)
+    } else {
+        Ok(answer(regs, env.break_at()))
+    }
+}
+
+/// Moves the break to a request that is granted.
+#[tactic(auto, unfolding(crate::specs::Calls::answers))]
+fn grant_break<B: Bus>(
+    env: &mut Env,
+    regs: &mut Regs,
+    bus: &mut B,
+    request: u32,
+) -> Result<Served, ServeStop>
+    requires above { env.old.break_at < request }
+    requires low { request ≤ 7 * 2 ^ 28 }
+    requires few { env.old.pages + pages_to_add env.old request ≤ 4096 }
+    ensures served { let effect = moved_break regs.old env.old (B.memory bus.old) request true in
+        IfOk result (λ served. Serves effect served regs.new env.new (B.memory bus.new)) }
+    ensures regs_stay { OnErr result (regs.new ≡ regs.old) }
+    ensures env_stays { OnErr result (env.new ≡ env.old) }
+    ensures memory_stays { OnErr result (B.memory bus.new ≡ B.memory bus.old) }
+    ensures stop { OnErr result (result ≡ Err ServeStop.NoMemory) }
+    ensures no_memory { let effect = moved_break regs.old env.old (B.memory bus.old) request true in
+        result ≡ Err ServeStop.NoMemory → TakesMemory env.old effect }
+    ensures kept { B.keeps bus.old bus.new }
+{
+    let added = env.pages_to_add(request);
+    bus.map_zeroed(env.break_page(), added)?;
+    env.set_break(request, added);
+    Ok(answer(regs, request))
+}

@@ -1,0 +1,79 @@
+ghost use Rattle.std.specs.Prelude.{◌≡◌, Err, IfOk, OnErr};
+ghost use Rattle.env_calls.specs.Step.{effect, step_pages};
+ghost use Rattle.env_calls.specs.Serving.{TakesMemory, UsesPages};
+ghost use Rattle.env_calls.specs.Stepping.{IsEffect, Stays, served_step};
+
+use crate::env::Env;
+use crate::served::{ServeStop, Served};
+use crate::serving::serve;
+use rv_exec::{Bus, Cause, Outcome, Regs, execute};
+
+/// What became of a hart, and of its process, by one step.
+#[derive(Clone, Copy, Debug, PartialEq, Eq)]
+pub enum Stepped {
+    /// The hart goes on.
+    Ran,
+    /// The hart goes on, and lets others have their turn.
+    Yielded,
+    /// The hart goes on, and a new hart with this number and these registers is started.
+    Spawned { hart: u32, regs: Regs },
+    /// The hart is done; another hart of its process is live.
+    HartDone,
+    /// The process ends with this exit status.
+    Exited(u32),
+    /// The instruction traps, with its cause and trap value, and the process ends. Nothing else has changed.
+    Trapped(Cause, u32),
+}
+
+/// Takes one whole step of a hart: its next instruction, and the environment call that it makes.
+///
+/// # Errors
+///
+/// `Absent`, with its number, where a page that the step uses has to be brought in first; `NoMemory` where
+/// the output or the mapped pages could not grow. Nothing has changed.
+#[inline]
+#[tactic(auto, using(crate::specs::StepLaws::stepping))]
+pub fn step<B: Bus>(
+    env: &mut Env,
+    hart: u32,
+    regs: &mut Regs,
+    bus: &mut B,
+) -> Result<Stepped, ServeStop>
+    ensures stepped { let effect = effect hart regs.old env.old (B.memory bus.old) in
+        IfOk result (λ stepped. IsEffect effect stepped regs.new env.new (B.memory bus.new)) }
+    ensures regs_stay { Stays result (regs.new ≡ regs.old) }
+    ensures env_stays { Stays result (env.new ≡ env.old) }
+    ensures memory_stays { Stays result (B.memory bus.new ≡ B.memory bus.old) }
+
+    // Absent only for a page that the step uses and the bus lacks; else the bus had all that it used, and marked them.
+    ensures pages { let used = step_pages regs.old (B.memory bus.old) in
+        UsesPages (B.has bus.old) (B.marks bus.new) (B.lacks bus.old) used result }
+
+    // Only output and new pages take memory.
+    ensures no_memory { result ≡ Err ServeStop.NoMemory → TakesMemory env.old (effect hart regs.old env.old (B.memory bus.old)) }
+    ensures kept { B.keeps bus.old bus.new }
+{
+    match execute(regs, bus) {
+        Outcome::Done => Ok(Stepped::Ran),
+        Outcome::Ecall => match serve(env, hart, regs, bus) {
+            Ok(served) => Ok(step_of(served)),
+            Err(stop) => Err(stop),
+        },
+        Outcome::Trap(cause, value) => Ok(Stepped::Trapped(cause, value)),
+        Outcome::Absent(page) => Err(ServeStop::Absent(page)),
+    }
+}
+
+/// A step whose call was served.
+#[inline]
+fn step_of(served: Served) -> Stepped
+    ensures { result ≡ served_step served }
+{
+    match served {
+        Served::Continue => Stepped::Ran,
+        Served::Yield => Stepped::Yielded,
+        Served::HartDone => Stepped::HartDone,
+        Served::Ended(status) => Stepped::Exited(status),
+        Served::Spawned { hart, regs } => Stepped::Spawned { hart, regs },
+    }
+}

@@ -18,7 +18,7 @@ fn two_pages(alloc: Global) -> Result<FlatMemory, AllocError> {
 fn write_stops_at_the_page_end(rt: HostRuntime) -> Result<(), Fail> {
     let alloc = rt.alloc();
     let mut memory = two_pages(alloc)?;
-    let mut env = Env::new(alloc, Vec::new(alloc));
+    let mut env = Env::new(alloc, Vec::new(alloc), 0x1_2000, 2);
     let mut regs = Regs::new(0x1_0000);
     let cases = [
         (0x0001_0FFC, 10, 4, 4),

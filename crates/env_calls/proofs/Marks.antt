@@ -1,5 +1,5 @@
 -- Looking for a live hart, mark by mark.
-use Rattle.std.proofs.Common.{◌≡◌, ◌<◌, ◌≤◌, ℕ, zero, suc, ◌+◌, Bool, true, false, cond, List, [], ◌∷◌, length, get_or, drop, take, set, Option, Some, None, is_some, arith, refl, ap, sym, ◌∙◌, add-one, drop-cons}
+use Rattle.std.proofs.Common.{◌≡◌, ◌<◌, ◌≤◌, ℕ, zero, suc, ◌+◌, Bool, true, false, cond, List, [], ◌∷◌, length, get_or, drop, take, set, Some, None, is_some, arith, refl, ap, sym, ◌∙◌, add-one, drop-cons}
 use Rattle.std.specs.List.{list_any, position_from}
 use Rattle.env_calls.specs.Environment.{is_marked, any_live, least_live_from}
 

@@ -81,7 +81,7 @@ unfoldable pub read : Registers → Environment → Memory → ℕ → ℕ → E
 read regs env memory address wanted =
     if wanted == 0 then answers regs env memory 0
     else did_read regs env memory (count_to_read env address wanted)
-      (copied_in memory address (take (count_to_read env address wanted) env.input))
+    (copied_in memory address (take (count_to_read env address wanted) env.input))
 
 -- the page that a read uses, where it may be written
 unfoldable pub read_pages : Memory → ℕ → ℕ → List ℕ
@@ -125,7 +125,7 @@ is_granted env request =
 abbrev pub moved_break : Registers → Environment → Memory → ℕ → Bool → Effect
 moved_break regs env memory request true =
     answers regs (record env { break_at = request; pages = env.pages + pages_to_add env request })
-      (with_zeroed (pages_up_to env.break_at) (pages_to_add env request) memory) request
+    (with_zeroed (pages_up_to env.break_at) (pages_to_add env request) memory) request
 moved_break regs env memory request false = answers regs env memory env.break_at
 
 unfoldable pub move_break : Registers → Environment → Memory → ℕ → Effect

@@ -1,5 +1,5 @@
 -- What a step does, and the pages that it uses, by its line.
-use Rattle.std.specs.Prelude.{◌≡◌, ℕ, suc, ◌+◌, List, [], ◌∷◌, ◌++◌, length, Result, Ok, Err, All, Contains}
+use Rattle.std.specs.Prelude.{◌≡◌, ℕ, suc, ◌+◌, List, [], ◌∷◌, ◌++◌, length, Err, All, Contains}
 use Rattle.std.proofs.Common.{arith, ap, sym, subst, ◌∙◌, append-nil, length-append}
 use Rattle.std.proofs.lemmas.List.{get_or_append_left, get_or-append-add}
 use Rattle.page_memory.specs.Memory.{Memory}
@@ -103,8 +103,11 @@ pub stopped_call : (A B : Type 0) (has marks lacks has' marks' lacks' : ℕ → 
     → UsesPages {A = B} has marks' lacks (step_pages regs memory) (Err stop)
 stopped_call A B has marks lacks has' marks' lacks' regs regs' memory memory' stop e same_regs same_memory had lacked marked first rest =
     elim stop as (λ s. UsesPages {A = A} has' marks' lacks' (call_pages regs' memory') (Err s) → UsesPages {A = B} has marks' lacks (step_pages regs memory) (Err s)) [
-      | Absent page ↦ λ more. (subst (λ pages. Contains pages page) (sym (call_pages_after regs regs' memory memory' e same_regs same_memory))
-      (contains_after page (pages_used regs memory) (call_pages regs' memory') more.0), lacked page more.1)
+      | Absent page ↦ λ more. (
+        subst (λ pages. Contains pages page) (sym (call_pages_after regs regs' memory memory' e same_regs same_memory))
+            (contains_after page (pages_used regs memory) (call_pages regs' memory') more.0),
+        lacked page more.1,
+      )
       | NoMemory ↦ λ more. used_call has marks has' marks' regs regs' memory memory' e same_regs same_memory had marked first more
     ] rest
 

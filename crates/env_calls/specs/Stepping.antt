@@ -1,5 +1,5 @@
 -- What an answer of `step` says of the step's effect.
-use Rattle.std.specs.Prelude.{◌≡◌, ℕ, ◌+◌, length, Result, Ok, Err}
+use Rattle.std.specs.Prelude.{◌≡◌, ◌+◌, length, Result, Ok, Err}
 use Rattle.page_memory.specs.Memory.{Memory}
 use Rattle.rv_exec.specs.Registers.{Registers}
 use Rattle.env_calls.specs.declared.served.Served.{Served}

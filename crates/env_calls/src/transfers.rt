@@ -31,7 +31,9 @@ fn count_to_read(env: &Env, address: u32, wanted: u32) -> usize
     ensures within { page_offset address + result ≤ 4096 }
     ensures left { result ≤ length env.now.input }
 {
-    env.input().len().min(count_in_page(address, wanted) as usize)
+    env.input()
+        .len()
+        .min(count_in_page(address, wanted) as usize)
 }
 
 /// Serves a read.

@@ -5,7 +5,7 @@ use Rattle.rv_exec.specs.declared.cause.Cause.{Cause}
 use Rattle.rv_exec.specs.Registers.{Registers}
 use Rattle.rv_exec.specs.Line as line
 use Rattle.env_calls.specs.Environment.{Environment}
-use Rattle.env_calls.specs.Effect.{Effect, Runs, Exits}
+use Rattle.env_calls.specs.Effect.{Effect, Runs, Yields, Spawns, Finishes, Exits}
 use Rattle.env_calls.specs.Calls.{call}
 use Rattle.env_calls.specs.Step.{effect}
 use Rattle.env_calls.specs.StepLaws.{effect_next, effect_call, effect_traps}
@@ -36,6 +36,18 @@ step_trap hart process cause value goes there is = stepped hart process _ goes t
 pub step_served : (hart : ℕ) (process : Process) (regs : Registers) (env : Environment) (memory : Memory) → CallsNow hart process → call hart process.registers process.environment process.memory ≡ Runs regs env memory
     → flat_step hart process ≡ Some (record { registers = regs; environment = env; memory = memory; ending = process.ending })
 step_served hart process regs env memory now is = stepped hart process _ now.goes_on now.there (effect_call hart process.registers process.environment process.memory now.calls ∙ is)
+
+pub step_yielded : (hart : ℕ) (process : Process) (regs : Registers) (env : Environment) (memory : Memory) → CallsNow hart process → call hart process.registers process.environment process.memory ≡ Yields regs env memory
+    → flat_step hart process ≡ Some (record { registers = regs; environment = env; memory = memory; ending = process.ending })
+step_yielded hart process regs env memory now is = stepped hart process _ now.goes_on now.there (effect_call hart process.registers process.environment process.memory now.calls ∙ is)
+
+pub step_finished : (hart : ℕ) (process : Process) (regs : Registers) (env : Environment) (memory : Memory) → CallsNow hart process → call hart process.registers process.environment process.memory ≡ Finishes regs env memory
+    → flat_step hart process ≡ Some (record { registers = regs; environment = env; memory = memory; ending = process.ending })
+step_finished hart process regs env memory now is = stepped hart process _ now.goes_on now.there (effect_call hart process.registers process.environment process.memory now.calls ∙ is)
+
+pub step_spawned : (hart : ℕ) (process : Process) (first regs : Registers) (env : Environment) (memory : Memory) → CallsNow hart process → call hart process.registers process.environment process.memory ≡ Spawns first regs env memory
+    → flat_step hart process ≡ Some (record { registers = regs; environment = env; memory = memory; ending = process.ending })
+step_spawned hart process first regs env memory now is = stepped hart process _ now.goes_on now.there (effect_call hart process.registers process.environment process.memory now.calls ∙ is)
 
 pub step_exit : (hart : ℕ) (process : Process) (status : ℕ) (regs : Registers) (env : Environment) (memory : Memory) → CallsNow hart process → call hart process.registers process.environment process.memory ≡ Exits status regs env memory
     → flat_step hart process ≡ Some (record { registers = regs; environment = env; memory = memory; ending = Some (Exited status) })

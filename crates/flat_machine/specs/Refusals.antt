@@ -1,7 +1,7 @@
 -- When a step is refused, and when it makes a call.
 use Rattle.std.specs.Prelude.{◌≡◌, ◌≢◌, ℕ, Some, None, IsSome, ◌<◌, List, length, take, slice_index}
 use Rattle.rv_exec.specs.Line as line
-use Rattle.env_calls.specs.Serving.{Lengthens}
+use Rattle.env_calls.specs.Serving.{TakesMemory}
 use Rattle.env_calls.specs.Step.{effect}
 use Rattle.flat_machine.specs.declared.stepping.StepRefusal.{StepRefusal}
 use Rattle.flat_machine.specs.declared.stepping.StepRefusal.TheVariants.{Ended, NoHart, NoMemory}
@@ -12,7 +12,7 @@ abbrev pub Refuses : StepRefusal → ℕ → Process → Type 0
 Refuses Ended hart process = IsSome process.ending
 Refuses NoHart hart process = (process.ending ≡ None) × (hart ≢ 0)
 Refuses NoMemory hart process =
-    (process.ending ≡ None) × (hart ≡ 0) × Lengthens process.environment (effect hart process.registers process.environment process.memory)
+    (process.ending ≡ None) × (hart ≡ 0) × TakesMemory process.environment (effect hart process.registers process.environment process.memory)
 
 -- the hart may step, and its instruction is an environment call
 pub record CallsNow (hart : ℕ) (process : Process) : Type 0 where

@@ -2,7 +2,7 @@ ghost use Rattle.std.specs.Prelude.{◌≡◌, ◌++◌, map, IfOk, OnOk};
 ghost use Rattle.std.specs.List.{range_with_len};
 ghost use Rattle.std.specs.FinMap.{from_entries};
 ghost use Rattle.elf_image.specs.Image.{ArePages};
-ghost use Rattle.flat_machine.specs.Process.{opening, opening_pages, image_entry, stack_entry};
+ghost use Rattle.flat_machine.specs.Process.{opening, first_break, opening_pages, image_entry, stack_entry};
 
 use crate::process::FlatProcess;
 use elf_image::{Image, ImagePage};
@@ -20,6 +20,8 @@ const STACK_START: u32 = 0x7_FFC0;
 
 const STACK_END: u32 = 0x8_0000;
 
+const STACK_PAGES: u32 = STACK_END - STACK_START;
+
 impl FlatProcess {
     /// A process that is to run an image on an input.
     #[tactic(auto, unfolding(crate::specs::Process::opening))]
@@ -29,13 +31,31 @@ impl FlatProcess {
         let mut regs = Regs::new(image.entry());
         let stack_pointer = Reg::from_index(2);
         regs.write(stack_pointer, STACK_TOP);
-        let memory = opening_memory(alloc, image.pages())?;
+        let pages = image.pages();
+        let memory = opening_memory(alloc, pages)?;
         Ok(FlatProcess {
             regs,
-            env: Env::new(alloc, input),
+            env: Env::new(
+                alloc,
+                input,
+                first_break(pages),
+                pages.len() as u32 + STACK_PAGES,
+            ),
             memory,
             end: None,
         })
+    }
+}
+
+/// Where the break of a process stands at first: after the highest page of its image.
+#[tactic(auto, unfolding(crate::specs::Process::first_break))]
+fn first_break(pages: &[ImagePage]) -> u32
+    requires { ArePages pages.now }
+    ensures { result ≡ first_break pages.now }
+{
+    match pages.last() {
+        Some(highest) => (highest.number + 1) * 4096,
+        None => 0,
     }
 }
 

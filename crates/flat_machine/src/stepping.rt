@@ -59,6 +59,9 @@ impl FlatProcess {
     {
         match serve(&mut self.env, hart, &mut self.regs, &mut self.memory) {
             Ok(Served::Continue) => Ok(()),
+            Ok(Served::Yield) => Ok(()),
+            Ok(Served::HartDone) => Ok(()),
+            Ok(Served::Spawned { .. }) => Ok(()),
             Ok(Served::Ended(status)) => {
                 self.end = Some(End::Exited(status));
                 Ok(())

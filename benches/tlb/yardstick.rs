@@ -14,12 +14,12 @@ struct Translation {
 
 struct Tlb {
     entries: Vec<Translation>,
-    hints: [u8; 64],
+    hints: [u8; 256],
 }
 
 impl Tlb {
     fn look(&self, page: u32) -> Option<Translation> {
-        match self.entries.get(self.hints[page as usize % 64] as usize) {
+        match self.entries.get(self.hints[page as usize % 256] as usize) {
             Some(entry) if entry.page == page => Some(*entry),
             _ => self.search(page),
         }
@@ -45,13 +45,13 @@ impl Tlb {
                 self.entries.len() - 1
             }
         };
-        self.hints[entry.page as usize % 64] = place as u8;
+        self.hints[entry.page as usize % 256] = place as u8;
     }
 }
 
 fn main() {
     let count: u32 = std::env::args().nth(1).map_or(1000, |n| n.parse().expect("a number of look-ups"));
-    let mut cache = Tlb { entries: Vec::with_capacity(16), hints: [0; 64] };
+    let mut cache = Tlb { entries: Vec::with_capacity(16), hints: [0; 256] };
     let start = Instant::now();
     let mut sum: u64 = 0;
     for i in 0..count {

@@ -3,7 +3,7 @@ ghost use Rattle.std.specs.Prelude.{◌<◌, ◌≤◌, length};
 use crate::translation::Translation;
 
 /// How many hints there are: as many pages in a row have one each.
-const HINTS: usize = 64;
+const HINTS: usize = 256;
 
 /// Where in a list the entries of pages were last put, by the pages' low bits. Nothing rests on a hint.
 #[derive(Drop)]

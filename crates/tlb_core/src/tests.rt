@@ -21,14 +21,16 @@ fn the_oldest_goes_first(rt: HostRuntime) {
     assert!(rt; !cache.holds(0) && cache.holds(1));
     cache.fill(entry(1, 99));
     assert_eq!(rt; cache.look(1).map(|found| found.frame), Some(99));
-    cache.fill(entry(64, 7));
-    assert!(rt; !cache.holds(1) && cache.holds(2));
-    assert_eq!(rt; cache.look(64).map(|found| found.frame), Some(7));
-    cache.doom(64);
+    // Pages 2 and 258 share a hint.
+    cache.fill(entry(258, 7));
+    assert!(rt; !cache.holds(1));
+    assert_eq!(rt; cache.look(2).map(|found| found.frame), Some(2));
+    assert_eq!(rt; cache.look(258).map(|found| found.frame), Some(7));
+    cache.doom(258);
     cache.doom(3);
-    assert!(rt; cache.holds(64));
+    assert!(rt; cache.holds(258));
     cache.drop_doomed();
-    assert!(rt; !cache.holds(64) && !cache.holds(3) && cache.holds(4));
+    assert!(rt; !cache.holds(258) && !cache.holds(3) && cache.holds(4));
     assert_eq!(rt; cache.entries().len(), 14);
     cache.clear();
     assert!(rt; !cache.holds(4));

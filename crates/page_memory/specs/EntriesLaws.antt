@@ -1,11 +1,12 @@
 -- What entries by page number say as a finite map, and what becomes of it where one page changes.
-use Rattle.std.proofs.Common.{◌≡◌, ℕ, zero, suc, ◌+◌, List, [], ◌∷◌, ◌++◌, length, slice_get, Option, Some, None, option_map, option_and_then, position, ◌==◌, nat_lt, Bool, true, false, cond, take, append_assoc, append-nil, arith, refl, sym, ap, ◌∙◌, lt-ltb, eqb-true, eq-eqb, inl, inr, true≢false}
+use Rattle.std.proofs.Common.{◌≡◌, ℕ, zero, suc, ◌+◌, List, [], ◌∷◌, ◌++◌, length, slice_get, Option, Some, None, option_map, option_and_then, position, ◌==◌, nat_lt, Bool, true, false, cond, take, set, append_assoc, append-nil, arith, refl, sym, ap, ◌∙◌, lt-ltb, eqb-true, eq-eqb, inl, inr, true≢false}
 use Rattle.std.specs.List.{position_or_len}
 use Rattle.std.specs.Ordering.{nat_cmp, eq_by_cmp}
 use Rattle.std.specs.Cmp.{nat_cmp_total}
 use Rattle.std.specs.FinMap.{FinMap, get, insert, from_entries, find, get-from_entries, get-insert, same_map, from_entries_push, nat_cmp-IsAntisymmetric}
 use Rattle.std.proofs.lemmas.Bool.Decides.{nat_tests, eqb_tells}
 use Rattle.std.proofs.lemmas.Option.{none-some, same_Some, slice_get_cases}
+use Rattle.std.proofs.lemmas.List.{map-append}
 use Rattle.std.proofs.lemmas.List.Quantifiers.{position-Some}
 use Rattle.std.proofs.Math.Seq.{take-append_seam}
 use Rattle.page_memory.specs.Entries.{pages_of, values_of, place_of, value_at, with_value, added_unless, added, with_added}
@@ -43,6 +44,19 @@ never_first (Some k) e = let z : suc k ≡ 0 = same_Some _ _ e in omega arith
 place_before : (o : Option ℕ) (i : ℕ) → option_map (λ i. suc i) o ≡ Some (suc i) → o ≡ Some i
 place_before None i e = absurd (none-some _ e)
 place_before (Some k) i e = let z : suc k ≡ suc i = same_Some _ _ e in ap Some (omega arith)
+
+still_first : (pages : List ℕ) (more page place : ℕ) → position (λ p. p == page) pages ≡ Some place → position (λ p. p == page) (pages ++ more ∷ []) ≡ Some place
+still_first [] more page place at = absurd (none-some _ at)
+still_first (p ∷ pages) more page zero at =
+    elim (p == page) as (λ b. (p == page) ≡ b → position (λ p. p == page) (p ∷ (pages ++ more ∷ [])) ≡ Some 0) [
+      | true ↦ λ h. position_here p (pages ++ more ∷ []) page h
+      | false ↦ λ h. absurd (never_first _ (sym (position_later p pages page h) ∙ at))
+    ] refl
+still_first (p ∷ pages) more page (suc i) at =
+    elim (p == page) as (λ b. (p == page) ≡ b → position (λ p. p == page) (p ∷ (pages ++ more ∷ [])) ≡ Some (suc i)) [
+      | true ↦ λ h. let z : 0 ≡ suc i = same_Some _ _ (sym (position_here p pages page h) ∙ at) in absurd (omega arith)
+      | false ↦ λ h. position_later p (pages ++ more ∷ []) page h ∙ ap (option_map (λ i. suc i)) (still_first pages more page i (place_before _ i (sym (position_later p pages page h) ∙ at)))
+    ] refl
 
 -- a value put back as it was found leaves the map as it was
 pub put_back : {T : Type 0} (m : FinMap nat_cmp T) (key : ℕ) (value : T) → get m key ≡ Some value → insert m key value ≡ m
@@ -135,6 +149,32 @@ module _ {T : Type 0} where
       get-from_entries nat_cmp_total _ q ∙ replaced_at entries page place value q at
       ∙ ap (cond (eq_by_cmp nat_cmp q page) (Some value)) (sym (get-from_entries nat_cmp_total entries q))
       ∙ sym (get-insert nat_cmp_total _ page value q))
+
+  -- entries with another value at a place: the pages and all other places stay
+  pub pages_of-with_value : (entries : List (ℕ × T)) (place : ℕ) (value : T) → pages_of (with_value entries place value) ≡ pages_of entries
+  unfolding with_value
+  pages_of-with_value [] place value = refl
+  pages_of-with_value (e ∷ es) zero value = refl
+  pages_of-with_value (e ∷ es) (suc place) value = ap (λ l. e.0 ∷ l) (pages_of-with_value es place value)
+
+  pub values_of-with_value : (entries : List (ℕ × T)) (place : ℕ) (value : T) → values_of (with_value entries place value) ≡ set (values_of entries) place value
+  unfolding with_value
+  values_of-with_value [] place value = refl
+  values_of-with_value (e ∷ es) zero value = refl
+  values_of-with_value (e ∷ es) (suc place) value = ap (λ l. e.1 ∷ l) (values_of-with_value es place value)
+
+  pub place_of-with_value : (entries : List (ℕ × T)) (place page : ℕ) (value : T) → place_of page (with_value entries place value) ≡ place_of page entries
+  place_of-with_value entries place page value = ap (position (λ p. p == page)) (pages_of-with_value entries place value)
+
+  pub length-with_value : (entries : List (ℕ × T)) (place : ℕ) (value : T) → length (with_value entries place value) ≡ length entries
+  unfolding with_value
+  length-with_value [] place value = refl
+  length-with_value (e ∷ es) zero value = refl
+  length-with_value (e ∷ es) (suc place) value = ap suc (length-with_value es place value)
+
+  -- a page keeps its place where one more entry comes behind
+  pub place_stays : (entries : List (ℕ × T)) (more : ℕ × T) (page place : ℕ) → place_of page entries ≡ Some place → place_of page (entries ++ more ∷ []) ≡ Some place
+  place_stays entries more page place at = ap (position (λ p. p == page)) (map-append (λ e. e.0) entries (more ∷ [])) ∙ still_first (pages_of entries) more.0 page place at
 
   added_case : (entries : List (ℕ × T)) (page : ℕ) (value : T) (place : Option ℕ) → place_of page entries ≡ place → added page value entries ≡ added_unless place page value entries
   unfolding added

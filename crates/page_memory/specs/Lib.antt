@@ -6,4 +6,5 @@ pub mod Entries
 pub mod EntriesLaws
 pub mod PageMap
 pub mod ZeroedLaws
+pub mod AccessLaws
 pub mod StandsForLaws

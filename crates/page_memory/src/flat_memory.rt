@@ -108,7 +108,7 @@ impl FlatMemory {
 
     /// Stores the low bytes of a word at an address.
     #[inline]
-    #[tactic(auto, using(crate::proofs::Accesses::not_stored))]
+    #[tactic(auto, using(crate::specs::AccessLaws::not_stored))]
     pub fn store(&mut self, width: Width, address: u32, word: u32) -> Result<(), MemoryFault>
         ensures ok { OnOk result (stored self.old width address word ≡ Ok self.new) }
         ensures fault { IfErr result (λ fault. stored self.old width address word ≡ Err fault) }
@@ -137,7 +137,7 @@ impl FlatMemory {
     }
 
     /// Copies bytes into memory, from an address on and within its page.
-    #[tactic(auto, using(crate::proofs::Accesses::not_copied))]
+    #[tactic(auto, using(crate::specs::AccessLaws::not_copied))]
     pub fn copy_in(&mut self, address: u32, from: &[u8]) -> Result<(), MemoryFault>
         requires { page_offset address + length from.now ≤ 4096 }
         ensures ok { OnOk result (copied_in self.old address from.now ≡ Ok self.new) }

@@ -1,7 +1,7 @@
 use Rattle.std.proofs.Common.{◌≡◌, sym, ap, ◌∙◌, option_and_then}
 use Rattle.page_memory.specs.Memory.{usable, with_right}
 use Rattle.page_memory.specs.Entries.{place_of, value_at}
-use Rattle.page_memory.proofs.Accesses.{usable_by_place}
+use Rattle.page_memory.specs.AccessLaws.{usable_by_place}
 use Rattle.page_memory.proofs.flat_memory.FlatMemory.remembered_page.Goals as goal
 
 pub returns : goal.returns

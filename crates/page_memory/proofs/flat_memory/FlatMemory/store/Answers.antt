@@ -6,7 +6,7 @@ use Rattle.page_memory.specs.Words.{page_number}
 use Rattle.page_memory.specs.Rights.{may}
 use Rattle.page_memory.specs.Memory.{stored}
 use Rattle.page_memory.specs.Entries.{place_of, with_value}
-use Rattle.page_memory.proofs.Accesses.{stored_at}
+use Rattle.page_memory.specs.AccessLaws.{stored_at}
 use Rattle.page_memory.proofs.flat_memory.FlatMemory.store.Goals as goal
 
 pub returns-clause-ok : goal.returns-clause-ok

@@ -14,19 +14,19 @@ use Rattle.page_memory.specs.Words.{page_number, page_offset, bytes_in}
 use Rattle.page_memory.specs.Rights.{may}
 use Rattle.page_memory.specs.Memory.{Page, Memory, usable, aligned_page, stored, copied_in, memory_with, overwritten, with_right, page_if, if_aligned, answered}
 
-usable_found : (memory : Memory) (access : Access) (address : ℕ) (page : Page) → get memory (page_number address) ≡ Some page → may access page.rights ≡ true → usable memory access address ≡ Ok page
+pub usable_found : (memory : Memory) (access : Access) (address : ℕ) (page : Page) → get memory (page_number address) ≡ Some page → may access page.rights ≡ true → usable memory access address ≡ Ok page
 unfolding usable
 usable_found memory access address page found allowed = ap (with_right access) found ∙ ap (λ b. page_if b page) allowed
 
-usable_forbidden : (memory : Memory) (access : Access) (address : ℕ) (page : Page) → get memory (page_number address) ≡ Some page → may access page.rights ≡ false → usable memory access address ≡ Err PageFault
+pub usable_forbidden : (memory : Memory) (access : Access) (address : ℕ) (page : Page) → get memory (page_number address) ≡ Some page → may access page.rights ≡ false → usable memory access address ≡ Err PageFault
 unfolding usable
 usable_forbidden memory access address page found refused = ap (with_right access) found ∙ ap (λ b. page_if b page) refused
 
-usable_unmapped : (memory : Memory) (access : Access) (address : ℕ) → get memory (page_number address) ≡ None → usable memory access address ≡ Err PageFault
+pub usable_unmapped : (memory : Memory) (access : Access) (address : ℕ) → get memory (page_number address) ≡ None → usable memory access address ≡ Err PageFault
 unfolding usable
 usable_unmapped memory access address none = ap (with_right access) none
 
-aligned_usable : (memory : Memory) (access : Access) (width address : ℕ) (answer : Result Page _) → address % width ≡ 0 → usable memory access address ≡ answer → aligned_page memory access width address ≡ answer
+pub aligned_usable : (memory : Memory) (access : Access) (width address : ℕ) (answer : Result Page _) → address % width ≡ 0 → usable memory access address ≡ answer → aligned_page memory access width address ≡ answer
 unfolding aligned_page
 aligned_usable memory access width address answer aligned is = ap (λ b. if_aligned b (usable memory access address)) (eq-eqb (address % width) 0 aligned) ∙ is
 

@@ -17,3 +17,4 @@ pub mod SingleMoveLaws
 pub mod SingleMoves
 pub mod Steady
 pub mod Text
+pub mod TrimMoveLaws

@@ -151,7 +151,7 @@ relisted_same s h =
 -- The purge.
 
 -- the entry behind others of other keys is taken out
-without_at : (e : Entry) (t v : List Entry) → among (keys t) e.key ≡ false →
+pub without_at : (e : Entry) (t v : List Entry) → among (keys t) e.key ≡ false →
     let l = t ++ e ∷ v in take (place e.key l) l ++ drop (place e.key l + 1) l ≡ t ++ v
 without_at e t v apart = rw add-one (without e t v apart)
   where
@@ -192,7 +192,7 @@ filter-append g [] b = refl
 filter-append g (e ∷ es) b =
     elim (g e) as (λ t. cond t (e ∷ filter g (es ++ b)) (filter g (es ++ b)) ≡ cond t (e ∷ filter g es) (filter g es) ++ filter g b) [ true ↦ ap (λ (l : List Entry). e ∷ l) (filter-append g es b) | false ↦ filter-append g es b ]
 
-none_before : (e : Entry) (u v : List Entry) → Apart (keys (u ++ e ∷ v)) → among (keys u) e.key ≡ false
+pub none_before : (e : Entry) (u v : List Entry) → Apart (keys (u ++ e ∷ v)) → among (keys u) e.key ≡ false
 none_before e u v apart = apart_left e.key (keys u) (keys (e ∷ v)) (rw (keys-append u (e ∷ v)) at apart) (rw (is_key_self e.key) refl)
 
 none_kept : (g : Entry → Bool) (e : Entry) (u : List Entry) → among (keys u) e.key ≡ false → among (keys (filter g u)) e.key ≡ false

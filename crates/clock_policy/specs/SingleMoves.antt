@@ -1,6 +1,6 @@
 -- The hot answer and the purge told move by move, one entry at a time. For the hot answer the front is passed until the entry that is
 -- asked stands there.
-use Rattle.std.specs.Prelude.{ℕ, zero, suc, cond, List, [], ◌∷◌, ◌++◌, take, drop}
+use Rattle.std.specs.Prelude.{ℕ, zero, suc, cond, Some, List, [], ◌∷◌, ◌++◌, take, drop}
 use Rattle.clock_policy.specs.declared.key.Key.{Key}
 use Rattle.clock_policy.specs.declared.entry.Entry.{Entry}
 use Rattle.clock_policy.specs.declared.entry.EntryKind.{EntryKind}
@@ -44,3 +44,18 @@ removed_of process e s = cond (is_of process e) (removed e.key s) s
 abbrev pub each_removed : ℕ → List Entry → ClockState → ClockState
 each_removed process [] s = s
 each_removed process (e ∷ es) s = each_removed process es (removed_of process e s)
+
+-- the test hand is set on an entry
+unfoldable pub test_hand_on : Key → ClockState → ClockState
+test_hand_on k s = record s { test_hand = Some k }
+
+-- From the test hand on, in the order of a list, each test ends. The first shadow goes with the test hand on it, and ends this.
+abbrev pub kind_ended : EntryKind → Key → (ClockState → ClockState) → ClockState → ClockState
+kind_ended Hot k more s = more s
+kind_ended Test k more s = more (fallen 1 (marked k Cold s))
+kind_ended Cold k more s = more s
+kind_ended Shadow k more s = fallen 1 (removed k (test_hand_on k s))
+
+abbrev pub each_ended : List Entry → ClockState → ClockState
+each_ended [] s = s
+each_ended (e ∷ es) s = kind_ended e.kind e.key (each_ended es) s

@@ -161,4 +161,15 @@ mod tests {
         );
         Ok(())
     }
+
+    #[test]
+    fn a_page_is_mapped_again(rt: HostRuntime) -> Result<(), Fail> {
+        let mut tables = PageTables::new(rt.alloc())?;
+        tables.map(0x12, 5, Rights::READ, true)?;
+        tables.unmap(0x12);
+        tables.remap(0x12, 6, Rights::READ | Rights::WRITE, false, true);
+        assert_eq!(rt; tables.lookup(0x12), Some(Pte(0x1897)));
+        assert!(rt; tables.is_dirty(0x12));
+        Ok(())
+    }
 }

@@ -16,8 +16,34 @@ use rv_isa::{AmoKind, LoadKind, Reg, StoreKind};
 
 /// Loads from an address into rd.
 #[inline]
-#[tactic(auto, using(crate::specs::AccessLaws::loading))]
 pub fn perform_load<B: Bus>(
+    regs: &mut Regs,
+    bus: &mut B,
+    kind: LoadKind,
+    rd: Reg,
+    address: u32,
+) -> Outcome
+    ensures line { let line = load_line regs.old (B.memory bus.old) kind rd address in
+        Follows line result regs.new (B.memory bus.new) }
+    ensures registers_stay { UnlessDone result (regs.new ≡ regs.old) }
+    ensures memory_stays { UnlessDone result (B.memory bus.new ≡ B.memory bus.old) }
+    ensures pages { let used = load_pages (B.memory bus.old) kind address in
+        UsesPages (B.has bus.old) (B.marks bus.new) (B.lacks bus.old) used result }
+    ensures kept { B.keeps bus.old bus.new }
+{
+    match kind {
+        LoadKind::Lb => load_of_kind(regs, bus, LoadKind::Lb, rd, address),
+        LoadKind::Lh => load_of_kind(regs, bus, LoadKind::Lh, rd, address),
+        LoadKind::Lw => load_of_kind(regs, bus, LoadKind::Lw, rd, address),
+        LoadKind::Lbu => load_of_kind(regs, bus, LoadKind::Lbu, rd, address),
+        LoadKind::Lhu => load_of_kind(regs, bus, LoadKind::Lhu, rd, address),
+    }
+}
+
+/// The same in one inlined copy for each kind, which is a constant there.
+#[inline(always)]
+#[tactic(auto, using(crate::specs::AccessLaws::loading))]
+fn load_of_kind<B: Bus>(
     regs: &mut Regs,
     bus: &mut B,
     kind: LoadKind,
@@ -41,8 +67,32 @@ pub fn perform_load<B: Bus>(
 
 /// Stores the low bytes of a word at an address.
 #[inline]
-#[tactic(auto, using(crate::specs::AccessLaws::storing))]
 pub fn perform_store<B: Bus>(
+    regs: &mut Regs,
+    bus: &mut B,
+    kind: StoreKind,
+    address: u32,
+    word: u32,
+) -> Outcome
+    ensures line { let line = store_line regs.old (B.memory bus.old) kind address word in
+        Follows line result regs.new (B.memory bus.new) }
+    ensures registers_stay { UnlessDone result (regs.new ≡ regs.old) }
+    ensures memory_stays { UnlessDone result (B.memory bus.new ≡ B.memory bus.old) }
+    ensures pages { let used = store_pages (B.memory bus.old) kind address word in
+        UsesPages (B.has bus.old) (B.marks bus.new) (B.lacks bus.old) used result }
+    ensures kept { B.keeps bus.old bus.new }
+{
+    match kind {
+        StoreKind::Sb => store_of_kind(regs, bus, StoreKind::Sb, address, word),
+        StoreKind::Sh => store_of_kind(regs, bus, StoreKind::Sh, address, word),
+        StoreKind::Sw => store_of_kind(regs, bus, StoreKind::Sw, address, word),
+    }
+}
+
+/// The same in one inlined copy for each kind, which is a constant there.
+#[inline(always)]
+#[tactic(auto, using(crate::specs::AccessLaws::storing))]
+fn store_of_kind<B: Bus>(
     regs: &mut Regs,
     bus: &mut B,
     kind: StoreKind,

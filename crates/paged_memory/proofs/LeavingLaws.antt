@@ -1,0 +1,123 @@
+-- A resident page begins to leave its frame.
+use Rattle.std.specs.Prelude.{◌≡◌, ℕ, ◌^◌, ◌<◌, ◌==◌, Bool, false, if◌then◌else◌, Some, option_map, Result, Ok, Err, OnOk, IfErr, List, map, refl, ◌⊎◌}
+use Rattle.std.proofs.Common.{sym, ap, ◌∙◌, subst, inl, inr}
+use Rattle.frame_pool.specs.FrameValue.{FrameValue}
+use Rattle.page_store.specs.declared.state.Keeping.{Keeping}
+use Rattle.page_store.specs.declared.state.PageState.TheVariants as stage
+use Rattle.page_store.specs.declared.refusal.LeaveRefusal.{LeaveRefusal}
+use Rattle.page_store.specs.PageValue.{PageValue, Place, Fresh, Resident, Leaving, Saving, Away, Purged, state_of, Backed}
+use Rattle.page_store.specs.Moves.{IfResident, left}
+use Rattle.sv32_table.specs.Entry.{Entry, blank}
+use Rattle.sv32_table.specs.EntryAt.{entry_at, ChangesEntry, SameTables, unmapped_entry, dirty_of}
+use Rattle.sv32_table.specs.EntryLaws.{unmapped_entry-page_entry, dirty_of-page_entry}
+use Rattle.tlb_core.specs.declared.translation.Translation.{Translation}
+use Rattle.tlb_core.specs.Cache.{doomed}
+use Rattle.paged_memory.specs.Seen.{frame_seen, rights_seen, is_changed}
+use Rattle.paged_memory.specs.Calls.{IsResident, ChangesBy, Leaves}
+use Rattle.paged_memory.specs.Paged.{seen_of, page_at, seen_at, flat_page, memory_of, Holds, ChangesPage}
+use Rattle.paged_memory.proofs.SoundnessLaws.{Stays}
+use Rattle.paged_memory.proofs.PagedLaws.{Change, choice_here, Holds-doomed, memory_stays}
+use Rattle.paged_memory.proofs.CallLaws.{entry_resident, seen_resident}
+
+module _ {S : Type 0} where
+  -- a resident page does not refuse to leave
+  pub leaves : {U : Type 0} (mark : Bool) (page page' : PageValue S) (result : Result U LeaveRefusal) → state_of page.place ≡ stage.Resident → OnOk result (left mark page.place ≡ Ok page'.place) → IfErr result (λ refusal. left mark page.place ≡ Err refusal) → page'.origin ≡ page.origin → Leaves mark page page'
+  leaves {U} mark page page' result is ok err origin = by_place page.place is (told result ok err)
+    where
+      told : (result : Result U LeaveRefusal) → OnOk result (left mark page.place ≡ Ok page'.place) → IfErr result (λ refusal. left mark page.place ≡ Err refusal) → (left mark page.place ≡ Ok page'.place) ⊎ ((refusal : LeaveRefusal) × (left mark page.place ≡ Err refusal))
+      told (Ok u) ok err = inl ok
+      told (Err refusal) ok err = inr (refusal, err)
+
+      by_place : (place : Place S) → state_of place ≡ stage.Resident → (left mark place ≡ Ok page'.place) ⊎ ((refusal : LeaveRefusal) × (left mark place ≡ Err refusal)) → IfResident place (λ frame slot. page' ≡ record page { place = Leaving frame slot mark })
+      by_place Fresh is told = cc
+      by_place (Resident frame slot) is (inl ok) =
+          let place : Leaving frame slot mark ≡ page'.place = cc in
+          ap (λ o. record page { origin = o; place = page'.place }) origin ∙ ap (λ p. record page { place = p }) (sym place)
+      by_place (Resident frame slot) is (inr err) = let clash = err.1 in cc
+      by_place (Leaving frame slot old) is told = cc
+      by_place (Saving frame) is told = cc
+      by_place (Away slot) is told = cc
+      by_place Purged is told = cc
+
+  -- what `Leaves` says, with the page's frame and slot
+  pub record Left (mark : Bool) (page page' : PageValue S) : Type 0 where
+    pub frame : FrameValue
+    pub slot : Keeping S
+    pub was : page ≡ record { origin = page.origin; place = Resident frame slot }
+    pub is : page' ≡ record { origin = page.origin; place = Leaving frame slot mark }
+
+  pub left_from : (mark : Bool) (page page' : PageValue S) → Leaves mark page page' → Left mark page page'
+  left_from mark page page' how = by_place page.place refl how
+    where
+      by_place : (place : Place S) → page.place ≡ place → IfResident place (λ frame slot. page' ≡ record page { place = Leaving frame slot mark }) → Left mark page page'
+      by_place Fresh at how = absurd how
+      by_place (Resident frame slot) at how = record { frame = frame; slot = slot; was = ap (λ p. record page { place = p }) at; is = how }
+      by_place (Leaving frame slot old) at how = absurd how
+      by_place (Saving frame) at how = absurd how
+      by_place (Away slot) at how = absurd how
+      by_place Purged at how = absurd how
+
+  module _ {held : S → List ℕ} {honest : Type 0} {pages pages' : List (ℕ × PageValue S)} {tables : List (List ℕ)} {caches : List (List Translation)} (tables' : List (List ℕ)) (number : ℕ) (small : number < 2 ^ 20) (holds : Holds held honest pages tables caches) (resident : IsResident pages number) (changes : ChangesPage pages pages' number (record { origin = resident.origin; place = Leaving resident.frame resident.slot (dirty_of (entry_at tables number)) })) (entries : ChangesEntry tables tables' number (unmapped_entry (entry_at tables number))) (same : SameTables tables tables') where
+    abbrev old_entry : Entry
+    old_entry = entry_at tables number
+
+    unmapped_is : unmapped_entry old_entry ≡ blank
+    unmapped_is = ap unmapped_entry (entry_resident number small holds resident) ∙ unmapped_entry-page_entry resident.frame.number resident.origin.rights old_entry.accessed old_entry.dirty
+
+    dirty_is : dirty_of old_entry ≡ old_entry.dirty
+    dirty_is = ap dirty_of (entry_resident number small holds resident) ∙ dirty_of-page_entry resident.frame.number resident.origin.rights old_entry.accessed old_entry.dirty
+
+    -- it is unmapped
+    pub unmapped : ChangesEntry tables tables' number blank
+    unmapped q in_range = entries q in_range ∙ ap (λ u. if q == number then u else entry_at tables q) unmapped_is
+
+    abbrev page : PageValue S
+    page = record { origin = resident.origin; place = Resident resident.frame resident.slot }
+
+    abbrev page_now : PageValue S
+    page_now = record { origin = resident.origin; place = Leaving resident.frame resident.slot (dirty_of old_entry) }
+
+    seen_then : seen_at pages' number ≡ Some (seen_of page_now)
+    seen_then = ap (option_map seen_of) (changes.pages number ∙ choice_here number (Some page_now) (page_at pages number))
+
+    backed_now : Backed held old_entry.dirty page → Backed held false page_now
+    backed_now was = rw dirty_is was
+
+    change : Change held honest pages pages' tables tables' number page_now blank
+    change =
+        record {
+          small = small;
+          changes = changes;
+          entry = unmapped;
+          kept = λ q in_range has. same q in_range ∙ has;
+          tabled = λ framed. same number small ∙ holds.tabled number page small resident.found refl;
+          mapped = record { entry = refl; readable = λ rights same. (holds.agree.mapped number small).readable rights (ap rights_seen (seen_resident number small holds resident) ∙ same) };
+          backed = λ is_honest. backed_now (holds.backed is_honest number page small resident.found);
+        }
+
+    stays : Stays (seen_at pages number) (seen_at pages' number) old_entry (entry_at tables' number)
+    stays =
+        record {
+          frame = ap frame_seen seen_then ∙ sym (ap frame_seen (seen_resident number small holds resident));
+          rights = ap rights_seen seen_then ∙ sym (ap rights_seen (seen_resident number small holds resident));
+          changed = λ was. ap (λ s. is_changed s (entry_at tables' number)) seen_then ∙ dirty_is ∙ sym (ap (λ s. is_changed s old_entry) (seen_resident number small holds resident)) ∙ was;
+        }
+
+    -- and everything goes together still, once its translations are doomed
+    pub begun_to_leave : Holds held honest pages' tables' (map (doomed number) caches)
+    begun_to_leave = Holds-doomed change caches holds stays
+
+  -- the same of a change as it is told
+  module _ {pages pages' : List (ℕ × PageValue S)} {number : ℕ} {mark : Bool} (told : ChangesBy (Leaves mark) pages pages' number) where
+    abbrev pub left_now : Left mark told.page told.page'
+    left_now = left_from mark told.page told.page' told.how
+
+    abbrev pub resident_told : IsResident pages number
+    resident_told = record { origin = told.page.origin; frame = left_now.frame; slot = left_now.slot; found = told.found ∙ ap Some left_now.was }
+
+    pub changes_told : ChangesPage pages pages' number (record { origin = resident_told.origin; place = Leaving resident_told.frame resident_told.slot mark })
+    changes_told = subst (λ p. ChangesPage pages pages' number p) left_now.is told.changes
+
+    -- and what the memory holds stays
+    pub memory_told : (held : S → List ℕ) → memory_of held pages' ≡ memory_of held pages
+    memory_told held = memory_stays held pages pages' number told.page told.page' told.found (ap (flat_page held) left_now.is ∙ sym (ap (flat_page held) left_now.was)) told.changes

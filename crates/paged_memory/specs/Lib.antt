@@ -1,0 +1,4 @@
+pub mod Seen
+pub mod Soundness
+pub mod Paged
+pub mod Calls

@@ -1,0 +1,59 @@
+-- The pages, page tables and translation caches of one process, and the memory that they stand for.
+use Rattle.std.specs.Prelude.{◌≡◌, ℕ, ◌^◌, ◌<◌, ◌==◌, true, if◌then◌else◌, Option, Some, option_map, option_and_then, is_some, List, slice_get}
+use Rattle.page_memory.specs.Memory.{Page, Memory}
+use Rattle.page_memory.specs.Entries.{place_of, pages_of, value_at, map_by, ChangesPage as Changes}
+use Rattle.page_store.specs.PageValue.{PageValue, Place, Fresh, Resident, Leaving, Saving, Away, Purged, content, frame_of, Backed}
+use Rattle.sv32_table.specs.EntryAt.{entry_at, has_table}
+use Rattle.tlb_core.specs.declared.translation.Translation.{Translation}
+use Rattle.paged_memory.specs.Seen.{Standing, Seen}
+use Rattle.paged_memory.specs.Seen as seen
+use Rattle.paged_memory.specs.Soundness.{Agree, ArePlaced}
+
+-- the number of the process; the pages by their places, each with its number; the tables; and the cache of each hart
+pub record PagedValue (S : Type 0) : Type 0 where
+  pub process : ℕ
+  pub pages : List (ℕ × PageValue S)
+  pub tables : List (List ℕ)
+  pub caches : List (List Translation)
+
+module _ {S : Type 0} where
+  -- what translation sees of a page
+  abbrev pub standing_of : Place S → Standing
+  standing_of Fresh = seen.Elsewhere
+  standing_of (Resident frame slot) = seen.Resident frame.number
+  standing_of (Leaving frame slot mark) = seen.Leaving frame.number mark
+  standing_of (Saving frame) = seen.Elsewhere
+  standing_of (Away slot) = seen.Elsewhere
+  standing_of Purged = seen.Elsewhere
+
+  abbrev pub seen_of : PageValue S → Seen
+  seen_of page = record { rights = page.origin.rights; standing = standing_of page.place }
+
+  -- the page of a number
+  unfoldable pub page_at : List (ℕ × PageValue S) → ℕ → Option (PageValue S)
+  page_at pages number = option_and_then (λ place. value_at place pages) (place_of number pages)
+
+  abbrev pub seen_at : List (ℕ × PageValue S) → ℕ → Option Seen
+  seen_at pages number = option_map seen_of (page_at pages number)
+
+  -- pages, tables and caches go together; a page with a frame has a table; and where slots are honest, a page that does not count as changed equals its
+  -- backing
+  pub record Holds (held : S → List ℕ) (honest : Type 0) (pages : List (ℕ × PageValue S)) (tables : List (List ℕ)) (caches : List (List Translation)) : Type 0 where
+    pub agree : Agree (seen_at pages) (entry_at tables) caches
+    pub tabled : (number : ℕ) (page : PageValue S) → number < 2 ^ 20 → page_at pages number ≡ Some page → is_some (frame_of page.place) ≡ true → has_table tables number ≡ true
+    pub placed : ArePlaced (pages_of pages) caches
+    pub backed : honest → (number : ℕ) (page : PageValue S) → number < 2 ^ 20 → page_at pages number ≡ Some page → Backed held (entry_at tables number).dirty page
+
+  -- one page is this now, and each other what it was; each keeps its place
+  pub record ChangesPage (old new : List (ℕ × PageValue S)) (number : ℕ) (page : PageValue S) : Type 0 where
+    pub places : (place q : ℕ) → slice_get (pages_of old) place ≡ Some q → slice_get (pages_of new) place ≡ Some q
+    pub pages : (q : ℕ) → page_at new q ≡ (if q == number then Some page else page_at old q)
+    pub entries : Changes old new number page
+
+  -- a page of memory: its rights and what it shows
+  abbrev pub flat_page : (S → List ℕ) → PageValue S → Page
+  flat_page held page = record { rights = page.origin.rights; bytes = content held page }
+
+  -- the memory that the pages stand for
+  unfoldable pub memory_of : (S → List ℕ) → List (ℕ × PageValue S) → Memory
+  memory_of held pages = map_by (flat_page held) pages

@@ -1,0 +1,59 @@
+-- What translation sees of a page: its rights, and which frame it holds.
+use Rattle.std.specs.Prelude.{ℕ, Bool, true, false, Option, Some, None}
+use Rattle.page_memory.specs.declared.rights.Rights.{Rights}
+use Rattle.sv32_table.specs.Entry.{Entry, blank, page_entry}
+
+-- a page that is resident in the frame of this number; one that is unmapped and holds that frame still, with the mark
+-- whether it counts as changed; and one that no translation may lead to
+pub data Standing : Type 0 where
+  Resident : ℕ → Standing
+  Leaving : ℕ → Bool → Standing
+  Elsewhere : Standing
+
+pub record Seen : Type 0 where
+  pub rights : Rights
+  pub standing : Standing
+
+-- the table entry that a page has, by its A and D
+abbrev pub entry_standing : Rights → Standing → Bool → Bool → Entry
+entry_standing rights (Resident frame) accessed dirty = page_entry frame rights accessed dirty
+entry_standing rights (Leaving frame mark) accessed dirty = blank
+entry_standing rights Elsewhere accessed dirty = blank
+
+abbrev pub entry_seen : Option Seen → Bool → Bool → Entry
+entry_seen (Some seen) accessed dirty = entry_standing seen.rights seen.standing accessed dirty
+entry_seen None accessed dirty = blank
+
+-- the frame that a page holds
+abbrev pub frame_standing : Standing → Option ℕ
+frame_standing (Resident frame) = Some frame
+frame_standing (Leaving frame mark) = Some frame
+frame_standing Elsewhere = None
+
+abbrev pub frame_seen : Option Seen → Option ℕ
+frame_seen (Some seen) = frame_standing seen.standing
+frame_seen None = None
+
+abbrev pub rights_seen : Option Seen → Option Rights
+rights_seen (Some seen) = Some seen.rights
+rights_seen None = None
+
+-- whether a page counts as changed: its D while it is resident, the mark while it leaves, and else always
+abbrev pub changed_standing : Standing → Entry → Bool
+changed_standing (Resident frame) e = e.dirty
+changed_standing (Leaving frame mark) e = mark
+changed_standing Elsewhere e = true
+
+abbrev pub is_changed : Option Seen → Entry → Bool
+is_changed (Some seen) e = changed_standing seen.standing e
+is_changed None e = true
+
+-- whether a page's use is marked: it is resident, and its A is set
+abbrev pub used_standing : Standing → Entry → Bool
+used_standing (Resident frame) e = e.accessed
+used_standing (Leaving frame mark) e = false
+used_standing Elsewhere e = false
+
+abbrev pub is_used : Option Seen → Entry → Bool
+is_used (Some seen) e = used_standing seen.standing e
+is_used None e = false

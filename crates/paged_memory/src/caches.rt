@@ -1,0 +1,132 @@
+ghost use Rattle.std.specs.Prelude.{◌≡◌, ◌<◌, ◌≤◌, ℕ, [], ◌∷◌, ◌++◌, map, length, is_some, IfOk, slice_index_or, slice_set};
+ghost use Rattle.tlb_core.specs.Cache.{doomed, undoomed, filled, entry_of};
+ghost use Rattle.paged_memory.specs.Soundness.{is_held};
+
+use std::alloc::{AllocError, Global};
+use std::marker::Model;
+use tlb_core::{Tlb, Translation};
+
+/// The most harts that a process starts.
+pub(crate) const MAX_HARTS: usize = 8;
+
+/// The translation caches of a process's harts, by their numbers.
+#[derive(Drop)]
+pub(crate) struct Caches {
+    harts: Vec<Tlb>,
+}
+
+impl Model for Caches {
+    ghost use Rattle.std.specs.Prelude.{List, ◌≤◌, vec_capacity};
+    ghost use Rattle.tlb_core.specs.declared.translation.Translation.{Translation};
+
+    ghost Value = { List (List Translation) };
+
+    ghost view = { λ c. c.harts.items };
+
+    ghost invariant = { λ c. 8 ≤ vec_capacity c.harts };
+}
+
+impl Caches {
+    /// Caches of no hart, with room for those of all.
+    pub fn new(alloc: Global) -> Result<Self, AllocError>
+        ensures { IfOk result (λ caches. caches ≡ []) }
+    {
+        Ok(Caches {
+            harts: Vec::with_capacity(alloc, MAX_HARTS)?,
+        })
+    }
+
+    /// How many harts there are.
+    #[inline]
+    pub fn len(&self) -> usize
+        ensures { result ≡ length self.now }
+    {
+        self.harts.len()
+    }
+
+    /// An empty cache for one more hart.
+    pub fn add(&mut self)
+        requires { length self.old < 8 }
+        ensures { self.new ≡ self.old ++ [] ∷ [] }
+    {
+        self.harts.push_reserved(Tlb::new());
+    }
+
+    /// What a hart has cached of a page.
+    #[inline]
+    pub fn look(&self, hart: usize, page: u32) -> Option<Translation>
+        requires { hart < length self.now }
+        ensures { result ≡ entry_of page (slice_index_or self.now hart []) }
+    {
+        self.harts[hart].look(page)
+    }
+
+    /// Puts a translation into a hart's cache.
+    pub fn fill(&mut self, hart: usize, entry: Translation)
+        requires { hart < length self.old }
+        ensures { self.new ≡ slice_set self.old hart (filled entry (slice_index_or self.old hart [])) }
+    {
+        self.harts[hart].fill(entry);
+    }
+
+    /// Whether a cache holds a translation of a page.
+    pub fn is_held(&self, page: u32) -> bool
+        ensures { result ≡ is_held page self.now }
+    {
+        self.harts.iter().any(
+            |cache: &Tlb| -> bool
+                ensures { result ≡ is_some (entry_of page cache.now) }
+            { cache.holds(page) },
+        )
+    }
+
+    /// Marks a page's translations in all caches as ones to be dropped.
+    #[tactic(auto, using(crate::proofs::Mapping::refilled))]
+    pub fn doom(&mut self, page: u32)
+        ensures { self.new ≡ map (doomed page) self.old }
+    {
+        doom_each(&mut self.harts, page);
+    }
+
+    /// Drops the translations of a hart that are marked.
+    pub fn drop_doomed(&mut self, hart: usize)
+        requires { hart < length self.old }
+        ensures { self.new ≡ slice_set self.old hart (undoomed (slice_index_or self.old hart [])) }
+    {
+        self.harts[hart].drop_doomed();
+    }
+
+    /// Drops all translations of a hart.
+    pub fn clear(&mut self, hart: usize)
+        requires { hart < length self.old }
+        ensures { self.new ≡ slice_set self.old hart [] }
+    {
+        self.harts[hart].clear();
+    }
+
+    /// Drops all translations of all harts.
+    #[tactic(auto, using(crate::proofs::Mapping::refilled))]
+    pub fn clear_all(&mut self)
+        ensures { self.new ≡ map (λ _. []) self.old }
+    {
+        clear_each(&mut self.harts);
+    }
+}
+
+#[tactic(auto, using(crate::proofs::Mapping::mapped_none, crate::proofs::Mapping::mapped_more, crate::proofs::Mapping::mapped_all))]
+fn doom_each(caches: &mut [Tlb], page: u32)
+    ensures { caches.new ≡ map (doomed page) caches.old }
+{
+    for cache in caches.iter_mut() {
+        cache.doom(page);
+    }
+}
+
+#[tactic(auto, using(crate::proofs::Mapping::mapped_none, crate::proofs::Mapping::mapped_all))]
+fn clear_each(caches: &mut [Tlb])
+    ensures { caches.new ≡ map (λ _. []) caches.old }
+{
+    for cache in caches.iter_mut() {
+        cache.clear();
+    }
+}

@@ -1,0 +1,47 @@
+ghost use Rattle.std.specs.Prelude.{◌≡◌, [], IfOk};
+ghost use Rattle.paged_memory.specs.Paged.{PagedValue};
+
+use crate::caches::Caches;
+use page_memory::PageMap;
+use page_store::StoredPage;
+use std::alloc::{AllocError, Global};
+use std::marker::Model;
+use std::sync::ledger::Ledger;
+use sv32_table::PageTables;
+use swap_slots::SwapSlot;
+
+/// The pages of one process, with its page tables and a translation cache for each of its harts.
+#[derive(Drop)]
+pub struct PagedMemory<L: Ledger, S: SwapSlot> {
+    pub(crate) process: u32,
+    pub(crate) pages: PageMap<StoredPage<L, S>>,
+    pub(crate) tables: PageTables,
+    pub(crate) caches: Caches,
+}
+
+impl<L: Ledger, S: SwapSlot> Model for PagedMemory<L, S> {
+    ghost use Rattle.paged_memory.specs.Paged.{PagedValue, Holds};
+
+    ghost Value = { PagedValue S };
+
+    ghost view = { λ m. record { process = m.process; pages = m.pages; tables = m.tables; caches = m.caches } };
+
+    ghost invariant = { λ m. Holds S.content S.honest m.pages m.tables m.caches };
+}
+
+impl<L: Ledger, S: SwapSlot> PagedMemory<L, S> {
+    /// The memory of a process of this number, with no page and no hart.
+    #[tactic(auto, using(crate::proofs::CallLaws::holds_new))]
+    pub fn new(alloc: Global, process: u32) -> Result<Self, AllocError>
+        ensures process { IfOk result (λ memory. memory.process ≡ process) }
+        ensures pages { IfOk result (λ memory. memory.pages ≡ []) }
+        ensures caches { IfOk result (λ memory. memory.caches ≡ []) }
+    {
+        Ok(PagedMemory {
+            process,
+            pages: PageMap::new(alloc)?,
+            tables: PageTables::new(alloc)?,
+            caches: Caches::new(alloc)?,
+        })
+    }
+}

@@ -1,37 +1,14 @@
 -- Runs one after another, and where a run by turns stops.
-use Rattle.std.proofs.Common.{◌≡◌, ℕ, zero, suc, ◌+◌, ◌<◌, ◌≤◌, List, [], ◌∷◌, ◌++◌, length, take, drop, replicate, slice_index, slice_index_or, Some, None, option_and_then, arith, refl, sym, ap, ◌∙◌, subst, take-append-drop, drop-cons, append-nil, length-append, add-one}
-use Rattle.std.proofs.lemmas.Option.{none-some}
-use Rattle.std.proofs.lemmas.List.{replicate-append-replicate, length-replicate, get_or_append_left, get_or-append-add, get_or-replicate, take-append-le, take_more}
+use Rattle.std.proofs.Common.{◌≡◌, ℕ, zero, suc, ◌+◌, ◌<◌, ◌≤◌, List, [], ◌∷◌, ◌++◌, length, take, drop, replicate, slice_index, slice_index_or, Some, arith, refl, sym, ap, ◌∙◌, subst, take-append-drop, drop-cons, append-nil, length-append, add-one}
+use Rattle.std.proofs.lemmas.List.{length-replicate, get_or_append_left, get_or-append-add, get_or-replicate, take-append-le, take_more}
 use Rattle.std.proofs.lemmas.Grind.{flat_map-append}
 use Rattle.std.proofs.Math.Seq.{take-append-add}
 use Rattle.flat_machine.specs.declared.schedule.Turn.{Turn}
 use Rattle.flat_machine.specs.declared.stepping.StepRefusal.{StepRefusal}
 use Rattle.flat_machine.specs.Schedule.{written_out}
-use Rattle.flat_machine.specs.Process.{Process, flat_step, flat_run}
+use Rattle.flat_machine.specs.Process.{Process, flat_run}
+use Rattle.flat_machine.specs.RunLaws.{flat_run_append}
 use Rattle.flat_machine.specs.Refusals.{Refuses, StopsAt}
-
--- no step leaves the process as it is
-pub flat_run_none : (process : Process) → flat_run [] process ≡ Some process
-unfolding flat_run
-flat_run_none process = refl
-
--- a run of two parts
-pub flat_run_append : (xs ys : List ℕ) (before : Process) (between : Process) → flat_run xs before ≡ Some between → flat_run (xs ++ ys) before ≡ flat_run ys between
-unfolding flat_run
-flat_run_append [] ys before between e = ap (option_and_then (flat_run ys)) e
-flat_run_append (x ∷ xs) ys before between e =
-    elim (flat_step x before) as (λ o. option_and_then (flat_run xs) o ≡ Some between → option_and_then (flat_run (xs ++ ys)) o ≡ flat_run ys between) [
-      | None ↦ λ never. absurd (none-some _ never)
-      | Some next ↦ λ f. flat_run_append xs ys next between f
-    ] e
-
--- one more step of a hart
-pub one_more_step : (k hart : ℕ) (before between after : Process) → flat_run (replicate k hart) before ≡ Some between → flat_step hart between ≡ Some after → flat_run (replicate (k + 1) hart) before ≡ Some after
-unfolding flat_run
-one_more_step k hart before between after ran step =
-    ap (λ l. flat_run l before) (sym (replicate-append-replicate k 1 hart))
-    ∙ flat_run_append (replicate k hart) (hart ∷ []) before between ran
-    ∙ ap (option_and_then (flat_run [])) step
 
 written_more : (turns : List Turn) (i : ℕ) (t : Turn) → i < length turns → t ≡ slice_index_or turns i t → written_out (take (i + 1) turns) ≡ written_out (take i turns) ++ replicate t.count t.hart
 written_more turns i t within at =

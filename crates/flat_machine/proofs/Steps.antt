@@ -1,54 +1,108 @@
--- What a step is, by the line of its instruction.
-use Rattle.std.proofs.Common.{◌≡◌, ◌==◌, ◌&&◌, ℕ, false, Option, Some, None, is_none, is_some, ap, ◌∙◌, refl, eq-eqb, cond}
-use Rattle.page_memory.specs.Memory.{Memory}
-use Rattle.rv_exec.specs.declared.cause.Cause.{Cause}
+-- What a step is, by its effect, and what it keeps.
+use Rattle.std.proofs.Common.{◌≡◌, ◌&&◌, ◌+◌, ◌<◌, ◌≤◌, ℕ, zero, suc, Bool, true, false, List, [], ◌∷◌, ◌++◌, length, slice_set, slice_index_or, Option, Some, None, is_none, is_some, option_map, ap, ◌∙◌, refl, sym, subst, cond, arith, length-set, true≢false}
+use Rattle.std.proofs.lemmas.Option.{slice_get-get_or}
+use Rattle.std.proofs.lemmas.List.{length_push}
 use Rattle.rv_exec.specs.Registers.{Registers}
-use Rattle.rv_exec.specs.Line as line
-use Rattle.env_calls.specs.Environment.{Environment}
-use Rattle.env_calls.specs.Effect.{Effect, Runs, Yields, Spawns, Finishes, Exits}
-use Rattle.env_calls.specs.Calls.{call}
+use Rattle.env_calls.specs.Environment.{any_live}
+use Rattle.env_calls.specs.Effect.{Effect, Runs, Yields, Spawns, Finishes, Exits, Traps}
 use Rattle.env_calls.specs.Step.{effect}
-use Rattle.env_calls.specs.StepLaws.{effect_next, effect_call, effect_traps}
-use Rattle.flat_machine.specs.declared.end.End.TheVariants.{Exited, Trapped}
-use Rattle.flat_machine.specs.Process.{Process, after, flat_step}
-use Rattle.flat_machine.specs.Refusals.{CallsNow}
+use Rattle.env_calls.specs.LiveLaws.{MarksAfter, marks_after, more_is_some}
+use Rattle.flat_machine.specs.Process.{Process, IsWhole, hart_registers, is_live, after, stepped, may_step, flat_step}
+
+-- ---- a hart that may step
+
+both : (a b : Bool) → (a && b) ≡ true → (a ≡ true) × (b ≡ true)
+both true b e = (refl, e)
+both false b e = absurd (true≢false (sym e))
+
+no_ending : {A : Type 0} (o : Option A) → is_none o ≡ true → o ≡ None
+no_ending None e = refl
+no_ending (Some x) e = absurd (true≢false (sym e))
+
+marked_within : (live : List Bool) (hart : ℕ) → slice_index_or live hart false ≡ true → hart < length live
+marked_within [] hart e = absurd (true≢false (sym e))
+marked_within (mark ∷ live) zero e = omega arith
+marked_within (mark ∷ live) (suc hart) e = let rest = marked_within live hart e in omega arith
+
+-- its process has not ended
+pub goes_on : (hart : ℕ) (process : Process) → may_step hart process ≡ true → process.ending ≡ None
+goes_on hart process may = no_ending process.ending (both (is_none process.ending) (is_live hart process) may).0
+
+-- it was started
+pub started : (hart : ℕ) (process : Process) → IsWhole process → may_step hart process ≡ true → hart < length process.harts
+started hart process whole may =
+    let within = marked_within process.environment.live hart (both (is_none process.ending) (is_live hart process) may).1 in
+    let marked = whole.marked in omega arith
+
+-- a hart may step where the process has not ended and the hart is live
+pub may : (hart : ℕ) (process : Process) → process.ending ≡ None → is_live hart process ≡ true → may_step hart process ≡ true
+may hart process goes live = ap (λ o. is_none o && is_live hart process) goes ∙ live
+
+-- it may step again where the process goes on and the same harts are live
+pub goes_on_alike : (hart : ℕ) (old new : Process) → may_step hart old ≡ true → new.ending ≡ None → new.environment.live ≡ old.environment.live → may_step hart new ≡ true
+goes_on_alike hart old new now goes same =
+    may hart new goes (ap (λ live. slice_index_or live hart false) same ∙ (both (is_none old.ending) (is_live hart old) now).1)
+
+-- one hart alone
+pub whole_alone : (process : Process) → length process.harts ≡ 1 → process.environment.live ≡ true ∷ [] → IsWhole process
+unfolding any_live
+whole_alone process one live =
+    let marks = ap length live in
+    record { marked = omega arith; few = omega arith; some = ap any_live live }
 
 -- what is no `Some` is `None`
 pub not_ended : {A : Type 0} (o : Option A) → is_some o ≡ false → o ≡ None
 not_ended None e = refl
-not_ended (Some x) e = cc
+not_ended (Some x) e = absurd (true≢false e)
 
-stepped : (hart : ℕ) (process : Process) (e : Effect) → process.ending ≡ None → hart ≡ 0 → effect hart process.registers process.environment process.memory ≡ e → flat_step hart process ≡ Some (after hart process e)
+-- ---- its step
+
+-- it takes the step of its registers' effect
+step_is : (hart : ℕ) (process : Process) (registers : Registers) (e : Effect) → may_step hart process ≡ true → hart_registers hart process ≡ Some registers
+    → effect hart registers process.environment process.memory ≡ e → flat_step hart process ≡ Some (after hart process registers e)
 unfolding flat_step
-stepped hart process e goes there is =
-    ap (λ b. cond (b && (hart == 0)) (Some (after hart process (effect hart process.registers process.environment process.memory))) None) (ap is_none goes)
-    ∙ ap (λ b. cond b (Some (after hart process (effect hart process.registers process.environment process.memory))) None) (eq-eqb hart 0 there)
-    ∙ ap (λ x. Some (after hart process x)) is
+step_is hart process registers e may are is =
+    ap (λ b. cond b (option_map (stepped hart process) (hart_registers hart process)) None) may
+    ∙ ap (option_map (stepped hart process)) are
+    ∙ ap (λ x. Some (after hart process registers x)) is
 
-pub step_next : (hart : ℕ) (process : Process) (regs : Registers) (memory : Memory) → process.ending ≡ None → hart ≡ 0 → line.line process.registers process.memory ≡ line.Next regs memory
-    → flat_step hart process ≡ Some (record { registers = regs; environment = process.environment; memory = memory; ending = process.ending })
-step_next hart process regs memory goes there is = stepped hart process _ goes there (effect_next hart process.registers process.environment process.memory regs memory is)
+kept : (process left : Process) → IsWhole process → length left.harts ≡ length process.harts → process.environment.live ≡ left.environment.live → IsWhole left
+kept process left whole harts live = record {
+  marked = harts ∙ whole.marked ∙ ap length live;
+  few = subst (λ l. length l ≤ 8) live whole.few;
+  some = ap any_live (sym live) ∙ whole.some;
+}
 
-pub step_trap : (hart : ℕ) (process : Process) (cause : Cause) (value : ℕ) → process.ending ≡ None → hart ≡ 0 → line.line process.registers process.memory ≡ line.Traps cause value
-    → flat_step hart process ≡ Some (record { registers = process.registers; environment = process.environment; memory = process.memory; ending = Some (Trapped hart cause process.registers.pc value) })
-step_trap hart process cause value goes there is = stepped hart process _ goes there (effect_traps hart process.registers process.environment process.memory cause value is)
+-- the process after it is whole
+whole_after : (hart : ℕ) (process : Process) (registers : Registers) (e : Effect) → IsWhole process → MarksAfter hart process.environment.live e → IsWhole (after hart process registers e)
+whole_after hart process registers (Runs regs env memory) whole marks = kept process (after hart process registers (Runs regs env memory)) whole (length-set process.harts hart regs) (sym marks)
+whole_after hart process registers (Yields regs env memory) whole marks = kept process (after hart process registers (Yields regs env memory)) whole (length-set process.harts hart regs) (sym marks)
+whole_after hart process registers (Spawns first regs env memory) whole marks =
+    let marked = whole.marked in
+    let harts : length (slice_set process.harts hart regs ++ first ∷ []) ≡ length process.harts + 1 = length_push (slice_set process.harts hart regs) first ∙ ap (λ n. n + 1) (length-set process.harts hart regs) in
+    let live : length env.live ≡ length process.environment.live + 1 = ap length marks.0 ∙ length_push process.environment.live true in
+    let few = marks.1 in
+    record { marked = omega arith; few = omega arith; some = ap any_live marks.0 ∙ more_is_some process.environment.live }
+whole_after hart process registers (Finishes regs env memory) whole marks =
+    let marked = whole.marked in
+    let few = whole.few in
+    let harts : length (slice_set process.harts hart regs) ≡ length process.harts = length-set process.harts hart regs in
+    let live : length env.live ≡ length process.environment.live = ap length marks.0 ∙ length-set process.environment.live hart false in
+    record { marked = omega arith; few = omega arith; some = ap any_live marks.0 ∙ marks.1 }
+whole_after hart process registers (Exits status regs env memory) whole marks = kept process (after hart process registers (Exits status regs env memory)) whole (length-set process.harts hart regs) (sym marks)
+whole_after hart process registers (Traps cause value) whole marks = record { marked = whole.marked; few = whole.few; some = whole.some }
 
-pub step_served : (hart : ℕ) (process : Process) (regs : Registers) (env : Environment) (memory : Memory) → CallsNow hart process → call hart process.registers process.environment process.memory ≡ Runs regs env memory
-    → flat_step hart process ≡ Some (record { registers = regs; environment = env; memory = memory; ending = process.ending })
-step_served hart process regs env memory now is = stepped hart process _ now.goes_on now.there (effect_call hart process.registers process.environment process.memory now.calls ∙ is)
+-- a step of a hart that may step: it is there, and what it leaves is whole
+pub record Taken (hart : ℕ) (now left : Process) : Type 0 where
+  pub step : flat_step hart now ≡ Some left
+  pub whole : IsWhole left
 
-pub step_yielded : (hart : ℕ) (process : Process) (regs : Registers) (env : Environment) (memory : Memory) → CallsNow hart process → call hart process.registers process.environment process.memory ≡ Yields regs env memory
-    → flat_step hart process ≡ Some (record { registers = regs; environment = env; memory = memory; ending = process.ending })
-step_yielded hart process regs env memory now is = stepped hart process _ now.goes_on now.there (effect_call hart process.registers process.environment process.memory now.calls ∙ is)
-
-pub step_finished : (hart : ℕ) (process : Process) (regs : Registers) (env : Environment) (memory : Memory) → CallsNow hart process → call hart process.registers process.environment process.memory ≡ Finishes regs env memory
-    → flat_step hart process ≡ Some (record { registers = regs; environment = env; memory = memory; ending = process.ending })
-step_finished hart process regs env memory now is = stepped hart process _ now.goes_on now.there (effect_call hart process.registers process.environment process.memory now.calls ∙ is)
-
-pub step_spawned : (hart : ℕ) (process : Process) (first regs : Registers) (env : Environment) (memory : Memory) → CallsNow hart process → call hart process.registers process.environment process.memory ≡ Spawns first regs env memory
-    → flat_step hart process ≡ Some (record { registers = regs; environment = env; memory = memory; ending = process.ending })
-step_spawned hart process first regs env memory now is = stepped hart process _ now.goes_on now.there (effect_call hart process.registers process.environment process.memory now.calls ∙ is)
-
-pub step_exit : (hart : ℕ) (process : Process) (status : ℕ) (regs : Registers) (env : Environment) (memory : Memory) → CallsNow hart process → call hart process.registers process.environment process.memory ≡ Exits status regs env memory
-    → flat_step hart process ≡ Some (record { registers = regs; environment = env; memory = memory; ending = Some (Exited status) })
-step_exit hart process status regs env memory now is = stepped hart process _ now.goes_on now.there (effect_call hart process.registers process.environment process.memory now.calls ∙ is)
+pub taken : (hart : ℕ) (process now : Process) (registers : Registers) (e : Effect) → IsWhole process → process ≡ now → may_step hart now ≡ true
+    → registers ≡ slice_index_or process.harts hart registers → effect hart registers process.environment process.memory ≡ e → Taken hart now (after hart process registers e)
+taken hart process now registers e whole same may are is =
+    let here : may_step hart process ≡ true = ap (may_step hart) same ∙ may in
+    let there : hart_registers hart process ≡ Some registers = slice_get-get_or process.harts hart registers (started hart process whole here) ∙ ap Some (sym are) in
+    record {
+      step = ap (flat_step hart) (sym same) ∙ step_is hart process registers e here there is;
+      whole = whole_after hart process registers e whole (subst (MarksAfter hart process.environment.live) is (marks_after hart registers process.environment process.memory));
+    }

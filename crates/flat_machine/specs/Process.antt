@@ -1,20 +1,20 @@
 -- A process on flat memory, what it begins as, and its steps and runs.
-use Rattle.std.specs.Prelude.{ℕ, ◌+◌, ◌-◌, ◌*◌, ◌==◌, ◌&&◌, Bool, true, List, length, slice_get, [], ◌∷◌, ◌++◌, map, Option, Some, None, is_none, option_and_then, if◌then◌else◌}
+use Rattle.std.specs.Prelude.{◌≡◌, ℕ, ◌+◌, ◌-◌, ◌*◌, ◌≤◌, ◌&&◌, Bool, true, false, List, length, slice_get, slice_set, slice_index_or, [], ◌∷◌, ◌++◌, map, Option, Some, None, is_none, option_map, option_and_then, if◌then◌else◌}
 use Rattle.std.specs.List.{range_with_len}
 use Rattle.std.specs.FinMap.{from_entries}
 use Rattle.page_memory.specs.Memory.{Page, Memory, zero_page}
 use Rattle.rv_exec.specs.Registers.{Registers, cleared, with_register}
 use Rattle.elf_image.specs.declared.image.ImagePage.{ImagePage}
 use Rattle.elf_image.specs.Image.{ImageContent}
-use Rattle.env_calls.specs.Environment.{Environment}
+use Rattle.env_calls.specs.Environment.{Environment, any_live}
 use Rattle.env_calls.specs.Effect.{Effect, Runs, Yields, Spawns, Finishes, Exits, Traps}
 use Rattle.env_calls.specs.Step.{effect}
 use Rattle.flat_machine.specs.declared.end.End.{End}
 use Rattle.flat_machine.specs.declared.end.End.TheVariants.{Exited, Trapped}
 
--- a process with one hart, hart 0
 pub record Process : Type 0 where
-  pub registers : Registers
+  -- the registers of each hart that was started, by its number
+  pub harts : List Registers
   pub environment : Environment
   pub memory : Memory
   -- how it ended, if it did
@@ -22,7 +22,17 @@ pub record Process : Type 0 where
 
 -- a hart's registers, where the hart was started
 abbrev pub hart_registers : ℕ → Process → Option Registers
-hart_registers hart process = if hart == 0 then Some process.registers else None
+hart_registers hart process = slice_get process.harts hart
+
+-- whether a hart was started and is live
+abbrev pub is_live : ℕ → Process → Bool
+is_live hart process = slice_index_or process.environment.live hart false
+
+-- what every process keeps: each hart that was started has its registers and its mark, and some hart is live
+pub record IsWhole (process : Process) : Type 0 where
+  pub marked : length process.harts ≡ length process.environment.live
+  pub few : length process.environment.live ≤ 8
+  pub some : any_live process.environment.live ≡ true
 
 -- ---- the opening
 
@@ -47,10 +57,10 @@ after_page (Some listed) = (listed.number + 1) * 4096
 unfoldable pub first_break : List ImagePage → ℕ
 first_break pages = after_page (slice_get pages (length pages - 1))
 
--- what a process begins as: hart 0 stands at the entry, with sp 0x7FFFFFF0 and 0 in every other register
+-- what a process begins as: hart 0 alone, which stands at the entry, with sp 0x7FFFFFF0 and 0 in every other register
 unfoldable pub opening : ImageContent → List ℕ → Process
 opening image input = record {
-  registers = with_register (cleared image.entry) 2 2147483632;
+  harts = with_register (cleared image.entry) 2 2147483632 ∷ [];
   environment = record {
     input = input;
     output = [];
@@ -64,24 +74,33 @@ opening image input = record {
 
 -- ---- steps
 
--- the process after a step's effect
-abbrev pub after : ℕ → Process → Effect → Process
-after hart process (Runs registers environment memory) = record process { registers = registers; environment = environment; memory = memory }
-after hart process (Yields registers environment memory) = record process { registers = registers; environment = environment; memory = memory }
-after hart process (Spawns first registers environment memory) = record process { registers = registers; environment = environment; memory = memory }
-after hart process (Finishes registers environment memory) = record process { registers = registers; environment = environment; memory = memory }
-after hart process (Exits status registers environment memory) =
-    record { registers = registers; environment = environment; memory = memory; ending = Some (Exited status) }
-after hart process (Traps cause value) = record process { ending = Some (Trapped hart cause process.registers.pc value) }
+-- the process with a hart's registers, the environment and the memory as they are after its step
+abbrev pub with_hart : ℕ → Registers → Environment → Memory → Process → Process
+with_hart hart registers environment memory process =
+    record process { harts = slice_set process.harts hart registers; environment = environment; memory = memory }
 
--- whether a hart may step: the process goes on, and the hart is there
+-- the process after a step of a hart with this effect, from these registers
+abbrev pub after : ℕ → Process → Registers → Effect → Process
+after hart process before (Runs registers environment memory) = with_hart hart registers environment memory process
+after hart process before (Yields registers environment memory) = with_hart hart registers environment memory process
+after hart process before (Spawns first registers environment memory) =
+    record process { harts = slice_set process.harts hart registers ++ first ∷ []; environment = environment; memory = memory }
+after hart process before (Finishes registers environment memory) = with_hart hart registers environment memory process
+after hart process before (Exits status registers environment memory) =
+    record { harts = slice_set process.harts hart registers; environment = environment; memory = memory; ending = Some (Exited status) }
+after hart process before (Traps cause value) = record process { ending = Some (Trapped hart cause before.pc value) }
+
+-- whether a hart may step: the process goes on, and the hart is live
 abbrev pub may_step : ℕ → Process → Bool
-may_step hart process = is_none process.ending && (hart == 0)
+may_step hart process = is_none process.ending && is_live hart process
+
+-- the process after a hart's next step
+abbrev pub stepped : ℕ → Process → Registers → Process
+stepped hart process registers = after hart process registers (effect hart registers process.environment process.memory)
 
 -- the process after one step of a hart, where it may step
 unfoldable pub flat_step : ℕ → Process → Option Process
-flat_step hart process =
-    if may_step hart process then Some (after hart process (effect hart process.registers process.environment process.memory)) else None
+flat_step hart process = if may_step hart process then option_map (stepped hart process) (hart_registers hart process) else None
 
 -- the process after steps of these harts, where each of them exists
 unfoldable pub flat_run : List ℕ → Process → Option Process

@@ -1,6 +1,6 @@
 -- A process as a value that proofs can tell from others.
-use Rattle.std.specs.Prelude.{Option, refl}
-use Rattle.std.specs.Coded.{Coded, code_by, coded×, coded_option}
+use Rattle.std.specs.Prelude.{List, Option, refl}
+use Rattle.std.specs.Coded.{Coded, code_by, coded×, coded_option, coded_list}
 use Rattle.page_memory.specs.Memory.{Memory}
 use Rattle.rv_exec.specs.Registers.{Registers}
 use Rattle.env_calls.specs.Environment.{Environment}
@@ -13,8 +13,8 @@ use Rattle.flat_machine.specs.Process.{Process}
 
 abbrev pub process_code : Coded Process
 process_code =
-    code_by (Registers × (Environment × (Memory × Option End)))
-    (coded× regs.the_row.coded (coded× env.the_row.coded (coded× memory.the_row.coded (coded_option end.the_row.coded))))
-    (λ p. (p.registers, (p.environment, (p.memory, p.ending))))
-    (λ t. record { registers = t.0; environment = t.1.0; memory = t.1.1.0; ending = t.1.1.1 })
+    code_by (List Registers × (Environment × (Memory × Option End)))
+    (coded× (coded_list regs.the_row.coded) (coded× env.the_row.coded (coded× memory.the_row.coded (coded_option end.the_row.coded))))
+    (λ p. (p.harts, (p.environment, (p.memory, p.ending))))
+    (λ t. record { harts = t.0; environment = t.1.0; memory = t.1.1.0; ending = t.1.1.1 })
     (λ _. refl)

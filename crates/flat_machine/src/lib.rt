@@ -1,6 +1,7 @@
 //! The reference: a process on flat memory, its steps, and its runs by a schedule.
 #![tactic(auto)]
 
+mod by_turns;
 mod end;
 mod opening;
 mod process;
@@ -8,6 +9,7 @@ mod running;
 mod schedule;
 mod stepping;
 
+pub use by_turns::OutOfMemory;
 pub use end::{End, KillCause};
 pub use process::FlatProcess;
 pub use schedule::{MOST_TURNS, Schedule, ScheduleFull, Turn};

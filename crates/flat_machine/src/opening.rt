@@ -1,6 +1,7 @@
 ghost use Rattle.std.specs.Prelude.{◌≡◌, ◌++◌, map, IfOk, OnOk};
 ghost use Rattle.std.specs.List.{range_with_len};
 ghost use Rattle.std.specs.FinMap.{from_entries};
+ghost use Rattle.rv_exec.specs.Registers.{cleared, with_register};
 ghost use Rattle.elf_image.specs.Image.{ArePages};
 ghost use Rattle.flat_machine.specs.Process.{opening, first_break, opening_pages, image_entry, stack_entry};
 
@@ -22,19 +23,21 @@ const STACK_END: u32 = 0x8_0000;
 
 const STACK_PAGES: u32 = STACK_END - STACK_START;
 
+/// How many harts a process may ever start.
+const MOST_HARTS: usize = 8;
+
 impl FlatProcess {
     /// A process that is to run an image on an input.
     #[tactic(auto, unfolding(crate::specs::Process::opening))]
     pub fn new(alloc: Global, image: &Image, input: Vec<u8>) -> Result<Self, AllocError>
         ensures { IfOk result (λ process. process ≡ opening image.now input.items) }
     {
-        let mut regs = Regs::new(image.entry());
-        let stack_pointer = Reg::from_index(2);
-        regs.write(stack_pointer, STACK_TOP);
+        let mut harts = Vec::with_capacity(alloc, MOST_HARTS)?;
+        harts.push_reserved(first_registers(image.entry()));
         let pages = image.pages();
         let memory = opening_memory(alloc, pages)?;
         Ok(FlatProcess {
-            regs,
+            harts,
             env: Env::new(
                 alloc,
                 input,
@@ -45,6 +48,16 @@ impl FlatProcess {
             end: None,
         })
     }
+}
+
+/// What the first hart of an image begins with.
+fn first_registers(entry: u32) -> Regs
+    ensures { result ≡ with_register (cleared entry) 2 2147483632 }
+{
+    let mut regs = Regs::new(entry);
+    let stack_pointer = Reg::from_index(2);
+    regs.write(stack_pointer, STACK_TOP);
+    regs
 }
 
 /// Where the break of a process stands at first: after the highest page of its image.

@@ -1,5 +1,5 @@
 ghost use Rattle.std.specs.Prelude.{◌≡◌, option_copied};
-ghost use Rattle.flat_machine.specs.Process.{hart_registers};
+ghost use Rattle.flat_machine.specs.Process.{hart_registers, is_live, IsWhole};
 ghost use Rattle.page_memory.specs.Memory.{byte_at};
 
 use crate::end::End;
@@ -8,17 +8,19 @@ use page_memory::FlatMemory;
 use rv_exec::Regs;
 use std::marker::Model;
 
-/// A process on flat memory. It has one hart, hart 0.
+/// A process on flat memory.
 #[derive(Drop)]
 pub struct FlatProcess {
-    pub(crate) regs: Regs,
+    /// By number; the room for all harts that a process may start is there.
+    pub(crate) harts: Vec<Regs>,
     pub(crate) env: Env,
     pub(crate) memory: FlatMemory,
     pub(crate) end: Option<End>,
 }
 
 impl Model for FlatProcess {
-    ghost use Rattle.flat_machine.specs.Process.{Process};
+    ghost use Rattle.std.specs.Prelude.{◌≤◌, vec_capacity};
+    ghost use Rattle.flat_machine.specs.Process.{Process, IsWhole};
     ghost use Rattle.flat_machine.specs.ProcessCode.{process_code};
 
     ghost Value = { Process };
@@ -26,10 +28,15 @@ impl Model for FlatProcess {
     ghost coded = { process_code };
 
     ghost view = { λ process. record {
-      registers = process.regs;
+      harts = process.harts.items;
       environment = process.env;
       memory = process.memory;
       ending = process.end;
+    } };
+
+    ghost invariant = { λ process. record {
+      whole : IsWhole (record { harts = process.harts.items; environment = process.env; memory = process.memory; ending = process.end });
+      roomy : 8 ≤ vec_capacity process.harts;
     } };
 }
 
@@ -38,7 +45,14 @@ impl FlatProcess {
     pub fn regs(&self, hart: u32) -> Option<&Regs>
         ensures { option_copied result ≡ hart_registers hart self.now }
     {
-        if hart == 0 { Some(&self.regs) } else { None }
+        self.harts.get(hart as usize)
+    }
+
+    /// Whether a hart was started and is live.
+    pub fn is_live(&self, hart: u32) -> bool
+        ensures { result ≡ is_live hart self.now }
+    {
+        self.env.is_live(hart)
     }
 
     /// The byte at an address, where a page is mapped there.

@@ -1,11 +1,11 @@
-ghost use Rattle.std.specs.Prelude.{◌≡◌, Some, OnOk, OnErr, IfErr};
-ghost use Rattle.flat_machine.specs.Process.{flat_step};
-ghost use Rattle.flat_machine.specs.Refusals.{Refuses, CallsNow};
+ghost use Rattle.std.specs.Prelude.{◌≡◌, Some, None, true, OnOk, OnErr, IfOk, IfErr};
+ghost use Rattle.flat_machine.specs.Process.{may_step, flat_step};
+ghost use Rattle.flat_machine.specs.Refusals.{Refuses, WantsMemory};
 
 use crate::end::End;
 use crate::process::FlatProcess;
-use env_calls::{ServeStop, Served, serve};
-use rv_exec::{Outcome, execute};
+use env_calls::{ServeStop, Stepped, step};
+use std::alloc::AllocError;
 use thiserror::Error;
 
 /// Why a step is not taken, in the order in which it is tested.
@@ -13,15 +13,14 @@ use thiserror::Error;
 pub enum StepRefusal {
     #[error("the process has ended")]
     Ended,
-    #[error("the process has no such hart")]
+    #[error("the process has no such live hart")]
     NoHart,
-    #[error("there is no memory for the output")]
+    #[error("there is no memory for the output or the pages of the process")]
     NoMemory,
 }
 
 impl FlatProcess {
     /// Runs one instruction of a hart. A trap ends the process, and is a step; a refusal changes nothing.
-    #[inline]
     pub fn step(&mut self, hart: u32) -> Result<(), StepRefusal>
         ensures ok { OnOk result (flat_step hart self.old ≡ Some self.new) }
         ensures refused { IfErr result (λ refusal. Refuses refusal hart self.old) }
@@ -30,44 +29,55 @@ impl FlatProcess {
         if self.end.is_some() {
             return Err(StepRefusal::Ended);
         }
-        if hart != 0 {
+        if !self.env.is_live(hart) {
             return Err(StepRefusal::NoHart);
         }
-        match execute(&mut self.regs, &mut self.memory) {
-            Outcome::Done => Ok(()),
-            Outcome::Ecall => self.answer_call(hart),
-            Outcome::Trap(cause, value) => {
-                let pc = self.regs.pc();
-                self.end = Some(End::Trapped {
-                    hart,
-                    cause,
-                    pc,
-                    value,
-                });
-                Ok(())
-            }
-            Outcome::Absent(_) => unreachable!(),
+        match self.step_live(hart) {
+            Ok(_) => Ok(()),
+            Err(AllocError) => Err(StepRefusal::NoMemory),
         }
     }
 
-    /// Serves the call that a hart's instruction makes.
-    fn answer_call(&mut self, hart: u32) -> Result<(), StepRefusal>
-        requires { CallsNow hart self.old }
+    /// Runs one instruction of a hart that may step, and answers whether the process goes on with the
+    /// same harts live. Where memory is wanting, nothing has changed.
+    #[inline]
+    pub(crate) fn step_live(&mut self, hart: u32) -> Result<bool, AllocError>
+        requires { may_step hart self.old ≡ true }
         ensures ok { OnOk result (flat_step hart self.old ≡ Some self.new) }
-        ensures refused { IfErr result (λ refusal. Refuses refusal hart self.old) }
+        ensures same { IfOk result (λ same. same ≡ true → (self.new.ending ≡ None) × (self.new.environment.live ≡ self.old.environment.live)) }
+        ensures wants { OnErr result (WantsMemory hart self.old) }
         ensures err { OnErr result (self.new ≡ self.old) }
     {
-        match serve(&mut self.env, hart, &mut self.regs, &mut self.memory) {
-            Ok(Served::Continue) => Ok(()),
-            Ok(Served::Yield) => Ok(()),
-            Ok(Served::HartDone) => Ok(()),
-            Ok(Served::Spawned { .. }) => Ok(()),
-            Ok(Served::Ended(status)) => {
-                self.end = Some(End::Exited(status));
-                Ok(())
-            }
+        let regs = &mut self.harts[hart as usize];
+        match step(&mut self.env, hart, regs, &mut self.memory) {
+            Ok(stepped) => match stepped {
+                Stepped::Ran => Ok(true),
+                Stepped::Yielded => Ok(true),
+                Stepped::HartDone => Ok(false),
+                Stepped::Spawned {
+                    hart: _,
+                    regs: first,
+                } => {
+                    self.harts.push_reserved(first);
+                    Ok(false)
+                }
+                Stepped::Exited(status) => {
+                    self.end = Some(End::Exited(status));
+                    Ok(false)
+                }
+                Stepped::Trapped(cause, value) => {
+                    let pc = regs.pc();
+                    self.end = Some(End::Trapped {
+                        hart,
+                        cause,
+                        pc,
+                        value,
+                    });
+                    Ok(false)
+                }
+            },
             Err(ServeStop::Absent(_)) => unreachable!(),
-            Err(ServeStop::NoMemory) => Err(StepRefusal::NoMemory),
+            Err(ServeStop::NoMemory) => Err(AllocError),
         }
     }
 }

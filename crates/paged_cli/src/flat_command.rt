@@ -23,7 +23,9 @@ pub fn run_flat<'a, R: Files + AllocGlobal, W: Write>(
         None => Vec::new(rt.alloc()),
     };
     let mut process = FlatProcess::new(rt.alloc(), &image, input)?;
-    let steps = process.run_for(u64::from(limit))?;
+    let Ok(steps) = process.run_for(u64::from(limit)) else {
+        return Err(Fault::NoMemory);
+    };
     let end = process.end().unwrap_or(End::Killed(KillCause::Limit));
     write_process(0, process.output(), end, steps, out)?;
     Ok(status_of_end(end))

@@ -1,4 +1,4 @@
-use Rattle.flat_machine.proofs.Runs.{flat_run_none, one_more_step}
+use Rattle.flat_machine.specs.RunLaws.{flat_run_none, one_more_step}
 use Rattle.flat_machine.proofs.process.FlatProcess.repeat.Goals as goal
 
 pub loop-done-init : goal.loop-done-init

@@ -1,0 +1,111 @@
+ghost use Rattle.std.specs.Prelude.{◌≡◌, ◌<◌, ◌≤◌, ℕ, Some, true, IsSome, IfOk, IfErr};
+ghost use Rattle.env_calls.specs.Environment.{next_live};
+ghost use Rattle.flat_machine.specs.Process.{is_live, may_step};
+ghost use Rattle.flat_machine.specs.ByTurns.{by_turns, first_turn, turn_after};
+ghost use Rattle.flat_machine.specs.Refusals.{WantsAt};
+
+use crate::process::FlatProcess;
+use std::alloc::AllocError;
+use thiserror::Error;
+
+/// There is no memory for the next step of a run by turns; the steps before it stand.
+#[derive(Clone, Copy, PartialEq, Eq, Debug, Error)]
+#[error("there is no memory for the step after {steps}")]
+pub struct OutOfMemory {
+    /// How many steps were done.
+    pub steps: u64,
+}
+
+impl FlatProcess {
+    /// Steps the harts by turns until the process has ended or the limit is reached, and tells how many
+    /// steps that took. Where memory is wanting, the steps before stand.
+    ///
+    /// At first it is the turn of hart 0, or where that is not live of the least live one; after a step of
+    /// a hart, of the least live one above it, else of the least live one.
+    pub fn run_for(&mut self, limit: u64) -> Result<u64, OutOfMemory>
+        ensures ran { IfOk result (λ steps. (turn : ℕ) × (by_turns steps (first_turn self.old) self.old ≡ Some (turn, self.new))) }
+        ensures within { IfOk result (λ steps. steps ≤ limit) }
+        ensures ended { IfOk result (λ steps. steps < limit → IsSome self.new.ending) }
+        ensures memory { IfErr result (λ stop. (stop.steps < limit) × WantsAt (first_turn self.old) self.old stop.steps self.new) }
+    {
+        let mut steps: u64 = 0;
+        let mut hart = self.first_turn();
+        while steps < limit {
+            if self.end.is_some() {
+                return Ok(steps);
+            }
+            match self.run_turn(hart, limit - steps) {
+                Ok(more) => steps += more,
+                Err(stop) => {
+                    return Err(OutOfMemory {
+                        steps: steps + stop.steps,
+                    });
+                }
+            }
+            hart = self.turn_after(hart);
+        }
+        Ok(steps)
+    }
+
+    /// Steps a hart that may step: once, or where no other one is live, up to so many times.
+    fn run_turn(&mut self, hart: u32, most: u64) -> Result<u64, OutOfMemory>
+        requires may { may_step hart self.old ≡ true }
+        requires some { 0 < most }
+        ensures ran { IfOk result (λ steps. by_turns steps hart self.old ≡ Some (turn_after hart self.new, self.new)) }
+        ensures within { IfOk result (λ steps. (0 < steps) × (steps ≤ most)) }
+        ensures memory { IfErr result (λ stop. (stop.steps < most) × WantsAt hart self.old stop.steps self.new) }
+    {
+        if self.turn_after(hart) == hart {
+            self.run_alone(hart, most)
+        } else {
+            match self.step_live(hart) {
+                Ok(_) => Ok(1),
+                Err(AllocError) => Err(OutOfMemory { steps: 0 }),
+            }
+        }
+    }
+
+    /// Steps the only live hart until another may be live, the process has ended, or so many steps are done.
+    #[inline(never)]
+    fn run_alone(&mut self, hart: u32, most: u64) -> Result<u64, OutOfMemory>
+        requires may { may_step hart self.old ≡ true }
+        requires alone { turn_after hart self.old ≡ hart }
+        ensures ran { IfOk result (λ steps. by_turns steps hart self.old ≡ Some (turn_after hart self.new, self.new)) }
+        ensures some { IfOk result (λ steps. 0 < most → 0 < steps) }
+        ensures within { IfOk result (λ steps. steps ≤ most) }
+        ensures memory { IfErr result (λ stop. (stop.steps < most) × WantsAt hart self.old stop.steps self.new) }
+    {
+        for steps in 0..most {
+            match self.step_live(hart) {
+                Ok(true) => {}
+                Ok(false) => return Ok(steps + 1),
+                Err(AllocError) => return Err(OutOfMemory { steps }),
+            }
+        }
+        Ok(most)
+    }
+
+    /// Whose turn it is at first.
+    fn first_turn(&self) -> u32
+        ensures turn { result ≡ first_turn self.now }
+        ensures lives { is_live result self.now ≡ true }
+    {
+        if self.env.is_live(0) {
+            0
+        } else {
+            self.turn_after(0)
+        }
+    }
+
+    /// Whose turn it is after a hart's.
+    #[tactic(auto, using(crate::proofs::Turning::turning))]
+    fn turn_after(&self, hart: u32) -> u32
+        ensures turn { result ≡ turn_after hart self.now }
+        ensures lives { is_live result self.now ≡ true }
+    {
+        match self.env.next_live(hart) {
+            Some(next) => next,
+            None => unreachable!(),
+        }
+    }
+}

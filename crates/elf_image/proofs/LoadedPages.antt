@@ -1,15 +1,13 @@
 -- The pages that a written file loads are the image's.
-use Rattle.std.proofs.Common.{◌≡◌, ℕ, zero, suc, ◌+◌, ◌-◌, ◌*◌, ◌<◌, ◌≤◌, Bool, true, false, cond, not, ◌&&◌, ◌||◌, ◌==◌, List, [], ◌∷◌, ◌++◌, length, take, drop, map, flat_map, slice_index, slice_index_or, get_or, bit_and, bit_or, arith, refl, sym, ap, ◌∙◌, subst, inl, inr, ◌⊎◌, IsTrue}
+use Rattle.std.proofs.Common.{◌≡◌, ℕ, zero, suc, ◌+◌, ◌*◌, ◌<◌, ◌≤◌, Bool, true, false, cond, not, ◌==◌, List, [], ◌∷◌, ◌++◌, length, map, slice_index, bit_and, arith, refl, sym, ap, ◌∙◌, inl, inr, ◌⊎◌, IsTrue}
 use Rattle.std.specs.List.{list_any, filter, range_with_len}
-use Rattle.std.proofs.lemmas.List.{get_or_append_left, get_or-append-add, get_or_default, same_lists, get_or-map, length-map}
+use Rattle.std.proofs.lemmas.List.{get_or_append_left, get_or-append-add}
 use Rattle.std.proofs.lemmas.List.FromFn.{fill_by_all}
 use Rattle.std.proofs.lemmas.Bool.{false≢true}
-use Rattle.page_memory.specs.Rights.{may, known, readable}
-use Rattle.page_memory.specs.declared.rights.Rights.{Rights}
+use Rattle.page_memory.specs.Rights.{may, readable}
 use Rattle.page_memory.specs.declared.words.Access.TheVariants.{Load, Store}
 use Rattle.elf_image.specs.declared.image.ImagePage.{ImagePage}
 use Rattle.elf_image.specs.declared.runs.Run.{Run}
-use Rattle.elf_image.specs.declared.program_header.ProgramHeader.{ProgramHeader}
 use Rattle.elf_image.specs.ElfFiles.{touches, touched_pages, page_count, page_rights, bytes_between, loaded_byte, loaded_page, loaded_pages}
 use Rattle.elf_image.specs.Parts.{rising, readable_page}
 use Rattle.elf_image.specs.RisingLaws.{rising_rest, rising_far}

@@ -1,12 +1,11 @@
 -- What segments load that are the runs of an image's pages.
-use Rattle.std.proofs.Common.{◌≡◌, ℕ, zero, suc, ◌+◌, ◌-◌, ◌*◌, ◌<◌, ◌≤◌, min, max, Bool, true, false, cond, not, nat_lt, nat_le, ◌&&◌, ◌||◌, ◌==◌, List, [], ◌∷◌, length, map, slice_index, slice_index_or, arith, refl, sym, ap, ◌∙◌, subst, inl, inr, bit_and}
+use Rattle.std.proofs.Common.{◌≡◌, ℕ, zero, suc, ◌+◌, ◌-◌, ◌*◌, ◌<◌, ◌≤◌, min, max, Bool, true, false, cond, not, nat_lt, nat_le, ◌&&◌, ◌||◌, ◌==◌, List, [], ◌∷◌, length, map, slice_index, slice_index_or, arith, refl, sym, ap, ◌∙◌, inl, inr, bit_and}
 use Rattle.std.specs.List.{list_any}
 use Rattle.std.proofs.lemmas.Bool.{false≢true}
 use Rattle.std.proofs.lemmas.Bool.Decides.{nat_tests, leb_tells}
 use Rattle.elf_image.specs.declared.image.ImagePage.{ImagePage}
 use Rattle.elf_image.specs.declared.runs.Run.{Run}
-use Rattle.elf_image.specs.declared.program_header.ProgramHeader.{ProgramHeader}
-use Rattle.elf_image.specs.ElfFiles.{touches, share_address, overlap, gives, fills, loaded_byte}
+use Rattle.elf_image.specs.ElfFiles.{touches, share_address, overlap, gives, loaded_byte}
 use Rattle.elf_image.specs.WrittenFiles.{flags_of}
 use Rattle.elf_image.proofs.HeadersBack.{header_of, not_less}
 use Rattle.elf_image.proofs.Tiles.{IsRun, Tile}

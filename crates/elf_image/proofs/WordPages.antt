@@ -1,19 +1,19 @@
 -- A page's bytes as its words are written one after another.
-use Rattle.std.proofs.Common.{◌≡◌, ◌≢◌, ℕ, zero, suc, ◌+◌, ◌-◌, ◌*◌, ◌/◌, ◌%◌, ◌<◌, ◌≤◌, min, List, [], ◌∷◌, ◌++◌, length, take, drop, replicate, map, get_or, slice_index, slice_index_or, flat_map, arith, refl, sym, ap, ◌∙◌, subst, append_assoc, append-nil, length-append, take_all, length-drop, length-take, inl, inr, IsTrue, Bool, true, false, ◌&&◌, ◌==◌, eq-eqb, lit<}
+use Rattle.std.proofs.Common.{◌≡◌, ◌≢◌, ℕ, ◌+◌, ◌-◌, ◌*◌, ◌<◌, ◌≤◌, min, List, [], ◌∷◌, ◌++◌, length, take, drop, replicate, map, slice_index, slice_index_or, arith, refl, sym, ap, ◌∙◌, subst, append_assoc, append-nil, length-append, take_all, length-drop, length-take, inl, inr, IsTrue, ◌&&◌, ◌==◌, lit<}
 use Rattle.std.specs.List.{range_with_len, list_any}
-use Rattle.std.proofs.lemmas.List.{take_more, length-replicate, drop-replicate}
-use Rattle.std.proofs.lemmas.Grind.{flat_map-append, common_steps}
-use Rattle.std.proofs.lemmas.List.FromFn.{get_or-map-range_with_len, length-map-range_with_len, map-range_with_len_more}
+use Rattle.std.proofs.lemmas.List.{take_more, drop-replicate}
+use Rattle.std.proofs.lemmas.Grind.{flat_map-append}
+use Rattle.std.proofs.lemmas.List.FromFn.{get_or-map-range_with_len, length-map-range_with_len}
 use Rattle.std.proofs.Math.Seq.{drop-append-add, take-append_seam}
 use Rattle.byteorder.specs.Endian.{little_bytes}
 use Rattle.page_memory.specs.Memory.{overwritten}
 use Rattle.page_memory.specs.Rights.{may}
-use Rattle.page_memory.specs.declared.words.Access.TheVariants.{Fetch, Load, Store}
+use Rattle.page_memory.specs.declared.words.Access.TheVariants.{Fetch, Load}
 use Rattle.std.proofs.lemmas.Bool.Decides.{eqb_tells}
 use Rattle.std.proofs.lemmas.List.Folds.{list_any_at}
-use Rattle.page_memory.specs.Words.{page_number, page_offset}
+use Rattle.page_memory.specs.Words.{page_offset}
 use Rattle.elf_image.specs.declared.image.ImagePage.{ImagePage}
-use Rattle.elf_image.specs.Image.{ImageContent, ArePages, IsLawful, bytes_of, filled, word_page, word_pages, most_words, readable_code}
+use Rattle.elf_image.specs.Image.{IsLawful, bytes_of, filled, word_page, word_pages, most_words}
 use Rattle.elf_image.specs.PartsLaws.{neighbours}
 
 length-bytes_of : (words : List ℕ) → length (bytes_of words) ≡ 4 * length words

@@ -1,5 +1,5 @@
 -- The bytes of a written file, part after part.
-use Rattle.std.proofs.Common.{◌≡◌, ℕ, zero, suc, ◌+◌, ◌-◌, ◌*◌, ◌/◌, ◌<◌, ◌≤◌, ◌^◌, Bool, true, false, cond, List, [], ◌∷◌, ◌++◌, length, take, drop, replicate, flat_map, slice_index_or, arith, refl, sym, ap, ◌∙◌, append_assoc, length-append, take_all, subst}
+use Rattle.std.proofs.Common.{◌≡◌, ℕ, zero, suc, ◌+◌, ◌-◌, ◌*◌, ◌/◌, ◌<◌, ◌≤◌, ◌^◌, Bool, true, false, cond, List, [], ◌∷◌, ◌++◌, length, take, replicate, flat_map, slice_index_or, arith, refl, sym, ap, ◌∙◌, append_assoc, length-append, take_all, subst}
 use Rattle.std.proofs.lemmas.List.{length-replicate}
 use Rattle.elf_image.specs.declared.image.ImagePage.{ImagePage}
 use Rattle.elf_image.specs.declared.runs.Run.{Run}

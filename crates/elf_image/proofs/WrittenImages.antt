@@ -1,9 +1,8 @@
 -- The file that is written of an image has no fault, and its image is that image.
-use Rattle.std.proofs.Common.{◌≡◌, ℕ, zero, suc, ◌+◌, ◌-◌, ◌*◌, ◌<◌, ◌≤◌, ◌^◌, Bool, true, false, cond, not, nat_lt, nat_le, ◌&&◌, ◌||◌, List, [], ◌∷◌, ◌++◌, length, map, flat_map, slice_index_or, Option, Some, None, arith, refl, sym, ap, ◌∙◌, subst, append_assoc, length-append, IsTrue}
+use Rattle.std.proofs.Common.{◌≡◌, ℕ, suc, ◌+◌, ◌*◌, ◌<◌, ◌≤◌, Bool, true, false, cond, not, nat_lt, ◌&&◌, ◌||◌, List, [], ◌∷◌, ◌++◌, length, map, flat_map, slice_index_or, Option, Some, None, arith, refl, sym, ap, ◌∙◌, append_assoc, length-append}
 use Rattle.std.specs.List.{list_any, filter}
 use Rattle.std.specs.Option.{option_or}
 use Rattle.std.proofs.lemmas.Bool.{false≢true}
-use Rattle.elf_image.specs.declared.image.ImagePage.{ImagePage}
 use Rattle.elf_image.specs.declared.runs.Run.{Run}
 use Rattle.elf_image.specs.declared.program_header.ProgramHeader.{ProgramHeader}
 use Rattle.elf_image.specs.declared.fault.ElfFault.{ElfFault}
@@ -16,9 +15,9 @@ use Rattle.elf_image.specs.ElfFiles.{entry_of, program_headers, load_headers, se
 use Rattle.elf_image.specs.WrittenFiles.{runs, file_header, segment_header, padding, pages_offset, page_bytes, file_front, elf_file, IsHeld}
 use Rattle.elf_image.proofs.HeadersBack.{header_of, headers_back, header_passes, entry_back, not_less}
 use Rattle.elf_image.proofs.LoadedPages.{pages_loaded, still_readable}
-use Rattle.elf_image.proofs.LoadedRuns.{blank, page_at, is_less, no_overlap, tile_each, run_low}
+use Rattle.elf_image.proofs.LoadedRuns.{blank, is_less, no_overlap, tile_each, run_low}
 use Rattle.elf_image.proofs.Tiles.{IsRun, runs_tile}
-use Rattle.elf_image.proofs.WrittenBytes.{length-file_front, length-page_bytes, length-runs, length-file_header, runs_have_room}
+use Rattle.elf_image.proofs.WrittenBytes.{length-file_front, length-page_bytes, length-runs, runs_have_room}
 
 -- no header fails a test, or all pass it
 none : (test : ProgramHeader → Bool) (header : Run → ProgramHeader) (found : List Run) → ((k : ℕ) (d : Run) → k < length found → test (header (slice_index_or found k d)) ≡ false) → list_any test (map header found) ≡ false

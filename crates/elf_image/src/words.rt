@@ -1,4 +1,4 @@
-ghost use Rattle.std.specs.Prelude.{◌≡◌, ◌≤◌, ◌<◌, ◌*◌, ◌↔◌, [], length, map, IfOk};
+ghost use Rattle.std.specs.Prelude.{◌≡◌, ◌≢◌, ◌≤◌, ◌<◌, ◌*◌, ◌↔◌, [], length, map, IfOk, IfErr};
 ghost use Rattle.std.specs.List.{range_with_len};
 ghost use Rattle.elf_image.specs.Image.{image_of_words, word_page, word_pages, filled, bytes_of, most_words, readable_code};
 ghost use Rattle.elf_image.specs.declared.fault.ElfFault.{ElfFault};
@@ -25,6 +25,7 @@ impl Image {
         ensures image { IfOk result (λ image. image ≡ image_of_words words.now) }
         ensures large { (result ≡ Err ElfFault.TooLarge) ↔ (most_words < length words.now) }
         ensures empty { (result ≡ Err ElfFault.EntryNotExecutable) ↔ (words.now ≡ []) }
+        ensures other { IfErr result (λ fault. fault ≢ ElfFault.TooLarge → fault ≢ ElfFault.NoMemory → fault ≡ ElfFault.EntryNotExecutable) }
     {
         if words.len() > MOST_PAGES * PAGE_WORDS {
             return Err(ElfFault::TooLarge);

@@ -1,10 +1,10 @@
 -- What holds of the map that entries stand for, page by page: how it is looked up, and what becomes of it
 -- where one page changes or pages are added.
-use Rattle.std.proofs.Common.{◌≡◌, ◌≢◌, ℕ, zero, suc, ◌+◌, ◌%◌, position, ◌==◌, List, [], ◌∷◌, ◌++◌, map, Option, Some, None, option_map, option_and_then, Bool, true, false, cond, Result, Ok, Err, refl, sym, ap, ◌∙◌}
+use Rattle.std.proofs.Common.{◌≡◌, ℕ, zero, suc, ◌+◌, ◌%◌, position, ◌==◌, List, [], ◌∷◌, ◌++◌, map, Option, Some, None, option_map, option_and_then, Bool, true, false, cond, Ok, refl, sym, ap, ◌∙◌}
 use Rattle.std.proofs.lemmas.List.{map-append}
 use Rattle.std.specs.Ordering.{nat_cmp, eq_by_cmp}
 use Rattle.std.specs.Cmp.{nat_cmp_total}
-use Rattle.std.specs.FinMap.{FinMap, get, insert, from_entries, find, get-from_entries, get-insert, same_map, nat_cmp-IsAntisymmetric}
+use Rattle.std.specs.FinMap.{get, insert, from_entries, find, get-from_entries, get-insert, same_map, nat_cmp-IsAntisymmetric}
 use Rattle.byteorder.specs.Endian.{little_bytes}
 use Rattle.page_memory.specs.declared.words.Access.{Access}
 use Rattle.page_memory.specs.declared.words.Access.TheVariants.{Store}
@@ -24,7 +24,7 @@ use Rattle.page_memory.specs.Rights.{may}
 use Rattle.page_memory.specs.Memory.{Page, zero_page, with_zeroed, usable, with_right, overwritten, stored, copied_in}
 use Rattle.page_memory.specs.ZeroedLaws.{added_zeroed}
 use Rattle.page_memory.specs.AccessLaws.{stored_done, copied_done}
-use Rattle.page_memory.specs.EntriesLaws.{same_key, value_by_place, replaced_value, inserted, put_back}
+use Rattle.page_memory.specs.EntriesLaws.{value_by_place, replaced_value, inserted, put_back}
 
 module _ {S T : Type 0} (f : S → T) where
   through : (b : Bool) (x : S) (o : Option S) → option_map f (cond b (Some x) o) ≡ cond b (Some (f x)) (option_map f o)

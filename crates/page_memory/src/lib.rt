@@ -8,6 +8,7 @@
 mod fault;
 mod flat_memory;
 mod page;
+mod page_bytes;
 mod page_index;
 mod page_map;
 mod rights;
@@ -16,6 +17,7 @@ mod words;
 pub use fault::MemoryFault;
 pub use flat_memory::FlatMemory;
 pub use page::Page;
+pub use page_bytes::{number, put_bytes, put_number};
 pub use page_index::PageIndex;
 pub use page_map::PageMap;
 pub use rights::Rights;

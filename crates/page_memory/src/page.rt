@@ -3,9 +3,9 @@ ghost use Rattle.page_memory.specs.Memory.{number_at, overwritten};
 ghost use Rattle.page_memory.specs.Words.{bytes_in, page_offset};
 ghost use Rattle.byteorder.specs.Endian.{little_bytes};
 
+use crate::page_bytes::{number, put_bytes, put_number};
 use crate::rights::Rights;
-use crate::words::{PAGE_SIZE, Width, offset_in_page};
-use byteorder::{ByteOrder, LittleEndian};
+use crate::words::{PAGE_SIZE, Width};
 use std::alloc::{AllocError, Global};
 use std::marker::Model;
 
@@ -75,32 +75,16 @@ impl Page {
         requires { address % bytes_in width ≡ 0 }
         ensures { result ≡ number_at (bytes_in width) address self.now }
     {
-        let from = &self.bytes[offset_in_page(address)..];
-        match width {
-            Width::Byte => u32::from(from[0]),
-            Width::Half => u32::from(LittleEndian::read_u16(from)),
-            Width::Word => LittleEndian::read_u32(from),
-        }
+        number(self.bytes.as_slice(), width, address)
     }
 
     /// Writes the low bytes of a word at an address of this page that is aligned to their width.
     #[inline]
-    #[tactic(auto, using(crate::proofs::Overwriting::one_byte))]
     pub fn put_number(&mut self, width: Width, address: u32, word: u32)
         requires { address % bytes_in width ≡ 0 }
         ensures { self.new ≡ record self.old { bytes = overwritten self.old.bytes (page_offset address) (little_bytes (bytes_in width) word) } }
     {
-        let offset = offset_in_page(address);
-        match width {
-            Width::Byte => self.bytes[offset] = (word % 0x100) as u8,
-            Width::Half => {
-                LittleEndian::write_u16(
-                    &mut self.bytes[offset..offset + 2],
-                    (word % 0x1_0000) as u16,
-                );
-            }
-            Width::Word => LittleEndian::write_u32(&mut self.bytes[offset..offset + 4], word),
-        }
+        put_number(self.bytes.as_mut_slice(), width, address, word);
     }
 
     /// Writes bytes from an offset on.
@@ -108,6 +92,6 @@ impl Page {
         requires { offset + length bytes.now ≤ 4096 }
         ensures { self.new ≡ record self.old { bytes = overwritten self.old.bytes offset bytes.now } }
     {
-        self.bytes[offset..offset + bytes.len()].copy_from_slice(bytes);
+        put_bytes(self.bytes.as_mut_slice(), offset, bytes);
     }
 }

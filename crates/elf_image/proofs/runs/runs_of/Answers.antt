@@ -1,7 +1,7 @@
-use Rattle.std.proofs.Common.{◌≡◌, ◌∙◌, ◌+◌, ◌++◌, ◌<◌, ap, sym, arith, subst, drop}
+use Rattle.std.proofs.Common.{◌∙◌, ◌+◌, ◌++◌, ◌<◌, ap, sym, arith, subst, drop}
 use Rattle.elf_image.specs.declared.image.ImagePage.{ImagePage}
 use Rattle.elf_image.specs.declared.runs.Run.{Run}
-use Rattle.elf_image.specs.WrittenFiles.{run_of, goes_on, joined, runs_from, runs}
+use Rattle.elf_image.specs.WrittenFiles.{run_of, goes_on, joined, runs_from}
 use Rattle.elf_image.proofs.PageRuns.{run_begins, run_grows, run_ends, runs_end, runs_of_none}
 use Rattle.elf_image.proofs.runs.runs_of.Goals as goal
 use Rattle.elf_image.proofs.runs.runs_of.Goals.{then-goes_on, else-goes_on+in_ok-push}

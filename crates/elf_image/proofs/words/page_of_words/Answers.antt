@@ -1,4 +1,4 @@
-use Rattle.std.proofs.Common.{◌≡◌, ◌∙◌, ◌+◌, ◌-◌, ◌*◌, ap, ℕ, take, drop}
+use Rattle.std.proofs.Common.{◌∙◌, ◌+◌, ◌-◌, ◌*◌, ap, take, drop}
 use Rattle.elf_image.specs.Image.{filled, bytes_of, readable_code}
 use Rattle.elf_image.proofs.WordPages.{page_cut}
 use Rattle.elf_image.proofs.words.page_of_words.Goals as goal

@@ -1,7 +1,5 @@
-use Rattle.std.proofs.Common.{◌≡◌, ◌∙◌, ap, arith, rules, refl, replicate, ℕ}
-use Rattle.std.proofs.lemmas.Grind.{common_steps}
+use Rattle.std.proofs.Common.{◌∙◌, ap, arith, refl}
 use Rattle.page_memory.specs.Memory.{Page}
-use Rattle.elf_image.specs.Image.{readable_code}
 use Rattle.elf_image.proofs.WordPages.{word_written, words_written}
 use Rattle.elf_image.proofs.words.page_with_words.Goals as goal
 

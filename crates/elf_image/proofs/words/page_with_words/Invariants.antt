@@ -1,4 +1,4 @@
-use Rattle.std.proofs.Common.{◌≡◌, ℕ, ◌*◌, ◌-◌, ◌++◌, take, replicate}
+use Rattle.std.proofs.Common.{◌≡◌, ◌*◌, ◌-◌, ◌++◌, take, replicate}
 use Rattle.elf_image.specs.Image.{bytes_of, readable_code}
 use Rattle.elf_image.proofs.words.page_with_words.Given as goal
 

@@ -1,4 +1,4 @@
-use Rattle.std.proofs.Common.{◌≡◌, ◌∙◌, ◌++◌, ap, sym, arith, subst, length, slice_index_or, flat_map}
+use Rattle.std.proofs.Common.{◌∙◌, ◌++◌, ap, sym, arith, subst, length, slice_index_or, flat_map}
 use Rattle.elf_image.specs.WrittenFiles.{file_header, segment_header, HasRoom}
 use Rattle.elf_image.proofs.WrittenBytes.{front_written}
 use Rattle.elf_image.proofs.writing.put_front.Goals as goal

@@ -1,4 +1,4 @@
-use Rattle.std.proofs.Common.{◌≡◌, ◌∙◌, ◌++◌, ap, refl}
+use Rattle.std.proofs.Common.{◌∙◌, ◌++◌, ap}
 use Rattle.std.proofs.lemmas.Result.{IfOk-equal}
 use Rattle.elf_image.specs.Image.{bytes_of}
 use Rattle.elf_image.specs.WrittenFiles.{file_header, halves, identification, kind_and_machine, places_and_flags, sizes_and_counts}

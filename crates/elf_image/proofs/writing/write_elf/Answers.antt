@@ -1,6 +1,6 @@
-use Rattle.std.proofs.Common.{◌≡◌, ◌∙◌, ◌++◌, ◌<◌, ◌≤◌, ap, sym, arith, subst, length, ℕ}
+use Rattle.std.proofs.Common.{◌∙◌, ◌++◌, ap, sym, arith, subst, length}
 use Rattle.elf_image.specs.Image.{ArePages}
-use Rattle.elf_image.specs.WrittenFiles.{elf_file, file_front, page_bytes, runs, HasRoom}
+use Rattle.elf_image.specs.WrittenFiles.{elf_file, file_front, page_bytes, runs}
 use Rattle.elf_image.proofs.WrittenBytes.{length-runs, runs_have_room}
 use Rattle.elf_image.proofs.writing.write_elf.Goals as goal
 

@@ -1,6 +1,6 @@
-use Rattle.std.proofs.Common.{◌≡◌, ◌∙◌, ap, arith, length}
+use Rattle.std.proofs.Common.{◌∙◌, ap, arith, length}
 use Rattle.std.proofs.lemmas.Bool.Decides.{nat_tests}
-use Rattle.elf_image.specs.Image.{ImageContent, image_of_words}
+use Rattle.elf_image.specs.Image.{image_of_words}
 use Rattle.elf_image.proofs.WordPages.{lawful_words}
 use Rattle.elf_image.proofs.image.Image.from_words.Goals as goal
 

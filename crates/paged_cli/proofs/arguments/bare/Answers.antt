@@ -1,5 +1,5 @@
-use Rattle.std.proofs.Common.{ap, true, ◌≡◌, ◌∙◌, codes}
-use Rattle.clap.specs.Simple.{App, Shape, app_of, app_of_fields, new_app, on_top}
+use Rattle.std.proofs.Common.{ap, true, ◌∙◌}
+use Rattle.clap.specs.Simple.{App, Shape, app_of_fields, on_top}
 use Rattle.clap.specs.declared.builder.command.Command.{Command}
 use Rattle.clap.specs.declared.builder.command.Command.TheOpen.{Command-F}
 use Rattle.paged_cli.specs.CommandLine.{bare_app}

@@ -1,4 +1,4 @@
-use Rattle.std.proofs.Common.{ap₂, ◌≡◌, ◌∙◌}
+use Rattle.std.proofs.Common.{ap₂, ◌∙◌}
 use Rattle.std.proofs.lemmas.Result.{IfOk-weaker}
 use Rattle.clap.specs.Simple.{with_rule}
 use Rattle.paged_cli.specs.CommandLine.{flat_app}

@@ -102,3 +102,41 @@ fn tells_how_a_process_ends(rt: HostRuntime) -> Result<(), Fail> {
     }
     Ok(())
 }
+
+/// Two harts that add 1 to a word a thousand times each, by atomic memory operations; the last to end
+/// leaves the sum as the exit status.
+const TWO_HARTS: &str = "        la   s0, count
+        la   a0, child
+        li   a1, 0
+        li   a2, 0
+        li   a7, 1024
+        ecall
+child:  la   s0, count
+        li   t0, 1000
+        li   t1, 1
+loop:   amoadd.w zero, t1, (s0)
+        addi t0, t0, -1
+        bnez t0, loop
+        addi s1, s0, 4
+        amoadd.w t2, t1, (s1)
+        beqz t2, off
+        lw   a0, 0(s0)
+        li   a7, 94
+        ecall
+off:    li   a7, 93
+        ecall
+
+        .data
+count:  .word 0, 0
+";
+
+#[test]
+fn runs_two_harts_by_turns(rt: HostRuntime) -> Result<(), Fail> {
+    let done = run_flat(&rt, "runs_two_harts_by_turns", TWO_HARTS.as_bytes())?;
+    assert_eq!(rt;
+        done.out.as_str(),
+        "process 0 output 0\n\nprocess 0 exited 2000 after 6027 steps\n"
+    );
+    assert_eq!(rt; done.status, 1);
+    Ok(())
+}

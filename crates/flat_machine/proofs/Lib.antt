@@ -1,5 +1,4 @@
 pub mod Pages
-pub mod Steps
 pub mod Turns
 pub mod Runs
 pub mod Turning

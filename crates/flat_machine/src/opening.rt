@@ -21,10 +21,11 @@ const STACK_START: u32 = 0x7_FFC0;
 
 const STACK_END: u32 = 0x8_0000;
 
-const STACK_PAGES: u32 = STACK_END - STACK_START;
+/// How many pages the stack has.
+pub const STACK_PAGES: u32 = STACK_END - STACK_START;
 
 /// How many harts a process may ever start.
-const MOST_HARTS: usize = 8;
+pub const MOST_HARTS: usize = 8;
 
 impl FlatProcess {
     /// A process that is to run an image on an input.
@@ -51,7 +52,7 @@ impl FlatProcess {
 }
 
 /// What the first hart of an image begins with.
-fn first_registers(entry: u32) -> Regs
+pub fn first_registers(entry: u32) -> Regs
     ensures { result ≡ with_register (cleared entry) 2 2147483632 }
 {
     let mut regs = Regs::new(entry);
@@ -62,7 +63,7 @@ fn first_registers(entry: u32) -> Regs
 
 /// Where the break of a process stands at first: after the highest page of its image.
 #[tactic(auto, unfolding(crate::specs::Process::first_break))]
-fn first_break(pages: &[ImagePage]) -> u32
+pub fn first_break(pages: &[ImagePage]) -> u32
     requires { ArePages pages.now }
     ensures { result ≡ first_break pages.now }
 {

@@ -1,6 +1,6 @@
 use Rattle.std.proofs.Common.{◌≡◌, ◌∷◌, ◌++◌, [], length, arith, ap, ◌∙◌}
 use Rattle.env_calls.specs.Environment.{Environment}
-use Rattle.flat_machine.proofs.Steps.{whole_alone}
+use Rattle.flat_machine.specs.StepLaws.{whole_alone}
 use Rattle.flat_machine.proofs.process.FlatProcess.new.Goals as goal
 
 pub invariant_of-result : goal.invariant_of-result

@@ -1,5 +1,5 @@
 use Rattle.flat_machine.specs.RunLaws.{by_turns_none, by_turns_more}
-use Rattle.flat_machine.proofs.Steps.{goes_on_alike}
+use Rattle.flat_machine.specs.StepLaws.{goes_on_alike}
 use Rattle.flat_machine.proofs.Turning.{again, next_turn}
 use Rattle.flat_machine.proofs.process.FlatProcess.run_alone.Goals as goal
 

@@ -8,7 +8,7 @@ use Rattle.env_calls.specs.Serving.{TakesMemory}
 use Rattle.flat_machine.specs.declared.end.End.TheVariants.{Trapped}
 use Rattle.env_calls.specs.LiveLaws.{MarksAfter, marks_after}
 use Rattle.flat_machine.specs.Process.{Process, IsWhole, hart_registers, may_step}
-use Rattle.flat_machine.proofs.Steps.{taken, goes_on, started}
+use Rattle.flat_machine.specs.StepLaws.{taken, goes_on, started}
 use Rattle.flat_machine.proofs.process.FlatProcess.step_fully.Goals as goal
 
 pub invariant_of-self : goal.invariant_of-self

@@ -4,7 +4,7 @@ use Rattle.env_calls.specs.Effect.{Runs}
 use Rattle.env_calls.specs.Step.{effect}
 use Rattle.env_calls.specs.StepLaws.{effect_next}
 use Rattle.flat_machine.specs.Process.{Process}
-use Rattle.flat_machine.proofs.Steps.{taken}
+use Rattle.flat_machine.specs.StepLaws.{taken}
 use Rattle.flat_machine.proofs.process.FlatProcess.step_plainly.Goals as goal
 use Rattle.flat_machine.proofs.process.FlatProcess.step_plainly.Goals.{in-Done, in-Ecall, in-Trap, in-Absent}
 

@@ -11,7 +11,7 @@ use Rattle.flat_machine.specs.Process.{Process, IsWhole, hart_registers, is_live
 
 -- ---- a hart that may step
 
-both : (a b : Bool) → (a && b) ≡ true → (a ≡ true) × (b ≡ true)
+pub both : (a b : Bool) → (a && b) ≡ true → (a ≡ true) × (b ≡ true)
 both true b e = (refl, e)
 both false b e = absurd (true≢false (sym e))
 
@@ -19,7 +19,7 @@ no_ending : {A : Type 0} (o : Option A) → is_none o ≡ true → o ≡ None
 no_ending None e = refl
 no_ending (Some x) e = absurd (true≢false (sym e))
 
-marked_within : (live : List Bool) (hart : ℕ) → slice_index_or live hart false ≡ true → hart < length live
+pub marked_within : (live : List Bool) (hart : ℕ) → slice_index_or live hart false ≡ true → hart < length live
 marked_within [] hart e = absurd (true≢false (sym e))
 marked_within (mark ∷ live) zero e = omega arith
 marked_within (mark ∷ live) (suc hart) e = let rest = marked_within live hart e in omega arith
@@ -58,7 +58,7 @@ not_ended (Some x) e = absurd (true≢false e)
 -- ---- its step
 
 -- it takes the step of its registers' effect
-step_is : (hart : ℕ) (process : Process) (registers : Registers) (e : Effect) → may_step hart process ≡ true → hart_registers hart process ≡ Some registers
+pub step_is : (hart : ℕ) (process : Process) (registers : Registers) (e : Effect) → may_step hart process ≡ true → hart_registers hart process ≡ Some registers
     → effect hart registers process.environment process.memory ≡ e → flat_step hart process ≡ Some (after hart process registers e)
 unfolding flat_step
 step_is hart process registers e may are is =
@@ -74,7 +74,7 @@ kept process left whole harts live = record {
 }
 
 -- the process after it is whole
-whole_after : (hart : ℕ) (process : Process) (registers : Registers) (e : Effect) → IsWhole process → MarksAfter hart process.environment.live e → IsWhole (after hart process registers e)
+pub whole_after : (hart : ℕ) (process : Process) (registers : Registers) (e : Effect) → IsWhole process → MarksAfter hart process.environment.live e → IsWhole (after hart process registers e)
 whole_after hart process registers (Runs regs env memory) whole marks = kept process (after hart process registers (Runs regs env memory)) whole (length-set process.harts hart regs) (sym marks)
 whole_after hart process registers (Yields regs env memory) whole marks = kept process (after hart process registers (Yields regs env memory)) whole (length-set process.harts hart regs) (sym marks)
 whole_after hart process registers (Spawns first regs env memory) whole marks =

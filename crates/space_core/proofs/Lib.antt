@@ -1,0 +1,2 @@
+pub mod StepMoves
+pub mod SliceMoves

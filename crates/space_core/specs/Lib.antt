@@ -1,0 +1,5 @@
+pub mod RunningValue
+pub mod RunningCode
+pub mod Next
+pub mod Settling
+pub mod Slices

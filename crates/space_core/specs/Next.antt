@@ -1,0 +1,56 @@
+-- A hart's next instruction in a process: what it does to the process, and the pages that it uses.
+use Rattle.std.specs.Prelude.{ℕ, Bool, true, false, List, [], Option, Some, None, option_map, unwrap_or}
+use Rattle.env_calls.specs.declared.served.ServeStop.{ServeStop}
+use Rattle.env_calls.specs.declared.served.ServeStop.TheVariants as serve
+use Rattle.env_calls.specs.Effect.{Effect, Runs, Yields, Spawns, Finishes, Exits, Traps}
+use Rattle.env_calls.specs.Step.{effect, step_pages}
+use Rattle.flat_machine.specs.Process.{Process, hart_registers}
+use Rattle.space_core.specs.declared.progress.Progress.{Progress}
+use Rattle.space_core.specs.declared.progress.Progress.TheVariants.{GoesOn, Yielded, Spawned, HartDone, Ended}
+use Rattle.space_core.specs.declared.progress.SliceStop.{SliceStop}
+use Rattle.space_core.specs.declared.progress.SliceStop.TheVariants as stop
+
+-- what becomes of the hart and its process by an effect
+abbrev pub progress_of : Effect → Progress
+progress_of (Runs registers environment memory) = GoesOn
+progress_of (Yields registers environment memory) = Yielded
+progress_of (Spawns first registers environment memory) = Spawned
+progress_of (Finishes registers environment memory) = HartDone
+progress_of (Exits status registers environment memory) = Ended
+progress_of (Traps cause value) = Ended
+
+-- what the next step of a hart does, where the hart was started
+unfoldable pub next_effect : ℕ → Process → Option Effect
+next_effect hart process = option_map (λ registers. effect hart registers process.environment process.memory) (hart_registers hart process)
+
+unfoldable pub next_progress : ℕ → Process → Option Progress
+next_progress hart process = option_map progress_of (next_effect hart process)
+
+-- the pages that the next step of a hart uses
+unfoldable pub next_pages : ℕ → Process → List ℕ
+next_pages hart process = unwrap_or (option_map (λ registers. step_pages registers process.memory) (hart_registers hart process)) []
+
+-- why a slice stops after a step, if it does
+abbrev pub stop_after : Progress → Option SliceStop
+stop_after GoesOn = None
+stop_after Spawned = None
+stop_after Yielded = Some stop.Yield
+stop_after HartDone = Some stop.HartDone
+stop_after Ended = Some stop.Ended
+
+-- why it stops before a step that is not taken
+abbrev pub stop_before : ServeStop → SliceStop
+stop_before (serve.Absent page) = stop.Absent page
+stop_before serve.NoMemory = stop.NoMemory
+
+-- why it stops where the schedule may have taken fewer than it was allowed
+abbrev pub recorded_stop : SliceStop → Bool → SliceStop
+recorded_stop stop.Budget true = stop.ScheduleFull
+recorded_stop stop.Budget false = stop.Budget
+recorded_stop (stop.Absent page) short = stop.Absent page
+recorded_stop stop.Yield short = stop.Yield
+recorded_stop stop.HartDone short = stop.HartDone
+recorded_stop stop.Ended short = stop.Ended
+recorded_stop stop.NoHart short = stop.NoHart
+recorded_stop stop.ScheduleFull short = stop.ScheduleFull
+recorded_stop stop.NoMemory short = stop.NoMemory

@@ -1,0 +1,13 @@
+//! One process on paged memory.
+#![tactic(auto)]
+
+mod progress;
+mod recorded;
+mod running;
+mod settling;
+mod slicing;
+mod stepping;
+
+pub use progress::{Progress, Slice, SliceStop};
+pub use recorded::Recorded;
+pub use running::Running;

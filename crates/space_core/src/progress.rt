@@ -1,0 +1,73 @@
+ghost use Rattle.std.specs.Prelude.{◌≡◌};
+ghost use Rattle.space_core.specs.Next.{stop_after, stop_before};
+
+use env_calls::ServeStop;
+
+/// What became of a hart, and of its process, by one step.
+#[derive(Clone, Copy, Debug, PartialEq, Eq)]
+pub enum Progress {
+    /// The hart goes on.
+    GoesOn,
+    /// The hart goes on, and lets others have their turn.
+    Yielded,
+    /// The hart goes on, and a new hart is started.
+    Spawned,
+    /// The hart is done; another hart of its process is live.
+    HartDone,
+    /// The process ended, itself or by a trap.
+    Ended,
+}
+
+/// What a slice of a hart's time was: how many instructions ran, and why it stopped.
+#[derive(Clone, Copy, Debug, PartialEq, Eq)]
+pub struct Slice {
+    pub ran: u32,
+    pub stop: SliceStop,
+}
+
+/// Why a slice stops.
+#[derive(Clone, Copy, Debug, PartialEq, Eq)]
+pub enum SliceStop {
+    /// All the instructions that it was allowed ran.
+    Budget,
+    /// The next instruction uses this page, by number, which has to be brought in first.
+    Absent(u32),
+    /// The last instruction lets other harts have their turn.
+    Yield,
+    /// The last instruction ended the hart.
+    HartDone,
+    /// The process has ended, by the last instruction or before.
+    Ended,
+    /// The process has no such live hart.
+    NoHart,
+    /// The schedule takes no more instructions of the hart.
+    ScheduleFull,
+    /// There is no memory for the next instruction's output or pages.
+    NoMemory,
+}
+
+impl Progress {
+    /// Why a slice stops after a step, if it does.
+    #[inline]
+    pub(crate) fn stop(self) -> Option<SliceStop>
+        ensures { result ≡ stop_after self }
+    {
+        match self {
+            Progress::GoesOn => None,
+            Progress::Spawned => None,
+            Progress::Yielded => Some(SliceStop::Yield),
+            Progress::HartDone => Some(SliceStop::HartDone),
+            Progress::Ended => Some(SliceStop::Ended),
+        }
+    }
+}
+
+/// Why a slice stops before a step that is not taken.
+pub(crate) fn stop_before(stop: ServeStop) -> SliceStop
+    ensures { result ≡ stop_before stop }
+{
+    match stop {
+        ServeStop::Absent(page) => SliceStop::Absent(page),
+        ServeStop::NoMemory => SliceStop::NoMemory,
+    }
+}

@@ -1,8 +1,8 @@
 -- What changes in caches alone keeps.
-use Rattle.std.specs.Prelude.{◌≡◌, ℕ, ◌<◌, Some, List, [], ◌∷◌, ◌++◌, All, map, length, slice_get, slice_index_or, slice_set}
+use Rattle.std.specs.Prelude.{◌≡◌, ℕ, ◌<◌, Some, List, [], ◌∷◌, ◌++◌, All, map, length, slice_index_or, slice_set}
 use Rattle.std.proofs.lemmas.List.Elements.{All-nil, All-map, All-weaker, All-set, All-push, All-get_or}
 use Rattle.page_store.specs.PageValue.{PageValue}
-use Rattle.page_memory.specs.Entries.{pages_of}
+use Rattle.page_memory.specs.Entries.{place_of}
 use Rattle.sv32_table.specs.EntryAt.{entry_at}
 use Rattle.tlb_core.specs.declared.translation.Translation.{Translation}
 use Rattle.tlb_core.specs.Cache.{undoomed}
@@ -17,7 +17,7 @@ module _ {S : Type 0} {held : S → List ℕ} {honest : Type 0} {pages : List (�
       record {
         agree = record { mapped = holds.agree.mapped; cached = keep (λ t. IsSound (seen_at pages t.page) (entry_at tables t.page) t) holds.agree.cached };
         tabled = holds.tabled;
-        placed = keep (λ t. slice_get (pages_of pages) t.place ≡ Some t.page) holds.placed;
+        placed = keep (λ t. place_of t.page pages ≡ Some t.place) holds.placed;
         backed = holds.backed;
       }
 

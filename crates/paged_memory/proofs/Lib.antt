@@ -5,4 +5,9 @@ pub mod PagedLaws
 pub mod CallLaws
 pub mod LeavingLaws
 pub mod HartLaws
+pub mod WalkLaws
+pub mod LocateLaws
+pub mod ReadLaws
+pub mod WriteLaws
+pub mod HitLaws
 pub mod MovesLaws

@@ -1,12 +1,12 @@
 -- What keeps a process's pages, tables and caches together when one page changes.
-use Rattle.std.specs.Prelude.{◌≡◌, ℕ, ◌^◌, ◌<◌, ◌==◌, true, false, cond, if◌then◌else◌, Some, None, option_map, option_and_then, is_some, List, map, All, slice_get, refl}
+use Rattle.std.specs.Prelude.{◌≡◌, ℕ, ◌^◌, ◌<◌, ◌==◌, true, false, cond, if◌then◌else◌, Some, None, option_map, option_and_then, is_some, List, map, All, refl}
 use Rattle.std.proofs.Common.{sym, ap, ◌∙◌, subst, eqb-true, eq-eqb, arith}
 use Rattle.std.proofs.lemmas.List.Elements.{All-map, All-weaker}
 use Rattle.std.specs.Ordering.{nat_cmp, eq_by_cmp}
 use Rattle.std.specs.Cmp.{nat_cmp_total}
 use Rattle.std.specs.FinMap.{get, from_entries, get-insert}
-use Rattle.page_memory.specs.Entries.{place_of, pages_of, value_at, with_value}
-use Rattle.page_memory.specs.EntriesLaws.{same_key, value_by_place, replaced_value, put_back, pages_of-with_value}
+use Rattle.page_memory.specs.Entries.{place_of, value_at, with_value}
+use Rattle.page_memory.specs.EntriesLaws.{same_key, value_by_place, replaced_value, put_back, place_of-with_value}
 use Rattle.page_memory.specs.StandsForLaws.{value-changes, map_by-same}
 use Rattle.page_store.specs.PageValue.{PageValue, frame_of, Backed}
 use Rattle.sv32_table.specs.Entry.{Entry}
@@ -14,10 +14,10 @@ use Rattle.sv32_table.specs.EntryAt.{entry_at, has_table, ChangesEntry}
 use Rattle.tlb_core.specs.declared.translation.Translation.{Translation}
 use Rattle.tlb_core.specs.Cache.{doomed, doomed_entry}
 use Rattle.paged_memory.specs.Seen.{is_used}
-use Rattle.paged_memory.specs.Soundness.{IsMapped, ArePlaced}
+use Rattle.paged_memory.specs.Soundness.{IsMapped}
 use Rattle.paged_memory.proofs.SoundnessLaws.{ChangesAt, Unheld, Stays, changed_unheld, changed_held, changed_doomed}
 use Rattle.paged_memory.specs.Calls.{ChangesBy}
-use Rattle.paged_memory.specs.Paged.{seen_of, page_at, seen_at, flat_page, memory_of, Holds, ChangesPage}
+use Rattle.paged_memory.specs.Paged.{seen_of, page_at, seen_at, flat_page, memory_of, ArePlaced, Holds, ChangesPage}
 
 swap_key : {A : Type 0} (q number : ℕ) (x y : A) → cond (eq_by_cmp nat_cmp q number) x y ≡ (if q == number then x else y)
 swap_key q number x y = ap (λ b. cond b x y) (same_key q number ∙ turned number q)
@@ -25,7 +25,7 @@ swap_key q number x y = ap (λ b. cond b x y) (same_key q number ∙ turned numb
     turned : (a b : ℕ) → (a == b) ≡ (b == a)
     turned a b = grind (arith, eq-eqb, eqb-true)
 
-same_where : {A : Type 0} (f : ℕ → A) (number q : ℕ) (x : A) → f number ≡ x → f q ≡ (if q == number then x else f q)
+pub same_where : {A : Type 0} (f : ℕ → A) (number q : ℕ) (x : A) → f number ≡ x → f q ≡ (if q == number then x else f q)
 same_where f number q x is =
     elim (q == number) as (λ b. (q == number) ≡ b → f q ≡ cond b x (f q)) [
       | true ↦ λ e. ap f (eqb-true q number e) ∙ is
@@ -56,14 +56,14 @@ module _ {S : Type 0} where
       ∙ ap (λ o. if q == number then Some page else o) (sym (get-page_at pages q))
 
   pub changes_at_place : (pages : List (ℕ × PageValue S)) (number place : ℕ) (page : PageValue S) → place_of number pages ≡ Some place → ChangesPage pages (with_value pages place page) number page
-  changes_at_place pages number place page at = record { places = λ k q is. ap (λ ns. slice_get ns k) (pages_of-with_value pages place page) ∙ is; pages = page_at-with_value pages number place page at; entries = value-changes pages number place page at }
+  changes_at_place pages number place page at = record { places = λ q k is. place_of-with_value pages place q page ∙ is; pages = page_at-with_value pages number place page at; entries = value-changes pages number place page at }
 
   pub changed_by : {by : PageValue S → PageValue S → Type 0} (pages : List (ℕ × PageValue S)) (number place : ℕ) (page page' : PageValue S) → place_of number pages ≡ Some place → value_at place pages ≡ Some page → by page page' → ChangesBy by pages (with_value pages place page') number
   changed_by pages number place page page' at is how = record { page = page; page' = page'; found = page_at-place pages number place page at is; changes = changes_at_place pages number place page' at; how = how }
 
   -- a page that stays
   pub changes_no_page : (pages : List (ℕ × PageValue S)) (number : ℕ) (page : PageValue S) → page_at pages number ≡ Some page → ChangesPage pages pages number page
-  changes_no_page pages number page is = record { places = λ k q at. at; pages = λ q. same_where (page_at pages) number q (Some page) is; entries = record { changed = sym (put_back (from_entries {R = nat_cmp} pages) number page (sym (get-page_at pages number) ∙ is)) } }
+  changes_no_page pages number page is = record { places = λ q k at. at; pages = λ q. same_where (page_at pages) number q (Some page) is; entries = record { changed = sym (put_back (from_entries {R = nat_cmp} pages) number page (sym (get-page_at pages number) ∙ is)) } }
 
   -- where a page shows what it showed, the memory stays
   pub memory_stays : (held : S → List ℕ) (old new : List (ℕ × PageValue S)) (number : ℕ) (before page : PageValue S) → page_at old number ≡ Some before → flat_page held page ≡ flat_page held before → ChangesPage old new number page → memory_of held new ≡ memory_of held old
@@ -135,8 +135,8 @@ module _ {S : Type 0} {held : S → List ℕ} {honest : Type 0} {pages pages' : 
         | false ↦ λ other. change.kept q in_range (old q p in_range (sym (change.changes.pages q ∙ choice_other q number (Some page) (page_at pages q) other) ∙ is) framed)
       ] refl
 
-  placed_still : (caches : List (List Translation)) → ArePlaced (pages_of pages) caches → ArePlaced (pages_of pages') caches
-  placed_still caches placed = All-weaker _ _ (λ cache in_cache. All-weaker _ _ (λ t is. change.changes.places t.place t.page is) cache in_cache) caches placed
+  placed_still : (caches : List (List Translation)) → ArePlaced pages caches → ArePlaced pages' caches
+  placed_still caches placed = All-weaker _ _ (λ cache in_cache. All-weaker _ _ (λ t is. change.changes.places t.page t.place is) cache in_cache) caches placed
 
   -- a page changes that no cache holds
   pub Holds-unheld : (caches : List (List Translation)) → Holds held honest pages tables caches → Unheld number caches → Holds held honest pages' tables' caches
@@ -165,6 +165,6 @@ module _ {S : Type 0} {held : S → List ℕ} {honest : Type 0} {pages pages' : 
       record {
         agree = changed_doomed _ changes_there mapped_here caches holds.agree stays;
         tabled = tabled_still holds.tabled;
-        placed = All-map (λ cache. All (λ t. slice_get (pages_of pages') t.place ≡ Some t.page) cache) (doomed number) caches (All-weaker _ _ (λ cache placed. All-map (λ t. slice_get (pages_of pages') t.place ≡ Some t.page) (doomed_entry number) cache placed) caches (placed_still caches holds.placed));
+        placed = All-map (λ cache. All (λ t. place_of t.page pages' ≡ Some t.place) cache) (doomed number) caches (All-weaker _ _ (λ cache placed. All-map (λ t. place_of t.page pages' ≡ Some t.place) (doomed_entry number) cache placed) caches (placed_still caches holds.placed));
         backed = backed_still holds.backed;
       }

@@ -2,3 +2,4 @@ pub mod Seen
 pub mod Soundness
 pub mod Paged
 pub mod Calls
+pub mod Access

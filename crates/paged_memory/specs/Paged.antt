@@ -1,13 +1,13 @@
 -- The pages, page tables and translation caches of one process, and the memory that they stand for.
-use Rattle.std.specs.Prelude.{◌≡◌, ℕ, ◌^◌, ◌<◌, ◌==◌, true, if◌then◌else◌, Option, Some, option_map, option_and_then, is_some, List, slice_get}
+use Rattle.std.specs.Prelude.{◌≡◌, ℕ, ◌^◌, ◌<◌, ◌==◌, true, if◌then◌else◌, Option, Some, option_map, option_and_then, is_some, List, All}
 use Rattle.page_memory.specs.Memory.{Page, Memory}
-use Rattle.page_memory.specs.Entries.{place_of, pages_of, value_at, map_by, ChangesPage as Changes}
+use Rattle.page_memory.specs.Entries.{place_of, value_at, map_by, ChangesPage as Changes}
 use Rattle.page_store.specs.PageValue.{PageValue, Place, Fresh, Resident, Leaving, Saving, Away, Purged, content, frame_of, Backed}
 use Rattle.sv32_table.specs.EntryAt.{entry_at, has_table}
 use Rattle.tlb_core.specs.declared.translation.Translation.{Translation}
 use Rattle.paged_memory.specs.Seen.{Standing, Seen}
 use Rattle.paged_memory.specs.Seen as seen
-use Rattle.paged_memory.specs.Soundness.{Agree, ArePlaced}
+use Rattle.paged_memory.specs.Soundness.{Agree}
 
 -- the number of the process; the pages by their places, each with its number; the tables; and the cache of each hart
 pub record PagedValue (S : Type 0) : Type 0 where
@@ -36,17 +36,21 @@ module _ {S : Type 0} where
   abbrev pub seen_at : List (ℕ × PageValue S) → ℕ → Option Seen
   seen_at pages number = option_map seen_of (page_at pages number)
 
+  -- each cached translation stands with the place of its page
+  abbrev pub ArePlaced : List (ℕ × PageValue S) → List (List Translation) → Type 0
+  ArePlaced pages caches = All (λ cache. All (λ t. place_of t.page pages ≡ Some t.place) cache) caches
+
   -- pages, tables and caches go together; a page with a frame has a table; and where slots are honest, a page that does not count as changed equals its
   -- backing
   pub record Holds (held : S → List ℕ) (honest : Type 0) (pages : List (ℕ × PageValue S)) (tables : List (List ℕ)) (caches : List (List Translation)) : Type 0 where
     pub agree : Agree (seen_at pages) (entry_at tables) caches
     pub tabled : (number : ℕ) (page : PageValue S) → number < 2 ^ 20 → page_at pages number ≡ Some page → is_some (frame_of page.place) ≡ true → has_table tables number ≡ true
-    pub placed : ArePlaced (pages_of pages) caches
+    pub placed : ArePlaced pages caches
     pub backed : honest → (number : ℕ) (page : PageValue S) → number < 2 ^ 20 → page_at pages number ≡ Some page → Backed held (entry_at tables number).dirty page
 
   -- one page is this now, and each other what it was; each keeps its place
   pub record ChangesPage (old new : List (ℕ × PageValue S)) (number : ℕ) (page : PageValue S) : Type 0 where
-    pub places : (place q : ℕ) → slice_get (pages_of old) place ≡ Some q → slice_get (pages_of new) place ≡ Some q
+    pub places : (q place : ℕ) → place_of q old ≡ Some place → place_of q new ≡ Some place
     pub pages : (q : ℕ) → page_at new q ≡ (if q == number then Some page else page_at old q)
     pub entries : Changes old new number page
 

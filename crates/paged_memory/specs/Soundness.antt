@@ -1,5 +1,5 @@
 -- How pages, table entries and cached translations go together.
-use Rattle.std.specs.Prelude.{◌≡◌, ℕ, ◌^◌, ◌<◌, Bool, true, false, is_some, Option, Some, List, All, slice_get}
+use Rattle.std.specs.Prelude.{◌≡◌, ℕ, ◌^◌, ◌<◌, Bool, true, false, is_some, Option, Some, List, All}
 use Rattle.std.specs.List.{list_any}
 use Rattle.page_memory.specs.declared.rights.Rights.{Rights}
 use Rattle.page_memory.specs.declared.words.Access.TheVariants.{Load, Store}
@@ -29,10 +29,6 @@ pub record IsSound (page : Option Seen) (e : Entry) (t : Translation) : Type 0 w
 pub record Agree (pages : ℕ → Option Seen) (entries : ℕ → Entry) (caches : List (List Translation)) : Type 0 where
   pub mapped : (page : ℕ) → page < 2 ^ 20 → IsMapped (pages page) (entries page)
   pub cached : All (λ cache. All (λ t. IsSound (pages t.page) (entries t.page) t) cache) caches
-
--- each cached translation stands with the place of its page in the list of page numbers
-abbrev pub ArePlaced : List ℕ → List (List Translation) → Type 0
-ArePlaced numbers caches = All (λ cache. All (λ t. slice_get numbers t.place ≡ Some t.page) cache) caches
 
 -- whether a cache holds a translation of the page
 abbrev pub is_held : ℕ → List (List Translation) → Bool

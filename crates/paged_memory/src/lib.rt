@@ -1,9 +1,13 @@
 //! The pages of one process wherever their bytes are, with its page tables and its harts' translation caches.
 #![tactic(auto)]
 
+mod access;
 mod caches;
 mod eviction;
+mod hart_access;
 mod harts;
 mod memory;
+mod reading;
+mod writing;
 
 pub use memory::PagedMemory;

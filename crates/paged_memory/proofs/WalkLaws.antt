@@ -1,0 +1,238 @@
+-- A hart walks the tables for a resident page, and caches the translation.
+use Rattle.std.specs.Prelude.{◌≡◌, ◌≢◌, ℕ, ◌^◌, ◌<◌, ◌==◌, Bool, true, false, ◌||◌, ◌&&◌, cond, Option, Some, None, option_and_then, is_some, List, [], ◌∷◌, All, length, slice_set, slice_index_or, refl}
+use Rattle.std.proofs.Common.{sym, ap, ◌∙◌, subst, inl, inr, eqb-true, eq-eqb, true≢false}
+use Rattle.std.specs.List.{list_any}
+use Rattle.std.proofs.lemmas.List.{get_or-set_same, get_or-set_other, length-set}
+use Rattle.std.proofs.lemmas.List.Folds.{list_any_none}
+use Rattle.std.proofs.lemmas.List.Elements.{All-nil, All-cons, All-get_or, All-set}
+use Rattle.frame_pool.specs.FrameValue.{FrameValue}
+use Rattle.page_memory.specs.Memory.{Page}
+use Rattle.page_memory.specs.declared.words.Access.{Access}
+use Rattle.page_memory.specs.declared.words.Access.TheVariants.{Fetch, Load, Store}
+use Rattle.page_memory.specs.declared.rights.Rights.{Rights}
+use Rattle.page_memory.specs.Rights.{may}
+use Rattle.page_memory.specs.Entries.{place_of, value_at}
+use Rattle.page_store.specs.declared.state.Keeping.{Keeping}
+use Rattle.page_store.specs.PageValue.{PageValue, Resident, Backed}
+use Rattle.sv32_table.specs.Entry.{Entry, page_entry}
+use Rattle.sv32_table.specs.EntryAt.{entry_at, ChangesEntry, SameTables, walked_entry, dirty_of}
+use Rattle.sv32_table.specs.EntryLaws.{is_store, walked_entry-page_entry, dirty_of-page_entry, dirty-page_entry, accessed-page_entry}
+use Rattle.tlb_core.specs.declared.translation.Translation.{Translation}
+use Rattle.tlb_core.specs.Cache.{filled, entry_of, is_of}
+use Rattle.tlb_core.specs.CacheLaws.{All-filled, All-none, none-All}
+use Rattle.paged_memory.specs.Seen.{Seen, frame_seen, rights_seen, is_changed, is_used}
+use Rattle.paged_memory.specs.Soundness.{IsSound}
+use Rattle.paged_memory.specs.Calls.{IsResident}
+use Rattle.paged_memory.specs.Access.{cache_of, is_resident, is_doomed, HasPage, Reaches, Locates, KeepsTranslations}
+use Rattle.paged_memory.specs.Paged.{page_at, seen_at, Holds}
+use Rattle.paged_memory.proofs.PagedLaws.{Change, choice_other, changes_no_page, Holds-held}
+use Rattle.paged_memory.proofs.CallLaws.{entry_at_changed, entry_resident, seen_resident, readable_resident, mapped_resident}
+
+-- a page that counts as changed by more than before
+backed_raised : {S : Type 0} (held : S → List ℕ) (origin : Page) (frame : FrameValue) (slot : Keeping S) (more dirty : Bool) → Backed held dirty (record { origin = origin; place = Resident frame slot }) → Backed held (more || dirty) (record { origin = origin; place = Resident frame slot })
+backed_raised held origin frame slot true dirty was = λ unchanged. cc
+backed_raised held origin frame slot false dirty was = was
+
+or_more : (more dirty : Bool) → dirty ≡ true → (more || dirty) ≡ true
+or_more true dirty is = refl
+or_more false dirty is = is
+
+-- no element passes the test
+none_passes : {A : Type 0} (p : A → Bool) (xs : List A) → list_any p xs ≡ false → All (λ x. p x ≡ false) xs
+none_passes p [] none = All-nil _
+none_passes {A} p (x ∷ xs) none = first (p x) refl none (none_passes p xs)
+  where
+    first : (b : Bool) → p x ≡ b → (b || list_any p xs) ≡ false → (list_any p xs ≡ false → All (λ x. p x ≡ false) xs) → All (λ x. p x ≡ false) (x ∷ xs)
+    first true is none later = cc
+    first false is none later = All-cons (λ x. p x ≡ false) x xs is (later none)
+
+module _ {S : Type 0} {held : S → List ℕ} {honest : Type 0} {pages : List (ℕ × PageValue S)} where
+  -- a translation is put into a hart's cache
+  pub holds_filled : {tables : List (List ℕ)} {caches : List (List Translation)} (t : Translation) (hart : ℕ) → hart < length caches → Holds held honest pages tables caches → IsSound (seen_at pages t.page) (entry_at tables t.page) t → place_of t.page pages ≡ Some t.place → Holds held honest pages tables (slice_set caches hart (filled t (slice_index_or caches hart [])))
+  holds_filled {tables} {caches} t hart within holds sound placed =
+      record {
+        agree = record { mapped = holds.agree.mapped; cached = put (λ u. IsSound (seen_at pages u.page) (entry_at tables u.page) u) sound holds.agree.cached };
+        tabled = holds.tabled;
+        placed = put (λ u. place_of u.page pages ≡ Some u.place) placed holds.placed;
+        backed = holds.backed;
+      }
+    where
+      put : (P : Translation → Type 0) → P t → All (λ cache. All P cache) caches → All (λ cache. All P cache) (slice_set caches hart (filled t (slice_index_or caches hart [])))
+      put P here all = All-set (λ cache. All P cache) caches hart _ (All-filled P t _ here (All-get_or (λ cache. All P cache) caches hart [] within all)) all
+
+  module _ {tables : List (List ℕ)} {caches : List (List Translation)} (tables' : List (List ℕ)) (number : ℕ) (small : number < 2 ^ 20) (holds : Holds held honest pages tables caches) (resident : IsResident pages number) (access : Access) (allowed : may access resident.origin.rights ≡ true) (entries : ChangesEntry tables tables' number (walked_entry (entry_at tables number) access)) (same : SameTables tables tables') where
+    abbrev old_entry : Entry
+    old_entry = entry_at tables number
+
+    abbrev page : PageValue S
+    page = record { origin = resident.origin; place = Resident resident.frame resident.slot }
+
+    abbrev now_dirty : Bool
+    now_dirty = is_store access || old_entry.dirty
+
+    walked : walked_entry old_entry access ≡ page_entry resident.frame.number resident.origin.rights true now_dirty
+    walked =
+        ap (λ e. walked_entry e access) (entry_resident number small holds resident)
+        ∙ walked_entry-page_entry access resident.frame.number resident.origin.rights old_entry.accessed old_entry.dirty (readable_resident number small holds resident)
+        ∙ ap (λ b. cond b (page_entry resident.frame.number resident.origin.rights true now_dirty) (page_entry resident.frame.number resident.origin.rights old_entry.accessed old_entry.dirty)) allowed
+
+    pub entry_now : entry_at tables' number ≡ page_entry resident.frame.number resident.origin.rights true now_dirty
+    entry_now = entry_at_changed tables tables' (walked_entry old_entry access) number small entries ∙ walked
+
+    pub accessed_now : (entry_at tables' number).accessed ≡ true
+    accessed_now = ap (λ (e : Entry). e.accessed) entry_now ∙ accessed-page_entry resident.frame.number resident.origin.rights true now_dirty
+
+    pub dirty_now : (entry_at tables' number).dirty ≡ now_dirty
+    dirty_now = ap (λ (e : Entry). e.dirty) entry_now ∙ dirty-page_entry resident.frame.number resident.origin.rights true now_dirty
+
+    walked_dirty : (walked_entry old_entry access).dirty ≡ now_dirty
+    walked_dirty = ap (λ (e : Entry). e.dirty) walked ∙ dirty-page_entry resident.frame.number resident.origin.rights true now_dirty
+
+    change : Change held honest pages pages tables tables' number page (walked_entry old_entry access)
+    change =
+        record {
+          small = small;
+          changes = changes_no_page pages number page resident.found;
+          entry = entries;
+          kept = λ q in_range has. same q in_range ∙ has;
+          tabled = λ framed. same number small ∙ holds.tabled number page small resident.found framed;
+          mapped = mapped_resident resident.origin resident.frame resident.slot true now_dirty walked (readable_resident number small holds resident);
+          backed = λ is_honest. subst (λ d. Backed held d page) (sym walked_dirty) (backed_raised held resident.origin resident.frame resident.slot (is_store access) old_entry.dirty (holds.backed is_honest number page small resident.found));
+        }
+
+    pub changed_on : is_changed (seen_at pages number) old_entry ≡ true → is_changed (seen_at pages number) (entry_at tables' number) ≡ true
+    changed_on was =
+        ap (λ s. is_changed s (entry_at tables' number)) (seen_resident number small holds resident) ∙ dirty_now
+        ∙ or_more (is_store access) old_entry.dirty (sym (ap (λ s. is_changed s old_entry) (seen_resident number small holds resident)) ∙ was)
+
+    -- its use is marked
+    pub used_now : is_used (seen_at pages number) (entry_at tables' number) ≡ true
+    used_now = ap (λ s. is_used s (entry_at tables' number)) (seen_resident number small holds resident) ∙ accessed_now
+
+    pub holds_walked : Holds held honest pages tables' caches
+    holds_walked = Holds-held change caches holds (record { frame = refl; rights = refl; changed = changed_on }) (λ _. used_now)
+
+    -- the translation that the walk gives
+    abbrev pub translation : ℕ → Translation
+    translation place = record { page = number; place = place; frame = resident.frame.number; rights = resident.origin.rights; dirty = dirty_of (entry_at tables' number); doomed = false }
+
+    told_dirty : dirty_of (entry_at tables' number) ≡ now_dirty
+    told_dirty = ap dirty_of entry_now ∙ dirty_of-page_entry resident.frame.number resident.origin.rights true now_dirty
+
+    pub sound_now : (place : ℕ) → IsSound (seen_at pages number) (entry_at tables' number) (translation place)
+    sound_now place =
+        record {
+          small = small;
+          frame = ap frame_seen (seen_resident number small holds resident);
+          rights = ap rights_seen (seen_resident number small holds resident);
+          changed = λ dirty. ap (λ s. is_changed s (entry_at tables' number)) (seen_resident number small holds resident) ∙ dirty_now ∙ sym told_dirty ∙ dirty;
+          used = λ _. used_now;
+        }
+
+    -- everything goes together with it in the hart's cache
+    pub holds_cached : (place hart : ℕ) → hart < length caches → place_of number pages ≡ Some place → Holds held honest pages tables' (slice_set caches hart (filled (translation place) (slice_index_or caches hart [])))
+    holds_cached place hart within at = holds_filled (translation place) hart within holds_walked (sound_now place) at
+
+    module _ (place hart : ℕ) (within : hart < length caches) where
+      abbrev cached : List (List Translation)
+      cached = slice_set caches hart (filled (translation place) (slice_index_or caches hart []))
+
+      cache_now : cache_of cached hart ≡ filled (translation place) (cache_of caches hart)
+      cache_now = get_or-set_same caches hart (filled (translation place) (slice_index_or caches hart [])) [] within
+
+      -- what is marked stays marked, and more
+      rises : (asked : Option Seen → Entry → Bool) → (asked (seen_at pages number) old_entry ≡ true → asked (seen_at pages number) (entry_at tables' number) ≡ true) → (q : ℕ) → q < 2 ^ 20 → asked (seen_at pages q) (entry_at tables q) ≡ true → asked (seen_at pages q) (entry_at tables' q) ≡ true
+      rises asked here q in_range was =
+          elim (q == number) as (λ b. (q == number) ≡ b → asked (seen_at pages q) (entry_at tables' q) ≡ true) [
+            | true ↦ λ at.
+                let equal : q ≡ number = eqb-true q number at in
+                subst (λ q. asked (seen_at pages q) (entry_at tables' q) ≡ true) (sym equal) (here (subst (λ q. asked (seen_at pages q) (entry_at tables q) ≡ true) equal was))
+            | false ↦ λ other. ap (asked (seen_at pages q)) (entries q in_range ∙ choice_other q number (walked_entry old_entry access) (entry_at tables q) other) ∙ was
+          ] refl
+
+      -- a page that the hart's cache holds was held, or is resident
+      held_before : (q : ℕ) → is_some (entry_of q (cache_of cached hart)) ≡ true → HasPage pages (cache_of caches hart) q
+      held_before q holds_now = by_page (q == number) refl (entry_of q (cache_of caches hart)) refl (ap (λ c. is_some (entry_of q c)) (sym cache_now) ∙ holds_now)
+        where
+          by_page : (b : Bool) → (q == number) ≡ b → (o : Option Translation) → entry_of q (cache_of caches hart) ≡ o → is_some (entry_of q (filled (translation place) (cache_of caches hart))) ≡ true → HasPage pages (cache_of caches hart) q
+          by_page true at o was now = inl (ap (λ n. is_resident (seen_at pages n)) (eqb-true q number at) ∙ ap is_resident (seen_resident number small holds resident))
+          by_page false other (Some t) was now = inr (ap is_some was)
+          by_page false other None was now =
+              let apart : number ≢ q = λ e. true≢false (sym (eq-eqb q number (sym e)) ∙ other) in
+              let gone = none-All q _ (All-filled (λ t. t.page ≢ q) (translation place) (cache_of caches hart) apart (All-none q (cache_of caches hart) was)) in
+              absurd (true≢false (sym now ∙ ap is_some gone))
+
+      -- no translation is to be dropped that was not
+      doomed_before : (q : ℕ) → is_doomed q (cache_of cached hart) ≡ true → is_doomed q (cache_of caches hart) ≡ true
+      doomed_before q now = by_cache (is_doomed q (cache_of caches hart)) refl
+        where
+          asked : Translation → Bool
+          asked t = is_of q t && t.doomed
+
+          fresh : (b : Bool) → (b && false) ≡ false
+          fresh true = refl
+          fresh false = refl
+
+          by_cache : (b : Bool) → is_doomed q (cache_of caches hart) ≡ b → b ≡ true
+          by_cache true was = refl
+          by_cache false was =
+              let none = list_any_none (λ t. is_of q t && t.doomed) _ (All-filled (λ t. (is_of q t && t.doomed) ≡ false) (translation place) (cache_of caches hart) (fresh (is_of q (translation place))) (none_passes (λ t. is_of q t && t.doomed) (cache_of caches hart) was)) in
+              absurd (true≢false (sym (ap (is_doomed q) (sym cache_now) ∙ now) ∙ none))
+
+      pub keeps_walked : KeepsTranslations pages hart tables tables' caches cached
+      keeps_walked =
+          record {
+            harts = length-set caches hart (filled (translation place) (slice_index_or caches hart []));
+            others = λ h apart. get_or-set_other caches hart h (filled (translation place) (slice_index_or caches hart [])) [] apart;
+            used = rises is_used (λ _. used_now);
+            changed = rises is_changed changed_on;
+            held = held_before;
+            doomed = doomed_before;
+          }
+
+-- a hart whose access changes nothing
+pub keeps_nothing : {S : Type 0} (pages : List (ℕ × PageValue S)) (hart : ℕ) (tables : List (List ℕ)) (caches : List (List Translation)) → KeepsTranslations pages hart tables tables caches caches
+keeps_nothing pages hart tables caches = record { harts = refl; others = λ h apart. refl; used = λ q small is. is; changed = λ q small is. is; held = λ q is. inr is; doomed = λ q is. is }
+
+-- what a walk comes to
+pub record Walked {S : Type 0} (held : S → List ℕ) (honest : Type 0) (pages : List (ℕ × PageValue S)) (tables tables' : List (List ℕ)) (caches caches' : List (List Translation)) (hart : ℕ) (access : Access) (number place : ℕ) : Type 0 where
+  pub holds : Holds held honest pages tables' caches'
+  pub reaches : Reaches pages tables' access number place
+  pub kept : KeepsTranslations pages hart tables tables' caches caches'
+  pub used : is_used (seen_at pages number) (entry_at tables' number) ≡ true
+
+store_told : (access : Access) → access ≡ Store → is_store access ≡ true
+store_told Store is = refl
+store_told Load is = cc
+store_told Fetch is = cc
+
+true_more : (more dirty : Bool) → more ≡ true → (more || dirty) ≡ true
+true_more true dirty is = refl
+true_more false dirty is = cc
+
+pub walk_done : {S : Type 0} {held : S → List ℕ} {honest : Type 0} {pages : List (ℕ × PageValue S)} {tables : List (List ℕ)} {caches : List (List Translation)} (tables' : List (List ℕ)) (caches' : List (List Translation)) (number hart place frame : ℕ) (rights : Rights) (dirty : Bool) (access : Access) → number < 2 ^ 20 → hart < length caches → Holds held honest pages tables caches → Locates pages access number place frame rights
+    → ChangesEntry tables tables' number (walked_entry (entry_at tables number) access) → SameTables tables tables' → dirty ≡ dirty_of (entry_at tables' number)
+    → caches' ≡ slice_set caches hart (filled (record { page = number; place = place; frame = frame; rights = rights; dirty = dirty; doomed = false }) (slice_index_or caches hart []))
+    → Walked held honest pages tables tables' caches caches' hart access number place
+unfolding page_at
+walk_done {S} {held} {honest} {pages} {tables} {caches} tables' caches' number hart place frame rights dirty access small within holds at entries same told filled_is =
+    record {
+      holds = subst (λ cs. Holds held honest pages tables' cs) (sym caches_are) (holds_cached tables' number small holds at.resident access at.allowed entries same place hart within at.at);
+      reaches = record {
+        page = record { origin = at.resident.origin; place = Resident at.resident.frame at.resident.slot };
+        at = at.at;
+        value = sym (ap (option_and_then (λ k. value_at k pages)) at.at) ∙ at.resident.found;
+        allowed = at.allowed;
+        framed = refl;
+        changed = λ is. dirty_now tables' number small holds at.resident access at.allowed entries same ∙ true_more (is_store access) (entry_at tables number).dirty (store_told access is);
+      };
+      kept = subst (λ cs. KeepsTranslations pages hart tables tables' caches cs) (sym caches_are) (keeps_walked tables' number small holds at.resident access at.allowed entries same place hart within);
+      used = used_now tables' number small holds at.resident access at.allowed entries same;
+    }
+  where
+    caches_are : caches' ≡ slice_set caches hart (filled (translation tables' number small holds at.resident access at.allowed entries same place) (slice_index_or caches hart []))
+    caches_are =
+        filled_is
+        ∙ ap (λ f. slice_set caches hart (filled (record { page = number; place = place; frame = f; rights = rights; dirty = dirty; doomed = false }) (slice_index_or caches hart []))) (sym at.frame_is)
+        ∙ ap (λ r. slice_set caches hart (filled (record { page = number; place = place; frame = at.resident.frame.number; rights = r; dirty = dirty; doomed = false }) (slice_index_or caches hart []))) (sym at.rights_is)
+        ∙ ap (λ d. slice_set caches hart (filled (record { page = number; place = place; frame = at.resident.frame.number; rights = at.resident.origin.rights; dirty = d; doomed = false }) (slice_index_or caches hart []))) told

@@ -1,0 +1,144 @@
+-- A hart writes to a page that its access reaches.
+use Rattle.std.specs.Prelude.{◌≡◌, ℕ, ◌^◌, ◌<◌, ◌%◌, ◌==◌, Bool, true, false, cond, ◌||◌, Some, option_map, Result, Ok, Err, is_some, List, refl}
+use Rattle.std.proofs.Common.{sym, ap, ◌∙◌, subst, eqb-true, eq-eqb}
+use Rattle.byteorder.specs.Endian.{little_bytes}
+use Rattle.page_memory.specs.Memory.{Page, Memory, overwritten, answered, usable, aligned_page, if_aligned, memory_with, stored, copied_in}
+use Rattle.page_memory.specs.declared.fault.MemoryFault.{MemoryFault}
+use Rattle.rv_exec.specs.declared.bus.BusError.{BusError}
+use Rattle.rv_exec.specs.declared.bus.BusError.TheVariants.{Fault, Absent}
+use Rattle.rv_exec.specs.Answers.{Refuses}
+use Rattle.page_memory.specs.Words.{page_number, page_offset, bytes_in}
+use Rattle.page_memory.specs.declared.words.Width.{Width}
+use Rattle.page_memory.specs.declared.words.Access.TheVariants.{Store}
+use Rattle.page_memory.specs.Entries.{with_value}
+use Rattle.page_memory.specs.EntriesLaws.{place_of-with_value}
+use Rattle.page_memory.specs.StandsForLaws.{stored-changed, copied-changed}
+use Rattle.page_store.specs.PageValue.{PageValue, Place, Fresh, Resident, Leaving, Saving, Away, Purged, content, shown, writable, frame_of, Backed, BackedAt, is_unsaved}
+use Rattle.page_store.specs.Lending.{rewritten, with_bytes}
+use Rattle.sv32_table.specs.Entry.{Entry}
+use Rattle.sv32_table.specs.EntryAt.{entry_at}
+use Rattle.tlb_core.specs.declared.translation.Translation.{Translation}
+use Rattle.paged_memory.specs.Seen.{frame_seen, rights_seen, is_changed, is_used}
+use Rattle.paged_memory.specs.Soundness.{IsMapped}
+use Rattle.paged_memory.specs.Access.{Reaches, KeepsSeen}
+use Rattle.paged_memory.specs.Paged.{standing_of, seen_of, page_at, seen_at, flat_page, memory_of, Holds, ChangesPage}
+use Rattle.paged_memory.proofs.PagedLaws.{Change, get-page_at, page_at-place, changes_at_place, changes_no_entry, Holds-held}
+
+-- what a write to a page's frame leaves
+module _ {S : Type 0} where
+  standing_rewritten : (place : Place S) (bytes : List ℕ) → standing_of (rewritten bytes place) ≡ standing_of place
+  standing_rewritten Fresh bytes = refl
+  standing_rewritten (Resident frame slot) bytes = refl
+  standing_rewritten (Leaving frame slot mark) bytes = refl
+  standing_rewritten (Saving frame) bytes = refl
+  standing_rewritten (Away slot) bytes = refl
+  standing_rewritten Purged bytes = refl
+
+  framed_rewritten : (place : Place S) (bytes : List ℕ) → is_some (frame_of (rewritten bytes place)) ≡ is_some (frame_of place)
+  framed_rewritten Fresh bytes = refl
+  framed_rewritten (Resident frame slot) bytes = refl
+  framed_rewritten (Leaving frame slot mark) bytes = refl
+  framed_rewritten (Saving frame) bytes = refl
+  framed_rewritten (Away slot) bytes = refl
+  framed_rewritten Purged bytes = refl
+
+  shown_rewritten : (held : S → List ℕ) (origin : List ℕ) (place : Place S) (bytes : List ℕ) → is_some (writable place) ≡ true → shown held origin (rewritten bytes place) ≡ bytes
+  shown_rewritten held origin Fresh bytes is = cc
+  shown_rewritten held origin (Resident frame slot) bytes is = refl
+  shown_rewritten held origin (Leaving frame slot mark) bytes is = refl
+  shown_rewritten held origin (Saving frame) bytes is = cc
+  shown_rewritten held origin (Away slot) bytes is = cc
+  shown_rewritten held origin Purged bytes is = cc
+
+  -- a page that counts as changed may be written
+  backed_rewritten : (held : S → List ℕ) (page : PageValue S) (e : Entry) (bytes : List ℕ) → is_some (writable page.place) ≡ true → is_changed (Some (seen_of page)) e ≡ true → Backed held e.dirty (with_bytes page bytes)
+  backed_rewritten held page e bytes is changed_is = by_place page.place is changed_is
+    where
+      by_place : (place : Place S) → is_some (writable place) ≡ true → is_changed (Some (record { rights = page.origin.rights; standing = standing_of place })) e ≡ true → BackedAt held page.origin.bytes e.dirty (rewritten bytes place)
+      by_place Fresh is changed_is = cc
+      by_place (Resident frame slot) is changed_is = λ unchanged. let clash : true ≡ false = sym (ap (λ b. b || is_unsaved slot) changed_is) ∙ unchanged in cc
+      by_place (Leaving frame slot mark) is changed_is = λ unchanged. let clash : true ≡ false = sym (ap (λ b. b || is_unsaved slot) changed_is) ∙ unchanged in cc
+      by_place (Saving frame) is changed_is = cc
+      by_place (Away slot) is changed_is = cc
+      by_place Purged is changed_is = cc
+
+  module _ {held : S → List ℕ} {honest : Type 0} {pages : List (ℕ × PageValue S)} {tables : List (List ℕ)} {caches : List (List Translation)} (number place : ℕ) (small : number < 2 ^ 20) (holds : Holds held honest pages tables caches) (reached : Reaches pages tables Store number place) (bytes : List ℕ) where
+    abbrev written : PageValue S
+    written = with_bytes reached.page bytes
+
+    abbrev pub pages_now : List (ℕ × PageValue S)
+    pages_now = with_value pages place written
+
+    found : page_at pages number ≡ Some reached.page
+    found = page_at-place pages number place reached.page reached.at reached.value
+
+    changes : ChangesPage pages pages_now number written
+    changes = changes_at_place pages number place written reached.at
+
+    seen_same : seen_of written ≡ seen_of reached.page
+    seen_same = ap (λ s. record { rights = reached.page.origin.rights; standing = s }) (standing_rewritten reached.page.place bytes)
+
+    -- what translation sees stays
+    pub seen_stays : KeepsSeen pages pages_now
+    seen_stays =
+        record {
+          seen = λ q. ap (option_map seen_of) (changes.pages q) ∙ choose q (q == number) refl;
+          places = λ q. place_of-with_value pages place q written;
+        }
+      where
+        choose : (q : ℕ) (b : Bool) → (q == number) ≡ b → option_map seen_of (cond b (Some written) (page_at pages q)) ≡ seen_at pages q
+        choose q true is = ap Some seen_same ∙ sym (ap (option_map seen_of) (ap (page_at pages) (eqb-true q number is) ∙ found))
+        choose q false is = refl
+
+    change : Change held honest pages pages_now tables tables number written (entry_at tables number)
+    change =
+        record {
+          small = small;
+          changes = changes;
+          entry = changes_no_entry tables number;
+          kept = λ q in_range has. has;
+          tabled = λ framed. holds.tabled number reached.page small found (sym (framed_rewritten reached.page.place bytes) ∙ framed);
+          mapped = subst (λ s. IsMapped s (entry_at tables number)) (ap (option_map seen_of) found ∙ sym (ap Some seen_same)) (holds.agree.mapped number small);
+          backed = λ is_honest. backed_rewritten held reached.page (entry_at tables number) bytes reached.framed (reached.changed refl);
+        }
+
+    pub holds_written : Holds held honest pages_now tables caches
+    holds_written =
+        Holds-held change caches holds
+        (record { frame = ap frame_seen (seen_stays.seen number); rights = ap rights_seen (seen_stays.seen number); changed = λ was. ap (λ s. is_changed s (entry_at tables number)) (seen_stays.seen number) ∙ was })
+        (λ was. ap (λ s. is_used s (entry_at tables number)) (seen_stays.seen number) ∙ was)
+
+  -- the memory that is left by a store, and by a copy
+  pub stored_written : (held : S → List ℕ) (pages : List (ℕ × PageValue S)) (tables : List (List ℕ)) (width : Width) (address word place : ℕ) → address % bytes_in width ≡ 0 → (reached : Reaches pages tables Store (page_number address) place) → stored (memory_of held pages) width address word ≡ Ok (memory_of held (with_value pages place (with_bytes reached.page (overwritten (content held reached.page) (page_offset address) (little_bytes (bytes_in width) word)))))
+  unfolding memory_of
+  stored_written held pages tables width address word place aligned reached =
+      let bytes = overwritten (content held reached.page) (page_offset address) (little_bytes (bytes_in width) word) in
+      let found = page_at-place pages (page_number address) place reached.page reached.at reached.value in
+      stored-changed (flat_page held) pages _ width address word reached.page (with_bytes reached.page bytes) aligned (sym (get-page_at pages (page_number address)) ∙ found) reached.allowed
+      (ap (λ b. record (flat_page held reached.page) { bytes = b }) (shown_rewritten held reached.page.origin.bytes reached.page.place bytes reached.framed))
+      (changes_at_place pages (page_number address) place (with_bytes reached.page bytes) reached.at).entries
+
+  pub copied_written : (held : S → List ℕ) (pages : List (ℕ × PageValue S)) (tables : List (List ℕ)) (address place : ℕ) (from : List ℕ) (reached : Reaches pages tables Store (page_number address) place) → copied_in (memory_of held pages) address from ≡ Ok (memory_of held (with_value pages place (with_bytes reached.page (overwritten (content held reached.page) (page_offset address) from))))
+  unfolding memory_of
+  copied_written held pages tables address place from reached =
+      let bytes = overwritten (content held reached.page) (page_offset address) from in
+      let found = page_at-place pages (page_number address) place reached.page reached.at reached.value in
+      copied-changed (flat_page held) pages _ address from reached.page (with_bytes reached.page bytes) (sym (get-page_at pages (page_number address)) ∙ found) reached.allowed
+      (ap (λ b. record (flat_page held reached.page) { bytes = b }) (shown_rewritten held reached.page.origin.bytes reached.page.place bytes reached.framed))
+      (changes_at_place pages (page_number address) place (with_bytes reached.page bytes) reached.at).entries
+
+-- an access that is refused, where what it does is not asked
+answered_refused : {A : Type 0} (lacks : ℕ → Type 0) (address : ℕ) (g : Page → A) (refusal : BusError) (r : Result Page MemoryFault) → Refuses lacks address r refusal → Refuses lacks address (answered g r) refusal
+answered_refused lacks address g (Fault fault) r is = ap (answered g) is
+answered_refused lacks address g (Absent page) (Ok p) is = (is.0, is.1, refl)
+answered_refused lacks address g (Absent page) (Err fault) is = let clash = is.2 in cc
+
+pub stored_refused : (lacks : ℕ → Type 0) (memory : Memory) (width : Width) (address word : ℕ) (refusal : BusError) → address % bytes_in width ≡ 0 → Refuses lacks address (usable memory Store address) refusal → Refuses lacks address (stored memory width address word) refusal
+unfolding stored aligned_page
+stored_refused lacks memory width address word refusal aligned is =
+    subst (λ b. Refuses lacks address (answered (memory_with memory address (little_bytes (bytes_in width) word)) (if_aligned b (usable memory Store address))) refusal) (sym (eq-eqb (address % bytes_in width) 0 aligned))
+    (answered_refused lacks address (memory_with memory address (little_bytes (bytes_in width) word)) refusal (usable memory Store address) is)
+
+pub copied_refused : (lacks : ℕ → Type 0) (memory : Memory) (address : ℕ) (from : List ℕ) (refusal : BusError) → Refuses lacks address (usable memory Store address) refusal → Refuses lacks address (copied_in memory address from) refusal
+unfolding copied_in
+copied_refused lacks memory address from refusal is = answered_refused lacks address (memory_with memory address from) refusal (usable memory Store address) is

@@ -1,0 +1,15 @@
+use Rattle.std.proofs.Common.{subst}
+use Rattle.page_memory.specs.Words.{page_number}
+use Rattle.paged_memory.specs.Access.{Hits, cache_of}
+use Rattle.paged_memory.proofs.HitLaws.{reaches_hit, marks_hit}
+use Rattle.paged_memory.proofs.access.reach.Goals as goal
+
+pub returns-in-Some-clause-reaches : goal.returns-in-Some-clause-reaches
+returns-in-Some-clause-reaches g c =
+    let hits = subst (λ n. Hits (cache_of c.args.caches.now c.args.hart) c.args.access n c.in-Some.place) c.page_of-page.ensures.number c.in-Some.ensures in
+    reaches_hit (page_number c.args.address) c.args.hart c.in-Some.place c.args.access c.requires.holds c.requires.hart hits
+
+pub returns-in-Some-clause-marked : goal.returns-in-Some-clause-marked
+returns-in-Some-clause-marked g c =
+    let hits = subst (λ n. Hits (cache_of c.args.caches.now c.args.hart) c.args.access n c.in-Some.place) c.page_of-page.ensures.number c.in-Some.ensures in
+    marks_hit (page_number c.args.address) c.args.hart c.in-Some.place c.args.access c.requires.holds c.requires.hart hits

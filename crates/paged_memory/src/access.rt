@@ -1,0 +1,146 @@
+ghost use Rattle.std.specs.Prelude.{◌≡◌, ◌<◌, ◌^◌, length, is_some, Some, IfSome, IfNone, IfOk, IfErr, OnOk, ◌⊎◌, true, option_map};
+ghost use Rattle.page_memory.specs.Words.{page_number};
+ghost use Rattle.page_store.specs.PageValue.{Place};
+ghost use Rattle.sv32_table.specs.EntryAt.{entry_at};
+ghost use Rattle.paged_memory.specs.Paged.{Holds, seen_at, page_at};
+ghost use Rattle.paged_memory.specs.Seen.{is_used};
+ghost use Rattle.paged_memory.specs.Access.{Hits, Reaches, RefusesAccess, Locates, HasPage, MarksUse, KeepsTranslations, cache_of, is_doomed, resident_frame};
+
+use crate::caches::Caches;
+use page_memory::{Access, MemoryFault, PageMap, Rights, page_of};
+use page_store::{PageState, StoredPage};
+use rv_exec::BusError;
+use std::sync::ledger::Ledger;
+use sv32_table::PageTables;
+use swap_slots::SwapSlot;
+use tlb_core::Translation;
+
+/// The place of a page that a hart's cache shows for an access.
+#[inline]
+pub(crate) fn hit(caches: &Caches, hart: usize, access: Access, page: u32) -> Option<usize>
+    requires { hart < length caches.now }
+    ensures { IfSome result (λ place. Hits (cache_of caches.now hart) access page place) }
+{
+    let entry = caches.look(hart, page)?;
+    if !entry.rights.allow(access) {
+        return None;
+    }
+    match access {
+        Access::Store if !entry.dirty => None,
+        _ => Some(entry.place),
+    }
+}
+
+/// The number of a resident page's frame.
+fn frame_number<L: Ledger, S: SwapSlot>(page: &StoredPage<L, S>) -> Option<u32>
+    ensures { result ≡ resident_frame page.now.place }
+{
+    match page.state() {
+        PageState::Resident => Some(page.frame()?.number()),
+        _ => None,
+    }
+}
+
+/// Where a resident page is that an access may use.
+pub(crate) struct Located {
+    place: usize,
+    frame: u32,
+    rights: Rights,
+}
+
+/// Finds a resident page that an access may use. That the right is missing comes before that the page is absent.
+fn locate<L: Ledger, S: SwapSlot>(
+    pages: &PageMap<StoredPage<L, S>>,
+    access: Access,
+    page: u32,
+) -> Result<Located, BusError>
+    requires { page < 2 ^ 20 }
+    ensures found { IfOk result (λ found. Locates pages.now access page found.place found.frame found.rights) }
+    ensures refused { IfErr result (RefusesAccess pages.now access page) }
+{
+    let Some(place) = pages.place(page) else {
+        return Err(BusError::Fault(MemoryFault::PageFault));
+    };
+    let stored = pages.at(place);
+    let rights = stored.rights();
+    if !rights.allow(access) {
+        return Err(BusError::Fault(MemoryFault::PageFault));
+    }
+    let Some(frame) = frame_number(stored) else {
+        return Err(BusError::Absent(page));
+    };
+    Ok(Located {
+        place,
+        frame,
+        rights,
+    })
+}
+
+/// Walks the tables for a hart's access to a page, and caches what they give. Answers the page's place.
+#[cold]
+fn walk<L: Ledger, S: SwapSlot>(
+    pages: &PageMap<StoredPage<L, S>>,
+    tables: &mut PageTables,
+    caches: &mut Caches,
+    hart: usize,
+    access: Access,
+    page: u32,
+    address: u32,
+) -> Result<usize, BusError>
+    requires page { page ≡ page_number address }
+    requires small { page < 2 ^ 20 }
+    requires hart { hart < length caches.old }
+    requires holds { Holds S.content S.honest pages.now tables.old caches.old }
+    ensures holds { Holds S.content S.honest pages.now tables.new caches.new }
+    ensures reaches { IfOk result (λ place. Reaches pages.now tables.new access page place) }
+    ensures refused { IfErr result (RefusesAccess pages.now access page) }
+    ensures kept { KeepsTranslations pages.now hart tables.old tables.new caches.old caches.new }
+    ensures has { OnOk result (HasPage pages.now (cache_of caches.old hart) page) }
+    ensures used { OnOk result (is_used (seen_at pages.now page) (entry_at tables.new page) ≡ true) }
+{
+    let Located {
+        place,
+        frame,
+        rights,
+    } = locate(pages, access, page)?;
+    let _ = tables.walk(address, access);
+    let dirty = tables.is_dirty(page);
+    caches.fill(
+        hart,
+        Translation {
+            page,
+            place,
+            frame,
+            rights,
+            dirty,
+            doomed: false,
+        },
+    );
+    Ok(place)
+}
+
+/// The place of a page for a hart's access, by its cache or by a walk.
+#[inline]
+pub(crate) fn reach<L: Ledger, S: SwapSlot>(
+    pages: &PageMap<StoredPage<L, S>>,
+    tables: &mut PageTables,
+    caches: &mut Caches,
+    hart: usize,
+    access: Access,
+    address: u32,
+) -> Result<usize, BusError>
+    requires hart { hart < length caches.old }
+    requires holds { Holds S.content S.honest pages.now tables.old caches.old }
+    ensures holds { Holds S.content S.honest pages.now tables.new caches.new }
+    ensures reaches { IfOk result (λ place. Reaches pages.now tables.new access (page_number address) place) }
+    ensures refused { IfErr result (RefusesAccess pages.now access (page_number address)) }
+    ensures kept { KeepsTranslations pages.now hart tables.old tables.new caches.old caches.new }
+    ensures has { OnOk result (HasPage pages.now (cache_of caches.old hart) (page_number address)) }
+    ensures marked { OnOk result (MarksUse pages.now tables.new (cache_of caches.old hart) (page_number address)) }
+{
+    let page = page_of(address);
+    match hit(caches, hart, access, page) {
+        Some(place) => Ok(place),
+        None => walk(pages, tables, caches, hart, access, page, address),
+    }
+}

@@ -1,0 +1,81 @@
+ghost use Rattle.std.specs.Prelude.{◌≡◌, ◌<◌, length, OnErr};
+ghost use Rattle.page_memory.specs.Memory.{fetched, loaded, stored};
+ghost use Rattle.rv_exec.specs.Answers.{Answers, with_answer};
+ghost use Rattle.paged_memory.specs.Paged.{memory_of};
+ghost use Rattle.paged_memory.specs.Access.{HasPage, LacksPage, MarksUse, KeepsTranslations, KeepsSeen, cache_of};
+
+use crate::memory::PagedMemory;
+use crate::{reading, writing};
+use page_memory::Width;
+use rv_exec::BusError;
+use std::sync::ledger::Ledger;
+use swap_slots::SwapSlot;
+
+// What a hart reaches of the memory: by its cache at once, and else by a walk of the tables, which sets the accessed bit
+// and, for a store, the dirty bit. That the page is not mapped or lacks the right comes before that it is absent.
+impl<L: Ledger, S: SwapSlot> PagedMemory<L, S> {
+    /// The word at an address, to be run by a hart.
+    #[inline]
+    pub fn fetch(&mut self, hart: usize, address: u32) -> Result<u32, BusError>
+        requires { hart < length self.old.caches }
+        ensures answer { Answers (HasPage self.old.pages (cache_of self.old.caches hart)) (MarksUse self.old.pages self.new.tables (cache_of self.old.caches hart)) (LacksPage self.old.pages) address (fetched (memory_of S.content self.old.pages) address) result }
+        ensures process { self.new.process ≡ self.old.process }
+        ensures pages { self.new.pages ≡ self.old.pages }
+        ensures kept { KeepsTranslations self.old.pages hart self.old.tables self.new.tables self.old.caches self.new.caches }
+    {
+        reading::fetch(
+            &self.pages,
+            &mut self.tables,
+            &mut self.caches,
+            hart,
+            address,
+        )
+    }
+
+    /// The number at an address that a hart loads, not extended.
+    #[inline]
+    pub fn load(&mut self, hart: usize, width: Width, address: u32) -> Result<u32, BusError>
+        requires { hart < length self.old.caches }
+        ensures answer { Answers (HasPage self.old.pages (cache_of self.old.caches hart)) (MarksUse self.old.pages self.new.tables (cache_of self.old.caches hart)) (LacksPage self.old.pages) address (loaded (memory_of S.content self.old.pages) width address) result }
+        ensures process { self.new.process ≡ self.old.process }
+        ensures pages { self.new.pages ≡ self.old.pages }
+        ensures kept { KeepsTranslations self.old.pages hart self.old.tables self.new.tables self.old.caches self.new.caches }
+    {
+        reading::load(
+            &self.pages,
+            &mut self.tables,
+            &mut self.caches,
+            hart,
+            width,
+            address,
+        )
+    }
+
+    /// Stores the low bytes of a word for a hart. Its page counts as changed from then on.
+    #[inline]
+    pub fn store(
+        &mut self,
+        hart: usize,
+        width: Width,
+        address: u32,
+        word: u32,
+    ) -> Result<(), BusError>
+        requires { hart < length self.old.caches }
+        ensures answer { let after = with_answer (λ _. memory_of S.content self.new.pages) result in
+            Answers (HasPage self.old.pages (cache_of self.old.caches hart)) (MarksUse self.old.pages self.new.tables (cache_of self.old.caches hart)) (LacksPage self.old.pages) address (stored (memory_of S.content self.old.pages) width address word) after }
+        ensures refused { OnErr result (self.new.pages ≡ self.old.pages) }
+        ensures process { self.new.process ≡ self.old.process }
+        ensures seen { KeepsSeen self.old.pages self.new.pages }
+        ensures kept { KeepsTranslations self.old.pages hart self.old.tables self.new.tables self.old.caches self.new.caches }
+    {
+        writing::store(
+            &mut self.pages,
+            &mut self.tables,
+            &mut self.caches,
+            hart,
+            width,
+            address,
+            word,
+        )
+    }
+}

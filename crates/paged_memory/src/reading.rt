@@ -1,0 +1,109 @@
+ghost use Rattle.std.specs.Prelude.{◌≡◌, ◌<◌, ◌%◌, length, is_some, Some, Ok, OnOk, true, IfOk, IfErr, IfSome};
+ghost use Rattle.std.specs.Option.{IsSomeAnd};
+ghost use Rattle.page_memory.specs.Words.{page_number, bytes_in};
+ghost use Rattle.page_memory.specs.Entries.{value_at};
+ghost use Rattle.page_memory.specs.Memory.{usable, fetched, loaded};
+ghost use Rattle.page_memory.specs.declared.words.Access.{Access};
+ghost use Rattle.page_store.specs.PageValue.{content, writable};
+ghost use Rattle.rv_exec.specs.Answers.{Answers, Refuses};
+ghost use Rattle.paged_memory.specs.Paged.{Holds, memory_of};
+ghost use Rattle.paged_memory.specs.Access.{HasPage, LacksPage, MarksUse, KeepsTranslations, UsesBytes, cache_of};
+
+use crate::access::reach;
+use crate::caches::Caches;
+use page_memory::{Access, MemoryFault, PageMap, Width, number};
+use page_store::StoredPage;
+use rv_exec::BusError;
+use std::sync::ledger::Ledger;
+use sv32_table::PageTables;
+use swap_slots::SwapSlot;
+
+/// The bytes of a page that has a frame.
+#[inline]
+fn bytes_of<L: Ledger, S: SwapSlot>(page: &StoredPage<L, S>) -> &[u8; 4096]
+    requires { is_some (writable page.now.place) ≡ true }
+    ensures bytes { result.now ≡ content S.content page.now }
+    ensures whole { length result.now ≡ 4096 }
+{
+    match page.frame() {
+        Some(frame) => frame.bytes(),
+        None => unreachable!(),
+    }
+}
+
+/// The bytes of a page that a hart reads.
+#[inline]
+fn read<'a, L: Ledger, S: SwapSlot>(
+    pages: &'a PageMap<StoredPage<L, S>>,
+    tables: &mut PageTables,
+    caches: &mut Caches,
+    hart: usize,
+    access: Access,
+    address: u32,
+) -> Result<&'a [u8; 4096], BusError>
+    requires hart { hart < length caches.old }
+    requires holds { Holds S.content S.honest pages.now tables.old caches.old }
+    ensures holds { Holds S.content S.honest pages.now tables.new caches.new }
+    ensures bytes { IfOk result (λ bytes. UsesBytes (usable (memory_of S.content pages.now) access address) bytes.now) }
+    ensures whole { IfOk result (λ bytes. length bytes.now ≡ 4096) }
+    ensures refused { IfErr result (Refuses (LacksPage pages.now) address (usable (memory_of S.content pages.now) access address)) }
+    ensures kept { KeepsTranslations pages.now hart tables.old tables.new caches.old caches.new }
+    ensures has { OnOk result (HasPage pages.now (cache_of caches.old hart) (page_number address)) }
+    ensures marked { OnOk result (MarksUse pages.now tables.new (cache_of caches.old hart) (page_number address)) }
+{
+    match reach(pages, tables, caches, hart, access, address) {
+        Ok(place) => Ok(bytes_of(pages.at(place))),
+        Err(refusal) => Err(refusal),
+    }
+}
+
+/// The word at an address, to be run.
+#[inline]
+#[tactic(auto, unfolding(page_memory::specs::Memory::fetched, page_memory::specs::Memory::aligned_page))]
+pub(crate) fn fetch<L: Ledger, S: SwapSlot>(
+    pages: &PageMap<StoredPage<L, S>>,
+    tables: &mut PageTables,
+    caches: &mut Caches,
+    hart: usize,
+    address: u32,
+) -> Result<u32, BusError>
+    requires hart { hart < length caches.old }
+    requires holds { Holds S.content S.honest pages.now tables.old caches.old }
+    ensures holds { Holds S.content S.honest pages.now tables.new caches.new }
+    ensures answer { Answers (HasPage pages.now (cache_of caches.old hart)) (MarksUse pages.now tables.new (cache_of caches.old hart)) (LacksPage pages.now) address (fetched (memory_of S.content pages.now) address) result }
+    ensures kept { KeepsTranslations pages.now hart tables.old tables.new caches.old caches.new }
+{
+    if address % 4 != 0 {
+        return Err(BusError::Fault(MemoryFault::Misaligned));
+    }
+    match read(pages, tables, caches, hart, Access::Fetch, address) {
+        Ok(page) => Ok(number(page, Width::Word, address)),
+        Err(refusal) => Err(refusal),
+    }
+}
+
+/// The number at an address, not extended.
+#[inline]
+#[tactic(auto, unfolding(page_memory::specs::Memory::loaded, page_memory::specs::Memory::aligned_page))]
+pub(crate) fn load<L: Ledger, S: SwapSlot>(
+    pages: &PageMap<StoredPage<L, S>>,
+    tables: &mut PageTables,
+    caches: &mut Caches,
+    hart: usize,
+    width: Width,
+    address: u32,
+) -> Result<u32, BusError>
+    requires hart { hart < length caches.old }
+    requires holds { Holds S.content S.honest pages.now tables.old caches.old }
+    ensures holds { Holds S.content S.honest pages.now tables.new caches.new }
+    ensures answer { Answers (HasPage pages.now (cache_of caches.old hart)) (MarksUse pages.now tables.new (cache_of caches.old hart)) (LacksPage pages.now) address (loaded (memory_of S.content pages.now) width address) result }
+    ensures kept { KeepsTranslations pages.now hart tables.old tables.new caches.old caches.new }
+{
+    if address % width.bytes() != 0 {
+        return Err(BusError::Fault(MemoryFault::Misaligned));
+    }
+    match read(pages, tables, caches, hart, Access::Load, address) {
+        Ok(page) => Ok(number(page, width, address)),
+        Err(refusal) => Err(refusal),
+    }
+}

@@ -1,0 +1,80 @@
+ghost use Rattle.std.specs.Prelude.{◌≡◌, ◌+◌, ◌≤◌, ◌<◌, ◌%◌, length, is_some, Some, Ok, OnOk, OnErr, true, IfOk, IfErr, IfSome};
+ghost use Rattle.page_memory.specs.Words.{page_number, page_offset, bytes_in};
+ghost use Rattle.page_memory.specs.Memory.{overwritten, stored, copied_in};
+ghost use Rattle.byteorder.specs.Endian.{little_bytes};
+ghost use Rattle.page_store.specs.PageValue.{content, writable};
+ghost use Rattle.page_store.specs.Lending.{with_bytes};
+ghost use Rattle.rv_exec.specs.Answers.{Answers, with_answer};
+ghost use Rattle.paged_memory.specs.Paged.{Holds, memory_of};
+ghost use Rattle.paged_memory.specs.Access.{HasPage, LacksPage, MarksUse, KeepsTranslations, KeepsSeen, cache_of};
+
+use crate::access::reach;
+use crate::caches::Caches;
+use page_memory::{Access, MemoryFault, PageMap, Width, put_bytes, put_number};
+use page_store::StoredPage;
+use rv_exec::BusError;
+use std::sync::ledger::Ledger;
+use sv32_table::PageTables;
+use swap_slots::SwapSlot;
+
+/// Writes the low bytes of a word into a page that has a frame.
+#[inline]
+fn put_number_in<L: Ledger, S: SwapSlot>(
+    page: &mut StoredPage<L, S>,
+    width: Width,
+    address: u32,
+    word: u32,
+)
+    requires framed { is_some (writable page.old.place) ≡ true }
+    requires aligned { address % bytes_in width ≡ 0 }
+    ensures { page.new ≡ with_bytes page.old (overwritten (content S.content page.old) (page_offset address) (little_bytes (bytes_in width) word)) }
+{
+    match page.bytes_mut() {
+        Some(bytes) => put_number(bytes, width, address, word),
+        None => unreachable!(),
+    }
+}
+
+/// Writes bytes into a page that has a frame, from an offset on.
+fn put_bytes_in<L: Ledger, S: SwapSlot>(page: &mut StoredPage<L, S>, offset: usize, from: &[u8])
+    requires framed { is_some (writable page.old.place) ≡ true }
+    requires within { offset + length from.now ≤ 4096 }
+    ensures { page.new ≡ with_bytes page.old (overwritten (content S.content page.old) offset from.now) }
+{
+    match page.bytes_mut() {
+        Some(bytes) => put_bytes(bytes, offset, from),
+        None => unreachable!(),
+    }
+}
+
+/// Stores the low bytes of a word.
+#[inline]
+pub(crate) fn store<L: Ledger, S: SwapSlot>(
+    pages: &mut PageMap<StoredPage<L, S>>,
+    tables: &mut PageTables,
+    caches: &mut Caches,
+    hart: usize,
+    width: Width,
+    address: u32,
+    word: u32,
+) -> Result<(), BusError>
+    requires hart { hart < length caches.old }
+    requires holds { Holds S.content S.honest pages.old tables.old caches.old }
+    ensures holds { Holds S.content S.honest pages.new tables.new caches.new }
+    ensures answer { let after = with_answer (λ _. memory_of S.content pages.new) result in
+        Answers (HasPage pages.old (cache_of caches.old hart)) (MarksUse pages.old tables.new (cache_of caches.old hart)) (LacksPage pages.old) address (stored (memory_of S.content pages.old) width address word) after }
+    ensures refused { OnErr result (pages.new ≡ pages.old) }
+    ensures seen { KeepsSeen pages.old pages.new }
+    ensures kept { KeepsTranslations pages.old hart tables.old tables.new caches.old caches.new }
+{
+    if address % width.bytes() != 0 {
+        return Err(BusError::Fault(MemoryFault::Misaligned));
+    }
+    match reach(pages, tables, caches, hart, Access::Store, address) {
+        Ok(place) => {
+            put_number_in(pages.at_mut(place), width, address, word);
+            Ok(())
+        }
+        Err(refusal) => Err(refusal),
+    }
+}

@@ -6,30 +6,34 @@ use std::io;
 use std::io::{BufWriter, Write};
 use std::process::ExitCode;
 
-const GUESTS: [&str; 8] = [
-    "hi.words",
-    "p8.s",
-    "p15.s",
-    "sieve.s",
-    "life.s",
-    "columns.s",
-    "c/queens.elf",
-    "c/mandelbrot.elf",
+/// The words of each run: a guest's file, and the file that it reads where it reads one.
+const RUNS: [&[&str]; 9] = [
+    &["flat", "hi.words"],
+    &["flat", "p8.s"],
+    &["flat", "p15.s"],
+    &["flat", "sieve.s"],
+    &["flat", "life.s"],
+    &["flat", "columns.s"],
+    &["flat", "c/queens.elf"],
+    &["flat", "c/mandelbrot.elf"],
+    &["flat", "c/words.elf", "--input", "c/address.txt"],
 ];
 
-/// Runs each of them as `paged flat` does; the exit status is the highest of theirs.
+/// Runs them all; the exit status is the highest of theirs.
 fn main(rt: HostRuntime) -> ExitCode {
     let mut err = rt.stderr();
     let Ok(mut out) = BufWriter::new(rt.alloc(), io::writer(&rt)) else {
         return ExitCode::FAILURE;
     };
     let mut status = 0;
-    for guest in GUESTS {
-        if writeln!(out, "== {guest}").is_err() {
+    for words in RUNS {
+        let Ok(title) = words.join(rt.alloc(), " ") else {
+            return ExitCode::FAILURE;
+        };
+        if writeln!(out, "== {title}").is_err() {
             return ExitCode::FAILURE;
         }
-        let words = ["flat", guest];
-        status = status.max(run_paged(&rt, &words, &mut io::empty(), &mut out, &mut err));
+        status = status.max(run_paged(&rt, words, &mut io::empty(), &mut out, &mut err));
     }
     ExitCode::from(status)
 }

@@ -25,6 +25,58 @@ static inline void write_all(const char *bytes, unsigned long length)
     }
 }
 
+/* Reads at most `length` bytes of the input and answers how many there were: a call stops at a page's end, so it may be fewer;
+   0 where none is left. */
+static inline long paged_read(char *bytes, unsigned long length)
+{
+    register long answer __asm__("a0") = 0;
+    register char *to __asm__("a1") = bytes;
+    register unsigned long count __asm__("a2") = length;
+    register long number __asm__("a7") = 63;
+    __asm__ volatile("ecall" : "+r"(answer) : "r"(to), "r"(count), "r"(number) : "memory");
+    return answer;
+}
+
+/* Asks for memory up to `end` and answers where it ends then: there, or where it ended before if so much can not be had. */
+static inline unsigned long paged_break(unsigned long end)
+{
+    register unsigned long answer __asm__("a0") = end;
+    register long number __asm__("a7") = 214;
+    __asm__ volatile("ecall" : "+r"(answer) : "r"(number) : "memory");
+    return answer;
+}
+
+/* Lets the other harts run. */
+static inline void paged_yield(void)
+{
+    register long answer __asm__("a0");
+    register long number __asm__("a7") = 124;
+    __asm__ volatile("ecall" : "=r"(answer) : "r"(number) : "memory");
+}
+
+/* Starts a hart in hart_main of the program, on the stack that ends at `stack_end`; needs hart.S. Answers its number, or less
+   than 0 where eight were started already. */
+static inline long paged_spawn(void *stack_end, void *argument)
+{
+    extern void hart_start(void);
+    register long answer __asm__("a0") = (long)hart_start;
+    register void *stack __asm__("a1") = stack_end;
+    register void *given __asm__("a2") = argument;
+    register long number __asm__("a7") = 1024;
+    __asm__ volatile("ecall" : "+r"(answer) : "r"(stack), "r"(given), "r"(number) : "memory");
+    return answer;
+}
+
+/* Adds to a word that several harts share, in one step, and answers what it was before. The instruction alone is of the
+   extension A, so that the program is built for rv32im and with its library. */
+static inline unsigned add_shared(volatile unsigned *word, unsigned amount)
+{
+    unsigned before;
+    __asm__ volatile(".option push\n\t.option arch, +a\n\tamoadd.w %0, %2, (%1)\n\t.option pop"
+                     : "=r"(before) : "r"(word), "r"(amount) : "memory");
+    return before;
+}
+
 static inline void print(const char *text)
 {
     unsigned long length = 0;

@@ -1,10 +1,11 @@
 -- Labels, parts and lines one after another.
 use Rattle.std.proofs.Common.{◌≡◌, ℕ, ◌+◌, List, [], ◌∷◌, Result, Ok, Err, refl, sym, ap, ◌∙◌, arith, length}
-use Rattle.rv_asm.specs.declared.fault.FaultKind.{FaultKind}
-use Rattle.rv_asm.specs.declared.fault.Refusal.{Refusal}
-use Rattle.rv_asm.specs.declared.fault.Refusal.TheVariants.{Fault, NoMemory}
+use Rattle.asm_lines.specs.declared.fault.FaultKind.{FaultKind}
+use Rattle.asm_lines.specs.declared.fault.Refusal.{Refusal}
+use Rattle.asm_lines.specs.declared.fault.Refusal.TheVariants.{Fault, NoMemory}
 use Rattle.rv_asm.specs.declared.item.Item.{Item}
-use Rattle.rv_asm.specs.Faults.{Refuses, error_on}
+use Rattle.asm_lines.specs.Faults.{Refuses}
+use Rattle.rv_asm.specs.Errors.{error_on}
 use Rattle.rv_asm.specs.Steps.{FaultAt, Fails, chained, on_line}
 use Rattle.rv_asm.specs.FirstPass.{Progress, with_label, with_labels, with_item, with_items, with_line, with_lines}
 

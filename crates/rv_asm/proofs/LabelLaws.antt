@@ -4,7 +4,7 @@ use Rattle.std.specs.Prelude.{option_map, if◌then◌else◌}
 use Rattle.std.specs.Str.{bytes_eq}
 use Rattle.std.proofs.lemmas.Slice.Eq.{bytes_eq-Decides}
 use Rattle.std.proofs.lemmas.Bool.{false≢true}
-use Rattle.rv_asm.specs.declared.section.Section.{Section}
+use Rattle.asm_statements.specs.declared.section.Section.{Section}
 use Rattle.rv_asm.specs.declared.item.Item.{Item}
 use Rattle.rv_asm.specs.declared.item.Item.TheVariants.{Label, InText, InData}
 use Rattle.rv_asm.specs.declared.place.Place.{Place}

@@ -3,16 +3,17 @@ use Rattle.std.proofs.Common.{◌≡◌, ℕ, ◌+◌, List, [], ◌∷◌, ◌+
 use Rattle.std.specs.Prelude.{⊤, is_some, nat_le}
 use Rattle.std.proofs.lemmas.Bool.{false≢true}
 use Rattle.std.proofs.lemmas.Bool.Decides.{nat_tests}
-use Rattle.rv_asm.specs.declared.fault.FaultKind.{FaultKind}
-use Rattle.rv_asm.specs.declared.fault.FaultKind.TheVariants.{LabelTwice, TooLong}
-use Rattle.rv_asm.specs.declared.section.Section.{Section}
-use Rattle.rv_asm.specs.declared.section.Section.TheVariants.{Text, Data}
-use Rattle.rv_asm.specs.declared.part.Code.{Code}
-use Rattle.rv_asm.specs.declared.part.Datum.{Datum}
+use Rattle.asm_lines.specs.declared.fault.FaultKind.{FaultKind}
+use Rattle.asm_lines.specs.declared.fault.FaultKind.TheVariants.{LabelTwice, TooLong}
+use Rattle.asm_statements.specs.declared.section.Section.{Section}
+use Rattle.asm_statements.specs.declared.section.Section.TheVariants.{Text, Data}
+use Rattle.asm_statements.specs.declared.part.Code.{Code}
+use Rattle.asm_statements.specs.declared.part.Datum.{Datum}
 use Rattle.rv_asm.specs.declared.item.Item.{Item}
 use Rattle.rv_asm.specs.declared.item.Item.TheVariants.{Label, InText, InData}
-use Rattle.rv_asm.specs.Forms.{Line, Effect, Enter, Text as TextEffect, Data as DataEffect}
-use Rattle.rv_asm.specs.Lines.{line_form}
+use Rattle.asm_lines.specs.Forms.{Line}
+use Rattle.asm_statements.specs.Effects.{Effect, Enter, Text as TextEffect, Data as DataEffect}
+use Rattle.asm_lines.specs.Lines.{line_form}
 use Rattle.rv_asm.specs.Steps.{FaultAt, chained, on_line}
 use Rattle.rv_asm.specs.Program.{size, place_of}
 use Rattle.rv_asm.specs.FirstPass.{Progress, no_lines, effect_of, unless_there, with_label, with_labels, fits, if_fits, with_item, with_items, with_effect, with_reading, with_form, with_line, with_lines}

@@ -8,18 +8,19 @@ use Rattle.byteorder.specs.Endian.{little_bytes}
 use Rattle.rv_isa.specs.FormatLaws.{agrees_once}
 use Rattle.rv_isa.specs.declared.instruction.Insn.TheVariants.{Lui, OpImmediate, Jal, Branch as BranchInsn}
 use Rattle.rv_isa.specs.declared.kinds.ImmediateKind.TheVariants.{Addi}
-use Rattle.rv_asm.specs.declared.section.Section.TheVariants.{Text, Data}
-use Rattle.rv_asm.specs.declared.part.Code.{Code}
-use Rattle.rv_asm.specs.declared.part.Code.TheVariants.{Fixed, LoadAddress, Jump, Branch, Number, Address}
-use Rattle.rv_asm.specs.declared.part.Datum.{Datum}
-use Rattle.rv_asm.specs.declared.part.Datum.TheVariants.{Word, Pointer, Half, Byte, Zeros}
+use Rattle.asm_statements.specs.declared.section.Section.TheVariants.{Text, Data}
+use Rattle.asm_statements.specs.declared.part.Code.{Code}
+use Rattle.asm_statements.specs.declared.part.Code.TheVariants.{Fixed, LoadAddress, Jump, Branch, Number, Address}
+use Rattle.asm_statements.specs.declared.part.Datum.{Datum}
+use Rattle.asm_statements.specs.declared.part.Datum.TheVariants.{Word, Pointer, Half, Byte, Zeros}
 use Rattle.rv_asm.specs.declared.item.Item.{Item}
 use Rattle.rv_asm.specs.declared.item.Item.TheVariants.{Label, InText, InData}
 use Rattle.rv_asm.specs.declared.word.TextWord.{TextWord}
 use Rattle.rv_asm.specs.declared.word.TextWord.TheVariants.{Instruction, Plain}
 use Rattle.text_lines.specs.Text.{lines_of}
 use Rattle.rv_asm.specs.Words.{Spell, instruction_of}
-use Rattle.rv_asm.specs.Program.{size, code_length, datum_length}
+use Rattle.rv_asm.specs.Program.{size}
+use Rattle.asm_statements.specs.Parts.{code_length, datum_length}
 use Rattle.rv_asm.specs.Listing.{ListingContent, image_of}
 use Rattle.rv_asm.specs.Assembly.{Distinct, IsSplit, PutsWords, PutsBytes, TextAt, DataAt, Holds, Assembles}
 use Rattle.rv_asm.proofs.Places.{size_push}

@@ -16,8 +16,8 @@ use Rattle.elf_image.specs.declared.image.ImagePage.{ImagePage}
 use Rattle.elf_image.specs.Image.{bytes_of}
 use Rattle.elf_image.specs.Parts.{too_high, entered, parts_fault, readable_page, image_of_parts}
 use Rattle.elf_image.specs.PartsLaws.{no_fault_from_pass, neighbours}
-use Rattle.rv_asm.specs.declared.section.Section.{Section}
-use Rattle.rv_asm.specs.declared.section.Section.TheVariants.{Text, Data}
+use Rattle.asm_statements.specs.declared.section.Section.{Section}
+use Rattle.asm_statements.specs.declared.section.Section.TheVariants.{Text, Data}
 use Rattle.rv_asm.specs.declared.place.Place.{Place}
 use Rattle.rv_asm.specs.declared.item.Item.{Item}
 use Rattle.rv_asm.specs.Program.{size, place_of, section_start}

@@ -9,13 +9,13 @@ use Rattle.std.proofs.lemmas.Bool.{false≢true}
 use Rattle.std.proofs.lemmas.Bool.Decides.{nat_tests}
 use Rattle.rv_isa.specs.Operands.{IsBranchOffset, IsJumpOffset}
 use Rattle.rv_isa.specs.declared.instruction.Insn.TheVariants.{Jal, Branch as BranchInsn}
-use Rattle.rv_asm.specs.declared.fault.FaultKind.{FaultKind}
-use Rattle.rv_asm.specs.declared.fault.FaultKind.TheVariants.{NoLabel, Range}
-use Rattle.rv_asm.specs.declared.section.Section.TheVariants.{Text, Data}
-use Rattle.rv_asm.specs.declared.part.Code.{Code}
-use Rattle.rv_asm.specs.declared.part.Code.TheVariants.{Fixed, LoadAddress, Jump, Branch, Number, Address}
-use Rattle.rv_asm.specs.declared.part.Datum.{Datum}
-use Rattle.rv_asm.specs.declared.part.Datum.TheVariants.{Word, Pointer, Half, Byte, Zeros}
+use Rattle.asm_lines.specs.declared.fault.FaultKind.{FaultKind}
+use Rattle.asm_lines.specs.declared.fault.FaultKind.TheVariants.{NoLabel, Range}
+use Rattle.asm_statements.specs.declared.section.Section.TheVariants.{Text, Data}
+use Rattle.asm_statements.specs.declared.part.Code.{Code}
+use Rattle.asm_statements.specs.declared.part.Code.TheVariants.{Fixed, LoadAddress, Jump, Branch, Number, Address}
+use Rattle.asm_statements.specs.declared.part.Datum.{Datum}
+use Rattle.asm_statements.specs.declared.part.Datum.TheVariants.{Word, Pointer, Half, Byte, Zeros}
 use Rattle.rv_asm.specs.declared.item.Item.{Item}
 use Rattle.rv_asm.specs.declared.item.Item.TheVariants.{Label, InText, InData}
 use Rattle.rv_asm.specs.declared.word.TextWord.{TextWord}
@@ -24,8 +24,8 @@ use Rattle.rv_asm.specs.Steps.{FaultAt, chained, mapped, on_line}
 use Rattle.rv_asm.specs.Program.{size, address_of}
 use Rattle.rv_asm.specs.SecondPass.{Sections, at_label, load_words, reaches, if_reached, jump_words, branch_words, code_words, datum_bytes, next_address, put, put_all, no_sections, second_pass}
 use Rattle.rv_asm.specs.Assembly.{Lacks, IsSplit, PutsWords, PutsBytes, TextAt, DataAt, Holds, HasPut, code_label, datum_label, TooFar, PartFault, no_label, no_datum_label, too_far}
-use Rattle.rv_asm.specs.Split.{upper_part, low_part}
-use Rattle.rv_asm.specs.SplitLaws.{low_part_small, low_part_large, low_part_fits}
+use Rattle.rv_isa.specs.Split.{upper_part, low_part}
+use Rattle.rv_isa.specs.SplitLaws.{low_part_small, low_part_large, low_part_fits}
 use Rattle.rv_asm.proofs.Places.{size_push}
 use Rattle.rv_asm.proofs.LabelLaws.{address_found, no_address}
 use Rattle.rv_asm.proofs.SecondSteps.{put_length, pass_length}

@@ -7,8 +7,8 @@ use Rattle.std.specs.HashMap.{HashMap}
 use denote.Ref.{Bor}
 use Rattle.std.proofs.lemmas.Slice.Eq.{bytes_eq-Decides}
 use Rattle.std.proofs.lemmas.Map.Text.{hash_map_updates_str}
-use Rattle.rv_asm.specs.declared.section.Section.{Section}
-use Rattle.rv_asm.specs.declared.section.Section.TheVariants.{Text, Data}
+use Rattle.asm_statements.specs.declared.section.Section.{Section}
+use Rattle.asm_statements.specs.declared.section.Section.TheVariants.{Text, Data}
 use Rattle.rv_asm.specs.declared.item.Item.{Item}
 use Rattle.rv_asm.specs.declared.item.Item.TheVariants.{Label}
 use Rattle.rv_asm.specs.declared.place.Place.{Place}

@@ -6,22 +6,23 @@ use Rattle.byteorder.specs.Endian.{little_bytes}
 use Rattle.rv_isa.specs.Operands.{IsImmediate, IsBranchOffset, IsJumpOffset}
 use Rattle.rv_isa.specs.declared.instruction.Insn.TheVariants.{Lui, OpImmediate, Jal, Branch as BranchInsn}
 use Rattle.rv_isa.specs.declared.kinds.ImmediateKind.TheVariants.{Addi}
-use Rattle.rv_asm.specs.declared.fault.FaultKind.{FaultKind}
-use Rattle.rv_asm.specs.declared.fault.FaultKind.TheVariants.{LabelTwice, TooLong, Empty, NoLabel, Range}
+use Rattle.asm_lines.specs.declared.fault.FaultKind.{FaultKind}
+use Rattle.asm_lines.specs.declared.fault.FaultKind.TheVariants.{LabelTwice, TooLong, Empty, NoLabel, Range}
 use Rattle.rv_asm.specs.declared.fault.AsmError.{AsmError}
 use Rattle.rv_asm.specs.declared.fault.AsmError.TheVariants.{Fault, NoMemory}
-use Rattle.rv_asm.specs.declared.section.Section.{Section}
-use Rattle.rv_asm.specs.declared.section.Section.TheVariants.{Text, Data}
-use Rattle.rv_asm.specs.declared.part.Code.{Code}
-use Rattle.rv_asm.specs.declared.part.Code.TheVariants.{Fixed, LoadAddress, Jump, Branch, Number, Address}
-use Rattle.rv_asm.specs.declared.part.Datum.{Datum}
-use Rattle.rv_asm.specs.declared.part.Datum.TheVariants.{Word, Pointer, Half, Byte, Zeros}
+use Rattle.asm_statements.specs.declared.section.Section.{Section}
+use Rattle.asm_statements.specs.declared.section.Section.TheVariants.{Text, Data}
+use Rattle.asm_statements.specs.declared.part.Code.{Code}
+use Rattle.asm_statements.specs.declared.part.Code.TheVariants.{Fixed, LoadAddress, Jump, Branch, Number, Address}
+use Rattle.asm_statements.specs.declared.part.Datum.{Datum}
+use Rattle.asm_statements.specs.declared.part.Datum.TheVariants.{Word, Pointer, Half, Byte, Zeros}
 use Rattle.rv_asm.specs.declared.item.Item.{Item}
 use Rattle.rv_asm.specs.declared.item.Item.TheVariants.{Label, InText, InData}
 use Rattle.rv_asm.specs.declared.word.TextWord.{TextWord}
 use Rattle.rv_asm.specs.declared.word.TextWord.TheVariants.{Instruction, Plain}
-use Rattle.rv_asm.specs.Forms.{Line, Effect, Enter, Text as TextEffect, Data as DataEffect}
-use Rattle.rv_asm.specs.Lines.{line_form}
+use Rattle.asm_lines.specs.Forms.{Line}
+use Rattle.asm_statements.specs.Effects.{Effect, Enter, Text as TextEffect, Data as DataEffect}
+use Rattle.asm_lines.specs.Lines.{line_form}
 use Rattle.text_lines.specs.Text.{lines_of}
 use Rattle.rv_asm.specs.Program.{size, section_start}
 use Rattle.rv_asm.specs.FirstPass.{effect_of}

@@ -1,15 +1,16 @@
 -- The first pass over a source: line by line to the items of its program, and to the first fault that can be told without addresses.
 use Rattle.std.specs.Prelude.{ℕ, ◌+◌, ◌&&◌, nat_le, Bool, true, false, List, [], ◌∷◌, ◌++◌, map, Option, Some, None, is_some, Result, Ok, Err}
-use Rattle.rv_asm.specs.declared.fault.FaultKind.{FaultKind}
-use Rattle.rv_asm.specs.declared.fault.FaultKind.TheVariants.{LabelTwice, TooLong}
-use Rattle.rv_asm.specs.declared.section.Section.{Section}
-use Rattle.rv_asm.specs.declared.section.Section.TheVariants.{Text, Data}
-use Rattle.rv_asm.specs.declared.operand.Operand.{Operand}
+use Rattle.asm_lines.specs.declared.fault.FaultKind.{FaultKind}
+use Rattle.asm_lines.specs.declared.fault.FaultKind.TheVariants.{LabelTwice, TooLong}
+use Rattle.asm_statements.specs.declared.section.Section.{Section}
+use Rattle.asm_statements.specs.declared.section.Section.TheVariants.{Text, Data}
+use Rattle.asm_lines.specs.declared.operand.Operand.{Operand}
 use Rattle.rv_asm.specs.declared.item.Item.{Item}
 use Rattle.rv_asm.specs.declared.item.Item.TheVariants.{Label, InText, InData}
-use Rattle.rv_asm.specs.Forms.{Line, Effect, Enter, Text as TextEffect, Data as DataEffect}
-use Rattle.rv_asm.specs.Lines.{line_form}
-use Rattle.rv_asm.specs.Statements.{statement_effect}
+use Rattle.asm_lines.specs.Forms.{Line}
+use Rattle.asm_statements.specs.Effects.{Effect, Enter, Text as TextEffect, Data as DataEffect}
+use Rattle.asm_lines.specs.Lines.{line_form}
+use Rattle.asm_statements.specs.Statements.{statement_effect}
 use Rattle.text_lines.specs.Text.{lines_of}
 use Rattle.rv_asm.specs.Steps.{FaultAt, chained, on_line}
 use Rattle.rv_asm.specs.Program.{size, place_of}

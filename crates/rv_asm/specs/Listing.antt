@@ -5,9 +5,9 @@ use Rattle.page_memory.specs.declared.rights.Rights.{Rights}
 use Rattle.elf_image.specs.declared.image.ImagePage.{ImagePage}
 use Rattle.elf_image.specs.Image.{ImageContent, bytes_of, filled}
 use Rattle.rv_isa.specs.declared.instruction.Insn.{Insn}
-use Rattle.rv_asm.specs.declared.fault.FaultKind.TheVariants.{Empty}
-use Rattle.rv_asm.specs.declared.section.Section.{Section}
-use Rattle.rv_asm.specs.declared.section.Section.TheVariants.{Text, Data}
+use Rattle.asm_lines.specs.declared.fault.FaultKind.TheVariants.{Empty}
+use Rattle.asm_statements.specs.declared.section.Section.{Section}
+use Rattle.asm_statements.specs.declared.section.Section.TheVariants.{Text, Data}
 use Rattle.rv_asm.specs.declared.place.Place.{Place}
 use Rattle.rv_asm.specs.declared.item.Item.{Item}
 use Rattle.rv_asm.specs.Steps.{FaultAt, chained, mapped}

@@ -1,32 +1,12 @@
 -- A program: labels and what is put into the two sections, in the order of the source; and its addresses.
 use Rattle.std.specs.Prelude.{ℕ, ◌+◌, ◌*◌, ◌/◌, List, [], ◌∷◌, Option, Some, None, option_map, if◌then◌else◌}
 use Rattle.std.specs.Str.{bytes_eq}
-use Rattle.rv_asm.specs.declared.section.Section.{Section}
-use Rattle.rv_asm.specs.declared.section.Section.TheVariants.{Text, Data}
-use Rattle.rv_asm.specs.declared.part.Code.{Code}
-use Rattle.rv_asm.specs.declared.part.Code.TheVariants.{Fixed, LoadAddress, Jump, Branch, Number, Address}
-use Rattle.rv_asm.specs.declared.part.Datum.{Datum}
-use Rattle.rv_asm.specs.declared.part.Datum.TheVariants.{Word, Pointer, Half, Byte, Zeros}
+use Rattle.asm_statements.specs.declared.section.Section.{Section}
+use Rattle.asm_statements.specs.declared.section.Section.TheVariants.{Text, Data}
+use Rattle.asm_statements.specs.Parts.{code_length, datum_length}
 use Rattle.rv_asm.specs.declared.item.Item.{Item}
 use Rattle.rv_asm.specs.declared.item.Item.TheVariants.{Label, InText, InData}
 use Rattle.rv_asm.specs.declared.place.Place.{Place}
-
--- how many bytes a part of the text takes: its words are of four bytes, and an address takes two of them
-abbrev pub code_length : Code → ℕ
-code_length (Fixed insn) = 4
-code_length (LoadAddress rd label) = 8
-code_length (Jump rd label) = 4
-code_length (Branch kind rs1 rs2 label) = 4
-code_length (Number number) = 4
-code_length (Address label) = 4
-
--- how many bytes a part of the data takes
-abbrev pub datum_length : Datum → ℕ
-datum_length (Word number) = 4
-datum_length (Pointer label) = 4
-datum_length (Half number) = 2
-datum_length (Byte number) = 1
-datum_length (Zeros count) = count
 
 -- how many bytes an item takes in a section
 abbrev pub item_length : Section → Item → ℕ

@@ -5,12 +5,12 @@ use Rattle.byteorder.specs.Endian.{little_bytes}
 use Rattle.rv_isa.specs.declared.instruction.Insn.TheVariants.{Lui, OpImmediate, Jal, Branch as BranchInsn}
 use Rattle.rv_isa.specs.declared.kinds.ImmediateKind.TheVariants.{Addi}
 use Rattle.rv_isa.specs.declared.kinds.BranchKind.{BranchKind}
-use Rattle.rv_asm.specs.declared.fault.FaultKind.{FaultKind}
-use Rattle.rv_asm.specs.declared.fault.FaultKind.TheVariants.{NoLabel, Range}
-use Rattle.rv_asm.specs.declared.part.Code.{Code}
-use Rattle.rv_asm.specs.declared.part.Code.TheVariants.{Fixed, LoadAddress, Jump, Branch, Number, Address}
-use Rattle.rv_asm.specs.declared.part.Datum.{Datum}
-use Rattle.rv_asm.specs.declared.part.Datum.TheVariants.{Word, Pointer, Half, Byte, Zeros}
+use Rattle.asm_lines.specs.declared.fault.FaultKind.{FaultKind}
+use Rattle.asm_lines.specs.declared.fault.FaultKind.TheVariants.{NoLabel, Range}
+use Rattle.asm_statements.specs.declared.part.Code.{Code}
+use Rattle.asm_statements.specs.declared.part.Code.TheVariants.{Fixed, LoadAddress, Jump, Branch, Number, Address}
+use Rattle.asm_statements.specs.declared.part.Datum.{Datum}
+use Rattle.asm_statements.specs.declared.part.Datum.TheVariants.{Word, Pointer, Half, Byte, Zeros}
 use Rattle.rv_asm.specs.declared.item.Item.{Item}
 use Rattle.rv_asm.specs.declared.item.Item.TheVariants.{Label, InText, InData}
 use Rattle.rv_asm.specs.declared.word.TextWord.{TextWord}
@@ -19,7 +19,7 @@ use Rattle.rv_asm.specs.declared.word.Words.{Words}
 use Rattle.rv_asm.specs.declared.word.Words.TheVariants.{One, Two}
 use Rattle.rv_asm.specs.Steps.{FaultAt, chained, mapped, on_line}
 use Rattle.rv_asm.specs.Program.{address_of}
-use Rattle.rv_asm.specs.Split.{upper_part, low_part}
+use Rattle.rv_isa.specs.Split.{upper_part, low_part}
 
 -- the words of the text and the bytes of the data
 pub record Sections : Type 0 where

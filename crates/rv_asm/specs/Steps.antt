@@ -1,6 +1,6 @@
 -- Answers that may be a fault, one after another.
 use Rattle.std.specs.Prelude.{ℕ, Result, Ok, Err, ⊤, ◌≡◌}
-use Rattle.rv_asm.specs.declared.fault.FaultKind.{FaultKind}
+use Rattle.asm_lines.specs.declared.fault.FaultKind.{FaultKind}
 use Rattle.rv_asm.specs.declared.fault.AsmError.{AsmError}
 use Rattle.rv_asm.specs.declared.fault.AsmError.TheVariants.{Fault, NoMemory}
 

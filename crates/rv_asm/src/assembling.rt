@@ -3,21 +3,22 @@
 ghost use Rattle.std.specs.Prelude.{◌≡◌, ◌<◌, IfOk, IfErr, Ok, Err, ℕ, ◌⊎◌};
 ghost use Rattle.rv_asm.specs.Steps.{Fails};
 ghost use Rattle.rv_asm.specs.Program.{size};
-ghost use Rattle.rv_asm.specs.declared.section.Section.TheVariants.{Text};
+ghost use Rattle.asm_statements.specs.declared.section.Section.TheVariants.{Text};
 ghost use Rattle.rv_asm.specs.SecondPass.{second_pass};
 ghost use Rattle.rv_asm.specs.declared.fault.AsmError.{AsmError};
-ghost use Rattle.rv_asm.specs.declared.fault.FaultKind.{FaultKind};
+ghost use Rattle.asm_lines.specs.declared.fault.FaultKind.{FaultKind};
 ghost use Rattle.rv_asm.specs.Assembly.{Assembles, FirstFault, IsFirstFault};
 ghost use Rattle.rv_asm.specs.Listing.{Lists, ListsTold, assembled};
 
-use crate::fault::{AsmError, FaultKind};
+use crate::fault::AsmError;
 use crate::first_pass::read_source;
 use crate::listing::Listing;
 use crate::pages::{bytes_of_words, with_pages};
 use crate::program::Program;
 use crate::second_pass::fill_sections;
-use crate::section::Section;
 use crate::sections::Sections;
+use asm_lines::FaultKind;
+use asm_statements::Section;
 use elf_image::{Image, TEXT_START};
 use page_memory::{Rights, page_of};
 use std::alloc::{AllocError, Global};

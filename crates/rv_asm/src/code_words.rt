@@ -6,12 +6,11 @@ ghost use Rattle.rv_asm.specs.Steps.{mapped};
 ghost use Rattle.rv_asm.specs.Program.{address_of};
 ghost use Rattle.rv_asm.specs.SecondPass.{code_words, words_list, at_label, load_words, jump_words, branch_words, reaches};
 
-use crate::fault::FaultKind;
-use crate::part::Code;
 use crate::program::Program;
-use crate::statements::split;
 use crate::word::{TextWord, Words};
-use rv_isa::{BranchKind, BranchOffset, ImmediateKind, Insn, JumpOffset, Reg};
+use asm_lines::FaultKind;
+use asm_statements::Code;
+use rv_isa::{BranchKind, BranchOffset, ImmediateKind, Insn, JumpOffset, Reg, high_part, low_part};
 
 /// The words of a part of the text that stands at an address.
 #[tactic(auto, unfolding(crate::specs::SecondPass::code_words))]
@@ -51,7 +50,7 @@ pub(crate) fn code_words(
 }
 
 /// The two instructions that put an address into a register.
-#[tactic(auto, unfolding(crate::specs::Split::high_part))]
+#[tactic(auto, unfolding(rv_isa::specs::Split::high_part))]
 fn load_words(rd: Reg, address: u32) -> Words
     requires { address < 2 ^ 31 }
     ensures { words_list result ≡ load_words rd address }
@@ -59,13 +58,13 @@ fn load_words(rd: Reg, address: u32) -> Words
     Words::Two(
         TextWord::Instruction(Insn::Lui {
             rd,
-            immediate: split::high(address),
+            immediate: high_part(address),
         }),
         TextWord::Instruction(Insn::OpImmediate {
             kind: ImmediateKind::Addi,
             rd,
             rs1: rd,
-            immediate: split::low(address),
+            immediate: low_part(address),
         }),
     )
 }

@@ -1,23 +1,18 @@
 //! The first pass: line by line to the items of a program.
 
 ghost use Rattle.std.specs.Prelude.{◌≡◌, IfOk, IfErr, map};
-ghost use Rattle.rv_asm.specs.Faults.{Refuses};
-ghost use Rattle.rv_asm.specs.Forms.{effect_value};
+ghost use Rattle.asm_lines.specs.Faults.{Refuses};
+ghost use Rattle.asm_statements.specs.Effects.{effect_value};
 ghost use Rattle.rv_asm.specs.Steps.{Fails};
 ghost use Rattle.rv_asm.specs.Program.{labelled};
 ghost use Rattle.rv_asm.specs.FirstPass.{first_pass, with_line, with_labels, with_items, with_effect, effect_of_name};
 ghost use Rattle.rv_asm.specs.declared.item.Item.TheVariants.{InText, InData};
 
-use crate::fault::{AsmError, Refusal};
+use crate::fault::AsmError;
 use crate::item::Item;
-use crate::line::Line;
-use crate::operand::Operand;
-use crate::part::{Code, Datum, Effect};
 use crate::program::Program;
-use crate::scanning::scan_line;
-use crate::section::Section;
-use crate::span::Span;
-use crate::statements::read_statement;
+use asm_lines::{Line, Operand, Refusal, Span, scan_line};
+use asm_statements::{Code, Datum, Effect, Section, read_statement};
 use std::alloc::Global;
 use text_lines::next_line;
 
@@ -34,7 +29,7 @@ pub(crate) fn read_source<'a>(alloc: Global, source: &'a [u8]) -> Result<Program
         line += 1;
         program = match with_line(alloc, line, program, text) {
             Ok(more) => more,
-            Err(refusal) => return Err(refusal.on_line(line)),
+            Err(refusal) => return Err(AsmError::on_line(line, refusal)),
         };
         rest = below;
     }

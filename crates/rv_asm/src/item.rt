@@ -1,9 +1,8 @@
 ghost use Rattle.std.specs.Prelude.{◌≡◌, ◌≤◌};
-ghost use Rattle.rv_asm.specs.Program.{item_length, code_length, datum_length};
+ghost use Rattle.rv_asm.specs.Program.{item_length};
 
-use crate::part::{Code, Datum};
-use crate::section::Section;
-use crate::span::Span;
+use asm_lines::Span;
+use asm_statements::{Code, Datum, Section};
 
 /// A label of a source, or a part that it puts into a section, with the number of its line.
 #[derive(Drop)]
@@ -22,32 +21,6 @@ impl<'a> Item<'a> {
             (Item::InText { code, .. }, Section::Text) => code.length(),
             (Item::InData { datum, .. }, Section::Data) => datum.length(),
             _ => 0,
-        }
-    }
-}
-
-impl<'a> Code<'a> {
-    /// How many bytes of text the part takes.
-    fn length(&self) -> u32
-        ensures { result ≡ code_length self.now }
-    {
-        match self {
-            Code::LoadAddress { .. } => 8,
-            _ => 4,
-        }
-    }
-}
-
-impl<'a> Datum<'a> {
-    /// How many bytes of data the part takes.
-    fn length(&self) -> u32
-        ensures { result ≡ datum_length self.now }
-    {
-        match self {
-            Datum::Word(_) | Datum::Pointer(_) => 4,
-            Datum::Half(_) => 2,
-            Datum::Byte(_) => 1,
-            Datum::Zeros(count) => *count,
         }
     }
 }

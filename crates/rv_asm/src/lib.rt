@@ -1,7 +1,7 @@
 //! The assembler: from the text of a program to its words and its image.
 //!
-//! A line is scanned to its form, and its statement read to what it puts into a section; the first pass makes the items of
-//! a program from the lines, and the second their words and bytes, once all labels have addresses.
+//! The first pass makes the items of a program from its lines, and the second their words and bytes, once all labels have
+//! addresses. Lines are read by `asm_lines`, statements by `asm_statements`.
 #![tactic(auto)]
 
 mod assembling;
@@ -10,28 +10,22 @@ mod fault;
 mod first_pass;
 mod item;
 mod laws;
-mod line;
 mod listing;
-mod operand;
 mod pages;
-mod part;
 mod place;
 mod program;
-mod scanning;
 mod second_pass;
-mod section;
 mod sections;
-mod span;
-mod statements;
 #[cfg(test)]
 mod tests;
 mod word;
 
-pub use assembling::assemble;
-pub use fault::{AsmError, FaultKind};
-pub use laws::{
-    blanks_and_comments_give_no_tokens, numbers_stand_for_their_value, one_listing,
+pub use asm_lines::{
+    FaultKind, blanks_and_comments_give_no_tokens, numbers_stand_for_their_value,
     texts_reach_to_their_quote, words_reach_to_their_end,
 };
+pub use asm_statements::loaded_word;
+pub use assembling::assemble;
+pub use fault::AsmError;
+pub use laws::one_listing;
 pub use listing::Listing;
-pub use statements::loaded_word;

@@ -1,4 +1,4 @@
-use crate::section::Section;
+use asm_statements::Section;
 
 /// Where a label stands: its section, and how many bytes the section has before it.
 #[derive(Clone, Copy, Debug, PartialEq, Eq)]

@@ -1,17 +1,15 @@
 ghost use Rattle.std.specs.Prelude.{◌≡◌, ◌<◌, ◌≤◌, ◌+◌, ◌^◌, ◌==◌, IfOk, IfErr, IfSome, option_map, ℕ, List};
-ghost use Rattle.rv_asm.specs.Faults.{Refuses};
+ghost use Rattle.asm_lines.specs.Faults.{Refuses};
 ghost use Rattle.rv_asm.specs.Program.{place_of, size, address_of, section_start, labelled};
 ghost use Rattle.rv_asm.specs.Listing.{entry_of};
 ghost use Rattle.rv_asm.specs.FirstPass.{no_lines, with_label, with_item};
-ghost use Rattle.rv_asm.specs.declared.section.Section.TheVariants.{Text, Data};
+ghost use Rattle.asm_statements.specs.declared.section.Section.TheVariants.{Text, Data};
 ghost use Rattle.rv_asm.specs.declared.item.Item.TheVariants.{InText, InData};
 
-use crate::fault::{FaultKind, Refusal};
 use crate::item::Item;
-use crate::part::{Code, Datum};
 use crate::place::Place;
-use crate::section::Section;
-use crate::span::Span;
+use asm_lines::{FaultKind, Refusal, Span};
+use asm_statements::{Code, Datum, Section};
 use elf_image::TEXT_START;
 use page_memory::PAGE_SIZE;
 use std::alloc::Global;

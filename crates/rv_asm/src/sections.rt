@@ -6,11 +6,12 @@ ghost use Rattle.rv_asm.specs.Words.{Spell, instruction_of};
 ghost use Rattle.rv_asm.specs.declared.item.Item.TheVariants.{InText, InData};
 
 use crate::code_words::code_words;
-use crate::fault::{AsmError, FaultKind};
+use crate::fault::AsmError;
 use crate::item::Item;
-use crate::part::{Code, Datum};
 use crate::program::Program;
 use crate::word::{TextWord, Words};
+use asm_lines::FaultKind;
+use asm_statements::{Code, Datum};
 use elf_image::TEXT_START;
 use rv_isa::Insn;
 use std::alloc::{AllocError, Global};

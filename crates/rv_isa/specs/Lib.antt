@@ -4,3 +4,5 @@ pub mod Bits
 pub mod Operands
 pub mod Table
 pub mod TableLaws
+pub mod Split
+pub mod SplitLaws

@@ -11,6 +11,7 @@ mod instruction;
 mod kinds;
 mod laws;
 mod operands;
+mod split;
 #[cfg(test)]
 mod tests;
 mod text;
@@ -23,4 +24,5 @@ pub use laws::{one_instruction, one_word, table_lookup};
 pub use operands::{
     BranchOffset, FenceBits, Immediate, JumpOffset, Reg, ShiftAmount, UpperImmediate,
 };
+pub use split::{high_part, low_part};
 pub use text::write_text;

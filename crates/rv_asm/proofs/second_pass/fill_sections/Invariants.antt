@@ -1,6 +1,6 @@
 use Rattle.std.proofs.Common.{◌≡◌, ◌+◌, ◌*◌, length, drop}
 use Rattle.rv_asm.specs.Program.{size}
-use Rattle.rv_asm.specs.declared.section.Section.TheVariants.{Text}
+use Rattle.asm_statements.specs.declared.section.Section.TheVariants.{Text}
 use Rattle.rv_asm.specs.SecondPass.{put_all, second_pass}
 use Rattle.rv_asm.proofs.second_pass.fill_sections.Given as goal
 

@@ -1,0 +1,10 @@
+pub mod Bytes
+pub mod Faults
+pub mod Forms
+pub mod Fronts
+pub mod Lines
+pub mod NumberLaws
+pub mod Numbers
+pub mod Readings
+pub mod TokenLaws
+pub mod Tokens

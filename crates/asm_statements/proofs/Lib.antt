@@ -1,0 +1,5 @@
+pub mod EscapeLemmas
+pub mod ListLemmas
+pub mod NameLemmas
+pub mod PointLemmas
+pub mod RangeLemmas

@@ -1,0 +1,5 @@
+use Rattle.rv_isa.specs.SplitLaws.{low_part_fits}
+use Rattle.asm_statements.proofs.laws.loaded_word.Goals as goal
+
+pub returns-clause-fits : goal.returns-clause-fits
+returns-clause-fits c = low_part_fits

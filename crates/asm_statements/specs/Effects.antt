@@ -1,0 +1,18 @@
+-- What a statement does, as a plain value.
+use Rattle.std.specs.Prelude.{List}
+use Rattle.asm_statements.specs.declared.part.Code.{Code}
+use Rattle.asm_statements.specs.declared.part.Datum.{Datum}
+use Rattle.asm_statements.specs.declared.part.Effect.{Effect as EffectCode}
+use Rattle.asm_statements.specs.declared.part.Effect.TheVariants.{Enter as EnterCode, Text as TextCode, Data as DataCode}
+use Rattle.asm_statements.specs.declared.section.Section.{Section}
+
+-- what a statement does: it enters a section, or puts something into the text or the data
+pub data Effect : Type 0 where
+  Enter : Section → Effect
+  Text : List Code → Effect
+  Data : List Datum → Effect
+
+abbrev pub effect_value : EffectCode → Effect
+effect_value (EnterCode section) = Enter section
+effect_value (TextCode parts) = Text parts.items
+effect_value (DataCode parts) = Data parts.items

@@ -1,0 +1,11 @@
+pub mod Directives
+pub mod Effects
+pub mod Instructions
+pub mod Mnemonics
+pub mod Names
+pub mod Parts
+pub mod RangeLaws
+pub mod Ranges
+pub mod Registers
+pub mod Shapes
+pub mod Statements

@@ -1,0 +1,106 @@
+-- The operands of statements, by their shapes: none where the operands are others in number or kind, or where a
+-- register's name is unknown. A place for a label takes any name.
+use Rattle.std.specs.Prelude.{ℕ, ℤ, List, [], ◌∷◌, Option, Some, None, option_map}
+use Rattle.std.specs.Option.{option_zip}
+use Rattle.asm_statements.specs.Registers.{register_of}
+use Rattle.asm_lines.specs.declared.operand.Operand.{Operand}
+use Rattle.asm_lines.specs.declared.operand.Operand.TheVariants.{Number, Name, Text, Indexed, Indirect}
+
+-- ---- one operand
+
+unfoldable pub register : Operand → Option ℕ
+register (Name name) = register_of name
+register _ = None
+
+unfoldable pub number : Operand → Option ℤ
+number (Number n) = Some n
+number _ = None
+
+unfoldable pub label : Operand → Option (List ℕ)
+label (Name name) = Some name
+label _ = None
+
+unfoldable pub text : Operand → Option (List ℕ)
+text (Text characters) = Some characters
+text _ = None
+
+-- `n(rs1)`
+unfoldable pub indexed : Operand → Option (ℤ × ℕ)
+indexed (Indexed offset base) = option_map (λ rs1. (offset, rs1)) (register_of base)
+indexed _ = None
+
+-- `(rs1)`
+unfoldable pub indirect : Operand → Option ℕ
+indirect (Indirect base) = register_of base
+indirect _ = None
+
+-- ---- all operands of a statement
+
+abbrev pub zip_three : {A B C : Type 0} → Option A → Option B → Option C → Option (A × B × C)
+zip_three (Some a) (Some b) (Some c) = Some (a, b, c)
+zip_three _ _ _ = None
+
+-- `rs1`
+unfoldable pub one_register : List Operand → Option ℕ
+one_register (a ∷ []) = register a
+one_register _ = None
+
+-- `rd, rs1`
+unfoldable pub two_registers : List Operand → Option (ℕ × ℕ)
+two_registers (a ∷ b ∷ []) = option_zip (register a) (register b)
+two_registers _ = None
+
+-- `rd, rs1, rs2`
+unfoldable pub three_registers : List Operand → Option (ℕ × ℕ × ℕ)
+three_registers (a ∷ b ∷ c ∷ []) = zip_three (register a) (register b) (register c)
+three_registers _ = None
+
+-- `rd, rs1, n`
+unfoldable pub two_registers_number : List Operand → Option (ℕ × ℕ × ℤ)
+two_registers_number (a ∷ b ∷ c ∷ []) = zip_three (register a) (register b) (number c)
+two_registers_number _ = None
+
+-- `rd, n`
+unfoldable pub register_number : List Operand → Option (ℕ × ℤ)
+register_number (a ∷ b ∷ []) = option_zip (register a) (number b)
+register_number _ = None
+
+-- `n, rd, rs1`
+unfoldable pub number_two_registers : List Operand → Option (ℤ × ℕ × ℕ)
+number_two_registers (a ∷ b ∷ c ∷ []) = zip_three (number a) (register b) (register c)
+number_two_registers _ = None
+
+-- `rd, n(rs1)`
+unfoldable pub register_indexed : List Operand → Option (ℕ × (ℤ × ℕ))
+register_indexed (a ∷ b ∷ []) = option_zip (register a) (indexed b)
+register_indexed _ = None
+
+-- `rd, rs2, (rs1)`
+unfoldable pub two_registers_indirect : List Operand → Option (ℕ × ℕ × ℕ)
+two_registers_indirect (a ∷ b ∷ c ∷ []) = zip_three (register a) (register b) (indirect c)
+two_registers_indirect _ = None
+
+-- `n`
+unfoldable pub one_number : List Operand → Option ℤ
+one_number (a ∷ []) = number a
+one_number _ = None
+
+-- `"text"`, with its escapes
+unfoldable pub one_text : List Operand → Option (List ℕ)
+one_text (a ∷ []) = text a
+one_text _ = None
+
+-- `label`
+unfoldable pub one_label : List Operand → Option (List ℕ)
+one_label (a ∷ []) = label a
+one_label _ = None
+
+-- `rd, label`
+unfoldable pub register_label : List Operand → Option (ℕ × List ℕ)
+register_label (a ∷ b ∷ []) = option_zip (register a) (label b)
+register_label _ = None
+
+-- `rs1, rs2, label`
+unfoldable pub two_registers_label : List Operand → Option (ℕ × ℕ × List ℕ)
+two_registers_label (a ∷ b ∷ c ∷ []) = zip_three (register a) (register b) (label c)
+two_registers_label _ = None

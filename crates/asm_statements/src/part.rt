@@ -1,0 +1,86 @@
+ghost use Rattle.std.specs.Prelude.{◌≡◌};
+ghost use Rattle.asm_statements.specs.Parts.{code_length, datum_length};
+
+use crate::section::Section;
+use asm_lines::Span;
+use rv_isa::{BranchKind, Insn, Reg};
+
+/// What a statement puts into the text, once pseudo-instructions are gone: one word, or two for an address.
+#[derive(Drop)]
+pub enum Code<'a> {
+    /// One instruction, whole.
+    Fixed(Insn),
+    /// The two instructions that put a label's address into a register.
+    LoadAddress {
+        rd: Reg,
+        label: Span<'a>,
+    },
+    /// A jump to a label.
+    Jump {
+        rd: Reg,
+        label: Span<'a>,
+    },
+    /// A branch to a label.
+    Branch {
+        kind: BranchKind,
+        rs1: Reg,
+        rs2: Reg,
+        label: Span<'a>,
+    },
+    /// A word that is a number.
+    Number(u32),
+    /// A word that is a label's address.
+    Address(Span<'a>),
+}
+
+/// What a statement puts into the data.
+#[derive(Drop)]
+pub enum Datum<'a> {
+    /// A word that is a number.
+    Word(u32),
+    /// A word that is a label's address.
+    Pointer(Span<'a>),
+    /// Two bytes.
+    Half(u16),
+    /// One byte.
+    Byte(u8),
+    /// A number of zero bytes.
+    Zeros(u32),
+}
+
+/// What a statement does.
+#[derive(Drop)]
+pub enum Effect<'a> {
+    /// The statements that follow belong to this section.
+    Enter(Section),
+    /// It puts this into the text.
+    Text(Vec<Code<'a>>),
+    /// It puts this into the data.
+    Data(Vec<Datum<'a>>),
+}
+
+impl<'a> Code<'a> {
+    /// How many bytes of text the part takes.
+    pub fn length(&self) -> u32
+        ensures { result ≡ code_length self.now }
+    {
+        match self {
+            Code::LoadAddress { .. } => 8,
+            _ => 4,
+        }
+    }
+}
+
+impl<'a> Datum<'a> {
+    /// How many bytes of data the part takes.
+    pub fn length(&self) -> u32
+        ensures { result ≡ datum_length self.now }
+    {
+        match self {
+            Datum::Word(_) | Datum::Pointer(_) => 4,
+            Datum::Half(_) => 2,
+            Datum::Byte(_) => 1,
+            Datum::Zeros(count) => *count,
+        }
+    }
+}

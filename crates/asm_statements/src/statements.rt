@@ -1,0 +1,93 @@
+ghost use Rattle.std.specs.Prelude.{◌≡◌, IfOk, IfErr};
+ghost use Rattle.asm_lines.specs.Faults.{Refuses};
+ghost use Rattle.asm_statements.specs.Effects.{effect_value};
+ghost use Rattle.asm_statements.specs.Statements as spec;
+
+use crate::code::read_code;
+use crate::constant::read_constant;
+use crate::data::{Size, data_values, text_values};
+use crate::part::Effect;
+use crate::section::Section;
+use crate::statement::{Statement, read_name};
+use crate::text::{ascii, space};
+use asm_lines::{FaultKind, Operand, Refusal};
+use std::alloc::{AllocError, Global};
+
+/// What a statement does in a section, by its name and its operands.
+///
+/// The faults in their order: [`FaultKind::UnknownName`], [`FaultKind::Operand`] (for a statement of the other section
+/// too), [`FaultKind::Range`].
+#[tactic(auto, unfolding(crate::specs::Statements::statement_effect, crate::specs::Statements::meaning))]
+pub fn read_statement<'a>(
+    alloc: Global,
+    section: Section,
+    name: &[u8],
+    operands: &[Operand<'a>],
+) -> Result<Effect<'a>, Refusal>
+    ensures effect { IfOk result (λ effect.
+        spec.statement_effect section name.now operands.now ≡ Ok (effect_value effect)) }
+    ensures refusal { IfErr result (Refuses (spec.statement_effect section name.now operands.now)) }
+{
+    let statement = read_name(name).ok_or(Refusal::Fault(FaultKind::UnknownName))?;
+    match section {
+        Section::Text => in_text(alloc, statement, operands),
+        Section::Data => in_data(alloc, statement, operands),
+    }
+}
+
+/// What a statement of the text does.
+#[tactic(auto, unfolding(crate::specs::Statements::in_text))]
+fn in_text<'a>(
+    alloc: Global,
+    statement: Statement,
+    operands: &[Operand<'a>],
+) -> Result<Effect<'a>, Refusal>
+    ensures effect { IfOk result (λ effect. spec.in_text statement operands.now ≡ Ok (effect_value effect)) }
+    ensures refusal { IfErr result (Refuses (spec.in_text statement operands.now)) }
+{
+    match statement {
+        Statement::Enter(into) => enter(into, operands),
+        Statement::Values(Size::Word) => Ok(Effect::Text(text_values(alloc, operands)?)),
+        Statement::LoadImmediate => Ok(Effect::Text(read_constant(alloc, operands)?)),
+        Statement::Code(mnemonic) => {
+            let code = read_code(mnemonic, operands).map_err(Refusal::Fault)?;
+            Ok(Effect::Text(vec![in alloc; code].map_err(AllocError::from)?))
+        }
+        _ => Err(Refusal::Fault(FaultKind::Operand)),
+    }
+}
+
+/// What a statement of the data does.
+#[tactic(auto, unfolding(crate::specs::Statements::in_data))]
+fn in_data<'a>(
+    alloc: Global,
+    statement: Statement,
+    operands: &[Operand<'a>],
+) -> Result<Effect<'a>, Refusal>
+    ensures effect { IfOk result (λ effect. spec.in_data statement operands.now ≡ Ok (effect_value effect)) }
+    ensures refusal { IfErr result (Refuses (spec.in_data statement operands.now)) }
+{
+    match statement {
+        Statement::Enter(into) => enter(into, operands),
+        Statement::Values(size) => Ok(Effect::Data(data_values(alloc, size, operands)?)),
+        Statement::Ascii => Ok(Effect::Data(ascii(alloc, operands)?)),
+        Statement::Space => {
+            let zeros = space(operands).map_err(Refusal::Fault)?;
+            Ok(Effect::Data(vec![in alloc; zeros].map_err(AllocError::from)?))
+        }
+        _ => Err(Refusal::Fault(FaultKind::Operand)),
+    }
+}
+
+/// `.text` and `.data`.
+#[tactic(auto, unfolding(crate::specs::Statements::enter))]
+fn enter<'a>(into: Section, operands: &[Operand]) -> Result<Effect<'a>, Refusal>
+    ensures effect { IfOk result (λ effect. spec.enter into operands.now ≡ Ok (effect_value effect)) }
+    ensures refusal { IfErr result (Refuses (spec.enter into operands.now)) }
+{
+    if operands.is_empty() {
+        Ok(Effect::Enter(into))
+    } else {
+        Err(Refusal::Fault(FaultKind::Operand))
+    }
+}

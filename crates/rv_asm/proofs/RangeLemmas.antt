@@ -1,7 +1,0 @@
--- A number in its range is handed on as it is.
-use Rattle.std.proofs.Common.{◌≡◌, ℤ, Ok, arith}
-use Rattle.rv_asm.specs.Ranges.{within}
-
-pub within_same : (low high n m : ℤ) → within low high n ≡ Ok m → m ≡ n
-unfolding within
-within_same low high n m is = grind arith

@@ -1,8 +1,0 @@
-use Rattle.rv_asm.specs.Tokens.{tokens_of}
-use Rattle.rv_asm.proofs.OperandSteps.{no_base}
-use Rattle.rv_asm.proofs.scanning.operands.number_operand.Goals as goal
-
-pub returns-in_err-base-clause-operand : goal.returns-in_err-base-clause-operand
-returns-in_err-base-clause-operand c =
-    let opened = rw c.in-Token-Open-default.field-0-is at c.in-Token-Open-default.ensures.token in
-    rw c.from_residual.ensures (rw opened (no_base c.args.number (tokens_of c.in-Token-Open-default.rest.now) c.in_err-base.ensures.base))

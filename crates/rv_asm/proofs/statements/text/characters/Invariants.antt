@@ -1,8 +1,0 @@
-use Rattle.std.proofs.Common.{◌≡◌, ◌++◌, map, drop}
-use Rattle.rv_asm.specs.declared.part.Datum.TheVariants.{Byte}
-use Rattle.rv_asm.specs.Directives.{unescaped, unescaped_after}
-use Rattle.rv_asm.proofs.statements.text.characters.Given as goal
-
-abbrev pub invariant-loop-character : goal.invariant-loop-character
-invariant-loop-character l =
-    map Byte (unescaped l.text) ≡ l.bytes.items ++ map Byte (unescaped_after l.behind_backslash (drop l.character-index l.text))

@@ -1,14 +1,16 @@
 -- A hart writes to a page that its access reaches.
-use Rattle.std.specs.Prelude.{◌≡◌, ℕ, ◌^◌, ◌<◌, ◌%◌, ◌==◌, Bool, true, false, cond, ◌||◌, Some, option_map, Result, Ok, Err, is_some, List, refl}
-use Rattle.std.proofs.Common.{sym, ap, ◌∙◌, subst, eqb-true, eq-eqb}
+use Rattle.std.specs.Prelude.{◌≡◌, ◌≢◌, ℕ, ◌^◌, ◌<◌, ◌%◌, ◌==◌, Bool, true, false, cond, ◌||◌, Some, option_map, Result, Ok, Err, is_some, List, refl}
+use Rattle.std.proofs.Common.{sym, ap, ◌∙◌, subst, eqb-true, eq-eqb, ne_eqb}
 use Rattle.byteorder.specs.Endian.{little_bytes}
-use Rattle.page_memory.specs.Memory.{Page, Memory, overwritten, answered, usable, aligned_page, if_aligned, memory_with, stored, copied_in}
+use Rattle.page_memory.specs.Memory.{Page, Memory, overwritten, answered, usable, aligned_page, if_aligned, memory_with, number_at, exchanged, replaced, stored, copied_in}
 use Rattle.page_memory.specs.declared.fault.MemoryFault.{MemoryFault}
+use Rattle.page_memory.specs.declared.fault.MemoryFault.TheVariants.{Misaligned}
 use Rattle.rv_exec.specs.declared.bus.BusError.{BusError}
 use Rattle.rv_exec.specs.declared.bus.BusError.TheVariants.{Fault, Absent}
 use Rattle.rv_exec.specs.Answers.{Refuses}
 use Rattle.page_memory.specs.Words.{page_number, page_offset, bytes_in}
 use Rattle.page_memory.specs.declared.words.Width.{Width}
+use Rattle.page_memory.specs.declared.words.Width.TheVariants.{Word}
 use Rattle.page_memory.specs.declared.words.Access.TheVariants.{Store}
 use Rattle.page_memory.specs.Entries.{with_value}
 use Rattle.page_memory.specs.EntriesLaws.{place_of-with_value}
@@ -22,6 +24,7 @@ use Rattle.paged_memory.specs.Seen.{frame_seen, rights_seen, is_changed, is_used
 use Rattle.paged_memory.specs.Soundness.{IsMapped}
 use Rattle.paged_memory.specs.Access.{Reaches, KeepsSeen}
 use Rattle.paged_memory.specs.Paged.{standing_of, seen_of, page_at, seen_at, flat_page, memory_of, Holds, ChangesPage}
+use Rattle.paged_memory.proofs.ReadLaws.{usable_reached}
 use Rattle.paged_memory.proofs.PagedLaws.{Change, get-page_at, page_at-place, changes_at_place, changes_no_entry, Holds-held}
 
 -- what a write to a page's frame leaves
@@ -132,6 +135,36 @@ answered_refused : {A : Type 0} (lacks : ℕ → Type 0) (address : ℕ) (g : Pa
 answered_refused lacks address g (Fault fault) r is = ap (answered g) is
 answered_refused lacks address g (Absent page) (Ok p) is = (is.0, is.1, refl)
 answered_refused lacks address g (Absent page) (Err fault) is = let clash = is.2 in cc
+
+-- a word that is replaced in one step
+replaced_by : {S : Type 0} (held : S → List ℕ) (pages : List (ℕ × PageValue S)) (tables : List (List ℕ)) (update : ℕ → ℕ) (address place : ℕ) → address % 4 ≡ 0 → (reached : Reaches pages tables Store (page_number address) place) → aligned_page (memory_of held pages) Store 4 address ≡ Ok (flat_page held reached.page)
+unfolding aligned_page
+replaced_by held pages tables update address place aligned reached =
+    ap (λ b. if_aligned b (usable (memory_of held pages) Store address)) (eq-eqb (address % 4) 0 aligned) ∙ usable_reached held pages Store address reached
+
+pub replaced_written : {S : Type 0} (held : S → List ℕ) (pages : List (ℕ × PageValue S)) (tables : List (List ℕ)) (update : ℕ → ℕ) (address place : ℕ) → address % 4 ≡ 0 → (reached : Reaches pages tables Store (page_number address) place)
+    → replaced (memory_of held pages) update address ≡ Ok (number_at 4 address (flat_page held reached.page), memory_of held (with_value pages place (with_bytes reached.page (overwritten (content held reached.page) (page_offset address) (little_bytes 4 (update (number_at 4 address (flat_page held reached.page))))))))
+unfolding replaced stored
+replaced_written held pages tables update address place aligned reached =
+    let n = number_at 4 address (flat_page held reached.page) in
+    let memory = memory_of held pages in
+    let found = replaced_by held pages tables update address place aligned reached in
+    let after = stored_written held pages tables Word address (update n) place aligned reached in
+    let same = ok_same _ _ (sym (ap (answered (memory_with memory address (little_bytes 4 (update n)))) found) ∙ after) in
+    ap (answered (exchanged memory update address)) found ∙ ap (λ m. Ok (n, m)) same
+  where
+    ok_same : (x y : Memory) → ◌≡◌ {A = Result Memory MemoryFault} (Ok x) (Ok y) → x ≡ y
+    ok_same x y is = cc
+
+pub replaced_refused : (lacks : ℕ → Type 0) (memory : Memory) (update : ℕ → ℕ) (address : ℕ) (refusal : BusError) → address % 4 ≡ 0 → Refuses lacks address (usable memory Store address) refusal → Refuses lacks address (replaced memory update address) refusal
+unfolding replaced aligned_page
+replaced_refused lacks memory update address refusal aligned is =
+    subst (λ b. Refuses lacks address (answered (exchanged memory update address) (if_aligned b (usable memory Store address))) refusal) (sym (eq-eqb (address % 4) 0 aligned))
+    (answered_refused lacks address (exchanged memory update address) refusal (usable memory Store address) is)
+
+pub replaced_misaligned : (memory : Memory) (update : ℕ → ℕ) (address : ℕ) → address % 4 ≢ 0 → replaced memory update address ≡ Err Misaligned
+unfolding replaced aligned_page
+replaced_misaligned memory update address odd = ap (λ b. answered (exchanged memory update address) (if_aligned b (usable memory Store address))) (ne_eqb (address % 4) 0 odd)
 
 pub stored_refused : (lacks : ℕ → Type 0) (memory : Memory) (width : Width) (address word : ℕ) (refusal : BusError) → address % bytes_in width ≡ 0 → Refuses lacks address (usable memory Store address) refusal → Refuses lacks address (stored memory width address word) refusal
 unfolding stored aligned_page

@@ -1,5 +1,7 @@
-ghost use Rattle.std.specs.Prelude.{◌≡◌, ◌<◌, length, OnErr};
-ghost use Rattle.page_memory.specs.Memory.{fetched, loaded, stored};
+ghost use Rattle.std.specs.Prelude.{◌≡◌, ℕ, ◌+◌, ◌≤◌, ◌<◌, length, OnErr};
+ghost use Rattle.page_memory.specs.Memory.{fetched, loaded, stored, replaced, copied_out, copied_in};
+ghost use Rattle.page_memory.specs.Words.{page_offset};
+ghost use Rattle.rv_exec.specs.Amo.{amo_result};
 ghost use Rattle.rv_exec.specs.Answers.{Answers, with_answer};
 ghost use Rattle.paged_memory.specs.Paged.{memory_of};
 ghost use Rattle.paged_memory.specs.Access.{HasPage, LacksPage, MarksUse, KeepsTranslations, KeepsSeen, cache_of};
@@ -8,6 +10,7 @@ use crate::memory::PagedMemory;
 use crate::{reading, writing};
 use page_memory::Width;
 use rv_exec::BusError;
+use rv_isa::AmoKind;
 use std::sync::ledger::Ledger;
 use swap_slots::SwapSlot;
 
@@ -76,6 +79,77 @@ impl<L: Ledger, S: SwapSlot> PagedMemory<L, S> {
             width,
             address,
             word,
+        )
+    }
+
+    /// Replaces the word at an address by an operation's result, in one step, and answers the old word.
+    #[inline]
+    pub fn amo(
+        &mut self,
+        hart: usize,
+        address: u32,
+        operation: AmoKind,
+        operand: u32,
+    ) -> Result<u32, BusError>
+        requires { hart < length self.old.caches }
+        ensures answer { let update = λ (old : ℕ). amo_result operation old operand in
+            let after = with_answer (λ old. (old, memory_of S.content self.new.pages)) result in
+            Answers (HasPage self.old.pages (cache_of self.old.caches hart)) (MarksUse self.old.pages self.new.tables (cache_of self.old.caches hart)) (LacksPage self.old.pages) address (replaced (memory_of S.content self.old.pages) update address) after }
+        ensures refused { OnErr result (self.new.pages ≡ self.old.pages) }
+        ensures process { self.new.process ≡ self.old.process }
+        ensures seen { KeepsSeen self.old.pages self.new.pages }
+        ensures kept { KeepsTranslations self.old.pages hart self.old.tables self.new.tables self.old.caches self.new.caches }
+    {
+        writing::amo(
+            &mut self.pages,
+            &mut self.tables,
+            &mut self.caches,
+            hart,
+            address,
+            operation,
+            operand,
+        )
+    }
+
+    /// Copies bytes of one page to a slice, for a hart.
+    pub fn copy_out(&mut self, hart: usize, address: u32, to: &mut [u8]) -> Result<(), BusError>
+        requires hart { hart < length self.old.caches }
+        requires within { page_offset address + length to.old ≤ 4096 }
+        ensures answer { let copied = with_answer (λ _. to.new) result in
+            Answers (HasPage self.old.pages (cache_of self.old.caches hart)) (MarksUse self.old.pages self.new.tables (cache_of self.old.caches hart)) (LacksPage self.old.pages) address (copied_out (memory_of S.content self.old.pages) address (length to.old)) copied }
+        ensures refused { OnErr result (to.new ≡ to.old) }
+        ensures process { self.new.process ≡ self.old.process }
+        ensures pages { self.new.pages ≡ self.old.pages }
+        ensures kept { KeepsTranslations self.old.pages hart self.old.tables self.new.tables self.old.caches self.new.caches }
+    {
+        reading::copy_out(
+            &self.pages,
+            &mut self.tables,
+            &mut self.caches,
+            hart,
+            address,
+            to,
+        )
+    }
+
+    /// Copies a slice into one page, for a hart. The page counts as changed from then on.
+    pub fn copy_in(&mut self, hart: usize, address: u32, from: &[u8]) -> Result<(), BusError>
+        requires hart { hart < length self.old.caches }
+        requires within { page_offset address + length from.now ≤ 4096 }
+        ensures answer { let after = with_answer (λ _. memory_of S.content self.new.pages) result in
+            Answers (HasPage self.old.pages (cache_of self.old.caches hart)) (MarksUse self.old.pages self.new.tables (cache_of self.old.caches hart)) (LacksPage self.old.pages) address (copied_in (memory_of S.content self.old.pages) address from.now) after }
+        ensures refused { OnErr result (self.new.pages ≡ self.old.pages) }
+        ensures process { self.new.process ≡ self.old.process }
+        ensures seen { KeepsSeen self.old.pages self.new.pages }
+        ensures kept { KeepsTranslations self.old.pages hart self.old.tables self.new.tables self.old.caches self.new.caches }
+    {
+        writing::copy_in(
+            &mut self.pages,
+            &mut self.tables,
+            &mut self.caches,
+            hart,
+            address,
+            from,
         )
     }
 }

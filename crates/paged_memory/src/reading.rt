@@ -1,17 +1,17 @@
-ghost use Rattle.std.specs.Prelude.{◌≡◌, ◌<◌, ◌%◌, length, is_some, Some, Ok, OnOk, true, IfOk, IfErr, IfSome};
+ghost use Rattle.std.specs.Prelude.{◌≡◌, ◌<◌, ◌%◌, length, is_some, Some, Ok, OnOk, true, IfOk, IfErr, IfSome, ◌+◌, ◌≤◌, OnErr};
 ghost use Rattle.std.specs.Option.{IsSomeAnd};
-ghost use Rattle.page_memory.specs.Words.{page_number, bytes_in};
+ghost use Rattle.page_memory.specs.Words.{page_number, page_offset, bytes_in};
 ghost use Rattle.page_memory.specs.Entries.{value_at};
-ghost use Rattle.page_memory.specs.Memory.{usable, fetched, loaded};
+ghost use Rattle.page_memory.specs.Memory.{usable, fetched, loaded, copied_out};
 ghost use Rattle.page_memory.specs.declared.words.Access.{Access};
 ghost use Rattle.page_store.specs.PageValue.{content, writable};
-ghost use Rattle.rv_exec.specs.Answers.{Answers, Refuses};
+ghost use Rattle.rv_exec.specs.Answers.{Answers, Refuses, with_answer};
 ghost use Rattle.paged_memory.specs.Paged.{Holds, memory_of};
 ghost use Rattle.paged_memory.specs.Access.{HasPage, LacksPage, MarksUse, KeepsTranslations, UsesBytes, cache_of};
 
 use crate::access::reach;
 use crate::caches::Caches;
-use page_memory::{Access, MemoryFault, PageMap, Width, number};
+use page_memory::{Access, MemoryFault, PageMap, Width, number, offset_in_page};
 use page_store::StoredPage;
 use rv_exec::BusError;
 use std::sync::ledger::Ledger;
@@ -20,7 +20,7 @@ use swap_slots::SwapSlot;
 
 /// The bytes of a page that has a frame.
 #[inline]
-fn bytes_of<L: Ledger, S: SwapSlot>(page: &StoredPage<L, S>) -> &[u8; 4096]
+pub(crate) fn bytes_of<L: Ledger, S: SwapSlot>(page: &StoredPage<L, S>) -> &[u8; 4096]
     requires { is_some (writable page.now.place) ≡ true }
     ensures bytes { result.now ≡ content S.content page.now }
     ensures whole { length result.now ≡ 4096 }
@@ -104,6 +104,35 @@ pub(crate) fn load<L: Ledger, S: SwapSlot>(
     }
     match read(pages, tables, caches, hart, Access::Load, address) {
         Ok(page) => Ok(number(page, width, address)),
+        Err(refusal) => Err(refusal),
+    }
+}
+
+/// Copies bytes of one page to a slice.
+#[tactic(auto, unfolding(page_memory::specs::Memory::copied_out))]
+pub(crate) fn copy_out<L: Ledger, S: SwapSlot>(
+    pages: &PageMap<StoredPage<L, S>>,
+    tables: &mut PageTables,
+    caches: &mut Caches,
+    hart: usize,
+    address: u32,
+    to: &mut [u8],
+) -> Result<(), BusError>
+    requires hart { hart < length caches.old }
+    requires within { page_offset address + length to.old ≤ 4096 }
+    requires holds { Holds S.content S.honest pages.now tables.old caches.old }
+    ensures holds { Holds S.content S.honest pages.now tables.new caches.new }
+    ensures answer { let copied = with_answer (λ _. to.new) result in
+        Answers (HasPage pages.now (cache_of caches.old hart)) (MarksUse pages.now tables.new (cache_of caches.old hart)) (LacksPage pages.now) address (copied_out (memory_of S.content pages.now) address (length to.old)) copied }
+    ensures refused { OnErr result (to.new ≡ to.old) }
+    ensures kept { KeepsTranslations pages.now hart tables.old tables.new caches.old caches.new }
+{
+    match read(pages, tables, caches, hart, Access::Load, address) {
+        Ok(page) => {
+            let offset = offset_in_page(address);
+            to.copy_from_slice(&page[offset..offset + to.len()]);
+            Ok(())
+        }
         Err(refusal) => Err(refusal),
     }
 }

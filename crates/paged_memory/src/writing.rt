@@ -1,18 +1,23 @@
-ghost use Rattle.std.specs.Prelude.{◌≡◌, ◌+◌, ◌≤◌, ◌<◌, ◌%◌, length, is_some, Some, Ok, OnOk, OnErr, true, IfOk, IfErr, IfSome};
+ghost use Rattle.std.specs.Prelude.{◌≡◌, ◌+◌, ◌≤◌, ◌<◌, ◌%◌, length, is_some, Some, Ok, OnOk, OnErr, true, IfOk, IfErr, IfSome, ℕ};
 ghost use Rattle.page_memory.specs.Words.{page_number, page_offset, bytes_in};
-ghost use Rattle.page_memory.specs.Memory.{overwritten, stored, copied_in};
+ghost use Rattle.page_memory.specs.Memory.{overwritten, stored, replaced, copied_in};
 ghost use Rattle.byteorder.specs.Endian.{little_bytes};
 ghost use Rattle.page_store.specs.PageValue.{content, writable};
 ghost use Rattle.page_store.specs.Lending.{with_bytes};
+ghost use Rattle.rv_exec.specs.Amo.{amo_result};
 ghost use Rattle.rv_exec.specs.Answers.{Answers, with_answer};
 ghost use Rattle.paged_memory.specs.Paged.{Holds, memory_of};
 ghost use Rattle.paged_memory.specs.Access.{HasPage, LacksPage, MarksUse, KeepsTranslations, KeepsSeen, cache_of};
 
 use crate::access::reach;
 use crate::caches::Caches;
-use page_memory::{Access, MemoryFault, PageMap, Width, put_bytes, put_number};
+use crate::reading::bytes_of;
+use page_memory::{
+    Access, MemoryFault, PageMap, Width, number, offset_in_page, put_bytes, put_number,
+};
 use page_store::StoredPage;
-use rv_exec::BusError;
+use rv_exec::{BusError, amo_word};
+use rv_isa::AmoKind;
 use std::sync::ledger::Ledger;
 use sv32_table::PageTables;
 use swap_slots::SwapSlot;
@@ -74,6 +79,68 @@ pub(crate) fn store<L: Ledger, S: SwapSlot>(
         Ok(place) => {
             put_number_in(pages.at_mut(place), width, address, word);
             Ok(())
+        }
+        Err(refusal) => Err(refusal),
+    }
+}
+
+/// Copies a slice into one page.
+pub(crate) fn copy_in<L: Ledger, S: SwapSlot>(
+    pages: &mut PageMap<StoredPage<L, S>>,
+    tables: &mut PageTables,
+    caches: &mut Caches,
+    hart: usize,
+    address: u32,
+    from: &[u8],
+) -> Result<(), BusError>
+    requires hart { hart < length caches.old }
+    requires within { page_offset address + length from.now ≤ 4096 }
+    requires holds { Holds S.content S.honest pages.old tables.old caches.old }
+    ensures holds { Holds S.content S.honest pages.new tables.new caches.new }
+    ensures answer { let after = with_answer (λ _. memory_of S.content pages.new) result in
+        Answers (HasPage pages.old (cache_of caches.old hart)) (MarksUse pages.old tables.new (cache_of caches.old hart)) (LacksPage pages.old) address (copied_in (memory_of S.content pages.old) address from.now) after }
+    ensures refused { OnErr result (pages.new ≡ pages.old) }
+    ensures seen { KeepsSeen pages.old pages.new }
+    ensures kept { KeepsTranslations pages.old hart tables.old tables.new caches.old caches.new }
+{
+    match reach(pages, tables, caches, hart, Access::Store, address) {
+        Ok(place) => {
+            put_bytes_in(pages.at_mut(place), offset_in_page(address), from);
+            Ok(())
+        }
+        Err(refusal) => Err(refusal),
+    }
+}
+
+/// Replaces the word at an address by an operation's result, in one step, and answers the old word.
+pub(crate) fn amo<L: Ledger, S: SwapSlot>(
+    pages: &mut PageMap<StoredPage<L, S>>,
+    tables: &mut PageTables,
+    caches: &mut Caches,
+    hart: usize,
+    address: u32,
+    operation: AmoKind,
+    operand: u32,
+) -> Result<u32, BusError>
+    requires hart { hart < length caches.old }
+    requires holds { Holds S.content S.honest pages.old tables.old caches.old }
+    ensures holds { Holds S.content S.honest pages.new tables.new caches.new }
+    ensures answer { let update = λ (old : ℕ). amo_result operation old operand in
+        let after = with_answer (λ old. (old, memory_of S.content pages.new)) result in
+        Answers (HasPage pages.old (cache_of caches.old hart)) (MarksUse pages.old tables.new (cache_of caches.old hart)) (LacksPage pages.old) address (replaced (memory_of S.content pages.old) update address) after }
+    ensures refused { OnErr result (pages.new ≡ pages.old) }
+    ensures seen { KeepsSeen pages.old pages.new }
+    ensures kept { KeepsTranslations pages.old hart tables.old tables.new caches.old caches.new }
+{
+    if address % 4 != 0 {
+        return Err(BusError::Fault(MemoryFault::Misaligned));
+    }
+    match reach(pages, tables, caches, hart, Access::Store, address) {
+        Ok(place) => {
+            let old = number(bytes_of(pages.at(place)), Width::Word, address);
+            let word = amo_word(operation, old, operand);
+            put_number_in(pages.at_mut(place), Width::Word, address, word);
+            Ok(old)
         }
         Err(refusal) => Err(refusal),
     }

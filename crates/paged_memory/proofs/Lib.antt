@@ -8,6 +8,7 @@ pub mod HartLaws
 pub mod WalkLaws
 pub mod LocateLaws
 pub mod ReadLaws
+pub mod GrowthLaws
 pub mod WriteLaws
 pub mod HitLaws
 pub mod MovesLaws

@@ -19,7 +19,7 @@ use Rattle.paged_memory.proofs.SoundnessLaws.{ChangesAt, Unheld, Stays, changed_
 use Rattle.paged_memory.specs.Calls.{ChangesBy}
 use Rattle.paged_memory.specs.Paged.{seen_of, page_at, seen_at, flat_page, memory_of, ArePlaced, Holds, ChangesPage}
 
-swap_key : {A : Type 0} (q number : ℕ) (x y : A) → cond (eq_by_cmp nat_cmp q number) x y ≡ (if q == number then x else y)
+pub swap_key : {A : Type 0} (q number : ℕ) (x y : A) → cond (eq_by_cmp nat_cmp q number) x y ≡ (if q == number then x else y)
 swap_key q number x y = ap (λ b. cond b x y) (same_key q number ∙ turned number q)
   where
     turned : (a b : ℕ) → (a == b) ≡ (b == a)

@@ -3,3 +3,4 @@ pub mod Soundness
 pub mod Paged
 pub mod Calls
 pub mod Access
+pub mod Growth

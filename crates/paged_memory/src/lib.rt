@@ -4,6 +4,7 @@
 mod access;
 mod caches;
 mod eviction;
+mod growth;
 mod hart_access;
 mod harts;
 mod memory;

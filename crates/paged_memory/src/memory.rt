@@ -13,6 +13,7 @@ use swap_slots::SwapSlot;
 /// The pages of one process, with its page tables and a translation cache for each of its harts.
 #[derive(Drop)]
 pub struct PagedMemory<L: Ledger, S: SwapSlot> {
+    pub(crate) alloc: Global,
     pub(crate) process: u32,
     pub(crate) pages: PageMap<StoredPage<L, S>>,
     pub(crate) tables: PageTables,
@@ -38,6 +39,7 @@ impl<L: Ledger, S: SwapSlot> PagedMemory<L, S> {
         ensures caches { IfOk result (λ memory. memory.caches ≡ []) }
     {
         Ok(PagedMemory {
+            alloc,
             process,
             pages: PageMap::new(alloc)?,
             tables: PageTables::new(alloc)?,

@@ -1,0 +1,81 @@
+-- Pages of zeros are mapped where none is.
+use Rattle.std.specs.Prelude.{Result, Ok, Err, OnOk, OnErr, ◌≡◌, ℕ, zero, suc, ◌+◌, ◌^◌, ◌<◌, ◌≤◌, ◌==◌, true, if◌then◌else◌, Option, Some, None, option_map, List, [], ◌∷◌, ◌++◌, refl}
+use Rattle.std.proofs.Common.{sym, ap, ◌∙◌, subst, arith}
+use Rattle.std.specs.Cmp.{nat_cmp_total}
+use Rattle.std.specs.FinMap.{get, from_entries, get-insert}
+use Rattle.frame_pool.specs.FrameValue.{zero_bytes}
+use Rattle.page_memory.specs.declared.words.Access.TheVariants.{Load}
+use Rattle.page_memory.specs.declared.rights.Rights.{Rights}
+use Rattle.std.proofs.lemmas.Option.{same_Some}
+use Rattle.page_memory.specs.Rights.{may}
+use Rattle.page_memory.specs.Memory.{with_zeroed}
+use Rattle.page_memory.specs.Entries.{place_of, added, added_unless, with_added}
+use Rattle.page_memory.specs.EntriesLaws.{inserted, place_stays}
+use Rattle.page_memory.specs.StandsForLaws.{entry-changes, map_by-added}
+use Rattle.page_store.specs.PageValue.{PageValue}
+use Rattle.sv32_table.specs.Entry.{blank}
+use Rattle.sv32_table.specs.EntryAt.{entry_at}
+use Rattle.tlb_core.specs.declared.translation.Translation.{Translation}
+use Rattle.paged_memory.specs.Seen.{entry_seen, frame_seen}
+use Rattle.paged_memory.specs.Growth.{zero_page}
+use Rattle.paged_memory.specs.Paged.{seen_of, seen_at, flat_page, memory_of, Holds, ChangesPage}
+use Rattle.paged_memory.proofs.SoundnessLaws.{unheld_elsewhere}
+use Rattle.paged_memory.proofs.PagedLaws.{Change, get-page_at, page_at-nowhere, swap_key, changes_no_entry, Holds-unheld}
+
+readable_zero : (rights : Rights) → Some (record { 0 = 3 }) ≡ Some rights → may Load rights ≡ true
+readable_zero rights is = let same : record { 0 = 3 } ≡ rights = same_Some _ _ is in subst (λ r. may Load r ≡ true) same refl
+
+module _ {S : Type 0} where
+  appended : (pages : List (ℕ × PageValue S)) (number : ℕ) (page : PageValue S) → place_of number pages ≡ None → ChangesPage pages (pages ++ (number, page) ∷ []) number page
+  appended pages number page none =
+      record {
+        places = λ q k at. place_stays pages (number, page) q k at;
+        pages = λ q.
+            get-page_at (pages ++ (number, page) ∷ []) q ∙ ap (λ m. get m q) (inserted pages number page none)
+            ∙ get-insert nat_cmp_total (from_entries pages) number page q ∙ swap_key q number (Some page) (get (from_entries pages) q)
+            ∙ ap (λ o. if q == number then Some page else o) (sym (get-page_at pages q));
+        entries = entry-changes pages number page none;
+      }
+
+  module _ {held : S → List ℕ} {honest : Type 0} {tables : List (List ℕ)} {caches : List (List Translation)} where
+    -- one page of zeros
+    holds_one : (pages : List (ℕ × PageValue S)) (number : ℕ) → number < 2 ^ 20 → Holds held honest pages tables caches → Holds held honest (added number zero_page pages) tables caches
+    unfolding added
+    holds_one pages number small holds = by_place (place_of number pages) refl
+      where
+        by_place : (o : Option ℕ) → place_of number pages ≡ o → Holds held honest (added_unless o number zero_page pages) tables caches
+        by_place (Some place) at = holds
+        by_place None at =
+            let seen_none : seen_at pages number ≡ None = ap (option_map seen_of) (page_at-nowhere pages number at) in
+            let e_blank : entry_at tables number ≡ blank = (holds.agree.mapped number small).entry ∙ ap (λ s. entry_seen s (entry_at tables number).accessed (entry_at tables number).dirty) seen_none in
+            let change : Change held honest pages (pages ++ (number, zero_page) ∷ []) tables tables number zero_page (entry_at tables number) =
+            record {
+              small = small;
+              changes = appended pages number zero_page at;
+              entry = changes_no_entry tables number;
+              kept = λ q in_range has. has;
+              tabled = λ framed. cc;
+              mapped = record { entry = e_blank; readable = λ rights is store. readable_zero rights is };
+              backed = λ is_honest unchanged. refl;
+            } in
+            Holds-unheld change caches holds (unheld_elsewhere caches number holds.agree (ap frame_seen seen_none))
+
+    -- pages of zeros in a range
+    pub holds_zeroed : (pages : List (ℕ × PageValue S)) (first count : ℕ) → first + count ≤ 2 ^ 20 → Holds held honest pages tables caches → Holds held honest (with_added first count zero_page pages) tables caches
+    unfolding with_added
+    holds_zeroed pages first zero within holds = holds
+    holds_zeroed pages first (suc count) within holds = holds_one (with_added first count zero_page pages) (first + count) (omega arith) (holds_zeroed pages first count (omega arith) holds)
+
+  -- and the memory that they stand for
+  pub memory_zeroed : (held : S → List ℕ) (pages : List (ℕ × PageValue S)) (first count : ℕ) → memory_of held (with_added first count zero_page pages) ≡ with_zeroed first count (memory_of held pages)
+  unfolding memory_of zero_bytes
+  memory_zeroed held pages first count = map_by-added (flat_page held) pages first count zero_page refl
+
+-- the same by what the growth answered
+pub holds_grown : {S U E : Type 0} {held : S → List ℕ} {honest : Type 0} {tables : List (List ℕ)} {caches : List (List Translation)} (result : Result U E) (old new : List (ℕ × PageValue S)) (first count : ℕ) → first + count ≤ 2 ^ 20 → OnOk result (new ≡ with_added first count zero_page old) → OnErr result (new ≡ old) → Holds held honest old tables caches → Holds held honest new tables caches
+holds_grown (Ok u) old new first count within ok err holds = rw ok (holds_zeroed old first count within holds)
+holds_grown (Err e) old new first count within ok err holds = rw err holds
+
+pub memory_grown : {S U E : Type 0} (held : S → List ℕ) (result : Result U E) (old new : List (ℕ × PageValue S)) (first count : ℕ) → OnOk result (new ≡ with_added first count zero_page old) → OnOk result (memory_of held new ≡ with_zeroed first count (memory_of held old))
+memory_grown held (Ok u) old new first count ok = ap (memory_of held) ok ∙ memory_zeroed held old first count
+memory_grown held (Err e) old new first count ok = ok

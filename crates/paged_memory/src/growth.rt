@@ -1,0 +1,71 @@
+ghost use Rattle.std.specs.Prelude.{◌≡◌, ◌+◌, ◌≤◌, ◌<◌, ◌^◌, None, OnOk, OnErr, IsErr};
+ghost use Rattle.page_memory.specs.Memory.{with_zeroed};
+ghost use Rattle.page_memory.specs.Entries.{place_of, added, with_added};
+ghost use Rattle.paged_memory.specs.Paged.{memory_of};
+ghost use Rattle.paged_memory.specs.Growth.{zero_page};
+
+use crate::memory::PagedMemory;
+use page_memory::{PageMap, Rights};
+use page_store::StoredPage;
+use std::alloc::{AllocError, Global};
+use std::sync::ledger::Ledger;
+use swap_slots::SwapSlot;
+
+impl<L: Ledger, S: SwapSlot> PagedMemory<L, S> {
+    /// Maps pages of zeros that may be read and written at so many page numbers from the first on, wherever none is
+    /// mapped: all of them, or none where memory is wanting. They are fresh, and take no frame yet.
+    pub fn map_zeroed(&mut self, first: u32, count: u32) -> Result<(), AllocError>
+        requires { first + count ≤ 2 ^ 20 }
+        ensures ok { OnOk result (self.new.pages ≡ with_added first count zero_page self.old.pages) }
+        ensures memory { OnOk result (memory_of S.content self.new.pages ≡ with_zeroed first count (memory_of S.content self.old.pages)) }
+        ensures err { OnErr result (self.new ≡ self.old) }
+        ensures some { IsErr result → 0 < count }
+        ensures process { self.new.process ≡ self.old.process }
+        ensures tables { self.new.tables ≡ self.old.tables }
+        ensures caches { self.new.caches ≡ self.old.caches }
+    {
+        add_all_zeroed(&mut self.pages, self.alloc, first, count)
+    }
+}
+
+/// Adds a page of zeros at each of so many page numbers from the first on that has none, or at none.
+#[tactic(auto, using(page_memory::specs::EntriesLaws::front_stays), unfolding(page_memory::specs::Entries::with_added))]
+fn add_all_zeroed<L: Ledger, S: SwapSlot>(
+    pages: &mut PageMap<StoredPage<L, S>>,
+    alloc: Global,
+    first: u32,
+    count: u32,
+) -> Result<(), AllocError>
+    requires { first + count ≤ 2 ^ 20 }
+    ensures ok { OnOk result (pages.new ≡ with_added first count zero_page pages.old) }
+    ensures err { OnErr result (pages.new ≡ pages.old) }
+    ensures some { IsErr result → 0 < count }
+{
+    let before = pages.len();
+    for number in first..first + count {
+        if add_zeroed(pages, alloc, number).is_err() {
+            pages.truncate(before);
+            return Err(AllocError);
+        }
+    }
+    Ok(())
+}
+
+/// Adds a page of zeros at a page number that has none.
+#[tactic(auto, using(page_memory::specs::EntriesLaws::added_behind), unfolding(page_memory::specs::Entries::added))]
+fn add_zeroed<L: Ledger, S: SwapSlot>(
+    pages: &mut PageMap<StoredPage<L, S>>,
+    alloc: Global,
+    number: u32,
+) -> Result<(), AllocError>
+    requires { number < 2 ^ 20 }
+    ensures ok { OnOk result (pages.new ≡ added number zero_page pages.old) }
+    ensures err { OnErr result (pages.new ≡ pages.old) }
+    ensures absent { IsErr result → place_of number pages.old ≡ None }
+{
+    if pages.place(number).is_some() {
+        return Ok(());
+    }
+    pages.insert(alloc, number, StoredPage::zeroed(Rights::READ_WRITE))?;
+    Ok(())
+}

@@ -1,18 +1,18 @@
 -- Pages of zeros are mapped where none is.
-use Rattle.std.specs.Prelude.{Result, Ok, Err, OnOk, OnErr, ◌≡◌, ℕ, zero, suc, ◌+◌, ◌^◌, ◌<◌, ◌≤◌, ◌==◌, true, if◌then◌else◌, Option, Some, None, option_map, List, [], ◌∷◌, ◌++◌, refl}
+use Rattle.std.specs.Prelude.{Result, Ok, Err, OnOk, OnErr, IfOk, ◌≡◌, ℕ, zero, suc, ◌+◌, ◌^◌, ◌<◌, ◌≤◌, ◌==◌, true, if◌then◌else◌, Option, Some, None, option_map, List, [], ◌∷◌, ◌++◌, refl}
 use Rattle.std.proofs.Common.{sym, ap, ◌∙◌, subst, arith}
 use Rattle.std.specs.Cmp.{nat_cmp_total}
 use Rattle.std.specs.FinMap.{get, from_entries, get-insert}
 use Rattle.frame_pool.specs.FrameValue.{zero_bytes}
-use Rattle.page_memory.specs.declared.words.Access.TheVariants.{Load}
+use Rattle.page_memory.specs.declared.words.Access.TheVariants.{Load, Store}
 use Rattle.page_memory.specs.declared.rights.Rights.{Rights}
 use Rattle.std.proofs.lemmas.Option.{same_Some}
 use Rattle.page_memory.specs.Rights.{may}
-use Rattle.page_memory.specs.Memory.{with_zeroed}
+use Rattle.page_memory.specs.Memory.{Page, with_zeroed}
 use Rattle.page_memory.specs.Entries.{place_of, added, added_unless, with_added}
 use Rattle.page_memory.specs.EntriesLaws.{inserted, place_stays}
 use Rattle.page_memory.specs.StandsForLaws.{entry-changes, map_by-added}
-use Rattle.page_store.specs.PageValue.{PageValue}
+use Rattle.page_store.specs.PageValue.{PageValue, Fresh}
 use Rattle.sv32_table.specs.Entry.{blank}
 use Rattle.sv32_table.specs.EntryAt.{entry_at}
 use Rattle.tlb_core.specs.declared.translation.Translation.{Translation}
@@ -79,3 +79,29 @@ holds_grown (Err e) old new first count within ok err holds = rw err holds
 pub memory_grown : {S U E : Type 0} (held : S → List ℕ) (result : Result U E) (old new : List (ℕ × PageValue S)) (first count : ℕ) → OnOk result (new ≡ with_added first count zero_page old) → OnOk result (memory_of held new ≡ with_zeroed first count (memory_of held old))
 memory_grown held (Ok u) old new first count ok = ap (memory_of held) ok ∙ memory_zeroed held old first count
 memory_grown held (Err e) old new first count ok = ok
+
+-- one more page, as it begins
+pub holds_mapped : {S : Type 0} {held : S → List ℕ} {honest : Type 0} {tables : List (List ℕ)} {caches : List (List Translation)} (pages : List (ℕ × PageValue S)) (number : ℕ) (origin : Page) → number < 2 ^ 20 → place_of number pages ≡ None → (may Store origin.rights ≡ true → may Load origin.rights ≡ true) → Holds held honest pages tables caches → Holds held honest (pages ++ (number, record { origin = origin; place = Fresh }) ∷ []) tables caches
+holds_mapped {S} {held} {honest} {tables} {caches} pages number origin small at readable holds = Holds-unheld change caches holds (unheld_elsewhere caches number holds.agree (ap frame_seen seen_none))
+  where
+    seen_none : seen_at pages number ≡ None
+    seen_none = ap (option_map seen_of) (page_at-nowhere pages number at)
+
+    change : Change held honest pages (pages ++ (number, record { origin = origin; place = Fresh }) ∷ []) tables tables number (record { origin = origin; place = Fresh }) (entry_at tables number)
+    change =
+        record {
+          small = small;
+          changes = appended pages number (record { origin = origin; place = Fresh }) at;
+          entry = changes_no_entry tables number;
+          kept = λ q in_range has. has;
+          tabled = λ framed. cc;
+          mapped = record {
+            entry = (holds.agree.mapped number small).entry ∙ ap (λ s. entry_seen s (entry_at tables number).accessed (entry_at tables number).dirty) seen_none;
+            readable = λ rights is may_store. let same : origin.rights ≡ rights = same_Some _ _ is in subst (λ r. may Load r ≡ true) same (readable (subst (λ r. may Store r ≡ true) (sym same) may_store));
+          };
+          backed = λ is_honest unchanged. refl;
+        }
+
+pub holds_inserted : {S P E : Type 0} {held : S → List ℕ} {honest : Type 0} {tables : List (List ℕ)} {caches : List (List Translation)} (result : Result P E) (old new : List (ℕ × PageValue S)) (number : ℕ) (origin : Page) (value : PageValue S) → number < 2 ^ 20 → place_of number old ≡ None → (may Store origin.rights ≡ true → may Load origin.rights ≡ true) → value ≡ record { origin = origin; place = Fresh } → IfOk result (λ _. new ≡ old ++ (number, value) ∷ []) → OnErr result (new ≡ old) → Holds held honest old tables caches → Holds held honest new tables caches
+holds_inserted (Ok p) old new number origin value small absent readable is ok err holds = rw (ok, is) (holds_mapped old number origin small absent readable holds)
+holds_inserted (Err e) old new number origin value small absent readable is ok err holds = rw err holds

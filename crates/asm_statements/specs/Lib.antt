@@ -1,5 +1,6 @@
 pub mod Directives
 pub mod Effects
+pub mod Escapes
 pub mod Instructions
 pub mod Mnemonics
 pub mod Names
@@ -7,5 +8,6 @@ pub mod Parts
 pub mod RangeLaws
 pub mod Ranges
 pub mod Registers
+pub mod SameStatements
 pub mod Shapes
 pub mod Statements

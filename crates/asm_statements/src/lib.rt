@@ -23,7 +23,7 @@ mod statements;
 mod tests;
 mod text;
 
-pub use laws::loaded_word;
+pub use laws::{escapes_stand_for_their_bytes, loaded_word, pseudo_instructions_are_instructions};
 pub use part::{Code, Datum, Effect};
 pub use section::Section;
 pub use statements::read_statement;

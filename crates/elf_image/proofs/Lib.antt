@@ -13,3 +13,4 @@ pub mod TouchedRanges
 pub mod WordPages
 pub mod WrittenBytes
 pub mod WrittenImages
+pub mod PageCuts

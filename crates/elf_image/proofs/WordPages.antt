@@ -1,7 +1,7 @@
 -- A page's bytes as its words are written one after another.
-use Rattle.std.proofs.Common.{◌≡◌, ◌≢◌, ℕ, ◌+◌, ◌-◌, ◌*◌, ◌<◌, ◌≤◌, min, List, [], ◌∷◌, ◌++◌, length, take, drop, replicate, map, slice_index, slice_index_or, arith, refl, sym, ap, ◌∙◌, subst, append_assoc, append-nil, length-append, take_all, length-drop, length-take, inl, inr, IsTrue, ◌&&◌, ◌==◌, lit<}
+use Rattle.std.proofs.Common.{◌≡◌, ◌≢◌, ℕ, ◌+◌, ◌-◌, ◌*◌, ◌<◌, ◌≤◌, min, List, [], ◌∷◌, ◌++◌, length, take, drop, replicate, map, slice_index, slice_index_or, arith, refl, sym, ap, ◌∙◌, subst, append_assoc, append-nil, length-append, take_all, length-drop, length-take, IsTrue, ◌&&◌, ◌==◌, lit<}
 use Rattle.std.specs.List.{range_with_len, list_any}
-use Rattle.std.proofs.lemmas.List.{take_more, drop-replicate}
+use Rattle.std.proofs.lemmas.List.{take_min, take_more, drop-replicate}
 use Rattle.std.proofs.lemmas.Grind.{flat_map-append}
 use Rattle.std.proofs.lemmas.List.FromFn.{get_or-map-range_with_len, length-map-range_with_len}
 use Rattle.std.proofs.Math.Seq.{drop-append-add, take-append_seam}
@@ -9,7 +9,6 @@ use Rattle.byteorder.specs.Endian.{little_bytes}
 use Rattle.page_memory.specs.Memory.{overwritten}
 use Rattle.page_memory.specs.Rights.{may}
 use Rattle.page_memory.specs.declared.words.Access.TheVariants.{Fetch, Load}
-use Rattle.std.proofs.lemmas.Bool.Decides.{eqb_tells}
 use Rattle.std.proofs.lemmas.List.Folds.{list_any_at}
 use Rattle.page_memory.specs.Words.{page_offset}
 use Rattle.elf_image.specs.declared.image.ImagePage.{ImagePage}
@@ -52,13 +51,6 @@ words_written words bytes i past within is =
     let left : 4096 - 4 * i ≡ 4096 - length (bytes_of words) = omega arith in
     is ∙ ap (λ l. bytes_of l ++ replicate (4096 - 4 * i) 0) (take_all i words past) ∙ ap (λ n. bytes_of words ++ replicate n 0) left
 
-take_least : (n : ℕ) (xs : List ℕ) → take (min n (length xs)) xs ≡ take n xs
-take_least n xs =
-    elim (eqb_tells (min n (length xs)) n) [
-      | inl whole ↦ ap (λ k. take k xs) whole.1
-      | inr cut ↦ let shorter : length xs ≤ n = let differs = cut.1 in omega arith in let at : min n (length xs) ≡ length xs = omega arith in ap (λ k. take k xs) at ∙ take_all (length xs) xs (omega arith) ∙ sym (take_all n xs shorter)
-    ]
-
 -- the words of a page, cut at the end of all words
 pub page_cut : (words : List ℕ) (place : ℕ) → 1024 * place < length words → take (min (place * 1024 + 1024) (length words) - place * 1024) (drop (place * 1024) words) ≡ take 1024 (drop (1024 * place) words)
 page_cut words place h =
@@ -67,7 +59,7 @@ page_cut words place h =
     let cut : min (place * 1024 + 1024) (length words) - place * 1024 ≡ min 1024 (length (drop (1024 * place) words)) = omega arith in
     ap (λ s. take (min (place * 1024 + 1024) (length words) - place * 1024) (drop s words)) start
     ∙ ap (λ n. take n (drop (1024 * place) words)) cut
-    ∙ take_least 1024 (drop (1024 * place) words)
+    ∙ take_min 1024 (drop (1024 * place) words)
 
 no_words : (words : List ℕ) → length words ≡ 0 → words ≡ []
 no_words [] e = refl

@@ -3,6 +3,7 @@
 #![tactic(auto)]
 
 mod bounds;
+mod byte_pages;
 mod fault;
 mod file_header;
 mod format;
@@ -23,6 +24,7 @@ mod write_tests;
 mod writing;
 mod written_law;
 
+pub use byte_pages::{bytes_of_words, with_pages};
 pub use fault::ElfFault;
 pub use image::{Image, ImagePage};
 pub use read::read_elf;

@@ -5,7 +5,6 @@ pub mod LabelLaws
 pub mod LineLaws
 pub mod OneFault
 pub mod OneListing
-pub mod PageCuts
 pub mod PagesPass
 pub mod PartLaws
 pub mod Places

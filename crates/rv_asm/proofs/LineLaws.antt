@@ -16,7 +16,8 @@ use Rattle.asm_statements.specs.Effects.{Effect, Enter, Text as TextEffect, Data
 use Rattle.asm_lines.specs.Lines.{line_form}
 use Rattle.rv_asm.specs.Steps.{FaultAt, chained, on_line}
 use Rattle.rv_asm.specs.Program.{size, place_of}
-use Rattle.rv_asm.specs.FirstPass.{Progress, no_lines, effect_of, unless_there, with_label, with_labels, fits, if_fits, with_item, with_items, with_effect, with_reading, with_form, with_line, with_lines}
+use Rattle.rv_asm.specs.FirstPass.{Progress, no_lines, unless_there, with_label, with_labels, fits, if_fits, with_item, with_items, with_effect, with_reading, with_form, with_line, with_lines}
+use Rattle.rv_asm.specs.LineEffects.{effect_of}
 use Rattle.rv_asm.specs.Assembly.{Says, entered, parts_of, items_of, Tells, Lacks, Distinct, Fits, HasProgram, LineFault, form, statement, twice, long}
 use Rattle.rv_asm.proofs.Places.{size_append}
 use Rattle.rv_asm.proofs.LabelLaws.{lacks_none, none_from_lacks}

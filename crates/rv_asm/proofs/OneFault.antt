@@ -24,7 +24,8 @@ use Rattle.asm_statements.specs.Effects.{Effect}
 use Rattle.text_lines.specs.Text.{lines_of}
 use Rattle.rv_asm.specs.Steps.{FaultAt, Fails, chained, mapped}
 use Rattle.rv_asm.specs.Program.{size, place_from, place_of, section_start, address_of}
-use Rattle.rv_asm.specs.FirstPass.{Progress, no_lines, effect_of, with_lines, first_pass}
+use Rattle.rv_asm.specs.FirstPass.{Progress, no_lines, with_lines, first_pass}
+use Rattle.rv_asm.specs.LineEffects.{effect_of}
 use Rattle.rv_asm.specs.SecondPass.{Sections, second_pass}
 use Rattle.rv_asm.specs.Listing.{Assembly, ListingContent, ListsTold, unless_empty, laid_out, assembled}
 use Rattle.rv_asm.specs.Assembly.{Says, entered, parts_of, items_of, Tells, Lacks, Distinct, HasAddress, Fits, HasProgram, PutsWords, PutsBytes, HasPut, code_label, datum_label, TooFar, PartFault, no_label, no_datum_label, too_far, LineFault, form, statement, twice, long, FirstFault, in_line, no_text, in_part}

@@ -21,7 +21,8 @@ use Rattle.asm_statements.specs.declared.section.Section.TheVariants.{Text, Data
 use Rattle.rv_asm.specs.declared.place.Place.{Place}
 use Rattle.rv_asm.specs.declared.item.Item.{Item}
 use Rattle.rv_asm.specs.Program.{size, place_of, section_start}
-use Rattle.rv_asm.specs.Listing.{text_rights, data_rights, page_count, page_at, pages_of, entry_if, entry_in, entry_at, entry_of, image_of}
+use Rattle.elf_image.specs.BytePages.{page_count, page_at, pages_of}
+use Rattle.rv_asm.specs.Listing.{text_rights, data_rights, entry_if, entry_in, entry_at, entry_of, image_of}
 
 -- pages with numbers one behind the other
 abbrev Numbered : ℕ → List ImagePage → Type 0

@@ -25,7 +25,7 @@ use Rattle.asm_statements.specs.Effects.{Effect, Enter, Text as TextEffect, Data
 use Rattle.asm_lines.specs.Lines.{line_form}
 use Rattle.text_lines.specs.Text.{lines_of}
 use Rattle.rv_asm.specs.Program.{size, section_start}
-use Rattle.rv_asm.specs.FirstPass.{effect_of}
+use Rattle.rv_asm.specs.LineEffects.{effect_of}
 use Rattle.rv_asm.specs.Listing.{ListingContent, Lists}
 
 -- ---- what lines say

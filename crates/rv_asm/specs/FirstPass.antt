@@ -1,16 +1,15 @@
 -- The first pass over a source: line by line to the items of its program, and to the first fault that can be told without addresses.
-use Rattle.std.specs.Prelude.{ℕ, ◌+◌, ◌&&◌, nat_le, Bool, true, false, List, [], ◌∷◌, ◌++◌, map, Option, Some, None, is_some, Result, Ok, Err}
+use Rattle.std.specs.Prelude.{ℕ, ◌+◌, ◌&&◌, nat_le, Bool, true, false, List, [], ◌∷◌, ◌++◌, map, is_some, Result, Ok, Err}
 use Rattle.asm_lines.specs.declared.fault.FaultKind.{FaultKind}
 use Rattle.asm_lines.specs.declared.fault.FaultKind.TheVariants.{LabelTwice, TooLong}
 use Rattle.asm_statements.specs.declared.section.Section.{Section}
 use Rattle.asm_statements.specs.declared.section.Section.TheVariants.{Text, Data}
-use Rattle.asm_lines.specs.declared.operand.Operand.{Operand}
 use Rattle.rv_asm.specs.declared.item.Item.{Item}
 use Rattle.rv_asm.specs.declared.item.Item.TheVariants.{Label, InText, InData}
 use Rattle.asm_lines.specs.Forms.{Line}
 use Rattle.asm_statements.specs.Effects.{Effect, Enter, Text as TextEffect, Data as DataEffect}
 use Rattle.asm_lines.specs.Lines.{line_form}
-use Rattle.asm_statements.specs.Statements.{statement_effect}
+use Rattle.rv_asm.specs.LineEffects.{effect_of}
 use Rattle.text_lines.specs.Text.{lines_of}
 use Rattle.rv_asm.specs.Steps.{FaultAt, chained, on_line}
 use Rattle.rv_asm.specs.Program.{size, place_of}
@@ -23,14 +22,6 @@ pub record Progress : Type 0 where
 -- before the first line
 abbrev pub no_lines : Progress
 no_lines = record { section = Text; items = [] }
-
--- what a line does in a section: a line with no statement stays there
-abbrev pub effect_of_name : Section → List Operand → Option (List ℕ) → Result Effect FaultKind
-effect_of_name section operands None = Ok (Enter section)
-effect_of_name section operands (Some name) = statement_effect section name operands
-
-abbrev pub effect_of : Section → Line → Result Effect FaultKind
-effect_of section line = effect_of_name section line.operands line.name
 
 -- a label is added that must not stand yet
 abbrev pub unless_there : Bool → Progress → List ℕ → Result Progress FaultKind

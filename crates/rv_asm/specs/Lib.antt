@@ -2,6 +2,7 @@ pub mod Assembly
 pub mod Counted
 pub mod Errors
 pub mod FirstPass
+pub mod LineEffects
 pub mod Listing
 pub mod Program
 pub mod SecondPass

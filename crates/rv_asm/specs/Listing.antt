@@ -1,9 +1,8 @@
 -- What an assembled program is: its entry, its pages, its words and the bytes of its data.
-use Rattle.std.specs.Prelude.{◌≡◌, ℕ, ◌+◌, ◌*◌, ◌/◌, ◌==◌, nat_lt, List, ◌++◌, length, map, take, drop, codes, Option, Some, None, Result, Ok, Err, Bool, true, false}
-use Rattle.std.specs.List.{range_with_len}
+use Rattle.std.specs.Prelude.{◌≡◌, ℕ, ◌+◌, ◌/◌, ◌==◌, nat_lt, List, ◌++◌, length, map, codes, Option, Some, None, Result, Ok, Err, Bool, true, false}
 use Rattle.page_memory.specs.declared.rights.Rights.{Rights}
-use Rattle.elf_image.specs.declared.image.ImagePage.{ImagePage}
-use Rattle.elf_image.specs.Image.{ImageContent, bytes_of, filled}
+use Rattle.elf_image.specs.Image.{ImageContent, bytes_of}
+use Rattle.elf_image.specs.BytePages.{pages_of}
 use Rattle.rv_isa.specs.declared.instruction.Insn.{Insn}
 use Rattle.asm_lines.specs.declared.fault.FaultKind.TheVariants.{Empty}
 use Rattle.asm_statements.specs.declared.section.Section.{Section}
@@ -22,19 +21,6 @@ text_rights = record { 0 = 5 }
 
 abbrev pub data_rights : Rights
 data_rights = record { 0 = 3 }
-
--- how many pages bytes need
-abbrev pub page_count : List ℕ → ℕ
-page_count bytes = (length bytes + 4095) / 4096
-
--- the k-th page of bytes that begin with page `first`: zeros stand behind the last byte
-abbrev pub page_at : ℕ → Rights → List ℕ → ℕ → ImagePage
-page_at first rights bytes k =
-    record { number = first + k; page = record { rights = rights; bytes = filled (take 4096 (drop (4096 * k) bytes)) } }
-
--- the pages of bytes that begin with page `first`
-unfoldable pub pages_of : ℕ → Rights → List ℕ → List ImagePage
-pages_of first rights bytes = map (page_at first rights bytes) (range_with_len 0 (page_count bytes))
 
 -- the entry: the label `_start`, where it stands in the text before its end; else where the text begins
 abbrev pub entry_if : Bool → ℕ → ℕ

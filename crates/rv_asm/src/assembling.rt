@@ -13,13 +13,12 @@ ghost use Rattle.rv_asm.specs.Listing.{Lists, ListsTold, assembled};
 use crate::fault::AsmError;
 use crate::first_pass::read_source;
 use crate::listing::Listing;
-use crate::pages::{bytes_of_words, with_pages};
 use crate::program::Program;
 use crate::second_pass::fill_sections;
 use crate::sections::Sections;
 use asm_lines::FaultKind;
 use asm_statements::Section;
-use elf_image::{Image, TEXT_START};
+use elf_image::{Image, TEXT_START, bytes_of_words, with_pages};
 use page_memory::{Rights, page_of};
 use std::alloc::{AllocError, Global};
 

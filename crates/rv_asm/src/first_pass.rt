@@ -5,7 +5,8 @@ ghost use Rattle.asm_lines.specs.Faults.{Refuses};
 ghost use Rattle.asm_statements.specs.Effects.{effect_value};
 ghost use Rattle.rv_asm.specs.Steps.{Fails};
 ghost use Rattle.rv_asm.specs.Program.{labelled};
-ghost use Rattle.rv_asm.specs.FirstPass.{first_pass, with_line, with_labels, with_items, with_effect, effect_of_name};
+ghost use Rattle.rv_asm.specs.FirstPass.{first_pass, with_line, with_labels, with_items, with_effect};
+ghost use Rattle.rv_asm.specs.LineEffects.{effect_of_name};
 ghost use Rattle.rv_asm.specs.declared.item.Item.TheVariants.{InText, InData};
 
 use crate::fault::AsmError;

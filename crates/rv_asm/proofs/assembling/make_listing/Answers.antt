@@ -4,7 +4,8 @@ use Rattle.page_memory.specs.Words.{page_number}
 use Rattle.elf_image.specs.Image.{ImageContent, bytes_of}
 use Rattle.elf_image.specs.Parts.{parts_fault, image_of_parts}
 use Rattle.rv_asm.specs.Words.{Spell}
-use Rattle.rv_asm.specs.Listing.{ListingContent, image_of, pages_of, text_rights, data_rights}
+use Rattle.elf_image.specs.BytePages.{pages_of}
+use Rattle.rv_asm.specs.Listing.{ListingContent, image_of, text_rights, data_rights}
 use Rattle.rv_asm.proofs.SecondSteps.{pass_length}
 use Rattle.rv_asm.proofs.Spelling.{spell_length}
 use Rattle.rv_asm.proofs.PagesPass.{pages_pass, image_from_parts, length_bytes, ok_from_no_fault}

@@ -1,7 +1,7 @@
 use Rattle.std.proofs.Common.{◌∙◌, ◌+◌, ◌-◌, ◌*◌, ap, take, drop}
 use Rattle.elf_image.specs.Image.{filled}
-use Rattle.rv_asm.proofs.PageCuts.{page_cut}
-use Rattle.rv_asm.proofs.pages.page_of_bytes.Goals as goal
+use Rattle.elf_image.proofs.PageCuts.{page_cut}
+use Rattle.elf_image.proofs.byte_pages.page_of_bytes.Goals as goal
 
 pub returns : goal.returns
 returns c =

@@ -1,15 +1,15 @@
-//! The pages of a section.
+//! Whole pages from bytes.
 
 ghost use Rattle.std.specs.Prelude.{◌≡◌, ◌<◌, ◌≤◌, ◌+◌, ◌*◌, ◌++◌, ◌^◌, IfOk, length, flat_map};
 ghost use Rattle.elf_image.specs.Image.{bytes_of, filled};
-ghost use Rattle.rv_asm.specs.Listing.{page_at, page_count, pages_of};
+ghost use Rattle.elf_image.specs.BytePages.{page_at, page_count, pages_of};
 
-use elf_image::ImagePage;
+use crate::image::ImagePage;
 use page_memory::{PAGE_SIZE, Page, Rights};
 use std::alloc::{AllocError, Global};
 
 /// The bytes of words, the lowest of each first.
-pub(crate) fn bytes_of_words(alloc: Global, words: &[u32]) -> Result<Vec<u8>, AllocError>
+pub fn bytes_of_words(alloc: Global, words: &[u32]) -> Result<Vec<u8>, AllocError>
     ensures { IfOk result (λ bytes. bytes.items ≡ bytes_of words.now) }
 {
     let mut bytes = Vec::new(alloc);
@@ -19,9 +19,9 @@ pub(crate) fn bytes_of_words(alloc: Global, words: &[u32]) -> Result<Vec<u8>, Al
     Ok(bytes)
 }
 
-/// The pages with those of more bytes behind them, from a page's number on.
-#[tactic(auto, unfolding(crate::specs::Listing::pages_of))]
-pub(crate) fn with_pages(
+/// The pages, and behind them those of more bytes, which begin with the page of this number. Zeros stand behind the last byte.
+#[tactic(auto, unfolding(crate::specs::BytePages::pages_of))]
+pub fn with_pages(
     alloc: Global,
     mut pages: Vec<ImagePage>,
     first: u32,

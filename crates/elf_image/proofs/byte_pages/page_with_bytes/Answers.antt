@@ -1,7 +1,7 @@
 use Rattle.std.proofs.Common.{◌∙◌, ap}
 use Rattle.page_memory.specs.Memory.{Page, overwritten}
-use Rattle.rv_asm.proofs.PageCuts.{written_first}
-use Rattle.rv_asm.proofs.pages.page_with_bytes.Goals as goal
+use Rattle.elf_image.proofs.PageCuts.{written_first}
+use Rattle.elf_image.proofs.byte_pages.page_with_bytes.Goals as goal
 
 pub returns : goal.returns
 returns c =

@@ -1,8 +1,8 @@
 use Rattle.std.proofs.Common.{◌∙◌, ◌++◌, ◌∷◌, [], arith, sym, ap, append_assoc, map}
 use Rattle.std.specs.List.{range_with_len}
 use Rattle.std.proofs.lemmas.List.FromFn.{map-range_with_len_more}
-use Rattle.rv_asm.specs.Listing.{page_at}
-use Rattle.rv_asm.proofs.pages.with_pages.Goals as goal
+use Rattle.elf_image.specs.BytePages.{page_at}
+use Rattle.elf_image.proofs.byte_pages.with_pages.Goals as goal
 
 pub loop-place-preserved : goal.loop-place-preserved
 loop-place-preserved c =

@@ -33,12 +33,12 @@ pub record StopsShort (hart budget : ℕ) (before : Process) (ran : ℕ) (after 
 
 -- why a slice stops after so many instructions that ran, of a budget, from one process to another; some pages were lacking
 abbrev pub Stops : (ℕ → Type 0) → ℕ → ℕ → Process → SliceStop → ℕ → Process → Type 0
-Stops lacks hart budget before Budget ran after = (ran ≡ budget) × (may_step hart after ≡ true) × EachStep (PassesOn hart) hart ran before
+Stops lacks hart budget before Budget ran after = (ran ≡ budget) × (0 < ran → may_step hart after ≡ true) × EachStep (PassesOn hart) hart ran before
 Stops lacks hart budget before (Absent page) ran after = StopsShort hart budget before ran after × Contains (next_pages hart after) page × lacks page
 Stops lacks hart budget before Yield ran after = EndsWith hart before progress.Yielded ran
 Stops lacks hart budget before HartDone ran after = EndsWith hart before progress.HartDone ran
-Stops lacks hart budget before Ended ran after = ((ran ≡ 0) × IsSome before.ending) ⊎ EndsWith hart before progress.Ended ran
-Stops lacks hart budget before NoHart ran after = (ran ≡ 0) × (before.ending ≡ None) × (is_live hart before ≡ false)
+Stops lacks hart budget before Ended ran after = ((ran ≡ 0) × (0 < budget) × IsSome before.ending) ⊎ EndsWith hart before progress.Ended ran
+Stops lacks hart budget before NoHart ran after = (ran ≡ 0) × (0 < budget) × (before.ending ≡ None) × (is_live hart before ≡ false)
 Stops lacks hart budget before ScheduleFull ran after = ⊥
 Stops lacks hart budget before NoMemory ran after = StopsShort hart budget before ran after × WantsMemory hart after
 

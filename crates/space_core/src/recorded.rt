@@ -1,4 +1,5 @@
 ghost use Rattle.std.specs.Prelude.{◌≡◌, ◌≤◌, ◌+◌, ◌++◌, Some, [], min, replicate, IfOk};
+ghost use Rattle.std.specs.Option.{option_or};
 ghost use Rattle.flat_machine.specs.Process.{flat_run, opening};
 ghost use Rattle.flat_machine.specs.Schedule.{written_out, room};
 ghost use Rattle.rv_exec.specs.Outcomes.{Used};
@@ -9,7 +10,7 @@ ghost use Rattle.space_core.specs.Slices.{EachStep, StopsRecorded};
 use crate::progress::{Slice, SliceStop};
 use crate::running::Running;
 use elf_image::Image;
-use flat_machine::Schedule;
+use flat_machine::{End, KillCause, Schedule};
 use rv_exec::Bus;
 use std::alloc::{AllocError, Global};
 use std::marker::Model;
@@ -60,6 +61,12 @@ impl Recorded {
         ensures kept { B.keeps bus.old bus.new }
     {
         let room = self.schedule.room(hart);
+        if budget > 0 && room == 0 {
+            return Slice {
+                ran: 0,
+                stop: self.running.stop_where_full(hart, budget, bus),
+            };
+        }
         let allowed = least(budget, room);
         let slice = self.running.slice(hart, allowed, bus);
         self.schedule.record(hart, slice.ran);
@@ -67,6 +74,13 @@ impl Recorded {
             ran: slice.ran,
             stop: recorded_stop(slice.stop, allowed < budget),
         }
+    }
+
+    /// The machine ends the process, unless it has ended.
+    pub fn kill(&mut self, cause: KillCause)
+        ensures { self.new ≡ record self.old { running = record self.old.running { ending = option_or self.old.running.ending (Some (End.Killed cause)) } } }
+    {
+        self.running.kill(cause);
     }
 
     /// What the process is beside its memory and schedule.

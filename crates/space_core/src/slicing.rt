@@ -1,9 +1,9 @@
-ghost use Rattle.std.specs.Prelude.{◌≡◌, ◌≤◌, Some, true, replicate};
+ghost use Rattle.std.specs.Prelude.{◌≡◌, ◌≤◌, ◌<◌, Some, true, replicate};
 ghost use Rattle.flat_machine.specs.Process.{may_step, flat_run};
 ghost use Rattle.rv_exec.specs.Outcomes.{Used};
 ghost use Rattle.space_core.specs.RunningValue.{with_memory};
 ghost use Rattle.space_core.specs.Next.{next_pages};
-ghost use Rattle.space_core.specs.Slices.{EachStep, Stops};
+ghost use Rattle.space_core.specs.Slices.{EachStep, Stops, StopsRecorded};
 
 use crate::progress::{Slice, SliceStop, stop_before};
 use crate::running::Running;
@@ -14,6 +14,7 @@ impl Running {
     ///
     /// It stops early for a page that has to be brought in, a yield, the end of the hart or of the process, and
     /// for want of memory; of several reasons the first of: ended, no such live hart, the next instruction's.
+    /// With no instruction allowed it stops for that alone.
     pub fn slice<B: Bus>(&mut self, hart: u32, budget: u32, bus: &mut B) -> Slice
         ensures ran { let before = with_memory self.old (B.memory bus.old) in
             flat_run (replicate result.ran hart) before ≡ Some (with_memory self.new (B.memory bus.new)) }
@@ -24,6 +25,12 @@ impl Running {
             EachStep (λ at. Used (B.has bus.old) (B.marks bus.new) (next_pages hart at)) hart result.ran before }
         ensures kept { B.keeps bus.old bus.new }
     {
+        if budget == 0 {
+            return Slice {
+                ran: 0,
+                stop: SliceStop::Budget,
+            };
+        }
         if self.end.is_some() {
             return Slice {
                 ran: 0,
@@ -37,6 +44,21 @@ impl Running {
             };
         }
         self.run_live(hart, budget, bus)
+    }
+
+    /// Why a slice of some instructions stops at once where the schedule takes no more of the hart.
+    pub(crate) fn stop_where_full<B: Bus>(&self, hart: u32, budget: u32, _bus: &B) -> SliceStop
+        requires some { 0 < budget }
+        ensures { let now = with_memory self.now (B.memory _bus.now) in
+            StopsRecorded (B.lacks _bus.now) hart budget 0 now result 0 now }
+    {
+        if self.end.is_some() {
+            SliceStop::Ended
+        } else if !self.env.is_live(hart) {
+            SliceStop::NoHart
+        } else {
+            SliceStop::ScheduleFull
+        }
     }
 
     /// The same of a hart that may step.

@@ -7,3 +7,6 @@ returns-then-is_some-clause-ran g c = flat_run_none (with_memory c.args.self.now
 
 pub returns-then-not-is_live-clause-ran : goal.returns-then-not-is_live-clause-ran
 returns-then-not-is_live-clause-ran g c = flat_run_none (with_memory c.args.self.now (g.B.Bus.memory c.args.bus.now))
+
+pub returns-then-budget-eq0-clause-ran : goal.returns-then-budget-eq0-clause-ran
+returns-then-budget-eq0-clause-ran g c = flat_run_none (with_memory c.args.self.now (g.B.Bus.memory c.args.bus.now))

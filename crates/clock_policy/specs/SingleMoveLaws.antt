@@ -124,7 +124,7 @@ relisted_composes mid new s apart order less =
     ∙ ap (λ (c : Option Key). record s { entries = new; cold_hand = settled s.entries new s.cold_hand; test_hand = c }) (settled_composes s.entries mid new s.test_hand apart order less)
 
 -- a hand that stays is where it was
-rest_stays : (q : Key → Bool) (ks : List Key) (k : Key) → q k ≡ true → among ks k ≡ true → rest q ks (Some k) ≡ Some k
+pub rest_stays : (q : Key → Bool) (ks : List Key) (k : Key) → q k ≡ true → among ks k ≡ true → rest q ks (Some k) ≡ Some k
 rest_stays q ks k holds there = ap (find q) refl ∙ first ks k there holds _
   where
     first : (ks : List Key) (k : Key) → among ks k ≡ true → q k ≡ true → (more : List Key) → find q (from_key k ks ++ more) ≡ Some k

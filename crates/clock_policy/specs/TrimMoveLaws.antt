@@ -8,7 +8,7 @@ use Rattle.clock_policy.specs.declared.entry.Entry.{Entry}
 use Rattle.clock_policy.specs.declared.entry.EntryKind.{EntryKind}
 use Rattle.clock_policy.specs.declared.entry.EntryKind.TheVariants.{Hot, Test, Cold, Shadow}
 use Rattle.clock_policy.specs.ClockPro.{ClockState, has_key, place, place_of, round, key_of, is_shadow, is_in_test, of_kind, settled, relisted, removed, marked, fallen, test_ended, trimmed_part, trimmed_tests, trimmed_list, trimmed_once}
-use Rattle.clock_policy.specs.Lawful.{Lawful}
+use Rattle.clock_policy.specs.Steady.{Based}
 use Rattle.clock_policy.specs.Listed.{has_key_refl}
 use Rattle.clock_policy.specs.Counts.{any_shadow, round_tests_then, round_tests_else, trimmed_list_then, trimmed_list_else}
 use Rattle.clock_policy.specs.SettledLaws.{keys, among, Apart, rest, settled_rest, keys-append}
@@ -19,7 +19,7 @@ use Rattle.clock_policy.specs.SingleMoveLaws.{apart_of, without_at, none_before}
 unfoldable trimming : ℕ → List Entry → ClockState → ClockState
 trimming n l s = record s { share = max (s.share - n) 1; entries = l }
 
-trimming_starts : (s : ClockState) → Lawful s → trimming 0 s.entries s ≡ s
+trimming_starts : (s : ClockState) → Based s → trimming 0 s.entries s ≡ s
 unfolding trimming
 trimming_starts s h = ap (λ (c : ℕ). record s { share = c }) (same_share s.share h.share_low)
   where
@@ -27,7 +27,7 @@ trimming_starts s h = ap (λ (c : ℕ). record s { share = c }) (same_share s.sh
     same_share c h = omega arith
 
 -- the entry behind others of other keys is marked
-set_at : (e y : Entry) (t v : List Entry) → among (keys t) e.key ≡ false → set (t ++ e ∷ v) (place e.key (t ++ e ∷ v)) y ≡ t ++ y ∷ v
+pub set_at : (e y : Entry) (t v : List Entry) → among (keys t) e.key ≡ false → set (t ++ e ∷ v) (place e.key (t ++ e ∷ v)) y ≡ t ++ y ∷ v
 set_at e y [] v alone = rw (has_key_refl e) refl
 set_at e y (d ∷ ds) v alone =
     elim (has_key e.key d) as (λ b. b || among (keys ds) e.key ≡ false → set (d ∷ (ds ++ e ∷ v)) (cond b 0 (suc (place e.key (ds ++ e ∷ v)))) y ≡ d ∷ (ds ++ y ∷ v)) [
@@ -224,7 +224,7 @@ moves_behind u v s f clear is apart =
     ∙ ap (λ (c : ℕ). fallen c (relisted (trimmed_part u ++ t) (on_shadow (Some e.key) s))) (omega (arith, f.tests))
 
 -- The first shadow from the test hand on goes, and the tests before it end, one after another.
-pub trimmed_by_moves : (s : ClockState) → Lawful s → any_shadow s.entries ≡ true → each_ended (round (place_of s.test_hand s.entries) s.entries) s ≡ trimmed_once s
+pub trimmed_by_moves : (s : ClockState) → Based s → any_shadow s.entries ≡ true → each_ended (round (place_of s.test_hand s.entries) s.entries) s ≡ trimmed_once s
 unfolding trimmed_once
 trimmed_by_moves s h some =
     let l : List Entry = s.entries in

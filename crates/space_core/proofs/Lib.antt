@@ -1,2 +1,4 @@
 pub mod StepMoves
 pub mod SliceMoves
+pub mod Standing
+pub mod Spaces

@@ -6,8 +6,10 @@ mod recorded;
 mod running;
 mod settling;
 mod slicing;
+mod space;
 mod stepping;
 
 pub use progress::{Progress, Slice, SliceStop};
 pub use recorded::Recorded;
 pub use running::Running;
+pub use space::Space;

@@ -1,0 +1,130 @@
+ghost use Rattle.std.specs.Prelude.{◌≡◌, ◌<◌, ◌^◌, Some, option_map, option_copied, map, slice_get, OnSome, IfNone, OnOk, OnErr, IfErr};
+ghost use Rattle.std.specs.Option.{option_or};
+ghost use Rattle.sv32_table.specs.Entry.{blank};
+ghost use Rattle.sv32_table.specs.EntryAt.{entry_at, ChangesEntry, unaccessed_entry, dirty_of};
+ghost use Rattle.tlb_core.specs.Cache.{doomed};
+ghost use Rattle.page_store.specs.PageValue.{state_of};
+ghost use Rattle.paged_memory.specs.Paged.{page_at, seen_at, memory_of};
+ghost use Rattle.space_core.specs.Caches.{noticed, if_killed};
+ghost use Rattle.paged_memory.specs.Calls.{accessed_at, ChangesBy, Leaves, RefusesLeave};
+
+use crate::recorded::Recorded;
+use elf_image::Image;
+use flat_machine::{End, KillCause, Schedule};
+use page_store::{LeaveRefusal, PageState};
+use paged_memory::PagedMemory;
+use rv_exec::Regs;
+use std::marker::Model;
+use std::sync::ledger::Ledger;
+use swap_slots::SwapSlot;
+
+/// A process whose pages come and go.
+#[derive(Drop)]
+pub struct Space<L: Ledger, S: SwapSlot> {
+    image: Image,
+    input: Vec<u8>,
+    recorded: Recorded,
+    memory: PagedMemory<L, S>,
+}
+
+impl<L: Ledger, S: SwapSlot> Model for Space<L, S> {
+    ghost use Rattle.space_core.specs.StandsFor.{SpaceValue, IsSpace};
+
+    ghost Value = { SpaceValue S };
+
+    ghost view = { λ space. record { image = space.image; input = space.input.items; running = space.recorded.running; schedule = space.recorded.schedule; memory = space.memory } };
+
+    ghost invariant = { λ space. IsSpace S.content S.honest (record { image = space.image; input = space.input.items; running = space.recorded.running; schedule = space.recorded.schedule; memory = space.memory }) };
+}
+
+impl<L: Ledger, S: SwapSlot> Space<L, S> {
+    /// Where a page is, or `None` where none is mapped.
+    pub fn state(&self, vpn: u32) -> Option<PageState>
+        requires { vpn < 2 ^ 20 }
+        ensures { result ≡ option_map (λ page. state_of page.place) (page_at self.now.memory.pages vpn) }
+    {
+        self.memory.state(vpn)
+    }
+
+    /// Clears the mark that a resident page was used, and tells what it was, or `None` where the page is not resident.
+    /// Its translations are marked as ones to be dropped, so that the next use marks it again.
+    pub fn test_and_clear(&mut self, vpn: u32) -> Option<bool>
+        requires { vpn < 2 ^ 20 }
+        ensures answer { result ≡ accessed_at (seen_at self.old.memory.pages vpn) (entry_at self.old.memory.tables vpn) }
+        ensures gone { IfNone result (self.new ≡ self.old) }
+        ensures stays { self.new ≡ record self.old { memory = self.new.memory } }
+        ensures process { self.new.memory.process ≡ self.old.memory.process }
+        ensures pages { self.new.memory.pages ≡ self.old.memory.pages }
+        ensures tables { OnSome result (ChangesEntry self.old.memory.tables self.new.memory.tables vpn (unaccessed_entry (entry_at self.old.memory.tables vpn))) }
+        ensures caches { OnSome result (self.new.memory.caches ≡ map (doomed vpn) self.old.memory.caches) }
+    {
+        self.memory.test_and_clear_accessed(vpn)
+    }
+
+    /// A resident page begins to leave its frame: it is unmapped, and its translations are marked as ones to be dropped.
+    /// The frame stays with it until it is collected.
+    pub fn begin_evict(&mut self, vpn: u32) -> Result<(), LeaveRefusal>
+        requires { vpn < 2 ^ 20 }
+        ensures ok { OnOk result (ChangesBy (Leaves (dirty_of (entry_at self.old.memory.tables vpn))) self.old.memory.pages self.new.memory.pages vpn) }
+        ensures refused { IfErr result (RefusesLeave (page_at self.old.memory.pages vpn)) }
+        ensures err { OnErr result (self.new ≡ self.old) }
+        ensures stays { self.new ≡ record self.old { memory = self.new.memory } }
+        ensures process { self.new.memory.process ≡ self.old.memory.process }
+        ensures memory { memory_of S.content self.new.memory.pages ≡ memory_of S.content self.old.memory.pages }
+        ensures entries { OnOk result (ChangesEntry self.old.memory.tables self.new.memory.tables vpn blank) }
+        ensures caches { OnOk result (self.new.memory.caches ≡ map (doomed vpn) self.old.memory.caches) }
+    {
+        self.memory.begin_evict(vpn)
+    }
+
+    /// A hart drops its translations that are marked as ones to be dropped. A hart that was not started has none.
+    pub fn take_notices(&mut self, hart: u32)
+        ensures { self.new ≡ record self.old { memory = noticed hart self.old.memory } }
+    {
+        let hart = hart as usize;
+        if hart < self.memory.harts() {
+            self.memory.take_notices(hart);
+        }
+    }
+
+    /// The machine ends the process, unless it has ended: its harts' caches are emptied.
+    pub fn kill(&mut self, cause: KillCause)
+        ensures { self.new ≡ record self.old {
+          running = record self.old.running { ending = option_or self.old.running.ending (Some (End.Killed cause)) };
+          memory = if_killed self.old.running.ending self.old.memory;
+        } }
+    {
+        if self.recorded.running().end().is_none() {
+            self.recorded.kill(cause);
+            self.memory.clear_caches();
+        }
+    }
+
+    /// A hart's registers, where the hart was started.
+    pub fn regs(&self, hart: u32) -> Option<&Regs>
+        ensures { option_copied result ≡ slice_get self.now.running.harts hart }
+    {
+        self.recorded.running().regs(hart)
+    }
+
+    /// What was written so far.
+    pub fn output(&self) -> &[u8]
+        ensures { result.now ≡ self.now.running.environment.output }
+    {
+        self.recorded.running().output()
+    }
+
+    /// How the process ended, if it did.
+    pub fn end(&self) -> Option<End>
+        ensures { result ≡ self.now.running.ending }
+    {
+        self.recorded.running().end()
+    }
+
+    /// The instructions that ran.
+    pub fn schedule(&self) -> &Schedule
+        ensures { result.now ≡ self.now.schedule }
+    {
+        self.recorded.schedule()
+    }
+}

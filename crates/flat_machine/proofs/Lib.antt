@@ -2,3 +2,4 @@ pub mod Pages
 pub mod Turns
 pub mod Runs
 pub mod Turning
+pub mod PlainSteps

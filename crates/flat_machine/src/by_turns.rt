@@ -66,7 +66,6 @@ impl FlatProcess {
     }
 
     /// Steps the only live hart until another may be live, the process has ended, or so many steps are done.
-    #[inline(never)]
     fn run_alone(&mut self, hart: u32, most: u64) -> Result<u64, OutOfMemory>
         requires may { may_step hart self.old ≡ true }
         requires alone { turn_after hart self.old ≡ hart }
@@ -75,14 +74,19 @@ impl FlatProcess {
         ensures within { IfOk result (λ steps. steps ≤ most) }
         ensures memory { IfErr result (λ stop. (stop.steps < most) × WantsAt hart self.old stop.steps self.new) }
     {
-        for steps in 0..most {
-            match self.step_live(hart) {
-                Ok(true) => {}
+        let mut steps: u64 = 0;
+        while steps < most {
+            steps += self.step_plainly(hart, most - steps);
+            if steps == most {
+                return Ok(steps);
+            }
+            match self.step_fully(hart) {
+                Ok(true) => steps += 1,
                 Ok(false) => return Ok(steps + 1),
                 Err(AllocError) => return Err(OutOfMemory { steps }),
             }
         }
-        Ok(most)
+        Ok(steps)
     }
 
     /// Whose turn it is at first.

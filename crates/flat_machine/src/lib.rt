@@ -4,6 +4,7 @@
 mod by_turns;
 mod end;
 mod opening;
+mod plain_run;
 mod process;
 mod running;
 mod schedule;

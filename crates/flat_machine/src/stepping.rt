@@ -1,11 +1,12 @@
-ghost use Rattle.std.specs.Prelude.{◌≡◌, Some, None, true, false, OnOk, OnErr, IfOk, IfErr};
+ghost use Rattle.std.specs.Prelude.{◌≡◌, ◌≤◌, Some, None, true, OnOk, OnErr, IfOk, IfErr};
 ghost use Rattle.flat_machine.specs.Process.{may_step, flat_step};
+ghost use Rattle.flat_machine.specs.ByTurns.{by_turns, turn_after};
 ghost use Rattle.flat_machine.specs.Refusals.{Refuses, WantsMemory};
 
 use crate::end::End;
+use crate::plain_run::run_plainly;
 use crate::process::FlatProcess;
 use env_calls::{ServeStop, Stepped, step};
-use rv_exec::{Outcome, execute};
 use std::alloc::AllocError;
 use thiserror::Error;
 
@@ -41,7 +42,7 @@ impl FlatProcess {
 
     /// Runs one instruction of a hart that may step, and answers whether the process goes on with the
     /// same harts live. Where memory is wanting, nothing has changed.
-    #[inline(always)]
+    #[inline]
     pub(crate) fn step_live(&mut self, hart: u32) -> Result<bool, AllocError>
         requires { may_step hart self.old ≡ true }
         ensures ok { OnOk result (flat_step hart self.old ≡ Some self.new) }
@@ -49,34 +50,31 @@ impl FlatProcess {
         ensures wants { OnErr result (WantsMemory hart self.old) }
         ensures err { OnErr result (self.new ≡ self.old) }
     {
-        if self.step_plainly(hart) {
+        if self.step_plainly(hart, 1) == 1 {
             return Ok(true);
         }
         self.step_fully(hart)
     }
 
-    /// Runs the next instruction of a hart that may step, if it neither calls nor traps, and answers whether
-    /// it was run. If not, nothing has changed.
-    #[inline(always)]
-    fn step_plainly(&mut self, hart: u32) -> bool
+    /// Steps a hart that may step, up to so many times, until its next instruction calls or traps, and tells how
+    /// many steps that were. Nothing but its registers and the memory has changed.
+    #[inline]
+    pub(crate) fn step_plainly(&mut self, hart: u32, most: u64) -> u64
         requires { may_step hart self.old ≡ true }
-        ensures ran { result ≡ true → flat_step hart self.old ≡ Some self.new }
-        ensures same { result ≡ true → (self.new.ending ≡ None) × (self.new.environment.live ≡ self.old.environment.live) }
-        ensures stays { result ≡ false → self.new ≡ self.old }
+        ensures none { result ≡ 0 → self.new ≡ self.old }
+        ensures one { result ≡ 1 → flat_step hart self.old ≡ Some self.new }
+        ensures alone { turn_after hart self.old ≡ hart → by_turns result hart self.old ≡ Some (hart, self.new) }
+        ensures same { (self.new.ending ≡ None) × (self.new.environment.live ≡ self.old.environment.live) }
+        ensures within { result ≤ most }
     {
         let regs = &mut self.harts[hart as usize];
-        match execute(regs, &mut self.memory) {
-            Outcome::Done => true,
-            Outcome::Ecall => false,
-            Outcome::Trap(_, _) => false,
-            Outcome::Absent(_) => false,
-        }
+        run_plainly(regs, &mut self.memory, most)
     }
 
     /// The same as `step_live`, for a call or a trap: away from the loop, whose steps have no such answers.
     #[cold]
     #[inline(never)]
-    fn step_fully(&mut self, hart: u32) -> Result<bool, AllocError>
+    pub(crate) fn step_fully(&mut self, hart: u32) -> Result<bool, AllocError>
         requires { may_step hart self.old ≡ true }
         ensures ok { OnOk result (flat_step hart self.old ≡ Some self.new) }
         ensures same { IfOk result (λ same. same ≡ true → (self.new.ending ≡ None) × (self.new.environment.live ≡ self.old.environment.live)) }

@@ -15,7 +15,7 @@ use page_memory::Width;
 use rv_isa::{AmoKind, LoadKind, Reg, StoreKind};
 
 /// Loads from an address into rd.
-#[inline]
+#[inline(always)]
 pub fn perform_load<B: Bus>(
     regs: &mut Regs,
     bus: &mut B,
@@ -66,7 +66,7 @@ fn load_of_kind<B: Bus>(
 }
 
 /// Stores the low bytes of a word at an address.
-#[inline]
+#[inline(always)]
 pub fn perform_store<B: Bus>(
     regs: &mut Regs,
     bus: &mut B,

@@ -16,7 +16,7 @@ use rv_isa::{Insn, decode};
 /// Runs a hart's next instruction: fetches the word at pc and does what the instruction table says of it.
 ///
 /// Takes no memory.
-#[inline]
+#[inline(always)]
 pub fn execute<B: Bus>(regs: &mut Regs, bus: &mut B) -> Outcome
     ensures line { Follows (line regs.old (B.memory bus.old)) result regs.new (B.memory bus.new) }
     ensures registers_stay { UnlessDone result (regs.new ≡ regs.old) }
@@ -39,7 +39,7 @@ pub fn execute<B: Bus>(regs: &mut Regs, bus: &mut B) -> Outcome
 }
 
 /// Does what the table says of an instruction that was fetched at pc.
-#[inline]
+#[inline(always)]
 #[tactic(auto, unfolding(crate::specs::Line::insn_line, crate::specs::Uses::data_pages))]
 fn perform<B: Bus>(regs: &mut Regs, bus: &mut B, insn: &Insn) -> Outcome
     ensures line { let line = insn_line regs.old (B.memory bus.old) insn.now in

@@ -10,7 +10,7 @@ use super::instruction::Insn;
 use super::kinds::{AmoKind, BranchKind, ImmediateKind, LoadKind, OpKind, ShiftKind, StoreKind};
 
 /// The instruction that a word stands for, or `None` for a word outside RV32I, M and Zaamo (unprivileged manual).
-#[inline]
+#[inline(always)]
 #[tactic(auto, using(crate::specs::TableLaws::found_agrees, crate::specs::TableLaws::only_agreeing))]
 pub fn decode(word: u32) -> Option<Insn>
     ensures value { result ≡ insn_of word }
@@ -20,7 +20,7 @@ pub fn decode(word: u32) -> Option<Insn>
     by_opcode(word)
 }
 
-#[inline]
+#[inline(always)]
 #[tactic(auto, unfolding(crate::specs::Table::insn_of, crate::specs::Table::operation_of))]
 fn by_opcode(word: u32) -> Option<Insn>
     ensures { result ≡ insn_of word }
@@ -51,7 +51,7 @@ fn by_opcode(word: u32) -> Option<Insn>
     }
 }
 
-#[inline]
+#[inline(always)]
 #[tactic(auto, unfolding(crate::specs::Table::jalr_of))]
 fn jalr(word: u32) -> Option<Insn>
     ensures { result ≡ jalr_of word }
@@ -67,7 +67,7 @@ fn jalr(word: u32) -> Option<Insn>
     }
 }
 
-#[inline]
+#[inline(always)]
 #[tactic(auto, unfolding(crate::specs::Table::branch_of))]
 fn branch(word: u32) -> Option<Insn>
     ensures { result ≡ branch_of word }
@@ -81,7 +81,7 @@ fn branch(word: u32) -> Option<Insn>
     })
 }
 
-#[inline]
+#[inline(always)]
 #[tactic(auto, unfolding(crate::specs::Table::branch_kind))]
 fn branch_kind(funct3: u32) -> Option<BranchKind>
     ensures { result ≡ branch_kind funct3 }
@@ -97,7 +97,7 @@ fn branch_kind(funct3: u32) -> Option<BranchKind>
     }
 }
 
-#[inline]
+#[inline(always)]
 #[tactic(auto, unfolding(crate::specs::Table::load_of))]
 fn load(word: u32) -> Option<Insn>
     ensures { result ≡ load_of word }
@@ -111,7 +111,7 @@ fn load(word: u32) -> Option<Insn>
     })
 }
 
-#[inline]
+#[inline(always)]
 #[tactic(auto, unfolding(crate::specs::Table::load_kind))]
 fn load_kind(funct3: u32) -> Option<LoadKind>
     ensures { result ≡ load_kind funct3 }
@@ -126,7 +126,7 @@ fn load_kind(funct3: u32) -> Option<LoadKind>
     }
 }
 
-#[inline]
+#[inline(always)]
 #[tactic(auto, unfolding(crate::specs::Table::store_of))]
 fn store(word: u32) -> Option<Insn>
     ensures { result ≡ store_of word }
@@ -140,7 +140,7 @@ fn store(word: u32) -> Option<Insn>
     })
 }
 
-#[inline]
+#[inline(always)]
 #[tactic(auto, unfolding(crate::specs::Table::store_kind))]
 fn store_kind(funct3: u32) -> Option<StoreKind>
     ensures { result ≡ store_kind funct3 }
@@ -153,7 +153,7 @@ fn store_kind(funct3: u32) -> Option<StoreKind>
     }
 }
 
-#[inline]
+#[inline(always)]
 #[tactic(auto, unfolding(crate::specs::Table::op_immediate_of))]
 fn op_immediate(word: u32) -> Option<Insn>
     ensures { result ≡ op_immediate_of word }
@@ -169,7 +169,7 @@ fn op_immediate(word: u32) -> Option<Insn>
     }
 }
 
-#[inline]
+#[inline(always)]
 #[tactic(auto, unfolding(crate::specs::Table::immediate_kind))]
 fn immediate_kind(funct3: u32) -> Option<ImmediateKind>
     ensures { result ≡ immediate_kind funct3 }
@@ -185,7 +185,7 @@ fn immediate_kind(funct3: u32) -> Option<ImmediateKind>
     }
 }
 
-#[inline]
+#[inline(always)]
 #[tactic(auto, unfolding(crate::specs::Table::shift_of))]
 fn shift(word: u32) -> Option<Insn>
     ensures { result ≡ shift_of word }
@@ -199,7 +199,7 @@ fn shift(word: u32) -> Option<Insn>
     })
 }
 
-#[inline]
+#[inline(always)]
 #[tactic(auto, unfolding(crate::specs::Table::shift_kind))]
 fn shift_kind(funct7: u32, funct3: u32) -> Option<ShiftKind>
     ensures { result ≡ shift_kind funct7 funct3 }
@@ -212,7 +212,7 @@ fn shift_kind(funct7: u32, funct3: u32) -> Option<ShiftKind>
     }
 }
 
-#[inline]
+#[inline(always)]
 #[tactic(auto, unfolding(crate::specs::Table::op_of))]
 fn op(word: u32) -> Option<Insn>
     ensures { result ≡ op_of word }
@@ -226,7 +226,7 @@ fn op(word: u32) -> Option<Insn>
     })
 }
 
-#[inline]
+#[inline(always)]
 #[tactic(auto, unfolding(crate::specs::Table::op_kind))]
 fn op_kind(funct7: u32, funct3: u32) -> Option<OpKind>
     ensures { result ≡ op_kind funct7 funct3 }
@@ -263,7 +263,7 @@ fn op_kind(funct7: u32, funct3: u32) -> Option<OpKind>
     }
 }
 
-#[inline]
+#[inline(always)]
 #[tactic(auto, unfolding(crate::specs::Table::fence_of))]
 fn fence(word: u32) -> Option<Insn>
     ensures { result ≡ fence_of word }
@@ -279,7 +279,7 @@ fn fence(word: u32) -> Option<Insn>
     }
 }
 
-#[inline]
+#[inline(always)]
 #[tactic(auto, unfolding(crate::specs::Table::amo_of))]
 fn amo(word: u32) -> Option<Insn>
     ensures { result ≡ amo_of word }
@@ -295,7 +295,7 @@ fn amo(word: u32) -> Option<Insn>
     })
 }
 
-#[inline]
+#[inline(always)]
 #[tactic(auto, unfolding(crate::specs::Table::amo_kind))]
 fn amo_kind(funct5: u32, funct3: u32) -> Option<AmoKind>
     ensures { result ≡ amo_kind funct5 funct3 }
@@ -317,7 +317,7 @@ fn amo_kind(funct5: u32, funct3: u32) -> Option<AmoKind>
     }
 }
 
-#[inline]
+#[inline(always)]
 #[tactic(auto, unfolding(crate::specs::Table::system_of))]
 fn system(word: u32) -> Option<Insn>
     ensures { result ≡ system_of word }

@@ -1,22 +1,27 @@
--- A step that neither calls nor traps is the one that its registers' effect says.
-use Rattle.std.proofs.Common.{◌≡◌, ◌∙◌, sym, true≢false}
-use Rattle.env_calls.specs.Effect.{Runs}
-use Rattle.env_calls.specs.Step.{effect}
-use Rattle.env_calls.specs.StepLaws.{effect_next}
-use Rattle.flat_machine.specs.Process.{Process}
-use Rattle.flat_machine.specs.StepLaws.{taken}
+-- The laws of a plain run, for the process that is seen.
+use Rattle.std.proofs.Common.{◌≡◌, true, ap, sym, ◌∙◌}
+use Rattle.flat_machine.specs.Process.{Process, may_step, flat_step}
+use Rattle.flat_machine.specs.ByTurns.{by_turns, turn_after}
+use Rattle.flat_machine.proofs.PlainSteps.{taken_plainly, none_plainly, one_plainly}
 use Rattle.flat_machine.proofs.process.FlatProcess.step_plainly.Goals as goal
-use Rattle.flat_machine.proofs.process.FlatProcess.step_plainly.Goals.{in-Done, in-Ecall, in-Trap, in-Absent}
 
-pub returns-clause-ran : goal.returns-clause-ran
-returns-clause-ran c =
+pub returns-clause-none : goal.returns-clause-none
+returns-clause-none c = λ zero_steps.
     let process : Process = record { harts = c.self.inside.harts.items; environment = c.self.inside.env; memory = c.self.inside.memory; ending = c.self.inside.end } in
-    elim c.match-execute.branch [
-      | in-Done w ↦ λ _.
-          let is : effect c.args.hart c.index_mut-regs.result.now c.self.inside.env c.self.inside.memory ≡ Runs c.execute.new.regs c.self.inside.env c.execute.new.bus =
-          effect_next c.args.hart c.index_mut-regs.result.now c.self.inside.env c.self.inside.memory c.execute.new.regs c.execute.new.bus (rw w.in-Done.is at c.execute.ensures.line) in
-          (taken c.args.hart process c.args.self.now c.index_mut-regs.result.now (Runs c.execute.new.regs c.self.inside.env c.execute.new.bus) c.self.invariant.whole c.self.view_is c.requires c.index_mut-regs.ensures.value is).step
-      | in-Ecall w ↦ λ e. absurd (true≢false (sym e ∙ w.result-is))
-      | in-Trap w ↦ λ e. absurd (true≢false (sym e ∙ w.result-is))
-      | in-Absent w ↦ λ e. absurd (true≢false (sym e ∙ w.result-is))
-    ]
+    none_plainly c.run_plainly.result c.args.hart process c.index_mut-regs.result.now c.run_plainly.new.regs c.run_plainly.new.memory zero_steps c.index_mut-regs.ensures.value c.run_plainly.ensures.ran
+    ∙ c.self.view_is
+
+pub returns-clause-one : goal.returns-clause-one
+returns-clause-one c = λ one.
+    let process : Process = record { harts = c.self.inside.harts.items; environment = c.self.inside.env; memory = c.self.inside.memory; ending = c.self.inside.end } in
+    let here : may_step c.args.hart process ≡ true = ap (may_step c.args.hart) c.self.view_is ∙ c.requires in
+    ap (flat_step c.args.hart) (sym c.self.view_is)
+    ∙ one_plainly c.run_plainly.result c.args.hart process c.index_mut-regs.result.now c.run_plainly.new.regs c.run_plainly.new.memory one c.self.invariant.whole here c.index_mut-regs.ensures.value c.run_plainly.ensures.ran
+
+pub returns-clause-alone : goal.returns-clause-alone
+returns-clause-alone c = λ alone.
+    let process : Process = record { harts = c.self.inside.harts.items; environment = c.self.inside.env; memory = c.self.inside.memory; ending = c.self.inside.end } in
+    let here : may_step c.args.hart process ≡ true = ap (may_step c.args.hart) c.self.view_is ∙ c.requires in
+    let alone_here : turn_after c.args.hart process ≡ c.args.hart = ap (turn_after c.args.hart) c.self.view_is ∙ alone in
+    ap (by_turns c.run_plainly.result c.args.hart) (sym c.self.view_is)
+    ∙ (taken_plainly c.run_plainly.result c.args.hart process c.index_mut-regs.result.now c.run_plainly.new.regs c.run_plainly.new.memory c.self.invariant.whole here alone_here c.index_mut-regs.ensures.value c.run_plainly.ensures.ran).ran

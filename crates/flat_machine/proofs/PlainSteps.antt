@@ -1,0 +1,97 @@
+-- Steps that neither call nor trap are steps of their process, and leave all but a hart's registers and the memory.
+use Rattle.std.proofs.Common.{◌≡◌, ◌+◌, ◌<◌, ℕ, zero, suc, true, slice_set, slice_index_or, Option, Some, None, option_and_then, unwrap_or, ap, ◌∙◌, refl, sym, subst, arith, length-set}
+use Rattle.std.proofs.lemmas.Option.{slice_get-get_or, none-some}
+use Rattle.std.proofs.lemmas.List.{set-set, set-get_or, get_or-set_same}
+use Rattle.page_memory.specs.Memory.{Memory}
+use Rattle.rv_exec.specs.Registers.{Registers}
+use Rattle.rv_exec.specs.Line.{Line, Next, Call, Traps, line}
+use Rattle.env_calls.specs.Effect.{Runs}
+use Rattle.env_calls.specs.StepLaws.{effect_next}
+use Rattle.flat_machine.specs.Process.{Process, IsWhole, hart_registers, may_step, with_hart, flat_step}
+use Rattle.flat_machine.specs.ByTurns.{by_turns, turn_after}
+use Rattle.flat_machine.specs.RunLaws.{by_turns_none}
+use Rattle.flat_machine.specs.PlainRun.{left_by, plain_step, plain_run}
+use Rattle.flat_machine.specs.StepLaws.{started, step_is}
+use Rattle.flat_machine.proofs.Turning.{next_turn}
+
+-- no step, and one more
+pub plain_none : (registers : Registers) (memory : Memory) → plain_run 0 registers memory ≡ Some (registers, memory)
+unfolding plain_run
+plain_none registers memory = refl
+
+next_is : (n : ℕ) → suc n ≡ n + 1
+next_is n = omega arith
+
+pub plain_more : (n : ℕ) (first : Registers) (memory : Memory) (registers : Registers) (now : Memory) (registers' : Registers) (now' : Memory)
+    → plain_run n first memory ≡ Some (registers, now) → line registers now ≡ Next registers' now' → plain_run (n + 1) first memory ≡ Some (registers', now')
+unfolding plain_run
+plain_more n first memory registers now registers' now' ran next =
+    ap (λ k. plain_run k first memory) (sym (next_is n)) ∙ ap (option_and_then plain_step) ran ∙ ap left_by next
+
+both_are : (r r' : Registers) (m m' : Memory) → ◌≡◌ {A = Option (Registers × Memory)} (Some (r, m)) (Some (r', m')) → (r ≡ r') × (m ≡ m')
+both_are r r' m m' e = (ap (λ o. (unwrap_or {T = Registers × Memory} o (r, m)).0) e, ap (λ o. (unwrap_or {T = Registers × Memory} o (r, m)).1) e)
+
+-- what a step that is one of these leaves is its line's
+its_line : (l : Line) (registers' : Registers) (memory' : Memory) → left_by l ≡ Some (registers', memory') → l ≡ Next registers' memory'
+its_line (Next r m) registers' memory' e = let same = both_are r registers' m memory' e in (λ i. Next (same.0 i) (same.1 i))
+its_line Call registers' memory' e = absurd (none-some _ e)
+its_line (Traps cause value) registers' memory' e = absurd (none-some _ e)
+
+-- the process after steps of a hart that is alone
+pub record Plainly (n hart : ℕ) (process : Process) (registers : Registers) (memory : Memory) : Type 0 where
+  pub ran : by_turns n hart process ≡ Some (hart, with_hart hart registers process.environment memory process)
+
+one_step : (hart : ℕ) (process : Process) (registers : Registers) (memory : Memory) (registers' : Registers) (memory' : Memory)
+    → IsWhole process → may_step hart process ≡ true → line registers memory ≡ Next registers' memory'
+    → flat_step hart (with_hart hart registers process.environment memory process) ≡ Some (with_hart hart registers' process.environment memory' process)
+one_step hart process registers memory registers' memory' whole may next =
+    let now : Process = with_hart hart registers process.environment memory process in
+    let within = started hart process whole may in
+    let there : hart_registers hart now ≡ Some registers =
+    slice_get-get_or (slice_set process.harts hart registers) hart registers (subst (λ n. hart < n) (sym (length-set process.harts hart registers)) within)
+    ∙ ap Some (get_or-set_same process.harts hart registers registers within) in
+    step_is hart now registers (Runs registers' process.environment memory') may there (effect_next hart registers process.environment memory registers' memory' next)
+    ∙ ap (λ l. Some (record { harts = l; environment = process.environment; memory = memory'; ending = process.ending })) (set-set process.harts hart registers registers')
+
+from_none : (hart : ℕ) (process : Process) (first registers : Registers) (memory : Memory) → first ≡ slice_index_or process.harts hart first
+    → ◌≡◌ {A = Option (Registers × Memory)} (Some (first, process.memory)) (Some (registers, memory)) → Plainly 0 hart process registers memory
+from_none hart process first registers memory are e =
+    let same = both_are first registers process.memory memory e in
+    let harts : slice_set process.harts hart registers ≡ process.harts = ap (slice_set process.harts hart) (sym same.0 ∙ are) ∙ set-get_or process.harts hart first in
+    record { ran = by_turns_none hart process ∙ (λ i. Some (hart, record { harts = sym harts i; environment = process.environment; memory = same.1 i; ending = process.ending })) }
+
+-- as many steps as a plain run has
+pub taken_plainly : (n hart : ℕ) (process : Process) (first registers : Registers) (memory : Memory)
+    → IsWhole process → may_step hart process ≡ true → turn_after hart process ≡ hart → first ≡ slice_index_or process.harts hart first
+    → plain_run n first process.memory ≡ Some (registers, memory) → Plainly n hart process registers memory
+unfolding plain_run
+taken_plainly zero hart process first registers memory whole may alone are ran = from_none hart process first registers memory are ran
+taken_plainly (suc n) hart process first registers memory whole may alone are ran =
+    elim (plain_run n first process.memory) as (λ o. plain_run n first process.memory ≡ o → option_and_then plain_step o ≡ Some (registers, memory) → Plainly (suc n) hart process registers memory) [
+      | None ↦ λ _ never. absurd (none-some _ never)
+      | Some now ↦ λ before last.
+          let sofar = taken_plainly n hart process first now.0 now.1 whole may alone are before in
+          record {
+            ran = ap (λ k. by_turns k hart process) (next_is n) ∙ next_turn n hart hart hart process (with_hart hart now.0 process.environment now.1 process) (with_hart hart registers process.environment memory process) sofar.ran
+                (one_step hart process now.0 now.1 registers memory whole may (its_line (line now.0 now.1) registers memory last)) alone;
+          }
+    ] refl ran
+
+-- no step at all leaves the process as it was
+pub none_plainly : (n hart : ℕ) (process : Process) (first registers : Registers) (memory : Memory) → n ≡ 0 → first ≡ slice_index_or process.harts hart first
+    → plain_run n first process.memory ≡ Some (registers, memory) → with_hart hart registers process.environment memory process ≡ process
+unfolding plain_run
+none_plainly n hart process first registers memory zero_steps are ran =
+    let same = both_are first registers process.memory memory (ap (λ k. plain_run k first process.memory) (sym zero_steps) ∙ ran) in
+    let harts : slice_set process.harts hart registers ≡ process.harts = ap (slice_set process.harts hart) (sym same.0 ∙ are) ∙ set-get_or process.harts hart first in
+    (λ i. record { harts = harts i; environment = process.environment; memory = sym same.1 i; ending = process.ending })
+
+-- one step is the hart's
+pub one_plainly : (n hart : ℕ) (process : Process) (first registers : Registers) (memory : Memory) → n ≡ 1 → IsWhole process → may_step hart process ≡ true → first ≡ slice_index_or process.harts hart first
+    → plain_run n first process.memory ≡ Some (registers, memory) → flat_step hart process ≡ Some (with_hart hart registers process.environment memory process)
+unfolding plain_run
+one_plainly n hart process first registers memory one whole may are ran =
+    let there : hart_registers hart process ≡ Some first = slice_get-get_or process.harts hart first (started hart process whole may) ∙ ap Some (sym are) in
+    let step : plain_step (first, process.memory) ≡ Some (registers, memory) = ap (λ k. plain_run k first process.memory) (sym one) ∙ ran in
+    step_is hart process first (Runs registers process.environment memory) may there
+    (effect_next hart first process.environment process.memory registers memory (its_line (line first process.memory) registers memory step))

@@ -1,0 +1,19 @@
+-- The steps of a hart that neither call nor trap: they change nothing but its registers and the memory.
+use Rattle.std.specs.Prelude.{ℕ, zero, suc, Option, Some, None, option_and_then}
+use Rattle.page_memory.specs.Memory.{Memory}
+use Rattle.rv_exec.specs.Registers.{Registers}
+use Rattle.rv_exec.specs.Line.{Line, Next, Call, Traps, line}
+
+abbrev pub left_by : Line → Option (Registers × Memory)
+left_by (Next registers memory) = Some (registers, memory)
+left_by Call = None
+left_by (Traps cause value) = None
+
+-- the registers and the memory after the next step, if it is one of these
+abbrev pub plain_step : Registers × Memory → Option (Registers × Memory)
+plain_step now = left_by (line now.0 now.1)
+
+-- after so many of them
+unfoldable pub plain_run : ℕ → Registers → Memory → Option (Registers × Memory)
+plain_run zero registers memory = Some (registers, memory)
+plain_run (suc n) registers memory = option_and_then plain_step (plain_run n registers memory)

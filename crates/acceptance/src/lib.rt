@@ -12,6 +12,8 @@ mod codec;
 #[cfg(test)]
 mod flat;
 #[cfg(test)]
+mod pager;
+#[cfg(test)]
 mod runs;
 #[cfg(test)]
 mod source;

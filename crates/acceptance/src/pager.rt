@@ -1,0 +1,61 @@
+//! Frames and the replacement list together, over the plain list.
+
+ghost use Rattle.std.specs.Prelude.{◌≡◌};
+
+use clock_list::ClockList;
+use clock_policy::{Bit, Key, Verdict};
+use pager_core::{AdmitRefusal, Pager};
+use std::alloc::Global;
+use std::marker::Brand;
+use std::process::Abort;
+use std::sync::ledger::{Blank, Ledger};
+use std::test::Fail;
+
+fn page(vpn: u32) -> Key {
+    Key { process: 0, vpn }
+}
+
+fn admits_as_many_as_frames<L: Ledger>(
+    rt: &impl Abort,
+    alloc: Global,
+    blank: Blank,
+) -> Result<(), Fail>
+    requires name { blank.name ≡ L.name }
+    requires parts { blank.parts ≡ L.parts }
+    requires one_each { L.parts ≡ 5 }
+{
+    let mut pager = Pager::<L, ClockList>::new(alloc, 4, blank)?;
+    let mut frames = Vec::with_capacity(alloc, 4)?;
+    for vpn in 1..5 {
+        frames.push(pager.admit(page(vpn))?)?;
+    }
+    assert_eq!(rt; pager.admit(page(5)).err(), Some(AdmitRefusal::NoFrame));
+    assert_eq!(rt;
+        pager.admit(page(1)).err(),
+        Some(AdmitRefusal::AlreadyResident)
+    );
+    assert_eq!(rt; pager.answer(Bit::Zero)?, Verdict::Victim(page(1)));
+
+    // The victim's frame is not given back yet.
+    assert_eq!(rt; pager.admit(page(5)).err(), Some(AdmitRefusal::NoFrame));
+    let frame = frames.pop().ok_or("no frame")?;
+    assert!(rt; pager.free(frame).is_ok());
+    frames.push(pager.admit(page(5))?)?;
+    let counts = pager.counts();
+    assert_eq!(rt;
+        (
+            counts.free,
+            counts.tallies.page_ins,
+            counts.tallies.victims,
+            counts.tallies.questions
+        ),
+        (0, 5, 1, 1)
+    );
+    assert_eq!(rt; pager.purge(0), 5);
+    Ok(())
+}
+
+#[test]
+fn a_pager_admits_as_many_pages_as_frames(rt: HostRuntime) -> Result<(), Fail> {
+    admits_as_many_as_frames::<Brand>(&rt, rt.alloc(), Blank::new(5))
+}

@@ -1,0 +1,36 @@
+-- A circle by links: cells, each the key of a node with its entry, whose nodes name their neighbours.
+use Rattle.std.specs.Prelude.{◌≡◌, ℕ, Bool, false, ◌==◌, ◌||◌, List, [], ◌∷◌, Some}
+use Rattle.slab.specs.Slab.{Slab, get}
+use Rattle.clock_policy.specs.declared.entry.Entry.{Entry}
+use Rattle.page_ring.specs.declared.links.Node.{Node}
+
+pub record Cell : Type 0 where
+  pub at : ℕ
+  pub entry : Entry
+
+abbrev pub first_at : List Cell → ℕ → ℕ
+first_at [] n = n
+first_at (c ∷ cs) n = c.at
+
+abbrev pub last_at : ℕ → List Cell → ℕ
+last_at n [] = n
+last_at n (c ∷ cs) = last_at c.at cs
+
+abbrev pub is_at : List Cell → ℕ → Bool
+is_at [] n = false
+is_at (c ∷ cs) n = (c.at == n) || is_at cs n
+
+-- no node has two cells
+abbrev pub Apart : List Cell → Type 0
+Apart [] = Unit {0}
+Apart (c ∷ cs) = (is_at cs c.at ≡ false) × Apart cs
+
+-- a way through the cells: before it stands the node p, behind it n
+abbrev pub Linked : Slab Node → ℕ → List Cell → ℕ → Type 0
+Linked s p [] n = Unit {0}
+Linked s p (c ∷ cs) n = (get s c.at ≡ Some (record { entry = c.entry; next = first_at cs n; previous = p })) × Linked s c.at cs n
+
+-- the way closes
+pub record Circle (s : Slab Node) (cs : List Cell) : Type 0 where
+  pub linked : Linked s (last_at 0 cs) cs (first_at cs 0)
+  pub apart : Apart cs

@@ -1,0 +1,157 @@
+//! The links with an index from a page to its node.
+
+ghost use Rattle.std.specs.Prelude.{◌≡◌, ◌≤◌, ◌<◌, ◌+◌, ◌++◌, ℕ, List, [], ◌∷◌, Some, None, true, false, length, IfOk, OnErr, OnOk};
+ghost use Rattle.page_ring.specs.Linked.{Cell, Apart, is_at, first_at, last_at};
+ghost use Rattle.page_ring.specs.Chain.{of_kind, Rotates};
+ghost use Rattle.page_ring.specs.Index.{Distinct, at_of};
+
+use crate::links::{Links, Node};
+use clock_policy::{Entry, EntryKind, Key};
+use std::alloc::{AllocError, Global};
+use std::collections::HashMap;
+use std::marker::Model;
+
+/// A circle of entries, no two of one page.
+#[derive(Drop)]
+pub struct IndexedRing {
+    links: Links,
+    index: HashMap<Key, usize>,
+}
+
+impl Model for IndexedRing {
+    ghost use Rattle.page_ring.specs.Chain.{Chain};
+    ghost use Rattle.page_ring.specs.Index.{Indexes};
+
+    ghost Value = { Chain };
+
+    ghost view = { λ r. r.links };
+
+    ghost invariant = { λ r. Indexes r.links.cells r.index };
+}
+
+impl IndexedRing {
+    /// An empty circle with room for so many entries.
+    pub fn new(alloc: Global, room: usize) -> Result<Self, AllocError>
+        ensures cells { IfOk result (λ ring. ring.cells ≡ []) }
+        ensures room { IfOk result (λ ring. room ≤ ring.room) }
+    {
+        let links = Links::new(alloc, room)?;
+        let index = HashMap::with_capacity(alloc, room)?;
+        Ok(IndexedRing { links, index })
+    }
+
+    /// How many entries there are.
+    pub fn len(&self) -> usize
+        ensures len { result ≡ length self.now.cells }
+        ensures apart { Apart self.now.cells }
+        ensures distinct { Distinct self.now.cells }
+    {
+        let _ = &self.index;
+        self.links.len()
+    }
+
+    /// The node of the first entry; any number where there is none.
+    pub fn front(&self) -> usize
+        ensures { (c : Cell) → (cs : List Cell) → self.now.cells ≡ c ∷ cs → result ≡ c.at }
+    {
+        self.links.front()
+    }
+
+    /// An entry with its neighbours: the next of the last is the front.
+    #[inline(always)]
+    pub fn node(&self, at: usize) -> Node
+        requires { is_at self.now.cells at ≡ true }
+        ensures { (c : Cell) → (cs : List Cell) → Rotates self.now.cells (c ∷ cs) → c.at ≡ at → result ≡ record { entry = c.entry; next = first_at cs at; previous = last_at at cs } }
+    {
+        self.links.node(at)
+    }
+
+    /// The node of a page's entry, in constant time.
+    pub fn find(&self, key: Key) -> Option<usize>
+        ensures { result ≡ at_of key self.now.cells }
+    {
+        self.index.get(&key).map(|at| *at)
+    }
+
+    /// Gives an entry another kind, where it stands.
+    pub fn mark(&mut self, at: usize, kind: EntryKind)
+        requires { is_at self.old.cells at ≡ true }
+        ensures cells { (u v : List Cell) → (c : Cell) → self.old.cells ≡ u ++ c ∷ v → c.at ≡ at → self.new.cells ≡ u ++ of_kind kind c ∷ v }
+        ensures apart { Apart self.new.cells }
+        ensures room { self.new.room ≡ self.old.room }
+    {
+        self.links.mark(at, kind);
+    }
+
+    /// The front becomes the last.
+    pub fn turn(&mut self)
+        requires { 1 ≤ length self.old.cells }
+        ensures cells { (c : Cell) → (cs : List Cell) → self.old.cells ≡ c ∷ cs → self.new.cells ≡ cs ++ c ∷ [] }
+        ensures apart { Apart self.new.cells }
+        ensures room { self.new.room ≡ self.old.room }
+    {
+        self.links.turn();
+    }
+
+    /// Adds an entry of a new page as the last, before the front. A refusal changes nothing.
+    pub fn append(&mut self, entry: Entry) -> Result<usize, AllocError>
+        requires new { at_of entry.key self.old.cells ≡ None }
+        requires room { length self.old.cells < self.old.room }
+        ensures cells { IfOk result (λ at. self.new.cells ≡ self.old.cells ++ record { at = at; entry = entry } ∷ []) }
+        ensures fresh { IfOk result (λ at. is_at self.old.cells at ≡ false) }
+        ensures apart { OnOk result (Apart self.new.cells) }
+        ensures room { self.new.room ≡ self.old.room }
+        ensures err { OnErr result (self.new ≡ self.old) }
+    {
+        self.index.reserve(1)?;
+        let at = self.links.append(entry);
+        let Ok(_) = self.index.insert(entry.key, at) else {
+            unreachable!()
+        };
+        Ok(at)
+    }
+
+    /// Takes an entry out. A front that goes is followed by the next.
+    pub fn remove(&mut self, at: usize)
+        requires { is_at self.old.cells at ≡ true }
+        ensures cells { (u v : List Cell) → (c : Cell) → self.old.cells ≡ u ++ c ∷ v → c.at ≡ at → self.new.cells ≡ u ++ v }
+        ensures apart { Apart self.new.cells }
+        ensures room { self.new.room ≡ self.old.room }
+    {
+        let key = self.links.node(at).entry.key;
+        self.links.remove(at);
+        self.index.remove(&key);
+    }
+
+    /// An entry becomes the last, of this kind, and stays in its node.
+    pub fn send_to_end(&mut self, at: usize, kind: EntryKind)
+        requires there { is_at self.old.cells at ≡ true }
+        requires room { length self.old.cells ≤ self.old.room }
+        ensures cells { (u v : List Cell) → (c : Cell) → self.old.cells ≡ u ++ c ∷ v → c.at ≡ at → self.new.cells ≡ (u ++ v) ++ of_kind kind c ∷ [] }
+        ensures apart { Apart self.new.cells }
+        ensures room { self.new.room ≡ self.old.room }
+    {
+        self.links.send_to_end(at, kind);
+    }
+}
+
+#[cfg(test)]
+mod tests {
+    use super::*;
+    use std::test::Fail;
+
+    #[test]
+    fn finds_what_was_put_in(rt: HostRuntime) -> Result<(), Fail> {
+        let mut ring = IndexedRing::new(rt.alloc(), 2)?;
+        let key = Key { process: 1, vpn: 7 };
+        let other = Key { process: 7, vpn: 1 };
+        assert_eq!(rt; (ring.len(), ring.find(key)), (0, None));
+        let at = ring.append(Entry {
+            key,
+            kind: EntryKind::Test,
+        })?;
+        assert_eq!(rt; (ring.len(), ring.front()), (1, at));
+        assert_eq!(rt; (ring.find(key), ring.find(other)), (Some(at), None));
+        Ok(())
+    }
+}

@@ -1,0 +1,65 @@
+use crate::error::EventRefusal;
+use clock_policy::Key;
+use flat_machine::KillCause;
+
+/// What may happen in the machine.
+#[derive(Clone, Copy, PartialEq, Eq, Debug)]
+pub enum Event {
+    /// A hart runs one instruction.
+    Step { process: u32, hart: u32 },
+    /// A hart drops its translations that are marked as ones to be dropped.
+    Notice { process: u32, hart: u32 },
+    /// The replacement list asks whether a page was used; an unused one may have to leave its frame.
+    Sweep,
+    /// A page that is to leave its frame is looked at.
+    Collect(Key),
+    /// A page is written to its slot, and leaves its frame.
+    Saved(Key),
+    /// A page is brought into a frame.
+    PageIn(Key),
+    /// The machine ends a process.
+    Kill { process: u32, cause: KillCause },
+    /// An ended process gives its frames and slots back.
+    Purge { process: u32 },
+}
+
+/// What came of an event.
+#[derive(Clone, Copy, PartialEq, Eq, Debug)]
+pub enum Reply {
+    /// The instruction ran, and the hart goes on.
+    Ran,
+    /// The instruction ran, and lets other harts have their turn.
+    Yielded,
+    /// The instruction ran, and ended its hart.
+    HartDone,
+    /// The instruction ran, and ended its process.
+    Ended,
+    /// The instruction uses this page, by number, which has to be brought in first. It did not run.
+    Absent(u32),
+    /// The schedule takes no further instruction of the hart. It did not run.
+    ScheduleFull,
+    /// The hart has dropped the translations.
+    Noticed,
+    /// The list asked for a page, which stays; `used` is whether it was used since it was last asked for.
+    Asked { key: Key, used: bool },
+    /// The list asked for a page that was not used, and it begins to leave its frame.
+    Victim(Key),
+    /// A cache holds a translation to the page's frame still.
+    NotYet,
+    /// The page's frame is free.
+    Freed,
+    /// The page was copied, to be saved.
+    Dirty,
+    /// No slot is free for the page, and it is resident again.
+    NoSlot,
+    /// The device failed: a page that was to be saved is resident again, one that was to be loaded is where it was.
+    Device,
+    /// The page is in a frame.
+    Mapped,
+    /// The process is ended.
+    Killed,
+    /// The process has given everything back.
+    Purged,
+    /// Nothing was done, but for what want of memory leaves.
+    Refused(EventRefusal),
+}

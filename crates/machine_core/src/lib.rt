@@ -1,0 +1,13 @@
+//! The whole machine: every process, one pool of frames and one replacement list, over events.
+//!
+//! An event is the smallest thing that happens: an instruction of a hart, a question of the list, a page that comes in.
+//! Whatever events come in whatever order, each process shows what its instructions compute on flat memory.
+#![tactic(auto)]
+
+mod error;
+mod event;
+mod report;
+
+pub use error::{CoreError, EventRefusal};
+pub use event::{Event, Reply};
+pub use report::{ProcessReport, Report};

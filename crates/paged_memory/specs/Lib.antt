@@ -4,3 +4,5 @@ pub mod Paged
 pub mod Calls
 pub mod Access
 pub mod Growth
+pub mod Counting
+pub mod CountingLaws

@@ -1,0 +1,62 @@
+-- How many of a process's pages pass a test, such as being resident, or holding one of some frames.
+use Rattle.std.specs.Prelude.{ℕ, zero, suc, ◌+◌, ◌^◌, Bool, true, false, ◌&&◌, cond, Option, Some, None, List}
+use Rattle.frame_pool.specs.FrameValue.{FrameValue}
+use Rattle.page_store.specs.declared.state.Keeping.{Keeping}
+use Rattle.page_store.specs.declared.state.Keeping.TheVariants.{NoSlot, Unsaved, Saved}
+use Rattle.page_store.specs.PageValue.{PageValue, Place, Fresh, Resident, Leaving, Saving, Away, Purged, frame_of, slot_of}
+use Rattle.paged_memory.specs.Paged.{page_at}
+
+abbrev pub frame_passes : (ℕ → Bool) → Option FrameValue → Bool
+frame_passes test (Some frame) = test frame.number
+frame_passes test None = false
+
+module _ {S : Type 0} where
+  abbrev pub page_passes : (PageValue S → Bool) → Option (PageValue S) → Bool
+  page_passes test (Some page) = test page
+  page_passes test None = false
+
+  -- how many page numbers below a bound have a page that passes, by its number and what it is
+  unfoldable pub pages_below : (ℕ → PageValue S → Bool) → List (ℕ × PageValue S) → ℕ → ℕ
+  pages_below test pages zero = 0
+  pages_below test pages (suc number) = cond (page_passes (test number) (page_at pages number)) 1 0 + pages_below test pages number
+
+  -- how many pages pass
+  unfoldable pub pages_where : (ℕ → PageValue S → Bool) → List (ℕ × PageValue S) → ℕ
+  pages_where test pages = pages_below test pages (2 ^ 20)
+
+  abbrev pub is_resident_place : Place S → Bool
+  is_resident_place Fresh = false
+  is_resident_place (Resident frame slot) = true
+  is_resident_place (Leaving frame slot mark) = false
+  is_resident_place (Saving frame) = false
+  is_resident_place (Away slot) = false
+  is_resident_place Purged = false
+
+  abbrev pub is_saving_place : Place S → Bool
+  is_saving_place Fresh = false
+  is_saving_place (Resident frame slot) = false
+  is_saving_place (Leaving frame slot mark) = false
+  is_saving_place (Saving frame) = true
+  is_saving_place (Away slot) = false
+  is_saving_place Purged = false
+
+  abbrev pub is_kept : Keeping S → Bool
+  is_kept NoSlot = false
+  is_kept (Unsaved slot) = true
+  is_kept (Saved slot) = true
+
+  -- the resident pages whose numbers pass
+  abbrev pub residents_of : List (ℕ × PageValue S) → (ℕ → Bool) → ℕ
+  residents_of pages test = pages_where (λ number page. is_resident_place page.place && test number) pages
+
+  -- the pages that are being saved, whose numbers pass
+  abbrev pub savings_of : List (ℕ × PageValue S) → (ℕ → Bool) → ℕ
+  savings_of pages test = pages_where (λ number page. is_saving_place page.place && test number) pages
+
+  -- the pages that hold a frame whose number passes
+  abbrev pub frames_of : List (ℕ × PageValue S) → (ℕ → Bool) → ℕ
+  frames_of pages test = pages_where (λ number page. frame_passes test (frame_of page.place)) pages
+
+  -- the pages that have a slot at hand
+  abbrev pub slots_of : List (ℕ × PageValue S) → ℕ
+  slots_of pages = pages_where (λ number page. is_kept (slot_of page.place)) pages

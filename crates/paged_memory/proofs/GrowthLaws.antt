@@ -1,12 +1,12 @@
 -- Pages of zeros are mapped where none is.
-use Rattle.std.specs.Prelude.{Result, Ok, Err, OnOk, OnErr, IfOk, ◌≡◌, ℕ, zero, suc, ◌+◌, ◌^◌, ◌<◌, ◌≤◌, ◌==◌, true, if◌then◌else◌, Option, Some, None, option_map, List, [], ◌∷◌, ◌++◌, refl}
-use Rattle.std.proofs.Common.{sym, ap, ◌∙◌, subst, arith}
+use Rattle.std.specs.Prelude.{Result, Ok, Err, OnOk, OnErr, IfOk, ◌≡◌, ℕ, zero, suc, ◌+◌, ◌^◌, ◌<◌, ◌≤◌, ◌==◌, Bool, true, false, cond, if◌then◌else◌, Option, Some, None, option_map, is_some, List, [], ◌∷◌, ◌++◌, refl}
+use Rattle.std.proofs.Common.{sym, ap, ◌∙◌, subst, arith, eqb-true}
 use Rattle.std.specs.Cmp.{nat_cmp_total}
 use Rattle.std.specs.FinMap.{get, from_entries, get-insert}
 use Rattle.frame_pool.specs.FrameValue.{zero_bytes}
 use Rattle.page_memory.specs.declared.words.Access.TheVariants.{Load, Store}
 use Rattle.page_memory.specs.declared.rights.Rights.{Rights}
-use Rattle.std.proofs.lemmas.Option.{same_Some}
+use Rattle.std.proofs.lemmas.Option.{same_Some, none-some}
 use Rattle.page_memory.specs.Rights.{may}
 use Rattle.page_memory.specs.Memory.{Page, with_zeroed}
 use Rattle.page_memory.specs.Entries.{place_of, added, added_unless, with_added}
@@ -18,7 +18,10 @@ use Rattle.sv32_table.specs.EntryAt.{entry_at}
 use Rattle.tlb_core.specs.declared.translation.Translation.{Translation}
 use Rattle.paged_memory.specs.Seen.{entry_seen, frame_seen}
 use Rattle.paged_memory.specs.Growth.{zero_page}
-use Rattle.paged_memory.specs.Paged.{seen_of, seen_at, flat_page, memory_of, Holds, ChangesPage}
+use Rattle.paged_memory.specs.Paged.{PagedValue, seen_of, page_at, seen_at, flat_page, memory_of, Holds, ChangesPage}
+use Rattle.page_store.specs.Lending.{with_bytes}
+use Rattle.paged_memory.specs.HartMemory.{KeepsPages}
+use Rattle.paged_memory.specs.HartMemoryLaws.{pages_itself, pages_on}
 use Rattle.paged_memory.proofs.SoundnessLaws.{unheld_elsewhere}
 use Rattle.paged_memory.proofs.PagedLaws.{Change, get-page_at, page_at-nowhere, swap_key, changes_no_entry, Holds-unheld}
 
@@ -70,6 +73,40 @@ module _ {S : Type 0} where
   pub memory_zeroed : (held : S → List ℕ) (pages : List (ℕ × PageValue S)) (first count : ℕ) → memory_of held (with_added first count zero_page pages) ≡ with_zeroed first count (memory_of held pages)
   unfolding memory_of zero_bytes
   memory_zeroed held pages first count = map_by-added (flat_page held) pages first count zero_page refl
+
+-- the pages that were there stay, and the others are pages of zeros
+module _ {S : Type 0} where
+  kept_one : (pages : List (ℕ × PageValue S)) (number : ℕ) → KeepsPages pages (added number zero_page pages)
+  unfolding added
+  kept_one pages number = by_place (place_of number pages) refl
+    where
+      by_place : (o : Option ℕ) → place_of number pages ≡ o → KeepsPages pages (added_unless o number zero_page pages)
+      by_place (Some place) at = pages_itself pages
+      by_place None at =
+          let changes = appended pages number zero_page at in
+          let none_here : page_at pages number ≡ None = page_at-nowhere pages number at in
+          record {
+            places = λ q place. changes.places q place;
+            bare = λ q there. ap (option_map (λ p. with_bytes p [])) (changes.pages q ∙ other q (q == number) refl none_here there);
+            fresh = λ q value none is. here q value (q == number) (sym (changes.pages q) ∙ is) none;
+          }
+        where
+          other : (q : ℕ) (b : Bool) → (q == number) ≡ b → page_at pages number ≡ None → is_some (page_at pages q) ≡ true → cond b (Some zero_page) (page_at pages q) ≡ page_at pages q
+          other q true is none there = let clash : true ≡ false = sym there ∙ ap is_some (ap (page_at pages) (eqb-true q number is) ∙ none) in cc
+          other q false is none there = refl
+
+          here : (q : ℕ) (value : PageValue S) (b : Bool) → cond b (Some zero_page) (page_at pages q) ≡ Some value → page_at pages q ≡ None → value ≡ zero_page
+          here q value true is none = sym (same_Some _ _ is)
+          here q value false is none = absurd (none-some _ (sym none ∙ is))
+
+  kept_zeroed : (pages : List (ℕ × PageValue S)) (first count : ℕ) → KeepsPages pages (with_added first count zero_page pages)
+  unfolding with_added
+  kept_zeroed pages first zero = pages_itself pages
+  kept_zeroed pages first (suc count) = pages_on pages (with_added first count zero_page pages) (added (first + count) zero_page (with_added first count zero_page pages)) (kept_zeroed pages first count) (kept_one (with_added first count zero_page pages) (first + count))
+
+  pub kept_grown : {U E : Type 0} (result : Result U E) (old new : PagedValue S) (first count : ℕ) → OnOk result (new.pages ≡ with_added first count zero_page old.pages) → OnErr result (new ≡ old) → KeepsPages old.pages new.pages
+  kept_grown (Ok u) old new first count ok err = subst (λ p. KeepsPages old.pages p) (sym ok) (kept_zeroed old.pages first count)
+  kept_grown (Err e) old new first count ok err = subst (λ (m : PagedValue S). KeepsPages old.pages m.pages) (sym err) (pages_itself old.pages)
 
 -- the same by what the growth answered
 pub holds_grown : {S U E : Type 0} {held : S → List ℕ} {honest : Type 0} {tables : List (List ℕ)} {caches : List (List Translation)} (result : Result U E) (old new : List (ℕ × PageValue S)) (first count : ℕ) → first + count ≤ 2 ^ 20 → OnOk result (new ≡ with_added first count zero_page old) → OnErr result (new ≡ old) → Holds held honest old tables caches → Holds held honest new tables caches

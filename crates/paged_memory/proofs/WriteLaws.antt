@@ -1,5 +1,5 @@
 -- A hart writes to a page that its access reaches.
-use Rattle.std.specs.Prelude.{◌≡◌, ◌≢◌, ℕ, ◌^◌, ◌<◌, ◌%◌, ◌==◌, Bool, true, false, cond, ◌||◌, Some, option_map, Result, Ok, Err, is_some, List, refl}
+use Rattle.std.specs.Prelude.{◌≡◌, ◌≢◌, ℕ, ◌^◌, ◌<◌, ◌%◌, ◌==◌, Bool, true, false, cond, ◌||◌, Some, option_map, Result, Ok, Err, is_some, List, [], refl}
 use Rattle.std.proofs.Common.{sym, ap, ◌∙◌, subst, eqb-true, eq-eqb, ne_eqb}
 use Rattle.byteorder.specs.Endian.{little_bytes}
 use Rattle.page_memory.specs.Memory.{Page, Memory, overwritten, answered, usable, aligned_page, if_aligned, memory_with, number_at, exchanged, replaced, stored, copied_in}
@@ -22,8 +22,9 @@ use Rattle.sv32_table.specs.EntryAt.{entry_at}
 use Rattle.tlb_core.specs.declared.translation.Translation.{Translation}
 use Rattle.paged_memory.specs.Seen.{frame_seen, rights_seen, is_changed, is_used}
 use Rattle.paged_memory.specs.Soundness.{IsMapped}
-use Rattle.paged_memory.specs.Access.{Reaches, KeepsSeen}
+use Rattle.paged_memory.specs.Access.{Reaches, KeepsBare, bare_at}
 use Rattle.paged_memory.specs.Paged.{standing_of, seen_of, page_at, seen_at, flat_page, memory_of, Holds, ChangesPage}
+use Rattle.paged_memory.specs.HartMemoryLaws.{seen_bare}
 use Rattle.paged_memory.proofs.ReadLaws.{usable_reached}
 use Rattle.paged_memory.proofs.PagedLaws.{Change, get-page_at, page_at-place, changes_at_place, changes_no_entry, Holds-held}
 
@@ -36,6 +37,14 @@ module _ {S : Type 0} where
   standing_rewritten (Saving frame) bytes = refl
   standing_rewritten (Away slot) bytes = refl
   standing_rewritten Purged bytes = refl
+
+  bare_rewritten : (place : Place S) (bytes : List ℕ) → rewritten [] (rewritten bytes place) ≡ rewritten [] place
+  bare_rewritten Fresh bytes = refl
+  bare_rewritten (Resident frame slot) bytes = refl
+  bare_rewritten (Leaving frame slot mark) bytes = refl
+  bare_rewritten (Saving frame) bytes = refl
+  bare_rewritten (Away slot) bytes = refl
+  bare_rewritten Purged bytes = refl
 
   framed_rewritten : (place : Place S) (bytes : List ℕ) → is_some (frame_of (rewritten bytes place)) ≡ is_some (frame_of place)
   framed_rewritten Fresh bytes = refl
@@ -80,18 +89,23 @@ module _ {S : Type 0} where
 
     seen_same : seen_of written ≡ seen_of reached.page
     seen_same = ap (λ s. record { rights = reached.page.origin.rights; standing = s }) (standing_rewritten reached.page.place bytes)
+        -- all but the bytes in the frame stays
 
-    -- what translation sees stays
-    pub seen_stays : KeepsSeen pages pages_now
-    seen_stays =
+    pub bare_stays : KeepsBare pages pages_now
+    bare_stays =
         record {
-          seen = λ q. ap (option_map seen_of) (changes.pages q) ∙ choose q (q == number) refl;
+          bare = λ q. ap (option_map (λ p. with_bytes p [])) (changes.pages q) ∙ choose q (q == number) refl;
           places = λ q. place_of-with_value pages place q written;
         }
       where
-        choose : (q : ℕ) (b : Bool) → (q == number) ≡ b → option_map seen_of (cond b (Some written) (page_at pages q)) ≡ seen_at pages q
-        choose q true is = ap Some seen_same ∙ sym (ap (option_map seen_of) (ap (page_at pages) (eqb-true q number is) ∙ found))
+        choose : (q : ℕ) (b : Bool) → (q == number) ≡ b → option_map (λ p. with_bytes p []) (cond b (Some written) (page_at pages q)) ≡ bare_at pages q
+        choose q true is =
+            ap (λ p. Some (record reached.page { place = p })) (bare_rewritten reached.page.place bytes)
+            ∙ sym (ap (option_map (λ p. with_bytes p [])) (ap (page_at pages) (eqb-true q number is) ∙ found))
         choose q false is = refl
+
+    seen_stays : (q : ℕ) → seen_at pages_now q ≡ seen_at pages q
+    seen_stays q = sym (seen_bare (page_at pages_now q)) ∙ ap (option_map seen_of) (bare_stays.bare q) ∙ seen_bare (page_at pages q)
 
     change : Change held honest pages pages_now tables tables number written (entry_at tables number)
     change =
@@ -108,8 +122,8 @@ module _ {S : Type 0} where
     pub holds_written : Holds held honest pages_now tables caches
     holds_written =
         Holds-held change caches holds
-        (record { frame = ap frame_seen (seen_stays.seen number); rights = ap rights_seen (seen_stays.seen number); changed = λ was. ap (λ s. is_changed s (entry_at tables number)) (seen_stays.seen number) ∙ was })
-        (λ was. ap (λ s. is_used s (entry_at tables number)) (seen_stays.seen number) ∙ was)
+        (record { frame = ap frame_seen (seen_stays number); rights = ap rights_seen (seen_stays number); changed = λ was. ap (λ s. is_changed s (entry_at tables number)) (seen_stays number) ∙ was })
+        (λ was. ap (λ s. is_used s (entry_at tables number)) (seen_stays number) ∙ was)
 
   -- the memory that is left by a store, and by a copy
   pub stored_written : (held : S → List ℕ) (pages : List (ℕ × PageValue S)) (tables : List (List ℕ)) (width : Width) (address word place : ℕ) → address % bytes_in width ≡ 0 → (reached : Reaches pages tables Store (page_number address) place) → stored (memory_of held pages) width address word ≡ Ok (memory_of held (with_value pages place (with_bytes reached.page (overwritten (content held reached.page) (page_offset address) (little_bytes (bytes_in width) word)))))

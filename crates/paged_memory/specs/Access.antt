@@ -1,5 +1,5 @@
 -- An access of a hart to a page: by what its cache holds, or by a walk.
-use Rattle.std.specs.Prelude.{◌≡◌, ◌≢◌, ℕ, ◌^◌, ◌<◌, Bool, true, false, ◌&&◌, if◌then◌else◌, Option, Some, None, is_some, Result, Ok, Err, IsOk, List, [], slice_index_or, length, ◌⊎◌}
+use Rattle.std.specs.Prelude.{◌≡◌, ◌≢◌, ℕ, ◌^◌, ◌<◌, Bool, true, false, ◌&&◌, if◌then◌else◌, Option, Some, None, option_map, is_some, Result, Ok, Err, IsOk, List, [], slice_index_or, length, ◌⊎◌}
 use Rattle.std.specs.List.{list_any}
 use Rattle.page_memory.specs.declared.words.Access.{Access}
 use Rattle.page_memory.specs.declared.fault.MemoryFault.{MemoryFault}
@@ -14,6 +14,7 @@ use Rattle.page_memory.specs.Memory.{Page}
 use Rattle.page_memory.specs.Entries.{place_of, value_at}
 use Rattle.page_store.specs.PageValue.{PageValue, Place, writable}
 use Rattle.page_store.specs.PageValue as place
+use Rattle.page_store.specs.Lending.{with_bytes}
 use Rattle.sv32_table.specs.EntryAt.{entry_at}
 use Rattle.tlb_core.specs.declared.translation.Translation.{Translation}
 use Rattle.tlb_core.specs.Cache.{entry_of, is_of}
@@ -92,9 +93,13 @@ abbrev pub UsesBytes : Result Page MemoryFault → List ℕ → Type 0
 UsesBytes (Ok page) bytes = page.bytes ≡ bytes
 UsesBytes (Err fault) bytes = ⊥
 
--- what translation sees of pages stays, and their places do
-pub record KeepsSeen {S : Type 0} (old new : List (ℕ × PageValue S)) : Type 0 where
-  pub seen : (page : ℕ) → seen_at new page ≡ seen_at old page
+-- a page but for the bytes in its frame: its rights, what it began with, where it is, its frame's number and its slot
+abbrev pub bare_at : {S : Type 0} → List (ℕ × PageValue S) → ℕ → Option (PageValue S)
+bare_at pages number = option_map (λ page. with_bytes page []) (page_at pages number)
+
+-- pages stay where they are, but for the bytes in their frames
+pub record KeepsBare {S : Type 0} (old new : List (ℕ × PageValue S)) : Type 0 where
+  pub bare : (page : ℕ) → bare_at new page ≡ bare_at old page
   pub places : (page : ℕ) → place_of page new ≡ place_of page old
 
 -- what stays over a hart's accesses, beside what the memory holds: all other caches; no page's A or D falls; the hart's

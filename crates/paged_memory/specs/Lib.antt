@@ -6,3 +6,5 @@ pub mod Access
 pub mod Growth
 pub mod Counting
 pub mod CountingLaws
+pub mod HartMemory
+pub mod HartMemoryLaws

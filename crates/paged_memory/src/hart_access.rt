@@ -4,7 +4,7 @@ ghost use Rattle.page_memory.specs.Words.{page_offset};
 ghost use Rattle.rv_exec.specs.Amo.{amo_result};
 ghost use Rattle.rv_exec.specs.Answers.{Answers, with_answer};
 ghost use Rattle.paged_memory.specs.Paged.{memory_of};
-ghost use Rattle.paged_memory.specs.Access.{HasPage, LacksPage, MarksUse, KeepsTranslations, KeepsSeen, cache_of};
+ghost use Rattle.paged_memory.specs.Access.{HasPage, LacksPage, MarksUse, KeepsTranslations, KeepsBare, cache_of};
 
 use crate::memory::PagedMemory;
 use crate::{reading, writing};
@@ -68,7 +68,7 @@ impl<L: Ledger, S: SwapSlot> PagedMemory<L, S> {
             Answers (HasPage self.old.pages (cache_of self.old.caches hart)) (MarksUse self.old.pages self.new.tables (cache_of self.old.caches hart)) (LacksPage self.old.pages) address (stored (memory_of S.content self.old.pages) width address word) after }
         ensures refused { OnErr result (self.new.pages ≡ self.old.pages) }
         ensures process { self.new.process ≡ self.old.process }
-        ensures seen { KeepsSeen self.old.pages self.new.pages }
+        ensures bare { KeepsBare self.old.pages self.new.pages }
         ensures kept { KeepsTranslations self.old.pages hart self.old.tables self.new.tables self.old.caches self.new.caches }
     {
         writing::store(
@@ -97,7 +97,7 @@ impl<L: Ledger, S: SwapSlot> PagedMemory<L, S> {
             Answers (HasPage self.old.pages (cache_of self.old.caches hart)) (MarksUse self.old.pages self.new.tables (cache_of self.old.caches hart)) (LacksPage self.old.pages) address (replaced (memory_of S.content self.old.pages) update address) after }
         ensures refused { OnErr result (self.new.pages ≡ self.old.pages) }
         ensures process { self.new.process ≡ self.old.process }
-        ensures seen { KeepsSeen self.old.pages self.new.pages }
+        ensures bare { KeepsBare self.old.pages self.new.pages }
         ensures kept { KeepsTranslations self.old.pages hart self.old.tables self.new.tables self.old.caches self.new.caches }
     {
         writing::amo(
@@ -140,7 +140,7 @@ impl<L: Ledger, S: SwapSlot> PagedMemory<L, S> {
             Answers (HasPage self.old.pages (cache_of self.old.caches hart)) (MarksUse self.old.pages self.new.tables (cache_of self.old.caches hart)) (LacksPage self.old.pages) address (copied_in (memory_of S.content self.old.pages) address from.now) after }
         ensures refused { OnErr result (self.new.pages ≡ self.old.pages) }
         ensures process { self.new.process ≡ self.old.process }
-        ensures seen { KeepsSeen self.old.pages self.new.pages }
+        ensures bare { KeepsBare self.old.pages self.new.pages }
         ensures kept { KeepsTranslations self.old.pages hart self.old.tables self.new.tables self.old.caches self.new.caches }
     {
         writing::copy_in(

@@ -6,9 +6,11 @@ mod caches;
 mod eviction;
 mod growth;
 mod hart_access;
+mod hart_memory;
 mod harts;
 mod memory;
 mod reading;
 mod writing;
 
+pub use hart_memory::{HartMemory, Opening};
 pub use memory::PagedMemory;

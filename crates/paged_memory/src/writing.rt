@@ -7,7 +7,7 @@ ghost use Rattle.page_store.specs.Lending.{with_bytes};
 ghost use Rattle.rv_exec.specs.Amo.{amo_result};
 ghost use Rattle.rv_exec.specs.Answers.{Answers, with_answer};
 ghost use Rattle.paged_memory.specs.Paged.{Holds, memory_of};
-ghost use Rattle.paged_memory.specs.Access.{HasPage, LacksPage, MarksUse, KeepsTranslations, KeepsSeen, cache_of};
+ghost use Rattle.paged_memory.specs.Access.{HasPage, LacksPage, MarksUse, KeepsTranslations, KeepsBare, cache_of};
 
 use crate::access::reach;
 use crate::caches::Caches;
@@ -69,7 +69,7 @@ pub(crate) fn store<L: Ledger, S: SwapSlot>(
     ensures answer { let after = with_answer (λ _. memory_of S.content pages.new) result in
         Answers (HasPage pages.old (cache_of caches.old hart)) (MarksUse pages.old tables.new (cache_of caches.old hart)) (LacksPage pages.old) address (stored (memory_of S.content pages.old) width address word) after }
     ensures refused { OnErr result (pages.new ≡ pages.old) }
-    ensures seen { KeepsSeen pages.old pages.new }
+    ensures bare { KeepsBare pages.old pages.new }
     ensures kept { KeepsTranslations pages.old hart tables.old tables.new caches.old caches.new }
 {
     if address % width.bytes() != 0 {
@@ -100,7 +100,7 @@ pub(crate) fn copy_in<L: Ledger, S: SwapSlot>(
     ensures answer { let after = with_answer (λ _. memory_of S.content pages.new) result in
         Answers (HasPage pages.old (cache_of caches.old hart)) (MarksUse pages.old tables.new (cache_of caches.old hart)) (LacksPage pages.old) address (copied_in (memory_of S.content pages.old) address from.now) after }
     ensures refused { OnErr result (pages.new ≡ pages.old) }
-    ensures seen { KeepsSeen pages.old pages.new }
+    ensures bare { KeepsBare pages.old pages.new }
     ensures kept { KeepsTranslations pages.old hart tables.old tables.new caches.old caches.new }
 {
     match reach(pages, tables, caches, hart, Access::Store, address) {
@@ -129,7 +129,7 @@ pub(crate) fn amo<L: Ledger, S: SwapSlot>(
         let after = with_answer (λ old. (old, memory_of S.content pages.new)) result in
         Answers (HasPage pages.old (cache_of caches.old hart)) (MarksUse pages.old tables.new (cache_of caches.old hart)) (LacksPage pages.old) address (replaced (memory_of S.content pages.old) update address) after }
     ensures refused { OnErr result (pages.new ≡ pages.old) }
-    ensures seen { KeepsSeen pages.old pages.new }
+    ensures bare { KeepsBare pages.old pages.new }
     ensures kept { KeepsTranslations pages.old hart tables.old tables.new caches.old caches.new }
 {
     if address % 4 != 0 {

@@ -8,10 +8,10 @@ use Rattle.page_memory.specs.declared.words.Access.TheVariants.{Store}
 use Rattle.page_memory.specs.Entries.{with_value}
 use Rattle.page_store.specs.PageValue.{content}
 use Rattle.page_store.specs.Lending.{with_bytes}
-use Rattle.paged_memory.specs.Access.{LacksPage, KeepsSeen}
+use Rattle.paged_memory.specs.Access.{LacksPage, KeepsBare}
 use Rattle.paged_memory.specs.Paged.{Holds, memory_of}
 use Rattle.paged_memory.proofs.ReadLaws.{refuses}
-use Rattle.paged_memory.proofs.WriteLaws.{holds_written, seen_stays, stored_written, stored_refused}
+use Rattle.paged_memory.proofs.WriteLaws.{holds_written, bare_stays, stored_written, stored_refused}
 use Rattle.paged_memory.proofs.writing.store.Given.{Over}
 use Rattle.paged_memory.proofs.writing.store.Goals as goal
 
@@ -40,11 +40,11 @@ returns-in-Ok-clause-answer g c =
       (c.in-Ok.ensures.has, c.in-Ok.ensures.marked),
     )
 
-pub returns-in-Ok-clause-seen : goal.returns-in-Ok-clause-seen
-returns-in-Ok-clause-seen g c =
+pub returns-in-Ok-clause-bare : goal.returns-in-Ok-clause-bare
+returns-in-Ok-clause-bare g c =
     let small : page_number c.args.address < 2 ^ 20 = omega arith in
-    subst (λ p. KeepsSeen c.args.pages.now (with_value c.args.pages.now c.in-Ok.place p)) (sym (page_is g c))
-    (seen_stays (page_number c.args.address) c.in-Ok.place small c.reach.ensures.holds c.in-Ok.ensures.reaches _)
+    subst (λ p. KeepsBare c.args.pages.now (with_value c.args.pages.now c.in-Ok.place p)) (sym (page_is g c))
+    (bare_stays (page_number c.args.address) c.in-Ok.place small c.reach.ensures.holds c.in-Ok.ensures.reaches _)
 
 pub returns-in-Err-clause-answer : goal.returns-in-Err-clause-answer
 returns-in-Err-clause-answer g c =

@@ -1,0 +1,38 @@
+-- What a hart's accesses keep of a process's memory, beside what it holds.
+use Rattle.std.specs.Prelude.{◌≡◌, ◌≢◌, ℕ, ◌^◌, ◌<◌, ◌⊎◌, true, is_some, Some, None, List, length}
+use Rattle.page_memory.specs.Entries.{place_of}
+use Rattle.page_store.specs.PageValue.{PageValue}
+use Rattle.sv32_table.specs.EntryAt.{entry_at}
+use Rattle.tlb_core.specs.declared.translation.Translation.{Translation}
+use Rattle.tlb_core.specs.Cache.{entry_of}
+use Rattle.paged_memory.specs.Seen.{is_used, is_changed}
+use Rattle.paged_memory.specs.Paged.{PagedValue, page_at, seen_at}
+use Rattle.paged_memory.specs.Access.{HasPage, bare_at, cache_of, is_doomed}
+use Rattle.paged_memory.specs.Growth.{zero_page}
+
+-- pages that were there stay where they are, but for the bytes in their frames; others are pages of zeros that were mapped
+pub record KeepsPages {S : Type 0} (old new : List (ℕ × PageValue S)) : Type 0 where
+  pub places : (page place : ℕ) → place_of page old ≡ Some place → place_of page new ≡ Some place
+  pub bare : (page : ℕ) → is_some (page_at old page) ≡ true → bare_at new page ≡ bare_at old page
+  pub fresh : (page : ℕ) (value : PageValue S) → page_at old page ≡ None → page_at new page ≡ Some value → value ≡ zero_page
+
+-- a hart's accesses: no page's A or D falls; no other hart's cache changes; the hart's own gets translations of resident
+-- pages alone, and none that is to be dropped
+pub record KeepsAccess {S : Type 0} (hart : ℕ) (old new : PagedValue S) : Type 0 where
+  pub process : new.process ≡ old.process
+  pub pages : KeepsPages old.pages new.pages
+  pub harts : length new.caches ≡ length old.caches
+  pub others : (h : ℕ) → h ≢ hart → cache_of new.caches h ≡ cache_of old.caches h
+  pub used : (page : ℕ) → page < 2 ^ 20 → is_used (seen_at old.pages page) (entry_at old.tables page) ≡ true → is_used (seen_at new.pages page) (entry_at new.tables page) ≡ true
+  pub changed : (page : ℕ) → page < 2 ^ 20 → is_changed (seen_at old.pages page) (entry_at old.tables page) ≡ true → is_changed (seen_at new.pages page) (entry_at new.tables page) ≡ true
+  pub held : (page : ℕ) → is_some (entry_of page (cache_of new.caches hart)) ≡ true → HasPage old.pages (cache_of old.caches hart) page
+  pub doomed : (page : ℕ) → is_doomed page (cache_of new.caches hart) ≡ true → is_doomed page (cache_of old.caches hart) ≡ true
+
+-- a page's use is marked: its A is set, or the hart had a translation of it that is to be dropped when its turn began
+abbrev pub MarksSince : {S : Type 0} → PagedValue S → List Translation → ℕ → Type 0
+MarksSince memory opening page = (page < 2 ^ 20) × ((is_used (seen_at memory.pages page) (entry_at memory.tables page) ≡ true) ⊎ (is_doomed page opening ≡ true))
+
+-- a hart that was started, with no translation that is to be dropped but those of when its turn began
+pub record InTurn {S : Type 0} (hart : ℕ) (opening : List Translation) (memory : PagedValue S) : Type 0 where
+  pub started : hart < length memory.caches
+  pub doomed : (page : ℕ) → is_doomed page (cache_of memory.caches hart) ≡ true → is_doomed page opening ≡ true

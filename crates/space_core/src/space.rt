@@ -21,10 +21,10 @@ use swap_slots::SwapSlot;
 /// A process whose pages come and go.
 #[derive(Drop)]
 pub struct Space<L: Ledger, S: SwapSlot> {
-    image: Image,
-    input: Vec<u8>,
-    recorded: Recorded,
-    memory: PagedMemory<L, S>,
+    pub(crate) image: Image,
+    pub(crate) input: Vec<u8>,
+    pub(crate) recorded: Recorded,
+    pub(crate) memory: PagedMemory<L, S>,
 }
 
 impl<L: Ledger, S: SwapSlot> Model for Space<L, S> {

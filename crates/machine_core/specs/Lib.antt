@@ -1,1 +1,4 @@
 pub mod RefusalNumber
+pub mod Sides
+pub mod Sweeping
+pub mod Together

@@ -6,8 +6,14 @@
 
 mod error;
 mod event;
+mod pager_side;
+mod process_side;
 mod report;
+mod sweeping;
 
 pub use error::{CoreError, EventRefusal};
 pub use event::{Event, Reply};
+pub use pager_side::{PagerSide, SideCounts};
+pub use process_side::ProcessSide;
 pub use report::{ProcessReport, Report};
+pub use sweeping::{Swept, sweep};

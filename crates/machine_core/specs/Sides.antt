@@ -1,0 +1,15 @@
+-- What stands under one lock each: the pager with its counts, and a process.
+use Rattle.std.specs.Prelude.{ℕ, Bool}
+use Rattle.pager_core.specs.Pager.{PagerState}
+use Rattle.space_core.specs.StandsFor.{SpaceValue}
+
+-- the pager, with how many pages' frames came free once they were saved, and how many with no save
+pub record PagerSideValue : Type 0 where
+  pub pager : PagerState
+  pub saves : ℕ
+  pub drops : ℕ
+
+-- a process, and whether it has given its pages back
+pub record ProcessSideValue (S : Type 0) : Type 0 where
+  pub space : SpaceValue S
+  pub purged : Bool

@@ -12,3 +12,6 @@ pub mod GrowthLaws
 pub mod WriteLaws
 pub mod HitLaws
 pub mod MovesLaws
+pub mod CollectingLaws
+pub mod SavingLaws
+pub mod ReturningLaws

@@ -1,7 +1,8 @@
 -- A page that is not resident becomes another that is not.
-use Rattle.std.specs.Prelude.{◌≡◌, ℕ, ◌^◌, ◌<◌, Bool, true, false, Some, option_map, is_some, List}
+use Rattle.std.specs.Prelude.{◌≡◌, ℕ, ◌^◌, ◌<◌, Bool, true, false, Some, option_map, is_some, List, [], ◌∷◌, zero, suc, refl}
 use Rattle.std.proofs.Common.{sym, ap, ◌∙◌, subst}
 use Rattle.page_memory.specs.Memory.{Page}
+use Rattle.page_memory.specs.Entries.{value_at, with_value}
 use Rattle.page_store.specs.PageValue.{PageValue, frame_of, Backed}
 use Rattle.sv32_table.specs.Entry.{Entry, blank}
 use Rattle.sv32_table.specs.EntryAt.{entry_at}
@@ -69,3 +70,10 @@ module _ {S : Type 0} {held : S → List ℕ} {honest : Type 0} {pages : List (�
             mapped = subst (λ s. IsMapped s (entry_at tables number)) (ap (option_map seen_of) found) (holds.agree.mapped number small);
             backed = λ is_honest. holds.backed is_honest number page small found;
           }
+
+-- the value that is at a place already
+pub with_same : {T : Type 0} (entries : List (ℕ × T)) (place : ℕ) (value : T) → value_at place entries ≡ Some value → with_value entries place value ≡ entries
+unfolding with_value
+with_same [] place value at = refl
+with_same (e ∷ es) zero value at = let same : e.1 ≡ value = cc in ap (λ v. (e.0, v) ∷ es) (sym same)
+with_same (e ∷ es) (suc place) value at = ap (λ l. e ∷ l) (with_same es place value at)

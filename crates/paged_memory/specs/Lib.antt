@@ -2,6 +2,7 @@ pub mod Seen
 pub mod Soundness
 pub mod Paged
 pub mod Calls
+pub mod Leaving
 pub mod Access
 pub mod Growth
 pub mod Counting

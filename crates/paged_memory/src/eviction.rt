@@ -55,7 +55,7 @@ impl<L: Ledger, S: SwapSlot> PagedMemory<L, S> {
 }
 
 #[tactic(auto, unfolding(crate::specs::Paged::page_at))]
-fn state_in<L: Ledger, S: SwapSlot>(
+pub(crate) fn state_in<L: Ledger, S: SwapSlot>(
     pages: &PageMap<StoredPage<L, S>>,
     vpn: u32,
 ) -> Option<PageState>

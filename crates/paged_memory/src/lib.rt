@@ -2,7 +2,9 @@
 #![tactic(auto)]
 
 mod access;
+mod bringing_back;
 mod caches;
+mod collecting;
 mod eviction;
 mod growth;
 mod hart_access;
@@ -10,6 +12,7 @@ mod hart_memory;
 mod harts;
 mod memory;
 mod reading;
+mod saving;
 mod writing;
 
 pub use hart_memory::{HartMemory, Opening};

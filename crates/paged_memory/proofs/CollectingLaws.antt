@@ -1,0 +1,108 @@
+-- A look at a page that is to leave its frame.
+use Rattle.std.specs.Prelude.{◌≡◌, ℕ, ◌^◌, ◌<◌, Bool, true, false, Option, Some, None, is_some, List, refl, ◌⊎◌}
+use Rattle.std.proofs.Common.{sym, ap, ◌∙◌, subst, inl, inr}
+use Rattle.frame_pool.specs.FrameValue.{FrameValue}
+use Rattle.page_memory.specs.Memory.{Page}
+use Rattle.page_store.specs.declared.state.Keeping.{Keeping}
+use Rattle.page_store.specs.declared.state.Keeping.TheVariants.{NoSlot, Unsaved, Saved}
+use Rattle.page_store.specs.declared.answer.Collected.{Collected}
+use Rattle.page_store.specs.Moves.{CollectedPage, collected, let_go, with_spare}
+use Rattle.page_store.specs.PageValue.{PageValue, Place, Fresh, Resident, Leaving, Saving, Away, Purged, frame_of, shown, Backed, BackedAt}
+use Rattle.sv32_table.specs.Entry.{Entry}
+use Rattle.tlb_core.specs.declared.translation.Translation.{Translation}
+use Rattle.paged_memory.specs.Soundness.{is_held}
+use Rattle.paged_memory.specs.Leaving.{lets_go, Collects, CollectsAt}
+use Rattle.paged_memory.specs.Calls.{ChangesBy}
+use Rattle.paged_memory.specs.Paged.{standing_of, page_at, flat_page, memory_of, Holds, ChangesPage}
+use Rattle.paged_memory.proofs.Holding.{held_by_none}
+use Rattle.paged_memory.proofs.PagedLaws.{memory_stays}
+use Rattle.paged_memory.proofs.MovesLaws.{IsBlank, entry_blank, holds_same, holds_moved}
+
+-- what is so of a page that a look lets go
+pub record LetGo {L S : Type 0} (cached : Bool) (place : Place S) (after : CollectedPage L S) : Type 0 where
+  pub uncached : cached ≡ false
+  pub goes : lets_go after.1.1 ≡ true
+  pub blank_then : IsBlank (standing_of place)
+  pub blank_now : IsBlank (standing_of after.0)
+  pub framed : is_some (frame_of after.0) ≡ true → is_some (frame_of place) ≡ true
+  pub shows : (held : S → List ℕ) (origin : List ℕ) → BackedAt held origin false place → shown held origin after.0 ≡ shown held origin place
+  pub backed : (held : S → List ℕ) (origin : List ℕ) → BackedAt held origin false after.0
+
+module _ {L S : Type 0} (process vpn : ℕ) where
+  abbrev pub Looked : Bool → Place S → CollectedPage L S → Type 0
+  Looked cached place after = (after.0 ≡ place) ⊎ LetGo cached place after
+
+  gone_spared : (frame : FrameValue) (spare : Option S) → Looked false (Leaving frame NoSlot true) (with_spare process vpn frame true spare)
+  gone_spared frame None = inl refl
+  gone_spared frame (Some slot) = inr (record { uncached = refl; goes = refl; blank_then = λ r a d. refl; blank_now = λ r a d. refl; framed = λ h. refl; shows = λ held origin b. refl; backed = λ held origin h. cc })
+
+  gone : (frame : FrameValue) (slot : Keeping S) (mark : Bool) (spare : Option S) → Looked false (Leaving frame slot mark) (let_go process vpn frame slot mark spare)
+  gone frame NoSlot false spare = inr (record { uncached = refl; goes = refl; blank_then = λ r a d. refl; blank_now = λ r a d. refl; framed = λ h. refl; shows = λ held origin b. sym (b refl); backed = λ held origin h. refl })
+  gone frame NoSlot true spare = gone_spared frame spare
+  gone frame (Unsaved slot) mark spare = inr (record { uncached = refl; goes = refl; blank_then = λ r a d. refl; blank_now = λ r a d. refl; framed = λ h. refl; shows = λ held origin b. refl; backed = λ held origin h. cc })
+  gone frame (Saved slot) false spare = inr (record { uncached = refl; goes = refl; blank_then = λ r a d. refl; blank_now = λ r a d. refl; framed = λ h. refl; shows = λ held origin b. sym (b refl); backed = λ held origin h. refl })
+  gone frame (Saved slot) true spare = inr (record { uncached = refl; goes = refl; blank_then = λ r a d. refl; blank_now = λ r a d. refl; framed = λ h. refl; shows = λ held origin b. refl; backed = λ held origin h. cc })
+
+  -- it stays, or no cache holds it and it is let go
+  pub looked : (place : Place S) (cached : Bool) (spare : Option S) → Looked cached place (collected process vpn cached place spare)
+  looked Fresh cached spare = inl refl
+  looked (Resident frame slot) cached spare = inl refl
+  looked (Leaving frame slot mark) true spare = inl refl
+  looked (Leaving frame slot mark) false spare = gone frame slot mark spare
+  looked (Saving frame) cached spare = inl refl
+  looked (Away slot) cached spare = inl refl
+  looked Purged cached spare = inl refl
+
+  module _ (cached : Bool) (spare spare' : Option S) (answer : Collected L S) (page page' : PageValue S) (collects : Collects process vpn cached spare spare' answer page page') where
+    pub looked_page : (page' ≡ page) ⊎ LetGo cached page.place (page'.place, (spare', answer))
+    looked_page =
+        elim (subst (Looked cached page.place) (sym collects.1) (looked page.place cached spare)) [
+          | inl stays ↦ inl (ap (λ o. record { origin = o; place = page'.place }) collects.0 ∙ ap (λ p. record { origin = page.origin; place = p }) stays)
+          | inr away ↦ inr away
+        ]
+
+    -- a page that is not let go is as it was
+    pub not_gone : lets_go answer ≡ false → page' ≡ page
+    not_gone left =
+        elim looked_page [
+          | inl stays ↦ stays
+          | inr away ↦ let goes = away.goes in cc
+        ]
+
+  module _ {held : S → List ℕ} {honest : Type 0} {pages : List (ℕ × PageValue S)} {tables : List (List ℕ)} {caches : List (List Translation)} (spare spare' : Option S) (answer : Collected L S) (small : vpn < 2 ^ 20) (holds : Holds held honest pages tables caches) where
+    abbrev pub Look : PageValue S → PageValue S → Type 0
+    Look = Collects process vpn (is_held vpn caches) spare spare' answer
+
+    backed_then : (page : PageValue S) → page_at pages vpn ≡ Some page → IsBlank (standing_of page.place) → honest → Backed held false page
+    backed_then page found is is_honest = subst (λ (e : Entry). Backed held e.dirty page) (entry_blank vpn small holds page found is) (holds.backed is_honest vpn page small found)
+
+    holds_looked : {pages' : List (ℕ × PageValue S)} → ChangesBy Look pages pages' vpn → Holds held honest pages' tables caches
+    holds_looked {pages'} told =
+        elim (looked_page (is_held vpn caches) spare spare' answer told.page told.page' told.how) [
+          | inl stays ↦ holds_same vpn small holds pages' told.page told.found (subst (ChangesPage pages pages' vpn) stays told.changes)
+          | inr away ↦
+              holds_moved vpn small holds pages' told.page told.page' told.found told.changes told.how.0 away.blank_then away.blank_now away.framed
+              (λ is_honest. away.backed held told.page'.origin.bytes)
+              (held_by_none vpn caches away.uncached)
+        ]
+
+    memory_looked : {pages' : List (ℕ × PageValue S)} → ChangesBy Look pages pages' vpn → honest → memory_of held pages' ≡ memory_of held pages
+    memory_looked {pages'} told is_honest =
+        elim (looked_page (is_held vpn caches) spare spare' answer told.page told.page' told.how) [
+          | inl stays ↦ memory_stays held pages pages' vpn told.page told.page' told.found (ap (flat_page held) stays) told.changes
+          | inr away ↦
+              memory_stays held pages pages' vpn told.page told.page' told.found
+              (ap (λ (o : Page). record { rights = o.rights; bytes = shown held o.bytes told.page'.place }) told.how.0
+              ∙ ap (λ b. record { rights = told.page.origin.rights; bytes = b }) (away.shows held told.page.origin.bytes (backed_then told.page told.found away.blank_then is_honest)))
+              told.changes
+        ]
+
+    -- everything goes together still
+    pub holds_collected : {pages' : List (ℕ × PageValue S)} (o : Option (PageValue S)) → CollectsAt process vpn (is_held vpn caches) spare spare' answer pages pages' o → Holds held honest pages' tables caches
+    holds_collected (Some page) told = holds_looked told
+    holds_collected None told = subst (λ p. Holds held honest p tables caches) (sym told.1.1) holds
+
+    -- and what the memory holds stays
+    pub memory_collected : (pages' : List (ℕ × PageValue S)) (o : Option (PageValue S)) → CollectsAt process vpn (is_held vpn caches) spare spare' answer pages pages' o → honest → memory_of held pages' ≡ memory_of held pages
+    memory_collected pages' (Some page) told is_honest = memory_looked told is_honest
+    memory_collected pages' None told is_honest = ap (memory_of held) told.1.1

@@ -1,0 +1,103 @@
+-- A save that comes back.
+use Rattle.std.specs.Prelude.{◌≡◌, ℕ, ◌^◌, ◌<◌, true, false, Some, None, Result, Ok, Err, IfOk, IfErr, IsTrue, is_some, List, refl}
+use Rattle.std.proofs.Common.{sym, ap, ◌∙◌, subst}
+use Rattle.frame_pool.specs.FrameValue.{FrameValue}
+use Rattle.page_memory.specs.Memory.{Page}
+use Rattle.page_memory.specs.Entries.{place_of, value_at, with_value}
+use Rattle.page_store.specs.JobValue.{SavedValue}
+use Rattle.page_store.specs.declared.state.Keeping.TheVariants.{Unsaved}
+use Rattle.page_store.specs.declared.answer.SaveRefusal.{SaveRefusal}
+use Rattle.page_store.specs.declared.answer.SaveRefusal.TheVariants.{WrongPage, Mismatch, Device}
+use Rattle.page_store.specs.Moves.{IfSaving, RefusesSave}
+use Rattle.page_store.specs.PageValue.{PageValue, Place, Fresh, Resident, Leaving, Saving, Away, Purged, frame_of, content, BackedAt}
+use Rattle.tlb_core.specs.declared.translation.Translation.{Translation}
+use Rattle.paged_memory.specs.Leaving.{IsSaving, IsOut, ChangesSaved, Frees, RefusesSaved}
+use Rattle.paged_memory.specs.Calls.{ChangesBy}
+use Rattle.paged_memory.specs.Paged.{standing_of, memory_of, Holds}
+use Rattle.paged_memory.proofs.PagedLaws.{page_at-place, page_at-nowhere, changes_at_place, changed_by, memory_stays}
+use Rattle.paged_memory.proofs.MovesLaws.{IsBlank, unheld_page, holds_moved, with_same}
+
+module _ {S : Type 0} where
+  -- no page is mapped where the save says
+  pub out_nowhere : (process : ℕ) (job : SavedValue S) (pages : List (ℕ × PageValue S)) → place_of job.vpn pages ≡ None → IsOut process job pages → ⊥
+  out_nowhere process job pages none out = subst IsSaving (page_at-nowhere pages job.vpn none) out.1.1
+
+  module _ (process : ℕ) (job : SavedValue S) (pages : List (ℕ × PageValue S)) (place : ℕ) (page page' : PageValue S) (at : place_of job.vpn pages ≡ Some place) (value : value_at place pages ≡ Some page) (origin : page'.origin ≡ page.origin) where
+    same_page : page'.place ≡ page.place → page' ≡ page
+    same_page stays = ap (λ o. record { origin = o; place = page'.place }) origin ∙ ap (λ p. record { origin = page.origin; place = p }) stays
+
+    -- what a page's answer to a save says of all pages
+    pub freed_there : (result : Result FrameValue (SaveRefusal S)) → job.process ≡ process → job.vpn < 2 ^ 20
+        → IfOk result (λ frame. (page.place ≡ Saving frame) × (page'.place ≡ Away job.slot) × (frame.bytes ≡ job.copy) × IsTrue job.passed)
+        → IfOk result (λ frame. ChangesSaved process job (Frees job frame) pages (with_value pages place page'))
+    freed_there (Err refusal) its small freed = freed
+    freed_there (Ok frame) its small freed = (
+      its,
+      (
+        small,
+        changed_by pages job.vpn place page page' at value (record {
+          was = freed.0;
+          is = ap (λ o. record { origin = o; place = page'.place }) origin ∙ ap (λ p. record { origin = page.origin; place = p }) freed.1;
+          same = freed.2;
+          passed = freed.3;
+        }),
+      ),
+    )
+
+    pub refused_there : (result : Result FrameValue (SaveRefusal S)) → job.process ≡ process → job.vpn < 2 ^ 20
+        → IfErr result (RefusesSave job page.place page'.place)
+        → IfErr result (RefusesSaved process job pages (with_value pages place page'))
+    refused_there (Ok frame) its small refused = refused
+    refused_there (Err (WrongPage back)) its small refused = (
+      refused.0,
+      (
+        ap (with_value pages place) (same_page refused.1) ∙ with_same pages place page value,
+        λ out. refused.2 (subst IsSaving (page_at-place pages job.vpn place page at value) out.1.1),
+      ),
+    )
+    refused_there (Err Mismatch) its small refused = (its, (small, changed_by pages job.vpn place page page' at value (origin, refused)))
+    refused_there (Err Device) its small refused = (its, (small, changed_by pages job.vpn place page page' at value (origin, refused)))
+
+    pub memory_there : (held : S → List ℕ) → content held page' ≡ content held page → memory_of held (with_value pages place page') ≡ memory_of held pages
+    memory_there held shows =
+        memory_stays held pages (with_value pages place page') job.vpn page page' (page_at-place pages job.vpn place page at value)
+        (ap (λ (o : Page). record { rights = o.rights; bytes = content held page' }) origin ∙ ap (λ b. record { rights = page.origin.rights; bytes = b }) shows)
+        (changes_at_place pages job.vpn place page' at)
+
+  record WasSaving (place : Place S) (P : FrameValue → Type 0) : Type 1 where
+    pub frame : FrameValue
+    pub was : place ≡ Saving frame
+    pub told : P frame
+
+  was_saving : (place : Place S) (P : FrameValue → Type 0) → IfSaving place P → WasSaving place P
+  was_saving Fresh P h = absurd h
+  was_saving (Resident frame slot) P h = absurd h
+  was_saving (Leaving frame slot mark) P h = absurd h
+  was_saving (Saving frame) P h = record { frame = frame; was = refl; told = h }
+  was_saving (Away slot) P h = absurd h
+  was_saving Purged P h = absurd h
+
+  module _ {held : S → List ℕ} {honest : Type 0} {pages pages' : List (ℕ × PageValue S)} {tables : List (List ℕ)} {caches : List (List Translation)} (holds : Holds held honest pages tables caches) (process : ℕ) (job : SavedValue S) where
+    -- a page that was being saved becomes one with no entry, which its backing equals or which counts as changed
+    moves : {by : PageValue S → PageValue S → Type 0} (number : ℕ) → number < 2 ^ 20 → (told : ChangesBy by pages pages' number) (frame : FrameValue) (place : Place S) → told.page.place ≡ Saving frame → told.page'.place ≡ place → told.page'.origin ≡ told.page.origin → IsBlank (standing_of place) → BackedAt held told.page'.origin.bytes false place → Holds held honest pages' tables caches
+    moves number small told frame place was is origin blank backed =
+        holds_moved number small holds pages' told.page told.page' told.found told.changes origin
+        (subst (λ p. IsBlank (standing_of p)) (sym was) (λ r a d. refl))
+        (subst (λ p. IsBlank (standing_of p)) (sym is) blank)
+        (λ h. ap (λ p. is_some (frame_of p)) was)
+        (λ is_honest. subst (BackedAt held told.page'.origin.bytes false) (sym is) backed)
+        (unheld_page number small holds told.page told.found (ap standing_of was))
+
+    pub holds_saved : (result : Result FrameValue (SaveRefusal S)) → IfOk result (λ frame. ChangesSaved process job (Frees job frame) pages pages') → IfErr result (RefusesSaved process job pages pages') → Holds held honest pages' tables caches
+    holds_saved (Ok frame) ok err =
+        let told = ok.1.1 in
+        moves job.vpn ok.1.0 told frame (Away job.slot) told.how.was (ap (λ (p : PageValue S). p.place) told.how.is) (ap (λ (p : PageValue S). p.origin) told.how.is) (λ r a d. refl) (λ h. refl)
+    holds_saved (Err (WrongPage back)) ok err = subst (λ p. Holds held honest p tables caches) (sym err.1.0) holds
+    holds_saved (Err Mismatch) ok err =
+        let told = err.1.1 in
+        let out = was_saving told.page.place _ told.how.1 in
+        moves job.vpn err.1.0 told out.frame (Leaving out.frame (Unsaved job.slot) true) out.was out.told.1 told.how.0 (λ r a d. refl) (λ h. cc)
+    holds_saved (Err Device) ok err =
+        let told = err.1.1 in
+        let out = was_saving told.page.place _ told.how.1 in
+        moves job.vpn err.1.0 told out.frame (Leaving out.frame (Unsaved job.slot) true) out.was out.told.2 told.how.0 (λ r a d. refl) (λ h. cc)

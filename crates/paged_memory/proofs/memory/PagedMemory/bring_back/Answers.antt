@@ -1,0 +1,15 @@
+use Rattle.paged_memory.proofs.ReturningLaws.{holds_returned, memory_returned, plain, entry_plain}
+use Rattle.paged_memory.proofs.memory.PagedMemory.bring_back.Goals as goal
+
+pub invariant_of-self : goal.invariant_of-self
+invariant_of-self g c =
+    let told = c.bring_back_page-frame.ensures.back in
+    holds_returned c.args.vpn c.requires c.self.invariant c.bring_back_page-frame.result.changed (plain told) c.remap.new.self (entry_plain told c.self.inside.tables c.remap.new.self c.remap.ensures.entries) c.remap.ensures.tables
+
+pub returns-clause-ok : goal.returns-clause-ok
+returns-clause-ok g c =
+    let told = c.bring_back_page-frame.ensures.back in
+    rw (← c.self.view_is) (record { mark = c.bring_back_page-frame.result.changed; page = plain told; entry = entry_plain told c.self.inside.tables c.remap.new.self c.remap.ensures.entries })
+
+pub returns-clause-memory : goal.returns-clause-memory
+returns-clause-memory g c = rw (← c.self.view_is) (memory_returned g.S.SwapSlot.content (plain c.bring_back_page-frame.ensures.back))

@@ -1,0 +1,17 @@
+use Rattle.std.proofs.Common.{subst}
+use Rattle.paged_memory.specs.Leaving.{CollectsAt}
+use Rattle.paged_memory.specs.Paged.{page_at}
+use Rattle.paged_memory.proofs.CollectingLaws.{holds_collected, memory_collected}
+use Rattle.paged_memory.proofs.memory.PagedMemory.collect.Goals as goal
+
+pub invariant_of-self : goal.invariant_of-self
+invariant_of-self g c =
+    let pages = c.self.inside.pages in
+    let told = subst (λ cached. CollectsAt c.self.inside.process c.args.vpn cached c.args.spare.now c.collect_page.new.spare c.collect_page.result pages c.collect_page.new.pages (page_at pages c.args.vpn)) c.is_held-cached.ensures c.collect_page.ensures.answer in
+    holds_collected c.self.inside.process c.args.vpn c.args.spare.now c.collect_page.new.spare c.collect_page.result c.requires c.self.invariant (page_at pages c.args.vpn) told
+
+pub returns-clause-memory : goal.returns-clause-memory
+returns-clause-memory g c =
+    let pages = c.self.inside.pages in
+    let told = subst (λ cached. CollectsAt c.self.inside.process c.args.vpn cached c.args.spare.now c.collect_page.new.spare c.collect_page.result pages c.collect_page.new.pages (page_at pages c.args.vpn)) c.is_held-cached.ensures c.collect_page.ensures.answer in
+    rw (← c.self.view_is) (memory_collected c.self.inside.process c.args.vpn c.args.spare.now c.collect_page.new.spare c.collect_page.result c.requires c.self.invariant c.collect_page.new.pages (page_at pages c.args.vpn) told)

@@ -1,0 +1,74 @@
+ghost use Rattle.std.specs.Prelude.{◌≡◌, ◌<◌, ◌^◌, ◌↔◌, true, false, ℕ, IfOk, OnOk, OnErr, IsErr};
+ghost use Rattle.paged_memory.specs.Calls.{ChangesBy};
+ghost use Rattle.paged_memory.specs.Leaving.{BringsBack, ReturnsAs, is_leaving};
+ghost use Rattle.paged_memory.specs.Paged.{page_at, memory_of};
+
+use crate::eviction::state_in;
+use crate::memory::PagedMemory;
+use page_memory::{PageMap, Rights};
+use page_store::{NotLeaving, PageState, StoredPage};
+use std::sync::ledger::Ledger;
+use swap_slots::SwapSlot;
+
+impl<L: Ledger, S: SwapSlot> PagedMemory<L, S> {
+    /// Maps a page that is leaving again, in its frame, as one that was not used yet. Takes no memory.
+    pub fn bring_back(&mut self, vpn: u32) -> Result<(), NotLeaving>
+        requires { vpn < 2 ^ 20 }
+        ensures ok { OnOk result (BringsBack self.old.pages self.new.pages self.old.tables self.new.tables vpn) }
+        ensures refused { IsErr result ↔ (is_leaving (page_at self.old.pages vpn) ≡ false) }
+        ensures err { OnErr result (self.new ≡ self.old) }
+        ensures process { self.new.process ≡ self.old.process }
+        ensures caches { self.new.caches ≡ self.old.caches }
+        ensures memory { memory_of S.content self.new.pages ≡ memory_of S.content self.old.pages }
+    {
+        if !leaves(&self.pages, vpn) {
+            return Err(NotLeaving);
+        }
+        let Mapping {
+            frame,
+            rights,
+            changed,
+        } = bring_back_page(&mut self.pages, vpn);
+        self.tables.remap(vpn, frame, rights, false, changed);
+        Ok(())
+    }
+}
+
+fn leaves<L: Ledger, S: SwapSlot>(pages: &PageMap<StoredPage<L, S>>, vpn: u32) -> bool
+    requires { vpn < 2 ^ 20 }
+    ensures { result ≡ is_leaving (page_at pages.now vpn) }
+{
+    matches!(state_in(pages, vpn), Some(PageState::Leaving))
+}
+
+/// What a page is mapped with.
+struct Mapping {
+    frame: u32,
+    rights: Rights,
+    changed: bool,
+}
+
+/// A page that is leaving is resident again.
+fn bring_back_page<L: Ledger, S: SwapSlot>(
+    pages: &mut PageMap<StoredPage<L, S>>,
+    vpn: u32,
+) -> Mapping
+    requires vpn { vpn < 2 ^ 20 }
+    requires leaving { is_leaving (page_at pages.old vpn) ≡ true }
+    ensures back { ChangesBy (ReturnsAs result.frame result.rights result.changed) pages.old pages.new vpn }
+    ensures frame { result.frame < 2 ^ 22 }
+{
+    let Some(place) = pages.place(vpn) else {
+        unreachable!()
+    };
+    let page = pages.at_mut(place);
+    let changed = page.bring_back().unwrap_or(false);
+    let Some(frame) = page.frame() else {
+        unreachable!()
+    };
+    Mapping {
+        frame: frame.number(),
+        rights: page.rights(),
+        changed,
+    }
+}

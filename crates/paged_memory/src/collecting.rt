@@ -1,0 +1,43 @@
+ghost use Rattle.std.specs.Prelude.{◌≡◌, ◌<◌, ◌^◌, false};
+ghost use Rattle.paged_memory.specs.Leaving.{CollectsAt, lets_go};
+ghost use Rattle.paged_memory.specs.Paged.{page_at, memory_of};
+ghost use Rattle.paged_memory.specs.Soundness.{is_held};
+
+use crate::memory::PagedMemory;
+use page_memory::PageMap;
+use page_store::{Collected, StoredPage};
+use std::sync::ledger::Ledger;
+use swap_slots::SwapSlot;
+
+impl<L: Ledger, S: SwapSlot> PagedMemory<L, S> {
+    /// Looks whether a page that is leaving can let its frame go: no cache may hold a translation of it. An unchanged
+    /// page goes to its backing, and a changed one to be saved, to its slot or to the spare one.
+    pub fn collect(&mut self, vpn: u32, spare: &mut Option<S>) -> Collected<L, S>
+        requires { vpn < 2 ^ 20 }
+        ensures answer { CollectsAt self.old.process vpn (is_held vpn self.old.caches) spare.old spare.new result self.old.pages self.new.pages (page_at self.old.pages vpn) }
+        ensures stays { self.new ≡ record self.old { pages = self.new.pages } }
+        ensures same { lets_go result ≡ false → self.new ≡ self.old }
+        ensures memory { S.honest → memory_of S.content self.new.pages ≡ memory_of S.content self.old.pages }
+    {
+        let cached = self.caches.is_held(vpn);
+        collect_page(&mut self.pages, self.process, vpn, cached, spare)
+    }
+}
+
+/// A look at the page that is mapped at a number, if one is.
+fn collect_page<L: Ledger, S: SwapSlot>(
+    pages: &mut PageMap<StoredPage<L, S>>,
+    process: u32,
+    vpn: u32,
+    cached: bool,
+    spare: &mut Option<S>,
+) -> Collected<L, S>
+    requires { vpn < 2 ^ 20 }
+    ensures answer { CollectsAt process vpn cached spare.old spare.new result pages.old pages.new (page_at pages.old vpn) }
+    ensures same { lets_go result ≡ false → pages.new ≡ pages.old }
+{
+    let Some(place) = pages.place(vpn) else {
+        return Collected::NotLeaving;
+    };
+    pages.at_mut(place).collect(process, vpn, cached, spare)
+}

@@ -1,0 +1,43 @@
+ghost use Rattle.std.specs.Prelude.{◌≡◌, IfOk, IfErr};
+ghost use Rattle.paged_memory.specs.Leaving.{ChangesSaved, Frees, RefusesSaved};
+ghost use Rattle.paged_memory.specs.Paged.{memory_of};
+
+use crate::memory::PagedMemory;
+use frame_pool::Frame;
+use page_memory::PageMap;
+use page_store::{SaveRefusal, SavedJob, StoredPage};
+use std::sync::ledger::Ledger;
+use swap_slots::SwapSlot;
+
+impl<L: Ledger, S: SwapSlot> PagedMemory<L, S> {
+    /// Ends the save of a page: its frame comes free where it holds what was saved, and the device passed it. Else the
+    /// page is leaving again, as a changed one, with its slot.
+    pub fn saved(&mut self, job: SavedJob<S>) -> Result<Frame<L>, SaveRefusal<S>>
+        ensures freed { IfOk result (λ frame. ChangesSaved self.old.process job (Frees job frame) self.old.pages self.new.pages) }
+        ensures refused { IfErr result (RefusesSaved self.old.process job self.old.pages self.new.pages) }
+        ensures stays { self.new ≡ record self.old { pages = self.new.pages } }
+        ensures memory { S.honest → memory_of S.content self.new.pages ≡ memory_of S.content self.old.pages }
+    {
+        saved_page(&mut self.pages, self.process, job)
+    }
+}
+
+/// Ends the save of a page of this process.
+fn saved_page<L: Ledger, S: SwapSlot>(
+    pages: &mut PageMap<StoredPage<L, S>>,
+    process: u32,
+    job: SavedJob<S>,
+) -> Result<Frame<L>, SaveRefusal<S>>
+    ensures freed { IfOk result (λ frame. ChangesSaved process job (Frees job frame) pages.old pages.new) }
+    ensures refused { IfErr result (RefusesSaved process job pages.old pages.new) }
+    ensures memory { S.honest → memory_of S.content pages.new ≡ memory_of S.content pages.old }
+{
+    let vpn = job.vpn();
+    if job.process() != process || vpn >= 1 << 20 {
+        return Err(SaveRefusal::WrongPage(job));
+    }
+    let Some(place) = pages.place(vpn) else {
+        return Err(SaveRefusal::WrongPage(job));
+    };
+    pages.at_mut(place).saved(job)
+}

@@ -1,7 +1,7 @@
 -- The ranges of what a command line gives.
 use Rattle.std.specs.Prelude.{ℕ, List, ◌≤◌, ⊤}
 use Rattle.std.specs.Str.Parse.{digits_value}
-use Rattle.paged_cli.specs.Numbers.{IsUpTo}
+use Rattle.text_lines.specs.Numbers.{IsUpTo}
 use Rattle.paged_cli.specs.declared.arguments.Request.{Request}
 use Rattle.paged_cli.specs.declared.arguments.Request.TheVariants.{Asm, Flat, Clock}
 

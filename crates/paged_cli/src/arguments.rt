@@ -13,11 +13,11 @@ ghost use Rattle.paged_cli.specs.declared.arguments.Request.{Request};
 ghost use Rattle.paged_cli.specs.CommandLine.{Asks, IsAsked, IsLimit, IsUsageOrMemory, paged_app, bare_app, asm_app, flat_app, clock_app, file_rule, option_rule};
 
 use crate::fault::Fault;
-use crate::numbers::numeral;
 use clap::error::ErrorKind;
 use clap::{Arg, ArgMatches, Command};
 use std::alloc::{AllocError, Global};
 use std::convert::AsStr;
+use text_lines::numeral;
 
 /// What is asked for on the command line.
 #[derive(Clone, Copy, Debug, PartialEq, Eq)]

@@ -1,10 +1,10 @@
 //! `paged clock`: a replacement list that answers the lines of a script.
 
-use crate::clock_script::{ClockCall, call_on_line};
 use crate::fault::Fault;
 use crate::files::read_text;
 use clock_list::ClockList;
 use clock_policy::{Clock, Key, Refusal, Verdict};
+use scripts::{ClockCall, call_on_line};
 use std::io::Write;
 use std::rt::Files;
 use std::{fmt, io};

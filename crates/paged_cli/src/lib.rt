@@ -4,13 +4,11 @@
 mod arguments;
 mod asm_command;
 mod clock_command;
-mod clock_script;
 mod fault;
 mod files;
 mod flat_command;
 mod image_file;
 mod image_kind;
-mod numbers;
 mod process_lines;
 mod program;
 mod words_file;

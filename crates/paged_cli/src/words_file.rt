@@ -6,9 +6,8 @@ ghost use Rattle.std.specs.Str.Parse.{digits_value};
 ghost use Rattle.text_lines.specs.Text.{lines_of};
 ghost use Rattle.paged_cli.specs.WordsFile.{IsWordLine, AreWordLines, IsWordsFile, words_on, words_in};
 
-use crate::numbers::numeral;
 use std::alloc::{AllocError, Global};
-use text_lines::next_line;
+use text_lines::{next_line, numeral};
 use thiserror::Error;
 
 /// Why a file gives no words.

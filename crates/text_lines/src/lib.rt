@@ -1,10 +1,12 @@
-//! Text cut into lines and words, for whatever reads what a user wrote.
+//! Text cut into lines and words, and the numbers that words write, for whatever reads what a user wrote.
 #![tactic(auto)]
 
 mod lines;
+mod numbers;
 #[cfg(test)]
 mod tests;
 mod words;
 
 pub use lines::next_line;
+pub use numbers::{number, numeral};
 pub use words::next_word;

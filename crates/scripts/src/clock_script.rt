@@ -3,13 +3,13 @@
 ghost use Rattle.std.specs.Prelude.{◌≡◌, ◌↔◌, ◌∷◌, [], IfOk, IfSome, IsErr, None, Ok, Err, position};
 ghost use Rattle.std.specs.Option.{SomeIff};
 ghost use Rattle.text_lines.specs.Text.{words_of};
-ghost use Rattle.paged_cli.specs.ClockScript.{IsSkipped, IsWritten, IsKey, key_value, is_slash};
-ghost use Rattle.paged_cli.specs.declared.clock_script.ClockCall.{ClockCall};
+ghost use Rattle.scripts.specs.ClockScript.{IsWritten, IsKey, key_value, is_slash};
+ghost use Rattle.scripts.specs.Lines.{IsSkipped};
+ghost use Rattle.scripts.specs.declared.clock_script.ClockCall.{ClockCall};
 
-use crate::numbers::{number, numeral};
+use crate::lines::{BadLine, is_skipped};
 use clock_policy::{Bit, Key};
-use text_lines::next_word;
-use thiserror::Error;
+use text_lines::{next_word, number, numeral};
 
 /// The highest number of a process in a script.
 const MOST_PROCESS: u32 = 65_535;
@@ -30,20 +30,14 @@ pub enum ClockCall {
     Show,
 }
 
-/// A line that is no call.
-#[derive(Clone, Copy, Debug, PartialEq, Eq, Error)]
-#[error("bad line")]
-pub struct BadLine;
-
 /// The call that a line of a clock script stands for, if it is not skipped.
 pub fn call_on_line(line: &[u8]) -> Result<Option<ClockCall>, BadLine>
     ensures skipped { result ≡ Ok None ↔ IsSkipped line.now }
     ensures call { IfOk result (λ found. IfSome found (λ call. IsWritten call (words_of line.now))) }
     ensures bad { IsErr result → (call : ClockCall) → ¬ IsWritten call (words_of line.now) }
 {
-    match line.first() {
-        None | Some(b'#') => return Ok(None),
-        Some(_) => {}
+    if is_skipped(line) {
+        return Ok(None);
     }
     let Some((name, rest)) = next_word(line) else {
         return Err(BadLine);

@@ -1,6 +1,6 @@
 use Rattle.std.proofs.Common.{◌≡◌, ◌≤◌, length}
 use Rattle.std.specs.Str.Parse.{AllDigits, digits_value_after, digits_value}
-use Rattle.paged_cli.proofs.numbers.numeral.Given as goal
+use Rattle.text_lines.proofs.numbers.numeral.Given as goal
 
 -- The bytes that were passed are digits, and `value` is the number that they write.
 abbrev pub invariant-loop-first : goal.invariant-loop-first

@@ -1,17 +1,13 @@
 -- The lines of a clock script, and the calls of the replacement list that they stand for.
-use Rattle.std.specs.Prelude.{◌≡◌, ℕ, ◌==◌, List, [], ◌∷◌, ◌⊎◌, Bool, codes}
+use Rattle.std.specs.Prelude.{◌≡◌, ℕ, ◌==◌, List, [], ◌∷◌, Bool, codes}
 use Rattle.std.specs.List.{before_first, after_first}
 use Rattle.std.specs.Str.Parse.{digits_value}
 use Rattle.clock_policy.specs.declared.key.Key.{Key}
 use Rattle.clock_policy.specs.declared.answer.Bit.{Bit}
 use Rattle.clock_policy.specs.declared.answer.Bit.TheVariants.{Zero, One, Gone}
-use Rattle.paged_cli.specs.Numbers.{IsUpTo, IsNumber, number_value}
-use Rattle.paged_cli.specs.declared.clock_script.ClockCall.{ClockCall}
-use Rattle.paged_cli.specs.declared.clock_script.ClockCall.TheVariants.{Admit, Ask, Answer, Restore, Withdraw, Purge, Show}
-
--- an empty line, or one that begins with `#`
-abbrev pub IsSkipped : List ℕ → Type 0
-IsSkipped line = (line ≡ []) ⊎ ((rest : List ℕ) × (line ≡ 35 ∷ rest))
+use Rattle.text_lines.specs.Numbers.{IsUpTo, IsNumber, number_value}
+use Rattle.scripts.specs.declared.clock_script.ClockCall.{ClockCall}
+use Rattle.scripts.specs.declared.clock_script.ClockCall.TheVariants.{Admit, Ask, Answer, Restore, Withdraw, Purge, Show}
 
 abbrev pub is_slash : ℕ → Bool
 is_slash c = c == 47

@@ -3,7 +3,7 @@
 ghost use Rattle.std.specs.Prelude.{◌≡◌, ◌≤◌, ◌<◌, ◌+◌, ◌*◌, ◌^◌, length};
 ghost use Rattle.std.specs.Option.{SomeIff};
 ghost use Rattle.std.specs.Str.Parse.{IsNumeral, digits_value};
-ghost use Rattle.paged_cli.specs.Numbers.{IsUpTo, IsNumber, number_value};
+ghost use Rattle.text_lines.specs.Numbers.{IsUpTo, IsNumber, number_value};
 
 /// The number that digits write in a radix, where there is nothing but digits and it is at most `most`.
 /// No sign may stand before it.

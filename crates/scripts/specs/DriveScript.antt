@@ -1,0 +1,50 @@
+-- A drive script: the events that its lines write, and its first bad line.
+use Rattle.std.specs.Prelude.{◌≡◌, ◌⊎◌, ◌+◌, ℕ, List, [], ◌∷◌, ◌++◌, Option, Some, None, codes, length}
+use Rattle.text_lines.specs.Text.{words_of}
+use Rattle.text_lines.specs.Numbers.{IsNumber, number_value}
+use Rattle.flat_machine.specs.Ending.{kill_number}
+use Rattle.machine_core.specs.declared.event.Event.{Event}
+use Rattle.machine_core.specs.declared.event.Event.TheVariants.{Step, Notice, Sweep, Collect, Saved, PageIn, Kill, Purge}
+use Rattle.scripts.specs.Lines.{IsSkipped}
+
+-- a word that writes this number, of 32 bits
+abbrev pub Writes : List ℕ → ℕ → Type 0
+Writes word number = IsNumber 4294967295 word × (number ≡ number_value word)
+
+abbrev pub AreNameAndNumber : List ℕ → ℕ → List (List ℕ) → Type 0
+AreNameAndNumber name number words = (word : List ℕ) × (words ≡ name ∷ word ∷ []) × Writes word number
+
+abbrev pub AreNameAndNumbers : List ℕ → ℕ → ℕ → List (List ℕ) → Type 0
+AreNameAndNumbers name one two words = (first : List ℕ) × ((second : List ℕ) ×
+    (words ≡ name ∷ first ∷ second ∷ []) × Writes first one × Writes second two)
+
+-- the words with which an event is written
+abbrev pub IsWritten : Event → List (List ℕ) → Type 0
+IsWritten (Step process hart) words = AreNameAndNumbers (codes "step") process hart words
+IsWritten (Notice process hart) words = AreNameAndNumbers (codes "notice") process hart words
+IsWritten Sweep words = words ≡ codes "sweep" ∷ []
+IsWritten (Collect key) words = AreNameAndNumbers (codes "collect") key.process key.vpn words
+IsWritten (Saved key) words = AreNameAndNumbers (codes "saved") key.process key.vpn words
+IsWritten (PageIn key) words = AreNameAndNumbers (codes "pagein") key.process key.vpn words
+IsWritten (Kill process cause) words = AreNameAndNumbers (codes "kill") process (kill_number cause) words
+IsWritten (Purge process) words = AreNameAndNumber (codes "purge") process words
+
+-- a line is skipped, or writes one event
+abbrev pub Says : List ℕ → List Event → Type 0
+Says line events = (IsSkipped line × (events ≡ []))
+    ⊎ ((event : Event) × IsWritten event (words_of line) × (events ≡ event ∷ []))
+
+-- each line is skipped or writes an event; these are the events
+abbrev pub SayAll : List (List ℕ) → List Event → Type 0
+SayAll [] events = events ≡ []
+SayAll (line ∷ lines) events = (first : List Event) × ((others : List Event) ×
+    Says line first × SayAll lines others × (events ≡ first ++ others))
+
+abbrev pub IsBad : List ℕ → Type 0
+IsBad line = (events : List Event) → ¬ Says line events
+
+-- the lines say these events: all of them, or those above the first bad one, whose number is told, counted from 1
+abbrev pub IsScript : List (List ℕ) → List Event → Option ℕ → Type 0
+IsScript lines events None = SayAll lines events
+IsScript lines events (Some number) = (above : List (List ℕ)) × ((bad : List ℕ) × ((below : List (List ℕ)) ×
+    (lines ≡ above ++ bad ∷ below) × SayAll above events × IsBad bad × (number ≡ length above + 1)))

@@ -1,0 +1,4 @@
+pub mod ClockScript
+pub mod DriveScript
+pub mod Lines
+pub mod ReplyText

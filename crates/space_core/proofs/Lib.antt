@@ -2,3 +2,4 @@ pub mod StepMoves
 pub mod SliceMoves
 pub mod Standing
 pub mod Spaces
+pub mod PlainSteps

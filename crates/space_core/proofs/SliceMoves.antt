@@ -1,20 +1,26 @@
 -- A slice's instructions, one after another.
-use Rattle.std.proofs.Common.{◌≡◌, ◌+◌, ◌∷◌, [], ℕ, true, false, cond, List, slice_index_or, replicate, Option, Some, None, option_map, unwrap_or, inl, inr, ap, ◌∙◌, refl, sym, subst, arith}
-use Rattle.std.proofs.lemmas.Bool.Decides.{eqb_tells}
+use Rattle.std.proofs.Common.{◌≡◌, ◌<◌, ◌+◌, ◌-◌, ◌∷◌, [], ℕ, true, false, cond, List, slice_index_or, replicate, Option, Some, None, Result, Err, option_map, unwrap_or, inl, inr, ap, ◌∙◌, refl, sym, subst, arith}
+use Rattle.std.proofs.lemmas.Bool.Decides.{eqb_tells, leb_tells}
 use Rattle.std.proofs.lemmas.Option.{none-some}
-use Rattle.std.proofs.lemmas.List.{get_or_append_left}
+use Rattle.std.proofs.lemmas.List.{get_or_append_left, replicate-append-replicate}
 use Rattle.rv_exec.specs.Registers.{Registers}
 use Rattle.rv_exec.specs.Outcomes.{Used}
+use Rattle.env_calls.specs.declared.served.ServeStop.{ServeStop}
+use Rattle.env_calls.specs.declared.served.ServeStop.TheVariants as serve
+use Rattle.env_calls.specs.Serving.{UsesPages}
 use Rattle.env_calls.specs.Effect.{Effect, Runs, Yields, Spawns, Finishes, Exits, Traps}
 use Rattle.env_calls.specs.LiveLaws.{MarksAfter, marks_after}
 use Rattle.env_calls.specs.Step.{effect}
 use Rattle.flat_machine.specs.Process.{Process, hart_registers, is_live, may_step, stepped, after, flat_step, flat_run}
+use Rattle.flat_machine.specs.Refusals.{WantsMemory}
+use Rattle.flat_machine.specs.RunLaws.{flat_run_none, flat_run_append, one_more_step}
 use Rattle.flat_machine.specs.StepLaws.{both, goes_on, goes_on_alike, may, marked_within}
 use Rattle.space_core.specs.declared.progress.Progress.{Progress}
 use Rattle.space_core.specs.declared.progress.Progress.TheVariants as progress
 use Rattle.space_core.specs.declared.progress.SliceStop.{SliceStop}
-use Rattle.space_core.specs.Next.{next_effect, next_progress, next_pages, progress_of, stop_after}
-use Rattle.space_core.specs.Slices.{EachStep, PassesOn, Stops}
+use Rattle.space_core.specs.declared.progress.SliceStop.TheVariants as stop
+use Rattle.space_core.specs.Next.{next_effect, next_progress, next_pages, progress_of, stop_after, stop_before}
+use Rattle.space_core.specs.Slices.{EachStep, PassesOn, PassedOn, Stops}
 
 -- ---- what holds before each of so many
 
@@ -87,6 +93,52 @@ still_may hart p q what now step was goes =
     by_registers hart p q what (hart_registers hart p) now
     (ap (λ b. cond b (option_map (stepped hart p) (hart_registers hart p)) None) (sym now) ∙ step) was goes
 
+-- ---- so many pass on
+
+pub passed_none : (has marks : ℕ → Type 0) (hart : ℕ) (before : Process) → may_step hart before ≡ true → PassedOn has marks hart 0 before before
+passed_none has marks hart before now = record {
+  ran = flat_run_none before;
+  may = now;
+  on = each_none (PassesOn hart) hart before;
+  pages = each_none (λ at. Used has marks (next_pages hart at)) hart before;
+}
+
+-- and so many more
+each_append : (P : Process → Type 0) (hart n m : ℕ) (before between : Process) → EachStep P hart n before → flat_run (replicate n hart) before ≡ Some between → EachStep P hart m between → EachStep P hart (n + m) before
+each_append P hart n m before between first reached rest = λ done at h e.
+    elim (leb_tells n done) [
+      | inr below ↦ first done at (let less = below.1 in omega arith) e
+      | inl above ↦
+          let least = above.1 in
+          let sum : n + (done - n) ≡ done = omega arith in
+          rest (done - n) at (omega arith)
+          (sym (flat_run_append (replicate n hart) (replicate (done - n) hart) before between reached) ∙ ap (λ l. flat_run l before) (replicate-append-replicate n (done - n) hart) ∙ ap (λ k. flat_run (replicate k hart) before) sum ∙ e)
+    ]
+
+pub passed_more : (has marks had marked : ℕ → Type 0) (hart n m : ℕ) (before between after : Process)
+    → ((page : ℕ) → had page → has page) → ((page : ℕ) → marks page → marked page)
+    → PassedOn has marks hart n before between → PassedOn had marked hart m between after → PassedOn has marked hart (n + m) before after
+passed_more has marks had marked hart n m before between after was_had stays first rest = record {
+  ran = ap (λ l. flat_run l before) (sym (replicate-append-replicate n m hart)) ∙ flat_run_append (replicate n hart) (replicate m hart) before between first.ran ∙ rest.ran;
+  may = rest.may;
+  on = each_append (PassesOn hart) hart n m before between first.on first.ran rest.on;
+  pages = each_append (λ at. Used has marked (next_pages hart at)) hart n m before between
+      (pages_still has marks marked hart n before stays first.pages) first.ran
+      (each_map (λ at. Used had marked (next_pages hart at)) (λ at. Used has marked (next_pages hart at)) hart m between (λ at. used_on had marked has marked (next_pages hart at) was_had (λ _ h. h)) rest.pages);
+}
+
+-- and one more that passes on
+pub passed_step : (has marks had marked : ℕ → Type 0) (hart n : ℕ) (before between after : Process) (what : Progress)
+    → ((page : ℕ) → had page → has page) → ((page : ℕ) → marks page → marked page) → PassedOn has marks hart n before between
+    → flat_step hart between ≡ Some after → next_progress hart between ≡ Some what → stop_after what ≡ None → Used had marked (next_pages hart between)
+    → PassedOn has marked hart (n + 1) before after
+passed_step has marks had marked hart n before between after what was_had stays first step was goes used = record {
+  ran = one_more_step n hart before between after first.ran step;
+  may = still_may hart between after what first.may step was goes;
+  on = each_more (PassesOn hart) hart n before between first.on first.ran (passes_on hart between what was goes);
+  pages = pages_more has marks had marked hart n before between was_had stays first.pages first.ran used;
+}
+
 -- ---- the slice stops
 
 -- after an instruction
@@ -103,3 +155,12 @@ stops_after lacks hart budget ran before last left progress.HartDone why on reac
 stops_after lacks hart budget ran before last left progress.Ended why on reached was e =
     subst (λ s. Stops lacks hart budget before s (ran + 1) left) (ap (λ o. unwrap_or o why) e)
     (inr (record { earlier = ran; last = last; count = refl; on = on; reached = reached; was = was }))
+
+-- before an instruction that is not taken
+pub stops_short : (has marks had marked lacks lacked : ℕ → Type 0) (hart budget ran : ℕ) (before at left : Process) (stop : ServeStop) → ((page : ℕ) → lacked page → lacks page)
+    → PassedOn has marks hart ran before at → ran < budget → left ≡ at → UsesPages {A = Progress} had marked lacked (next_pages hart at) (Err stop)
+    → (◌≡◌ {A = Result Progress ServeStop} (Err stop) (Err serve.NoMemory) → WantsMemory hart at) → Stops lacks hart budget before (stop_before stop) ran left
+stops_short has marks had marked lacks lacked hart budget ran before at left (serve.Absent page) backwards passed fewer same uses wants =
+    subst (Stops lacks hart budget before (stop.Absent page) ran) (sym same) (record { fewer = fewer; on = passed.on; may = passed.may }, uses.0, backwards page uses.1)
+stops_short has marks had marked lacks lacked hart budget ran before at left serve.NoMemory backwards passed fewer same uses wants =
+    subst (Stops lacks hart budget before stop.NoMemory ran) (sym same) (record { fewer = fewer; on = passed.on; may = passed.may }, wants refl)

@@ -5,3 +5,4 @@ pub mod Settling
 pub mod Caches
 pub mod Slices
 pub mod StandsFor
+pub mod Plain

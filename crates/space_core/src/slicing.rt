@@ -62,7 +62,6 @@ impl Running {
     }
 
     /// The same of a hart that may step.
-    #[inline(never)]
     fn run_live<B: Bus>(&mut self, hart: u32, budget: u32, bus: &mut B) -> Slice
         requires may { may_step hart (with_memory self.old (B.memory bus.old)) ≡ true }
         ensures ran { let before = with_memory self.old (B.memory bus.old) in
@@ -74,11 +73,20 @@ impl Running {
             EachStep (λ at. Used (B.has bus.old) (B.marks bus.new) (next_pages hart at)) hart result.ran before }
         ensures kept { B.keeps bus.old bus.new }
     {
-        for ran in 0..budget {
+        let mut ran = 0;
+        'steps: loop {
+            ran += self.step_plainly(hart, budget - ran, bus);
+            if ran == budget {
+                return Slice {
+                    ran,
+                    stop: SliceStop::Budget,
+                };
+            }
             match self.step(hart, bus) {
                 Ok(progress) => {
+                    ran += 1;
                     if let Some(stop) = progress.stop() {
-                        return Slice { ran: ran + 1, stop };
+                        return Slice { ran, stop };
                     }
                 }
                 Err(stop) => {
@@ -88,10 +96,6 @@ impl Running {
                     };
                 }
             }
-        }
-        Slice {
-            ran: budget,
-            stop: SliceStop::Budget,
         }
     }
 }

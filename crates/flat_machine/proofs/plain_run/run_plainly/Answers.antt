@@ -1,4 +1,4 @@
-use Rattle.flat_machine.proofs.PlainSteps.{plain_none, plain_more}
+use Rattle.flat_machine.specs.PlainRunLaws.{plain_none, plain_more}
 use Rattle.flat_machine.proofs.plain_run.run_plainly.Goals as goal
 
 pub loop-done-init : goal.loop-done-init

@@ -1,68 +1,137 @@
-use Rattle.std.proofs.Common.{sym, ◌∙◌}
-use Rattle.rv_exec.specs.Outcomes.{Used}
+use Rattle.std.proofs.Common.{◌+◌, Some, arith, sym, ◌∙◌, subst}
 use Rattle.flat_machine.specs.Process.{Process}
-use Rattle.flat_machine.specs.RunLaws.{flat_run_none, one_more_step}
+use Rattle.flat_machine.specs.RunLaws.{one_more_step}
 use Rattle.space_core.specs.RunningValue.{with_memory}
-use Rattle.space_core.specs.Next.{next_pages}
-use Rattle.space_core.specs.Slices.{PassesOn}
-use Rattle.space_core.proofs.SliceMoves.{each_none, each_more, pages_more, pages_still, passes_on, still_may, stops_after}
+use Rattle.space_core.specs.Slices.{Stops}
+use Rattle.space_core.proofs.SliceMoves.{pages_more, pages_still, passed_none, passed_more, passed_step, stops_after, stops_short}
 use Rattle.space_core.proofs.running.Running.run_live.Goals as goal
 
-pub loop-ran-init : goal.loop-ran-init
-loop-ran-init g c =
+pub steps-init : goal.steps-init
+steps-init g c = record {
+  passed = passed_none (g.B.Bus.has c.args.bus.now) (g.B.Bus.marks c.args.bus.now) c.args.hart (with_memory c.args.self.now (g.B.Bus.memory c.args.bus.now)) c.requires.may;
+  within = omega arith;
+  kept = g.met.B.Bus.keeps_itself c.args.bus.now;
+}
+
+-- as many ran as were allowed
+
+pub returns-then-ran-budget-clause-ran : goal.returns-then-ran-budget-clause-ran
+returns-then-ran-budget-clause-ran g c =
     let before : Process = with_memory c.args.self.now (g.B.Bus.memory c.args.bus.now) in
-    record {
-      ran = flat_run_none before;
-      may = c.requires.may;
-      on = each_none (PassesOn c.args.hart) c.args.hart before;
-      pages = each_none (λ at. Used (g.B.Bus.has c.args.bus.now) (g.B.Bus.marks c.args.bus.now) (next_pages c.args.hart at)) c.args.hart before;
-      kept = g.met.B.Bus.keeps_itself c.args.bus.now;
-    }
+    let start : Process = with_memory c.steps.self (g.B.Bus.memory c.steps.bus) in
+    let at : Process = with_memory c.step_plainly-ran.new.self (g.B.Bus.memory c.step_plainly-ran.new.bus) in
+    let kept = g.met.B.Bus.keeps_on c.args.bus.now c.steps.bus c.step_plainly-ran.new.bus c.steps.invariant.kept c.step_plainly-ran.ensures.kept in
+    let passed = passed_more (g.B.Bus.has c.args.bus.now) (g.B.Bus.marks c.steps.bus) (g.B.Bus.has c.steps.bus) (g.B.Bus.marks c.step_plainly-ran.new.bus) c.args.hart c.steps.ran c.step_plainly-ran.result before start at
+    (λ page h. g.met.B.Bus.had_before _ _ page c.steps.invariant.kept h) (λ page h. g.met.B.Bus.marked_on _ _ page c.step_plainly-ran.ensures.kept h) c.steps.invariant.passed c.step_plainly-ran.ensures.passed in
+    passed.ran
+
+pub returns-then-ran-budget-clause-stop : goal.returns-then-ran-budget-clause-stop
+returns-then-ran-budget-clause-stop g c =
+    let before : Process = with_memory c.args.self.now (g.B.Bus.memory c.args.bus.now) in
+    let start : Process = with_memory c.steps.self (g.B.Bus.memory c.steps.bus) in
+    let at : Process = with_memory c.step_plainly-ran.new.self (g.B.Bus.memory c.step_plainly-ran.new.bus) in
+    let kept = g.met.B.Bus.keeps_on c.args.bus.now c.steps.bus c.step_plainly-ran.new.bus c.steps.invariant.kept c.step_plainly-ran.ensures.kept in
+    let passed = passed_more (g.B.Bus.has c.args.bus.now) (g.B.Bus.marks c.steps.bus) (g.B.Bus.has c.steps.bus) (g.B.Bus.marks c.step_plainly-ran.new.bus) c.args.hart c.steps.ran c.step_plainly-ran.result before start at
+    (λ page h. g.met.B.Bus.had_before _ _ page c.steps.invariant.kept h) (λ page h. g.met.B.Bus.marked_on _ _ page c.step_plainly-ran.ensures.kept h) c.steps.invariant.passed c.step_plainly-ran.ensures.passed in
+    (c.if-ran-budget.true, (λ _. passed.may), passed.on)
+
+pub returns-then-ran-budget-clause-pages : goal.returns-then-ran-budget-clause-pages
+returns-then-ran-budget-clause-pages g c =
+    let before : Process = with_memory c.args.self.now (g.B.Bus.memory c.args.bus.now) in
+    let start : Process = with_memory c.steps.self (g.B.Bus.memory c.steps.bus) in
+    let at : Process = with_memory c.step_plainly-ran.new.self (g.B.Bus.memory c.step_plainly-ran.new.bus) in
+    let kept = g.met.B.Bus.keeps_on c.args.bus.now c.steps.bus c.step_plainly-ran.new.bus c.steps.invariant.kept c.step_plainly-ran.ensures.kept in
+    let passed = passed_more (g.B.Bus.has c.args.bus.now) (g.B.Bus.marks c.steps.bus) (g.B.Bus.has c.steps.bus) (g.B.Bus.marks c.step_plainly-ran.new.bus) c.args.hart c.steps.ran c.step_plainly-ran.result before start at
+    (λ page h. g.met.B.Bus.had_before _ _ page c.steps.invariant.kept h) (λ page h. g.met.B.Bus.marked_on _ _ page c.step_plainly-ran.ensures.kept h) c.steps.invariant.passed c.step_plainly-ran.ensures.passed in
+    passed.pages
+
+-- it stops after an instruction
 
 pub returns-in-Some-clause-ran : goal.returns-in-Some-clause-ran
 returns-in-Some-clause-ran g c =
     let before : Process = with_memory c.args.self.now (g.B.Bus.memory c.args.bus.now) in
-    let at : Process = with_memory c.loop-ran.self (g.B.Bus.memory c.loop-ran.bus) in
+    let start : Process = with_memory c.steps.self (g.B.Bus.memory c.steps.bus) in
+    let at : Process = with_memory c.step_plainly-ran.new.self (g.B.Bus.memory c.step_plainly-ran.new.bus) in
+    let kept = g.met.B.Bus.keeps_on c.args.bus.now c.steps.bus c.step_plainly-ran.new.bus c.steps.invariant.kept c.step_plainly-ran.ensures.kept in
+    let passed = passed_more (g.B.Bus.has c.args.bus.now) (g.B.Bus.marks c.steps.bus) (g.B.Bus.has c.steps.bus) (g.B.Bus.marks c.step_plainly-ran.new.bus) c.args.hart c.steps.ran c.step_plainly-ran.result before start at
+    (λ page h. g.met.B.Bus.had_before _ _ page c.steps.invariant.kept h) (λ page h. g.met.B.Bus.marked_on _ _ page c.step_plainly-ran.ensures.kept h) c.steps.invariant.passed c.step_plainly-ran.ensures.passed in
     let left : Process = with_memory c.step.new.self (g.B.Bus.memory c.step.new.bus) in
-    one_more_step c.loop-ran.ran c.args.hart before at left c.loop-ran.invariant.ran c.in-Ok.ensures.ok
+    one_more_step (c.steps.ran + c.step_plainly-ran.result) c.args.hart before at left passed.ran c.in-Ok.ensures.ok
 
 pub returns-in-Some-clause-stop : goal.returns-in-Some-clause-stop
 returns-in-Some-clause-stop g c =
     let before : Process = with_memory c.args.self.now (g.B.Bus.memory c.args.bus.now) in
-    let at : Process = with_memory c.loop-ran.self (g.B.Bus.memory c.loop-ran.bus) in
+    let start : Process = with_memory c.steps.self (g.B.Bus.memory c.steps.bus) in
+    let at : Process = with_memory c.step_plainly-ran.new.self (g.B.Bus.memory c.step_plainly-ran.new.bus) in
+    let kept = g.met.B.Bus.keeps_on c.args.bus.now c.steps.bus c.step_plainly-ran.new.bus c.steps.invariant.kept c.step_plainly-ran.ensures.kept in
+    let passed = passed_more (g.B.Bus.has c.args.bus.now) (g.B.Bus.marks c.steps.bus) (g.B.Bus.has c.steps.bus) (g.B.Bus.marks c.step_plainly-ran.new.bus) c.args.hart c.steps.ran c.step_plainly-ran.result before start at
+    (λ page h. g.met.B.Bus.had_before _ _ page c.steps.invariant.kept h) (λ page h. g.met.B.Bus.marked_on _ _ page c.step_plainly-ran.ensures.kept h) c.steps.invariant.passed c.step_plainly-ran.ensures.passed in
     let left : Process = with_memory c.step.new.self (g.B.Bus.memory c.step.new.bus) in
-    stops_after (g.B.Bus.lacks c.args.bus.now) c.args.hart c.args.budget c.loop-ran.ran before at left c.in-Ok.progress c.in-Some.stop
-    c.loop-ran.invariant.on c.loop-ran.invariant.ran c.in-Ok.ensures.progress (sym c.stop.ensures ∙ c.in-Some.is)
+    stops_after (g.B.Bus.lacks c.args.bus.now) c.args.hart c.args.budget (c.steps.ran + c.step_plainly-ran.result) before at left c.in-Ok.progress c.in-Some.stop
+    passed.on passed.ran c.in-Ok.ensures.progress (sym c.stop.ensures ∙ c.in-Some.is)
 
 pub returns-in-Some-clause-pages : goal.returns-in-Some-clause-pages
 returns-in-Some-clause-pages g c =
     let before : Process = with_memory c.args.self.now (g.B.Bus.memory c.args.bus.now) in
-    let at : Process = with_memory c.loop-ran.self (g.B.Bus.memory c.loop-ran.bus) in
-    pages_more (g.B.Bus.has c.args.bus.now) (g.B.Bus.marks c.loop-ran.bus) (g.B.Bus.has c.loop-ran.bus) (g.B.Bus.marks c.step.new.bus) c.args.hart c.loop-ran.ran before at
-    (λ page h. g.met.B.Bus.had_before _ _ page c.loop-ran.invariant.kept h)
-    (λ page h. g.met.B.Bus.marked_on _ _ page c.step.ensures.kept h)
-    c.loop-ran.invariant.pages c.loop-ran.invariant.ran c.in-Ok.ensures.pages
+    let start : Process = with_memory c.steps.self (g.B.Bus.memory c.steps.bus) in
+    let at : Process = with_memory c.step_plainly-ran.new.self (g.B.Bus.memory c.step_plainly-ran.new.bus) in
+    let kept = g.met.B.Bus.keeps_on c.args.bus.now c.steps.bus c.step_plainly-ran.new.bus c.steps.invariant.kept c.step_plainly-ran.ensures.kept in
+    let passed = passed_more (g.B.Bus.has c.args.bus.now) (g.B.Bus.marks c.steps.bus) (g.B.Bus.has c.steps.bus) (g.B.Bus.marks c.step_plainly-ran.new.bus) c.args.hart c.steps.ran c.step_plainly-ran.result before start at
+    (λ page h. g.met.B.Bus.had_before _ _ page c.steps.invariant.kept h) (λ page h. g.met.B.Bus.marked_on _ _ page c.step_plainly-ran.ensures.kept h) c.steps.invariant.passed c.step_plainly-ran.ensures.passed in
+    pages_more (g.B.Bus.has c.args.bus.now) (g.B.Bus.marks c.step_plainly-ran.new.bus) (g.B.Bus.has c.step_plainly-ran.new.bus) (g.B.Bus.marks c.step.new.bus) c.args.hart (c.steps.ran + c.step_plainly-ran.result) before at
+    (λ page h. g.met.B.Bus.had_before _ _ page kept h) (λ page h. g.met.B.Bus.marked_on _ _ page c.step.ensures.kept h) passed.pages passed.ran c.in-Ok.ensures.pages
+
+-- it goes on
+
+pub steps-preserved : goal.steps-preserved
+steps-preserved g c =
+    let before : Process = with_memory c.args.self.now (g.B.Bus.memory c.args.bus.now) in
+    let start : Process = with_memory c.steps.self (g.B.Bus.memory c.steps.bus) in
+    let at : Process = with_memory c.step_plainly-ran.new.self (g.B.Bus.memory c.step_plainly-ran.new.bus) in
+    let kept = g.met.B.Bus.keeps_on c.args.bus.now c.steps.bus c.step_plainly-ran.new.bus c.steps.invariant.kept c.step_plainly-ran.ensures.kept in
+    let passed = passed_more (g.B.Bus.has c.args.bus.now) (g.B.Bus.marks c.steps.bus) (g.B.Bus.has c.steps.bus) (g.B.Bus.marks c.step_plainly-ran.new.bus) c.args.hart c.steps.ran c.step_plainly-ran.result before start at
+    (λ page h. g.met.B.Bus.had_before _ _ page c.steps.invariant.kept h) (λ page h. g.met.B.Bus.marked_on _ _ page c.step_plainly-ran.ensures.kept h) c.steps.invariant.passed c.step_plainly-ran.ensures.passed in
+    let left : Process = with_memory c.step.new.self (g.B.Bus.memory c.step.new.bus) in
+    record {
+      passed = passed_step (g.B.Bus.has c.args.bus.now) (g.B.Bus.marks c.step_plainly-ran.new.bus) (g.B.Bus.has c.step_plainly-ran.new.bus) (g.B.Bus.marks c.step.new.bus) c.args.hart (c.steps.ran + c.step_plainly-ran.result) before at left c.in-Ok.progress
+          (λ page h. g.met.B.Bus.had_before _ _ page kept h) (λ page h. g.met.B.Bus.marked_on _ _ page c.step.ensures.kept h) passed
+          c.in-Ok.ensures.ok c.in-Ok.ensures.progress (sym c.stop.ensures ∙ c.in_default.is) c.in-Ok.ensures.pages;
+      within = omega arith;
+      kept = g.met.B.Bus.keeps_on c.args.bus.now c.step_plainly-ran.new.bus c.step.new.bus kept c.step.ensures.kept;
+    }
+
+-- it stops before an instruction
+
+pub returns-in-Err-clause-ran : goal.returns-in-Err-clause-ran
+returns-in-Err-clause-ran g c =
+    let before : Process = with_memory c.args.self.now (g.B.Bus.memory c.args.bus.now) in
+    let start : Process = with_memory c.steps.self (g.B.Bus.memory c.steps.bus) in
+    let at : Process = with_memory c.step_plainly-ran.new.self (g.B.Bus.memory c.step_plainly-ran.new.bus) in
+    let kept = g.met.B.Bus.keeps_on c.args.bus.now c.steps.bus c.step_plainly-ran.new.bus c.steps.invariant.kept c.step_plainly-ran.ensures.kept in
+    let passed = passed_more (g.B.Bus.has c.args.bus.now) (g.B.Bus.marks c.steps.bus) (g.B.Bus.has c.steps.bus) (g.B.Bus.marks c.step_plainly-ran.new.bus) c.args.hart c.steps.ran c.step_plainly-ran.result before start at
+    (λ page h. g.met.B.Bus.had_before _ _ page c.steps.invariant.kept h) (λ page h. g.met.B.Bus.marked_on _ _ page c.step_plainly-ran.ensures.kept h) c.steps.invariant.passed c.step_plainly-ran.ensures.passed in
+    passed.ran ∙ (λ i. Some (with_memory (sym c.in-Err.ensures.err i) (sym c.in-Err.ensures.memory_stays i)))
+
+pub returns-in-Err-clause-stop : goal.returns-in-Err-clause-stop
+returns-in-Err-clause-stop g c =
+    let before : Process = with_memory c.args.self.now (g.B.Bus.memory c.args.bus.now) in
+    let start : Process = with_memory c.steps.self (g.B.Bus.memory c.steps.bus) in
+    let at : Process = with_memory c.step_plainly-ran.new.self (g.B.Bus.memory c.step_plainly-ran.new.bus) in
+    let kept = g.met.B.Bus.keeps_on c.args.bus.now c.steps.bus c.step_plainly-ran.new.bus c.steps.invariant.kept c.step_plainly-ran.ensures.kept in
+    let passed = passed_more (g.B.Bus.has c.args.bus.now) (g.B.Bus.marks c.steps.bus) (g.B.Bus.has c.steps.bus) (g.B.Bus.marks c.step_plainly-ran.new.bus) c.args.hart c.steps.ran c.step_plainly-ran.result before start at
+    (λ page h. g.met.B.Bus.had_before _ _ page c.steps.invariant.kept h) (λ page h. g.met.B.Bus.marked_on _ _ page c.step_plainly-ran.ensures.kept h) c.steps.invariant.passed c.step_plainly-ran.ensures.passed in
+    let left : Process = with_memory c.step.new.self (g.B.Bus.memory c.step.new.bus) in
+    subst (λ why. Stops (g.B.Bus.lacks c.args.bus.now) c.args.hart c.args.budget before why (c.steps.ran + c.step_plainly-ran.result) left) (sym c.stop_before.ensures)
+    (stops_short (g.B.Bus.has c.args.bus.now) (g.B.Bus.marks c.step_plainly-ran.new.bus) (g.B.Bus.has c.step_plainly-ran.new.bus) (g.B.Bus.marks c.step.new.bus) (g.B.Bus.lacks c.args.bus.now) (g.B.Bus.lacks c.step_plainly-ran.new.bus) c.args.hart c.args.budget (c.steps.ran + c.step_plainly-ran.result) before at left c.in-Err.stop
+    (λ page h. g.met.B.Bus.lacked_before _ _ page kept h) passed (omega arith) (λ i. with_memory (c.in-Err.ensures.err i) (c.in-Err.ensures.memory_stays i)) c.in-Err.ensures.pages c.in-Err.ensures.no_memory)
 
 pub returns-in-Err-clause-pages : goal.returns-in-Err-clause-pages
 returns-in-Err-clause-pages g c =
     let before : Process = with_memory c.args.self.now (g.B.Bus.memory c.args.bus.now) in
-    pages_still (g.B.Bus.has c.args.bus.now) (g.B.Bus.marks c.loop-ran.bus) (g.B.Bus.marks c.step.new.bus) c.args.hart c.loop-ran.ran before
-    (λ page h. g.met.B.Bus.marked_on _ _ page c.step.ensures.kept h)
-    c.loop-ran.invariant.pages
-
-pub loop-ran-preserved : goal.loop-ran-preserved
-loop-ran-preserved g c =
-    let before : Process = with_memory c.args.self.now (g.B.Bus.memory c.args.bus.now) in
-    let at : Process = with_memory c.loop-ran.self (g.B.Bus.memory c.loop-ran.bus) in
-    let left : Process = with_memory c.step.new.self (g.B.Bus.memory c.step.new.bus) in
-    let goes = sym c.stop.ensures ∙ c.in_default.is in
-    record {
-      ran = one_more_step c.loop-ran.ran c.args.hart before at left c.loop-ran.invariant.ran c.in-Ok.ensures.ok;
-      may = still_may c.args.hart at left c.in-Ok.progress c.loop-ran.invariant.may c.in-Ok.ensures.ok c.in-Ok.ensures.progress goes;
-      on = each_more (PassesOn c.args.hart) c.args.hart c.loop-ran.ran before at c.loop-ran.invariant.on c.loop-ran.invariant.ran (passes_on c.args.hart at c.in-Ok.progress c.in-Ok.ensures.progress goes);
-      pages = pages_more (g.B.Bus.has c.args.bus.now) (g.B.Bus.marks c.loop-ran.bus) (g.B.Bus.has c.loop-ran.bus) (g.B.Bus.marks c.step.new.bus) c.args.hart c.loop-ran.ran before at
-          (λ page h. g.met.B.Bus.had_before _ _ page c.loop-ran.invariant.kept h)
-          (λ page h. g.met.B.Bus.marked_on _ _ page c.step.ensures.kept h)
-          c.loop-ran.invariant.pages c.loop-ran.invariant.ran c.in-Ok.ensures.pages;
-      kept = g.met.B.Bus.keeps_on c.args.bus.now c.loop-ran.bus c.step.new.bus c.loop-ran.invariant.kept c.step.ensures.kept;
-    }
+    let start : Process = with_memory c.steps.self (g.B.Bus.memory c.steps.bus) in
+    let at : Process = with_memory c.step_plainly-ran.new.self (g.B.Bus.memory c.step_plainly-ran.new.bus) in
+    let kept = g.met.B.Bus.keeps_on c.args.bus.now c.steps.bus c.step_plainly-ran.new.bus c.steps.invariant.kept c.step_plainly-ran.ensures.kept in
+    let passed = passed_more (g.B.Bus.has c.args.bus.now) (g.B.Bus.marks c.steps.bus) (g.B.Bus.has c.steps.bus) (g.B.Bus.marks c.step_plainly-ran.new.bus) c.args.hart c.steps.ran c.step_plainly-ran.result before start at
+    (λ page h. g.met.B.Bus.had_before _ _ page c.steps.invariant.kept h) (λ page h. g.met.B.Bus.marked_on _ _ page c.step_plainly-ran.ensures.kept h) c.steps.invariant.passed c.step_plainly-ran.ensures.passed in
+    pages_still (g.B.Bus.has c.args.bus.now) (g.B.Bus.marks c.step_plainly-ran.new.bus) (g.B.Bus.marks c.step.new.bus) c.args.hart (c.steps.ran + c.step_plainly-ran.result) before
+    (λ page h. g.met.B.Bus.marked_on _ _ page c.step.ensures.kept h) passed.pages

@@ -15,3 +15,4 @@ pub mod MovesLaws
 pub mod CollectingLaws
 pub mod SavingLaws
 pub mod ReturningLaws
+pub mod FillingLaws

@@ -9,3 +9,4 @@ pub mod Counting
 pub mod CountingLaws
 pub mod HartMemory
 pub mod HartMemoryLaws
+pub mod Filling

@@ -6,6 +6,7 @@ mod bringing_back;
 mod caches;
 mod collecting;
 mod eviction;
+mod filling;
 mod growth;
 mod hart_access;
 mod hart_memory;
@@ -15,5 +16,6 @@ mod reading;
 mod saving;
 mod writing;
 
+pub use filling::PageInFault;
 pub use hart_memory::{HartMemory, Opening};
 pub use memory::PagedMemory;

@@ -1,0 +1,61 @@
+-- A page of a process is brought into a frame.
+use Rattle.std.specs.Prelude.{◌≡◌, ℕ, Bool, false, IsFalse, Option, Some, None, List}
+use Rattle.frame_pool.specs.FrameValue.{FrameValue}
+use Rattle.swap_slots.specs.Slot.{Rose}
+use Rattle.page_store.specs.PageValue.{PageValue, Place, Fresh, Away, content, is_unsaved, Backed}
+use Rattle.page_store.specs.Moves.{Filled, IfAbsent, IfAway, IfResident}
+use Rattle.page_store.specs.declared.state.Keeping.{Keeping}
+use Rattle.page_store.specs.declared.state.Keeping.TheVariants.{NoSlot, Unsaved, Saved}
+use Rattle.sv32_table.specs.EntryAt.{has_table}
+use Rattle.paged_memory.specs.Paged.{page_at}
+use Rattle.paged_memory.specs.Calls.{ChangesBy}
+use Rattle.paged_memory.specs.declared.filling.PageInFault.{PageInFault}
+use Rattle.paged_memory.specs.declared.filling.PageInFault.TheVariants.{NotAbsent, Device, NoMemory}
+
+module _ {S : Type 0} where
+  -- a page is mapped, and has neither a frame nor was given up
+  abbrev pub IsAbsent : Option (PageValue S) → Type 0
+  IsAbsent (Some page) = IfAbsent page.place (Unit {0}) (λ _. Unit {0})
+  IsAbsent None = ⊥
+
+  -- a resident page that has not changed since it was brought in, as its slot tells
+  abbrev pub IsUnchanged : PageValue S → Type 0
+  IsUnchanged page = IfResident page.place (λ frame slot. IsFalse (is_unsaved slot))
+
+  -- where a page is that gives up its frame unchanged
+  abbrev pub dropped : Keeping S → Option (Place S)
+  dropped NoSlot = Some Fresh
+  dropped (Unsaved slot) = None
+  dropped (Saved slot) = Some (Away slot)
+
+  module _ (held : S → List ℕ) (honest : Type 0) where
+    -- a page in the frame that it was brought into: where slots are honest it shows what it showed, and what backs it
+    pub record BroughtIn (frame : FrameValue) (old new : PageValue S) : Type 0 where
+      pub filled : Filled frame old new
+      pub origin : new.origin ≡ old.origin
+      pub content : honest → content held new ≡ content held old
+      pub backed : honest → Backed held false new
+
+    -- a page that was not brought in: it is as it began, or in its slot, as it was
+    pub record StaysAbsent (old new : PageValue S) : Type 0 where
+      pub origin : new.origin ≡ old.origin
+      pub place : IfAbsent old.place (new.place ≡ Fresh) (λ _. IfAway new.place (λ _. Unit {0}))
+      pub content : honest → content held new ≡ content held old
+
+    -- a page that was not loaded from its slot
+    pub record FailsToLoad (failures : S → ℕ) (old new : PageValue S) : Type 0 where
+      pub stays : StaysAbsent old new
+      pub failed : IfAway old.place (λ slot. IfAway new.place (λ after. Rose (failures slot) (failures after)))
+
+    -- why an absent page was not brought in, where `tabled` says whether it has a table, with the frame that is handed back
+    abbrev pub RefusesAbsent : (S → ℕ) → FrameValue → Bool → PageValue S → PageValue S → FrameValue → PageInFault → Type 0
+    RefusesAbsent failures frame tabled old new back NotAbsent = ⊥
+    RefusesAbsent failures frame tabled old new back Device = FailsToLoad failures old new × (back.number ≡ frame.number)
+    RefusesAbsent failures frame tabled old new back NoMemory = (tabled ≡ false) × (StaysAbsent old new × (back.number ≡ frame.number))
+
+    -- why a page was not brought in, with the frame that is handed back
+    abbrev pub RefusesPageIn : (S → ℕ) → FrameValue → List (ℕ × PageValue S) → List (ℕ × PageValue S) → List (List ℕ) → ℕ → FrameValue → PageInFault → Type 0
+    RefusesPageIn failures frame old new tables vpn back NotAbsent = (¬ IsAbsent (page_at old vpn)) × ((new ≡ old) × (back ≡ frame))
+    RefusesPageIn failures frame old new tables vpn back Device = ChangesBy (FailsToLoad failures) old new vpn × (back.number ≡ frame.number)
+    RefusesPageIn failures frame old new tables vpn back NoMemory =
+        (has_table tables vpn ≡ false) × (ChangesBy StaysAbsent old new vpn × (back.number ≡ frame.number))

@@ -1,0 +1,126 @@
+ghost use Rattle.std.specs.Prelude.{◌≡◌, ◌<◌, ◌^◌, true, false, Some, IfSome, OnOk, OnErr, IfErr};
+ghost use Rattle.std.specs.Bool.{OnTrue, OnFalse};
+ghost use Rattle.sv32_table.specs.Entry.{page_entry};
+ghost use Rattle.sv32_table.specs.EntryAt.{has_table, ChangesEntry, AddsTable};
+ghost use Rattle.paged_memory.specs.Paged.{page_at, memory_of};
+ghost use Rattle.paged_memory.specs.Calls.{ChangesBy};
+ghost use Rattle.page_store.specs.PageValue.{content, Backed};
+ghost use Rattle.page_store.specs.Moves.{IfResident};
+ghost use Rattle.paged_memory.specs.Filling.{IsAbsent, IsUnchanged, dropped, BroughtIn, RefusesAbsent, RefusesPageIn};
+
+use crate::eviction::state_in;
+use crate::memory::PagedMemory;
+use frame_pool::Frame;
+use page_memory::PageMap;
+use page_store::{Collected, PageState, StoredPage};
+use std::sync::ledger::Ledger;
+use sv32_table::PageTables;
+use swap_slots::SwapSlot;
+use thiserror::Error;
+
+/// Why a page was not brought in, in the order of their numbers.
+#[derive(Clone, Copy, PartialEq, Eq, Debug, Error)]
+pub enum PageInFault {
+    /// It is not mapped, has a frame, or was given up.
+    #[error("the page is not absent")]
+    NotAbsent,
+    #[error("the device failed")]
+    Device,
+    /// There is no memory for the page's table.
+    #[error("out of memory")]
+    NoMemory,
+}
+
+impl<L: Ledger, S: SwapSlot> PagedMemory<L, S> {
+    /// Brings a page into a frame, from its slot or as it began, and maps it with its rights, as used and not changed.
+    ///
+    /// A refusal hands the frame back and leaves the page where it was. It takes memory, and can be refused for want of
+    /// it, only where the page has no table yet.
+    pub fn page_in(&mut self, vpn: u32, frame: Frame<L>) -> Result<(), (Frame<L>, PageInFault)>
+        requires { vpn < 2 ^ 20 }
+        ensures ok { OnOk result (ChangesBy (BroughtIn S.content S.honest frame) self.old.pages self.new.pages vpn) }
+        ensures refused { IfErr result (λ back. RefusesPageIn S.content S.honest S.failures frame self.old.pages self.new.pages self.old.tables vpn back.0 back.1) }
+        ensures memory { S.honest → memory_of S.content self.new.pages ≡ memory_of S.content self.old.pages }
+        ensures entries { OnOk result (IfSome (page_at self.old.pages vpn) (λ page. ChangesEntry self.old.tables self.new.tables vpn (page_entry frame.number page.origin.rights true false))) }
+        ensures tables { OnOk result (AddsTable self.old.tables self.new.tables vpn) }
+        ensures unmapped { OnErr result (self.new.tables ≡ self.old.tables) }
+        ensures process { self.new.process ≡ self.old.process }
+        ensures caches { self.new.caches ≡ self.old.caches }
+    {
+        bring_in(&mut self.pages, &mut self.tables, vpn, frame)
+    }
+}
+
+/// The same of the pages and tables alone.
+fn bring_in<L: Ledger, S: SwapSlot>(
+    pages: &mut PageMap<StoredPage<L, S>>,
+    tables: &mut PageTables,
+    vpn: u32,
+    frame: Frame<L>,
+) -> Result<(), (Frame<L>, PageInFault)>
+    requires { vpn < 2 ^ 20 }
+    ensures ok { OnOk result (ChangesBy (BroughtIn S.content S.honest frame) pages.old pages.new vpn) }
+    ensures refused { IfErr result (λ back. RefusesPageIn S.content S.honest S.failures frame pages.old pages.new tables.old vpn back.0 back.1) }
+    ensures entries { OnOk result (IfSome (page_at pages.old vpn) (λ page. ChangesEntry tables.old tables.new vpn (page_entry frame.number page.origin.rights true false))) }
+    ensures tables { OnOk result (AddsTable tables.old tables.new vpn) }
+    ensures unmapped { OnErr result (tables.new ≡ tables.old) }
+{
+    if !is_absent(pages, vpn) {
+        return Err((frame, PageInFault::NotAbsent));
+    }
+    let Some(place) = pages.place(vpn) else {
+        unreachable!()
+    };
+    bring_page_in(pages.at_mut(place), tables, vpn, frame)
+}
+
+/// Whether a page is mapped, has no frame and was not given up.
+fn is_absent<L: Ledger, S: SwapSlot>(pages: &PageMap<StoredPage<L, S>>, vpn: u32) -> bool
+    requires { vpn < 2 ^ 20 }
+    ensures absent { OnTrue result (IsAbsent (page_at pages.now vpn)) }
+    ensures other { OnFalse result (¬ IsAbsent (page_at pages.now vpn)) }
+{
+    matches!(
+        state_in(pages, vpn),
+        Some(PageState::Fresh) | Some(PageState::Away)
+    )
+}
+
+/// Brings an absent page into a frame, and maps it.
+fn bring_page_in<L: Ledger, S: SwapSlot>(
+    page: &mut StoredPage<L, S>,
+    tables: &mut PageTables,
+    vpn: u32,
+    frame: Frame<L>,
+) -> Result<(), (Frame<L>, PageInFault)>
+    requires vpn { vpn < 2 ^ 20 }
+    requires absent { IsAbsent (Some page.old) }
+    ensures ok { OnOk result (BroughtIn S.content S.honest frame page.old page.new) }
+    ensures refused { IfErr result (λ back. RefusesAbsent S.content S.honest S.failures frame (has_table tables.old vpn) page.old page.new back.0 back.1) }
+    ensures entries { OnOk result (ChangesEntry tables.old tables.new vpn (page_entry frame.number page.old.origin.rights true false)) }
+    ensures tables { OnOk result (AddsTable tables.old tables.new vpn) }
+    ensures unmapped { OnErr result (tables.new ≡ tables.old) }
+{
+    let number = frame.number();
+    if let Err((frame, _)) = page.fill(frame) {
+        return Err((frame, PageInFault::Device));
+    }
+    match tables.map(vpn, number, page.rights(), true) {
+        Ok(()) => Ok(()),
+        Err(_) => Err((unfill(page), PageInFault::NoMemory)),
+    }
+}
+
+/// Takes the frame back from a page that was just brought into it.
+fn unfill<L: Ledger, S: SwapSlot>(page: &mut StoredPage<L, S>) -> Frame<L>
+    requires { IsUnchanged page.old }
+    ensures place { IfResident page.old.place (λ frame slot. (result ≡ frame) × (Some page.new.place ≡ dropped slot)) }
+    ensures content { Backed S.content false page.old → content S.content page.new ≡ content S.content page.old }
+    ensures origin { page.new.origin ≡ page.old.origin }
+{
+    let _ = page.leave(false);
+    match page.collect(0, 0, false, &mut None) {
+        Collected::Clean(frame) => frame,
+        _ => unreachable!(),
+    }
+}

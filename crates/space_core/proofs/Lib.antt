@@ -3,3 +3,4 @@ pub mod SliceMoves
 pub mod Standing
 pub mod Spaces
 pub mod PlainSteps
+pub mod SliceLaws

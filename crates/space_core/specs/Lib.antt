@@ -6,3 +6,4 @@ pub mod Caches
 pub mod Slices
 pub mod StandsFor
 pub mod Plain
+pub mod Slicing

@@ -8,6 +8,7 @@ mod running;
 mod settling;
 mod slicing;
 mod space;
+mod space_slice;
 mod stepping;
 
 pub use progress::{Progress, Slice, SliceStop};

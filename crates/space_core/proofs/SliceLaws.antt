@@ -1,0 +1,113 @@
+-- What a slice of a process on paged memory leaves.
+use Rattle.std.proofs.Common.{◌≡◌, ◌++◌, ◌∷◌, ◌≤◌, [], ℕ, zero, suc, Bool, true, false, cond, List, length, map, slice_set, Option, Some, None, is_some, option_map, option_and_then, unwrap_or, ap, ◌∙◌, refl, sym, subst, arith}
+use Rattle.std.proofs.lemmas.Option.{none-some}
+use Rattle.std.proofs.lemmas.List.{length-append, length-set}
+use Rattle.tlb_core.specs.declared.translation.Translation.{Translation}
+use Rattle.tlb_core.specs.Cache.{entry_of}
+use Rattle.page_store.specs.PageValue.{PageValue, Place}
+use Rattle.page_store.specs.PageValue as place
+use Rattle.page_store.specs.Lending.{with_bytes, rewritten}
+use Rattle.rv_exec.specs.Registers.{Registers}
+use Rattle.env_calls.specs.Effect.{Effect, Runs, Yields, Spawns, Finishes, Exits, Traps}
+use Rattle.env_calls.specs.Step.{effect}
+use Rattle.flat_machine.specs.Process.{Process, hart_registers, may_step, stepped, after, flat_step, flat_run}
+use Rattle.paged_memory.specs.Paged.{PagedValue, page_at}
+use Rattle.paged_memory.specs.Access.{cache_of, is_doomed}
+use Rattle.paged_memory.specs.HartMemory.{KeepsPages, KeepsAccess}
+use Rattle.space_core.specs.declared.progress.SliceStop.{SliceStop}
+use Rattle.space_core.specs.declared.progress.SliceStop.TheVariants.{Budget, Absent, Yield, HartDone, Ended, NoHart, ScheduleFull, NoMemory}
+use Rattle.space_core.specs.Slicing.{OthersStay, Settles, LeavesCaches}
+use Rattle.space_core.specs.StandsFor.{is_purged, is_purged_place}
+
+-- ---- no hart that was started goes
+
+harts_after : (hart : ℕ) (p : Process) (r : Registers) (e : Effect) → length p.harts ≤ length (after hart p r e).harts
+harts_after hart p r (Runs regs env memory) = omega (arith, length-set p.harts hart regs)
+harts_after hart p r (Yields regs env memory) = omega (arith, length-set p.harts hart regs)
+harts_after hart p r (Spawns first regs env memory) = omega (arith, length-set p.harts hart regs, length-append (slice_set p.harts hart regs) (first ∷ []))
+harts_after hart p r (Finishes regs env memory) = omega (arith, length-set p.harts hart regs)
+harts_after hart p r (Exits status regs env memory) = omega (arith, length-set p.harts hart regs)
+harts_after hart p r (Traps cause value) = omega arith
+
+harts_stepped : (hart : ℕ) (p q : Process) (b : Bool) (o : Option Registers) → cond b (option_map (stepped hart p) o) None ≡ Some q → length p.harts ≤ length q.harts
+harts_stepped hart p q false o step = absurd (none-some _ step)
+harts_stepped hart p q true None step = absurd (none-some _ step)
+harts_stepped hart p q true (Some r) step =
+    subst (λ (x : Process). length p.harts ≤ length x.harts) (ap (λ o. unwrap_or o q) step) (harts_after hart p r (effect hart r p.environment p.memory))
+
+harts_step : (hart : ℕ) (p q : Process) → flat_step hart p ≡ Some q → length p.harts ≤ length q.harts
+unfolding flat_step
+harts_step hart p q step = harts_stepped hart p q (may_step hart p) (hart_registers hart p) step
+
+harts_through : (harts : List ℕ) (hart : ℕ) (p q : Process) → ((next : Process) → flat_run harts next ≡ Some q → length next.harts ≤ length q.harts)
+    → (o : Option Process) → flat_step hart p ≡ o → option_and_then (flat_run harts) o ≡ Some q → length p.harts ≤ length q.harts
+harts_through harts hart p q rest None e f = absurd (none-some _ f)
+harts_through harts hart p q rest (Some next) e f = let first = harts_step hart p next e in let more = rest next f in omega arith
+
+pub harts_run : (harts : List ℕ) (p q : Process) → flat_run harts p ≡ Some q → length p.harts ≤ length q.harts
+unfolding flat_run
+harts_run [] p q ran = subst (λ (x : Process). length p.harts ≤ length x.harts) (ap (λ o. unwrap_or o q) ran) (omega arith)
+harts_run (hart ∷ harts) p q ran = harts_through harts hart p q (λ next f. harts_run harts next q f) (flat_step hart p) refl ran
+
+-- ---- caches
+
+-- an empty cache for one more hart shows as none did
+pub with_empty : (caches : List (List Translation)) (h : ℕ) → cache_of (caches ++ [] ∷ []) h ≡ cache_of caches h
+with_empty [] zero = refl
+with_empty [] (suc h) = refl
+with_empty (c ∷ cs) zero = refl
+with_empty (c ∷ cs) (suc h) = with_empty cs h
+
+pub own_emptied : (caches : List (List Translation)) (hart : ℕ) → cache_of (slice_set caches hart []) hart ≡ []
+own_emptied [] hart = refl
+own_emptied (c ∷ cs) zero = refl
+own_emptied (c ∷ cs) (suc hart) = own_emptied cs hart
+
+pub all_emptied : (caches : List (List Translation)) (h : ℕ) → cache_of (map (λ _. []) caches) h ≡ []
+all_emptied [] h = refl
+all_emptied (c ∷ cs) zero = refl
+all_emptied (c ∷ cs) (suc h) = all_emptied cs h
+
+module _ {S : Type 0} where
+  settled_others : (hart : ℕ) (old between new : PagedValue S) → KeepsAccess hart old between → OthersStay hart between.caches new.caches × (cache_of new.caches hart ≡ []) → OthersStay hart old.caches new.caches × (cache_of new.caches hart ≡ [])
+  settled_others hart old between new kept (others, own) = (λ h other. others h other ∙ kept.others h other, own)
+
+  pub settled : (stop : SliceStop) (hart : ℕ) (old between new : PagedValue S) → KeepsAccess hart old between → Settles stop hart between.caches new.caches → LeavesCaches stop hart old new
+  settled Budget hart old between new kept same = (
+    λ h other. same h ∙ kept.others h other,
+    record {
+      held = λ page is. kept.held page (subst (λ cache. is_some (entry_of page cache) ≡ true) (same hart) is);
+      doomed = λ page is. kept.doomed page (subst (λ cache. is_doomed page cache ≡ true) (same hart) is);
+    },
+  )
+  settled Ended hart old between new kept emptied = emptied
+  settled (Absent page) hart old between new kept s = settled_others hart old between new kept s
+  settled Yield hart old between new kept s = settled_others hart old between new kept s
+  settled HartDone hart old between new kept s = settled_others hart old between new kept s
+  settled NoHart hart old between new kept s = settled_others hart old between new kept s
+  settled ScheduleFull hart old between new kept s = settled_others hart old between new kept s
+  settled NoMemory hart old between new kept s = settled_others hart old between new kept s
+
+  -- ---- pages that were given up
+
+  purged_bare : (place : Place S) → is_purged_place (rewritten [] place) ≡ is_purged_place place
+  purged_bare place.Fresh = refl
+  purged_bare (place.Resident frame slot) = refl
+  purged_bare (place.Leaving frame slot mark) = refl
+  purged_bare (place.Saving frame) = refl
+  purged_bare (place.Away slot) = refl
+  purged_bare place.Purged = refl
+
+  purged_shape : (o : Option (PageValue S)) → is_purged (option_map (λ p. with_bytes p []) o) ≡ is_purged o
+  purged_shape None = refl
+  purged_shape (Some page) = purged_bare page.place
+
+  -- none comes back
+  pub none_back : (old new : List (ℕ × PageValue S)) → KeepsPages old new → (number : ℕ) → is_purged (page_at new number) ≡ false → is_purged (page_at old number) ≡ false
+  none_back old new kept number whole = by_page (page_at old number) refl
+    where
+      by_page : (o : Option (PageValue S)) → page_at old number ≡ o → is_purged o ≡ false
+      by_page None is = refl
+      by_page (Some page) is =
+          sym (purged_shape (Some page)) ∙ ap (λ o. is_purged (option_map (λ p. with_bytes p []) o)) (sym is)
+          ∙ ap is_purged (sym (kept.bare number (ap is_some is))) ∙ purged_shape (page_at new number) ∙ whole

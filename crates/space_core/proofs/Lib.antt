@@ -4,3 +4,4 @@ pub mod Standing
 pub mod Spaces
 pub mod PlainSteps
 pub mod SliceLaws
+pub mod LeavingPages

@@ -9,6 +9,7 @@ mod settling;
 mod slicing;
 mod space;
 mod space_slice;
+mod space_moves;
 mod stepping;
 
 pub use progress::{Progress, Slice, SliceStop};

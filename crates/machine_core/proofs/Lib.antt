@@ -1,1 +1,3 @@
+pub mod Kept
 pub mod Sweeps
+pub mod Totals

@@ -1,0 +1,110 @@
+-- The machine stays one where one process and what it shares change together.
+use Rattle.std.proofs.Common.{◌≡◌, ℕ, ◌+◌, ◌^◌, ◌<◌, ◌≤◌, Bool, true, false, cond, List, length, Option, Some, None, slice_get, ◌⊎◌, inl, inr, refl, sym, ap, ◌∙◌, arith, subst}
+use Rattle.std.specs.Prelude.{slice_set, All}
+use Rattle.std.proofs.lemmas.Bool.Decides.{eqb_tells}
+use Rattle.std.proofs.lemmas.List.{length-set}
+use Rattle.clock_policy.specs.declared.key.Key.{Key}
+use Rattle.clock_policy.specs.Lawful.{Lawful}
+use Rattle.frame_pool.specs.FrameValue.{FrameValue}
+use Rattle.page_store.specs.JobValue.{JobValue}
+use Rattle.page_store.specs.PageValue.{PageValue, Saving}
+use Rattle.paged_memory.specs.Counting.{slots_of}
+use Rattle.paged_memory.specs.Paged.{page_at}
+use Rattle.machine_core.specs.Sides.{PagerSideValue, ProcessSideValue}
+use Rattle.machine_core.specs.Together.{Together, residents_in, savings_in, frames_in, frames_where}
+use Rattle.machine_core.specs.Machine.{CoreValue, IsMachine, IsOut, total, jobs_where, numbers_below}
+use Rattle.machine_core.proofs.Totals.{total_set, got_set, get_set_same, get_set_other, All_map}
+
+module _ {S : Type 0} where
+  -- pages that are being saved stay as they are
+  pub SavingsStay : List (ℕ × PageValue S) → List (ℕ × PageValue S) → Type 0
+  SavingsStay old new = (v : ℕ) (page : PageValue S) (frame : FrameValue) → v < 2 ^ 20 → page_at old v ≡ Some page → page.place ≡ Saving frame → page_at new v ≡ Some page
+
+  -- what one process and what it shares become
+  pub record Moves (core core' : CoreValue S) (p : ℕ) (process process' : ProcessSideValue S) : Type 0 where
+    pub found : slice_get core.processes p ≡ Some process
+    pub processes : core'.processes ≡ slice_set core.processes p process'
+    pub together : Together core.pager.pager core'.pager.pager process.space process'.space
+    pub lawful : Lawful core'.pager.pager.list
+    pub frames : core'.pager.pager.list.frames ≡ core'.pager.pager.size
+    pub saved : (test : Key → Bool) → jobs_where test core'.jobs + savings_in process.space test ≡ jobs_where test core.jobs + savings_in process'.space test
+    pub slotted : length core'.slots.free + (slots_of process'.space.memory.pages + length core'.jobs) ≡ length core.slots.free + (slots_of process.space.memory.pages + length core.jobs)
+    pub slots : core'.slots.size ≡ core.slots.size
+    pub out : All (IsOut core'.processes) core'.jobs
+
+  pub moved_machine : (core core' : CoreValue S) (p : ℕ) (process process' : ProcessSideValue S) → IsMachine core → Moves core core' p process process' → IsMachine core'
+  moved_machine core core' p process process' machine moves = record {
+    lawful = moves.lawful;
+    frames = moves.frames;
+    numbered = λ number q at. numbered number q (ap (λ l. slice_get l number) (sym moves.processes) ∙ at);
+    few =
+        let e : length core'.processes ≡ length core.processes = ap length moves.processes ∙ length-set core.processes p process' in
+        let few = machine.few in
+        omega (arith, e, few);
+    listed = λ test.
+        let t = totals (λ (q : ProcessSideValue S). residents_in q.space test) in
+        let listed = machine.listed test in
+        let both = moves.together.listed test in
+        omega (arith, t, listed, both);
+    framed = λ test.
+        let t = totals (λ (q : ProcessSideValue S). frames_in q.space test) in
+        let framed = machine.framed test in
+        let both = moves.together.framed test in
+        let size : numbers_below core'.pager.pager.size test ≡ numbers_below core.pager.pager.size test = ap (λ n. numbers_below n test) moves.together.size in
+        omega (arith, t, framed, both, size);
+    saved = λ test.
+        let t = totals (λ (q : ProcessSideValue S). savings_in q.space test) in
+        let saved = machine.saved test in
+        let both = moves.saved test in
+        omega (arith, t, saved, both);
+    out = moves.out;
+    slotted =
+        let t = totals (λ (q : ProcessSideValue S). slots_of q.space.memory.pages) in
+        let slotted = machine.slotted in
+        let both = moves.slotted in
+        let size = moves.slots in
+        omega (arith, t, slotted, both, size);
+  }
+    where
+      totals : (f : ProcessSideValue S → ℕ) → total f core'.processes + f process ≡ total f core.processes + f process'
+      totals f = ap (λ l. total f l + f process) moves.processes ∙ total_set f core.processes p process process' moves.found
+
+      numbered : (number : ℕ) (q : ProcessSideValue S) → slice_get (slice_set core.processes p process') number ≡ Some q → q.space.memory.process ≡ number
+      numbered number q at =
+          elim (got_set core.processes p number process' q at) [
+            | inl e ↦ ap (λ (r : ProcessSideValue S). r.space.memory.process) e.1 ∙ moves.together.process ∙ machine.numbered p process moves.found ∙ sym e.0
+            | inr e ↦ machine.numbered number q e
+          ]
+
+  -- saves that are out stay so where the pages that are being saved stay
+  pub out_stays : (processes : List (ProcessSideValue S)) (p : ℕ) (process process' : ProcessSideValue S) (jobs : List (JobValue S)) → slice_get processes p ≡ Some process
+      → SavingsStay process.space.memory.pages process'.space.memory.pages → All (IsOut processes) jobs → All (IsOut (slice_set processes p process')) jobs
+  unfolding SavingsStay
+  out_stays processes p process process' jobs found stay all = All_map (IsOut processes) (IsOut (slice_set processes p process')) one jobs all
+    where
+      one : (job : JobValue S) → IsOut processes job → IsOut (slice_set processes p process') job
+      one job out =
+          elim (eqb_tells job.process p) [
+            | inl same ↦
+                let there : out.process ≡ process = let a = out.found in let b = found in let c = same.1 in cc in
+                record {
+                  process = process';
+                  page = out.page;
+                  frame = out.frame;
+                  small = out.small;
+                  found = ap (slice_get (slice_set processes p process')) same.1 ∙ get_set_same processes p process process' found;
+                  at = stay job.vpn out.page out.frame out.small (ap (λ (q : ProcessSideValue S). page_at q.space.memory.pages job.vpn) (sym there) ∙ out.at) out.saving;
+                  saving = out.saving;
+                  same = out.same;
+                }
+            | inr apart ↦ record {
+              process = out.process;
+              page = out.page;
+              frame = out.frame;
+              small = out.small;
+              found = get_set_other processes p job.process process' apart.1 ∙ out.found;
+              at = out.at;
+              saving = out.saving;
+              same = out.same;
+            }
+          ]

@@ -1,0 +1,58 @@
+-- The whole machine: the pager, the free slots, the processes by their numbers, and the saves that are out.
+use Rattle.std.specs.Prelude.{◌≡◌, ℕ, zero, suc, ◌+◌, ◌^◌, ◌<◌, ◌≤◌, Bool, cond, Some, slice_get, length, List, [], ◌∷◌, All}
+use Rattle.clock_policy.specs.declared.key.Key.{Key}
+use Rattle.clock_policy.specs.Lawful.{Lawful}
+use Rattle.clock_policy.specs.Residents.{residents}
+use Rattle.frame_pool.specs.FrameValue.{FrameValue}
+use Rattle.page_store.specs.JobValue.{JobValue}
+use Rattle.page_store.specs.PageValue.{PageValue, Saving}
+use Rattle.paged_memory.specs.Counting.{slots_of}
+use Rattle.paged_memory.specs.Paged.{page_at}
+use Rattle.swap_slots.specs.PoolValue.{PoolValue}
+use Rattle.machine_core.specs.Sides.{PagerSideValue, ProcessSideValue}
+use Rattle.machine_core.specs.Together.{frames_where, residents_in, savings_in, frames_in, key_of}
+
+pub record CoreValue (S : Type 0) : Type 0 where
+  pub pager : PagerSideValue
+  pub slots : PoolValue S
+  pub processes : List (ProcessSideValue S)
+  pub jobs : List (JobValue S)
+
+-- the sum of a number over all of a list
+unfoldable pub total : {A : Type 0} → (A → ℕ) → List A → ℕ
+total f [] = 0
+total f (x ∷ xs) = f x + total f xs
+
+-- how many numbers below a bound pass
+unfoldable pub numbers_below : ℕ → (ℕ → Bool) → ℕ
+numbers_below zero test = 0
+numbers_below (suc n) test = cond (test n) 1 0 + numbers_below n test
+
+module _ {S : Type 0} where
+  -- how many of the saves that are out are of pages whose keys pass
+  unfoldable pub jobs_where : (Key → Bool) → List (JobValue S) → ℕ
+  jobs_where test jobs = total (λ job. cond (test (key_of job.process job.vpn)) 1 0) jobs
+
+  -- a save's page is being saved, in a frame that holds what was copied
+  pub record IsOut (processes : List (ProcessSideValue S)) (job : JobValue S) : Type 0 where
+    pub process : ProcessSideValue S
+    pub page : PageValue S
+    pub frame : FrameValue
+    pub small : job.vpn < 2 ^ 20
+    pub found : slice_get processes job.process ≡ Some process
+    pub at : page_at process.space.memory.pages job.vpn ≡ Some page
+    pub saving : page.place ≡ Saving frame
+    pub same : frame.bytes ≡ job.copy
+
+  -- The list's resident entries are the processes' resident pages; each frame's number stands once, among the free frames or in
+  -- one page; the saves that are out are of the pages that are being saved; and no slot is lost.
+  pub record IsMachine (core : CoreValue S) : Type 0 where
+    pub lawful : Lawful core.pager.pager.list
+    pub frames : core.pager.pager.list.frames ≡ core.pager.pager.size
+    pub numbered : (number : ℕ) (process : ProcessSideValue S) → slice_get core.processes number ≡ Some process → process.space.memory.process ≡ number
+    pub few : length core.processes ≤ 16
+    pub listed : (test : Key → Bool) → residents core.pager.pager.list test ≡ total (λ (process : ProcessSideValue S). residents_in process.space test) core.processes
+    pub framed : (test : ℕ → Bool) → frames_where test core.pager.pager.free + total (λ (process : ProcessSideValue S). frames_in process.space test) core.processes ≡ numbers_below core.pager.pager.size test
+    pub saved : (test : Key → Bool) → jobs_where test core.jobs ≡ total (λ (process : ProcessSideValue S). savings_in process.space test) core.processes
+    pub out : All (IsOut core.processes) core.jobs
+    pub slotted : length core.slots.free + (total (λ (process : ProcessSideValue S). slots_of process.space.memory.pages) core.processes + length core.jobs) ≡ core.slots.size

@@ -8,8 +8,8 @@ mod running;
 mod settling;
 mod slicing;
 mod space;
-mod space_slice;
 mod space_moves;
+mod space_slice;
 mod stepping;
 
 pub use progress::{Progress, Slice, SliceStop};

@@ -150,7 +150,7 @@ module _ {S : Type 0} (held : S → List ℕ) (honest : Type 0) where
               backed = λ is_honest. subst (λ d. Backed held d told.page') (sym (dirty-page_entry frame.number told.page.origin.rights true false)) (told.how.backed is_honest);
             }
 
-    holds_absent : ChangesBy (StaysAbsent held honest) pages pages' number → Holds held honest pages' tables caches
+    pub holds_absent : ChangesBy (StaysAbsent held honest) pages pages' number → Holds held honest pages' tables caches
     holds_absent told =
         holds_moved number small holds pages' told.page told.page' told.found told.changes told.how.origin (λ rights accessed dirty. ap (λ s. entry_standing rights s accessed dirty) was) (λ rights accessed dirty. ap (λ s. entry_standing rights s accessed dirty) now.stands)
         (λ framed. absurd (true≢false (sym framed ∙ now.unframed))) (λ _. now.backed) (unheld_page number small holds told.page told.found was)
@@ -164,7 +164,7 @@ module _ {S : Type 0} (held : S → List ℕ) (honest : Type 0) where
   pub failed_stays : {failures : S → ℕ} {pages pages' : List (ℕ × PageValue S)} {number : ℕ} → ChangesBy (FailsToLoad held honest failures) pages pages' number → ChangesBy (StaysAbsent held honest) pages pages' number
   failed_stays told = record { page = told.page; page' = told.page'; found = told.found; changes = told.changes; how = told.how.stays }
 
-  memory_absent : {pages pages' : List (ℕ × PageValue S)} {number : ℕ} → ChangesBy (StaysAbsent held honest) pages pages' number → honest → memory_of held pages' ≡ memory_of held pages
+  pub memory_absent : {pages pages' : List (ℕ × PageValue S)} {number : ℕ} → ChangesBy (StaysAbsent held honest) pages pages' number → honest → memory_of held pages' ≡ memory_of held pages
   memory_absent {pages} {pages'} {number} told is_honest = memory_stays held pages pages' number told.page told.page' told.found (shows held told.page told.page' told.how.origin (told.how.content is_honest)) told.changes
 
   module _ {U : Type 0} (failures : S → ℕ) (frame : FrameValue) (pages pages' : List (ℕ × PageValue S)) (tables tables' : List (List ℕ)) (number : ℕ) where

@@ -16,3 +16,5 @@ pub mod CollectingLaws
 pub mod SavingLaws
 pub mod ReturningLaws
 pub mod FillingLaws
+pub mod GivingBackLaws
+pub mod PeekingLaws

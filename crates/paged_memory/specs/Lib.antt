@@ -10,3 +10,5 @@ pub mod CountingLaws
 pub mod HartMemory
 pub mod HartMemoryLaws
 pub mod Filling
+pub mod Peeking
+pub mod GivingBack

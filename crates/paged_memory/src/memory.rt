@@ -18,6 +18,8 @@ pub struct PagedMemory<L: Ledger, S: SwapSlot> {
     pub(crate) pages: PageMap<StoredPage<L, S>>,
     pub(crate) tables: PageTables,
     pub(crate) caches: Caches,
+    /// The page that gave its frame or slot back last, where the search for the next one begins.
+    pub(crate) passed: u32,
 }
 
 impl<L: Ledger, S: SwapSlot> Model for PagedMemory<L, S> {
@@ -44,6 +46,14 @@ impl<L: Ledger, S: SwapSlot> PagedMemory<L, S> {
             pages: PageMap::new(alloc)?,
             tables: PageTables::new(alloc)?,
             caches: Caches::new(alloc)?,
+            passed: 0,
         })
+    }
+
+    /// The number of the process.
+    pub fn process(&self) -> u32
+        ensures { result ≡ self.now.process }
+    {
+        self.process
     }
 }

@@ -1,0 +1,56 @@
+-- A page gives back its frame and its slot.
+use Rattle.std.specs.Prelude.{◌≡◌, ℕ, ◌^◌, ◌<◌, ◌==◌, ◌≢◌, Bool, if◌then◌else◌, Option, Some, None, option_map, List, [], All, refl}
+use Rattle.std.proofs.Common.{sym, ap, ◌∙◌, subst, true≢false}
+use Rattle.std.proofs.lemmas.List.Elements.{All-nil, All-weaker}
+use Rattle.frame_pool.specs.FrameValue.{FrameValue}
+use Rattle.page_memory.specs.declared.rights.Rights.{Rights}
+use Rattle.page_store.specs.PageValue.{PageValue, Purged}
+use Rattle.sv32_table.specs.Entry.{blank}
+use Rattle.sv32_table.specs.EntryAt.{entry_at, ChangesEntry, SameTables, unmapped_entry}
+use Rattle.sv32_table.specs.EntryLaws.{unmapped_entry-page_entry, unmapped_entry-blank}
+use Rattle.tlb_core.specs.declared.translation.Translation.{Translation}
+use Rattle.paged_memory.specs.Seen.{Seen, Standing, Resident, Leaving, Elsewhere, entry_seen, entry_standing, rights_seen}
+use Rattle.paged_memory.specs.Paged.{seen_of, seen_at, Holds, ChangesPage}
+use Rattle.paged_memory.specs.Calls.{ChangesBy}
+use Rattle.paged_memory.specs.GivingBack.{GivesBack}
+use Rattle.paged_memory.proofs.SoundnessLaws.{Unheld}
+use Rattle.paged_memory.proofs.PagedLaws.{Change, Holds-unheld}
+
+-- what `unmap` makes of a page's entry
+unmapped_seen : (page : Option Seen) (accessed dirty : Bool) → unmapped_entry (entry_seen page accessed dirty) ≡ blank
+unmapped_seen None accessed dirty = unmapped_entry-blank
+unmapped_seen (Some seen) accessed dirty = by_standing seen.rights seen.standing
+  where
+    by_standing : (rights : Rights) (standing : Standing) → unmapped_entry (entry_standing rights standing accessed dirty) ≡ blank
+    by_standing rights (Resident frame) = unmapped_entry-page_entry frame rights accessed dirty
+    by_standing rights (Leaving frame mark) = unmapped_entry-blank
+    by_standing rights Elsewhere = unmapped_entry-blank
+
+-- empty caches hold no page
+quiet_unheld : (number : ℕ) (caches : List (List Translation)) → All (λ cache. cache ≡ []) caches → Unheld number caches
+quiet_unheld number caches quiet =
+    All-weaker (λ (cache : List Translation). cache ≡ []) (λ cache. All (λ (t : Translation). t.page ≢ number) cache) (λ cache is. rw is (All-nil (λ (t : Translation). t.page ≢ number))) caches quiet
+
+module _ {S : Type 0} {held : S → List ℕ} {honest : Type 0} {pages : List (ℕ × PageValue S)} {tables : List (List ℕ)} {caches : List (List Translation)} (tables' : List (List ℕ)) (number : ℕ) (small : number < 2 ^ 20) (holds : Holds held honest pages tables caches) (entries : ChangesEntry tables tables' number (unmapped_entry (entry_at tables number))) where
+  pub entries_blank : ChangesEntry tables tables' number blank
+  entries_blank q in_range =
+      entries q in_range ∙ ap (λ e. if q == number then e else entry_at tables q) (ap unmapped_entry (holds.agree.mapped number small).entry ∙ unmapped_seen (seen_at pages number) (entry_at tables number).accessed (entry_at tables number).dirty)
+
+  -- everything goes together still, once no hart has a translation
+  pub holds_given_back : {pages' : List (ℕ × PageValue S)} {given : Option FrameValue × Option S} → ChangesBy (GivesBack given) pages pages' number → SameTables tables tables' → All (λ cache. cache ≡ []) caches → Holds held honest pages' tables' caches
+  holds_given_back {pages'} told same quiet = Holds-unheld change caches holds (quiet_unheld number caches quiet)
+    where
+      now : PageValue S
+      now = record told.page { place = Purged }
+
+      change : Change held honest pages pages' tables tables' number now blank
+      change =
+          record {
+            small = small;
+            changes = subst (λ p. ChangesPage pages pages' number p) told.how.1 told.changes;
+            entry = entries_blank;
+            kept = λ q in_range has. same q in_range ∙ has;
+            tabled = λ framed. absurd (true≢false (sym framed));
+            mapped = record { entry = refl; readable = λ rights is. (holds.agree.mapped number small).readable rights (ap rights_seen (ap (option_map seen_of) told.found) ∙ is) };
+            backed = λ is_honest unchanged. refl;
+          }

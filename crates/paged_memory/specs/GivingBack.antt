@@ -1,0 +1,25 @@
+-- The pages of an ended process give back their frames and slots.
+use Rattle.std.specs.Prelude.{◌≡◌, ℕ, ◌^◌, ◌<◌, Option, Some, None, List}
+use Rattle.frame_pool.specs.FrameValue.{FrameValue}
+use Rattle.page_store.specs.PageValue.{PageValue, Purged}
+use Rattle.page_store.specs.Moves.{given_back}
+use Rattle.sv32_table.specs.Entry.{blank}
+use Rattle.sv32_table.specs.EntryAt.{ChangesEntry}
+use Rattle.paged_memory.specs.Calls.{ChangesBy}
+
+module _ {S : Type 0} where
+  -- a page gives back its frame and its slot, and is given up
+  abbrev pub GivesBack : Option FrameValue × Option S → PageValue S → PageValue S → Type 0
+  GivesBack given old new = (given_back old.place ≡ Some given) × (new ≡ record old { place = Purged })
+
+  -- one page does, and is unmapped
+  pub record GivesOne (given : Option FrameValue × Option S) (old new : List (ℕ × PageValue S)) (tables tables' : List (List ℕ)) : Type 0 where
+    pub number : ℕ
+    pub small : number < 2 ^ 20
+    pub pages : ChangesBy (GivesBack given) old new number
+    pub entries : ChangesEntry tables tables' number blank
+
+  -- there is nothing that a page gives back: it is not mapped, has neither frame nor slot, or is being saved
+  abbrev pub GivesNothing : Option (PageValue S) → Type 0
+  GivesNothing (Some page) = given_back page.place ≡ None
+  GivesNothing None = Unit {0}

@@ -1,0 +1,119 @@
+ghost use Rattle.std.specs.Prelude.{◌≡◌, ◌≤◌, ◌<◌, ◌^◌, ℕ, [], All, IfSome, IfNone};
+ghost use Rattle.std.specs.Bool.{OnTrue, OnFalse};
+ghost use Rattle.sv32_table.specs.Entry.{blank};
+ghost use Rattle.sv32_table.specs.EntryAt.{ChangesEntry};
+ghost use Rattle.paged_memory.specs.Paged.{Holds, page_at};
+ghost use Rattle.paged_memory.specs.Calls.{ChangesBy};
+ghost use Rattle.paged_memory.specs.GivingBack.{GivesBack, GivesOne, GivesNothing};
+
+use crate::caches::Caches;
+use crate::eviction::state_in;
+use crate::memory::PagedMemory;
+use frame_pool::Frame;
+use page_memory::PageMap;
+use page_store::{PageState, StoredPage};
+use std::sync::ledger::Ledger;
+use sv32_table::PageTables;
+use swap_slots::SwapSlot;
+
+/// How many page numbers there are.
+const PAGE_NUMBERS: u32 = 0x10_0000;
+
+impl<L: Ledger, S: SwapSlot> PagedMemory<L, S> {
+    /// Takes the frame and the slot of a page that has either and is not being saved, once no hart has a translation any
+    /// more. The page is unmapped, and given up for good. `None` where there is no such page.
+    ///
+    /// The calls go by rising page numbers, and begin again where no page is left above.
+    pub fn take_one(&mut self) -> Option<(Option<Frame<L>>, Option<S>)>
+        requires quiet { All (λ cache. cache ≡ []) self.old.caches }
+        ensures given { IfSome result (λ given. GivesOne given self.old.pages self.new.pages self.old.tables self.new.tables) }
+        ensures none { IfNone result ((q : ℕ) → q < 2 ^ 20 → GivesNothing (page_at self.old.pages q)) }
+        ensures left { IfNone result (self.new ≡ self.old) }
+        ensures process { self.new.process ≡ self.old.process }
+        ensures caches { self.new.caches ≡ self.old.caches }
+    {
+        let vpn = next_around(&self.pages, self.passed)?;
+        self.passed = vpn;
+        Some(give_back(&mut self.pages, &mut self.tables, &self.caches, vpn))
+    }
+}
+
+/// The first page, from a page number on and then from the least on, that has a frame or a slot and is not being saved.
+fn next_around<L: Ledger, S: SwapSlot>(pages: &PageMap<StoredPage<L, S>>, from: u32) -> Option<u32>
+    ensures small { IfSome result (λ vpn. vpn < 2 ^ 20) }
+    ensures found { IfSome result (λ vpn. ¬ GivesNothing (page_at pages.now vpn)) }
+    ensures none { IfNone result ((q : ℕ) → q < 2 ^ 20 → GivesNothing (page_at pages.now q)) }
+{
+    if let Some(vpn) = next_with_something(pages, from) {
+        return Some(vpn);
+    }
+    next_with_something(pages, 0)
+}
+
+/// The first page, from a page number on, that has a frame or a slot and is not being saved.
+fn next_with_something<L: Ledger, S: SwapSlot>(
+    pages: &PageMap<StoredPage<L, S>>,
+    from: u32,
+) -> Option<u32>
+    ensures number { IfSome result (λ vpn. (from ≤ vpn) × (vpn < 2 ^ 20)) }
+    ensures found { IfSome result (λ vpn. ¬ GivesNothing (page_at pages.now vpn)) }
+    ensures first { IfSome result (λ vpn. (q : ℕ) → from ≤ q → q < vpn → GivesNothing (page_at pages.now q)) }
+    ensures none { IfNone result ((q : ℕ) → from ≤ q → q < 2 ^ 20 → GivesNothing (page_at pages.now q)) }
+{
+    for vpn in from..PAGE_NUMBERS {
+        if has_something(pages, vpn) {
+            return Some(vpn);
+        }
+    }
+    None
+}
+
+/// Whether a page has a frame or a slot, and is not being saved.
+fn has_something<L: Ledger, S: SwapSlot>(pages: &PageMap<StoredPage<L, S>>, vpn: u32) -> bool
+    requires { vpn < 2 ^ 20 }
+    ensures something { OnTrue result (¬ GivesNothing (page_at pages.now vpn)) }
+    ensures nothing { OnFalse result (GivesNothing (page_at pages.now vpn)) }
+{
+    matches!(
+        state_in(pages, vpn),
+        Some(PageState::Resident) | Some(PageState::Leaving) | Some(PageState::Away)
+    )
+}
+
+/// Takes a page's frame and slot, and unmaps it.
+fn give_back<L: Ledger, S: SwapSlot>(
+    pages: &mut PageMap<StoredPage<L, S>>,
+    tables: &mut PageTables,
+    caches: &Caches,
+    vpn: u32,
+) -> (Option<Frame<L>>, Option<S>)
+    requires vpn { vpn < 2 ^ 20 }
+    requires something { ¬ GivesNothing (page_at pages.old vpn) }
+    requires quiet { All (λ cache. cache ≡ []) caches.now }
+    requires holds { Holds S.content S.honest pages.old tables.old caches.now }
+    ensures holds { Holds S.content S.honest pages.new tables.new caches.now }
+    ensures given { ChangesBy (GivesBack result) pages.old pages.new vpn }
+    ensures entries { ChangesEntry tables.old tables.new vpn blank }
+{
+    let given = take(pages, vpn);
+    tables.unmap(vpn);
+    given
+}
+
+/// Takes a page's frame and slot.
+fn take<L: Ledger, S: SwapSlot>(
+    pages: &mut PageMap<StoredPage<L, S>>,
+    vpn: u32,
+) -> (Option<Frame<L>>, Option<S>)
+    requires vpn { vpn < 2 ^ 20 }
+    requires something { ¬ GivesNothing (page_at pages.old vpn) }
+    ensures { ChangesBy (GivesBack result) pages.old pages.new vpn }
+{
+    let Some(place) = pages.place(vpn) else {
+        unreachable!()
+    };
+    match pages.at_mut(place).give_back() {
+        Some(given) => given,
+        None => unreachable!(),
+    }
+}

@@ -5,3 +5,4 @@ pub mod Spaces
 pub mod PlainSteps
 pub mod SliceLaws
 pub mod LeavingPages
+mod PagingSpaces

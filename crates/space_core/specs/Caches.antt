@@ -18,3 +18,8 @@ emptied memory = record memory { caches = map (λ _. []) memory.caches }
 abbrev pub if_killed : {S : Type 0} → Option End → PagedValue S → PagedValue S
 if_killed None memory = emptied memory
 if_killed (Some ending) memory = memory
+
+-- the same of a process that has ended
+abbrev pub if_ended : {S : Type 0} → Option End → PagedValue S → PagedValue S
+if_ended None memory = memory
+if_ended (Some ending) memory = emptied memory

@@ -9,6 +9,7 @@ mod settling;
 mod slicing;
 mod space;
 mod space_moves;
+mod space_paging;
 mod space_slice;
 mod stepping;
 

@@ -1,0 +1,79 @@
+ghost use Rattle.std.specs.Prelude.{◌≡◌, ◌<◌, ◌^◌, ℕ, true, false, Some, IsSome, IfSome, IfNone, OnOk, OnErr, IfOk, IfErr};
+ghost use Rattle.page_memory.specs.Words.{page_number, page_offset};
+ghost use Rattle.sv32_table.specs.Entry.{page_entry};
+ghost use Rattle.sv32_table.specs.EntryAt.{ChangesEntry, AddsTable};
+ghost use Rattle.flat_machine.specs.Process.{Process, flat_run, opening};
+ghost use Rattle.flat_machine.specs.Schedule.{written_out};
+ghost use Rattle.paged_memory.specs.Paged.{page_at, memory_of};
+ghost use Rattle.paged_memory.specs.Calls.{ChangesBy};
+ghost use Rattle.paged_memory.specs.Filling.{BroughtIn, RefusesPageIn};
+ghost use Rattle.paged_memory.specs.GivingBack.{GivesOne, GivesNothing};
+ghost use Rattle.paged_memory.specs.Peeking.{byte_of, ShowsByte, LeavesPage, RefusesPeek};
+ghost use Rattle.space_core.specs.Caches.{if_ended};
+
+use crate::space::Space;
+use frame_pool::Frame;
+use paged_memory::{PageInFault, PeekFault};
+use std::sync::ledger::Ledger;
+use swap_slots::SwapSlot;
+
+impl<L: Ledger, S: SwapSlot> Space<L, S> {
+    /// The number of the process.
+    pub fn process(&self) -> u32
+        ensures { result ≡ self.now.memory.process }
+    {
+        self.memory.process()
+    }
+
+    /// Brings a page into a frame, from its slot or as it began, and maps it with its rights, as used and not changed.
+    ///
+    /// A refusal hands the frame back and leaves the page where it was. It takes memory, and can be refused for want of
+    /// it, only where the page has no table yet.
+    pub fn page_in(&mut self, vpn: u32, frame: Frame<L>) -> Result<(), (Frame<L>, PageInFault)>
+        requires { vpn < 2 ^ 20 }
+        ensures ok { OnOk result (ChangesBy (BroughtIn S.content S.honest frame) self.old.memory.pages self.new.memory.pages vpn) }
+        ensures refused { IfErr result (λ back. RefusesPageIn S.content S.honest S.failures frame self.old.memory.pages self.new.memory.pages self.old.memory.tables vpn back.0 back.1) }
+        ensures memory { S.honest → memory_of S.content self.new.memory.pages ≡ memory_of S.content self.old.memory.pages }
+        ensures entries { OnOk result (IfSome (page_at self.old.memory.pages vpn) (λ page. ChangesEntry self.old.memory.tables self.new.memory.tables vpn (page_entry frame.number page.origin.rights true false))) }
+        ensures tables { OnOk result (AddsTable self.old.memory.tables self.new.memory.tables vpn) }
+        ensures unmapped { OnErr result (self.new.memory.tables ≡ self.old.memory.tables) }
+        ensures stays { self.new ≡ record self.old { memory = self.new.memory } }
+        ensures process { self.new.memory.process ≡ self.old.memory.process }
+        ensures caches { self.new.memory.caches ≡ self.old.memory.caches }
+    {
+        self.memory.page_in(vpn, frame)
+    }
+
+    /// The byte that the memory shows at an address, wherever its page is: the flat process's, if slots are honest. No page
+    /// is brought in, and no hart's use of it is marked.
+    pub fn peek(&mut self, address: u32) -> Result<u8, PeekFault>
+        ensures byte { IfOk result (λ byte. ShowsByte S.content S.honest (page_at self.old.memory.pages (page_number address)) (page_offset address) byte) }
+        ensures shown { S.honest → IfOk result (λ byte. byte_of (memory_of S.content self.old.memory.pages) address ≡ Some byte) }
+        ensures flat { S.honest → IfOk result (λ byte. (flat : Process) → flat_run (written_out self.old.schedule) (opening self.old.image self.old.input) ≡ Some flat → byte_of flat.memory address ≡ Some byte) }
+        ensures refused { IfErr result (RefusesPeek S.content S.honest S.failures self.old.memory.pages self.new.memory.pages (page_number address)) }
+        ensures left { LeavesPage S.content S.honest self.old.memory.pages self.new.memory.pages (page_number address) (page_at self.old.memory.pages (page_number address)) }
+        ensures memory { S.honest → memory_of S.content self.new.memory.pages ≡ memory_of S.content self.old.memory.pages }
+        ensures stays { self.new ≡ record self.old { memory = record self.old.memory { pages = self.new.memory.pages } } }
+    {
+        self.memory.peek(address)
+    }
+
+    /// Once the process has ended, takes the frame and the slot of a page that has either and is not being saved. The page
+    /// is unmapped, and given up for good. `None` where there is no such page, and before the end.
+    ///
+    /// The calls go by rising page numbers, and begin again where no page is left above.
+    pub fn take_one(&mut self) -> Option<(Option<Frame<L>>, Option<S>)>
+        ensures given { IfSome result (λ given. GivesOne given self.old.memory.pages self.new.memory.pages self.old.memory.tables self.new.memory.tables) }
+        ensures ended { IfSome result (λ _. IsSome self.old.running.ending) }
+        ensures none { IfNone result (IsSome self.old.running.ending → (q : ℕ) → q < 2 ^ 20 → GivesNothing (page_at self.old.memory.pages q)) }
+        ensures left { IfNone result (self.new ≡ record self.old { memory = if_ended self.old.running.ending self.old.memory }) }
+        ensures stays { self.new ≡ record self.old { memory = self.new.memory } }
+        ensures process { self.new.memory.process ≡ self.old.memory.process }
+        ensures caches { self.new.memory.caches ≡ (if_ended self.old.running.ending self.old.memory).caches }
+    {
+        self.recorded.running().end()?;
+        // An ending has emptied them already.
+        self.memory.clear_caches();
+        self.memory.take_one()
+    }
+}

@@ -12,3 +12,4 @@ pub mod HartMemoryLaws
 pub mod Filling
 pub mod Peeking
 pub mod GivingBack
+pub mod HartCountingLaws

@@ -1,4 +1,3 @@
-pub mod Pages
 pub mod Turns
 pub mod Runs
 pub mod Turning

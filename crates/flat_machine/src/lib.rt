@@ -12,7 +12,7 @@ mod stepping;
 
 pub use by_turns::OutOfMemory;
 pub use end::{End, KillCause};
-pub use opening::{MOST_HARTS, STACK_PAGES, first_break, first_registers};
+pub use opening::{MOST_HARTS, STACK_PAGES, STACK_START, first_break, first_registers};
 pub use process::FlatProcess;
 pub use schedule::{MOST_TURNS, Schedule, ScheduleFull, Turn};
 pub use stepping::StepRefusal;

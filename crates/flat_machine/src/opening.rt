@@ -16,8 +16,8 @@ use std::alloc::{AllocError, Global};
 /// Where the first hart's stack pointer stands.
 const STACK_TOP: u32 = 0x7FFF_FFF0;
 
-/// The numbers of the stack's pages: 0x7FFC0000 to 0x7FFFFFFF.
-const STACK_START: u32 = 0x7_FFC0;
+/// The number of the first page of the stack, which goes from 0x7FFC0000 to 0x7FFFFFFF.
+pub const STACK_START: u32 = 0x7_FFC0;
 
 const STACK_END: u32 = 0x8_0000;
 

@@ -1,4 +1,6 @@
-ghost use Rattle.std.specs.Prelude.{◌≡◌, [], IfOk};
+ghost use Rattle.std.specs.Prelude.{◌≡◌, ℕ, ◌<◌, ◌^◌, [], IfOk};
+ghost use Rattle.sv32_table.specs.Entry.{blank};
+ghost use Rattle.sv32_table.specs.EntryAt.{entry_at};
 ghost use Rattle.paged_memory.specs.Paged.{PagedValue};
 
 use crate::caches::Caches;
@@ -38,6 +40,7 @@ impl<L: Ledger, S: SwapSlot> PagedMemory<L, S> {
     pub fn new(alloc: Global, process: u32) -> Result<Self, AllocError>
         ensures process { IfOk result (λ memory. memory.process ≡ process) }
         ensures pages { IfOk result (λ memory. memory.pages ≡ []) }
+        ensures entries { IfOk result (λ memory. (number : ℕ) → number < 2 ^ 20 → entry_at memory.tables number ≡ blank) }
         ensures caches { IfOk result (λ memory. memory.caches ≡ []) }
     {
         Ok(PagedMemory {

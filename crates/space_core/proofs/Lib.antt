@@ -6,3 +6,5 @@ pub mod PlainSteps
 pub mod SliceLaws
 pub mod LeavingPages
 mod PagingSpaces
+pub mod FreshPages
+pub mod Opened

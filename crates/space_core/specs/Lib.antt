@@ -7,3 +7,4 @@ pub mod Slices
 pub mod StandsFor
 pub mod Plain
 pub mod Slicing
+pub mod Fresh

@@ -1,6 +1,7 @@
 //! One process on paged memory.
 #![tactic(auto)]
 
+mod opening;
 mod plain_run;
 mod progress;
 mod recorded;

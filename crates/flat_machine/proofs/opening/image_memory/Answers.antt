@@ -2,7 +2,7 @@ use Rattle.std.proofs.Common.{◌++◌, ◌∷◌, [], take, map, arith, ap, sym
 use Rattle.std.specs.FinMap.{get, insert, from_entries}
 use Rattle.elf_image.specs.declared.image.ImagePage.{ImagePage}
 use Rattle.flat_machine.specs.Process.{image_entry}
-use Rattle.flat_machine.proofs.Pages.{KeysBelow, images_below, unmapped, mapped, one_more_image}
+use Rattle.flat_machine.specs.PagesLaws.{KeysBelow, images_below, unmapped, mapped, one_more_image}
 use Rattle.flat_machine.proofs.opening.image_memory.Goals as goal
 
 pub map_page-requires-clause-absent : goal.map_page-requires-clause-absent

@@ -1,0 +1,15 @@
+use Rattle.std.proofs.Common.{◌≡◌, ap, sym, ◌∙◌}
+use Rattle.flat_machine.specs.Process.{opening, opening_pages}
+use Rattle.space_core.specs.RunningValue.{RecordedValue, beside}
+use Rattle.space_core.specs.Fresh.{all_fresh}
+use Rattle.space_core.proofs.Opened.{space_opened}
+use Rattle.space_core.proofs.space.Space.new.Goals as goal
+
+pub invariant_of-result : goal.invariant_of-result
+invariant_of-result g c =
+    let whole : c.args.input.items ≡ c.in_ok-whole.whole.items = sym (c.in_ok-whole.ensures.items ∙ c.deref.ensures.value) in
+    space_opened g.S.SwapSlot.content g.S.SwapSlot.honest _
+    (ap (λ (r : RecordedValue). r.running) c.in_ok-recorded.ensures ∙ ap (λ l. beside (opening c.args.image l)) whole)
+    (ap (λ (r : RecordedValue). r.schedule) c.in_ok-recorded.ensures)
+    (c.in_ok-memory.ensures.pages ∙ ap (λ l. all_fresh (opening_pages l)) c.pages.ensures.pages)
+    c.in_ok-memory.ensures.caches

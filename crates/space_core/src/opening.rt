@@ -1,0 +1,67 @@
+ghost use Rattle.std.specs.Prelude.{◌≡◌, ℕ, ◌<◌, ◌^◌, [], ◌∷◌, IfOk};
+ghost use Rattle.sv32_table.specs.Entry.{blank};
+ghost use Rattle.sv32_table.specs.EntryAt.{entry_at};
+ghost use Rattle.elf_image.specs.Image.{ArePages};
+ghost use Rattle.flat_machine.specs.Process.{opening, opening_pages};
+ghost use Rattle.space_core.specs.Fresh.{all_fresh};
+ghost use Rattle.space_core.specs.RunningValue.{beside};
+
+use crate::recorded::Recorded;
+use crate::space::Space;
+use elf_image::{Image, ImagePage};
+use flat_machine::{STACK_PAGES, STACK_START};
+use paged_memory::PagedMemory;
+use std::alloc::{AllocError, Global};
+use std::sync::ledger::Ledger;
+use swap_slots::SwapSlot;
+
+impl<L: Ledger, S: SwapSlot> Space<L, S> {
+    /// The process of this number that is to run an image on an input: none of its pages is brought in yet.
+    pub fn new(
+        alloc: Global,
+        process: u32,
+        image: Image,
+        input: Vec<u8>,
+    ) -> Result<Self, AllocError>
+        ensures image { IfOk result (λ space. space.image ≡ image) }
+        ensures input { IfOk result (λ space. space.input ≡ input.items) }
+        ensures running { IfOk result (λ space. space.running ≡ beside (opening image input.items)) }
+        ensures schedule { IfOk result (λ space. space.schedule ≡ []) }
+        ensures process { IfOk result (λ space. space.memory.process ≡ process) }
+        ensures pages { IfOk result (λ space. space.memory.pages ≡ all_fresh (opening_pages image.pages)) }
+        ensures tables { IfOk result (λ space. (number : ℕ) → number < 2 ^ 20 → entry_at space.memory.tables number ≡ blank) }
+        ensures caches { IfOk result (λ space. space.memory.caches ≡ [] ∷ []) }
+    {
+        let memory = opening_memory(alloc, process, image.pages())?;
+        let whole = Vec::from_slice(alloc, &input)?;
+        let recorded = Recorded::new(alloc, &image, input)?;
+        Ok(Space {
+            image,
+            input: whole,
+            recorded,
+            memory,
+        })
+    }
+}
+
+/// The memory of an image's pages and the stack, with the cache of the first hart.
+fn opening_memory<L: Ledger, S: SwapSlot>(
+    alloc: Global,
+    process: u32,
+    pages: &[ImagePage],
+) -> Result<PagedMemory<L, S>, AllocError>
+    requires { ArePages pages.now }
+    ensures process { IfOk result (λ memory. memory.process ≡ process) }
+    ensures pages { IfOk result (λ memory. memory.pages ≡ all_fresh (opening_pages pages.now)) }
+    ensures tables { IfOk result (λ memory. (number : ℕ) → number < 2 ^ 20 → entry_at memory.tables number ≡ blank) }
+    ensures caches { IfOk result (λ memory. memory.caches ≡ [] ∷ []) }
+{
+    let mut memory = PagedMemory::new(alloc, process)?;
+    for listed in pages {
+        let page = listed.page.copied(alloc)?;
+        memory.map_page(listed.number, page)?;
+    }
+    memory.map_zeroed(STACK_START, STACK_PAGES)?;
+    memory.add_hart();
+    Ok(memory)
+}

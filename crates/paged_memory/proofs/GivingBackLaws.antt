@@ -1,6 +1,8 @@
 -- A page gives back its frame and its slot.
-use Rattle.std.specs.Prelude.{◌≡◌, ℕ, ◌^◌, ◌<◌, ◌==◌, ◌≢◌, Bool, if◌then◌else◌, Option, Some, None, option_map, List, [], All, refl}
-use Rattle.std.proofs.Common.{sym, ap, ◌∙◌, subst, true≢false}
+use Rattle.std.specs.Prelude.{◌≡◌, ℕ, ◌^◌, ◌<◌, ◌≤◌, length, slice_index, ◌==◌, ◌≢◌, Bool, if◌then◌else◌, Option, Some, None, option_map, List, [], All, refl}
+use Rattle.std.proofs.Common.{sym, ap, ◌∙◌, subst, true≢false, eqb-true, arith}
+use Rattle.std.proofs.lemmas.List.{length-map}
+use Rattle.std.proofs.lemmas.List.Quantifiers.{position-Some}
 use Rattle.std.proofs.lemmas.List.Elements.{All-nil, All-weaker}
 use Rattle.frame_pool.specs.FrameValue.{FrameValue}
 use Rattle.page_memory.specs.declared.rights.Rights.{Rights}
@@ -10,11 +12,12 @@ use Rattle.sv32_table.specs.EntryAt.{entry_at, ChangesEntry, SameTables, unmappe
 use Rattle.sv32_table.specs.EntryLaws.{unmapped_entry-page_entry, unmapped_entry-blank}
 use Rattle.tlb_core.specs.declared.translation.Translation.{Translation}
 use Rattle.paged_memory.specs.Seen.{Seen, Standing, Resident, Leaving, Elsewhere, entry_seen, entry_standing, rights_seen}
-use Rattle.paged_memory.specs.Paged.{seen_of, seen_at, Holds, ChangesPage}
+use Rattle.page_memory.specs.Entries.{pages_of, place_of}
+use Rattle.paged_memory.specs.Paged.{seen_of, page_at, seen_at, Holds, ChangesPage}
 use Rattle.paged_memory.specs.Calls.{ChangesBy}
-use Rattle.paged_memory.specs.GivingBack.{GivesBack}
+use Rattle.paged_memory.specs.GivingBack.{GivesBack, GivesNothing}
 use Rattle.paged_memory.proofs.SoundnessLaws.{Unheld}
-use Rattle.paged_memory.proofs.PagedLaws.{Change, Holds-unheld}
+use Rattle.paged_memory.proofs.PagedLaws.{Change, Holds-unheld, page_at-nowhere}
 
 -- what `unmap` makes of a page's entry
 unmapped_seen : (page : Option Seen) (accessed dirty : Bool) → unmapped_entry (entry_seen page accessed dirty) ≡ blank
@@ -54,3 +57,15 @@ module _ {S : Type 0} {held : S → List ℕ} {honest : Type 0} {pages : List (�
             mapped = record { entry = refl; readable = λ rights is. (holds.agree.mapped number small).readable rights (ap rights_seen (ap (option_map seen_of) told.found) ∙ is) };
             backed = λ is_honest unchanged. refl;
           }
+
+-- what holds of the page at each place holds of every page that has nothing to give
+pub each_place : {S : Type 0} (pages : List (ℕ × PageValue S)) → ((k : ℕ) → 0 ≤ k → k < length pages → GivesNothing (page_at pages (slice_index (pages_of pages) k))) → (q : ℕ) → GivesNothing (page_at pages q)
+each_place {S} pages each q =
+    elim (place_of q pages) as (λ (o : Option ℕ). place_of q pages ≡ o → GivesNothing (page_at pages q)) [
+      | None ↦ λ none. subst GivesNothing (sym (page_at-nowhere pages q none)) tt
+      | Some k ↦ λ at.
+          let found = position-Some (λ listed. listed == q) (pages_of pages) k 0 at in
+          let within = found.0 in
+          let many = length-map pages (λ (e : ℕ × PageValue S). e.0) in
+          subst (λ n. GivesNothing (page_at pages n)) (eqb-true _ _ found.1) (each k (omega arith) (omega arith))
+    ] refl

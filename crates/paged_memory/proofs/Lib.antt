@@ -18,3 +18,4 @@ pub mod ReturningLaws
 pub mod FillingLaws
 pub mod GivingBackLaws
 pub mod PeekingLaws
+pub mod CoherenceLaws

@@ -13,3 +13,4 @@ pub mod Filling
 pub mod Peeking
 pub mod GivingBack
 pub mod HartCountingLaws
+pub mod Coherence

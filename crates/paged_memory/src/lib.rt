@@ -4,6 +4,7 @@
 mod access;
 mod bringing_back;
 mod caches;
+mod coherence;
 mod collecting;
 mod eviction;
 mod filling;

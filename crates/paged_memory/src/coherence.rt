@@ -1,0 +1,19 @@
+ghost use Rattle.paged_memory.specs.Paged.{Holds};
+ghost use Rattle.paged_memory.specs.Coherence.{MarksClear, HoldsFramed, WalksLead};
+
+use crate::memory::PagedMemory;
+use std::sync::ledger::Ledger;
+use swap_slots::SwapSlot;
+
+impl<L: Ledger, S: SwapSlot> PagedMemory<L, S> {
+    /// What pages, tables and caches tell of one another between any two calls. It does nothing.
+    #[tactic(auto, using(crate::proofs::CoherenceLaws::marks_clear))]
+    pub fn coherent(&self)
+        ensures agree { Holds S.content S.honest self.now.pages self.now.tables self.now.caches }
+        ensures accessed { MarksClear self.now.pages self.now.tables self.now.caches }
+        ensures framed { HoldsFramed self.now.pages self.now.caches }
+        ensures walks { WalksLead self.now.pages self.now.tables }
+    {
+        let _ = &self.pages;
+    }
+}

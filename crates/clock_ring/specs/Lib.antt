@@ -1,0 +1,2 @@
+pub mod BodyState
+pub mod RingState

@@ -78,6 +78,13 @@ impl Env {
         &self.output
     }
 
+    /// The bytes that were written, to be kept.
+    pub fn into_output(self) -> Vec<u8>
+        ensures { result.items ≡ self.output }
+    {
+        self.output
+    }
+
     /// The address where the data that the process may grow ends.
     pub fn break_at(&self) -> u32
         ensures { result ≡ self.now.break_at }

@@ -6,6 +6,7 @@ mod plain_run;
 mod progress;
 mod recorded;
 mod running;
+mod same_image;
 mod settling;
 mod slicing;
 mod space;

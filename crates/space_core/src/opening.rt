@@ -1,4 +1,5 @@
-ghost use Rattle.std.specs.Prelude.{◌≡◌, ℕ, ◌<◌, ◌^◌, [], ◌∷◌, IfOk};
+ghost use Rattle.std.specs.Prelude.{◌≡◌, ◌≢◌, ℕ, ◌<◌, ◌^◌, [], ◌∷◌, IfOk};
+ghost use Rattle.std.specs.Bool.{OnTrue, OnFalse};
 ghost use Rattle.sv32_table.specs.Entry.{blank};
 ghost use Rattle.sv32_table.specs.EntryAt.{entry_at};
 ghost use Rattle.elf_image.specs.Image.{ArePages};
@@ -7,6 +8,7 @@ ghost use Rattle.space_core.specs.Fresh.{all_fresh};
 ghost use Rattle.space_core.specs.RunningValue.{beside};
 
 use crate::recorded::Recorded;
+use crate::same_image::is_same_image;
 use crate::space::Space;
 use elf_image::{Image, ImagePage};
 use flat_machine::{STACK_PAGES, STACK_START};
@@ -41,6 +43,17 @@ impl<L: Ledger, S: SwapSlot> Space<L, S> {
             recorded,
             memory,
         })
+    }
+
+    /// Whether it was started from this image and this input.
+    pub fn started_from(&self, image: &Image, input: &[u8]) -> bool
+        ensures same { OnTrue result ((image.now ≡ self.now.image) × (input.now ≡ self.now.input)) }
+        ensures different { OnFalse result (image.now ≡ self.now.image → input.now ≢ self.now.input) }
+    {
+        if !is_same_image(image, &self.image) {
+            return false;
+        }
+        input == self.input.as_slice()
     }
 }
 

@@ -83,6 +83,13 @@ impl Recorded {
         self.running.kill(cause);
     }
 
+    /// What was written, to be kept.
+    pub fn into_output(self) -> Vec<u8>
+        ensures { result.items ≡ self.running.environment.output }
+    {
+        self.running.into_output()
+    }
+
     /// What the process is beside its memory and schedule.
     pub fn running(&self) -> &Running
         ensures { result.now ≡ self.now.running }

@@ -93,6 +93,13 @@ impl Running {
         self.env.output()
     }
 
+    /// What was written, to be kept.
+    pub fn into_output(self) -> Vec<u8>
+        ensures { result.items ≡ self.environment.output }
+    {
+        self.env.into_output()
+    }
+
     /// How the process ended, if it did.
     pub fn end(&self) -> Option<End>
         ensures { result ≡ self.now.ending }

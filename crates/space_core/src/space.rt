@@ -114,6 +114,13 @@ impl<L: Ledger, S: SwapSlot> Space<L, S> {
         self.recorded.running().output()
     }
 
+    /// What was written, to be kept.
+    pub fn into_output(self) -> Vec<u8>
+        ensures { result.items ≡ self.running.environment.output }
+    {
+        self.recorded.into_output()
+    }
+
     /// How the process ended, if it did.
     pub fn end(&self) -> Option<End>
         ensures { result ≡ self.now.running.ending }

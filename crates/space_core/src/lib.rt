@@ -10,6 +10,7 @@ mod same_image;
 mod settling;
 mod slicing;
 mod space;
+mod space_coherence;
 mod space_moves;
 mod space_paging;
 mod space_slice;

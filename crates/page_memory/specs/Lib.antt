@@ -8,3 +8,5 @@ pub mod PageMap
 pub mod ZeroedLaws
 pub mod AccessLaws
 pub mod StandsForLaws
+pub mod Hints
+pub mod HintsLaws

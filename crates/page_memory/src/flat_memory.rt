@@ -1,18 +1,17 @@
-ghost use Rattle.std.specs.Prelude.{◌≡◌, ◌+◌, ◌≤◌, ◌^◌, ◌<◌, ◌%◌, Ok, Err, MatchResult, IfOk, IfErr, OnOk, OnErr, length, option_map, option_and_then, IfSome, IsTrue, IsErr, None};
+ghost use Rattle.std.specs.Prelude.{◌≡◌, ◌+◌, ◌≤◌, ◌^◌, ◌<◌, ◌%◌, Ok, Err, MatchResult, IfOk, IfErr, OnOk, OnErr, length, IsErr, None};
 ghost use Rattle.std.specs.FinMap as map;
-ghost use Rattle.std.specs.Ordering.{nat_cmp};
-ghost use Rattle.std.specs.Option.{IsSomeAnd};
-ghost use Rattle.page_memory.specs.Rights.{may};
-ghost use Rattle.page_memory.specs.Memory.{Memory, with_right, usable, aligned_page, fetched, loaded, stored, answered, number_at, copied_out, copied_in, byte_at, zero_page, with_zeroed};
+ghost use Rattle.page_memory.specs.Memory.{Memory, usable, aligned_page, fetched, loaded, stored, answered, number_at, copied_out, copied_in, byte_at, with_zeroed};
 ghost use Rattle.page_memory.specs.declared.words.Access.{Access};
 ghost use Rattle.page_memory.specs.Words.{bytes_in, page_offset};
-ghost use Rattle.page_memory.specs.Entries.{place_of, value_at, added, with_added};
 
+use crate::allowed::{page_allowed, place_allowed};
 use crate::fault::MemoryFault;
+use crate::hint::{Hint, Hints, hint_for, remember, start_if_aligned};
 use crate::page::Page;
 use crate::page_map::PageMap;
 use crate::rights::Rights;
 use crate::words::{Access, Width, offset_in_page, page_of};
+use crate::zeroing::add_all_zeroed;
 use std::alloc::{AllocError, Global};
 use std::marker::Model;
 
@@ -21,6 +20,7 @@ use std::marker::Model;
 pub struct FlatMemory {
     alloc: Global,
     pages: PageMap<Page>,
+    hints: Hints,
 }
 
 impl Model for FlatMemory {
@@ -34,6 +34,10 @@ impl Model for FlatMemory {
     ghost coded = { map.code coded_ℕ page.the_row.coded };
 
     ghost view = { λ memory. map.from_entries memory.pages };
+
+    ghost use Rattle.page_memory.specs.Hints.{Remembers};
+
+    ghost invariant = { λ memory. Remembers memory.pages memory.hints };
 }
 
 impl FlatMemory {
@@ -44,6 +48,7 @@ impl FlatMemory {
         Ok(FlatMemory {
             alloc,
             pages: PageMap::new(alloc)?,
+            hints: Hints::new(),
         })
     }
 
@@ -55,6 +60,7 @@ impl FlatMemory {
         ensures ok { OnOk result (self.new ≡ map.insert self.old number page) }
         ensures err { OnErr result (self.new ≡ self.old) }
     {
+        self.hints = Hints::new();
         self.pages.insert(self.alloc, number, page)?;
         Ok(())
     }
@@ -68,32 +74,75 @@ impl FlatMemory {
         ensures err { OnErr result (self.new ≡ self.old) }
         ensures some { IsErr result → 0 < count }
     {
+        self.hints = Hints::new();
         add_all_zeroed(&mut self.pages, self.alloc, first, count)
     }
 
     /// Fetches the instruction word at an address. The page is remembered, so that the next fetch from
-    /// it takes no look-up.
+    /// it takes neither a look-up nor a test of its rights.
     #[inline]
-    #[tactic(auto, unfolding(crate::specs::Memory::fetched, crate::specs::Memory::aligned_page))]
     pub fn fetch(&mut self, address: u32) -> Result<u32, MemoryFault>
+        ensures word { result ≡ fetched self.old address }
+        ensures memory { self.new ≡ self.old }
+    {
+        let start = start_if_aligned(address, Width::Word);
+        if start == self.hints.fetched.start {
+            let page = self.pages.at(self.hints.fetched.place);
+            Ok(page.number(Width::Word, address))
+        } else {
+            self.fetch_anew(address)
+        }
+    }
+
+    /// The same from a page that is not remembered.
+    #[cold]
+    #[inline(never)]
+    #[tactic(auto, using(crate::specs::HintsLaws::not_fetched))]
+    fn fetch_anew(&mut self, address: u32) -> Result<u32, MemoryFault>
         ensures word { result ≡ fetched self.old address }
         ensures memory { self.new ≡ self.old }
     {
         if address % 4 != 0 {
             return Err(MemoryFault::Misaligned);
         }
-        self.pages.remember(page_of(address));
-        let page = self.remembered_page(Access::Fetch, address)?;
+        let place = place_allowed(&self.pages, page_of(address), Access::Fetch)?;
+        self.hints.fetched = Hint {
+            start: address / 4096 * 4096,
+            place,
+        };
+        let page = self.pages.at(place);
         Ok(page.number(Width::Word, address))
     }
 
-    /// Loads the number at an address, with zeros above it.
+    /// Loads the number at an address, with zeros above it. The page is remembered.
     #[inline]
-    #[tactic(auto, unfolding(crate::specs::Memory::loaded))]
-    pub fn load(&self, width: Width, address: u32) -> Result<u32, MemoryFault>
-        ensures { result ≡ loaded self.now width address }
+    pub fn load(&mut self, width: Width, address: u32) -> Result<u32, MemoryFault>
+        ensures number { result ≡ loaded self.old width address }
+        ensures memory { self.new ≡ self.old }
     {
-        let page = self.page_for(Access::Load, width, address)?;
+        let hint = hint_for(&self.hints.loaded, address);
+        if start_if_aligned(address, width) == hint.start {
+            let page = self.pages.at(hint.place);
+            Ok(page.number(width, address))
+        } else {
+            self.load_anew(width, address)
+        }
+    }
+
+    /// The same from a page that is not remembered.
+    #[inline(never)]
+    #[tactic(auto, using(crate::specs::HintsLaws::not_loaded))]
+    fn load_anew(&mut self, width: Width, address: u32) -> Result<u32, MemoryFault>
+        ensures number { result ≡ loaded self.old width address }
+        ensures memory { self.new ≡ self.old }
+    {
+        if address % width.bytes() != 0 {
+            return Err(MemoryFault::Misaligned);
+        }
+        let place = place_allowed(&self.pages, page_of(address), Access::Load)?;
+        let start = address / 4096 * 4096;
+        remember(&mut self.hints.loaded, address, Hint { start, place });
+        let page = self.pages.at(place);
         Ok(page.number(width, address))
     }
 
@@ -106,10 +155,27 @@ impl FlatMemory {
         Ok(page.number(Width::Word, address))
     }
 
-    /// Stores the low bytes of a word at an address.
+    /// Stores the low bytes of a word at an address. The page is remembered.
     #[inline]
-    #[tactic(auto, using(crate::specs::AccessLaws::not_stored))]
     pub fn store(&mut self, width: Width, address: u32, word: u32) -> Result<(), MemoryFault>
+        ensures ok { OnOk result (stored self.old width address word ≡ Ok self.new) }
+        ensures fault { IfErr result (λ fault. stored self.old width address word ≡ Err fault) }
+        ensures err { OnErr result (self.new ≡ self.old) }
+    {
+        let hint = hint_for(&self.hints.stored, address);
+        if start_if_aligned(address, width) == hint.start {
+            let page = self.pages.at_mut(hint.place);
+            page.put_number(width, address, word);
+            Ok(())
+        } else {
+            self.store_anew(width, address, word)
+        }
+    }
+
+    /// The same to a page that is not remembered.
+    #[inline(never)]
+    #[tactic(auto, using(crate::specs::AccessLaws::not_stored))]
+    fn store_anew(&mut self, width: Width, address: u32, word: u32) -> Result<(), MemoryFault>
         ensures ok { OnOk result (stored self.old width address word ≡ Ok self.new) }
         ensures fault { IfErr result (λ fault. stored self.old width address word ≡ Err fault) }
         ensures err { OnErr result (self.new ≡ self.old) }
@@ -117,7 +183,9 @@ impl FlatMemory {
         if address % width.bytes() != 0 {
             return Err(MemoryFault::Misaligned);
         }
-        let place = place_to_write(&self.pages, page_of(address))?;
+        let place = place_allowed(&self.pages, page_of(address), Access::Store)?;
+        let start = address / 4096 * 4096;
+        remember(&mut self.hints.stored, address, Hint { start, place });
         self.pages.at_mut(place).put_number(width, address, word);
         Ok(())
     }
@@ -144,7 +212,7 @@ impl FlatMemory {
         ensures fault { IfErr result (λ fault. copied_in self.old address from.now ≡ Err fault) }
         ensures err { OnErr result (self.new ≡ self.old) }
     {
-        let place = place_to_write(&self.pages, page_of(address))?;
+        let place = place_allowed(&self.pages, page_of(address), Access::Store)?;
         self.pages
             .at_mut(place)
             .put_bytes(offset_in_page(address), from);
@@ -170,15 +238,6 @@ impl FlatMemory {
         page_allowed(&self.pages, place, access)
     }
 
-    /// The same, found at once where its page is the one that was remembered last.
-    #[inline]
-    fn remembered_page(&self, access: Access, address: u32) -> Result<&Page, MemoryFault>
-        ensures { MatchResult result (λ page. usable self.now access address ≡ Ok page.now) (λ fault. usable self.now access address ≡ Err fault) }
-    {
-        let place = self.pages.place_remembered(page_of(address));
-        page_allowed(&self.pages, place, access)
-    }
-
     /// The page that an access of so many bytes may use.
     #[inline]
     #[tactic(auto, unfolding(crate::specs::Memory::aligned_page))]
@@ -191,86 +250,4 @@ impl FlatMemory {
         }
         self.usable_page(access, address)
     }
-}
-
-/// The page at a place, if there is one and it may be used so.
-#[inline]
-#[tactic(auto, using(crate::specs::EntriesLaws::value_by_place))]
-fn page_allowed(
-    pages: &PageMap<Page>,
-    place: Option<usize>,
-    access: Access,
-) -> Result<&Page, MemoryFault>
-    requires { IfSome place (λ place. place < length pages.now) }
-    ensures { let found = option_and_then (λ place. value_at place pages.now) place in
-        MatchResult result (λ page. with_right access found ≡ Ok page.now) (λ fault. with_right access found ≡ Err fault) }
-{
-    let Some(place) = place else {
-        return Err(MemoryFault::PageFault);
-    };
-    let page = pages.at(place);
-    if page.rights().allow(access) {
-        Ok(page)
-    } else {
-        Err(MemoryFault::PageFault)
-    }
-}
-
-/// The place of a page that may be written.
-#[inline]
-#[tactic(auto, using(crate::specs::EntriesLaws::value_by_place))]
-fn place_to_write(pages: &PageMap<Page>, number: u32) -> Result<usize, MemoryFault>
-    requires { number < 2 ^ 20 }
-    ensures place { IfOk result (λ place. place_of number pages.now ≡ Some place) }
-    ensures within { IfOk result (λ place. place < length pages.now) }
-    ensures allowed { IfOk result (λ place. IsSomeAnd (value_at place pages.now) (λ page. IsTrue (may Access.Store page.rights))) }
-    ensures fault { IfErr result (λ fault. with_right Access.Store (map.get (map.from_entries {R = nat_cmp} pages.now) number) ≡ Err fault) }
-{
-    let Some(place) = pages.place(number) else {
-        return Err(MemoryFault::PageFault);
-    };
-    if pages.at(place).rights().allow(Access::Store) {
-        Ok(place)
-    } else {
-        Err(MemoryFault::PageFault)
-    }
-}
-
-/// Adds a page of zeros at each of so many page numbers from the first on that has none, or at none.
-#[tactic(auto, using(crate::specs::EntriesLaws::front_stays), unfolding(crate::specs::Entries::with_added))]
-fn add_all_zeroed(
-    pages: &mut PageMap<Page>,
-    alloc: Global,
-    first: u32,
-    count: u32,
-) -> Result<(), AllocError>
-    requires { first + count ≤ 2 ^ 20 }
-    ensures ok { OnOk result (pages.new ≡ with_added first count zero_page pages.old) }
-    ensures err { OnErr result (pages.new ≡ pages.old) }
-    ensures some { IsErr result → 0 < count }
-{
-    let before = pages.len();
-    for number in first..first + count {
-        if add_zeroed(pages, alloc, number).is_err() {
-            pages.truncate(before);
-            return Err(AllocError);
-        }
-    }
-    Ok(())
-}
-
-/// Adds a page of zeros at a page number that has none.
-#[tactic(auto, using(crate::specs::EntriesLaws::added_behind), unfolding(crate::specs::Entries::added))]
-fn add_zeroed(pages: &mut PageMap<Page>, alloc: Global, number: u32) -> Result<(), AllocError>
-    requires { number < 2 ^ 20 }
-    ensures ok { OnOk result (pages.new ≡ added number zero_page pages.old) }
-    ensures err { OnErr result (pages.new ≡ pages.old) }
-    ensures absent { IsErr result → place_of number pages.old ≡ None }
-{
-    if pages.place(number).is_some() {
-        return Ok(());
-    }
-    let page = Page::zeroed(alloc, Rights::READ_WRITE)?;
-    pages.insert(alloc, number, page)?;
-    Ok(())
 }

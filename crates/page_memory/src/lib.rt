@@ -5,14 +5,17 @@
 //! set of rights.
 #![tactic(auto)]
 
+mod allowed;
 mod fault;
 mod flat_memory;
+mod hint;
 mod page;
 mod page_bytes;
 mod page_index;
 mod page_map;
 mod rights;
 mod words;
+mod zeroing;
 
 pub use fault::MemoryFault;
 pub use flat_memory::FlatMemory;

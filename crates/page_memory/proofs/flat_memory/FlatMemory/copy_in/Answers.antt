@@ -7,6 +7,7 @@ use Rattle.page_memory.specs.Rights.{may}
 use Rattle.page_memory.specs.Memory.{copied_in, overwritten}
 use Rattle.page_memory.specs.Entries.{place_of, with_value}
 use Rattle.page_memory.specs.AccessLaws.{copied_at}
+use Rattle.page_memory.specs.HintsLaws.{still_remembered}
 use Rattle.page_memory.proofs.flat_memory.FlatMemory.copy_in.Goals as goal
 
 pub returns-clause-ok : goal.returns-clause-ok
@@ -16,3 +17,7 @@ returns-clause-ok c =
     ap (λ m. copied_in m c.args.address c.args.from.now) (sym c.self.view_is)
     ∙ copied_at c.self.inside.pages c.args.address c.args.from.now c.in_ok-place.place c.at_mut.result.now at c.at_mut.ensures.value allowed
     ∙ ap (λ p. Ok (from_entries {R = nat_cmp} (with_value c.self.inside.pages c.in_ok-place.place p))) (sym (c.put_bytes.ensures ∙ ap (λ o. record c.at_mut.result.now { bytes = overwritten c.at_mut.result.now.bytes o c.args.from.now }) c.offset_in_page.ensures.offset))
+
+pub invariant_of-self : goal.invariant_of-self
+invariant_of-self c =
+    still_remembered c.self.inside.pages c.self.inside.hints c.in_ok-place.place c.at_mut.result.now c.put_bytes.new.self c.at_mut.ensures.value (ap (λ p. p.rights) c.put_bytes.ensures) c.self.invariant

@@ -1,7 +1,7 @@
 use Rattle.std.proofs.Common.{ap, sym, ◌∙◌, ◌++◌, ◌∷◌, [], rules}
 use Rattle.page_memory.specs.Memory.{zero_page}
 use Rattle.page_memory.specs.EntriesLaws.{added_behind}
-use Rattle.page_memory.proofs.flat_memory.add_zeroed.Goals as goal
+use Rattle.page_memory.proofs.zeroing.add_zeroed.Goals as goal
 
 pub returns-clause-ok : goal.returns-clause-ok
 returns-clause-ok c =

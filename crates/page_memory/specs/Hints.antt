@@ -1,0 +1,34 @@
+-- What is remembered of a page that was found: the first address that it serves, and its place.
+use Rattle.std.specs.Prelude.{◌≡◌, ℕ, ◌+◌, ◌*◌, ◌<◌, Bool, true, List, All, length, Option, Some, option_map}
+use Rattle.page_memory.specs.declared.words.Access.{Access}
+use Rattle.page_memory.specs.declared.words.Access.TheVariants.{Fetch, Load, Store}
+use Rattle.page_memory.specs.declared.hint.Hint.{Hint}
+use Rattle.page_memory.specs.declared.hint.Hints.{Hints}
+use Rattle.page_memory.specs.Rights.{may}
+use Rattle.page_memory.specs.Memory.{Page}
+use Rattle.page_memory.specs.Entries.{place_of, value_at}
+
+-- whether the page at a place may be used so
+abbrev pub may_at : Access → ℕ → List (ℕ × Page) → Option Bool
+may_at access place pages = option_map (λ page. may access page.rights) (value_at place pages)
+
+-- a page stands at a place and may be used so
+pub record Stands (access : Access) (pages : List (ℕ × Page)) (number place : ℕ) : Type 0 where
+  pub within : place < length pages
+  pub there : place_of number pages ≡ Some place
+  pub allowed : may_at access place pages ≡ Some true
+
+-- an address whose offset past its page's start is below 4 is such a start only where the page stands at the place
+pub record Leads (access : Access) (pages : List (ℕ × Page)) (start place : ℕ) : Type 0 where
+  pub aligned : (number past : ℕ) → past < 4 → number * 4096 + past ≡ start → past ≡ 0
+  pub stands : (number past : ℕ) → past < 4 → number * 4096 + past ≡ start → Stands access pages number place
+
+-- each of these pages, where it is one
+abbrev pub LeadAll : Access → List (ℕ × Page) → List Hint → Type 0
+LeadAll access pages hints = All (λ hint. Leads access pages hint.start hint.place) hints
+
+-- what is remembered holds of these pages
+pub record Remembers (pages : List (ℕ × Page)) (hints : Hints) : Type 0 where
+  pub fetched : Leads Fetch pages hints.fetched.start hints.fetched.place
+  pub loaded : LeadAll Load pages hints.loaded
+  pub stored : LeadAll Store pages hints.stored

@@ -1,0 +1,154 @@
+-- How what is remembered of a page serves an access, and how it is kept.
+use Rattle.std.proofs.Common.{◌≡◌, ℕ, zero, suc, ◌+◌, ◌*◌, ◌/◌, ◌%◌, ◌<◌, List, [], ◌∷◌, length, replicate, set, slice_set, Contains, Bool, true, false, ◌≢◌, IsTrue, Option, Some, None, option_map, option_and_then, Result, Ok, Err, arith, refl, sym, ap, ◌∙◌, ne_eqb}
+use Rattle.std.proofs.lemmas.Option.{none-some, same_Some}
+use Rattle.std.specs.Ordering.{nat_cmp}
+use Rattle.std.specs.Option.{IsSomeAnd}
+use Rattle.std.specs.FinMap.{get, from_entries}
+use Rattle.page_memory.specs.declared.fault.MemoryFault.{MemoryFault}
+use Rattle.page_memory.specs.declared.fault.MemoryFault.TheVariants.{Misaligned, PageFault}
+use Rattle.page_memory.specs.declared.words.Access.{Access}
+use Rattle.page_memory.specs.declared.words.Access.TheVariants.{Fetch, Load, Store}
+use Rattle.byteorder.specs.Endian.{little_bytes}
+use Rattle.page_memory.specs.declared.words.Width.{Width}
+use Rattle.page_memory.specs.declared.words.Width.TheVariants.{Byte, Half, Word}
+use Rattle.page_memory.specs.Words.{page_number, page_offset, bytes_in}
+use Rattle.page_memory.specs.Rights.{may}
+use Rattle.page_memory.specs.Memory.{Page, Memory, with_right, answered, stored, memory_with, overwritten, loaded, number_at, aligned_page, usable, fetched, if_aligned}
+use Rattle.page_memory.specs.Entries.{place_of, value_at, with_value}
+use Rattle.page_memory.specs.EntriesLaws.{value_by_place, replaced_value, place_of-with_value, length-with_value}
+use Rattle.page_memory.specs.AccessLaws.{usable_found, aligned_usable, stored_at, stored_misaligned, not_stored_at}
+use Rattle.page_memory.specs.declared.hint.Hint.{Hint}
+use Rattle.page_memory.specs.declared.hint.Hints.{Hints}
+use Rattle.page_memory.specs.Hints.{may_at, Stands, Leads, LeadAll, Remembers}
+use Rattle.std.proofs.lemmas.List.Elements.{All-replicate, All-set, All-weaker, All-contains}
+
+-- 4 is past the start of every page
+pub leads_nowhere : (access : Access) (pages : List (ℕ × Page)) (place : ℕ) → Leads access pages 4 place
+leads_nowhere access pages place = record { aligned = λ number past below e. absurd (omega arith); stands = λ number past below e. absurd (omega arith) }
+
+-- the start of a page that stands there
+pub leads_there : (access : Access) (pages : List (ℕ × Page)) (address start place : ℕ) → start ≡ address / 4096 * 4096 → Stands access pages (page_number address) place → Leads access pages start place
+leads_there access pages address start place is stands =
+    record {
+      aligned = λ number past below e. omega arith;
+      stands = λ number past below e. let same : number ≡ page_number address = omega arith in rw same stands;
+    }
+
+-- the page at the place, where an address leads there
+pub led : (access : Access) (pages : List (ℕ × Page)) (width address start place : ℕ) (page : Page) → Leads access pages start place
+    → address % width < 4 → address / 4096 * 4096 + address % width ≡ start → value_at place pages ≡ Some page → aligned_page (from_entries pages) access width address ≡ Ok page
+led access pages width address start place page leads below e is =
+    let stands = leads.stands (page_number address) (address % width) below e in
+    let found : get (from_entries {R = nat_cmp} pages) (page_number address) ≡ Some page = value_by_place pages (page_number address) ∙ ap (option_and_then (λ k. value_at k pages)) stands.there ∙ is in
+    aligned_usable (from_entries pages) access width address (Ok page) (leads.aligned (page_number address) (address % width) below e)
+    (usable_found (from_entries pages) access address page found (same_Some _ _ (sym (ap (option_map (λ p. may access p.rights)) is) ∙ stands.allowed)))
+
+-- a page with other bytes and the same rights is allowed what it was
+allowed_stays : (access : Access) (pages : List (ℕ × Page)) (changed place : ℕ) (old new : Page) → value_at changed pages ≡ Some old → new.rights ≡ old.rights → may_at access place (with_value pages changed new) ≡ may_at access place pages
+unfolding with_value
+allowed_stays access [] changed place old new was same = refl
+allowed_stays access (e ∷ es) zero zero old new was same = ap (λ r. Some (may access r)) (same ∙ ap (λ p. p.rights) (sym (same_Some _ _ was)))
+allowed_stays access (e ∷ es) zero (suc place) old new was same = refl
+allowed_stays access (e ∷ es) (suc changed) zero old new was same = refl
+allowed_stays access (e ∷ es) (suc changed) (suc place) old new was same = allowed_stays access es changed place old new was same
+
+pub still_leads : (access : Access) (pages : List (ℕ × Page)) (start place changed : ℕ) (old new : Page) → value_at changed pages ≡ Some old → new.rights ≡ old.rights → Leads access pages start place → Leads access (with_value pages changed new) start place
+still_leads access pages start place changed old new was same leads =
+    record {
+      aligned = leads.aligned;
+      stands = λ number past below e.
+          let s = leads.stands number past below e in
+          record {
+            within = let l = length-with_value pages changed new in omega (arith, s.within);
+            there = place_of-with_value pages changed number new ∙ s.there;
+            allowed = allowed_stays access pages changed place old new was same ∙ s.allowed;
+          };
+    }
+
+pub fetched_led : (pages : List (ℕ × Page)) (address start place : ℕ) (page : Page) → Leads Fetch pages start place → address / 4096 * 4096 + address % 4 ≡ start → value_at place pages ≡ Some page → fetched (from_entries pages) address ≡ Ok (number_at 4 address page)
+unfolding fetched
+fetched_led pages address start place page leads e is = ap (answered (number_at 4 address)) (led Fetch pages 4 address start place page leads (omega arith) e is)
+
+allowed_of : (access : Access) (found : Option Page) → IsSomeAnd found (λ page. IsTrue (may access page.rights)) → option_map (λ (page : Page). may access page.rights) found ≡ Some true
+allowed_of access None never = absurd never
+allowed_of access (Some page) is = ap Some is
+
+-- a page that was found stands at its place
+pub stands_of : (access : Access) (pages : List (ℕ × Page)) (number place : ℕ) → place < length pages → place_of number pages ≡ Some place → IsSomeAnd (value_at place pages) (λ page. IsTrue (may access page.rights)) → Stands access pages number place
+stands_of access pages number place within there allowed = record { within = within; there = there; allowed = allowed_of access (value_at place pages) allowed }
+
+-- what is fetched from it
+pub fetched_there : (pages : List (ℕ × Page)) (address place : ℕ) (page : Page) → address % 4 ≡ 0 → Stands Fetch pages (page_number address) place → value_at place pages ≡ Some page → fetched (from_entries pages) address ≡ Ok (number_at 4 address page)
+fetched_there pages address place page aligned stands is =
+    fetched_led pages address (address / 4096 * 4096) place page (leads_there Fetch pages address (address / 4096 * 4096) place refl stands) (omega arith) is
+
+pub fetched_misaligned : (memory : Memory) (address : ℕ) → address % 4 ≢ 0 → fetched memory address ≡ Err Misaligned
+unfolding fetched aligned_page
+fetched_misaligned memory address odd = ap (λ b. answered (number_at 4 address) (if_aligned b (usable memory Fetch address))) (ne_eqb (address % 4) 0 odd)
+
+pub not_fetched_there : (memory : Memory) (address : ℕ) (fault : MemoryFault) → address % 4 ≡ 0 → with_right Fetch (get memory (page_number address)) ≡ Err fault → fetched memory address ≡ Err fault
+unfolding fetched usable
+not_fetched_there memory address fault aligned is = ap (answered (number_at 4 address)) (aligned_usable memory Fetch 4 address _ aligned is)
+
+pub ruleset not_fetched = (fetched_misaligned, not_fetched_there)
+
+pub below_four : (width : Width) (address : ℕ) → address % bytes_in width < 4
+below_four Byte address = omega arith
+below_four Half address = omega arith
+below_four Word address = omega arith
+
+-- a hint of those that lead
+pub one_of : (access : Access) (pages : List (ℕ × Page)) (hints : List Hint) (hint : Hint) → LeadAll access pages hints → Contains hints hint → Leads access pages hint.start hint.place
+one_of access pages hints hint all among = All-contains (λ (h : Hint). Leads access pages h.start h.place) hints hint all among
+
+pub loaded_led : (pages : List (ℕ × Page)) (width : Width) (address start place : ℕ) (page : Page) → Leads Load pages start place → address / 4096 * 4096 + address % bytes_in width ≡ start → value_at place pages ≡ Some page → loaded (from_entries pages) width address ≡ Ok (number_at (bytes_in width) address page)
+unfolding loaded
+loaded_led pages width address start place page leads e is = ap (answered (number_at (bytes_in width) address)) (led Load pages (bytes_in width) address start place page leads (below_four width address) e is)
+
+pub loaded_there : (pages : List (ℕ × Page)) (width : Width) (address place : ℕ) (page : Page) → address % bytes_in width ≡ 0 → Stands Load pages (page_number address) place → value_at place pages ≡ Some page → loaded (from_entries pages) width address ≡ Ok (number_at (bytes_in width) address page)
+loaded_there pages width address place page aligned stands is =
+    loaded_led pages width address (address / 4096 * 4096) place page (leads_there Load pages address (address / 4096 * 4096) place refl stands) (omega arith) is
+
+pub loaded_misaligned : (memory : Memory) (width : Width) (address : ℕ) → address % bytes_in width ≢ 0 → loaded memory width address ≡ Err Misaligned
+unfolding loaded aligned_page
+loaded_misaligned memory width address odd = ap (λ b. answered (number_at (bytes_in width) address) (if_aligned b (usable memory Load address))) (ne_eqb (address % bytes_in width) 0 odd)
+
+pub not_loaded_there : (memory : Memory) (width : Width) (address : ℕ) (fault : MemoryFault) → address % bytes_in width ≡ 0 → with_right Load (get memory (page_number address)) ≡ Err fault → loaded memory width address ≡ Err fault
+unfolding loaded usable
+not_loaded_there memory width address fault aligned is = ap (answered (number_at (bytes_in width) address)) (aligned_usable memory Load (bytes_in width) address _ aligned is)
+
+pub ruleset not_loaded = (loaded_misaligned, not_loaded_there)
+
+-- what a store changes where a hint leads
+pub stored_led : (pages : List (ℕ × Page)) (width : Width) (address word start place : ℕ) (page : Page) → Leads Store pages start place → address / 4096 * 4096 + address % bytes_in width ≡ start → value_at place pages ≡ Some page → stored (from_entries pages) width address word ≡ Ok (from_entries (with_value pages place (record page { bytes = overwritten page.bytes (page_offset address) (little_bytes (bytes_in width) word) })))
+stored_led pages width address word start place page leads e is =
+    let stands = leads.stands (page_number address) (address % bytes_in width) (below_four width address) e in
+    stored_at pages width address word place page (leads.aligned (page_number address) (address % bytes_in width) (below_four width address) e) stands.there is
+    (same_Some _ _ (sym (ap (option_map (λ p. may Store p.rights)) is) ∙ stands.allowed))
+
+-- no page is remembered
+pub nothing_remembered : (pages : List (ℕ × Page)) (hints : Hints) → hints.fetched ≡ record { start = 4; place = 0 } → hints.loaded ≡ replicate 64 (record { start = 4; place = 0 }) → hints.stored ≡ replicate 64 (record { start = 4; place = 0 }) → Remembers pages hints
+nothing_remembered pages hints fetched loaded stored =
+    record {
+      fetched = rw fetched (leads_nowhere Fetch pages 0);
+      loaded = rw loaded (All-replicate (λ (h : Hint). Leads Load pages h.start h.place) 64 _ (leads_nowhere Load pages 0));
+      stored = rw stored (All-replicate (λ (h : Hint). Leads Store pages h.start h.place) 64 _ (leads_nowhere Store pages 0));
+    }
+
+-- what is remembered holds on where a page's bytes change
+pub still_remembered : (pages : List (ℕ × Page)) (hints : Hints) (changed : ℕ) (old new : Page) → value_at changed pages ≡ Some old → new.rights ≡ old.rights → Remembers pages hints → Remembers (with_value pages changed new) hints
+still_remembered pages hints changed old new was same is =
+    record {
+      fetched = still_leads Fetch pages hints.fetched.start hints.fetched.place changed old new was same is.fetched;
+      loaded = all_still Load hints.loaded is.loaded;
+      stored = all_still Store hints.stored is.stored;
+    }
+  where
+    all_still : (access : Access) (among : List Hint) → LeadAll access pages among → LeadAll access (with_value pages changed new) among
+    all_still access among all =
+        All-weaker (λ (h : Hint). Leads access pages h.start h.place) (λ (h : Hint). Leads access (with_value pages changed new) h.start h.place)
+        (λ h leads. still_leads access pages h.start h.place changed old new was same leads) among all
+
+-- one more page is remembered
+pub one_remembered : (access : Access) (pages : List (ℕ × Page)) (hints : List Hint) (i : ℕ) (hint : Hint) → Leads access pages hint.start hint.place → LeadAll access pages hints → LeadAll access pages (slice_set hints i hint)
+one_remembered access pages hints i hint leads all = All-set (λ (h : Hint). Leads access pages h.start h.place) hints i hint leads all

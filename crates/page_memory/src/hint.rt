@@ -1,0 +1,73 @@
+ghost use Rattle.std.specs.Prelude.{◌≡◌, ℕ, ◌+◌, ◌*◌, ◌/◌, ◌%◌, List, Contains, slice_set, replicate};
+ghost use Rattle.page_memory.specs.Words.{page_number, bytes_in};
+ghost use Rattle.page_memory.specs.Memory.{Page};
+ghost use Rattle.page_memory.specs.Hints.{Remembers};
+
+use crate::words::Width;
+
+/// What is remembered of a page that was found: its first address and its place.
+#[derive(Clone, Copy, Debug, PartialEq, Eq)]
+pub(crate) struct Hint {
+    pub(crate) start: u32,
+    pub(crate) place: usize,
+}
+
+/// No page: none starts at 4, and no address less than 4 past its page's start is 4.
+const NOWHERE: Hint = Hint { start: 4, place: 0 };
+
+/// How many pages are remembered for loads, and for stores: one for each number that the low bits of a
+/// page number can have.
+const COUNT: u32 = 64;
+
+/// The pages that were found last and had the right: the one fetched from, and those loaded from and
+/// stored to.
+#[derive(Clone, Copy, Debug, PartialEq, Eq)]
+pub(crate) struct Hints {
+    pub(crate) fetched: Hint,
+    pub(crate) loaded: [Hint; COUNT as usize],
+    pub(crate) stored: [Hint; COUNT as usize],
+}
+
+impl Hints {
+    /// No page is remembered.
+    pub(crate) fn new() -> Self
+        ensures { (pages : List (ℕ × Page)) → Remembers pages result }
+    {
+        Hints {
+            fetched: NOWHERE,
+            loaded: nowhere(),
+            stored: nowhere(),
+        }
+    }
+}
+
+fn nowhere() -> [Hint; COUNT as usize]
+    ensures { result ≡ replicate 64 (record { start = 4; place = 0 }) }
+{
+    [NOWHERE; COUNT as usize]
+}
+
+/// The hint that may serve an address.
+#[inline]
+pub(crate) fn hint_for(hints: &[Hint; COUNT as usize], address: u32) -> Hint
+    ensures { Contains hints.now result }
+{
+    hints[(address / 4096 % COUNT) as usize]
+}
+
+/// Remembers a page for an address.
+#[inline]
+pub(crate) fn remember(hints: &mut [Hint; COUNT as usize], address: u32, hint: Hint)
+    ensures { hints.new ≡ slice_set hints.old (page_number address % 64) hint }
+{
+    hints[(address / 4096 % COUNT) as usize] = hint;
+}
+
+/// The first address of an address's page, and what the address is past a multiple of an access's width:
+/// one comparison with a page's first address tells that it is this page's, and that the access is aligned.
+#[inline]
+pub(crate) fn start_if_aligned(address: u32, width: Width) -> u32
+    ensures { result ≡ address / 4096 * 4096 + address % bytes_in width }
+{
+    address / 4096 * 4096 + address % width.bytes()
+}

@@ -1,0 +1,47 @@
+ghost use Rattle.std.specs.Prelude.{◌≡◌, ◌+◌, ◌≤◌, ◌^◌, ◌<◌, OnOk, OnErr, IsErr, None};
+ghost use Rattle.page_memory.specs.Memory.{zero_page};
+ghost use Rattle.page_memory.specs.Entries.{place_of, added, with_added};
+
+use crate::page::Page;
+use crate::page_map::PageMap;
+use crate::rights::Rights;
+use std::alloc::{AllocError, Global};
+
+/// Adds a page of zeros at each of so many page numbers from the first on that has none, or at none.
+#[tactic(auto, using(crate::specs::EntriesLaws::front_stays), unfolding(crate::specs::Entries::with_added))]
+pub(crate) fn add_all_zeroed(
+    pages: &mut PageMap<Page>,
+    alloc: Global,
+    first: u32,
+    count: u32,
+) -> Result<(), AllocError>
+    requires { first + count ≤ 2 ^ 20 }
+    ensures ok { OnOk result (pages.new ≡ with_added first count zero_page pages.old) }
+    ensures err { OnErr result (pages.new ≡ pages.old) }
+    ensures some { IsErr result → 0 < count }
+{
+    let before = pages.len();
+    for number in first..first + count {
+        if add_zeroed(pages, alloc, number).is_err() {
+            pages.truncate(before);
+            return Err(AllocError);
+        }
+    }
+    Ok(())
+}
+
+/// Adds a page of zeros at a page number that has none.
+#[tactic(auto, using(crate::specs::EntriesLaws::added_behind), unfolding(crate::specs::Entries::added))]
+fn add_zeroed(pages: &mut PageMap<Page>, alloc: Global, number: u32) -> Result<(), AllocError>
+    requires { number < 2 ^ 20 }
+    ensures ok { OnOk result (pages.new ≡ added number zero_page pages.old) }
+    ensures err { OnErr result (pages.new ≡ pages.old) }
+    ensures absent { IsErr result → place_of number pages.old ≡ None }
+{
+    if pages.place(number).is_some() {
+        return Ok(());
+    }
+    let page = Page::zeroed(alloc, Rights::READ_WRITE)?;
+    pages.insert(alloc, number, page)?;
+    Ok(())
+}

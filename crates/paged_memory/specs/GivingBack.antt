@@ -6,6 +6,8 @@ use Rattle.page_store.specs.Moves.{given_back}
 use Rattle.sv32_table.specs.Entry.{blank}
 use Rattle.sv32_table.specs.EntryAt.{ChangesEntry}
 use Rattle.paged_memory.specs.Calls.{ChangesBy}
+use Rattle.paged_memory.specs.Leaving.{IsSaving}
+use Rattle.paged_memory.specs.Paged.{page_at}
 
 module _ {S : Type 0} where
   -- a page gives back its frame and its slot, and is given up
@@ -23,3 +25,9 @@ module _ {S : Type 0} where
   abbrev pub GivesNothing : Option (PageValue S) → Type 0
   GivesNothing (Some page) = given_back page.place ≡ None
   GivesNothing None = Unit {0}
+
+  -- some page is being saved
+  pub record SavesOne (pages : List (ℕ × PageValue S)) : Type 0 where
+    pub number : ℕ
+    pub small : number < 2 ^ 20
+    pub saving : IsSaving (page_at pages number)

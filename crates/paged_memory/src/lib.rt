@@ -17,6 +17,7 @@ mod memory;
 mod peeking;
 mod reading;
 mod saving;
+mod still_saving;
 mod writing;
 
 pub use filling::PageInFault;

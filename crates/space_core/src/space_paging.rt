@@ -1,4 +1,5 @@
 ghost use Rattle.std.specs.Prelude.{◌≡◌, ◌<◌, ◌^◌, ℕ, true, false, Some, IsSome, IfSome, IfNone, OnOk, OnErr, IfOk, IfErr};
+ghost use Rattle.std.specs.Bool.{OnTrue, OnFalse};
 ghost use Rattle.page_memory.specs.Words.{page_number, page_offset};
 ghost use Rattle.sv32_table.specs.Entry.{page_entry};
 ghost use Rattle.sv32_table.specs.EntryAt.{ChangesEntry, AddsTable};
@@ -7,7 +8,8 @@ ghost use Rattle.flat_machine.specs.Schedule.{written_out};
 ghost use Rattle.paged_memory.specs.Paged.{page_at, memory_of};
 ghost use Rattle.paged_memory.specs.Calls.{ChangesBy};
 ghost use Rattle.paged_memory.specs.Filling.{BroughtIn, RefusesPageIn};
-ghost use Rattle.paged_memory.specs.GivingBack.{GivesOne, GivesNothing};
+ghost use Rattle.paged_memory.specs.GivingBack.{GivesOne, GivesNothing, SavesOne};
+ghost use Rattle.paged_memory.specs.Leaving.{IsSaving};
 ghost use Rattle.paged_memory.specs.Peeking.{byte_of, ShowsByte, LeavesPage, RefusesPeek};
 ghost use Rattle.space_core.specs.Caches.{if_ended};
 
@@ -56,6 +58,14 @@ impl<L: Ledger, S: SwapSlot> Space<L, S> {
         ensures stays { self.new ≡ record self.old { memory = record self.old.memory { pages = self.new.memory.pages } } }
     {
         self.memory.peek(address)
+    }
+
+    /// Whether a page is being saved.
+    pub fn is_saving(&self) -> bool
+        ensures some { OnTrue result (SavesOne self.now.memory.pages) }
+        ensures none { OnFalse result ((q : ℕ) → q < 2 ^ 20 → ¬ IsSaving (page_at self.now.memory.pages q)) }
+    {
+        self.memory.is_saving()
     }
 
     /// Once the process has ended, takes the frame and the slot of a page that has either and is not being saved. The page

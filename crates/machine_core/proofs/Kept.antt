@@ -17,7 +17,7 @@ use Rattle.machine_core.proofs.Totals.{total_set, got_set, get_set_same, get_set
 
 module _ {S : Type 0} where
   -- pages that are being saved stay as they are
-  pub SavingsStay : List (ℕ × PageValue S) → List (ℕ × PageValue S) → Type 0
+  unfoldable pub SavingsStay : List (ℕ × PageValue S) → List (ℕ × PageValue S) → Type 0
   SavingsStay old new = (v : ℕ) (page : PageValue S) (frame : FrameValue) → v < 2 ^ 20 → page_at old v ≡ Some page → page.place ≡ Saving frame → page_at new v ≡ Some page
 
   -- what one process and what it shares become

@@ -1,3 +1,7 @@
+pub mod Admissions
+pub mod Cores
+pub mod Finding
 pub mod Kept
+pub mod KeptPages
 pub mod Sweeps
 pub mod Totals

@@ -1,4 +1,7 @@
+pub mod Admitting
+pub mod Loading
 pub mod Machine
+pub mod MachineRun
 pub mod RefusalNumber
 pub mod Sides
 pub mod SweepLaws

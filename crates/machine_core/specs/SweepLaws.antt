@@ -14,9 +14,12 @@ use Rattle.pager_core.specs.Pager.{PagerState, pager_answered}
 use Rattle.space_core.specs.StandsFor.{SpaceValue}
 use Rattle.machine_core.specs.Sides.{PagerSideValue, ProcessSideValue}
 use Rattle.machine_core.specs.Sweeping.{ReadsBit, HeedsVerdict, Evicts, Answers}
-use Rattle.paged_memory.specs.Counting.{residents_of, frames_of}
-use Rattle.machine_core.specs.Together.{Together, residents_in, frames_in, frames_where, key_of}
-use Rattle.machine_core.specs.TogetherLaws.{left_residents, left_frames}
+use Rattle.frame_pool.specs.FrameValue.{FrameValue}
+use Rattle.page_store.specs.PageValue.{PageValue, Saving}
+use Rattle.paged_memory.specs.Counting.{residents_of, savings_of, frames_of, slots_of}
+use Rattle.paged_memory.specs.Paged.{page_at}
+use Rattle.machine_core.specs.Together.{Together, residents_in, savings_in, frames_in, frames_where, key_of}
+use Rattle.machine_core.specs.TogetherLaws.{left_residents, left_frames, left_savings, left_slots, left_stays}
 
 module _ {S : Type 0} where
   -- a bit that is read leaves pages and process
@@ -94,4 +97,43 @@ module _ {S : Type 0} where
             omega (arith, free, b, c);
         size = ap (λ (p : PagerState). p.size) now;
         process = heeded_process verdict key.vpn answers.between process'.space answers.heeded ∙ same.process;
+      }
+
+  -- what a sweep leaves of a process, beside which pages are resident
+  pub record LeavesRest (old new : SpaceValue S) : Type 0 where
+    pub savings : (test : Key → Bool) → savings_in new test ≡ savings_in old test
+    pub slots : slots_of new.memory.pages ≡ slots_of old.memory.pages
+    pub stay : (v : ℕ) (page : PageValue S) (frame : FrameValue) → page_at old.memory.pages v ≡ Some page → page.place ≡ Saving frame → page_at new.memory.pages v ≡ Some page
+
+  same_rest : (old new : SpaceValue S) → SameSpace old new → LeavesRest old new
+  unfolding savings_in
+  same_rest old new same = record {
+    savings = λ test. ap (λ pages. savings_of pages (λ vpn. test (key_of new.memory.process vpn))) same.pages ∙ ap (λ number. savings_of old.memory.pages (λ vpn. test (key_of number vpn))) same.process;
+    slots = ap slots_of same.pages;
+    stay = λ v page frame at saving. ap (λ pages. page_at pages v) same.pages ∙ at;
+  }
+
+  evicted_rest : (vpn : ℕ) (old new : SpaceValue S) → vpn < 2 ^ 20 → Evicts vpn old new → LeavesRest old new
+  unfolding savings_in
+  evicted_rest vpn old new small evicts = record {
+    savings = λ test.
+        ap (λ number. savings_of new.memory.pages (λ v. test (key_of number v))) evicts.process
+        ∙ left_savings _ old.memory.pages new.memory.pages vpn small evicts.page (λ v. test (key_of old.memory.process v));
+    slots = left_slots _ old.memory.pages new.memory.pages vpn small evicts.page;
+    stay = λ v page frame at saving. left_stays _ old.memory.pages new.memory.pages vpn small evicts.page v page frame at saving;
+  }
+
+  heeded_rest : (verdict : Verdict) (vpn : ℕ) (old new : SpaceValue S) → vpn < 2 ^ 20 → HeedsVerdict verdict vpn old new → LeavesRest old new
+  heeded_rest GoOn vpn old new small h = same_rest old new (record { pages = ap (λ (s : SpaceValue S). s.memory.pages) h; process = ap (λ (s : SpaceValue S). s.memory.process) h })
+  heeded_rest (Victim k) vpn old new small h = evicted_rest vpn old new small h
+
+  pub answers_rest : (pager pager' : PagerSideValue) (process process' : ProcessSideValue S) (key : Key) (bit : Bit) (verdict : Verdict) → key.vpn < 2 ^ 20
+      → Answers pager pager' process process' key bit verdict → LeavesRest process.space process'.space
+  answers_rest pager pager' process process' key bit verdict small answers =
+      let first = same_rest process.space answers.between (read_same bit key.vpn process.space answers.between answers.read) in
+      let second = heeded_rest verdict key.vpn answers.between process'.space small answers.heeded in
+      record {
+        savings = λ test. second.savings test ∙ first.savings test;
+        slots = second.slots ∙ first.slots;
+        stay = λ v page frame at saving. second.stay v page frame (first.stay v page frame at saving) saving;
       }

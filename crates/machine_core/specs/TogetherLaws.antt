@@ -1,5 +1,8 @@
 -- What a page's move does to the counts.
-use Rattle.std.proofs.Common.{◌≡◌, ℕ, ◌+◌, ◌^◌, ◌<◌, Bool, true, false, ◌&&◌, cond, List, refl, sym, ap, ◌∙◌, arith}
+use Rattle.std.proofs.Common.{◌≡◌, ℕ, ◌+◌, ◌^◌, ◌<◌, Bool, true, false, ◌&&◌, cond, List, Some, inl, inr, refl, sym, ap, ◌∙◌, arith}
+use Rattle.std.proofs.lemmas.Bool.Decides.{eqb_tells}
+use Rattle.frame_pool.specs.FrameValue.{FrameValue}
+use Rattle.paged_memory.specs.Paged.{page_at}
 use Rattle.page_store.specs.PageValue.{PageValue, Place, Fresh, Resident, Leaving, Saving, Away, Purged, frame_of, slot_of}
 use Rattle.page_store.specs.Moves.{IfResident}
 use Rattle.paged_memory.specs.Calls.{ChangesBy, Leaves}
@@ -51,3 +54,15 @@ module _ {S : Type 0} where
 
     pub left_slots : slots_of new ≡ slots_of old
     left_slots = pages_kept (λ number page. is_kept (slot_of page.place)) old new v leaves.page leaves.page' leaves.found leaves.changes small (ap is_kept moved.slot)
+
+    -- pages that are being saved stay as they are
+    pub left_stays : (q : ℕ) (page : PageValue S) (frame : FrameValue) → page_at old q ≡ Some page → page.place ≡ Saving frame → page_at new q ≡ Some page
+    left_stays q page frame at saving =
+        elim (eqb_tells q v) [
+          | inl same ↦
+              let here : leaves.page ≡ page = let a = leaves.found in let b = at in let c = same.1 in cc in
+              let was : is_resident_place page.place ≡ true = ap (λ (p : PageValue S). is_resident_place p.place) (sym here) ∙ moved.was in
+              let is : is_resident_place page.place ≡ false = ap is_resident_place saving in
+              cc
+          | inr other ↦ leaves.changes.pages q ∙ ap (λ b. cond b (Some leaves.page') (page_at old q)) other.0 ∙ at
+        ]

@@ -4,15 +4,21 @@
 //! Whatever events come in whatever order, each process shows what its instructions compute on flat memory.
 #![tactic(auto)]
 
+mod admission;
+mod core_steps;
 mod error;
 mod event;
+mod loading;
+mod machine;
 mod pager_side;
 mod process_side;
 mod report;
 mod sweeping;
 
+pub use admission::{Admission, NotAdmitted, admit, undo};
 pub use error::{CoreError, EventRefusal};
 pub use event::{Event, Reply};
+pub use machine::Core;
 pub use pager_side::{PagerSide, SideCounts};
 pub use process_side::ProcessSide;
 pub use report::{ProcessReport, Report};

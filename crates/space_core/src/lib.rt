@@ -11,6 +11,7 @@ mod settling;
 mod slicing;
 mod space;
 mod space_coherence;
+mod space_harts;
 mod space_moves;
 mod space_paging;
 mod space_slice;

@@ -1,0 +1,187 @@
+-- The machine stays one by each event of a process, and by a sweep.
+use Rattle.std.proofs.Common.{◌≡◌, ℕ, ◌+◌, ◌<◌, ◌^◌, Bool, true, false, cond, nat_lt, ◌≤◌, ◌++◌, take, drop, List, [], length, Option, Some, None, slice_get, refl, sym, ap, ◌∙◌, arith, subst}
+use Rattle.std.specs.Prelude.{slice_set, slice_index_or, if◌then◌else◌}
+use Rattle.std.proofs.lemmas.Option.{slice_get_within}
+use Rattle.std.proofs.lemmas.List.{length-set, take_all, drop_all, append-nil}
+use Rattle.clock_policy.specs.declared.key.Key.{Key}
+use Rattle.clock_policy.specs.declared.answer.Bit.{Bit}
+use Rattle.clock_policy.specs.declared.answer.Verdict.{Verdict}
+use Rattle.clock_policy.specs.ClockLaws.{answered_lawful}
+use Rattle.clock_policy.specs.ClockPro.{ClockState, question_of, answered}
+use Rattle.clock_policy.specs.KeptLaws.{answered_frames}
+use Rattle.clock_policy.specs.Lawful.{Lawful}
+use Rattle.clock_policy.specs.Residents.{is_gone}
+use Rattle.frame_pool.specs.FrameValue.{FrameValue}
+use Rattle.page_store.specs.PageValue.{PageValue}
+use Rattle.pager_core.specs.Pager.{PagerState, pager_answered}
+use Rattle.flat_machine.specs.declared.end.End.{End}
+use Rattle.flat_machine.specs.declared.end.KillCause.{KillCause}
+use Rattle.tlb_core.specs.Cache.{undoomed}
+use Rattle.space_core.specs.Caches.{noticed, if_killed}
+use Rattle.space_core.specs.RunningValue.{RunningValue}
+use Rattle.space_core.specs.StandsFor.{SpaceValue}
+use Rattle.space_core.specs.declared.progress.SliceStop.{SliceStop}
+use Rattle.machine_core.specs.Machine.{CoreValue, IsMachine}
+use Rattle.page_store.specs.JobValue.{JobValue}
+use Rattle.swap_slots.specs.PoolValue.{PoolValue}
+use Rattle.clock_policy.specs.declared.answer.Verdict.TheVariants.{GoOn}
+use Rattle.clock_policy.specs.declared.answer.Verdict.TheVariants as verdict
+use Rattle.machine_core.specs.declared.event.Reply.{Reply}
+use Rattle.machine_core.specs.declared.event.Reply.TheVariants.{Asked as AskedReply, Victim}
+use Rattle.machine_core.specs.declared.sweeping.Swept.{Swept}
+use Rattle.machine_core.specs.declared.sweeping.Swept.TheVariants as swept
+use Rattle.machine_core.specs.MachineRun.{ChangesOne, StepsOnce, TakesNotices, IsKilled, of_process, is_used, SweepsAt, SweepsOnce, sweep_reply, swept_reply}
+use Rattle.machine_core.specs.Sides.{PagerSideValue, ProcessSideValue}
+use Rattle.machine_core.specs.Sweeping.{Answers, Sweeps}
+use Rattle.machine_core.specs.SweepLaws.{answers_together, answers_rest}
+use Rattle.machine_core.specs.declared.error.EventRefusal.{EventRefusal}
+use Rattle.machine_core.proofs.Finding.{Asked, HasResident, asked_process, bit_there}
+use Rattle.machine_core.proofs.Kept.{Moves, moved_machine, out_stays, SavingsStay}
+use Rattle.machine_core.proofs.KeptPages.{CountAlike, same_pages, kept_pages}
+
+-- a process that an event is not refused for is there
+pub is_there : {S : Type 0} (reason : ProcessSideValue S → Option EventRefusal) (processes : List (ProcessSideValue S)) (p : ℕ) → None ≡ of_process reason (slice_get processes p) → p < length processes
+is_there reason processes p h = by_process (slice_get processes p) refl
+  where
+    by_process : (o : Option (ProcessSideValue _)) → slice_get processes p ≡ o → p < length processes
+    by_process None at = let e = h ∙ ap (of_process reason) at in cc
+    by_process (Some process) at = slice_get_within processes p process at
+
+-- a list that was lent as a slice
+lent_back : {A : Type 0} (items new : List A) (n : ℕ) → n ≡ length items → length new ≡ length items → take n (new ++ drop (length new) items) ≡ new
+lent_back items new n long same = let past : length items ≤ length new = omega (arith, same) in rw (drop_all (length new) items past, append-nil new) (take_all n new (omega (arith, long, same)))
+
+module _ {S : Type 0} where
+  alike_machine : (core : CoreValue S) (p : ℕ) (q q' : ProcessSideValue S) → IsMachine core → slice_get core.processes p ≡ Some q → CountAlike q.space q'.space
+      → IsMachine (record core { processes = slice_set core.processes p q' })
+  alike_machine core p q q' machine found alike =
+      moved_machine core (record core { processes = slice_set core.processes p q' }) p q q' machine (record {
+        found = found;
+        processes = refl;
+        together = record {
+          listed = λ test. let a = alike.residents test in omega (arith, a);
+          framed = λ test. let a = alike.frames test in omega (arith, a);
+          size = refl;
+          process = alike.process;
+        };
+        lawful = machine.lawful;
+        frames = machine.frames;
+        saved = λ test. let a = alike.savings test in omega (arith, a);
+        slotted = let a = alike.slots in omega (arith, a);
+        slots = refl;
+        out = out_stays core.processes p q q' core.jobs found alike.stay machine.out;
+      })
+
+  -- the processes that were lent as a slice, of which one changed
+  pub lent_machine : (by : ProcessSideValue S → ProcessSideValue S → Type 0) (alike : (q q' : ProcessSideValue S) → by q q' → CountAlike q.space q'.space)
+      (pager : PagerSideValue) (slots : PoolValue S) (jobs : List (JobValue S)) (items lent new : List (ProcessSideValue S)) (n p : ℕ)
+      → IsMachine (record { pager = pager; slots = slots; processes = items; jobs = jobs }) → n ≡ length items → lent ≡ items → ChangesOne by p lent new
+      → IsMachine (record { pager = pager; slots = slots; processes = take n (new ++ drop (length new) items); jobs = jobs })
+  lent_machine by alike pager slots jobs items lent new n p machine long same one =
+      let core : CoreValue S = record { pager = pager; slots = slots; processes = items; jobs = jobs } in
+      let found : slice_get items p ≡ Some one.process = ap (λ l. slice_get l p) (sym same) ∙ one.found in
+      let is : new ≡ slice_set items p one.process' = one.is ∙ ap (λ l. slice_set l p one.process') same in
+      let all : slice_set items p one.process' ≡ take n (new ++ drop (length new) items) = sym is ∙ sym (lent_back items new n long (ap length is ∙ length-set items p one.process')) in
+      subst (λ l. IsMachine (record { pager = pager; slots = slots; processes = l; jobs = jobs })) all (alike_machine core p one.process one.process' machine found (alike one.process one.process' one.how))
+
+  pub step_alike : (held : S → List ℕ) (honest : Type 0) (hart : ℕ) (why : SliceStop) (q q' : ProcessSideValue S) → StepsOnce held honest hart why q q' → CountAlike q.space q'.space
+  step_alike held honest hart why q q' how = kept_pages q.space q'.space how.slice.kept.process how.slice.kept.pages
+
+  noticed_same : (hart : ℕ) (q : ProcessSideValue S) → CountAlike q.space (record q.space { memory = noticed hart q.space.memory })
+  noticed_same hart q =
+      elim (nat_lt hart (length q.space.memory.caches)) as (λ t. CountAlike q.space (record q.space { memory = cond t (record q.space.memory { caches = slice_set q.space.memory.caches hart (undoomed (slice_index_or q.space.memory.caches hart [])) }) q.space.memory })) [
+        | true ↦ same_pages q.space _ refl refl
+        | false ↦ same_pages q.space _ refl refl
+      ]
+
+  pub notice_alike : (hart : ℕ) (q q' : ProcessSideValue S) → TakesNotices hart q q' → CountAlike q.space q'.space
+  notice_alike hart q q' how = subst (λ (r : ProcessSideValue S). CountAlike q.space r.space) (sym how) (noticed_same hart q)
+
+  killed_same : (q : ProcessSideValue S) (running : RunningValue) (ending : Option End) → CountAlike q.space (record q.space { running = running; memory = if_killed ending q.space.memory })
+  killed_same q running None = same_pages q.space _ refl refl
+  killed_same q running (Some end) = same_pages q.space _ refl refl
+
+  pub kill_alike : (cause : KillCause) (q q' : ProcessSideValue S) → IsKilled cause q q' → CountAlike q.space q'.space
+  kill_alike cause q q' how = subst (λ (r : ProcessSideValue S). CountAlike q.space r.space) (sym how) (killed_same q _ q.space.running.ending)
+
+  -- the same of a sweep, whose page is resident
+  pub swept_machine : (core : CoreValue S) (pager' : PagerSideValue) (q q' : ProcessSideValue S) (key : Key) (bit : Bit) (verdict : Verdict) → IsMachine core → slice_get core.processes key.process ≡ Some q
+      → HasResident q.space key → Answers core.pager pager' q q' key bit verdict → IsMachine (record core { pager = pager'; processes = slice_set core.processes key.process q' })
+  unfolding pager_answered SavingsStay
+  swept_machine core pager' q q' key bit verdict machine found there answers =
+      let not_gone : is_gone bit ≡ false = ap is_gone (sym answers.bit_is) ∙ bit_there q.space key there in
+      let now : pager'.pager ≡ pager_answered bit core.pager.pager = ap (λ (p : PagerSideValue). p.pager) answers.pager_is in
+      let rest = answers_rest core.pager pager' q q' key bit verdict there.small answers in
+      moved_machine core (record core { pager = pager'; processes = slice_set core.processes key.process q' }) key.process q q' machine (record {
+        found = found;
+        processes = refl;
+        together = answers_together core.pager pager' q q' key bit verdict machine.lawful there.small (sym there.of_process) not_gone answers;
+        lawful = subst (λ (p : PagerState). Lawful p.list) (sym now) (answered_lawful bit core.pager.pager.list machine.lawful);
+        frames = ap (λ (p : PagerState). p.list.frames) now ∙ answered_frames bit core.pager.pager.list ∙ machine.frames ∙ sym (ap (λ (p : PagerState). p.size) now);
+        saved = λ test. let a = rest.savings test in omega (arith, a);
+        slotted = let a = rest.slots in omega (arith, a);
+        slots = refl;
+        out = out_stays core.processes key.process q q' core.jobs found (λ v page frame small at saving. rest.stay v page frame at saving) machine.out;
+      })
+
+  -- the sweep that was made for the page of the question
+  answers_of : (core : CoreValue S) (pager' : PagerSideValue) (key : Key) (q q' : ProcessSideValue S) (result : Swept) → question_of core.pager.pager.list ≡ Some key → Sweeps core.pager pager' q q' result
+      → (bit : Bit) × ((verdict : Verdict) × (Answers core.pager pager' q q' key bit verdict × (swept_reply result ≡ sweep_reply key bit verdict)))
+  answers_of core pager' key q q' swept.NothingResident asks how = let none = how.0 in cc
+  answers_of core pager' key q q' (swept.Asked k bit) asks how =
+      let same : k ≡ key = let e = how.question in cc in
+      (bit, (GoOn, (subst (λ x. Answers core.pager pager' q q' x bit GoOn) same how, ap (λ x. AskedReply x (is_used bit)) same)))
+  answers_of core pager' key q q' (swept.Victim k) asks how =
+      let same : k ≡ key = let e = how.1.question in cc in
+      (how.0, (verdict.Victim k, (subst (λ x. Answers core.pager pager' q q' x how.0 (verdict.Victim k)) same how.1, ap (λ x. Victim x) same)))
+
+  module _ (pager pager' : PagerSideValue) (slots : PoolValue S) (jobs : List (JobValue S)) (items lent new : List (ProcessSideValue S)) (n : ℕ) (key : Key) (result : Swept)
+      (machine : IsMachine (record { pager = pager; slots = slots; processes = items; jobs = jobs })) (asks : question_of pager.pager.list ≡ Some key)
+      (long : n ≡ length items) (same : lent ≡ items) (sweeps : SweepsAt pager pager' key.process lent new result) where
+    abbrev pub core : CoreValue S
+    core = record { pager = pager; slots = slots; processes = items; jobs = jobs }
+
+    found : slice_get items key.process ≡ Some sweeps.process
+    found = ap (λ l. slice_get l key.process) (sym same) ∙ sweeps.found
+
+    is_set : slice_set items key.process sweeps.process' ≡ take n (new ++ drop (length new) items)
+    is_set =
+        let is : new ≡ slice_set items key.process sweeps.process' = sweeps.is ∙ ap (λ l. slice_set l key.process sweeps.process') same in
+        sym is ∙ sym (lent_back items new n long (ap length is ∙ length-set items key.process sweeps.process'))
+
+    asked : Asked core key
+    asked = asked_process core key machine asks
+
+    there : HasResident sweeps.process.space key
+    there = let e : asked.process ≡ sweeps.process = let a = asked.found in let b = found in cc in subst (λ (q : ProcessSideValue S). HasResident q.space key) e asked.resident
+
+    pub swept_back : IsMachine (record { pager = pager'; slots = slots; processes = take n (new ++ drop (length new) items); jobs = jobs })
+    swept_back =
+        let a = answers_of core pager' key sweeps.process sweeps.process' result asks sweeps.how in
+        subst (λ l. IsMachine (record { pager = pager'; slots = slots; processes = l; jobs = jobs })) is_set (swept_machine core pager' sweeps.process sweeps.process' key a.0 a.1.0 machine found there a.1.1.0)
+
+    pub swept_once : (reply : Reply) → reply ≡ swept_reply result → SweepsOnce core (record { pager = pager'; slots = slots; processes = take n (new ++ drop (length new) items); jobs = jobs }) reply
+    swept_once reply is =
+        let a = answers_of core pager' key sweeps.process sweeps.process' result asks sweeps.how in
+        record {
+          key = key;
+          bit = a.0;
+          verdict = a.1.0;
+          process = sweeps.process;
+          process' = sweeps.process';
+          found = found;
+          answers = a.1.1.0;
+          there = ap is_gone (sym a.1.1.0.bit_is) ∙ bit_there sweeps.process.space key there;
+          processes = sym is_set;
+          stays = refl;
+          reply_is = is ∙ a.1.1.1;
+        }
+
+    pub swept_told : (old : CoreValue S) (reply : Reply) → core ≡ old → reply ≡ swept_reply result → SweepsOnce old (record { pager = pager'; slots = slots; processes = take n (new ++ drop (length new) items); jobs = jobs }) reply
+    swept_told old reply e is = subst (λ o. SweepsOnce o (record { pager = pager'; slots = slots; processes = take n (new ++ drop (length new) items); jobs = jobs }) reply) e (swept_once reply is)
+
+    pub swept_size : pager'.pager.size ≡ pager.pager.size
+    unfolding pager_answered
+    swept_size =
+        let a = answers_of core pager' key sweeps.process sweeps.process' result asks sweeps.how in
+        ap (λ (p : PagerSideValue). p.pager.size) a.1.1.0.pager_is

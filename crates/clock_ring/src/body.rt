@@ -97,11 +97,12 @@ impl Body {
         ensures moved { state_of self.new ≡ removed found.entry.key (state_of self.old) }
         ensures cells { (u v : List Cell) → (c : Cell) → self.old.ring.cells ≡ u ++ c ∷ v → c.at ≡ found.at → self.new.ring.cells ≡ u ++ v }
     {
-        let next = self.ring.node(found.at).next;
-        self.ring.remove(found.at);
+        let at = found.at;
+        let next = self.ring.node(at).next;
+        self.ring.remove(at);
         self.counts.take(found.entry.kind);
-        self.cold_hand = after(self.cold_hand, found.at, next);
-        self.test_hand = after(self.test_hand, found.at, next);
+        self.cold_hand = after(self.cold_hand, at, next);
+        self.test_hand = after(self.test_hand, at, next);
     }
 
     /// Adds an entry of a new page as the last. Hands that stand on none rest on it.

@@ -1,0 +1,165 @@
+//! A replacement list that serves page faults: prints how many calls it had and a checksum of its victims, and on standard
+//! error the nanoseconds. Arguments: `ring` or `list`, frames, pages, references.
+#![tactic(auto)]
+
+use anyhow::{Context, Result};
+use clock_list::ClockList;
+use clock_policy::{Bit, Clock, Key, Verdict};
+use clock_ring::ClockRing;
+use std::alloc::Global;
+use std::env;
+use std::time::Instant;
+
+/// Pages, those in a frame, and the calls so far.
+#[derive(Drop)]
+struct Load {
+    used: Vec<bool>,
+    resident: Vec<bool>,
+    free: usize,
+    calls: u64,
+    sum: u64,
+}
+
+impl Load {
+    fn new(alloc: Global, frames: usize, pages: usize) -> Result<Self> {
+        let mut used = Vec::new(alloc);
+        let mut resident = Vec::new(alloc);
+        for _ in 0..pages {
+            used.push(false)?;
+            resident.push(false)?;
+        }
+        Ok(Load {
+            used,
+            resident,
+            free: frames,
+            calls: 0,
+            sum: 0,
+        })
+    }
+
+    /// Whether the page was used since it was asked for.
+    fn clear_used(&mut self, page: usize) -> bool {
+        let Some(used) = self.used.get_mut(page) else {
+            return false;
+        };
+        let was = *used;
+        *used = false;
+        was
+    }
+
+    fn set_resident(&mut self, page: usize, now: bool) {
+        if let Some(resident) = self.resident.get_mut(page) {
+            *resident = now;
+        }
+    }
+
+    /// The page of the question is answered. False where there is none.
+    fn ask<C: Clock>(&mut self, clock: &mut C) -> bool {
+        let Some(asked) = clock.question() else {
+            return false;
+        };
+        let bit = if self.clear_used(asked.vpn as usize) {
+            Bit::One
+        } else {
+            Bit::Zero
+        };
+        self.calls = self.calls.wrapping_add(2);
+        if let Ok(Verdict::Victim(victim)) = clock.answer(bit) {
+            self.set_resident(victim.vpn as usize, false);
+            self.free = self.free.wrapping_add(1);
+            self.sum = self
+                .sum
+                .wrapping_mul(31)
+                .wrapping_add(u64::from(victim.vpn));
+        }
+        true
+    }
+
+    /// A page is used, and comes in where it is not resident.
+    fn touch<C: Clock>(&mut self, clock: &mut C, vpn: u32) {
+        let page = vpn as usize;
+        if let Some(used) = self.used.get_mut(page) {
+            *used = true;
+        }
+        if self.resident.get(page).is_some_and(|resident| *resident) {
+            return;
+        }
+        for _ in 0..u32::MAX {
+            if self.free > 0 || !self.ask(clock) {
+                break;
+            }
+        }
+        self.calls = self.calls.wrapping_add(1);
+        if clock.admit(Key { process: 0, vpn }).is_ok() {
+            self.set_resident(page, true);
+            self.free = self.free.wrapping_sub(1);
+        }
+    }
+}
+
+/// Pages are used at random, a quarter of the uses in a part half as large as the frames.
+fn serve<C: Clock>(clock: &mut C, load: &mut Load, frames: usize, references: usize) {
+    let pages = load.used.len();
+    let mut random = 88172645463325252u64;
+    for _ in 0..references {
+        random = random
+            .wrapping_mul(6364136223846793005)
+            .wrapping_add(1442695040888963407);
+        let range = if random >> 60 < 4 { frames / 2 } else { pages };
+        let page = (random >> 20) % (range as u64).max(1);
+        load.touch(clock, u32::try_from(page).unwrap_or(0));
+    }
+}
+
+fn timed<C: Clock>(
+    rt: &HostRuntime,
+    mut clock: C,
+    frames: usize,
+    pages: usize,
+    references: usize,
+) -> Result<()> {
+    let mut load = Load::new(rt.alloc(), frames, pages)?;
+    let start = Instant::now(rt)?;
+    serve(&mut clock, &mut load, frames, references);
+    let elapsed = start.elapsed(rt)?;
+    let calls = load.calls;
+    let sum = load.sum;
+    println!(rt; "{calls} {sum}")?;
+    eprintln!(rt; "{}", elapsed.as_nanos())?;
+    Ok(())
+}
+
+fn main(rt: HostRuntime) -> Result<()> {
+    let mut list = false;
+    let mut numbers = [64usize, 200, 100_000];
+    for (i, argument) in env::args(&rt)?.skip(1).enumerate() {
+        match i {
+            0 => list = argument.as_str() == "list",
+            1 | 2 | 3 => {
+                numbers[i - 1] = argument
+                    .as_str()
+                    .parse::<usize>()
+                    .context("reading a number")?;
+            }
+            _ => {}
+        }
+    }
+    let [frames, pages, references] = numbers;
+    if list {
+        timed(
+            &rt,
+            ClockList::new(rt.alloc(), frames)?,
+            frames,
+            pages,
+            references,
+        )
+    } else {
+        timed(
+            &rt,
+            ClockRing::new(rt.alloc(), frames)?,
+            frames,
+            pages,
+            references,
+        )
+    }
+}

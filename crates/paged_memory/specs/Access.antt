@@ -15,7 +15,7 @@ use Rattle.page_memory.specs.Entries.{place_of, value_at}
 use Rattle.page_store.specs.PageValue.{PageValue, Place, writable}
 use Rattle.page_store.specs.PageValue as place
 use Rattle.page_store.specs.Lending.{with_bytes}
-use Rattle.sv32_table.specs.EntryAt.{entry_at}
+use Rattle.sv32_table.specs.EntryAt.{entry_at, ChangesEntry, walked_entry}
 use Rattle.tlb_core.specs.declared.translation.Translation.{Translation}
 use Rattle.tlb_core.specs.Cache.{entry_of, is_of}
 use Rattle.paged_memory.specs.Seen.{Seen, Standing, Resident, Leaving, Elsewhere, is_used, is_changed}
@@ -120,3 +120,7 @@ resident_frame (place.Leaving frame slot mark) = None
 resident_frame (place.Saving frame) = None
 resident_frame (place.Away slot) = None
 resident_frame place.Purged = None
+
+-- the tables are as they were, or the page's entry alone is as a walk for the access leaves it
+abbrev pub MayWalk : Access → ℕ → List (List ℕ) → List (List ℕ) → Type 0
+MayWalk access page old new = (new ≡ old) ⊎ ChangesEntry old new page (walked_entry (entry_at old page) access)

@@ -4,7 +4,7 @@ ghost use Rattle.page_store.specs.PageValue.{Place};
 ghost use Rattle.sv32_table.specs.EntryAt.{entry_at};
 ghost use Rattle.paged_memory.specs.Paged.{Holds, seen_at, page_at};
 ghost use Rattle.paged_memory.specs.Seen.{is_used};
-ghost use Rattle.paged_memory.specs.Access.{Hits, Reaches, RefusesAccess, Locates, HasPage, MarksUse, KeepsTranslations, cache_of, is_doomed, resident_frame};
+ghost use Rattle.paged_memory.specs.Access.{Hits, Reaches, RefusesAccess, Locates, HasPage, MarksUse, KeepsTranslations, MayWalk, cache_of, is_doomed, resident_frame};
 
 use crate::caches::Caches;
 use page_memory::{Access, MemoryFault, PageMap, Rights, page_of};
@@ -95,6 +95,7 @@ fn walk<L: Ledger, S: SwapSlot>(
     ensures reaches { IfOk result (λ place. Reaches pages.now tables.new access page place) }
     ensures refused { IfErr result (RefusesAccess pages.now access page) }
     ensures kept { KeepsTranslations pages.now hart tables.old tables.new caches.old caches.new }
+    ensures entries { MayWalk access page tables.old tables.new }
     ensures has { OnOk result (HasPage pages.now (cache_of caches.old hart) page) }
     ensures used { OnOk result (is_used (seen_at pages.now page) (entry_at tables.new page) ≡ true) }
 {
@@ -135,6 +136,7 @@ pub(crate) fn reach<L: Ledger, S: SwapSlot>(
     ensures reaches { IfOk result (λ place. Reaches pages.now tables.new access (page_number address) place) }
     ensures refused { IfErr result (RefusesAccess pages.now access (page_number address)) }
     ensures kept { KeepsTranslations pages.now hart tables.old tables.new caches.old caches.new }
+    ensures entries { MayWalk access (page_number address) tables.old tables.new }
     ensures has { OnOk result (HasPage pages.now (cache_of caches.old hart) (page_number address)) }
     ensures marked { OnOk result (MarksUse pages.now tables.new (cache_of caches.old hart) (page_number address)) }
 {

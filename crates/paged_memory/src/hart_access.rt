@@ -1,10 +1,11 @@
 ghost use Rattle.std.specs.Prelude.{◌≡◌, ℕ, ◌+◌, ◌≤◌, ◌<◌, length, OnErr};
 ghost use Rattle.page_memory.specs.Memory.{fetched, loaded, stored, replaced, copied_out, copied_in};
-ghost use Rattle.page_memory.specs.Words.{page_offset};
+ghost use Rattle.page_memory.specs.Words.{page_number, page_offset};
 ghost use Rattle.rv_exec.specs.Amo.{amo_result};
 ghost use Rattle.rv_exec.specs.Answers.{Answers, with_answer};
+ghost use Rattle.page_memory.specs.declared.words.Access.{Access};
 ghost use Rattle.paged_memory.specs.Paged.{memory_of};
-ghost use Rattle.paged_memory.specs.Access.{HasPage, LacksPage, MarksUse, KeepsTranslations, KeepsBare, cache_of};
+ghost use Rattle.paged_memory.specs.Access.{HasPage, LacksPage, MarksUse, KeepsTranslations, MayWalk, KeepsBare, cache_of};
 
 use crate::memory::PagedMemory;
 use crate::{reading, writing};
@@ -25,6 +26,7 @@ impl<L: Ledger, S: SwapSlot> PagedMemory<L, S> {
         ensures process { self.new.process ≡ self.old.process }
         ensures pages { self.new.pages ≡ self.old.pages }
         ensures kept { KeepsTranslations self.old.pages hart self.old.tables self.new.tables self.old.caches self.new.caches }
+        ensures entries { MayWalk Access.Fetch (page_number address) self.old.tables self.new.tables }
     {
         reading::fetch(
             &self.pages,
@@ -43,6 +45,7 @@ impl<L: Ledger, S: SwapSlot> PagedMemory<L, S> {
         ensures process { self.new.process ≡ self.old.process }
         ensures pages { self.new.pages ≡ self.old.pages }
         ensures kept { KeepsTranslations self.old.pages hart self.old.tables self.new.tables self.old.caches self.new.caches }
+        ensures entries { MayWalk Access.Load (page_number address) self.old.tables self.new.tables }
     {
         reading::load(
             &self.pages,
@@ -70,6 +73,7 @@ impl<L: Ledger, S: SwapSlot> PagedMemory<L, S> {
         ensures process { self.new.process ≡ self.old.process }
         ensures bare { KeepsBare self.old.pages self.new.pages }
         ensures kept { KeepsTranslations self.old.pages hart self.old.tables self.new.tables self.old.caches self.new.caches }
+        ensures entries { MayWalk Access.Store (page_number address) self.old.tables self.new.tables }
     {
         writing::store(
             &mut self.pages,
@@ -99,6 +103,7 @@ impl<L: Ledger, S: SwapSlot> PagedMemory<L, S> {
         ensures process { self.new.process ≡ self.old.process }
         ensures bare { KeepsBare self.old.pages self.new.pages }
         ensures kept { KeepsTranslations self.old.pages hart self.old.tables self.new.tables self.old.caches self.new.caches }
+        ensures entries { MayWalk Access.Store (page_number address) self.old.tables self.new.tables }
     {
         writing::amo(
             &mut self.pages,
@@ -121,6 +126,7 @@ impl<L: Ledger, S: SwapSlot> PagedMemory<L, S> {
         ensures process { self.new.process ≡ self.old.process }
         ensures pages { self.new.pages ≡ self.old.pages }
         ensures kept { KeepsTranslations self.old.pages hart self.old.tables self.new.tables self.old.caches self.new.caches }
+        ensures entries { MayWalk Access.Load (page_number address) self.old.tables self.new.tables }
     {
         reading::copy_out(
             &self.pages,
@@ -142,6 +148,7 @@ impl<L: Ledger, S: SwapSlot> PagedMemory<L, S> {
         ensures process { self.new.process ≡ self.old.process }
         ensures bare { KeepsBare self.old.pages self.new.pages }
         ensures kept { KeepsTranslations self.old.pages hart self.old.tables self.new.tables self.old.caches self.new.caches }
+        ensures entries { MayWalk Access.Store (page_number address) self.old.tables self.new.tables }
     {
         writing::copy_in(
             &mut self.pages,

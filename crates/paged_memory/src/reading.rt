@@ -7,7 +7,7 @@ ghost use Rattle.page_memory.specs.declared.words.Access.{Access};
 ghost use Rattle.page_store.specs.PageValue.{content, writable};
 ghost use Rattle.rv_exec.specs.Answers.{Answers, Refuses, with_answer};
 ghost use Rattle.paged_memory.specs.Paged.{Holds, memory_of};
-ghost use Rattle.paged_memory.specs.Access.{HasPage, LacksPage, MarksUse, KeepsTranslations, UsesBytes, cache_of};
+ghost use Rattle.paged_memory.specs.Access.{HasPage, LacksPage, MarksUse, KeepsTranslations, MayWalk, UsesBytes, cache_of};
 
 use crate::access::reach;
 use crate::caches::Caches;
@@ -48,6 +48,7 @@ fn read<'a, L: Ledger, S: SwapSlot>(
     ensures whole { IfOk result (λ bytes. length bytes.now ≡ 4096) }
     ensures refused { IfErr result (Refuses (LacksPage pages.now) address (usable (memory_of S.content pages.now) access address)) }
     ensures kept { KeepsTranslations pages.now hart tables.old tables.new caches.old caches.new }
+    ensures entries { MayWalk access (page_number address) tables.old tables.new }
     ensures has { OnOk result (HasPage pages.now (cache_of caches.old hart) (page_number address)) }
     ensures marked { OnOk result (MarksUse pages.now tables.new (cache_of caches.old hart) (page_number address)) }
 {
@@ -72,6 +73,7 @@ pub(crate) fn fetch<L: Ledger, S: SwapSlot>(
     ensures holds { Holds S.content S.honest pages.now tables.new caches.new }
     ensures answer { Answers (HasPage pages.now (cache_of caches.old hart)) (MarksUse pages.now tables.new (cache_of caches.old hart)) (LacksPage pages.now) address (fetched (memory_of S.content pages.now) address) result }
     ensures kept { KeepsTranslations pages.now hart tables.old tables.new caches.old caches.new }
+    ensures entries { MayWalk Access.Fetch (page_number address) tables.old tables.new }
 {
     if address % 4 != 0 {
         return Err(BusError::Fault(MemoryFault::Misaligned));
@@ -98,6 +100,7 @@ pub(crate) fn load<L: Ledger, S: SwapSlot>(
     ensures holds { Holds S.content S.honest pages.now tables.new caches.new }
     ensures answer { Answers (HasPage pages.now (cache_of caches.old hart)) (MarksUse pages.now tables.new (cache_of caches.old hart)) (LacksPage pages.now) address (loaded (memory_of S.content pages.now) width address) result }
     ensures kept { KeepsTranslations pages.now hart tables.old tables.new caches.old caches.new }
+    ensures entries { MayWalk Access.Load (page_number address) tables.old tables.new }
 {
     if address % width.bytes() != 0 {
         return Err(BusError::Fault(MemoryFault::Misaligned));
@@ -126,6 +129,7 @@ pub(crate) fn copy_out<L: Ledger, S: SwapSlot>(
         Answers (HasPage pages.now (cache_of caches.old hart)) (MarksUse pages.now tables.new (cache_of caches.old hart)) (LacksPage pages.now) address (copied_out (memory_of S.content pages.now) address (length to.old)) copied }
     ensures refused { OnErr result (to.new ≡ to.old) }
     ensures kept { KeepsTranslations pages.now hart tables.old tables.new caches.old caches.new }
+    ensures entries { MayWalk Access.Load (page_number address) tables.old tables.new }
 {
     match read(pages, tables, caches, hart, Access::Load, address) {
         Ok(page) => {

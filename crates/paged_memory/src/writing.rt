@@ -6,8 +6,9 @@ ghost use Rattle.page_store.specs.PageValue.{content, writable};
 ghost use Rattle.page_store.specs.Lending.{with_bytes};
 ghost use Rattle.rv_exec.specs.Amo.{amo_result};
 ghost use Rattle.rv_exec.specs.Answers.{Answers, with_answer};
+ghost use Rattle.page_memory.specs.declared.words.Access.{Access};
 ghost use Rattle.paged_memory.specs.Paged.{Holds, memory_of};
-ghost use Rattle.paged_memory.specs.Access.{HasPage, LacksPage, MarksUse, KeepsTranslations, KeepsBare, cache_of};
+ghost use Rattle.paged_memory.specs.Access.{HasPage, LacksPage, MarksUse, KeepsTranslations, MayWalk, KeepsBare, cache_of};
 
 use crate::access::reach;
 use crate::caches::Caches;
@@ -71,6 +72,7 @@ pub(crate) fn store<L: Ledger, S: SwapSlot>(
     ensures refused { OnErr result (pages.new ≡ pages.old) }
     ensures bare { KeepsBare pages.old pages.new }
     ensures kept { KeepsTranslations pages.old hart tables.old tables.new caches.old caches.new }
+    ensures entries { MayWalk Access.Store (page_number address) tables.old tables.new }
 {
     if address % width.bytes() != 0 {
         return Err(BusError::Fault(MemoryFault::Misaligned));
@@ -102,6 +104,7 @@ pub(crate) fn copy_in<L: Ledger, S: SwapSlot>(
     ensures refused { OnErr result (pages.new ≡ pages.old) }
     ensures bare { KeepsBare pages.old pages.new }
     ensures kept { KeepsTranslations pages.old hart tables.old tables.new caches.old caches.new }
+    ensures entries { MayWalk Access.Store (page_number address) tables.old tables.new }
 {
     match reach(pages, tables, caches, hart, Access::Store, address) {
         Ok(place) => {
@@ -131,6 +134,7 @@ pub(crate) fn amo<L: Ledger, S: SwapSlot>(
     ensures refused { OnErr result (pages.new ≡ pages.old) }
     ensures bare { KeepsBare pages.old pages.new }
     ensures kept { KeepsTranslations pages.old hart tables.old tables.new caches.old caches.new }
+    ensures entries { MayWalk Access.Store (page_number address) tables.old tables.new }
 {
     if address % 4 != 0 {
         return Err(BusError::Fault(MemoryFault::Misaligned));

@@ -1,4 +1,4 @@
-use Rattle.std.proofs.Common.{sym, subst}
+use Rattle.std.proofs.Common.{sym, subst, inr}
 use Rattle.sv32_table.specs.EntryAt.{entry_at, ChangesEntry, walked_entry}
 use Rattle.paged_memory.proofs.WalkLaws.{Walked, walk_done}
 use Rattle.paged_memory.proofs.access.walk.Given.{Over}
@@ -20,3 +20,6 @@ returns-clause-kept g c = (done g c).kept
 
 pub returns-clause-used : goal.returns-clause-used
 returns-clause-used g c = (done g c).used
+
+pub returns-clause-entries : goal.returns-clause-entries
+returns-clause-entries g c = inr (subst (λ n. ChangesEntry c.args.tables.now c.walk.new.self n (walked_entry (entry_at c.args.tables.now n) c.args.access)) (sym c.requires.page) c.walk.ensures.entries)

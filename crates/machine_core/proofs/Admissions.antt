@@ -1,5 +1,5 @@
 -- Why a page is not admitted.
-use Rattle.std.proofs.Common.{◌≡◌, ℕ, ◌++◌, [], ◌∷◌, length, Bool, true, false, Option, Some, None, option_map, is_some, refl, sym, ap, ◌∙◌}
+use Rattle.std.proofs.Common.{◌≡◌, ℕ, ◌++◌, [], ◌∷◌, length, Bool, true, false, Option, Some, None, option_map, is_some, ◌+◌, ◌<◌, ◌≤◌, refl, sym, ap, ◌∙◌, arith, length-append}
 use Rattle.std.specs.Prelude.{if◌then◌else◌}
 use Rattle.clock_policy.specs.declared.key.Key.{Key}
 use Rattle.clock_policy.specs.Lawful.{Lawful}
@@ -51,3 +51,11 @@ module _ {S : Type 0} where
     pager_is = moved;
     lawful = lawful;
   }
+
+  -- where a page was admitted a frame is missing
+  pub not_full : (key : Key) (old new : PagerSideValue) (space : SpaceValue S) (admission : AdmissionValue) → Admits key old new space admission → length old.pager.free ≤ old.pager.size → length new.pager.free ≡ new.pager.size → ⊥
+  unfolding admitted_with
+  not_full key old new space admission admits fits full =
+      let size : new.pager.size ≡ old.pager.size = ap (λ (p : PagerSideValue). p.pager.size) admits.pager_is in
+      let taken : length old.pager.free ≡ length (new.pager.free ++ admission.frame ∷ []) = ap length admits.taken in
+      omega (arith, size, taken, length-append new.pager.free (admission.frame ∷ []))

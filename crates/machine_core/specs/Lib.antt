@@ -2,6 +2,7 @@ pub mod Admitting
 pub mod Loading
 pub mod Machine
 pub mod MachineRun
+pub mod PagingIn
 pub mod RefusalNumber
 pub mod Sides
 pub mod SweepLaws

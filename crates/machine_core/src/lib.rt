@@ -11,7 +11,9 @@ mod event;
 mod loading;
 mod machine;
 mod pager_side;
+mod paging_in;
 mod process_side;
+mod reading;
 mod report;
 mod sweeping;
 

@@ -1,0 +1,59 @@
+ghost use Rattle.std.specs.Prelude.{◌≡◌, ◌≤◌, length};
+ghost use Rattle.machine_core.specs.PagingIn.{admit_reason, fault_reply, PagesIn};
+
+use crate::admission::{NotAdmitted, admit, undo};
+use crate::error::EventRefusal;
+use crate::event::Reply;
+use crate::pager_side::PagerSide;
+use crate::process_side::ProcessSide;
+use clock_policy::{Clock, Key};
+use paged_memory::PageInFault;
+use std::sync::ledger::Ledger;
+use swap_slots::SwapSlot;
+
+/// Brings a page of a process in: it is admitted and loaded, or else the admission is undone.
+pub(crate) fn page_in<L: Ledger, S: SwapSlot, C: Clock>(
+    pager: &mut PagerSide<L, C>,
+    process: &mut ProcessSide<L, S>,
+    key: Key,
+) -> Reply
+    requires { length pager.old.pager.free ≤ pager.old.pager.size }
+    ensures { PagesIn S.content S.honest S.failures key pager.old pager.new process.old process.new result }
+{
+    let admission = match admit(pager, process, key) {
+        Ok(admission) => admission,
+        Err(reason) => return Reply::Refused(admit_reason(reason)),
+    };
+    let (admission, fault) = match process.load(admission) {
+        Ok(()) => return Reply::Mapped,
+        Err(back) => back,
+    };
+    if undo(pager, process, admission).is_err() {
+        unreachable!()
+    }
+    fault_reply(fault)
+}
+
+/// Why a page does not come in that was not admitted.
+fn admit_reason(reason: NotAdmitted) -> EventRefusal
+    ensures { result ≡ admit_reason reason }
+{
+    match reason {
+        NotAdmitted::Ended => EventRefusal::Ended,
+        NotAdmitted::NotAbsent => EventRefusal::NotAbsent,
+        NotAdmitted::AlreadyResident => EventRefusal::NotAbsent,
+        NotAdmitted::NoFrame => EventRefusal::NoFrame,
+        NotAdmitted::NoMemory => EventRefusal::NoMemory,
+    }
+}
+
+/// What is replied for a page that was not loaded.
+fn fault_reply(fault: PageInFault) -> Reply
+    ensures { result ≡ fault_reply fault }
+{
+    match fault {
+        PageInFault::NotAbsent => Reply::Refused(EventRefusal::NotAbsent),
+        PageInFault::Device => Reply::Device,
+        PageInFault::NoMemory => Reply::Refused(EventRefusal::NoMemory),
+    }
+}

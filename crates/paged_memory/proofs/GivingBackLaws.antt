@@ -1,5 +1,5 @@
 -- A page gives back its frame and its slot.
-use Rattle.std.specs.Prelude.{◌≡◌, ℕ, ◌^◌, ◌<◌, ◌≤◌, length, slice_index, ◌==◌, ◌≢◌, Bool, if◌then◌else◌, Option, Some, None, option_map, List, [], All, refl}
+use Rattle.std.specs.Prelude.{◌≡◌, ℕ, ◌^◌, ◌<◌, length, slice_index, ◌==◌, ◌≢◌, Bool, if◌then◌else◌, Option, Some, None, option_map, List, [], All, refl}
 use Rattle.std.proofs.Common.{sym, ap, ◌∙◌, subst, true≢false, eqb-true, arith}
 use Rattle.std.proofs.lemmas.List.{length-map}
 use Rattle.std.proofs.lemmas.List.Quantifiers.{position-Some}
@@ -15,7 +15,7 @@ use Rattle.paged_memory.specs.Seen.{Seen, Standing, Resident, Leaving, Elsewhere
 use Rattle.page_memory.specs.Entries.{pages_of, place_of}
 use Rattle.paged_memory.specs.Paged.{seen_of, page_at, seen_at, Holds, ChangesPage}
 use Rattle.paged_memory.specs.Calls.{ChangesBy}
-use Rattle.paged_memory.specs.GivingBack.{GivesBack, GivesNothing}
+use Rattle.paged_memory.specs.GivingBack.{GivesBack}
 use Rattle.paged_memory.proofs.SoundnessLaws.{Unheld}
 use Rattle.paged_memory.proofs.PagedLaws.{Change, Holds-unheld, page_at-nowhere}
 
@@ -57,18 +57,6 @@ module _ {S : Type 0} {held : S → List ℕ} {honest : Type 0} {pages : List (�
             mapped = record { entry = refl; readable = λ rights is. (holds.agree.mapped number small).readable rights (ap rights_seen (ap (option_map seen_of) told.found) ∙ is) };
             backed = λ is_honest unchanged. refl;
           }
-
--- what holds of the page at each place holds of every page that has nothing to give
-pub each_place : {S : Type 0} (pages : List (ℕ × PageValue S)) → ((k : ℕ) → 0 ≤ k → k < length pages → GivesNothing (page_at pages (slice_index (pages_of pages) k))) → (q : ℕ) → GivesNothing (page_at pages q)
-each_place {S} pages each q =
-    elim (place_of q pages) as (λ (o : Option ℕ). place_of q pages ≡ o → GivesNothing (page_at pages q)) [
-      | None ↦ λ none. subst GivesNothing (sym (page_at-nowhere pages q none)) tt
-      | Some k ↦ λ at.
-          let found = position-Some (λ listed. listed == q) (pages_of pages) k 0 at in
-          let within = found.0 in
-          let many = length-map pages (λ (e : ℕ × PageValue S). e.0) in
-          subst (λ n. GivesNothing (page_at pages n)) (eqb-true _ _ found.1) (each k (omega arith) (omega arith))
-    ] refl
 
 -- what holds of the page at each place, and of none, holds of the page of every number
 pub every_page : {S : Type 0} (P : Option (PageValue S) → Type 0) (pages : List (ℕ × PageValue S)) → P None → ((k : ℕ) → k < length pages → P (page_at pages (slice_index (pages_of pages) k))) → (q : ℕ) → P (page_at pages q)

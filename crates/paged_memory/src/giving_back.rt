@@ -1,6 +1,5 @@
-ghost use Rattle.std.specs.Prelude.{◌≡◌, ◌≤◌, ◌<◌, ◌^◌, ℕ, [], All, length, slice_index, IfSome, IfNone};
+ghost use Rattle.std.specs.Prelude.{◌≡◌, ◌≤◌, ◌<◌, ◌^◌, ℕ, [], All, IfSome, IfNone};
 ghost use Rattle.std.specs.Bool.{OnTrue, OnFalse};
-ghost use Rattle.page_memory.specs.Entries.{pages_of};
 ghost use Rattle.sv32_table.specs.Entry.{blank};
 ghost use Rattle.sv32_table.specs.EntryAt.{ChangesEntry};
 ghost use Rattle.paged_memory.specs.Paged.{Holds, page_at};
@@ -17,11 +16,14 @@ use std::sync::ledger::Ledger;
 use sv32_table::PageTables;
 use swap_slots::SwapSlot;
 
+/// How many page numbers there are.
+const PAGE_NUMBERS: u32 = 0x10_0000;
+
 impl<L: Ledger, S: SwapSlot> PagedMemory<L, S> {
     /// Takes the frame and the slot of a page that has either and is not being saved, once no hart has a translation any
     /// more. The page is unmapped, and given up for good. `None` where there is no such page.
     ///
-    /// The calls go by the pages' places, and begin again behind the last.
+    /// The calls go by rising page numbers, and begin again where no page is left above.
     pub fn take_one(&mut self) -> Option<(Option<Frame<L>>, Option<S>)>
         requires quiet { All (λ cache. cache ≡ []) self.old.caches }
         ensures given { IfSome result (λ given. GivesOne given self.old.pages self.new.pages self.old.tables self.new.tables) }
@@ -30,41 +32,37 @@ impl<L: Ledger, S: SwapSlot> PagedMemory<L, S> {
         ensures process { self.new.process ≡ self.old.process }
         ensures caches { self.new.caches ≡ self.old.caches }
     {
-        let place = next_around(&self.pages, self.passed)?;
-        self.passed = place;
-        let vpn = self.pages.page(place);
+        let vpn = next_around(&self.pages, self.passed)?;
+        self.passed = vpn;
         Some(give_back(&mut self.pages, &mut self.tables, &self.caches, vpn))
     }
 }
 
-/// The place of the first page, from a place on and then from the front, that has a frame or a slot and is not being saved.
-fn next_around<L: Ledger, S: SwapSlot>(
-    pages: &PageMap<StoredPage<L, S>>,
-    from: usize,
-) -> Option<usize>
-    ensures within { IfSome result (λ place. place < length pages.now) }
-    ensures found { IfSome result (λ place. ¬ GivesNothing (page_at pages.now (slice_index (pages_of pages.now) place))) }
+/// The first page, from a page number on and then from the least on, that has a frame or a slot and is not being saved.
+fn next_around<L: Ledger, S: SwapSlot>(pages: &PageMap<StoredPage<L, S>>, from: u32) -> Option<u32>
+    ensures small { IfSome result (λ vpn. vpn < 2 ^ 20) }
+    ensures found { IfSome result (λ vpn. ¬ GivesNothing (page_at pages.now vpn)) }
     ensures none { IfNone result ((q : ℕ) → q < 2 ^ 20 → GivesNothing (page_at pages.now q)) }
 {
-    if let Some(place) = next_with_something(pages, from) {
-        return Some(place);
+    if let Some(vpn) = next_with_something(pages, from) {
+        return Some(vpn);
     }
     next_with_something(pages, 0)
 }
 
-/// The place of the first page, from a place on, that has a frame or a slot and is not being saved.
+/// The first page, from a page number on, that has a frame or a slot and is not being saved.
 fn next_with_something<L: Ledger, S: SwapSlot>(
     pages: &PageMap<StoredPage<L, S>>,
-    from: usize,
-) -> Option<usize>
-    ensures within { IfSome result (λ place. (from ≤ place) × (place < length pages.now)) }
-    ensures found { IfSome result (λ place. ¬ GivesNothing (page_at pages.now (slice_index (pages_of pages.now) place))) }
-    ensures first { IfSome result (λ place. (k : ℕ) → from ≤ k → k < place → GivesNothing (page_at pages.now (slice_index (pages_of pages.now) k))) }
-    ensures none { IfNone result ((k : ℕ) → from ≤ k → k < length pages.now → GivesNothing (page_at pages.now (slice_index (pages_of pages.now) k))) }
+    from: u32,
+) -> Option<u32>
+    ensures number { IfSome result (λ vpn. (from ≤ vpn) × (vpn < 2 ^ 20)) }
+    ensures found { IfSome result (λ vpn. ¬ GivesNothing (page_at pages.now vpn)) }
+    ensures first { IfSome result (λ vpn. (q : ℕ) → from ≤ q → q < vpn → GivesNothing (page_at pages.now q)) }
+    ensures none { IfNone result ((q : ℕ) → from ≤ q → q < 2 ^ 20 → GivesNothing (page_at pages.now q)) }
 {
-    for place in from..pages.len() {
-        if has_something(pages, pages.page(place)) {
-            return Some(place);
+    for vpn in from..PAGE_NUMBERS {
+        if has_something(pages, vpn) {
+            return Some(vpn);
         }
     }
     None

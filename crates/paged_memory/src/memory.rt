@@ -21,7 +21,7 @@ pub struct PagedMemory<L: Ledger, S: SwapSlot> {
     pub(crate) tables: PageTables,
     pub(crate) caches: Caches,
     /// The page that gave its frame or slot back last, where the search for the next one begins.
-    pub(crate) passed: usize,
+    pub(crate) passed: u32,
 }
 
 impl<L: Ledger, S: SwapSlot> Model for PagedMemory<L, S> {

@@ -71,7 +71,7 @@ impl<L: Ledger, S: SwapSlot> Space<L, S> {
     /// Once the process has ended, takes the frame and the slot of a page that has either and is not being saved. The page
     /// is unmapped, and given up for good. `None` where there is no such page, and before the end.
     ///
-    /// The calls go by the pages' places, and begin again behind the last.
+    /// The calls go by rising page numbers, and begin again where no page is left above.
     pub fn take_one(&mut self) -> Option<(Option<Frame<L>>, Option<S>)>
         ensures given { IfSome result (λ given. GivesOne given self.old.memory.pages self.new.memory.pages self.old.memory.tables self.new.memory.tables) }
         ensures ended { IfSome result (λ _. IsSome self.old.running.ending) }

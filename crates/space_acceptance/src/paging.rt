@@ -46,11 +46,7 @@ end:    j    end
 buf:    .word 0
 ";
 
-fn runs_over_two_pages<L: Ledger>(
-    rt: &impl Abort,
-    alloc: Global,
-    blank: Blank,
-) -> Result<(), Fail>
+fn runs_over_two_pages<L: Ledger>(rt: &impl Abort, alloc: Global, blank: Blank) -> Result<(), Fail>
     requires name { blank.name ≡ L.name }
     requires parts { blank.parts ≡ L.parts }
     requires one_each { L.parts ≡ 5 }
@@ -65,12 +61,33 @@ fn runs_over_two_pages<L: Ledger>(
         (Some(PageState::Fresh), None)
     );
     let absent = |page| SliceStop::Absent(page);
-    assert_eq!(rt; bench.space.slice(0, 10), Slice { ran: 0, stop: absent(0x10) });
+    assert_eq!(rt;
+        bench.space.slice(0, 10),
+        Slice {
+            ran: 0,
+            stop: absent(0x10)
+        }
+    );
     bench.page_in(0x10)?;
-    assert_eq!(rt; bench.space.slice(0, 10), Slice { ran: 3, stop: absent(0x11) });
+    assert_eq!(rt;
+        bench.space.slice(0, 10),
+        Slice {
+            ran: 3,
+            stop: absent(0x11)
+        }
+    );
     bench.page_in(0x11)?;
-    assert_eq!(rt; bench.space.slice(0, 10), Slice { ran: 4, stop: SliceStop::Ended });
-    assert_eq!(rt; bench.space.schedule().turns(), [Turn { hart: 0, count: 7 }].as_slice());
+    assert_eq!(rt;
+        bench.space.slice(0, 10),
+        Slice {
+            ran: 4,
+            stop: SliceStop::Ended
+        }
+    );
+    assert_eq!(rt;
+        bench.space.schedule().turns(),
+        [Turn { hart: 0, count: 7 }].as_slice()
+    );
     assert_eq!(rt; bench.space.peek(0x11003), Ok(5));
 
     for _ in 0..2 {

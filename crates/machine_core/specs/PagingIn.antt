@@ -4,7 +4,7 @@ use Rattle.clock_policy.specs.declared.key.Key.{Key}
 use Rattle.paged_memory.specs.declared.filling.PageInFault.{PageInFault}
 use Rattle.paged_memory.specs.declared.filling.PageInFault.TheVariants as fault
 use Rattle.machine_core.specs.declared.admission.NotAdmitted.{NotAdmitted}
-use Rattle.machine_core.specs.declared.admission.NotAdmitted.TheVariants as not
+use Rattle.machine_core.specs.declared.admission.NotAdmitted.TheVariants as unadmitted
 use Rattle.machine_core.specs.declared.error.EventRefusal.{EventRefusal}
 use Rattle.machine_core.specs.declared.error.EventRefusal.TheVariants.{Ended, NotAbsent, NoFrame, NoMemory}
 use Rattle.machine_core.specs.declared.event.Reply.{Reply}
@@ -15,11 +15,11 @@ use Rattle.machine_core.specs.Sides.{PagerSideValue, ProcessSideValue}
 
 -- why a page does not come in that was not admitted; one that is listed is not absent
 abbrev pub admit_reason : NotAdmitted → EventRefusal
-admit_reason not.Ended = Ended
-admit_reason not.NotAbsent = NotAbsent
-admit_reason not.AlreadyResident = NotAbsent
-admit_reason not.NoFrame = NoFrame
-admit_reason not.NoMemory = NoMemory
+admit_reason unadmitted.Ended = Ended
+admit_reason unadmitted.NotAbsent = NotAbsent
+admit_reason unadmitted.AlreadyResident = NotAbsent
+admit_reason unadmitted.NoFrame = NoFrame
+admit_reason unadmitted.NoMemory = NoMemory
 
 -- what is replied for a page that was not loaded
 abbrev pub fault_reply : PageInFault → Reply

@@ -1,5 +1,6 @@
 pub mod Admissions
 pub mod Cores
+pub mod Counted
 pub mod Finding
 pub mod Kept
 pub mod KeptPages

@@ -2,8 +2,11 @@ pub mod Admitting
 pub mod Loading
 pub mod Machine
 pub mod MachineRun
+pub mod MoveLaws
 pub mod PagingIn
 pub mod RefusalNumber
+pub mod ReturnLaws
+pub mod Returning
 pub mod Sides
 pub mod SweepLaws
 pub mod Sweeping

@@ -15,6 +15,7 @@ mod paging_in;
 mod process_side;
 mod reading;
 mod report;
+mod returning;
 mod sweeping;
 
 pub use admission::{Admission, NotAdmitted, admit, undo};

@@ -2,7 +2,7 @@ ghost use Rattle.std.specs.Prelude.{◌≡◌, ◌⊎◌, ◌+◌, ◌↔◌, �
 ghost use Rattle.clock_policy.specs.ClockPro.{question_of};
 ghost use Rattle.clock_policy.specs.Lawful.{Lawful};
 ghost use Rattle.clock_policy.specs.Bound.{left, NothingResident};
-ghost use Rattle.pager_core.specs.Pager.{full_pager};
+ghost use Rattle.pager_core.specs.Pager.{full_pager, tallied};
 
 use clock_policy::{Clock, EntryKind, Key};
 use frame_pool::PoolError;
@@ -93,4 +93,12 @@ impl<L: Ledger, C: Clock> PagerSide<L, C> {
     {
         self.pager.size()
     }
+}
+
+/// A count and one more, which stays at its type's largest number.
+#[tactic(auto, unfolding(pager_core::specs::Pager::tallied))]
+pub(crate) fn tally(count: u64) -> u64
+    ensures { result ≡ tallied count }
+{
+    count.saturating_add(1)
 }

@@ -2,6 +2,7 @@ pub mod Admissions
 pub mod Cores
 pub mod Counted
 pub mod Finding
+pub mod Invisible
 pub mod Kept
 pub mod KeptPages
 pub mod Sweeps

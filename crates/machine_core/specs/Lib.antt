@@ -1,9 +1,14 @@
 pub mod Admitting
+pub mod Applying
+pub mod ApplyingLaws
+pub mod Faithful
+pub mod Headline
 pub mod Loading
 pub mod Machine
 pub mod MachineRun
 pub mod MoveLaws
 pub mod PagingIn
+pub mod Reading
 pub mod RefusalNumber
 pub mod ReturnLaws
 pub mod Returning

@@ -5,6 +5,7 @@
 #![tactic(auto)]
 
 mod admission;
+mod apply;
 mod core_steps;
 mod error;
 mod event;
@@ -16,6 +17,7 @@ mod process_side;
 mod reading;
 mod report;
 mod returning;
+mod running;
 mod sweeping;
 
 pub use admission::{Admission, NotAdmitted, admit, undo};

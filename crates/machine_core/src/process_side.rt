@@ -4,6 +4,7 @@ ghost use Rattle.machine_core.specs.Admitting.{stage_at, is_absent, is_resident}
 ghost use Rattle.paged_memory.specs.Paged.{seen_at};
 ghost use Rattle.machine_core.specs.MachineRun.{Slices, StepsOnce, TakesNotices, IsKilled};
 ghost use Rattle.machine_core.specs.Sweeping.{bit_at, ReadsBit, Evicts};
+ghost use Rattle.space_core.specs.StandsFor.{StandsFor};
 
 use clock_policy::Bit;
 use flat_machine::{End, KillCause, Schedule};
@@ -30,6 +31,13 @@ impl<L: Ledger, S: SwapSlot> Model for ProcessSide<L, S> {
 }
 
 impl<L: Ledger, S: SwapSlot> ProcessSide<L, S> {
+    /// What holds of it between any two calls: see [`Space::coherent`]. It does nothing.
+    pub fn coherent(&self)
+        ensures { S.honest → StandsFor S.content self.now.space }
+    {
+        self.space.coherent();
+    }
+
     /// Where a page is, or `None` where none is mapped.
     pub fn state(&self, vpn: u32) -> Option<PageState>
         ensures { result ≡ stage_at self.now.space vpn }

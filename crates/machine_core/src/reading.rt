@@ -1,11 +1,15 @@
 //! What the machine shows of its processes.
 
-ghost use Rattle.std.specs.Prelude.{◌≡◌, slice_get, option_copied, option_map};
+ghost use Rattle.std.specs.Prelude.{◌≡◌, ◌*◌, ◌≤◌, length, slice_get, option_copied, option_map};
 ghost use Rattle.std.specs.Option.{option_and_then};
+ghost use Rattle.machine_core.specs.Admitting.{stage_at};
+ghost use Rattle.machine_core.specs.Reading.{is_live_in};
 
 use crate::machine::Core;
-use clock_policy::Clock;
+use crate::pager_side::SideCounts;
+use clock_policy::{Clock, EntryKind, Key};
 use flat_machine::{End, Schedule};
+use page_store::PageState;
 use rv_exec::Regs;
 use std::sync::ledger::Ledger;
 use swap_slots::SwapSlot;
@@ -37,5 +41,56 @@ impl<L: Ledger, S: SwapSlot, C: Clock> Core<L, S, C> {
         ensures { option_copied result ≡ option_map (λ process. process.space.schedule) (slice_get self.now.processes process) }
     {
         Some(self.processes.get(process as usize)?.schedule())
+    }
+
+    /// How many processes there are: their numbers go from 0 on.
+    pub fn processes(&self) -> usize
+        ensures count { result ≡ length self.now.processes }
+        ensures few { result ≤ 16 }
+    {
+        self.processes.len()
+    }
+
+    /// Whether there is such a process and it has such a live hart.
+    pub fn is_live(&self, process: u32, hart: u32) -> bool
+        ensures { result ≡ is_live_in (slice_get self.now.processes process) hart }
+    {
+        match self.processes.get(process as usize) {
+            None => false,
+            Some(side) => side.is_live(hart),
+        }
+    }
+
+    /// Where a page of a process is, or `None` where there is no such process or none is mapped.
+    pub fn state(&self, process: u32, vpn: u32) -> Option<PageState>
+        ensures { result ≡ option_and_then (λ process. stage_at process.space vpn) (slice_get self.now.processes process) }
+    {
+        self.processes.get(process as usize)?.state(vpn)
+    }
+
+    /// The entry of the list at a place, counted from the front.
+    pub fn entry(&self, i: usize) -> Option<(Key, EntryKind)>
+        ensures entry { result ≡ option_map (λ e. (e.key, e.kind)) (slice_get self.now.pager.pager.list.entries i) }
+        ensures few { length self.now.pager.pager.list.entries ≤ 2 * self.now.pager.pager.size }
+    {
+        let _ = &self.pager;
+        self.pager.entry(i)
+    }
+
+    /// How many frames are free, and what was counted.
+    pub fn counts(&self) -> SideCounts
+        ensures free { result.pager.free ≡ length self.now.pager.pager.free }
+        ensures tallies { result.pager.tallies ≡ self.now.pager.pager.tallies }
+        ensures saves { result.saves ≡ self.now.pager.saves }
+        ensures drops { result.drops ≡ self.now.pager.drops }
+    {
+        self.pager.counts()
+    }
+
+    /// Of how many frames the machine was made.
+    pub fn size(&self) -> u32
+        ensures { result ≡ self.now.pager.pager.size }
+    {
+        self.pager.size()
     }
 }

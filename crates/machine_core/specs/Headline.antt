@@ -1,0 +1,105 @@
+-- Paging is invisible: after every event of a run, each process shows what its instructions compute on flat memory.
+use Rattle.std.specs.Prelude.{◌≡◌, ℕ, ◌^◌, ◌<◌, ◌++◌, ◌&&◌, ◌==◌, Bool, true, false, is_some, List, [], ◌∷◌, Some, Ok, slice_get, if◌then◌else◌}
+use Rattle.std.specs.FinMap.{get}
+use Rattle.clock_policy.specs.ClockPro.{question_of, answered}
+use Rattle.clock_policy.specs.Residents.{residents}
+use Rattle.clock_policy.specs.declared.answer.Bit.{Bit}
+use Rattle.clock_policy.specs.declared.answer.Verdict.TheVariants as verdict
+use Rattle.clock_policy.specs.declared.key.Key.{Key}
+use Rattle.flat_machine.specs.Process.{Process, opening, flat_run}
+use Rattle.flat_machine.specs.Schedule.{written_out}
+use Rattle.machine_core.specs.declared.event.Event.{Event}
+use Rattle.machine_core.specs.declared.event.Event.TheVariants as event
+use Rattle.machine_core.specs.declared.event.Reply.{Reply}
+use Rattle.machine_core.specs.declared.event.Reply.TheVariants as reply
+use Rattle.machine_core.specs.Machine.{CoreValue, total}
+use Rattle.machine_core.specs.Sides.{ProcessSideValue}
+use Rattle.machine_core.specs.Sweeping.{bit_at}
+use Rattle.machine_core.specs.Together.{residents_in}
+use Rattle.page_store.specs.PageValue.{PageValue}
+use Rattle.paged_memory.specs.Paged.{page_at, flat_page}
+use Rattle.space_core.specs.StandsFor.{SpaceValue, own_ending, is_purged}
+
+-- whether a step that is answered so ran its instruction
+abbrev pub has_run : Reply → Bool
+has_run reply.Ran = true
+has_run reply.Yielded = true
+has_run reply.HartDone = true
+has_run reply.Ended = true
+has_run (reply.Absent page) = false
+has_run reply.ScheduleFull = false
+has_run reply.Noticed = false
+has_run (reply.Asked key used) = false
+has_run (reply.Victim key) = false
+has_run reply.NotYet = false
+has_run reply.Freed = false
+has_run reply.Dirty = false
+has_run reply.NoSlot = false
+has_run reply.Device = false
+has_run reply.Mapped = false
+has_run reply.Killed = false
+has_run reply.Purged = false
+has_run (reply.Refused refusal) = false
+
+-- the hart that an event adds to the recorded order of a process: that of a step of this process which ran, and none else
+abbrev pub adds : ℕ → Event → Reply → List ℕ
+adds number (event.Step process hart) answer = if has_run answer && (number == process) then hart ∷ [] else []
+adds number (event.Notice process hart) answer = []
+adds number event.Sweep answer = []
+adds number (event.Collect key) answer = []
+adds number (event.Saved key) answer = []
+adds number (event.PageIn key) answer = []
+adds number (event.Kill process cause) answer = []
+adds number (event.Purge process) answer = []
+
+module _ {S : Type 0} where
+  -- a process goes on from the same image and input, with these harts added to its recorded order
+  pub record GoesOn (added : List ℕ) (old new : SpaceValue S) : Type 0 where
+    pub image : new.image ≡ old.image
+    pub input : new.input ≡ old.input
+    pub recorded : written_out new.schedule ≡ written_out old.schedule ++ added
+
+  -- a process that was there goes on
+  pub record Remains (number : ℕ) (added : List ℕ) (new : List (ProcessSideValue S)) (old : ProcessSideValue S) : Type 0 where
+    pub process : ProcessSideValue S
+    pub found : slice_get new number ≡ Some process
+    pub goes_on : GoesOn added old.space process.space
+
+  -- the victim is the page that the list asks for, and the list's answer to that page's accessed bit
+  pub record IsNamed (old new : CoreValue S) (key : Key) : Type 0 where
+    pub process : ProcessSideValue S
+    pub found : slice_get old.processes key.process ≡ Some process
+    pub asked : question_of old.pager.pager.list ≡ Some key
+    pub bit : Bit
+    pub as_asked : bit_at process.space key.vpn ≡ bit
+    pub named : (answered bit old.pager.pager.list).1 ≡ Ok (verdict.Victim key)
+    pub list : new.pager.pager.list ≡ (answered bit old.pager.pager.list).0
+
+module _ {S : Type 0} (held : S → List ℕ) where
+  -- a process shows the flat process that the instructions of its recorded order leave: its registers; its output, input left and
+  -- break; its ending, but that one that the machine killed has none on flat memory; which pages are mapped; and the rights and
+  -- bytes of each page that was not given up
+  pub record ShowsFlatRun (space : SpaceValue S) : Type 0 where
+    pub flat : Process
+    pub ran : flat_run (written_out space.schedule) (opening space.image space.input) ≡ Some flat
+    pub registers : space.running.harts ≡ flat.harts
+    pub environment : space.running.environment ≡ flat.environment
+    pub ending : own_ending space.running.ending ≡ flat.ending
+    pub mapped : (number : ℕ) → number < 2 ^ 20 → is_some (page_at space.memory.pages number) ≡ is_some (get flat.memory number)
+    pub memory : (number : ℕ) (page : PageValue S) → number < 2 ^ 20 → page_at space.memory.pages number ≡ Some page → is_purged (Some page) ≡ false
+        → get flat.memory number ≡ Some (flat_page held page)
+
+module _ {S : Type 0} (held : S → List ℕ) (honest : Type 0) where
+  -- what holds of the machine after an event, by the machine before it
+  pub record IsInvisible (happened : Event) (answer : Reply) (old new : CoreValue S) : Type 0 where
+    pub shown : honest → (number : ℕ) (process : ProcessSideValue S) → slice_get new.processes number ≡ Some process → ShowsFlatRun held process.space
+    pub recorded : (number : ℕ) (process : ProcessSideValue S) → slice_get old.processes number ≡ Some process → Remains number (adds number happened answer) new.processes process
+    pub listed : (test : Key → Bool) → residents new.pager.pager.list test ≡ total (λ (process : ProcessSideValue S). residents_in process.space test) new.processes
+    pub victim : (key : Key) → answer ≡ reply.Victim key → IsNamed old new key
+
+  -- the same after every event of a run
+  unfoldable pub PagingIsInvisible : List Event → List Reply → CoreValue S → CoreValue S → Type 0
+  PagingIsInvisible [] [] old new = new ≡ old
+  PagingIsInvisible [] (answer ∷ answers) old new = ⊥
+  PagingIsInvisible (happened ∷ events) [] old new = ⊥
+  PagingIsInvisible (happened ∷ events) (answer ∷ answers) old new = (between : CoreValue S) × (IsInvisible happened answer old between × PagingIsInvisible events answers between new)

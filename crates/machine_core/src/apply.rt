@@ -1,0 +1,56 @@
+//! Events, one at a time and one after another.
+
+ghost use Rattle.std.specs.Prelude.{◌≡◌};
+ghost use Rattle.machine_core.specs.Applying.{Serves, Applies};
+ghost use Rattle.machine_core.specs.Faithful.{EachStands, IsFaithful};
+
+use crate::error::EventRefusal;
+use crate::event::{Event, Reply};
+use crate::machine::Core;
+use crate::process_side::ProcessSide;
+use clock_policy::Clock;
+use std::sync::ledger::Ledger;
+use swap_slots::SwapSlot;
+
+/// Each process stands for the flat process that its schedule leaves, where slots are honest. It does nothing.
+fn each_stands<L: Ledger, S: SwapSlot>(processes: &[ProcessSide<L, S>])
+    ensures { S.honest → EachStands S.content processes.now }
+{
+    for side in processes {
+        side.coherent();
+    }
+}
+
+impl<L: Ledger, S: SwapSlot, C: Clock> Core<L, S, C> {
+    /// What holds of it between any two calls. It does nothing.
+    pub fn faithful(&self)
+        ensures { IsFaithful S.content S.honest self.now }
+    {
+        let _ = &self.pager;
+        each_stands(self.processes.as_slice());
+    }
+
+    /// What an event does: it is refused, and then nothing has changed but for what want of memory leaves, or it is served.
+    pub fn apply(&mut self, event: Event) -> Reply
+        ensures { Applies S.content S.honest S.failures event self.old self.new result }
+    {
+        let reply = self.serve(event);
+        self.faithful();
+        reply
+    }
+
+    fn serve(&mut self, event: Event) -> Reply
+        ensures { Serves S.content S.honest S.failures event self.old self.new result }
+    {
+        match event {
+            Event::Step { process, hart } => self.step(process, hart),
+            Event::Notice { process, hart } => self.notice(process, hart),
+            Event::Sweep => self.sweep(),
+            Event::Collect(_) => Reply::Refused(EventRefusal::NoMemory),
+            Event::Saved(_) => Reply::Refused(EventRefusal::NoMemory),
+            Event::PageIn(_) => Reply::Refused(EventRefusal::NoMemory),
+            Event::Kill { process, cause } => self.kill(process, cause),
+            Event::Purge { .. } => Reply::Refused(EventRefusal::NoMemory),
+        }
+    }
+}

@@ -5,5 +5,6 @@ pub mod Finding
 pub mod Invisible
 pub mod Kept
 pub mod KeptPages
+pub mod Openings
 pub mod Sweeps
 pub mod Totals

@@ -7,6 +7,7 @@ pub mod Loading
 pub mod Machine
 pub mod MachineRun
 pub mod MoveLaws
+pub mod Opening
 pub mod PagingIn
 pub mod Reading
 pub mod RefusalNumber

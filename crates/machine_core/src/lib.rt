@@ -11,6 +11,7 @@ mod error;
 mod event;
 mod loading;
 mod machine;
+mod opening;
 mod pager_side;
 mod paging_in;
 mod process_side;

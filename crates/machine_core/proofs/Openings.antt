@@ -1,0 +1,191 @@
+-- A machine that begins is one: no page is in a frame or being saved, so each frame is free and each slot.
+use Rattle.std.proofs.Common.{◌≡◌, ℕ, zero, suc, ◌+◌, ◌<◌, ◌≤◌, ◌&&◌, ◌++◌, ◌==◌, Bool, true, false, cond, List, [], ◌∷◌, length, map, Option, Some, None, slice_get, ◌⊎◌, inl, inr, refl, sym, ap, ◌∙◌, arith, subst, length-append}
+use Rattle.std.specs.Prelude.{All}
+use Rattle.std.specs.List.{range_with_len}
+use Rattle.std.specs.Option.{option_and_then}
+use Rattle.std.proofs.lemmas.Bool.Decides.{eqb_tells}
+use Rattle.std.proofs.lemmas.List.{map-append}
+use Rattle.std.proofs.lemmas.List.Elements.{All-nil}
+use Rattle.std.proofs.lemmas.Option.{slice_get_within}
+use Rattle.clock_policy.specs.declared.key.Key.{Key}
+use Rattle.clock_policy.specs.ClockLaws.{opening_lawful}
+use Rattle.clock_policy.specs.ClockPro.{opening}
+use Rattle.clock_policy.specs.Lawful.{Lawful}
+use Rattle.clock_policy.specs.Residents.{residents}
+use Rattle.flat_machine.specs.Process.{opening_pages}
+use Rattle.frame_pool.specs.FrameValue.{zero_frame}
+use Rattle.page_memory.specs.Memory.{Page}
+use Rattle.page_memory.specs.Entries.{place_of, value_at, values_of}
+use Rattle.page_store.specs.JobValue.{JobValue}
+use Rattle.page_store.specs.PageValue.{PageValue, Fresh, frame_of, slot_of}
+use Rattle.paged_memory.specs.Counting.{page_passes, pages_where, is_resident_place, is_saving_place, frame_passes, is_kept, residents_of, savings_of, frames_of, slots_of}
+use Rattle.paged_memory.specs.CountingLaws.{none_where_pass}
+use Rattle.paged_memory.specs.Paged.{page_at}
+use Rattle.pager_core.specs.Pager.{full_pager}
+use Rattle.space_core.specs.Fresh.{fresh, all_fresh}
+use Rattle.swap_slots.specs.PoolValue.{PoolValue}
+use Rattle.machine_core.specs.Machine.{CoreValue, IsMachine, IsOut, total, jobs_where, numbers_below}
+use Rattle.machine_core.specs.Opening.{Start, Begins, BeginsAt, AllBegin, MachineBegins}
+use Rattle.machine_core.specs.Sides.{PagerSideValue, ProcessSideValue}
+use Rattle.machine_core.specs.Together.{frames_where, residents_in, savings_in, frames_in, key_of}
+
+total_none : {A : Type 0} (f : A → ℕ) (xs : List A) → ((i : ℕ) (x : A) → slice_get xs i ≡ Some x → f x ≡ 0) → total f xs ≡ 0
+unfolding total
+total_none f [] none = refl
+total_none f (x ∷ xs) none =
+    let here = none 0 x refl in
+    let rest = total_none f xs (λ i y at. none (suc i) y at) in
+    omega (arith, here, rest)
+
+-- the frames of a new pool are numbered from 0
+frames_numbered : (test : ℕ → Bool) (first count : ℕ) → numbers_below first test + frames_where test (map zero_frame (range_with_len first count)) ≡ numbers_below (first + count) test
+unfolding frames_where numbers_below
+frames_numbered test first zero = let none : first + 0 ≡ first = omega arith in let same : numbers_below (first + 0) test ≡ numbers_below first test = ap (λ n. numbers_below n test) none in omega (arith, same)
+frames_numbered test first (suc count) =
+    let next : first + 1 ≡ suc first = omega arith in
+    let this : numbers_below (first + 1) test ≡ cond (test first) 1 0 + numbers_below first test = ap (λ n. numbers_below n test) next in
+    let all : first + 1 + count ≡ first + suc count = omega arith in
+    let same : numbers_below (first + 1 + count) test ≡ numbers_below (first + suc count) test = ap (λ n. numbers_below n test) all in
+    let rest = frames_numbered test (first + 1) count in
+    omega (arith, this, same, rest)
+
+get_front : {A : Type 0} (xs : List A) (y : A) (i : ℕ) (x : A) → slice_get xs i ≡ Some x → slice_get (xs ++ y ∷ []) i ≡ Some x
+get_front [] y i x h = cc
+get_front (z ∷ zs) y zero x h = h
+get_front (z ∷ zs) y (suc i) x h = get_front zs y i x h
+
+get_last : {A : Type 0} (xs : List A) (y : A) → slice_get (xs ++ y ∷ []) (length xs) ≡ Some y
+get_last [] y = refl
+get_last (z ∷ zs) y = get_last zs y
+
+module _ {S : Type 0} where
+  -- a page that was never brought in
+  fresh_values : (entries : List (ℕ × Page)) (place : ℕ) (page : PageValue S) → slice_get (values_of (all_fresh entries)) place ≡ Some page → page.place ≡ Fresh
+  fresh_values [] place page h = cc
+  fresh_values (e ∷ es) zero page h = let same : fresh e.1 ≡ page = cc in ap (λ (p : PageValue S). p.place) (sym same)
+  fresh_values (e ∷ es) (suc place) page h = fresh_values es place page h
+
+  fresh_at : (entries : List (ℕ × Page)) (number : ℕ) (page : PageValue S) → page_at (all_fresh entries) number ≡ Some page → page.place ≡ Fresh
+  unfolding page_at
+  fresh_at entries number page h = by_place (place_of number (all_fresh {S = S} entries)) h
+    where
+      by_place : (o : Option ℕ) → option_and_then (λ place. value_at place (all_fresh entries)) o ≡ Some page → page.place ≡ Fresh
+      by_place None h = cc
+      by_place (Some place) h = fresh_values entries place page h
+
+  none_fresh : (test : ℕ → PageValue S → Bool) (entries : List (ℕ × Page)) → ((number : ℕ) (page : PageValue S) → page.place ≡ Fresh → test number page ≡ false) → pages_where test (all_fresh entries) ≡ 0
+  none_fresh test entries none = none_where_pass test (all_fresh entries) (λ number small. by_page number (page_at (all_fresh entries) number) refl)
+    where
+      by_page : (number : ℕ) (o : Option (PageValue S)) → page_at (all_fresh entries) number ≡ o → page_passes (test number) (page_at (all_fresh entries) number) ≡ false
+      by_page number None at = ap (page_passes (test number)) at
+      by_page number (Some page) at = ap (page_passes (test number)) at ∙ none number page (fresh_at entries number page at)
+
+  -- a process that begins counts nowhere
+  module _ (number : ℕ) (start : Start) (process : ProcessSideValue S) (begins : Begins number start process) where
+    no_residents : (test : Key → Bool) → residents_in process.space test ≡ 0
+    unfolding residents_in
+    no_residents test =
+        let passes : ℕ → Bool = λ vpn. test (key_of process.space.memory.process vpn) in
+        ap (λ pages. residents_of pages passes) begins.pages
+        ∙ none_fresh (λ v page. is_resident_place page.place && passes v) (opening_pages start.image.pages) (λ v page is. ap (λ p. is_resident_place p && passes v) is)
+
+    no_savings : (test : Key → Bool) → savings_in process.space test ≡ 0
+    unfolding savings_in
+    no_savings test =
+        let passes : ℕ → Bool = λ vpn. test (key_of process.space.memory.process vpn) in
+        ap (λ pages. savings_of pages passes) begins.pages
+        ∙ none_fresh (λ v page. is_saving_place page.place && passes v) (opening_pages start.image.pages) (λ v page is. ap (λ p. is_saving_place p && passes v) is)
+
+    no_frames : (test : ℕ → Bool) → frames_in process.space test ≡ 0
+    unfolding frames_in
+    no_frames test =
+        ap (λ pages. frames_of pages test) begins.pages
+        ∙ none_fresh (λ v page. frame_passes test (frame_of page.place)) (opening_pages start.image.pages) (λ v page is. ap (λ p. frame_passes test (frame_of p)) is)
+
+    no_slots : slots_of process.space.memory.pages ≡ 0
+    no_slots =
+        ap slots_of begins.pages
+        ∙ none_fresh (λ v page. is_kept (slot_of page.place)) (opening_pages start.image.pages) (λ v page is. ap (λ p. is_kept (slot_of p)) is)
+
+  -- the process of a number that is there begins
+  begins_there : (starts : List Start) (processes : List (ProcessSideValue S)) (number : ℕ) (process : ProcessSideValue S) → AllBegin starts processes → slice_get processes number ≡ Some process → (start : Start) × Begins number start process
+  begins_there starts processes number process all at =
+      let within = slice_get_within processes number process at in
+      let many = all.many in
+      let here = all.each number (omega (arith, within, many)) in
+      let same : here.process ≡ process = let a = here.found in let b = at in cc in
+      (here.start, subst (Begins number here.start) same here.begins)
+
+  -- one more process begins
+  pub one_more_begins : {X : Type 0} (f : X → Start) (xs : List X) (x : X) (sides new : List (ProcessSideValue S)) (number : ℕ) (side : ProcessSideValue S) → AllBegin (map f xs) sides → number ≡ length sides
+      → new ≡ sides ++ side ∷ [] → Begins number (f x) side → AllBegin (map f (xs ++ x ∷ [])) new
+  one_more_begins f xs x sides new number side all counted is begins =
+      subst (λ l. AllBegin l new) (sym (map-append f xs (x ∷ []))) (subst (AllBegin (map f xs ++ f x ∷ [])) (sym is) (record {
+        many = let many = all.many in omega (arith, many, length-append sides (side ∷ []), length-append (map f xs) (f x ∷ []));
+        each = λ n within. by_place n within (eqb_tells n (length (map f xs)));
+      }))
+    where
+      by_place : (n : ℕ) → n < length (map f xs ++ f x ∷ []) → (((n == length (map f xs)) ≡ true) × (n ≡ length (map f xs))) ⊎ (((n == length (map f xs)) ≡ false) × ((n ≡ length (map f xs)) → ⊥)) → BeginsAt (map f xs ++ f x ∷ []) (sides ++ side ∷ []) n
+      by_place n within (inl at) = record {
+        start = f x;
+        process = side;
+        given = ap (slice_get (map f xs ++ f x ∷ [])) at.1 ∙ get_last (map f xs) (f x);
+        found = ap (slice_get (sides ++ side ∷ [])) (at.1 ∙ sym all.many) ∙ get_last sides side;
+        begins = subst (λ m. Begins m (f x) side) (counted ∙ all.many ∙ sym at.1) begins;
+      }
+      by_place n within (inr apart) =
+          let other = apart.1 in
+          let here = all.each n (omega (arith, within, other, length-append (map f xs) (f x ∷ []))) in
+          record {
+            start = here.start;
+            process = here.process;
+            given = get_front (map f xs) (f x) n here.start here.given;
+            found = get_front sides side n here.process here.found;
+            begins = here.begins;
+          }
+
+  none_counts : (starts : List Start) (processes : List (ProcessSideValue S)) → AllBegin starts processes → (f : ProcessSideValue S → ℕ)
+      → ((number : ℕ) (start : Start) (process : ProcessSideValue S) → Begins number start process → f process ≡ 0) → total f processes ≡ 0
+  none_counts starts processes all f none =
+      total_none f processes (λ number process at. let b = begins_there starts processes number process all at in none number b.0 process b.1)
+
+  pool_of : (pool : PoolValue S) (free : List S) → pool.free ≡ free → pool.size ≡ length free → pool ≡ record { free = free; size = length free }
+  pool_of pool free is size =
+      let one : List S → PoolValue S = λ l. record { free = l; size = pool.size } in
+      let other : ℕ → PoolValue S = λ n. record { free = free; size = n } in
+      ap one is ∙ ap other size
+
+  -- the parts of a machine before its first event
+  pub begun : {X : Type 0} (f : X → Start) (frames : ℕ) (free : List S) (xs : List X) (pager : PagerSideValue) (slots : PoolValue S) (processes : List (ProcessSideValue S)) (jobs : List (JobValue S))
+      → pager ≡ record { pager = full_pager frames; saves = 0; drops = 0 } → slots.free ≡ free → slots.size ≡ length free → AllBegin (map f xs) processes → jobs ≡ []
+      → MachineBegins frames free (map f xs) (record { pager = pager; slots = slots; processes = processes; jobs = jobs })
+  begun f frames free xs pager slots processes jobs full is size all none = record { pager = full; slots = pool_of slots free is size; processes = all; jobs = none }
+
+  pub machine_begins : (frames : ℕ) (free : List S) (starts : List Start) (core : CoreValue S) → 4 ≤ frames → frames ≤ 4096 → length starts ≤ 16 → MachineBegins frames free starts core → IsMachine core
+  unfolding opening residents frames_where jobs_where total numbers_below
+  machine_begins frames free starts core least most few begins = record {
+    lawful = subst (λ (p : PagerSideValue). Lawful p.pager.list) (sym begins.pager) (opening_lawful frames least most);
+    frames = ap (λ (p : PagerSideValue). p.pager.list.frames) begins.pager ∙ sym (ap (λ (p : PagerSideValue). p.pager.size) begins.pager);
+    numbered = λ number process at. (begins_there starts core.processes number process begins.processes at).1.numbered;
+    few = let many = begins.processes.many in omega (arith, many, few);
+    listed = λ test.
+        ap (λ (p : PagerSideValue). residents p.pager.list test) begins.pager
+        ∙ sym (none_counts starts core.processes begins.processes (λ (process : ProcessSideValue S). residents_in process.space test) (λ number start process b. no_residents number start process b test));
+    framed = λ test.
+        let none = none_counts starts core.processes begins.processes (λ (process : ProcessSideValue S). frames_in process.space test) (λ number start process b. no_frames number start process b test) in
+        let free : frames_where test core.pager.pager.free ≡ frames_where test (map zero_frame (range_with_len 0 frames)) = ap (λ (p : PagerSideValue). frames_where test p.pager.free) begins.pager in
+        let size : numbers_below core.pager.pager.size test ≡ numbers_below frames test = ap (λ (p : PagerSideValue). numbers_below p.pager.size test) begins.pager in
+        let zero_first : 0 + frames ≡ frames = omega arith in
+        let counted : numbers_below (0 + frames) test ≡ numbers_below frames test = ap (λ n. numbers_below n test) zero_first in
+        let numbered = frames_numbered test 0 frames in
+        omega (arith, none, free, size, counted, numbered);
+    saved = λ test.
+        ap (jobs_where test) begins.jobs
+        ∙ sym (none_counts starts core.processes begins.processes (λ (process : ProcessSideValue S). savings_in process.space test) (λ number start process b. no_savings number start process b test));
+    out = subst (All (IsOut core.processes)) (sym begins.jobs) (All-nil _);
+    slotted =
+        let none = none_counts starts core.processes begins.processes (λ (process : ProcessSideValue S). slots_of process.space.memory.pages) (λ number start process b. no_slots number start process b) in
+        let jobs : length core.jobs ≡ 0 = ap length begins.jobs in
+        let same : length core.slots.free ≡ core.slots.size = ap (λ (p : PoolValue S). length p.free) begins.slots ∙ sym (ap (λ (p : PoolValue S). p.size) begins.slots) in
+        omega (arith, none, jobs, same);
+  }

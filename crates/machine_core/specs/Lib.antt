@@ -13,6 +13,8 @@ pub mod Reading
 pub mod RefusalNumber
 pub mod ReturnLaws
 pub mod Returning
+pub mod SavingBack
+pub mod SavingLaws
 pub mod Sides
 pub mod SweepLaws
 pub mod Sweeping

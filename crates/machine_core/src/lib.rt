@@ -19,6 +19,7 @@ mod reading;
 mod report;
 mod returning;
 mod running;
+mod saving_back;
 mod sweeping;
 
 pub use admission::{Admission, NotAdmitted, admit, undo};
@@ -28,4 +29,5 @@ pub use machine::Core;
 pub use pager_side::{PagerSide, SideCounts};
 pub use process_side::ProcessSide;
 pub use report::{ProcessReport, Report};
+pub use saving_back::{SaveFailure, SaveOutcome, saved};
 pub use sweeping::{Swept, sweep};

@@ -2,9 +2,11 @@ pub mod Admissions
 pub mod Cores
 pub mod Counted
 pub mod Finding
+pub mod GivenPages
 pub mod Invisible
 pub mod Kept
 pub mod KeptPages
 pub mod Openings
+pub mod PurgeSteps
 pub mod Sweeps
 pub mod Totals

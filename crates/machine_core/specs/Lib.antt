@@ -9,6 +9,8 @@ pub mod MachineRun
 pub mod MoveLaws
 pub mod Opening
 pub mod PagingIn
+pub mod PurgeLaws
+pub mod Purging
 pub mod Reading
 pub mod RefusalNumber
 pub mod ReturnLaws

@@ -6,6 +6,7 @@ pub mod GivenPages
 pub mod Invisible
 pub mod Kept
 pub mod KeptPages
+pub mod Looking
 pub mod Openings
 pub mod PurgeSteps
 pub mod Sweeps

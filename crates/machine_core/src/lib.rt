@@ -6,6 +6,7 @@
 
 mod admission;
 mod apply;
+mod collecting;
 mod core_steps;
 mod error;
 mod event;
@@ -24,6 +25,7 @@ mod saving_back;
 mod sweeping;
 
 pub use admission::{Admission, NotAdmitted, admit, undo};
+pub use collecting::{Looked, collect};
 pub use error::{CoreError, EventRefusal};
 pub use event::{Event, Reply};
 pub use machine::Core;

@@ -48,7 +48,7 @@ is_there reason processes p h = by_process (slice_get processes p) refl
     by_process (Some process) at = slice_get_within processes p process at
 
 -- a list that was lent as a slice
-lent_back : {A : Type 0} (items new : List A) (n : ℕ) → n ≡ length items → length new ≡ length items → take n (new ++ drop (length new) items) ≡ new
+pub lent_back : {A : Type 0} (items new : List A) (n : ℕ) → n ≡ length items → length new ≡ length items → take n (new ++ drop (length new) items) ≡ new
 lent_back items new n long same = let past : length items ≤ length new = omega (arith, same) in rw (drop_all (length new) items past, append-nil new) (take_all n new (omega (arith, long, same)))
 
 module _ {S : Type 0} where

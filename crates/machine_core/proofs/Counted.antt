@@ -112,7 +112,7 @@ saving_framed (Away slot) h = cc
 saving_framed Purged h = cc
 
 module _ {S : Type 0} where
-  residents_framed : (q : ProcessSideValue S) → residents_in q.space (λ _. true) ≤ frames_in q.space (λ _. true)
+  pub residents_framed : (q : ProcessSideValue S) → residents_in q.space (λ _. true) ≤ frames_in q.space (λ _. true)
   unfolding residents_in frames_in
   residents_framed q = fewer_where (λ number page. is_resident_place page.place && true) (λ number page. frame_passes (λ _. true) (frame_of page.place)) q.space.memory.pages (λ number page. resident_framed page.place)
 

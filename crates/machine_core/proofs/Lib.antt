@@ -8,6 +8,9 @@ pub mod Kept
 pub mod KeptPages
 pub mod Looking
 pub mod Openings
+pub mod PageInEvents
+pub mod PageInReasons
+pub mod PageIns
 pub mod PurgeSteps
 pub mod Sweeps
 pub mod Totals

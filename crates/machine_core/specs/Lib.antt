@@ -10,6 +10,7 @@ pub mod MachineRun
 pub mod MoveLaws
 pub mod Opening
 pub mod PagingIn
+pub mod PagingLaws
 pub mod PurgeLaws
 pub mod Purging
 pub mod Reading

@@ -1,16 +1,24 @@
 -- A page is brought in: it is admitted and then mapped, or else the admission is taken back.
-use Rattle.std.specs.Prelude.{◌≡◌, ◌⊎◌, ℕ, List, ◌++◌, [], ◌∷◌}
+use Rattle.std.specs.Prelude.{◌≡◌, ◌⊎◌, ℕ, List, ◌++◌, [], ◌∷◌, is_some, slice_get, slice_set, Option, Some, None, if◌then◌else◌}
 use Rattle.clock_policy.specs.declared.key.Key.{Key}
+use Rattle.clock_policy.specs.ClockPro.{withdrawn}
+use Rattle.frame_pool.specs.FrameValue.{FrameValue}
+use Rattle.paged_memory.specs.Calls.{ChangesBy}
+use Rattle.paged_memory.specs.Filling.{RefusesAbsent}
 use Rattle.paged_memory.specs.declared.filling.PageInFault.{PageInFault}
 use Rattle.paged_memory.specs.declared.filling.PageInFault.TheVariants as fault
+use Rattle.pager_core.specs.Pager.{none_free}
+use Rattle.sv32_table.specs.EntryAt.{has_table}
 use Rattle.machine_core.specs.declared.admission.NotAdmitted.{NotAdmitted}
 use Rattle.machine_core.specs.declared.admission.NotAdmitted.TheVariants as unadmitted
 use Rattle.machine_core.specs.declared.error.EventRefusal.{EventRefusal}
 use Rattle.machine_core.specs.declared.error.EventRefusal.TheVariants.{Ended, NotAbsent, NoFrame, NoMemory}
 use Rattle.machine_core.specs.declared.event.Reply.{Reply}
 use Rattle.machine_core.specs.declared.event.Reply.TheVariants.{Mapped, Device, Refused}
-use Rattle.machine_core.specs.Admitting.{AdmissionValue, Admits, DoesNotAdmit, is_resident, taken_back}
-use Rattle.machine_core.specs.Loading.{Loads, DoesNotLoad}
+use Rattle.machine_core.specs.Admitting.{AdmissionValue, Admits, DoesNotAdmit, is_absent, is_resident, taken_back}
+use Rattle.machine_core.specs.Loading.{Loads, DoesNotLoad, KeepsRest}
+use Rattle.machine_core.specs.Machine.{CoreValue}
+use Rattle.machine_core.specs.MachineRun.{of_process}
 use Rattle.machine_core.specs.Sides.{PagerSideValue, ProcessSideValue}
 
 -- why a page does not come in that was not admitted; one that is listed is not absent
@@ -60,3 +68,54 @@ module _ {S : Type 0} where
 
     abbrev pub PagesIn : Type 0
     PagesIn = IsBarred key pager pager' process process' reply ⊎ (ComesIn ⊎ IsTakenBack)
+
+    -- in the machine: an admitted page is not loaded, the frame comes free, the page is withdrawn, and is where it was
+    pub record GoesBack : Type 0 where
+      pub admission : AdmissionValue
+      pub back : FrameValue
+      pub fault : PageInFault
+      pub between : PagerSideValue
+      pub admits : Admits key pager between process.space admission
+      pub page : ChangesBy (λ page page'. RefusesAbsent held honest failures admission.frame (has_table process.space.memory.tables key.vpn) page page' back fault) process.space.memory.pages process'.space.memory.pages key.vpn
+      pub tables : process'.space.memory.tables ≡ process.space.memory.tables
+      pub rest : KeepsRest held honest process.space process'.space
+      pub purged : process'.purged ≡ process.purged
+      pub withdraws : pager' ≡ record between {
+        pager = record between.pager { list = (withdrawn key between.pager.list).0; free = between.pager.free ++ back ∷ [] };
+      }
+      pub reply_is : reply ≡ fault_reply fault
+
+    -- memory is wanting for its entry in the list, and nothing has changed
+    pub record IsNotListed : Type 0 where
+      pub pager_is : pager' ≡ pager
+      pub process_is : process' ≡ process
+      pub reply_is : reply ≡ Refused NoMemory
+
+  -- why a page of a process that is there is not brought in, where these frames are free
+  abbrev pub page_in_reason : ℕ → List FrameValue → ProcessSideValue S → Option EventRefusal
+  page_in_reason vpn free process =
+      if is_some process.space.running.ending then Some Ended else (if is_absent process.space vpn then (if none_free free then Some NoFrame else None) else Some NotAbsent)
+
+  -- why a page is not brought in
+  abbrev pub page_in_refusal : Key → CoreValue S → Option EventRefusal
+  page_in_refusal key core = of_process (page_in_reason key.vpn core.pager.pager.free) (slice_get core.processes key.process)
+
+  -- a page-in of the pager and of the key's process
+  pub record PagesInAt (held : S → List ℕ) (honest : Type 0) (failures : S → ℕ) (key : Key) (pager pager' : PagerSideValue) (old new : List (ProcessSideValue S)) (reply : Reply) : Type 0 where
+    pub process : ProcessSideValue S
+    pub process' : ProcessSideValue S
+    pub found : slice_get old key.process ≡ Some process
+    pub how : PagesIn held honest failures key pager pager' process process' reply
+    pub is : new ≡ slice_set old key.process process'
+
+  -- an absent page of a live process is brought in where a frame is free: it is listed and mapped, or listed and withdrawn where it
+  -- can't be loaded or mapped
+  pub record PagesInOnce (held : S → List ℕ) (honest : Type 0) (failures : S → ℕ) (key : Key) (old new : CoreValue S) (reply : Reply) : Type 0 where
+    pub allowed : page_in_refusal key old ≡ None
+    pub process : ProcessSideValue S
+    pub process' : ProcessSideValue S
+    pub found : slice_get old.processes key.process ≡ Some process
+    pub how : ComesIn held honest failures key old.pager new.pager process process' reply
+        ⊎ (GoesBack held honest failures key old.pager new.pager process process' reply ⊎ IsNotListed held honest failures key old.pager new.pager process process' reply)
+    pub processes : new.processes ≡ slice_set old.processes key.process process'
+    pub stays : new ≡ record old { pager = new.pager; processes = new.processes }

@@ -1,0 +1,253 @@
+-- The event of a page that comes in: it is refused, or served, and leaves a machine.
+use Rattle.std.proofs.Common.{◌≡◌, ℕ, zero, suc, ◌≤◌, ◌<◌, ◌^◌, ◌==◌, ◌⊎◌, ◌++◌, Bool, true, false, List, [], ◌∷◌, length, take, drop, Option, Some, None, option_map, is_some, slice_get, inl, inr, refl, sym, ap, ◌∙◌, arith, subst}
+use Rattle.std.specs.Prelude.{slice_set, if◌then◌else◌}
+use borrow.Author.Tests.{lt-ltb}
+use Rattle.std.proofs.lemmas.Bool.Decides.{nat_tests}
+use Rattle.std.proofs.lemmas.List.{length-set}
+use Rattle.clock_policy.specs.ClockPro.{withdrawn}
+use Rattle.clock_policy.specs.declared.key.Key.{Key}
+use Rattle.frame_pool.specs.FrameValue.{FrameValue}
+use Rattle.page_store.specs.JobValue.{JobValue}
+use Rattle.page_store.specs.Moves.{IfAbsent, IfAway}
+use Rattle.page_store.specs.PageValue.{PageValue, Place, Fresh, Resident, Leaving, Saving, Away, Purged, state_of}
+use Rattle.page_store.specs.declared.state.PageState.{PageState}
+use Rattle.pager_core.specs.Pager.{none_free}
+use Rattle.paged_memory.specs.Calls.{ChangesBy}
+use Rattle.paged_memory.specs.Filling.{IsAbsent, StaysAbsent, RefusesAbsent, RefusesPageIn}
+use Rattle.paged_memory.specs.Paged.{page_at}
+use Rattle.paged_memory.specs.declared.filling.PageInFault.{PageInFault}
+use Rattle.paged_memory.specs.declared.filling.PageInFault.TheVariants as fault
+use Rattle.space_core.specs.StandsFor.{SpaceValue}
+use Rattle.sv32_table.specs.EntryAt.{has_table}
+use Rattle.swap_slots.specs.PoolValue.{PoolValue}
+use Rattle.machine_core.specs.Admitting.{is_resident_stage, is_resident, is_absent, bars, told_by, taken_back}
+use Rattle.machine_core.specs.declared.admission.NotAdmitted.{NotAdmitted}
+use Rattle.machine_core.specs.declared.admission.NotAdmitted.TheVariants.{Ended, NotAbsent, AlreadyResident, NoFrame, NoMemory}
+use Rattle.machine_core.specs.declared.error.EventRefusal.{EventRefusal}
+use Rattle.machine_core.specs.declared.error.EventRefusal.TheVariants as refusal
+use Rattle.machine_core.specs.declared.event.Reply.{Reply}
+use Rattle.machine_core.specs.declared.event.Reply.TheVariants.{Refused}
+use Rattle.machine_core.specs.Machine.{CoreValue, IsMachine}
+use Rattle.machine_core.specs.MachineRun.{of_process, Refuses}
+use Rattle.machine_core.specs.PagingIn.{admit_reason, ComesIn, IsTakenBack, GoesBack, PagesIn, PagesInAt, PagesInOnce, page_in_reason, page_in_refusal}
+use Rattle.machine_core.specs.Sides.{PagerSideValue, ProcessSideValue}
+use Rattle.machine_core.proofs.Counted.{all_frames, all_numbers}
+use Rattle.machine_core.proofs.Cores.{lent_back}
+use Rattle.machine_core.proofs.PageInReasons.{unbarred, first_reason, bars_are, reason_is}
+use Rattle.machine_core.proofs.PageIns.{come_machine, come_size, go_machine, back_size, stays_so}
+
+set_same : {A : Type 0} (xs : List A) (i : ℕ) (x : A) → slice_get xs i ≡ Some x → slice_set xs i x ≡ xs
+set_same [] i x h = cc
+set_same (y ∷ ys) zero x h = let same : y ≡ x = cc in ap (λ z. z ∷ ys) (sym same)
+set_same (y ∷ ys) (suc i) x h = ap (λ l. y ∷ l) (set_same ys i x h)
+
+-- where no process has the number
+pub no_process : {S : Type 0} (reason : ProcessSideValue S → Option EventRefusal) (processes : List (ProcessSideValue S)) (p : ℕ) → length processes ≤ p → of_process reason (slice_get processes p) ≡ Some refusal.NoProcess
+no_process reason [] p past = refl
+no_process reason (q ∷ qs) zero past = absurd (omega arith)
+no_process reason (q ∷ qs) (suc p) past = no_process reason qs p (omega arith)
+
+-- no reason is that the page is listed
+not_listed : (ended absent none : Bool) → first_reason ended absent none ≡ Some AlreadyResident → ⊥
+unfolding first_reason
+not_listed true absent none h = cc
+not_listed false true true h = cc
+not_listed false true false h = cc
+not_listed false false none h = cc
+
+module _ {S : Type 0} where
+  -- no more frames are free than there are
+  pub frames_fit : (core : CoreValue S) → IsMachine core → length core.pager.pager.free ≤ core.pager.pager.size
+  frames_fit core machine =
+      let framed = machine.framed (λ _. true) in
+      omega (arith, framed, all_frames core.pager.pager.free, all_numbers core.pager.pager.size)
+
+  -- a page that is absent still is not resident
+  still_away : (held : S → List ℕ) (honest : Type 0) (page page' : PageValue S) → StaysAbsent held honest page page' → is_resident_stage (Some (state_of page'.place)) ≡ false
+  still_away held honest page page' stays = by_place page.place page'.place stays.place
+    where
+      by_place : (old new : Place S) → IfAbsent old (new ≡ Fresh) (λ _. IfAway new (λ _. Unit {0})) → is_resident_stage (Some (state_of new)) ≡ false
+      by_place Fresh new how = ap (λ (p : Place S). is_resident_stage (Some (state_of p))) how
+      by_place (Resident f s) new how = absurd how
+      by_place (Leaving f s m) new how = absurd how
+      by_place (Saving f) new how = absurd how
+      by_place (Away s) Fresh how = absurd how
+      by_place (Away s) (Resident f k) how = absurd how
+      by_place (Away s) (Leaving f k m) how = absurd how
+      by_place (Away s) (Saving f) how = absurd how
+      by_place (Away s) (Away t) how = refl
+      by_place (Away s) Purged how = absurd how
+      by_place Purged new how = absurd how
+
+  away_still : (held : S → List ℕ) (honest : Type 0) (old new : SpaceValue S) (v : ℕ) → v < 2 ^ 20 → ChangesBy (StaysAbsent held honest) old.memory.pages new.memory.pages v → is_resident new v ≡ false
+  away_still held honest old new v small stays =
+      let staged : Option (PageValue S) → Option PageState = λ o. option_map (λ (page : PageValue S). state_of page.place) o in
+      let self : v == v ≡ true = grind (arith, nat_tests) in
+      ap (λ b. is_resident_stage (if b then staged (page_at new.memory.pages v) else None)) (lt-ltb v (2 ^ 20) small)
+      ∙ ap (λ o. is_resident_stage (staged o)) (stays.changes.pages v)
+      ∙ ap (λ b. is_resident_stage (staged (if b then Some stays.page' else page_at old.memory.pages v))) self
+      ∙ still_away held honest stays.page stays.page' stays.how
+
+  module _ (held : S → List ℕ) (honest : Type 0) (failures : S → ℕ) (core : CoreValue S) (key : Key) (pager' : PagerSideValue) (q q' : ProcessSideValue S) (reply : Reply) (machine : IsMachine core) (found : slice_get core.processes key.process ≡ Some q) where
+    -- an admission that was taken back: the page is absent as it was
+    page_back : (why : PageInFault) (frame back : FrameValue) (v : ℕ) → IsAbsent (page_at q.space.memory.pages v) → RefusesPageIn held honest failures frame q.space.memory.pages q'.space.memory.pages q.space.memory.tables v back why
+        → ChangesBy (λ page page'. RefusesAbsent held honest failures frame (has_table q.space.memory.tables v) page page' back why) q.space.memory.pages q'.space.memory.pages v
+    page_back fault.NotAbsent frame back v absent how = absurd (how.0 absent)
+    page_back fault.Device frame back v absent how = record { page = how.0.page; page' = how.0.page'; found = how.0.found; changes = how.0.changes; how = (how.0.how, how.1) }
+    page_back fault.NoMemory frame back v absent how = record { page = how.1.0.page; page' = how.1.0.page'; found = how.1.0.found; changes = how.1.0.changes; how = (how.0, (how.1.0.how, how.1.1)) }
+
+    goes_back : IsTakenBack held honest failures key core.pager pager' q q' reply → GoesBack held honest failures key core.pager pager' q q' reply
+    goes_back taken =
+        let there = (unbarred key core.pager.pager q.space taken.admits.allowed).there in
+        let vpn_is : taken.admission.key.vpn ≡ key.vpn = ap (λ (k : Key). k.vpn) taken.admits.key_is in
+        let key_is : taken.back.key ≡ key = taken.fails.key ∙ taken.admits.key_is in
+        let small : taken.admission.key.vpn < 2 ^ 20 = let s = there.small in omega (arith, s, vpn_is) in
+        let why : RefusesPageIn held honest failures taken.admission.frame q.space.memory.pages q'.space.memory.pages q.space.memory.tables key.vpn taken.back.frame taken.fault =
+        subst (λ v. RefusesPageIn held honest failures taken.admission.frame q.space.memory.pages q'.space.memory.pages q.space.memory.tables v taken.back.frame taken.fault) vpn_is (taken.fails.why small) in
+        let page = page_back taken.fault taken.admission.frame taken.back.frame key.vpn there.absent why in
+        let stays : ChangesBy (StaysAbsent held honest) q.space.memory.pages q'.space.memory.pages key.vpn = record {
+          page = page.page;
+          page' = page.page';
+          found = page.found;
+          changes = page.changes;
+          how = (stays_so held honest failures core key pager' q q' reply machine found taken.fault taken.admission.frame taken.back.frame (has_table q.space.memory.tables key.vpn) page.page page.page' page.how).0;
+        } in
+        let away : is_resident q'.space taken.back.key.vpn ≡ false = ap (λ (k : Key). is_resident q'.space k.vpn) key_is ∙ away_still held honest q.space q'.space key.vpn there.small stays in
+        record {
+          admission = taken.admission;
+          back = taken.back.frame;
+          fault = taken.fault;
+          between = taken.between;
+          admits = taken.admits;
+          page = page;
+          tables = taken.fails.unmapped;
+          rest = taken.fails.rest;
+          purged = taken.purged;
+          withdraws =
+              taken.undone
+              ∙ ap (λ list. record taken.between { pager = record taken.between.pager { list = list; free = taken.between.pager.free ++ taken.back.frame ∷ [] } })
+              (ap (λ b. taken_back b taken.back.key taken.between.pager.list) away ∙ ap (λ k. (withdrawn k taken.between.pager.list).0) key_is);
+          reply_is = taken.reply_is;
+        }
+
+    abbrev pub after : CoreValue S
+    after = record core { pager = pager'; processes = slice_set core.processes key.process q' }
+
+    -- what comes of the event
+    pub record Outcome : Type 0 where
+      pub served : Refuses (page_in_refusal key core) core after reply ⊎ PagesInOnce held honest failures key core after reply
+      pub is_machine : IsMachine after
+      pub size : pager'.pager.size ≡ core.pager.pager.size
+
+    reason_told : (reason : Option NotAdmitted) → bars key core.pager.pager q.space ≡ reason → page_in_refusal key core ≡ option_map admit_reason reason
+    reason_told reason barred =
+        ap (of_process (page_in_reason key.vpn core.pager.pager.free)) found
+        ∙ reason_is key.vpn core.pager.pager.free q
+        ∙ ap (option_map admit_reason) (sym (bars_are core key q machine found) ∙ barred)
+
+    come : ComesIn held honest failures key core.pager pager' q q' reply → Outcome
+    come comes = record {
+      served = inr (record {
+        allowed = reason_told None comes.admits.allowed;
+        process = q;
+        process' = q';
+        found = found;
+        how = inl comes;
+        processes = refl;
+        stays = refl;
+      });
+      is_machine = come_machine held honest failures core key pager' q q' reply machine found comes;
+      size = come_size held honest failures core key pager' q q' reply machine found comes;
+    }
+
+    go : GoesBack held honest failures key core.pager pager' q q' reply → Outcome
+    go goes = record {
+      served = inr (record {
+        allowed = reason_told None goes.admits.allowed;
+        process = q;
+        process' = q';
+        found = found;
+        how = inr (inl goes);
+        processes = refl;
+        stays = refl;
+      });
+      is_machine = go_machine held honest failures core key pager' q q' reply machine found goes;
+      size = back_size held honest failures core key pager' q q' reply machine found goes;
+    }
+
+    -- what is barred changes nothing
+    module _ (same_pager : pager' ≡ core.pager) (same_process : q' ≡ q) where
+      unchanged : after ≡ core
+      unchanged =
+          ap (λ p. record core { pager = p; processes = slice_set core.processes key.process q' }) same_pager
+          ∙ ap (λ l. record core { processes = l }) (ap (slice_set core.processes key.process) same_process ∙ set_same core.processes key.process q found)
+
+      still_machine : IsMachine after
+      still_machine = subst IsMachine (sym unchanged) machine
+
+      still_size : pager'.pager.size ≡ core.pager.pager.size
+      still_size = ap (λ (p : PagerSideValue). p.pager.size) same_pager
+
+      is_refused : (why : EventRefusal) → page_in_refusal key core ≡ Some why → reply ≡ Refused why → Outcome
+      is_refused why told answered = record { served = inl (record { refusal = why; reason_is = told; reply_is = answered; stays = unchanged }); is_machine = still_machine; size = still_size }
+
+      by_reason : (reason : NotAdmitted) → bars key core.pager.pager q.space ≡ told_by reason → reply ≡ Refused (admit_reason reason) → Outcome
+      by_reason Ended why answered = is_refused refusal.Ended (reason_told (Some Ended) why) answered
+      by_reason NotAbsent why answered = is_refused refusal.NotAbsent (reason_told (Some NotAbsent) why) answered
+      by_reason AlreadyResident why answered = absurd (not_listed (is_some q.space.running.ending) (is_absent q.space key.vpn) (none_free core.pager.pager.free) (sym (bars_are core key q machine found) ∙ why))
+      by_reason NoFrame why answered = is_refused refusal.NoFrame (reason_told (Some NoFrame) why) answered
+      by_reason NoMemory why answered = record {
+        served = inr (record {
+          allowed = reason_told None why;
+          process = q;
+          process' = q';
+          found = found;
+          how = inr (inr (record { pager_is = same_pager; process_is = same_process; reply_is = answered }));
+          processes = refl;
+          stays = refl;
+        });
+        is_machine = still_machine;
+        size = still_size;
+      }
+
+    pub outcome : PagesIn held honest failures key core.pager pager' q q' reply → Outcome
+    outcome pages =
+        elim pages [
+          | inl barred ↦ by_reason barred.why.stays barred.stays barred.reason barred.why.why barred.reply_is
+          | inr rest ↦ elim rest [ inl comes ↦ come comes | inr taken ↦ go (goes_back taken) ]
+        ]
+
+  -- the processes were lent as a slice
+  module _ (held : S → List ℕ) (honest : Type 0) (failures : S → ℕ) (pager pager' : PagerSideValue) (slots : PoolValue S) (jobs : List (JobValue S)) (items lent new : List (ProcessSideValue S)) (n : ℕ) (key : Key) (reply : Reply)
+      (machine : IsMachine (record { pager = pager; slots = slots; processes = items; jobs = jobs })) (long : n ≡ length items) (same : lent ≡ items)
+      (pages : PagesInAt held honest failures key pager pager' lent new reply) where
+    abbrev pub lent_core : CoreValue S
+    lent_core = record { pager = pager; slots = slots; processes = items; jobs = jobs }
+
+    abbrev pub core_back : CoreValue S
+    core_back = record { pager = pager'; slots = slots; processes = take n (new ++ drop (length new) items); jobs = jobs }
+
+    there_at : slice_get items key.process ≡ Some pages.process
+    there_at = ap (λ l. slice_get l key.process) (sym same) ∙ pages.found
+
+    is_set : slice_set items key.process pages.process' ≡ take n (new ++ drop (length new) items)
+    is_set =
+        let is : new ≡ slice_set items key.process pages.process' = pages.is ∙ ap (λ l. slice_set l key.process pages.process') same in
+        sym is ∙ sym (lent_back items new n long (ap length is ∙ length-set items key.process pages.process'))
+
+    out : Outcome held honest failures lent_core key pager' pages.process pages.process' reply machine there_at
+    out = outcome held honest failures lent_core key pager' pages.process pages.process' reply machine there_at pages.how
+
+    is_back : after held honest failures lent_core key pager' pages.process pages.process' reply machine there_at ≡ core_back
+    is_back = ap (λ l. record lent_core { pager = pager'; processes = l }) is_set
+
+    pub page_in_machine : IsMachine core_back
+    page_in_machine = subst IsMachine is_back out.is_machine
+
+    pub page_in_size : pager'.pager.size ≡ pager.pager.size
+    page_in_size = out.size
+
+    pub page_in_served : (old : CoreValue S) → lent_core ≡ old → Refuses (page_in_refusal key old) old core_back reply ⊎ PagesInOnce held honest failures key old core_back reply
+    page_in_served old e =
+        subst (λ c. Refuses (page_in_refusal key c) c core_back reply ⊎ PagesInOnce held honest failures key c core_back reply) e
+        (subst (λ c. Refuses (page_in_refusal key lent_core) lent_core c reply ⊎ PagesInOnce held honest failures key lent_core c reply) is_back out.served)

@@ -1,8 +1,8 @@
 -- An index from a page to its node.
-use Rattle.std.specs.Prelude.{◌≡◌, ◌≤◌, ◌+◌, ◌==◌, ◌&&◌, ℕ, Bool, true, false, cond, List, [], ◌∷◌, ◌++◌, Option, Some, None, refl}
+use Rattle.std.specs.Prelude.{◌≡◌, ◌≤◌, ◌+◌, ◌==◌, ◌&&◌, ◌⊎◌, ℕ, Bool, true, false, cond, List, [], ◌∷◌, ◌++◌, Option, Some, None, refl}
 use Rattle.std.proofs.Common.{arith, sym, ap, ◌∙◌, subst}
 use Rattle.std.proofs.lemmas.Bool.Decides.{nat_tests}
-use Rattle.std.specs.HashMap.{HashMap, get_by}
+use Rattle.std.specs.HashMap.{get_by}
 use Rattle.clock_policy.specs.declared.key.Key.{Key}
 use Rattle.clock_policy.specs.declared.entry.Entry.{Entry}
 use Rattle.clock_policy.specs.declared.entry.EntryKind.{EntryKind}
@@ -11,6 +11,8 @@ use Rattle.clock_policy.specs.Counts.{or_else}
 use Rattle.clock_policy.specs.CountLaws.{number-append}
 use Rattle.clock_policy.specs.AdmitLaws.{one_key}
 use Rattle.page_ring.specs.Linked.{Cell}
+use Rattle.page_ring.specs.Slots.{same_key, in_slot}
+use Rattle.page_ring.specs.declared.places.Places.{Places}
 use Rattle.page_ring.specs.Chain.{of_kind}
 
 abbrev pub entries_of : List Cell → List Entry
@@ -26,13 +28,23 @@ at_of k (c ∷ cs) = cond (has_key k c.entry) (Some c.at) (at_of k cs)
 abbrev pub Distinct : List Cell → Type 0
 Distinct cs = (k : Key) → number (has_key k) (entries_of cs) ≤ 1
 
-abbrev pub same_key : Key → Key → Bool
-same_key k q = (k.process == q.process) && (k.vpn == q.vpn)
+-- the node of a page by the index: in its slot, or else in the map
+abbrev pub node_of : Key → Places → Option ℕ
+node_of k p = or_else (in_slot p.slots.items k) (get_by (same_key k) p.others)
 
--- the index finds each page's node, and nothing else
-pub record Indexes {S : Type 0} (cs : List Cell) (index : HashMap Key ℕ S) : Type 0 where
-  pub found : (k : Key) → get_by (same_key k) index ≡ at_of k cs
+-- no page is in its slot and in the map
+abbrev pub Parted : Places → Type 0
+Parted p = (k : Key) → in_slot p.slots.items k ≡ None ⊎ get_by (same_key k) p.others ≡ None
+
+-- look-ups find each page's node, and nothing else
+pub record Indexes (cs : List Cell) (look : Key → Option ℕ) : Type 0 where
+  pub found : (k : Key) → look k ≡ at_of k cs
   pub distinct : Distinct cs
+
+-- the index finds each page's node
+pub record Indexed (cs : List Cell) (p : Places) : Type 0 where
+  pub indexes : Indexes cs (λ k. node_of k p)
+  pub parted : Parted p
 
 -- Entries of cells.
 
@@ -144,14 +156,14 @@ turn_at k a b one =
 same_keys : (k q : Key) (e : Entry) → e.key ≡ k → has_key q e ≡ same_key k q
 same_keys k q e h = ap (λ (x : Key). (x.process == q.process) && (x.vpn == q.vpn)) h
 
-pub index_mark : {S : Type 0} (index : HashMap Key ℕ S) (kind : EntryKind) (u v : List Cell) (c : Cell) → Indexes (u ++ c ∷ v) index → Indexes (u ++ of_kind kind c ∷ v) index
-index_mark index kind u v c h = record {
+pub index_mark : (look : Key → Option ℕ) (kind : EntryKind) (u v : List Cell) (c : Cell) → Indexes (u ++ c ∷ v) look → Indexes (u ++ of_kind kind c ∷ v) look
+index_mark look kind u v c h = record {
   found = λ k. h.found k ∙ sym (mark_at k kind u v c);
   distinct = λ k. let e : number (has_key k) (entries_of (u ++ of_kind kind c ∷ v)) + cond (has_key k c.entry) 1 0 ≡ number (has_key k) (entries_of (u ++ c ∷ v)) + cond (has_key k c.entry) 1 0 = mark_number (has_key k) kind u v c in omega (arith, e, h.distinct k);
 }
 
-pub index_turn : {S : Type 0} (index : HashMap Key ℕ S) (a b : List Cell) → Indexes (a ++ b) index → Indexes (b ++ a) index
-index_turn index a b h = record {
+pub index_turn : (look : Key → Option ℕ) (a b : List Cell) → Indexes (a ++ b) look → Indexes (b ++ a) look
+index_turn look a b h = record {
   found = λ k. h.found k ∙ sym (turn_at k a b (h.distinct k));
   distinct = λ k.
       let old : number (has_key k) (entries_of (a ++ b)) ≡ number (has_key k) (entries_of a) + number (has_key k) (entries_of b) = number-cells (has_key k) a b in
@@ -159,7 +171,7 @@ index_turn index a b h = record {
       omega (arith, old, new, h.distinct k);
 }
 
-pub index_remove : {S : Type 0} (old new : HashMap Key ℕ S) (u v : List Cell) (c : Cell) → ((k : Key) → get_by (same_key k) new ≡ cond (same_key c.entry.key k) None (get_by (same_key k) old)) → Indexes (u ++ c ∷ v) old → Indexes (u ++ v) new
+pub index_remove : (old new : Key → Option ℕ) (u v : List Cell) (c : Cell) → ((k : Key) → new k ≡ cond (same_key c.entry.key k) None (old k)) → Indexes (u ++ c ∷ v) old → Indexes (u ++ v) new
 index_remove old new u v c gone h = record {
   found = λ k. gone k ∙ ap (cond (has_key k c.entry) None) (h.found k) ∙ sym (remove_at k u v c (h.distinct k));
   distinct = λ k. let e : number (has_key k) (entries_of (u ++ v)) + cond (has_key k c.entry) 1 0 ≡ number (has_key k) (entries_of (u ++ c ∷ v)) = remove_number (has_key k) u v c in omega (arith, e, h.distinct k);
@@ -181,16 +193,16 @@ appended_distinct cs c distinct free k =
     parts : (k : Key) (e : Entry) → has_key k e ≡ true → (k.process ≡ e.key.process) × (k.vpn ≡ e.key.vpn)
     parts k e h = grind (arith, nat_tests)
 
-pub index_append : {S : Type 0} (old new : HashMap Key ℕ S) (cs : List Cell) (c : Cell) → at_of c.entry.key cs ≡ None → ((k : Key) → get_by (same_key k) new ≡ cond (same_key c.entry.key k) (Some c.at) (get_by (same_key k) old)) → Indexes cs old → Indexes (cs ++ c ∷ []) new
+pub index_append : (old new : Key → Option ℕ) (cs : List Cell) (c : Cell) → at_of c.entry.key cs ≡ None → ((k : Key) → new k ≡ cond (same_key c.entry.key k) (Some c.at) (old k)) → Indexes cs old → Indexes (cs ++ c ∷ []) new
 index_append old new cs c free put h = record {
   found = λ k. put k ∙ ap (cond (has_key k c.entry) (Some c.at)) (h.found k) ∙ sym (append_at k cs c free);
   distinct = appended_distinct cs c h.distinct free;
 }
 
 -- a cell that becomes the last
-pub index_send : {S : Type 0} (index : HashMap Key ℕ S) (kind : EntryKind) (u v : List Cell) (c : Cell) → Indexes (u ++ c ∷ v) index → Indexes ((u ++ v) ++ of_kind kind c ∷ []) index
-index_send index kind u v c h =
-    index_mark index kind (u ++ v) [] c (subst (λ (l : List Cell). Indexes l index) (sym (append_again u v (c ∷ []))) (moved u v h))
+pub index_send : (look : Key → Option ℕ) (kind : EntryKind) (u v : List Cell) (c : Cell) → Indexes (u ++ c ∷ v) look → Indexes ((u ++ v) ++ of_kind kind c ∷ []) look
+index_send look kind u v c h =
+    index_mark look kind (u ++ v) [] c (subst (λ (l : List Cell). Indexes l look) (sym (append_again u v (c ∷ []))) (moved u v h))
   where
     append_again : (a b d : List Cell) → (a ++ b) ++ d ≡ a ++ (b ++ d)
     append_again [] b d = refl
@@ -203,7 +215,7 @@ index_send index kind u v c h =
         ∙ ap (or_else (at_of k u)) (at_of-append k (c ∷ []) v ∙ swapped k (c ∷ []) v (omega (arith, old, few)) ∙ sym (at_of-append k v (c ∷ [])))
         ∙ sym (at_of-append k u (v ++ c ∷ []))
 
-    moved : (u v : List Cell) → Indexes (u ++ c ∷ v) index → Indexes (u ++ (v ++ c ∷ [])) index
+    moved : (u v : List Cell) → Indexes (u ++ c ∷ v) look → Indexes (u ++ (v ++ c ∷ [])) look
     moved u v g =
         record {
           found = λ k. g.found k ∙ by_halves k u v (g.distinct k);

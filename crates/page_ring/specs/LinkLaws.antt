@@ -180,13 +180,12 @@ end_in : (p : ℕ) (d : Cell) (ds : List Cell) → is_at (d ∷ ds) (last_at p (
 end_in p d [] = rw (at_self d.at) refl
 end_in p d (e ∷ es) = rw (end_in d.at e es) (or_true (d.at == last_at e.at es))
 
--- A node that was free becomes the last before the first.
-pub linked_in : (s t u w : Slab Node) (c d : Cell) (ds : List Cell) → Circle s (d ∷ ds) → get s c.at ≡ None →
+-- A node outside the circle becomes the last before the first.
+pub linked_in : (s t u w : Slab Node) (c d : Cell) (ds : List Cell) → Circle s (d ∷ ds) → is_at (d ∷ ds) c.at ≡ false →
     get t c.at ≡ Some (record { entry = c.entry; next = d.at; previous = last_at d.at ds }) → ((k : ℕ) → k ≢ c.at → get t k ≡ get s k) →
     Changes t u (last_at d.at ds) (with_next c.at) → Changes u w d.at (with_previous c.at) → Circle w ((d ∷ ds) ++ c ∷ [])
-linked_in s t u w c d ds h free put others ahead back =
+linked_in s t u w c d ds h alone put others ahead back =
     let way : Linked s (last_at d.at ds) (d ∷ ds) d.at = h.linked in
-    let alone : is_at (d ∷ ds) c.at ≡ false = free_of s (last_at d.at ds) (d ∷ ds) d.at c.at way free in
     let kept : Linked t (last_at d.at ds) (d ∷ ds) d.at = linked_kept s t (last_at d.at ds) (d ∷ ds) d.at (λ k there. others k (not_same (d ∷ ds) c.at k alone there)) way in
     let led : Linked u (last_at d.at ds) (d ∷ ds) c.at = led_to t u (last_at d.at ds) d ds d.at c.at h.apart ahead kept in
     let around : Linked w c.at (d ∷ ds) c.at = led_from u w (last_at d.at ds) c.at d ds c.at h.apart back led in
@@ -264,18 +263,25 @@ unlinked_at s t u w node at held others ahead back c cs is h =
     (subst (λ (n : Node). Changes t u n.previous (with_next n.next)) one ahead)
     (subst (λ (n : Node). Changes u w n.next (with_previous n.previous)) one back)
 
-pub linked_at : (s t u w : Slab Node) (node : Node) (front at : ℕ) (entry : Entry) → get s front ≡ Some node → get s at ≡ None →
+pub linked_again : (s t u w : Slab Node) (node : Node) (front at : ℕ) (entry : Entry) → get s front ≡ Some node →
     get t at ≡ Some (record { entry = entry; next = front; previous = node.previous }) → ((k : ℕ) → k ≢ at → get t k ≡ get s k) →
     Changes t u node.previous (with_next at) → Changes u w front (with_previous at) →
-    (d : Cell) (ds : List Cell) → d.at ≡ front → Circle s (d ∷ ds) → Circle w ((d ∷ ds) ++ record { at = at; entry = entry } ∷ [])
-linked_at s t u w node front at entry held free put others ahead back d ds is h =
+    (d : Cell) (ds : List Cell) → d.at ≡ front → is_at (d ∷ ds) at ≡ false → Circle s (d ∷ ds) → Circle w ((d ∷ ds) ++ record { at = at; entry = entry } ∷ [])
+linked_again s t u w node front at entry held put others ahead back d ds is alone h =
     let told : get s d.at ≡ Some (record { entry = d.entry; next = first_at ds d.at; previous = last_at d.at ds }) = h.linked.0 in
     let here : get s d.at ≡ Some node = ap (get s) is ∙ held in
     let same : Some node ≡ Some (record { entry = d.entry; next = first_at ds d.at; previous = last_at d.at ds }) = sym here ∙ told in
     let one : node ≡ record { entry = d.entry; next = first_at ds d.at; previous = last_at d.at ds } = cc in
     let end : node.previous ≡ last_at d.at ds = ap (λ (n : Node). n.previous) one in
-    linked_in s t u w (record { at = at; entry = entry }) d ds h free
+    linked_in s t u w (record { at = at; entry = entry }) d ds h alone
     (put ∙ ap (λ (n : ℕ). Some (record { entry = entry; next = n; previous = node.previous })) (sym is) ∙ ap (λ (n : ℕ). Some (record { entry = entry; next = d.at; previous = n })) end)
     others
     (subst (λ (n : ℕ). Changes t u n (with_next at)) end ahead)
     (subst (λ (n : ℕ). Changes u w n (with_previous at)) (sym is) back)
+
+pub linked_at : (s t u w : Slab Node) (node : Node) (front at : ℕ) (entry : Entry) → get s front ≡ Some node → get s at ≡ None →
+    get t at ≡ Some (record { entry = entry; next = front; previous = node.previous }) → ((k : ℕ) → k ≢ at → get t k ≡ get s k) →
+    Changes t u node.previous (with_next at) → Changes u w front (with_previous at) →
+    (d : Cell) (ds : List Cell) → d.at ≡ front → Circle s (d ∷ ds) → Circle w ((d ∷ ds) ++ record { at = at; entry = entry } ∷ [])
+linked_at s t u w node front at entry held free put others ahead back d ds is h =
+    linked_again s t u w node front at entry held put others ahead back d ds is (free_of s (last_at d.at ds) (d ∷ ds) d.at at h.linked free) h

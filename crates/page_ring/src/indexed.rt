@@ -6,27 +6,27 @@ ghost use Rattle.page_ring.specs.Chain.{of_kind, Rotates};
 ghost use Rattle.page_ring.specs.Index.{Distinct, at_of};
 
 use crate::links::{Links, Node};
+use crate::places::Places;
 use clock_policy::{Entry, EntryKind, Key};
 use std::alloc::{AllocError, Global};
-use std::collections::HashMap;
 use std::marker::Model;
 
 /// A circle of entries, no two of one page.
 #[derive(Drop)]
 pub struct IndexedRing {
     links: Links,
-    index: HashMap<Key, usize>,
+    places: Places,
 }
 
 impl Model for IndexedRing {
     ghost use Rattle.page_ring.specs.Chain.{Chain};
-    ghost use Rattle.page_ring.specs.Index.{Indexes};
+    ghost use Rattle.page_ring.specs.Index.{Indexed};
 
     ghost Value = { Chain };
 
     ghost view = { λ r. r.links };
 
-    ghost invariant = { λ r. Indexes r.links.cells r.index };
+    ghost invariant = { λ r. Indexed r.links.cells r.places };
 }
 
 impl IndexedRing {
@@ -36,8 +36,8 @@ impl IndexedRing {
         ensures room { IfOk result (λ ring. room ≤ ring.room) }
     {
         let links = Links::new(alloc, room)?;
-        let index = HashMap::with_capacity(alloc, room)?;
-        Ok(IndexedRing { links, index })
+        let places = Places::new(alloc, room)?;
+        Ok(IndexedRing { links, places })
     }
 
     /// How many entries there are.
@@ -46,7 +46,7 @@ impl IndexedRing {
         ensures apart { Apart self.now.cells }
         ensures distinct { Distinct self.now.cells }
     {
-        let _ = &self.index;
+        let _ = &self.places;
         self.links.len()
     }
 
@@ -70,7 +70,7 @@ impl IndexedRing {
     pub fn find(&self, key: Key) -> Option<usize>
         ensures { result ≡ at_of key self.now.cells }
     {
-        self.index.get(&key).map(|at| *at)
+        self.places.find(key)
     }
 
     /// Gives an entry another kind, where it stands.
@@ -103,11 +103,9 @@ impl IndexedRing {
         ensures room { self.new.room ≡ self.old.room }
         ensures err { OnErr result (self.new ≡ self.old) }
     {
-        self.index.reserve(1)?;
-        let at = self.links.append(entry);
-        let Ok(_) = self.index.insert(entry.key, at) else {
-            unreachable!()
-        };
+        let at = self.links.vacant();
+        self.places.insert(entry.key, at)?;
+        self.links.append(entry);
         Ok(at)
     }
 
@@ -120,13 +118,12 @@ impl IndexedRing {
     {
         let key = self.links.node(at).entry.key;
         self.links.remove(at);
-        self.index.remove(&key);
+        self.places.remove(key);
     }
 
     /// An entry becomes the last, of this kind, and stays in its node.
     pub fn send_to_end(&mut self, at: usize, kind: EntryKind)
-        requires there { is_at self.old.cells at ≡ true }
-        requires room { length self.old.cells ≤ self.old.room }
+        requires { is_at self.old.cells at ≡ true }
         ensures cells { (u v : List Cell) → (c : Cell) → self.old.cells ≡ u ++ c ∷ v → c.at ≡ at → self.new.cells ≡ (u ++ v) ++ of_kind kind c ∷ [] }
         ensures apart { Apart self.new.cells }
         ensures room { self.new.room ≡ self.old.room }

@@ -4,6 +4,7 @@
 
 mod indexed;
 mod links;
+mod places;
 
 pub use indexed::IndexedRing;
 pub use links::Node;

@@ -3,7 +3,7 @@
 ghost use Rattle.std.specs.Prelude.{◌≡◌, ◌≢◌, ◌+◌, ◌<◌, ◌++◌, ℕ, List, [], ◌∷◌, Some, None, true, false, length, IfOk, ◌≤◌, ◌==◌, cond};
 ghost use Rattle.slab.specs.Slab.{get, slab_len, ContainsKey, HasRoomFor};
 ghost use Rattle.page_ring.specs.declared.links.Node.{Node};
-ghost use Rattle.page_ring.specs.Linked.{Cell, Circle, first_at, last_at};
+ghost use Rattle.page_ring.specs.Linked.{Cell, Circle, first_at, last_at, is_at};
 ghost use Rattle.page_ring.specs.LinkLaws.{Changes, with_next, with_previous};
 
 use clock_policy::{Entry, EntryKind};
@@ -68,6 +68,57 @@ fn unlink(nodes: &mut Slab<Node>, at: usize) -> usize
     set_next(nodes, node.previous, node.next);
     set_previous(nodes, node.next, node.previous);
     node.next
+}
+
+/// Links a node's neighbours with one another, past it, and answers the node, which stays.
+fn pass_over(nodes: &mut Slab<Node>, at: usize) -> Node
+    requires { ContainsKey nodes.old at }
+    ensures node { get nodes.old at ≡ Some result }
+    ensures circle { (c : Cell) → (cs : List Cell) → c.at ≡ at → Circle nodes.old (c ∷ cs) → Circle nodes.new cs }
+    ensures kept { (k : ℕ) → ContainsKey nodes.old k → ContainsKey nodes.new k }
+    ensures vacant { nodes.new.vacant_key ≡ nodes.old.vacant_key }
+    ensures len { slab_len nodes.new ≡ slab_len nodes.old }
+    ensures capacity { nodes.new.capacity ≡ nodes.old.capacity }
+{
+    let node = nodes[at];
+    set_next(nodes, node.previous, node.next);
+    set_previous(nodes, node.next, node.previous);
+    node
+}
+
+fn set_node(nodes: &mut Slab<Node>, at: usize, node: Node)
+    ensures set { ContainsKey nodes.old at → get nodes.new at ≡ Some node }
+    ensures others { (k : ℕ) → k ≢ at → get nodes.new k ≡ get nodes.old k }
+    ensures vacant { nodes.new.vacant_key ≡ nodes.old.vacant_key }
+    ensures len { slab_len nodes.new ≡ slab_len nodes.old }
+    ensures capacity { nodes.new.capacity ≡ nodes.old.capacity }
+{
+    if let Some(place) = nodes.get_mut(at) {
+        *place = node;
+    }
+}
+
+/// Makes a node outside the circle that begins at `front` its last, with this entry.
+fn link_again(nodes: &mut Slab<Node>, front: usize, at: usize, entry: Entry)
+    requires at { ContainsKey nodes.old at }
+    requires front { ContainsKey nodes.old front }
+    ensures circle { (d : Cell) → (ds : List Cell) → d.at ≡ front → is_at (d ∷ ds) at ≡ false → Circle nodes.old (d ∷ ds) → Circle nodes.new ((d ∷ ds) ++ record { at = at; entry = entry } ∷ []) }
+    ensures vacant { nodes.new.vacant_key ≡ nodes.old.vacant_key }
+    ensures len { slab_len nodes.new ≡ slab_len nodes.old }
+    ensures capacity { nodes.new.capacity ≡ nodes.old.capacity }
+{
+    let previous = nodes[front].previous;
+    set_node(
+        nodes,
+        at,
+        Node {
+            entry,
+            next: front,
+            previous,
+        },
+    );
+    set_next(nodes, previous, at);
+    set_previous(nodes, front, at);
 }
 
 /// Adds a node as the last of the circle that begins at `front`.
@@ -152,6 +203,13 @@ impl Links {
         self.front
     }
 
+    /// The node that the next new entry gets.
+    pub(crate) fn vacant(&self) -> usize
+        ensures { result ≡ self.now.vacant }
+    {
+        self.nodes.vacant_key()
+    }
+
     #[inline(always)]
     pub(crate) fn node(&self, at: usize) -> Node
         requires { is_at self.now.cells at ≡ true }
@@ -209,15 +267,18 @@ impl Links {
 
     /// An entry becomes the last, of this kind, and stays in its node.
     pub(crate) fn send_to_end(&mut self, at: usize, kind: EntryKind)
-        requires there { is_at self.old.cells at ≡ true }
-        requires room { length self.old.cells ≤ self.old.room }
+        requires { is_at self.old.cells at ≡ true }
         ensures cells { (u v : List Cell) → (c : Cell) → self.old.cells ≡ u ++ c ∷ v → c.at ≡ at → self.new.cells ≡ (u ++ v) ++ of_kind kind c ∷ [] }
         ensures apart { Apart self.new.cells }
         ensures room { self.new.room ≡ self.old.room }
     {
-        let key = self.node(at).entry.key;
-        self.remove(at);
-        self.append(Entry { key, kind });
+        if at == self.front {
+            self.front = self.nodes[at].next;
+            set_kind(&mut self.nodes, at, kind);
+            return;
+        }
+        let key = pass_over(&mut self.nodes, at).entry.key;
+        link_again(&mut self.nodes, self.front, at, Entry { key, kind });
     }
 }
 

@@ -6,8 +6,8 @@ use Rattle.clock_ring.proofs.body.Body.send_to_end.Goals as goal
 pub node-next-requires : goal.node-next-requires
 node-next-requires c = found_at c.args.self.now.ring.cells c.args.found.at c.args.found.entry c.requires
 
-pub send_to_end-requires-clause-there : goal.send_to_end-requires-clause-there
-send_to_end-requires-clause-there c = found_at c.args.self.now.ring.cells c.args.found.at c.args.found.entry c.requires
+pub send_to_end-requires : goal.send_to_end-requires
+send_to_end-requires c = found_at c.args.self.now.ring.cells c.args.found.at c.args.found.entry c.requires
 
 pub take-requires : goal.take-requires
 take-requires c = has_one_at c.args.self.now.counts c.args.self.now.ring.cells c.args.found.at c.args.found.entry c.args.self.now.kept.counted c.requires

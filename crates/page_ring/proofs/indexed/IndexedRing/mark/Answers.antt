@@ -3,12 +3,14 @@ use Rattle.std.specs.Prelude.{◌≡◌, true, List}
 use Rattle.std.proofs.Common.{sym, subst}
 use Rattle.page_ring.specs.Linked.{Cell, is_at}
 use Rattle.page_ring.specs.Chain.{Chain, Split, split}
-use Rattle.page_ring.specs.Index.{Indexes, index_mark}
+use Rattle.page_ring.specs.Index.{Indexes, node_of, index_mark}
 use Rattle.page_ring.proofs.indexed.IndexedRing.mark.Goals as goal
 
 pub invariant_of-self : goal.invariant_of-self
-invariant_of-self c =
-    at_split (split c.self.inside.links.cells c.args.at (subst (λ (l : Chain). is_at l.cells c.args.at ≡ true) (sym c.self.view_is) c.requires))
+invariant_of-self c = record {
+  indexes = at_split (split c.self.inside.links.cells c.args.at (subst (λ (l : Chain). is_at l.cells c.args.at ≡ true) (sym c.self.view_is) c.requires));
+  parted = c.self.invariant.parted;
+}
   where
-    at_split : Split c.self.inside.links.cells c.args.at → Indexes c.mark.new.self.cells c.self.inside.index
-    at_split e = subst (λ (l : List Cell). Indexes l c.self.inside.index) (sym (c.mark.ensures.cells e.before e.behind e.cell e.parts e.is)) (index_mark c.self.inside.index c.args.kind e.before e.behind e.cell (subst (λ (l : List Cell). Indexes l c.self.inside.index) e.parts c.self.invariant))
+    at_split : Split c.self.inside.links.cells c.args.at → Indexes c.mark.new.self.cells (λ k. node_of k c.self.inside.places)
+    at_split e = subst (λ (l : List Cell). Indexes l (λ k. node_of k c.self.inside.places)) (sym (c.mark.ensures.cells e.before e.behind e.cell e.parts e.is)) (index_mark (λ k. node_of k c.self.inside.places) c.args.kind e.before e.behind e.cell (subst (λ (l : List Cell). Indexes l (λ k. node_of k c.self.inside.places)) e.parts c.self.invariant.indexes))

@@ -3,13 +3,15 @@ use Rattle.std.specs.Prelude.{◌≡◌, ◌≤◌, [], ◌∷◌, List, length,
 use Rattle.std.proofs.Common.{arith, sym, subst}
 use Rattle.page_ring.specs.Linked.{Cell}
 use Rattle.page_ring.specs.Chain.{Chain}
-use Rattle.page_ring.specs.Index.{Indexes, index_turn}
+use Rattle.page_ring.specs.Index.{Indexes, node_of, index_turn}
 use Rattle.page_ring.proofs.indexed.IndexedRing.turn.Goals as goal
 
 pub invariant_of-self : goal.invariant_of-self
-invariant_of-self c =
-    at_front c.self.inside.links.cells refl (subst (λ (l : Chain). 1 ≤ length l.cells) (sym c.self.view_is) c.requires)
+invariant_of-self c = record {
+  indexes = at_front c.self.inside.links.cells refl (subst (λ (l : Chain). 1 ≤ length l.cells) (sym c.self.view_is) c.requires);
+  parted = c.self.invariant.parted;
+}
   where
-    at_front : (l : List Cell) → c.self.inside.links.cells ≡ l → 1 ≤ length l → Indexes c.turn.new.self.cells c.self.inside.index
+    at_front : (l : List Cell) → c.self.inside.links.cells ≡ l → 1 ≤ length l → Indexes c.turn.new.self.cells (λ k. node_of k c.self.inside.places)
     at_front [] is few = absurd (omega (arith, few))
-    at_front (d ∷ ds) is few = subst (λ (l : List Cell). Indexes l c.self.inside.index) (sym (c.turn.ensures.cells d ds is)) (index_turn c.self.inside.index (d ∷ []) ds (subst (λ (l : List Cell). Indexes l c.self.inside.index) is c.self.invariant))
+    at_front (d ∷ ds) is few = subst (λ (l : List Cell). Indexes l (λ k. node_of k c.self.inside.places)) (sym (c.turn.ensures.cells d ds is)) (index_turn (λ k. node_of k c.self.inside.places) (d ∷ []) ds (subst (λ (l : List Cell). Indexes l (λ k. node_of k c.self.inside.places)) is c.self.invariant.indexes))

@@ -1,30 +1,67 @@
--- what goes comes back as the last, in the node that it left
-use Rattle.std.specs.Prelude.{◌≡◌, ◌≤◌, ◌<◌, ◌++◌, suc, ℕ, [], ◌∷◌, List, length}
-use Rattle.std.proofs.Common.{arith, sym, ap, ◌∙◌}
-use Rattle.page_ring.specs.declared.links.Node.{Node}
-use Rattle.page_ring.specs.Linked.{Cell, first_at, last_at}
-use Rattle.page_ring.specs.Chain.{Split, split, rotates_split, length_with}
+-- the cell becomes the last, by a turn or by new links
+use Rattle.std.specs.Prelude.{◌≡◌, ◌++◌, true, [], ◌∷◌, List}
+use Rattle.std.proofs.Common.{sym, ap, ◌∙◌, subst}
+use Rattle.page_ring.specs.Linked.{Cell, is_at}
+use Rattle.page_ring.specs.Chain.{Chain, cells_of, Changed, changed, of_kind, held_node}
+use Rattle.page_ring.proofs.SendLaws.{send_front, send_behind}
 use Rattle.page_ring.proofs.links.Links.send_to_end.Goals as goal
 
-pub append-requires : goal.append-requires
-append-requires c = at_split (split c.args.self.now.cells c.args.at c.requires.there)
-  where
-    at_split : Split c.args.self.now.cells c.args.at → length c.remove.new.self.cells < c.remove.new.self.room
-    at_split e =
-        let gone : length c.remove.new.self.cells ≡ length (e.before ++ e.behind) = ap length (c.remove.ensures.cells e.before e.behind e.cell e.parts e.is) in
-        let one : length c.args.self.now.cells ≡ suc (length (e.before ++ e.behind)) = ap length e.parts ∙ length_with e.before e.behind e.cell in
-        let room : length c.args.self.now.cells ≤ c.args.self.now.room = c.requires.room in
-        let same : c.remove.new.self.room ≡ c.args.self.now.room = c.remove.ensures.room in
-        omega (arith, gone, one, room, same)
+pub invariant_of-self : goal.invariant_of-self
+invariant_of-self c =
+    let seen : c.args.self.now.cells ≡ cells_of c.self.inside.nodes c.self.inside.front = sym (ap (λ (l : Chain). l.cells) c.self.view_is) in
+    let there : is_at (cells_of c.self.inside.nodes c.self.inside.front) c.args.at ≡ true = subst (λ (l : List Cell). is_at l c.args.at ≡ true) seen c.requires in
+    let step : Changed c.self.inside.nodes c.set_kind.new.nodes c.self.inside.front c.index.result.now.next c.args.at (λ u d v. (u ++ v) ++ of_kind c.args.kind d ∷ []) =
+    changed c.self.inside.nodes c.set_kind.new.nodes c.self.inside.front c.index.result.now.next c.args.at (λ u d v. (u ++ v) ++ of_kind c.args.kind d ∷ []) c.self.invariant there
+    (send_front c.self.inside.nodes c.set_kind.new.nodes c.self.inside.front c.args.at c.args.kind c.index.result.now c.index.ensures c.if-at-self.true c.set_kind.ensures.set c.set_kind.ensures.others c.set_kind.ensures.len) in
+    step.held
+
+pub returns-then-at-self-clause-cells : goal.returns-then-at-self-clause-cells
+returns-then-at-self-clause-cells c =
+    let seen : c.args.self.now.cells ≡ cells_of c.self.inside.nodes c.self.inside.front = sym (ap (λ (l : Chain). l.cells) c.self.view_is) in
+    let there : is_at (cells_of c.self.inside.nodes c.self.inside.front) c.args.at ≡ true = subst (λ (l : List Cell). is_at l c.args.at ≡ true) seen c.requires in
+    let step : Changed c.self.inside.nodes c.set_kind.new.nodes c.self.inside.front c.index.result.now.next c.args.at (λ u d v. (u ++ v) ++ of_kind c.args.kind d ∷ []) =
+    changed c.self.inside.nodes c.set_kind.new.nodes c.self.inside.front c.index.result.now.next c.args.at (λ u d v. (u ++ v) ++ of_kind c.args.kind d ∷ []) c.self.invariant there
+    (send_front c.self.inside.nodes c.set_kind.new.nodes c.self.inside.front c.args.at c.args.kind c.index.result.now c.index.ensures c.if-at-self.true c.set_kind.ensures.set c.set_kind.ensures.others c.set_kind.ensures.len) in
+    λ u v d parts is. step.cells u v d (sym seen ∙ parts) is
+
+pub returns-then-at-self-clause-apart : goal.returns-then-at-self-clause-apart
+returns-then-at-self-clause-apart c =
+    let seen : c.args.self.now.cells ≡ cells_of c.self.inside.nodes c.self.inside.front = sym (ap (λ (l : Chain). l.cells) c.self.view_is) in
+    let there : is_at (cells_of c.self.inside.nodes c.self.inside.front) c.args.at ≡ true = subst (λ (l : List Cell). is_at l c.args.at ≡ true) seen c.requires in
+    let step : Changed c.self.inside.nodes c.set_kind.new.nodes c.self.inside.front c.index.result.now.next c.args.at (λ u d v. (u ++ v) ++ of_kind c.args.kind d ∷ []) =
+    changed c.self.inside.nodes c.set_kind.new.nodes c.self.inside.front c.index.result.now.next c.args.at (λ u d v. (u ++ v) ++ of_kind c.args.kind d ∷ []) c.self.invariant there
+    (send_front c.self.inside.nodes c.set_kind.new.nodes c.self.inside.front c.args.at c.args.kind c.index.result.now c.index.ensures c.if-at-self.true c.set_kind.ensures.set c.set_kind.ensures.others c.set_kind.ensures.len) in
+    step.held.circle.apart
+
+pub pass_over-requires : goal.pass_over-requires
+pass_over-requires c =
+    let seen : c.args.self.now.cells ≡ cells_of c.self.inside.nodes c.self.inside.front = sym (ap (λ (l : Chain). l.cells) c.self.view_is) in
+    let there : is_at (cells_of c.self.inside.nodes c.self.inside.front) c.args.at ≡ true = subst (λ (l : List Cell). is_at l c.args.at ≡ true) seen c.requires in
+    held_node c.self.inside.nodes c.self.inside.front c.args.at (cells_of c.self.inside.nodes c.self.inside.front) c.self.invariant there
+
+pub invariant_of-self-2 : goal.invariant_of-self-2
+invariant_of-self-2 c =
+    let seen : c.args.self.now.cells ≡ cells_of c.self.inside.nodes c.self.inside.front = sym (ap (λ (l : Chain). l.cells) c.self.view_is) in
+    let there : is_at (cells_of c.self.inside.nodes c.self.inside.front) c.args.at ≡ true = subst (λ (l : List Cell). is_at l c.args.at ≡ true) seen c.requires in
+    let step : Changed c.self.inside.nodes c.link_again.new.nodes c.self.inside.front c.self.inside.front c.args.at (λ u d v. (u ++ v) ++ of_kind c.args.kind d ∷ []) =
+    changed c.self.inside.nodes c.link_again.new.nodes c.self.inside.front c.self.inside.front c.args.at (λ u d v. (u ++ v) ++ of_kind c.args.kind d ∷ []) c.self.invariant there
+    (send_behind c.self.inside.nodes c.pass_over.new.nodes c.link_again.new.nodes c.self.inside.front c.args.at c.args.kind c.pass_over.result c.pass_over.ensures.node c.if-at-self.false c.pass_over.ensures.circle c.link_again.ensures.circle (c.link_again.ensures.len ∙ c.pass_over.ensures.len)) in
+    step.held
 
 pub returns-clause-cells : goal.returns-clause-cells
 returns-clause-cells c =
-    λ u v d parts is.
-    let gone : c.remove.new.self.cells ≡ u ++ v = c.remove.ensures.cells u v d parts is in
-    let node : c.node.result ≡ record { entry = d.entry; next = first_at (v ++ u) c.args.at; previous = last_at c.args.at (v ++ u) } =
-    c.node.ensures d (v ++ u) (rotates_split c.args.self.now.cells u v d parts) is in
-    let at : c.append.result ≡ d.at = c.append.ensures.vacant ∙ c.remove.ensures.vacant ∙ sym is in
-    c.append.ensures.cells
-    ∙ ap (λ (l : List Cell). l ++ record { at = c.append.result; entry = record { key = c.node.result.entry.key; kind = c.args.kind } } ∷ []) gone
-    ∙ ap (λ (n : ℕ). (u ++ v) ++ record { at = n; entry = record { key = c.node.result.entry.key; kind = c.args.kind } } ∷ []) at
-    ∙ ap (λ (n : Node). (u ++ v) ++ record { at = d.at; entry = record { key = n.entry.key; kind = c.args.kind } } ∷ []) node
+    let seen : c.args.self.now.cells ≡ cells_of c.self.inside.nodes c.self.inside.front = sym (ap (λ (l : Chain). l.cells) c.self.view_is) in
+    let there : is_at (cells_of c.self.inside.nodes c.self.inside.front) c.args.at ≡ true = subst (λ (l : List Cell). is_at l c.args.at ≡ true) seen c.requires in
+    let step : Changed c.self.inside.nodes c.link_again.new.nodes c.self.inside.front c.self.inside.front c.args.at (λ u d v. (u ++ v) ++ of_kind c.args.kind d ∷ []) =
+    changed c.self.inside.nodes c.link_again.new.nodes c.self.inside.front c.self.inside.front c.args.at (λ u d v. (u ++ v) ++ of_kind c.args.kind d ∷ []) c.self.invariant there
+    (send_behind c.self.inside.nodes c.pass_over.new.nodes c.link_again.new.nodes c.self.inside.front c.args.at c.args.kind c.pass_over.result c.pass_over.ensures.node c.if-at-self.false c.pass_over.ensures.circle c.link_again.ensures.circle (c.link_again.ensures.len ∙ c.pass_over.ensures.len)) in
+    λ u v d parts is. step.cells u v d (sym seen ∙ parts) is
+
+pub returns-clause-apart : goal.returns-clause-apart
+returns-clause-apart c =
+    let seen : c.args.self.now.cells ≡ cells_of c.self.inside.nodes c.self.inside.front = sym (ap (λ (l : Chain). l.cells) c.self.view_is) in
+    let there : is_at (cells_of c.self.inside.nodes c.self.inside.front) c.args.at ≡ true = subst (λ (l : List Cell). is_at l c.args.at ≡ true) seen c.requires in
+    let step : Changed c.self.inside.nodes c.link_again.new.nodes c.self.inside.front c.self.inside.front c.args.at (λ u d v. (u ++ v) ++ of_kind c.args.kind d ∷ []) =
+    changed c.self.inside.nodes c.link_again.new.nodes c.self.inside.front c.self.inside.front c.args.at (λ u d v. (u ++ v) ++ of_kind c.args.kind d ∷ []) c.self.invariant there
+    (send_behind c.self.inside.nodes c.pass_over.new.nodes c.link_again.new.nodes c.self.inside.front c.args.at c.args.kind c.pass_over.result c.pass_over.ensures.node c.if-at-self.false c.pass_over.ensures.circle c.link_again.ensures.circle (c.link_again.ensures.len ∙ c.pass_over.ensures.len)) in
+    step.held.circle.apart

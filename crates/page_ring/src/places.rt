@@ -1,0 +1,117 @@
+//! An index from a page to its node.
+
+ghost use Rattle.std.specs.Prelude.{◌≡◌, ◌≤◌, ◌<◌, length, cond, Some, None, IfOk, OnOk, OnErr, vec_len};
+ghost use Rattle.page_ring.specs.Slots.{same_key, slot_of, in_slot};
+
+use clock_policy::Key;
+use std::alloc::{AllocError, Global};
+use std::collections::HashMap;
+
+/// A page and its node.
+#[derive(Clone, Copy, Debug)]
+pub(crate) struct Place {
+    key: Key,
+    at: u32,
+}
+
+impl Place {
+    #[inline(always)]
+    fn is_of(self, key: Key) -> bool
+        ensures { result ≡ same_key self.key key }
+    {
+        self.key.process == key.process && self.key.vpn == key.vpn
+    }
+}
+
+/// A table with a slot for each page, by its number, and a map of the pages whose slot was taken.
+#[derive(Drop)]
+pub(crate) struct Places {
+    slots: Vec<Option<Place>>,
+    others: HashMap<Key, usize>,
+    ghost some: { 1 ≤ vec_len slots },
+}
+
+impl Places {
+    ghost use Rattle.page_ring.specs.Index.{node_of, Parted};
+
+    /// No page is there. The table has two slots or more for each page that there is room for, up to a bound.
+    pub(crate) fn new(alloc: Global, room: usize) -> Result<Self, AllocError>
+        ensures none { IfOk result (λ places. (k : Key) → node_of k places ≡ None) }
+        ensures parted { IfOk result Parted }
+    {
+        let slots = vec![in alloc; None; (2 * room.min(1 << 20)).next_power_of_two()]?;
+        let others = HashMap::with_capacity(alloc, room)?;
+        Ok(Places { slots, others })
+    }
+
+    #[inline(always)]
+    #[tactic(auto, unfolding(crate::specs::Slots::slot_of))]
+    fn slot(&self, key: Key) -> usize
+        ensures slot { result ≡ slot_of key (length self.now.slots.items) }
+        ensures within { result < vec_len self.now.slots }
+    {
+        let mixed = key.vpn.wrapping_add(key.process.wrapping_mul(0x9E37_79B9));
+        mixed as usize & (self.slots.len() - 1)
+    }
+
+    /// The node of a page.
+    #[inline(always)]
+    pub(crate) fn find(&self, key: Key) -> Option<usize>
+        ensures { result ≡ node_of key self.now }
+    {
+        if let Some(place) = self.slots[self.slot(key)] {
+            if place.is_of(key) {
+                return Some(place.at as usize);
+            }
+        }
+        self.others.get(&key).map(|at| *at)
+    }
+
+    /// Adds a page, to its slot where that is free.
+    #[inline(always)]
+    pub(crate) fn insert(&mut self, key: Key, at: usize) -> Result<(), AllocError>
+        requires new { node_of key self.old ≡ None }
+        requires parted { Parted self.old }
+        ensures put { OnOk result ((k : Key) → node_of k self.new ≡ cond (same_key key k) (Some at) (node_of k self.old)) }
+        ensures err { OnErr result ((k : Key) → node_of k self.new ≡ node_of k self.old) }
+        ensures parted { Parted self.new }
+    {
+        let slot = self.slot(key);
+        if self.slots[slot].is_none() {
+            if let Ok(at) = u32::try_from(at) {
+                self.slots[slot] = Some(Place { key, at });
+                return Ok(());
+            }
+        }
+        self.insert_other(key, at)
+    }
+
+    #[inline(never)]
+    fn insert_other(&mut self, key: Key, at: usize) -> Result<(), AllocError>
+        requires new { node_of key self.old ≡ None }
+        requires parted { Parted self.old }
+        ensures put { OnOk result ((k : Key) → node_of k self.new ≡ cond (same_key key k) (Some at) (node_of k self.old)) }
+        ensures err { OnErr result ((k : Key) → node_of k self.new ≡ node_of k self.old) }
+        ensures parted { Parted self.new }
+    {
+        match self.others.insert(key, at) {
+            Ok(_) => Ok(()),
+            Err(_) => Err(AllocError),
+        }
+    }
+
+    /// Takes a page out.
+    #[inline(always)]
+    pub(crate) fn remove(&mut self, key: Key)
+        requires { Parted self.old }
+        ensures taken { (k : Key) → node_of k self.new ≡ cond (same_key key k) None (node_of k self.old) }
+        ensures parted { Parted self.new }
+    {
+        let slot = self.slot(key);
+        if self.slots[slot].is_some_and(|place| place.is_of(key)) {
+            self.slots[slot] = None;
+        } else {
+            self.others.remove(&key);
+        }
+    }
+}

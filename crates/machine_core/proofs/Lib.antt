@@ -12,5 +12,6 @@ pub mod PageInEvents
 pub mod PageInReasons
 pub mod PageIns
 pub mod PurgeSteps
+pub mod Peeked
 pub mod Sweeps
 pub mod Totals

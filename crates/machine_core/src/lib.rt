@@ -16,6 +16,7 @@ mod machine;
 mod opening;
 mod pager_side;
 mod paging_in;
+mod process_reading;
 mod process_side;
 mod purging;
 mod reading;

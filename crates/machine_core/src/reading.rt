@@ -1,15 +1,19 @@
 //! What the machine shows of its processes.
 
-ghost use Rattle.std.specs.Prelude.{◌≡◌, ◌*◌, ◌≤◌, length, slice_get, option_copied, option_map};
+ghost use Rattle.std.specs.Prelude.{◌≡◌, ◌≢◌, ◌↔◌, ◌*◌, ◌<◌, ◌≤◌, true, false, IsNone, IfSome, length, slice_get, option_copied, option_map};
 ghost use Rattle.std.specs.Option.{option_and_then};
 ghost use Rattle.machine_core.specs.Admitting.{stage_at};
-ghost use Rattle.machine_core.specs.Reading.{is_live_in};
+ghost use Rattle.machine_core.specs.MachineRun.{ChangesOne};
+ghost use Rattle.machine_core.specs.Reading.{is_live_in, Peeks, PeeksAt};
 
 use crate::machine::Core;
 use crate::pager_side::SideCounts;
+use crate::process_side::ProcessSide;
 use clock_policy::{Clock, EntryKind, Key};
+use elf_image::Image;
 use flat_machine::{End, Schedule};
 use page_store::PageState;
+use paged_memory::PeekFault;
 use rv_exec::Regs;
 use std::sync::ledger::Ledger;
 use swap_slots::SwapSlot;
@@ -93,4 +97,35 @@ impl<L: Ledger, S: SwapSlot, C: Clock> Core<L, S, C> {
     {
         self.pager.size()
     }
+
+    /// Whether a process was started from this image and this input, where there is such a process.
+    pub fn started_from(&self, process: u32, image: &Image, input: &[u8]) -> Option<bool>
+        ensures there { IsNone result ↔ (slice_get self.now.processes process ≡ None) }
+        ensures same { result ≡ Some true → IfSome (slice_get self.now.processes process) (λ process. (image.now ≡ process.space.image) × (input.now ≡ process.space.input)) }
+        ensures different { result ≡ Some false → IfSome (slice_get self.now.processes process) (λ process. image.now ≡ process.space.image → input.now ≢ process.space.input) }
+    {
+        Some(self.processes.get(process as usize)?.started_from(image, input))
+    }
+
+    /// The byte that a process's memory shows at an address, where there is such a process; see [`ProcessSide::peek`].
+    pub fn peek(&mut self, process: u32, address: u32) -> Option<Result<u8, PeekFault>>
+        ensures { PeeksAt S.content S.honest S.failures process address result self.old self.new }
+    {
+        if process as usize >= self.processes.len() {
+            return None;
+        }
+        let byte = peek_at(self.processes.as_mut_slice(), process as usize, address);
+        Some(byte)
+    }
+}
+
+fn peek_at<L: Ledger, S: SwapSlot>(
+    processes: &mut [ProcessSide<L, S>],
+    process: usize,
+    address: u32,
+) -> Result<u8, PeekFault>
+    requires { process < length processes.old }
+    ensures { ChangesOne (Peeks S.content S.honest S.failures address result) process processes.old processes.new }
+{
+    processes[process].peek(address)
 }

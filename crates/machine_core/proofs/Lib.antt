@@ -13,5 +13,6 @@ pub mod PageInReasons
 pub mod PageIns
 pub mod PurgeSteps
 pub mod Peeked
+pub mod Shown
 pub mod Sweeps
 pub mod Totals

@@ -6,6 +6,7 @@ use Rattle.clock_policy.specs.Residents.{residents}
 use Rattle.clock_policy.specs.declared.answer.Bit.{Bit}
 use Rattle.clock_policy.specs.declared.answer.Verdict.TheVariants as verdict
 use Rattle.clock_policy.specs.declared.key.Key.{Key}
+use Rattle.elf_image.specs.Image.{ImageContent}
 use Rattle.flat_machine.specs.Process.{Process, opening, flat_run}
 use Rattle.flat_machine.specs.Schedule.{written_out}
 use Rattle.machine_core.specs.declared.event.Event.{Event}
@@ -13,6 +14,7 @@ use Rattle.machine_core.specs.declared.event.Event.TheVariants as event
 use Rattle.machine_core.specs.declared.event.Reply.{Reply}
 use Rattle.machine_core.specs.declared.event.Reply.TheVariants as reply
 use Rattle.machine_core.specs.Machine.{CoreValue, total}
+use Rattle.machine_core.specs.Opening.{Start, MachineBegins}
 use Rattle.machine_core.specs.Sides.{ProcessSideValue}
 use Rattle.machine_core.specs.Sweeping.{bit_at}
 use Rattle.machine_core.specs.Together.{residents_in}
@@ -52,6 +54,12 @@ adds number (event.PageIn key) answer = []
 adds number (event.Kill process cause) answer = []
 adds number (event.Purge process) answer = []
 
+-- the harts of a process's steps that ran, in order
+unfoldable pub order_of : ℕ → List Event → List Reply → List ℕ
+order_of number [] answers = []
+order_of number (happened ∷ events) [] = []
+order_of number (happened ∷ events) (answer ∷ answers) = adds number happened answer ++ order_of number events answers
+
 module _ {S : Type 0} where
   -- a process goes on from the same image and input, with these harts added to its recorded order
   pub record GoesOn (added : List ℕ) (old new : SpaceValue S) : Type 0 where
@@ -76,12 +84,12 @@ module _ {S : Type 0} where
     pub list : new.pager.pager.list ≡ (answered bit old.pager.pager.list).0
 
 module _ {S : Type 0} (held : S → List ℕ) where
-  -- a process shows the flat process that the instructions of its recorded order leave: its registers; its output, input left and
-  -- break; its ending, but that one that the machine killed has none on flat memory; which pages are mapped; and the rights and
-  -- bytes of each page that was not given up
-  pub record ShowsFlatRun (space : SpaceValue S) : Type 0 where
+  -- a process shows the flat process that an image and an input become by instructions of these harts, in this order: its registers;
+  -- its output, input left and break; its ending, but that one that the machine killed has none on flat memory; which pages are
+  -- mapped; and the rights and bytes of each page that was not given up
+  pub record ShowsFlatRun (image : ImageContent) (input harts : List ℕ) (space : SpaceValue S) : Type 0 where
     pub flat : Process
-    pub ran : flat_run (written_out space.schedule) (opening space.image space.input) ≡ Some flat
+    pub ran : flat_run harts (opening image input) ≡ Some flat
     pub registers : space.running.harts ≡ flat.harts
     pub environment : space.running.environment ≡ flat.environment
     pub ending : own_ending space.running.ending ≡ flat.ending
@@ -89,17 +97,31 @@ module _ {S : Type 0} (held : S → List ℕ) where
     pub memory : (number : ℕ) (page : PageValue S) → number < 2 ^ 20 → page_at space.memory.pages number ≡ Some page → is_purged (Some page) ≡ false
         → get flat.memory number ≡ Some (flat_page held page)
 
+  -- the process of a number, in a machine that began with this start of it, shows what the steps of a run leave that ran
+  pub record ShowsRun (number : ℕ) (start : Start) (events : List Event) (answers : List Reply) (processes : List (ProcessSideValue S)) : Type 0 where
+    pub process : ProcessSideValue S
+    pub found : slice_get processes number ≡ Some process
+    pub recorded : written_out process.space.schedule ≡ order_of number events answers
+    pub shows : ShowsFlatRun start.image start.input (order_of number events answers) process.space
+
 module _ {S : Type 0} (held : S → List ℕ) (honest : Type 0) where
   -- what holds of the machine after an event, by the machine before it
   pub record IsInvisible (happened : Event) (answer : Reply) (old new : CoreValue S) : Type 0 where
-    pub shown : honest → (number : ℕ) (process : ProcessSideValue S) → slice_get new.processes number ≡ Some process → ShowsFlatRun held process.space
+    pub shown : honest → (number : ℕ) (process : ProcessSideValue S) → slice_get new.processes number ≡ Some process → ShowsFlatRun held process.space.image process.space.input (written_out process.space.schedule) process.space
     pub recorded : (number : ℕ) (process : ProcessSideValue S) → slice_get old.processes number ≡ Some process → Remains number (adds number happened answer) new.processes process
     pub listed : (test : Key → Bool) → residents new.pager.pager.list test ≡ total (λ (process : ProcessSideValue S). residents_in process.space test) new.processes
     pub victim : (key : Key) → answer ≡ reply.Victim key → IsNamed old new key
 
   -- the same after every event of a run
-  unfoldable pub PagingIsInvisible : List Event → List Reply → CoreValue S → CoreValue S → Type 0
-  PagingIsInvisible [] [] old new = new ≡ old
-  PagingIsInvisible [] (answer ∷ answers) old new = ⊥
-  PagingIsInvisible (happened ∷ events) [] old new = ⊥
-  PagingIsInvisible (happened ∷ events) (answer ∷ answers) old new = (between : CoreValue S) × (IsInvisible happened answer old between × PagingIsInvisible events answers between new)
+  unfoldable pub AfterEach : List Event → List Reply → CoreValue S → CoreValue S → Type 0
+  AfterEach [] [] old new = new ≡ old
+  AfterEach [] (answer ∷ answers) old new = ⊥
+  AfterEach (happened ∷ events) [] old new = ⊥
+  AfterEach (happened ∷ events) (answer ∷ answers) old new = (between : CoreValue S) × (IsInvisible happened answer old between × AfterEach events answers between new)
+
+  -- Whatever events come in whatever order: it holds after each; and in a machine that has just begun, each process shows in the
+  -- end what the manual's instructions make of its image and its input on flat memory, in the order of its steps that ran.
+  pub record PagingIsInvisible (events : List Event) (answers : List Reply) (old new : CoreValue S) : Type 0 where
+    pub each : AfterEach events answers old new
+    pub whole : (frames : ℕ) (free : List S) (starts : List Start) → MachineBegins frames free starts old → honest
+        → (number : ℕ) (start : Start) → slice_get starts number ≡ Some start → ShowsRun held number start events answers new.processes

@@ -15,6 +15,15 @@ abbrev pub is_live_in : {S : Type 0} → Option (ProcessSideValue S) → ℕ →
 is_live_in None hart = false
 is_live_in (Some process) hart = slice_index_or process.space.running.environment.live hart false
 
+-- where slots are honest, this holds of the flat process that a process's schedule leaves, whatever process that is
+abbrev pub OfFlat : {S : Type 0} → Type 0 → (Process → Type 0) → ProcessSideValue S → Type 0
+OfFlat honest P process = honest → (flat : Process) → flat_run (written_out process.space.schedule) (opening process.space.image process.space.input) ≡ Some flat → P flat
+
+-- the same, if there is such a process
+abbrev pub IfThere : {S : Type 0} → Type 0 → (Process → Type 0) → Option (ProcessSideValue S) → Type 0
+IfThere honest P None = Unit {0}
+IfThere honest P (Some process) = OfFlat honest P process
+
 module _ {S : Type 0} (held : S → List ℕ) (honest : Type 0) (failures : S → ℕ) where
   -- a look at a byte: where slots are honest it is the flat process's, whatever process the schedule leaves; nothing changes but
   -- a slot that was read

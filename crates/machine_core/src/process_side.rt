@@ -4,7 +4,8 @@ ghost use Rattle.machine_core.specs.Admitting.{stage_at, is_absent, is_resident}
 ghost use Rattle.paged_memory.specs.Paged.{seen_at};
 ghost use Rattle.machine_core.specs.MachineRun.{Slices, StepsOnce, TakesNotices, IsKilled};
 ghost use Rattle.machine_core.specs.Sweeping.{bit_at, ReadsBit, Evicts};
-ghost use Rattle.space_core.specs.StandsFor.{StandsFor};
+ghost use Rattle.space_core.specs.StandsFor.{StandsFor, own_ending};
+ghost use Rattle.machine_core.specs.Reading.{OfFlat};
 
 use clock_policy::Bit;
 use flat_machine::{End, KillCause, Schedule};
@@ -144,22 +145,28 @@ impl<L: Ledger, S: SwapSlot> ProcessSide<L, S> {
 
     /// A hart's registers, where the hart was started.
     pub fn regs(&self, hart: u32) -> Option<&Regs>
-        ensures { option_copied result ≡ slice_get self.now.space.running.harts hart }
+        ensures exact { option_copied result ≡ slice_get self.now.space.running.harts hart }
+        ensures flat { OfFlat S.honest (λ flat. option_copied result ≡ slice_get flat.harts hart) self.now }
     {
+        self.coherent();
         self.space.regs(hart)
     }
 
     /// What was written so far.
     pub fn output(&self) -> &[u8]
-        ensures { result.now ≡ self.now.space.running.environment.output }
+        ensures exact { result.now ≡ self.now.space.running.environment.output }
+        ensures flat { OfFlat S.honest (λ flat. result.now ≡ flat.environment.output) self.now }
     {
+        self.coherent();
         self.space.output()
     }
 
     /// How the process ended, if it did.
     pub fn end(&self) -> Option<End>
-        ensures { result ≡ self.now.space.running.ending }
+        ensures exact { result ≡ self.now.space.running.ending }
+        ensures flat { OfFlat S.honest (λ flat. own_ending result ≡ flat.ending) self.now }
     {
+        self.coherent();
         self.space.end()
     }
 

@@ -1,10 +1,11 @@
 //! What the machine shows of its processes.
 
-ghost use Rattle.std.specs.Prelude.{◌≡◌, ◌≢◌, ◌↔◌, ◌*◌, ◌<◌, ◌≤◌, true, false, IsNone, IfSome, length, slice_get, option_copied, option_map};
+ghost use Rattle.std.specs.Prelude.{◌≡◌, ◌≢◌, ◌↔◌, ◌*◌, ◌<◌, ◌≤◌, Some, true, false, IsNone, IfSome, length, slice_get, option_copied, option_map};
 ghost use Rattle.std.specs.Option.{option_and_then};
 ghost use Rattle.machine_core.specs.Admitting.{stage_at};
 ghost use Rattle.machine_core.specs.MachineRun.{ChangesOne};
-ghost use Rattle.machine_core.specs.Reading.{is_live_in, Peeks, PeeksAt};
+ghost use Rattle.machine_core.specs.Reading.{is_live_in, IfThere, Peeks, PeeksAt};
+ghost use Rattle.space_core.specs.StandsFor.{own_ending};
 
 use crate::machine::Core;
 use crate::pager_side::SideCounts;
@@ -21,21 +22,24 @@ use swap_slots::SwapSlot;
 impl<L: Ledger, S: SwapSlot, C: Clock> Core<L, S, C> {
     /// A hart's registers, where there is such a process and the hart was started.
     pub fn regs(&self, process: u32, hart: u32) -> Option<&Regs>
-        ensures { option_copied result ≡ option_and_then (λ process. slice_get process.space.running.harts hart) (slice_get self.now.processes process) }
+        ensures exact { option_copied result ≡ option_and_then (λ process. slice_get process.space.running.harts hart) (slice_get self.now.processes process) }
+        ensures flat { IfThere S.honest (λ flat. option_copied result ≡ slice_get flat.harts hart) (slice_get self.now.processes process) }
     {
         self.processes.get(process as usize)?.regs(hart)
     }
 
     /// What a process has written so far, where there is such a process.
     pub fn output(&self, process: u32) -> Option<&[u8]>
-        ensures { option_copied result ≡ option_map (λ process. process.space.running.environment.output) (slice_get self.now.processes process) }
+        ensures exact { option_copied result ≡ option_map (λ process. process.space.running.environment.output) (slice_get self.now.processes process) }
+        ensures flat { IfThere S.honest (λ flat. option_copied result ≡ Some flat.environment.output) (slice_get self.now.processes process) }
     {
         Some(self.processes.get(process as usize)?.output())
     }
 
     /// How a process ended, if it did, where there is such a process.
     pub fn end(&self, process: u32) -> Option<Option<End>>
-        ensures { result ≡ option_map (λ process. process.space.running.ending) (slice_get self.now.processes process) }
+        ensures exact { result ≡ option_map (λ process. process.space.running.ending) (slice_get self.now.processes process) }
+        ensures flat { IfThere S.honest (λ flat. option_map own_ending result ≡ Some flat.ending) (slice_get self.now.processes process) }
     {
         Some(self.processes.get(process as usize)?.end())
     }
@@ -104,7 +108,11 @@ impl<L: Ledger, S: SwapSlot, C: Clock> Core<L, S, C> {
         ensures same { result ≡ Some true → IfSome (slice_get self.now.processes process) (λ process. (image.now ≡ process.space.image) × (input.now ≡ process.space.input)) }
         ensures different { result ≡ Some false → IfSome (slice_get self.now.processes process) (λ process. image.now ≡ process.space.image → input.now ≢ process.space.input) }
     {
-        Some(self.processes.get(process as usize)?.started_from(image, input))
+        Some(
+            self.processes
+                .get(process as usize)?
+                .started_from(image, input),
+        )
     }
 
     /// The byte that a process's memory shows at an address, where there is such a process; see [`ProcessSide::peek`].

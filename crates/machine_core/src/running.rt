@@ -12,8 +12,8 @@ use std::sync::ledger::Ledger;
 use swap_slots::SwapSlot;
 
 impl<L: Ledger, S: SwapSlot, C: Clock> Core<L, S, C> {
-    /// Applies events one after another, and gives their replies. Their room is taken first: where it is refused, nothing has
-    /// changed.
+    /// Applies events one after another, and gives their replies: whatever events come in whatever order, paging is invisible.
+    /// Room for the replies is taken first; where it is refused, nothing has changed.
     pub fn run(&mut self, alloc: Global, events: &[Event]) -> Result<Vec<Reply>, AllocError>
         ensures runs { IfOk result (λ replies. Runs S.content S.honest S.failures events.now replies.items self.old self.new) }
         ensures invisible { IfOk result (λ replies. PagingIsInvisible S.content S.honest events.now replies.items self.old self.new) }
@@ -23,6 +23,7 @@ impl<L: Ledger, S: SwapSlot, C: Clock> Core<L, S, C> {
         for event in events {
             replies.push_reserved(self.apply(*event));
         }
+        self.faithful();
         Ok(replies)
     }
 }

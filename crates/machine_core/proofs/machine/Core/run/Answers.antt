@@ -26,3 +26,4 @@ returns-clause-invisible g c =
     let all : take c.loop-event.event-index c.args.events.now ≡ c.args.events.now = take_all c.loop-event.event-index c.args.events.now (omega arith) in
     run_invisible g.S.SwapSlot.content g.S.SwapSlot.honest g.S.SwapSlot.failures c.args.events.now c.loop-event.replies.items c.args.self.now c.loop-event.self
     (subst (λ l. Runs g.S.SwapSlot.content g.S.SwapSlot.honest g.S.SwapSlot.failures l c.loop-event.replies.items c.args.self.now c.loop-event.self) all c.loop-event.invariant.ran)
+    c.faithful.ensures

@@ -1,6 +1,7 @@
 pub mod Admissions
 pub mod Cores
 pub mod Counted
+pub mod EventOrders
 pub mod Finding
 pub mod GivenPages
 pub mod Invisible
@@ -8,11 +9,12 @@ pub mod Kept
 pub mod KeptPages
 pub mod Looking
 pub mod Openings
+pub mod Orders
 pub mod PageInEvents
 pub mod PageInReasons
 pub mod PageIns
-pub mod PurgeSteps
 pub mod Peeked
+pub mod PurgeSteps
 pub mod Shown
 pub mod Sweeps
 pub mod Totals

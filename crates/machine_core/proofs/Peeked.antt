@@ -1,11 +1,11 @@
 -- A look at a byte leaves the counts: a page that is away stays so.
-use Rattle.std.proofs.Common.{◌≡◌, ℕ, ◌+◌, ◌^◌, ◌<◌, List, Option, Some, None, refl, sym, ap, ◌∙◌, arith, subst}
+use Rattle.std.proofs.Common.{◌≡◌, ℕ, ◌^◌, ◌<◌, List, Option, Some, None, refl, ap, ◌∙◌, arith, subst}
 use Rattle.page_memory.specs.Words.{page_number}
 use Rattle.page_store.specs.Moves.{IfAbsent, IfAway}
 use Rattle.page_store.specs.PageValue.{PageValue, Place, Fresh, Resident, Leaving, Saving, Away, Purged}
 use Rattle.paged_memory.specs.Calls.{ChangesBy}
 use Rattle.paged_memory.specs.Filling.{StaysAbsent}
-use Rattle.paged_memory.specs.Paged.{PagedValue, page_at}
+use Rattle.paged_memory.specs.Paged.{page_at}
 use Rattle.paged_memory.specs.Peeking.{LeavesPlace, LeavesPage}
 use Rattle.paged_memory.specs.declared.peeking.PeekFault.{PeekFault}
 use Rattle.space_core.specs.StandsFor.{SpaceValue}

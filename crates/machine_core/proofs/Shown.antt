@@ -1,5 +1,5 @@
 -- What holds of a flat process beside any memory holds of the one that a process stands for.
-use Rattle.std.proofs.Common.{◌≡◌, ℕ, List, Some, sym, ◌∙◌, subst}
+use Rattle.std.proofs.Common.{◌≡◌, ℕ, List, subst}
 use Rattle.page_memory.specs.Memory.{Memory}
 use Rattle.flat_machine.specs.Process.{Process}
 use Rattle.machine_core.specs.Reading.{OfFlat}

@@ -8,6 +8,7 @@ use Rattle.machine_core.specs.declared.event.Reply.{Reply}
 use Rattle.machine_core.specs.declared.event.Reply.TheVariants.{Refused}
 use Rattle.machine_core.specs.Faithful.{IsFaithful}
 use Rattle.machine_core.specs.Machine.{CoreValue}
+use Rattle.machine_core.specs.PagingIn.{page_in_refusal, PagesInOnce}
 use Rattle.machine_core.specs.MachineRun.{hart_refusal, kill_refusal, sweep_refusal, Refuses, Steps, Notices, Kills, SweepsOnce}
 
 module _ {S : Type 0} (held : S → List ℕ) (honest : Type 0) (failures : S → ℕ) where
@@ -22,7 +23,7 @@ module _ {S : Type 0} (held : S → List ℕ) (honest : Type 0) (failures : S �
   Serves Sweep old new reply = Refuses (sweep_refusal (question_of old.pager.pager.list)) old new reply ⊎ SweepsOnce old new reply
   Serves (Collect key) old new reply = IsNotServed old new reply
   Serves (Saved key) old new reply = IsNotServed old new reply
-  Serves (PageIn key) old new reply = IsNotServed old new reply
+  Serves (PageIn key) old new reply = Refuses (page_in_refusal key old) old new reply ⊎ PagesInOnce held honest failures key old new reply
   Serves (Kill process cause) old new reply = Refuses (kill_refusal process old.processes) old new reply ⊎ Kills process cause old new reply
   Serves (Purge process) old new reply = IsNotServed old new reply
 

@@ -48,7 +48,7 @@ impl<L: Ledger, S: SwapSlot, C: Clock> Core<L, S, C> {
             Event::Sweep => self.sweep(),
             Event::Collect(_) => Reply::Refused(EventRefusal::NoMemory),
             Event::Saved(_) => Reply::Refused(EventRefusal::NoMemory),
-            Event::PageIn(_) => Reply::Refused(EventRefusal::NoMemory),
+            Event::PageIn(key) => self.page_in(key),
             Event::Kill { process, cause } => self.kill(process, cause),
             Event::Purge { .. } => Reply::Refused(EventRefusal::NoMemory),
         }

@@ -1,5 +1,4 @@
-use Rattle.std.proofs.Common.{◌≡◌, slice_get, ap, ◌∙◌}
-use Rattle.std.specs.Prelude.{option_copied}
+use Rattle.std.proofs.Common.{◌≡◌, ap, ◌∙◌}
 use Rattle.space_core.specs.StandsFor.{own_ending}
 use Rattle.machine_core.specs.Sides.{ProcessSideValue}
 use Rattle.machine_core.proofs.Shown.{of_flat}

@@ -1,0 +1,16 @@
+//! The serial driver: it plays a whole machine to its end, one event after another.
+//!
+//! Live processes get slices by rising number, and in each its live harts by rising number: so many instructions of the
+//! hart, and then it drops its translations that are to be dropped. A hart that needs an absent page waits until it is
+//! in a frame: where no frame is free, the list is asked until it names a victim, each live hart of the victim's process
+//! drops its translations, the page is collected, and a changed one is saved.
+#![tactic(auto)]
+
+mod audit;
+mod harts;
+mod patience;
+mod reporting;
+mod serial;
+mod turns;
+
+pub use serial::run_serial;

@@ -1,0 +1,262 @@
+//! Which event comes next.
+
+use crate::harts::{HartOf, live_hart_from, next_live};
+use crate::patience::Patience;
+use clock_policy::{Clock, Key};
+use flat_machine::KillCause;
+use machine_core::{Core, Event, EventRefusal, Reply};
+use std::sync::ledger::Ledger;
+use swap_slots::SwapSlot;
+
+/// What the driver is about to do.
+#[derive(Clone, Copy)]
+enum Stage {
+    /// The next live hart, from this one on, gets a slice.
+    Choose(HartOf),
+    /// The hart runs its next instruction.
+    Run,
+    /// The hart's slice is over.
+    Rest,
+    /// The hart waits for its page.
+    Wait,
+    /// The live harts of the victim's process, from this one on, drop their translations; then the victim is collected.
+    Clear { victim: Key, hart: u32 },
+    /// The victim was copied and is saved.
+    Save(Key),
+    Kill { process: u32, cause: KillCause },
+    Purge { process: u32 },
+}
+
+/// Whose turn it is, and at what.
+#[derive(Drop)]
+pub(crate) struct Turns {
+    stage: Stage,
+    /// The hart that has the slice.
+    running: HartOf,
+    /// How many more instructions it may run.
+    left: u32,
+    /// The page that it waits for.
+    wanted: u32,
+    slice: u32,
+    patience: Patience,
+}
+
+impl Turns {
+    /// The start of a machine of so many frames, whose slices are of so many instructions, or of one.
+    pub(crate) fn new(frames: u32, slice: u32) -> Self {
+        let first = HartOf {
+            process: 0,
+            hart: 0,
+        };
+        Turns {
+            stage: Stage::Choose(first),
+            running: first,
+            left: 0,
+            wanted: 0,
+            slice: slice.max(1),
+            patience: Patience::new(frames),
+        }
+    }
+
+    /// The next event, or `None` once each process has ended.
+    pub(crate) fn next<L: Ledger, S: SwapSlot, C: Clock>(
+        &mut self,
+        core: &Core<L, S, C>,
+    ) -> Option<Event> {
+        match self.stage {
+            Stage::Run => Some(self.step()),
+            Stage::Choose(from) => {
+                self.running = next_live(core, from)?;
+                self.left = self.slice;
+                self.stage = Stage::Run;
+                Some(self.step())
+            }
+            Stage::Rest => Some(notice(self.running)),
+            Stage::Wait => Some(self.bring(core.counts().pager.free > 0)),
+            Stage::Clear { victim, hart } => Some(self.clear(core, victim, hart)),
+            Stage::Save(victim) => Some(Event::Saved(victim)),
+            Stage::Kill { process, cause } => Some(Event::Kill { process, cause }),
+            Stage::Purge { process } => Some(Event::Purge { process }),
+        }
+    }
+
+    /// Goes on by what an event was replied with.
+    pub(crate) fn heed(&mut self, event: Event, reply: Reply) {
+        match event {
+            Event::Step { .. } => self.after_step(reply),
+            Event::Notice { .. } => self.after_notice(),
+            Event::Sweep => self.after_sweep(reply),
+            Event::Collect(key) => self.after_collect(key, reply),
+            Event::Saved(key) => self.after_save(key, reply),
+            Event::PageIn(_) => self.after_page_in(reply),
+            Event::Kill { process, .. } => self.stage = Stage::Purge { process },
+            Event::Purge { process } => self.after_purge(process),
+        }
+    }
+
+    /// The page that is copied and not yet saved, if there is one.
+    pub(crate) fn unsaved(&self) -> Option<Key> {
+        match self.stage {
+            Stage::Save(victim) => Some(victim),
+            _ => None,
+        }
+    }
+
+    fn step(&self) -> Event {
+        let HartOf { process, hart } = self.running;
+        Event::Step { process, hart }
+    }
+
+    /// Brings the page in that the hart waits for, or asks the list for a victim.
+    fn bring(&self, is_free: bool) -> Event {
+        if is_free {
+            Event::PageIn(Key {
+                process: self.running.process,
+                vpn: self.wanted,
+            })
+        } else {
+            Event::Sweep
+        }
+    }
+
+    /// The next live hart of the victim's process drops its translations, or the victim is collected.
+    fn clear<L: Ledger, S: SwapSlot, C: Clock>(
+        &mut self,
+        core: &Core<L, S, C>,
+        victim: Key,
+        hart: u32,
+    ) -> Event {
+        let process = victim.process;
+        let Some(hart) = live_hart_from(core, process, hart) else {
+            return Event::Collect(victim);
+        };
+        self.stage = Stage::Clear {
+            victim,
+            hart: hart.saturating_add(1),
+        };
+        notice(HartOf { process, hart })
+    }
+
+    #[inline]
+    fn after_step(&mut self, reply: Reply) {
+        match reply {
+            Reply::Ran => {
+                self.ran();
+                if self.left == 0 {
+                    self.stage = Stage::Rest;
+                }
+            }
+            Reply::Yielded => {
+                self.ran();
+                self.stage = Stage::Rest;
+            }
+            Reply::HartDone => {
+                self.ran();
+                self.choose();
+            }
+            Reply::Absent(page) => {
+                self.patience.forget_faults();
+                self.wanted = page;
+                self.stage = Stage::Wait;
+            }
+            other => self.stop(other),
+        }
+    }
+
+    /// An instruction of the hart ran.
+    fn ran(&mut self) {
+        self.patience.renew(self.running.process);
+        self.left = self.left.saturating_sub(1);
+    }
+
+    /// The process of the hart goes on no more.
+    fn stop(&mut self, reply: Reply) {
+        let process = self.running.process;
+        match reply {
+            Reply::ScheduleFull => self.kill(process, KillCause::ScheduleFull),
+            Reply::Refused(EventRefusal::NoMemory) => self.kill(process, KillCause::NoMemory),
+            _ => self.stage = Stage::Purge { process },
+        }
+    }
+
+    /// The hart behind the one that had the slice is next.
+    fn choose(&mut self) {
+        let HartOf { process, hart } = self.running;
+        self.stage = Stage::Choose(HartOf {
+            process,
+            hart: hart.saturating_add(1),
+        });
+    }
+
+    fn after_notice(&mut self) {
+        if matches!(self.stage, Stage::Rest) {
+            self.choose();
+        }
+    }
+
+    fn after_sweep(&mut self, reply: Reply) {
+        match reply {
+            Reply::Victim(victim) => self.stage = Stage::Clear { victim, hart: 0 },
+            Reply::Asked { .. } => {}
+            _ => self.give_patience(self.running.process),
+        }
+    }
+
+    fn after_collect(&mut self, victim: Key, reply: Reply) {
+        if matches!(reply, Reply::Dirty) {
+            self.stage = Stage::Save(victim);
+        } else {
+            self.after_save(victim, reply);
+        }
+    }
+
+    /// The victim has left its frame, or has not.
+    fn after_save(&mut self, victim: Key, reply: Reply) {
+        self.stage = Stage::Wait;
+        match reply {
+            Reply::NoSlot | Reply::Device => self.give_patience(victim.process),
+            Reply::Refused(EventRefusal::NoMemory) => {
+                self.kill(victim.process, KillCause::NoMemory)
+            }
+            _ => {}
+        }
+    }
+
+    fn after_page_in(&mut self, reply: Reply) {
+        let process = self.running.process;
+        match reply {
+            Reply::Mapped => {
+                self.stage = Stage::Run;
+                self.give_patience(process);
+            }
+            Reply::Device if self.patience.fault() => self.kill(process, KillCause::LoadFailed),
+            Reply::Refused(EventRefusal::NoMemory) => self.kill(process, KillCause::NoMemory),
+            _ => self.give_patience(process),
+        }
+    }
+
+    /// A page of the process was brought in, or failed to leave.
+    fn give_patience(&mut self, process: u32) {
+        if self.patience.try_again(process) {
+            self.kill(process, KillCause::NoSwap);
+        }
+    }
+
+    fn kill(&mut self, process: u32, cause: KillCause) {
+        self.stage = Stage::Kill { process, cause };
+    }
+
+    /// A process is gone: the hart that has the slice is of it, or waits on.
+    fn after_purge(&mut self, process: u32) {
+        if process == self.running.process {
+            self.choose();
+        } else {
+            self.stage = Stage::Wait;
+        }
+    }
+}
+
+fn notice(of: HartOf) -> Event {
+    let HartOf { process, hart } = of;
+    Event::Notice { process, hart }
+}

@@ -14,6 +14,7 @@ pub mod PageInEvents
 pub mod PageInReasons
 pub mod PageIns
 pub mod Peeked
+pub mod PurgeEvents
 pub mod PurgeSteps
 pub mod Shown
 pub mod Sweeps

@@ -11,6 +11,7 @@ pub mod MoveLaws
 pub mod Opening
 pub mod PagingIn
 pub mod PagingLaws
+pub mod PurgeEvent
 pub mod PurgeLaws
 pub mod Purging
 pub mod Reading

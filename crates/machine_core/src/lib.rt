@@ -8,6 +8,7 @@ mod admission;
 mod apply;
 mod collecting;
 mod core_page_in;
+mod core_purge;
 mod core_steps;
 mod error;
 mod event;

@@ -59,7 +59,9 @@ pub fn purge<L: Ledger, S: SwapSlot, C: Clock>(
 
 /// Why a process gives nothing back.
 #[tactic(auto, unfolding(crate::specs::Purging::purge_bars))]
-fn purge_bars<L: Ledger, S: SwapSlot>(process: &ProcessSide<L, S>) -> Option<PurgeRefusal>
+pub(crate) fn purge_bars<L: Ledger, S: SwapSlot>(
+    process: &ProcessSide<L, S>,
+) -> Option<PurgeRefusal>
     ensures { result ≡ purge_bars process.now }
 {
     if process.space.end().is_none() {

@@ -1,0 +1,196 @@
+-- The machine stays one where an ended process gives everything back, and all of it has its place.
+use Rattle.std.proofs.Common.{◌≡◌, ℕ, zero, suc, ◌++◌, ◌==◌, ◌&&◌, Bool, true, false, take, drop, List, [], ◌∷◌, length, Option, Some, None, option_map, slice_get, inl, inr, refl, sym, ap, ◌∙◌, arith, subst}
+use Rattle.std.specs.Prelude.{slice_set}
+use Rattle.std.proofs.lemmas.Bool.Decides.{eqb_tells}
+use Rattle.std.proofs.lemmas.List.{length-append, length-set}
+use Rattle.clock_policy.specs.declared.key.Key.{Key}
+use Rattle.clock_policy.specs.ClockLaws.{purged_lawful}
+use Rattle.clock_policy.specs.ClockPro.{purged}
+use Rattle.clock_policy.specs.KeptLaws.{purged_frames}
+use Rattle.clock_policy.specs.Lawful.{Lawful}
+use Rattle.clock_policy.specs.Residents.{residents}
+use Rattle.frame_pool.specs.FrameValue.{FrameValue}
+use Rattle.page_store.specs.JobValue.{JobValue}
+use Rattle.page_store.specs.PageValue.{PageValue}
+use Rattle.paged_memory.specs.Counting.{page_passes, pages_where, is_resident_place, slots_of}
+use Rattle.paged_memory.specs.CountingLaws.{none_where_pass}
+use Rattle.paged_memory.specs.Paged.{page_at}
+use Rattle.pager_core.specs.Pager.{PagerState}
+use Rattle.space_core.specs.StandsFor.{SpaceValue}
+use Rattle.swap_slots.specs.PoolValue.{PoolValue}
+use Rattle.machine_core.specs.declared.event.Reply.{Reply}
+use Rattle.machine_core.specs.declared.event.Reply.TheVariants.{Purged}
+use Rattle.machine_core.specs.declared.purging.PurgeRefusal.{PurgeRefusal}
+use Rattle.machine_core.specs.declared.purging.Purging.{Purging}
+use Rattle.machine_core.specs.declared.purging.Purging.TheVariants.{Done, Refused, HandedBack}
+use Rattle.machine_core.specs.Machine.{CoreValue, IsMachine, total}
+use Rattle.machine_core.specs.MachineRun.{of_process}
+use Rattle.machine_core.specs.PurgeEvent.{purge_reason, purge_refusal, PurgesAt, PurgesOnce, IsDone}
+use Rattle.machine_core.specs.PurgeLaws.{given_savings, given_stays, purged_together, purged_pool}
+use Rattle.machine_core.specs.Purging.{purge_bars, Purges, PurgesAll, StopsPurging}
+use Rattle.machine_core.specs.Sides.{PagerSideValue, ProcessSideValue}
+use Rattle.machine_core.specs.Together.{residents_in, frames_in, key_of}
+use Rattle.machine_core.proofs.Cores.{lent_back}
+use Rattle.machine_core.proofs.Counted.{all_frames, all_numbers}
+use Rattle.machine_core.proofs.Kept.{moved_machine, out_stays, SavingsStay}
+use Rattle.machine_core.proofs.Totals.{total_at}
+
+-- ---- a sum of which one place alone counts
+
+total_none : {A : Type 0} (f : A → ℕ) (xs : List A) → ((i : ℕ) (y : A) → slice_get xs i ≡ Some y → f y ≡ 0) → total f xs ≡ 0
+unfolding total
+total_none f [] none = refl
+total_none f (x ∷ xs) none = omega (arith, none 0 x refl, total_none f xs (λ i y at. none (suc i) y at))
+
+total_one : {A : Type 0} (f : A → ℕ) (xs : List A) (p : ℕ) (x : A) → slice_get xs p ≡ Some x → ((i : ℕ) (y : A) → slice_get xs i ≡ Some y → (i ≡ p → ⊥) → f y ≡ 0) → total f xs ≡ f x
+unfolding total
+total_one f [] p x at others = cc
+total_one f (z ∷ zs) zero x at others =
+    let same : z ≡ x = cc in
+    let e : f z ≡ f x = ap f same in
+    omega (arith, e, total_none f zs (λ i y found. others (suc i) y found (λ same. omega (arith, same))))
+total_one f (z ∷ zs) (suc p) x at others =
+    omega (arith, others 0 z refl (λ same. omega (arith, same)), total_one f zs p x at (λ i y found apart. others (suc i) y found (λ same. apart (omega (arith, same)))))
+
+and_false : (a b : Bool) → a && (false && b) ≡ false
+and_false true b = refl
+and_false false b = refl
+
+same_number : (n : ℕ) → (n == n) ≡ true
+same_number n = elim (eqb_tells n n) [ inl same ↦ same.0 | inr apart ↦ absurd (apart.1 refl) ]
+
+module _ {S : Type 0} where
+  -- a process has no page of another
+  none_of_other : (space : SpaceValue S) (number : ℕ) (test : Key → Bool) → (space.memory.process == number) ≡ false → residents_in space (λ q. (q.process == number) && test q) ≡ 0
+  unfolding residents_in
+  none_of_other space number test other =
+      none_where_pass (λ v page. is_resident_place page.place && ((space.memory.process == number) && test (key_of space.memory.process v))) space.memory.pages (λ v small. none v (page_at space.memory.pages v))
+    where
+      none : (v : ℕ) (o : Option (PageValue S)) → page_passes (λ page. is_resident_place page.place && ((space.memory.process == number) && test (key_of space.memory.process v))) o ≡ false
+      none v None = refl
+      none v (Some page) = ap (λ b. is_resident_place page.place && (b && test (key_of space.memory.process v))) other ∙ and_false (is_resident_place page.place) (test (key_of space.memory.process v))
+
+  all_of_own : (space : SpaceValue S) (test : Key → Bool) → residents_in space (λ q. (q.process == space.memory.process) && test q) ≡ residents_in space test
+  unfolding residents_in
+  all_of_own space test = ap (λ b. pages_where (λ v page. is_resident_place page.place && (b && test (key_of space.memory.process v))) space.memory.pages) (same_number space.memory.process)
+
+  -- list and pages of a process of the machine agree
+  agreed : (core : CoreValue S) (p : ℕ) (q : ProcessSideValue S) → IsMachine core → slice_get core.processes p ≡ Some q → (test : Key → Bool)
+      → residents core.pager.pager.list (λ k. (k.process == q.space.memory.process) && test k) ≡ residents_in q.space test
+  agreed core p q machine found test =
+      machine.listed (λ k. (k.process == q.space.memory.process) && test k)
+      ∙ total_one (λ (r : ProcessSideValue S). residents_in r.space (λ k. (k.process == q.space.memory.process) && test k)) core.processes p q found
+      (λ i r at apart. none_of_other r.space q.space.memory.process test (other i r at apart))
+      ∙ all_of_own q.space test
+    where
+      other : (i : ℕ) (r : ProcessSideValue S) → slice_get core.processes i ≡ Some r → (i ≡ p → ⊥) → (r.space.memory.process == q.space.memory.process) ≡ false
+      other i r at apart =
+          elim (eqb_tells r.space.memory.process q.space.memory.process) [
+            | inl same ↦ absurd (apart (sym (machine.numbered i r at) ∙ same.1 ∙ machine.numbered p q found))
+            | inr differ ↦ differ.0
+          ]
+
+  -- ---- everything has its place
+
+  no_frame_back : (core : CoreValue S) (pager' : PagerSideValue) (pool' : PoolValue S) (p : ℕ) (q q' : ProcessSideValue S) (frame : FrameValue) (slot : Option S) → IsMachine core → slice_get core.processes p ≡ Some q
+      → StopsPurging (Some frame) slot core.pager pager' q q' core.slots pool' → ⊥
+  no_frame_back core pager' pool' p q q' frame slot machine found stops =
+      let gave = stops.stops.gave in
+      let full : length pager'.pager.free ≡ pager'.pager.size = stops.stops.frame_full refl in
+      let free : length pager'.pager.free ≡ length (core.pager.pager.free ++ gave.frames) = ap (λ (s : PagerState). length s.free) gave.pager_is in
+      let size : pager'.pager.size ≡ core.pager.pager.size = ap (λ (s : PagerState). s.size) gave.pager_is in
+      let framed = gave.framed (λ _. true) in
+      let all = machine.framed (λ _. true) in
+      let part = total_at (λ (r : ProcessSideValue S). frames_in r.space (λ _. true)) core.processes p q found in
+      omega (arith, full, free, size, framed, all, part, length-append core.pager.pager.free gave.frames, all_frames gave.frames, all_frames core.pager.pager.free, all_numbers core.pager.pager.size)
+
+  no_slot_back : (core : CoreValue S) (pager' : PagerSideValue) (pool' : PoolValue S) (p : ℕ) (q q' : ProcessSideValue S) (frame : Option FrameValue) (slot : S) → IsMachine core → slice_get core.processes p ≡ Some q
+      → StopsPurging frame (Some slot) core.pager pager' q q' core.slots pool' → ⊥
+  no_slot_back core pager' pool' p q q' frame slot machine found stops =
+      let gave = stops.stops.gave in
+      let full : length pool'.free ≡ pool'.size = stops.stops.slot_full refl in
+      let free : length pool'.free ≡ length (core.slots.free ++ gave.slots) = ap (λ (s : PoolValue S). length s.free) gave.pool_is in
+      let size : pool'.size ≡ core.slots.size = ap (λ (s : PoolValue S). s.size) gave.pool_is in
+      let slotted = gave.slotted in
+      let all = machine.slotted in
+      let part = total_at (λ (r : ProcessSideValue S). slots_of r.space.memory.pages) core.processes p q found in
+      omega (arith, full, free, size, slotted, all, part, length-append core.slots.free gave.slots)
+
+  nothing_back : (core : CoreValue S) (pager' : PagerSideValue) (pool' : PoolValue S) (p : ℕ) (q q' : ProcessSideValue S) (frame : Option FrameValue) (slot : Option S) → IsMachine core → slice_get core.processes p ≡ Some q
+      → StopsPurging frame slot core.pager pager' q q' core.slots pool' → ⊥
+  nothing_back core pager' pool' p q q' (Some frame) slot machine found stops = no_frame_back core pager' pool' p q q' frame slot machine found stops
+  nothing_back core pager' pool' p q q' None (Some slot) machine found stops = no_slot_back core pager' pool' p q q' None slot machine found stops
+  nothing_back core pager' pool' p q q' None None machine found stops = let some = stops.stops.some in cc
+
+  purges_all : {L : Type 0} (core : CoreValue S) (pager' : PagerSideValue) (pool' : PoolValue S) (p : ℕ) (q q' : ProcessSideValue S) (result : Purging L S) → IsMachine core → slice_get core.processes p ≡ Some q
+      → purge_bars q ≡ None → Purges core.pager pager' q q' core.slots pool' result → IsDone result × PurgesAll core.pager pager' q q' core.slots pool'
+  purges_all core pager' pool' p q q' Done machine found allowed how = (tt, how)
+  purges_all core pager' pool' p q q' (Refused reason) machine found allowed how = let why = how.why in cc
+  purges_all core pager' pool' p q q' (HandedBack frame slot) machine found allowed how = absurd (nothing_back core pager' pool' p q q' frame slot machine found how)
+
+  -- ---- the machine stays one
+
+  purged_machine : (core : CoreValue S) (pager' : PagerSideValue) (pool' : PoolValue S) (p : ℕ) (q q' : ProcessSideValue S) → IsMachine core → slice_get core.processes p ≡ Some q
+      → PurgesAll core.pager pager' q q' core.slots pool' → IsMachine (record core { pager = pager'; slots = pool'; processes = slice_set core.processes p q' })
+  unfolding SavingsStay
+  purged_machine core pager' pool' p q q' machine found all =
+      let now : pager'.pager ≡ record core.pager.pager { free = core.pager.pager.free ++ all.frames; list = purged q.space.memory.process core.pager.pager.list } = ap (λ (s : PagerSideValue). s.pager) all.pager_is in
+      moved_machine core (record core { pager = pager'; slots = pool'; processes = slice_set core.processes p q' }) p q q' machine (record {
+        found = found;
+        processes = refl;
+        together = purged_together core.pager pager' q q' core.slots pool' all (agreed core p q machine found);
+        lawful = subst (λ (s : PagerState). Lawful s.list) (sym now) (purged_lawful q.space.memory.process core.pager.pager.list machine.lawful);
+        frames = ap (λ (s : PagerState). s.list.frames) now ∙ purged_frames q.space.memory.process core.pager.pager.list ∙ machine.frames ∙ sym (ap (λ (s : PagerState). s.size) now);
+        saved = λ test. let a = given_savings q.space q'.space all.space test in omega (arith, a);
+        slotted = let a = purged_pool core.pager pager' q q' core.slots pool' all in omega (arith, a);
+        slots = ap (λ (s : PoolValue S). s.size) all.pool_is;
+        out = out_stays core.processes p q q' core.jobs found (given_stays q.space q'.space all.space) machine.out;
+      })
+
+  unbarred_at : (processes : List (ProcessSideValue S)) (p : ℕ) (q : ProcessSideValue S) → purge_refusal p processes ≡ None → slice_get processes p ≡ Some q → purge_bars q ≡ None
+  unbarred_at processes p q allowed found = none (purge_bars q) (sym (ap (of_process (λ side. option_map purge_reason (purge_bars side))) found) ∙ allowed)
+    where
+      none : (o : Option PurgeRefusal) → option_map purge_reason o ≡ None → o ≡ None
+      none None h = refl
+      none (Some reason) h = cc
+
+  module _ {L : Type 0} (pager pager' : PagerSideValue) (pool pool' : PoolValue S) (jobs : List (JobValue S)) (items lent new : List (ProcessSideValue S)) (n p : ℕ) (result : Purging L S)
+      (machine : IsMachine (record { pager = pager; slots = pool; processes = items; jobs = jobs })) (allowed : purge_refusal p items ≡ None)
+      (long : n ≡ length items) (same : lent ≡ items) (purges : PurgesAt pager pager' p lent new pool pool' result) where
+    abbrev core : CoreValue S
+    core = record { pager = pager; slots = pool; processes = items; jobs = jobs }
+
+    abbrev left : CoreValue S
+    left = record { pager = pager'; slots = pool'; processes = take n (new ++ drop (length new) items); jobs = jobs }
+
+    found : slice_get items p ≡ Some purges.process
+    found = ap (λ l. slice_get l p) (sym same) ∙ purges.found
+
+    is_set : slice_set items p purges.process' ≡ take n (new ++ drop (length new) items)
+    is_set =
+        let is : new ≡ slice_set items p purges.process' = purges.is ∙ ap (λ l. slice_set l p purges.process') same in
+        sym is ∙ sym (lent_back items new n long (ap length is ∙ length-set items p purges.process'))
+
+    told : IsDone result × PurgesAll pager pager' purges.process purges.process' pool pool'
+    told = purges_all core pager' pool' p purges.process purges.process' result machine found (unbarred_at items p purges.process allowed found) purges.how
+
+    pub purge_done : IsDone result
+    purge_done = told.0
+
+    pub purged_back : IsMachine left
+    purged_back = subst (λ l. IsMachine (record { pager = pager'; slots = pool'; processes = l; jobs = jobs })) is_set (purged_machine core pager' pool' p purges.process purges.process' machine found told.1)
+
+    pub purged_size : pager'.pager.size ≡ pager.pager.size
+    purged_size = ap (λ (s : PagerSideValue). s.pager.size) told.1.pager_is
+
+    pub purged_once : (old : CoreValue S) (reply : Reply) → core ≡ old → reply ≡ Purged → PurgesOnce p old left reply
+    purged_once old reply e is = subst (λ o. PurgesOnce p o left reply) e (record {
+      allowed = allowed;
+      process = purges.process;
+      process' = purges.process';
+      found = found;
+      purges = told.1;
+      processes = sym is_set;
+      stays = refl;
+      reply_is = is;
+    })

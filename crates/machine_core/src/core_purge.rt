@@ -1,0 +1,85 @@
+//! The event of a process that gives everything back.
+
+ghost use Rattle.std.specs.Prelude.{◌≡◌, ◌⊎◌, ◌<◌, length};
+ghost use Rattle.machine_core.specs.MachineRun.{Refuses};
+ghost use Rattle.machine_core.specs.PurgeEvent.{purge_reason, purge_refusal, PurgesAt, PurgesOnce, IsDone};
+
+use crate::error::EventRefusal;
+use crate::event::Reply;
+use crate::machine::Core;
+use crate::pager_side::PagerSide;
+use crate::process_side::ProcessSide;
+use crate::purging::{PurgeRefusal, Purging, purge, purge_bars};
+use clock_policy::Clock;
+use std::sync::ledger::Ledger;
+use swap_slots::{SlotPool, SwapSlot};
+
+impl<L: Ledger, S: SwapSlot, C: Clock> Core<L, S, C> {
+    /// An ended process gives its frames and slots back.
+    pub(crate) fn purge(&mut self, process: u32) -> Reply
+        ensures { Refuses (purge_refusal process self.old.processes) self.old self.new result ⊎ PurgesOnce process self.old self.new result }
+    {
+        let refusal = purge_refusal(self.processes.as_slice(), process);
+        if let Some(refusal) = refusal {
+            return Reply::Refused(refusal);
+        }
+        let purging = purge_at(
+            &mut self.pager,
+            self.processes.as_mut_slice(),
+            process as usize,
+            &mut self.slots,
+        );
+        done_reply(purging)
+    }
+}
+
+/// Why a process's purge is refused, if it is.
+fn purge_refusal<L: Ledger, S: SwapSlot>(
+    processes: &[ProcessSide<L, S>],
+    process: u32,
+) -> Option<EventRefusal>
+    ensures { result ≡ purge_refusal process processes.now }
+{
+    let Some(side) = processes.get(process as usize) else {
+        return Some(EventRefusal::NoProcess);
+    };
+    match purge_bars(side) {
+        Some(reason) => Some(purge_reason(reason)),
+        None => None,
+    }
+}
+
+/// A process's reason to give nothing back as a refusal of the event.
+fn purge_reason(reason: PurgeRefusal) -> EventRefusal
+    ensures { result ≡ purge_reason reason }
+{
+    match reason {
+        PurgeRefusal::NotEnded => EventRefusal::NotEnded,
+        PurgeRefusal::SavingStill => EventRefusal::SavingStill,
+        PurgeRefusal::AlreadyPurged => EventRefusal::Purged,
+    }
+}
+
+/// A purge of the process of this number.
+fn purge_at<L: Ledger, S: SwapSlot, C: Clock>(
+    pager: &mut PagerSide<L, C>,
+    processes: &mut [ProcessSide<L, S>],
+    process: usize,
+    slots: &mut SlotPool<S>,
+) -> Purging<L, S>
+    requires { process < length processes.old }
+    ensures { PurgesAt pager.old pager.new process processes.old processes.new slots.old slots.new result }
+{
+    purge(pager, &mut processes[process], slots)
+}
+
+/// What is replied where everything was given back.
+fn done_reply<L: Ledger, S: SwapSlot>(purging: Purging<L, S>) -> Reply
+    requires { IsDone purging }
+    ensures { result ≡ Reply.Purged }
+{
+    match purging {
+        Purging::Done => Reply::Purged,
+        Purging::Refused(_) | Purging::HandedBack { .. } => unreachable!(),
+    }
+}

@@ -1,4 +1,5 @@
 pub mod Admissions
+pub mod Collects
 pub mod Cores
 pub mod Counted
 pub mod EventOrders

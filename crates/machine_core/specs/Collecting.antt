@@ -1,5 +1,8 @@
 -- A page that is to leave its frame is looked at: what becomes of its process, of the pager and of the free slots.
-use Rattle.std.specs.Prelude.{◌≡◌, ◌≢◌, ℕ, ◌^◌, ◌<◌, Bool, true, false, Option, Some, None, List, [], ◌∷◌, ◌++◌, length}
+use Rattle.std.specs.Prelude.{◌≡◌, ◌≢◌, ℕ, ◌^◌, ◌<◌, Bool, true, false, Option, Some, None, List, [], ◌∷◌, ◌++◌, length, slice_get, slice_set, if◌then◌else◌}
+use Rattle.clock_policy.specs.declared.key.Key.{Key}
+use Rattle.clock_policy.specs.declared.refusal.Refusal.{Refusal}
+use Rattle.clock_policy.specs.declared.refusal.Refusal.TheVariants as list
 use Rattle.frame_pool.specs.FrameValue.{FrameValue}
 use Rattle.page_store.specs.JobValue.{JobValue}
 use Rattle.page_store.specs.Kept.{kept}
@@ -12,15 +15,21 @@ use Rattle.page_store.specs.declared.state.PageState.TheVariants as stage
 use Rattle.page_store.specs.PageValue.{PageValue, Place, Fresh, Leaving, Saving, Away, changed}
 use Rattle.pager_core.specs.Pager.{tallied}
 use Rattle.paged_memory.specs.Calls.{ChangesBy}
-use Rattle.paged_memory.specs.Paged.{page_at}
+use Rattle.paged_memory.specs.Paged.{page_at, memory_of}
 use Rattle.paged_memory.specs.Soundness.{is_held}
 use Rattle.space_core.specs.StandsFor.{SpaceValue}
 use Rattle.swap_slots.specs.PoolValue.{PoolValue}
 use Rattle.machine_core.specs.Admitting.{stage_at}
+use Rattle.machine_core.specs.declared.error.EventRefusal.{EventRefusal}
+use Rattle.machine_core.specs.declared.error.EventRefusal.TheVariants as refusal
+use Rattle.machine_core.specs.declared.event.Reply.{Reply}
+use Rattle.machine_core.specs.declared.event.Reply.TheVariants as reply
+use Rattle.machine_core.specs.Machine.{CoreValue}
+use Rattle.machine_core.specs.MachineRun.{of_process}
 use Rattle.machine_core.specs.Returning.{ComesBack, StaysLeaving}
 use Rattle.machine_core.specs.Sides.{PagerSideValue, ProcessSideValue}
 use Rattle.machine_core.specs.declared.collecting.Looked.{Looked}
-use Rattle.machine_core.specs.declared.collecting.Looked.TheVariants.{NotLeaving, NotYet, Freed, Dirty, NoSlot, NotRestored, Surplus}
+use Rattle.machine_core.specs.declared.collecting.Looked.TheVariants.{NotLeaving, NotYet, Freed, Dirty, NoSlot, NotRestored, HandedBack}
 
 abbrev pub is_leaving_stage : Option PageState → Bool
 is_leaving_stage None = false
@@ -122,13 +131,124 @@ module _ {S : Type 0} where
     Finds (answer.Dirty job) = StartsSaving vpn job old new slots slots'
     Finds answer.NoSlot = LacksSlot vpn old.space slots × ((new ≡ old) × (slots' ≡ slots))
 
-  module _ {L : Type 0} (vpn : ℕ) (pager pager' : PagerSideValue) (old new : ProcessSideValue S) (slots slots' : PoolValue S) where
+  module _ (vpn : ℕ) (pager pager' : PagerSideValue) (old new : ProcessSideValue S) (slots slots' : PoolValue S) where
+    -- nothing changes
+    pub record StaysAll : Type 0 where
+      pub pager_stays : pager' ≡ pager
+      pub process_stays : new ≡ old
+      pub slots_stay : slots' ≡ slots
+
+    -- a cache holds a translation of the page, which stays
+    pub record IsNotYet : Type 0 where
+      pub held : IsHeld vpn old.space
+      pub stays : StaysAll
+
+    -- the page goes to its backing, and its frame is free
+    pub record IsDropped : Type 0 where
+      pub frame : FrameValue
+      pub drops : Drops vpn frame old new
+      pub frees : FreesDropped frame pager pager'
+      pub slots_stay : slots' ≡ slots
+
+    -- the page goes to its backing, and its frame is not the pager's, of which all are free
+    pub record IsHandedBack (frame : FrameValue) : Type 0 where
+      pub drops : Drops vpn frame old new
+      pub full : length pager.pager.free ≡ pager.pager.size
+      pub pager_stays : pager' ≡ pager
+      pub slots_stay : slots' ≡ slots
+
+    -- the page is being saved
+    pub record IsCopied (job : JobValue S) : Type 0 where
+      pub saving : StartsSaving vpn job old new slots slots'
+      pub pager_stays : pager' ≡ pager
+
+    -- no slot is there for the page: it is taken back by the list and resident again
+    pub record LacksAndReturns : Type 0 where
+      pub lacks : LacksSlot vpn old.space slots
+      pub returns : ComesBack vpn pager pager' old new
+      pub slots_stay : slots' ≡ slots
+
+    -- no slot is there for the page, and it is leaving still, since the list does not take it back
+    pub record LacksAndLeaves (reason : Refusal) : Type 0 where
+      pub lacks : LacksSlot vpn old.space slots
+      pub leaves : StaysLeaving vpn pager pager' old new reason
+      pub slots_stay : slots' ≡ slots
+
     -- what a look at a page comes to, by its answer
-    abbrev pub Looks : Looked L S → Type 0
-    Looks NotLeaving = (is_leaving old.space vpn ≡ false) × ((pager' ≡ pager) × ((new ≡ old) × (slots' ≡ slots)))
-    Looks NotYet = IsHeld vpn old.space × ((pager' ≡ pager) × ((new ≡ old) × (slots' ≡ slots)))
-    Looks Freed = (frame : FrameValue) × (Drops vpn frame old new × (FreesDropped frame pager pager' × (slots' ≡ slots)))
-    Looks (Dirty job) = StartsSaving vpn job old new slots slots' × (pager' ≡ pager)
-    Looks NoSlot = LacksSlot vpn old.space slots × (ComesBack vpn pager pager' old new × (slots' ≡ slots))
-    Looks (NotRestored reason) = LacksSlot vpn old.space slots × (StaysLeaving vpn pager pager' old new reason × (slots' ≡ slots))
-    Looks (Surplus frame) = Drops vpn frame old new × ((length pager.pager.free ≡ pager.pager.size) × ((pager' ≡ pager) × (slots' ≡ slots)))
+    abbrev pub Looks : {L : Type 0} → Looked L S → Type 0
+    Looks NotLeaving = (is_leaving old.space vpn ≡ false) × StaysAll
+    Looks NotYet = IsNotYet
+    Looks Freed = IsDropped
+    Looks (Dirty job) = IsCopied job
+    Looks NoSlot = LacksAndReturns
+    Looks (NotRestored reason) = LacksAndLeaves reason
+    Looks (HandedBack frame) = IsHandedBack frame
+
+  -- ---- the machine's event
+
+  -- why a look at a page is refused
+  abbrev pub leaving_reason : ℕ → ProcessSideValue S → Option EventRefusal
+  leaving_reason vpn process = if is_leaving process.space vpn then None else Some refusal.NotLeaving
+
+  abbrev pub collect_refusal : Key → List (ProcessSideValue S) → Option EventRefusal
+  collect_refusal key processes = of_process (leaving_reason key.vpn) (slice_get processes key.process)
+
+  module _ (vpn : ℕ) (old new : CoreValue S) (process process' : ProcessSideValue S) (answer : Reply) where
+    -- what a look at a page of a process comes to in the machine, with the saves that are then out and the reply: the save of a
+    -- changed page is kept there; memory may be wanting where the list is to take the page back
+    pub data CollectsTo : Type 0 where
+      not_yet : IsNotYet vpn old.pager new.pager process process' old.slots new.slots → new.jobs ≡ old.jobs → answer ≡ reply.NotYet → CollectsTo
+      freed : IsDropped vpn old.pager new.pager process process' old.slots new.slots → new.jobs ≡ old.jobs → answer ≡ reply.Freed → CollectsTo
+      dirty : (job : JobValue S) → IsCopied vpn old.pager new.pager process process' old.slots new.slots job → new.jobs ≡ old.jobs ++ job ∷ [] → answer ≡ reply.Dirty → CollectsTo
+      no_slot : LacksAndReturns vpn old.pager new.pager process process' old.slots new.slots → new.jobs ≡ old.jobs → answer ≡ reply.NoSlot → CollectsTo
+      no_memory : LacksAndLeaves vpn old.pager new.pager process process' old.slots new.slots list.NoMemory → new.jobs ≡ old.jobs → answer ≡ reply.Refused refusal.NoMemory → CollectsTo
+
+  -- a page that is leaving is looked at
+  pub record CollectsOnce (held : S → List ℕ) (honest : Type 0) (key : Key) (old new : CoreValue S) (answer : Reply) : Type 0 where
+    pub allowed : collect_refusal key old.processes ≡ None
+    pub process : ProcessSideValue S
+    pub process' : ProcessSideValue S
+    pub found : slice_get old.processes key.process ≡ Some process
+    pub comes_to : CollectsTo key.vpn old new process process' answer
+    pub memory : honest → memory_of held process'.space.memory.pages ≡ memory_of held process.space.memory.pages
+    pub processes : new.processes ≡ slice_set old.processes key.process process'
+
+  -- ---- the steps of the event
+
+  -- a look at a page of the process of this number
+  pub record LooksAt (held : S → List ℕ) (honest : Type 0) {L : Type 0} (number vpn : ℕ) (pager pager' : PagerSideValue) (slots slots' : PoolValue S) (old new : List (ProcessSideValue S)) (looked : Looked L S) : Type 0 where
+    pub process : ProcessSideValue S
+    pub process' : ProcessSideValue S
+    pub found : slice_get old number ≡ Some process
+    pub how : Looks vpn pager pager' process process' slots slots' looked
+    pub memory : honest → memory_of held process'.space.memory.pages ≡ memory_of held process.space.memory.pages
+    pub is : new ≡ slice_set old number process'
+
+  -- what comes of a look at a page that is leaving in the machine, where each frame has its place and the list its pages
+  abbrev pub IsOwn : {L : Type 0} → Looked L S → Type 0
+  IsOwn NotLeaving = ⊥
+  IsOwn NotYet = Unit {0}
+  IsOwn Freed = Unit {0}
+  IsOwn (Dirty job) = Unit {0}
+  IsOwn NoSlot = Unit {0}
+  IsOwn (NotRestored reason) = reason ≡ list.NoMemory
+  IsOwn (HandedBack frame) = ⊥
+
+  -- the saves that are out after it, and the reply
+  abbrev pub jobs_after : {L : Type 0} → Looked L S → List (JobValue S) → List (JobValue S)
+  jobs_after NotLeaving jobs = jobs
+  jobs_after NotYet jobs = jobs
+  jobs_after Freed jobs = jobs
+  jobs_after (Dirty job) jobs = jobs ++ job ∷ []
+  jobs_after NoSlot jobs = jobs
+  jobs_after (NotRestored reason) jobs = jobs
+  jobs_after (HandedBack frame) jobs = jobs
+
+  abbrev pub looked_reply : {L : Type 0} → Looked L S → Reply
+  looked_reply NotLeaving = reply.Refused refusal.NotLeaving
+  looked_reply NotYet = reply.NotYet
+  looked_reply Freed = reply.Freed
+  looked_reply (Dirty job) = reply.Dirty
+  looked_reply NoSlot = reply.NoSlot
+  looked_reply (NotRestored reason) = reply.Refused refusal.NoMemory
+  looked_reply (HandedBack frame) = reply.Freed

@@ -1,6 +1,7 @@
 pub mod Admitting
 pub mod Applying
 pub mod ApplyingLaws
+pub mod CollectLaws
 pub mod Collecting
 pub mod Faithful
 pub mod Headline

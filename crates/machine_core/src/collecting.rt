@@ -27,8 +27,9 @@ pub enum Looked<L: Ledger, S: SwapSlot> {
     NoSlot,
     /// The same, but the list did not take it back: it is leaving still.
     NotRestored(Refusal),
-    /// It was unchanged and has left its frame, which is not one of this pager's: all of those are free.
-    Surplus(Frame<L>),
+    /// It was unchanged and has left its frame. All frames of the pager are free, so that its frame is another pager's, and
+    /// is handed back.
+    HandedBack(Frame<L>),
 }
 
 /// Looks whether a page that is leaving can let its frame go: no cache may hold a translation of it. An unchanged page
@@ -48,7 +49,7 @@ pub fn collect<L: Ledger, S: SwapSlot, C: Clock>(
         Collected::NotYet => Looked::NotYet,
         Collected::Clean(frame) => match pager.free_dropped(frame) {
             Ok(()) => Looked::Freed,
-            Err(frame) => Looked::Surplus(frame),
+            Err(frame) => Looked::HandedBack(frame),
         },
         Collected::Dirty(job) => Looked::Dirty(job),
         Collected::NoSlot => match bring_back(pager, process, vpn) {

@@ -7,6 +7,7 @@
 mod admission;
 mod apply;
 mod collecting;
+mod core_collect;
 mod core_page_in;
 mod core_purge;
 mod core_steps;

@@ -1,0 +1,274 @@
+-- The machine stays one by a look at a page, and what that comes to.
+use Rattle.std.proofs.Common.{◌≡◌, ℕ, ◌+◌, ◌<◌, ◌^◌, Bool, true, false, cond, nat_lt, take, drop, List, [], ◌∷◌, ◌++◌, length, length-append, Option, Some, None, option_map, slice_get, refl, sym, ap, ◌∙◌, arith, subst}
+use Rattle.std.specs.Prelude.{slice_set, All, if◌then◌else◌}
+use Rattle.std.proofs.lemmas.List.{length-set}
+use Rattle.std.proofs.lemmas.List.Elements.{All-nil, All-cons, All-append}
+use borrow.Author.Tests.{ltb-true}
+use Rattle.clock_policy.specs.declared.key.Key.{Key}
+use Rattle.clock_policy.specs.declared.refusal.Refusal.{Refusal}
+use Rattle.clock_policy.specs.declared.refusal.Refusal.TheVariants as list
+use Rattle.clock_policy.specs.AdmitLaws.{one_key}
+use Rattle.clock_policy.specs.Lawful.{Lawful}
+use Rattle.page_store.specs.JobValue.{JobValue}
+use Rattle.page_store.specs.PageValue.{PageValue, Place, Fresh, Resident, Leaving, Saving, Away, Purged, state_of, frame_of}
+use Rattle.paged_memory.specs.Counting.{is_resident_place, is_saving_place, frame_passes}
+use Rattle.paged_memory.specs.Paged.{page_at}
+use Rattle.space_core.specs.StandsFor.{SpaceValue}
+use Rattle.swap_slots.specs.PoolValue.{PoolValue}
+use Rattle.machine_core.specs.declared.collecting.Looked.{Looked}
+use Rattle.machine_core.specs.declared.collecting.Looked.TheVariants.{NotLeaving, NotYet, Freed, Dirty, NoSlot, NotRestored, HandedBack}
+use Rattle.machine_core.specs.declared.error.EventRefusal.TheVariants as refusal
+use Rattle.machine_core.specs.declared.event.Reply.{Reply}
+use Rattle.machine_core.specs.Collecting.{is_leaving, is_leaving_stage, IsLeaving, leaving_reason, collect_refusal, Looks, IsDropped, IsCopied, LacksAndReturns, LacksAndLeaves, CollectsTo, CollectsOnce, LooksAt, IsOwn, jobs_after, looked_reply, not_yet, freed, dirty, no_slot, no_memory}
+use Rattle.machine_core.specs.CollectLaws.{dropped_together, dropped_rest, copied_together, copied_savings, copied_slots, copied_stays, copied_now, copied_place}
+use Rattle.machine_core.specs.Machine.{CoreValue, IsMachine, IsOut, jobs_where, total}
+use Rattle.machine_core.specs.MachineRun.{of_process}
+use Rattle.machine_core.specs.ReturnLaws.{returned_rest, listed_frames, back_together}
+use Rattle.machine_core.specs.Sides.{PagerSideValue, ProcessSideValue}
+use Rattle.machine_core.specs.SweepLaws.{LeavesRest}
+use Rattle.machine_core.specs.Together.{Together, key_of}
+use Rattle.machine_core.proofs.Cores.{lent_back}
+use Rattle.machine_core.proofs.Counted.{HoldsFrame, frame_missing, job_fits, takes_back}
+use Rattle.machine_core.proofs.Kept.{Moves, moved_machine, out_stays, SavingsStay}
+use Rattle.machine_core.proofs.Totals.{get_set_same}
+
+-- a refusal that can be no other is want of memory
+only_memory : (reason : Refusal) → ((reason ≡ list.NoMemory → ⊥) → ⊥) → reason ≡ list.NoMemory
+only_memory list.AlreadyResident h = absurd (h (λ e. cc))
+only_memory list.NoQuestion h = absurd (h (λ e. cc))
+only_memory list.NotThere h = absurd (h (λ e. cc))
+only_memory list.Full h = absurd (h (λ e. cc))
+only_memory list.NoMemory h = refl
+
+module _ {S : Type 0} where
+  -- ---- a page that is leaving holds a frame, and is neither resident nor being saved
+
+  pub leaving_found : (space : SpaceValue S) (vpn : ℕ) → is_leaving space vpn ≡ true → IsLeaving vpn space
+  leaving_found space vpn h =
+      elim (nat_lt vpn (2 ^ 20)) as (λ t. nat_lt vpn (2 ^ 20) ≡ t → is_leaving_stage (if t then option_map (λ page. state_of page.place) (page_at space.memory.pages vpn) else None) ≡ true → IsLeaving vpn space) [
+        | true ↦ λ small is. by_page (ltb-true vpn (2 ^ 20) small) (page_at space.memory.pages vpn) refl is
+        | false ↦ λ large is. cc
+      ] refl h
+    where
+      by_place : vpn < 2 ^ 20 → (page : PageValue S) → page_at space.memory.pages vpn ≡ Some page → (place : Place S) → page.place ≡ place → is_leaving_stage (Some (state_of place)) ≡ true → IsLeaving vpn space
+      by_place small page found Fresh at is = cc
+      by_place small page found (Resident frame slot) at is = cc
+      by_place small page found (Leaving frame slot mark) at is = record { small = small; page = page; frame = frame; slot = slot; mark = mark; found = found; leaving = at }
+      by_place small page found (Saving frame) at is = cc
+      by_place small page found (Away slot) at is = cc
+      by_place small page found Purged at is = cc
+
+      by_page : vpn < 2 ^ 20 → (o : Option (PageValue S)) → page_at space.memory.pages vpn ≡ o → is_leaving_stage (option_map (λ page. state_of page.place) o) ≡ true → IsLeaving vpn space
+      by_page small None found is = cc
+      by_page small (Some page) found is = by_place small page found page.place refl is
+
+  abbrev leaving_holds : (space : SpaceValue S) (vpn : ℕ) → IsLeaving vpn space → HoldsFrame space vpn
+  leaving_holds space vpn leaving = record {
+    small = leaving.small;
+    page = leaving.page;
+    at = leaving.found;
+    framed = ap (λ p. frame_passes (λ _. true) (frame_of p)) leaving.leaving;
+    apart = ap is_resident_place leaving.leaving;
+  }
+
+  -- ---- sums of saves
+
+  more_jobs : (test : Key → Bool) (jobs : List (JobValue S)) (job : JobValue S) → jobs_where test (jobs ++ job ∷ []) ≡ jobs_where test jobs + cond (test (key_of job.process job.vpn)) 1 0
+  unfolding jobs_where total
+  more_jobs test [] job = omega arith
+  more_jobs test (other ∷ jobs) job = omega (arith, more_jobs test jobs job)
+
+  -- ---- the moves
+
+  module _ (core core' : CoreValue S) (p : ℕ) (q q' : ProcessSideValue S) (machine : IsMachine core) (found : slice_get core.processes p ≡ Some q) (processes : core'.processes ≡ slice_set core.processes p q') where
+    -- where neither slots nor saves change
+    quiet_moves : Together core.pager.pager core'.pager.pager q.space q'.space → Lawful core'.pager.pager.list → core'.pager.pager.list.frames ≡ core'.pager.pager.size → LeavesRest q.space q'.space → core'.slots ≡ core.slots → core'.jobs ≡ core.jobs → Moves core core' p q q'
+    unfolding SavingsStay
+    quiet_moves together lawful frames rest slots jobs = record {
+      found = found;
+      processes = processes;
+      together = together;
+      lawful = lawful;
+      frames = frames;
+      saved = λ test.
+          let same : jobs_where test core'.jobs ≡ jobs_where test core.jobs = ap (jobs_where test) jobs in
+          let a = rest.savings test in
+          omega (arith, same, a);
+      slotted =
+          let free : length core'.slots.free ≡ length core.slots.free = ap (λ (s : PoolValue S). length s.free) slots in
+          let same : length core'.jobs ≡ length core.jobs = ap length jobs in
+          let a = rest.slots in
+          omega (arith, free, same, a);
+      slots = ap (λ (s : PoolValue S). s.size) slots;
+      out = subst (λ l. All (IsOut l) core'.jobs) (sym processes) (subst (All (IsOut (slice_set core.processes p q'))) (sym jobs) (out_stays core.processes p q q' core.jobs found (λ v page frame small at saving. rest.stay v page frame at saving) machine.out));
+    }
+
+    same_rest : q' ≡ q → LeavesRest q.space q'.space
+    same_rest same = subst (λ (r : ProcessSideValue S). LeavesRest q.space r.space) (sym same) (record { savings = λ test. refl; slots = refl; stay = λ v page frame at saving. at })
+
+    stays_together : core'.pager ≡ core.pager → q' ≡ q → Together core.pager.pager core'.pager.pager q.space q'.space
+    stays_together pager same =
+        subst (λ (r : ProcessSideValue S). Together core.pager.pager core'.pager.pager q.space r.space) (sym same)
+        (subst (λ (s : PagerSideValue). Together core.pager.pager s.pager q.space q.space) (sym pager) (record { listed = λ test. refl; framed = λ test. refl; size = refl; process = refl }))
+
+    lawful_still : core'.pager ≡ core.pager → Lawful core'.pager.pager.list
+    lawful_still pager = subst (λ (s : PagerSideValue). Lawful s.pager.list) (sym pager) machine.lawful
+
+    frames_still : core'.pager ≡ core.pager → core'.pager.pager.list.frames ≡ core'.pager.pager.size
+    frames_still pager = subst (λ (s : PagerSideValue). s.pager.list.frames ≡ s.pager.size) (sym pager) machine.frames
+
+    stays_moves : core'.pager ≡ core.pager → q' ≡ q → core'.slots ≡ core.slots → core'.jobs ≡ core.jobs → Moves core core' p q q'
+    stays_moves pager same slots jobs = quiet_moves (stays_together pager same) (lawful_still pager) (frames_still pager) (same_rest same) slots jobs
+
+    module _ (vpn : ℕ) where
+      dropped_moves : IsDropped vpn core.pager core'.pager q q' core.slots core'.slots → core'.jobs ≡ core.jobs → Moves core core' p q q'
+      dropped_moves dropped jobs =
+          let together = dropped_together vpn core.pager core'.pager q q' core.slots core'.slots dropped in
+          quiet_moves together
+          (subst (λ (s : PagerSideValue). Lawful s.pager.list) (sym dropped.frees.is) machine.lawful)
+          (subst (λ (s : PagerSideValue). s.pager.list.frames ≡ s.pager.size) (sym dropped.frees.is) machine.frames)
+          (dropped_rest vpn dropped.frame q q' dropped.drops) dropped.slots_stay jobs
+
+      returned_moves : LacksAndReturns vpn core.pager core'.pager q q' core.slots core'.slots → core'.jobs ≡ core.jobs → Moves core core' p q q'
+      returned_moves back jobs =
+          let together = back_together vpn core.pager core'.pager q q' back.returns in
+          quiet_moves together back.returns.listed.lawful
+          (listed_frames (key_of q.space.memory.process vpn) core.pager core'.pager back.returns.listed ∙ machine.frames ∙ sym together.size)
+          (returned_rest vpn q q' back.returns.mapped) back.slots_stay jobs
+
+      copied_moves : (job : JobValue S) → IsCopied vpn core.pager core'.pager q q' core.slots core'.slots job → core'.jobs ≡ core.jobs ++ job ∷ [] → Moves core core' p q q'
+      unfolding SavingsStay
+      copied_moves job copied jobs =
+          let saving = copied.saving in
+          let number : job.process ≡ p = saving.process ∙ machine.numbered p q found in
+          let out : IsOut core'.processes job = record {
+            process = q';
+            page = saving.page.page';
+            frame = saving.page.how.frame;
+            small = subst (λ n. n < 2 ^ 20) (sym saving.vpn_is) saving.small;
+            found = ap (slice_get core'.processes) number ∙ ap (λ l. slice_get l p) processes ∙ get_set_same core.processes p q q' found;
+            at = ap (page_at q'.space.memory.pages) saving.vpn_is ∙ copied_now vpn job q q' core.slots core'.slots saving;
+            saving = copied_place vpn job q q' core.slots core'.slots saving;
+            same = sym saving.page.how.copy;
+          } in
+          let others : All (IsOut core'.processes) core.jobs = subst (λ l. All (IsOut l) core.jobs) (sym processes) (out_stays core.processes p q q' core.jobs found (λ v page frame small at is. copied_stays vpn job q q' core.slots core'.slots saving v page frame at is) machine.out) in
+          record {
+            found = found;
+            processes = processes;
+            together = copied_together vpn core.pager core'.pager q q' core.slots core'.slots job copied;
+            lawful = lawful_still copied.pager_stays;
+            frames = frames_still copied.pager_stays;
+            saved = λ test.
+                let more : jobs_where test core'.jobs ≡ jobs_where test core.jobs + cond (test (key_of job.process job.vpn)) 1 0 = ap (jobs_where test) jobs ∙ more_jobs test core.jobs job in
+                let key : cond {A = ℕ} (test (key_of job.process job.vpn)) 1 0 ≡ cond (test (key_of q.space.memory.process vpn)) 1 0 = ap (λ k. cond {A = ℕ} (test k) 1 0) (one_key (key_of job.process job.vpn) (key_of q.space.memory.process vpn) saving.process saving.vpn_is) in
+                let one = copied_savings vpn job q q' core.slots core'.slots saving test in
+                omega (arith, more, key, one);
+            slotted =
+                let more : length core'.jobs ≡ length core.jobs + 1 = ap length jobs ∙ length-append core.jobs (job ∷ []) in
+                let one = copied_slots vpn job q q' core.slots core'.slots saving in
+                omega (arith, more, one);
+            slots = saving.size;
+            out = subst (All (IsOut core'.processes)) (sym jobs) (All-append (IsOut core'.processes) core.jobs (job ∷ []) others (All-cons (IsOut core'.processes) job [] out (All-nil _)));
+          }
+
+      -- the machine stays one, whatever its own look comes to
+      pub looked_moves : {L : Type 0} (looked : Looked L S) → Looks vpn core.pager core'.pager q q' core.slots core'.slots looked → IsOwn looked → core'.jobs ≡ jobs_after looked core.jobs → Moves core core' p q q'
+      looked_moves NotLeaving how own jobs = absurd own
+      looked_moves NotYet how own jobs = stays_moves how.stays.pager_stays how.stays.process_stays how.stays.slots_stay jobs
+      looked_moves Freed how own jobs = dropped_moves how jobs
+      looked_moves (Dirty job) how own jobs = copied_moves job how jobs
+      looked_moves NoSlot how own jobs = returned_moves how jobs
+      looked_moves (NotRestored reason) how own jobs = stays_moves how.leaves.unlisted.stays how.leaves.stays how.slots_stay jobs
+      looked_moves (HandedBack frame) how own jobs = absurd own
+
+      -- and what it comes to
+      pub looked_to : {L : Type 0} (looked : Looked L S) (answer : Reply) → Looks vpn core.pager core'.pager q q' core.slots core'.slots looked → IsOwn looked → core'.jobs ≡ jobs_after looked core.jobs → answer ≡ looked_reply looked → CollectsTo vpn core core' q q' answer
+      looked_to NotLeaving answer how own jobs is = absurd own
+      looked_to NotYet answer how own jobs is = not_yet how jobs is
+      looked_to Freed answer how own jobs is = freed how jobs is
+      looked_to (Dirty job) answer how own jobs is = dirty job how jobs is
+      looked_to NoSlot answer how own jobs is = no_slot how jobs is
+      looked_to (NotRestored reason) answer how own jobs is = no_memory (subst (LacksAndLeaves vpn core.pager core'.pager q q' core.slots core'.slots) own how) jobs is
+      looked_to (HandedBack frame) answer how own jobs is = absurd own
+
+  -- ---- what a look comes to in the machine
+
+  module _ (core : CoreValue S) (p : ℕ) (q q' : ProcessSideValue S) (vpn : ℕ) (machine : IsMachine core) (found : slice_get core.processes p ≡ Some q) (leaving : is_leaving q.space vpn ≡ true) where
+    holds : HoldsFrame q.space vpn
+    holds = leaving_holds q.space vpn (leaving_found q.space vpn leaving)
+
+    pub looked_own : {L : Type 0} (pager' : PagerSideValue) (slots' : PoolValue S) (looked : Looked L S) → Looks vpn core.pager pager' q q' core.slots slots' looked → IsOwn looked
+    looked_own pager' slots' NotLeaving how = let no = how.0 in let yes = leaving in cc
+    looked_own pager' slots' NotYet how = tt
+    looked_own pager' slots' Freed how = tt
+    looked_own pager' slots' (Dirty job) how = tt
+    looked_own pager' slots' NoSlot how = tt
+    looked_own pager' slots' (NotRestored reason) how = only_memory reason (λ apart. takes_back core p q vpn machine found holds reason (how.leaves.unlisted.why apart))
+    looked_own pager' slots' (HandedBack frame) how = let missing = frame_missing core p q vpn machine found holds in let full = how.full in absurd (omega (arith, missing, full))
+
+    -- a save of the page has room
+    pub looked_room : length core.jobs < core.pager.pager.size
+    unfolding holds
+    looked_room = job_fits core p q vpn machine found holds (unsaving (leaving_found q.space vpn leaving))
+      where
+        unsaving : (l : IsLeaving vpn q.space) → is_saving_place l.page.place ≡ false
+        unsaving l = ap is_saving_place l.leaving
+
+  -- ---- the event
+
+  allowed_leaving : (vpn : ℕ) (q : ProcessSideValue S) → leaving_reason vpn q ≡ None → is_leaving q.space vpn ≡ true
+  allowed_leaving vpn q h = by_answer (is_leaving q.space vpn) h
+    where
+      by_answer : (b : Bool) → (if b then None else Some refusal.NotLeaving) ≡ None → b ≡ true
+      by_answer true h = refl
+      by_answer false h = cc
+
+  module _ (held : S → List ℕ) (honest : Type 0) (L : Type 0) (pager pager' : PagerSideValue) (slots slots' : PoolValue S) (jobs : List (JobValue S)) (items lent new : List (ProcessSideValue S)) (n : ℕ) (key : Key) (looked : Looked L S)
+      (machine : IsMachine (record { pager = pager; slots = slots; processes = items; jobs = jobs })) (allowed : collect_refusal key items ≡ None)
+      (long : n ≡ length items) (same : lent ≡ items) (looks : LooksAt held honest key.process key.vpn pager pager' slots slots' lent new looked) where
+    abbrev core : CoreValue S
+    core = record { pager = pager; slots = slots; processes = items; jobs = jobs }
+
+    found : slice_get items key.process ≡ Some looks.process
+    found = ap (λ l. slice_get l key.process) (sym same) ∙ looks.found
+
+    is_set : take n (new ++ drop (length new) items) ≡ slice_set items key.process looks.process'
+    is_set =
+        let is : new ≡ slice_set items key.process looks.process' = looks.is ∙ ap (λ l. slice_set l key.process looks.process') same in
+        lent_back items new n long (ap length is ∙ length-set items key.process looks.process') ∙ is
+
+    leaving : is_leaving looks.process.space key.vpn ≡ true
+    leaving = allowed_leaving key.vpn looks.process (ap (of_process (leaving_reason key.vpn)) (sym found) ∙ allowed)
+
+    pub own : IsOwn looked
+    own = looked_own core key.process looks.process looks.process' key.vpn machine found leaving pager' slots' looked looks.how
+
+    pub room : length jobs < pager.pager.size
+    room = looked_room core key.process looks.process looks.process' key.vpn machine found leaving
+
+    module _ (jobs' : List (JobValue S)) (answer : Reply) (kept : jobs' ≡ jobs_after looked jobs) (is : answer ≡ looked_reply looked) where
+      abbrev core' : CoreValue S
+      core' = record { pager = pager'; slots = slots'; processes = take n (new ++ drop (length new) items); jobs = jobs' }
+
+      moves : Moves core core' key.process looks.process looks.process'
+      moves = looked_moves core core' key.process looks.process looks.process' machine found is_set key.vpn looked looks.how own kept
+
+      pub collected_back : IsMachine core'
+      collected_back = moved_machine core core' key.process looks.process looks.process' machine moves
+
+      pub collected_size : pager'.pager.size ≡ pager.pager.size
+      collected_size = moves.together.size
+
+      collected_once : CollectsOnce held honest key core core' answer
+      collected_once = record {
+        allowed = allowed;
+        process = looks.process;
+        process' = looks.process';
+        found = found;
+        comes_to = looked_to core core' key.process looks.process looks.process' machine found is_set key.vpn looked answer looks.how own kept is;
+        memory = looks.memory;
+        processes = is_set;
+      }
+
+      pub collected_told : (old : CoreValue S) → core ≡ old → CollectsOnce held honest key old core' answer
+      collected_told old e = subst (λ o. CollectsOnce held honest key o core' answer) e collected_once

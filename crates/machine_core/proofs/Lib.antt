@@ -6,6 +6,7 @@ pub mod EventOrders
 pub mod Finding
 pub mod GivenPages
 pub mod Invisible
+pub mod JobsOut
 pub mod Kept
 pub mod KeptPages
 pub mod Looking
@@ -18,5 +19,7 @@ pub mod Peeked
 pub mod PurgeEvents
 pub mod PurgeSteps
 pub mod Shown
+pub mod SavesOut
+pub mod SavingPages
 pub mod Sweeps
 pub mod Totals

@@ -21,6 +21,7 @@ pub mod ReturnLaws
 pub mod Returning
 pub mod SavingBack
 pub mod SavingLaws
+pub mod SavingOut
 pub mod Sides
 pub mod SweepLaws
 pub mod Sweeping

@@ -10,6 +10,7 @@ mod collecting;
 mod core_collect;
 mod core_page_in;
 mod core_purge;
+mod core_saved;
 mod core_steps;
 mod error;
 mod event;

@@ -1,0 +1,290 @@
+-- A save that was out comes back: its end is one that the machine answers, and the machine stays one.
+use Rattle.std.proofs.Common.{◌≡◌, ℕ, zero, suc, ◌+◌, ◌≤◌, ◌<◌, ◌^◌, Bool, true, false, cond, List, [], ◌∷◌, length, Some, None, slice_get, take, drop, ◌++◌, inl, inr, refl, sym, ap, ◌∙◌, arith, subst}
+use Rattle.std.specs.Prelude.{slice_set, All}
+use Rattle.std.proofs.lemmas.Bool.Decides.{eqb_tells}
+use Rattle.std.proofs.lemmas.List.{length-set}
+use Rattle.std.proofs.lemmas.List.Elements.{All-nil, All-cons, All-head, All-tail}
+use Rattle.std.proofs.lemmas.List.Sorted.{All-permutation, length_permutation}
+use Rattle.clock_policy.specs.declared.key.Key.{Key}
+use Rattle.clock_policy.specs.declared.refusal.Refusal.{Refusal}
+use Rattle.clock_policy.specs.declared.refusal.Refusal.TheVariants.{AlreadyResident, NoQuestion, NotThere, Full, NoMemory}
+use Rattle.clock_policy.specs.AdmitLaws.{one_key}
+use Rattle.clock_policy.specs.Residents.{is_key}
+use Rattle.frame_pool.specs.FrameValue.{FrameValue}
+use Rattle.page_store.specs.JobValue.{JobValue, SavedValue}
+use Rattle.page_store.specs.Moves.{IfSaving}
+use Rattle.page_store.specs.PageValue.{PageValue, Place, Saving, frame_of}
+use Rattle.paged_memory.specs.Counting.{is_resident_place, is_saving_place, frame_passes}
+use Rattle.paged_memory.specs.Leaving.{IsSaving}
+use Rattle.paged_memory.specs.Leaving as pages
+use Rattle.paged_memory.specs.Paged.{page_at}
+use Rattle.machine_core.specs.declared.event.Reply.{Reply}
+use Rattle.machine_core.specs.declared.saving_back.SaveFailure.{SaveFailure}
+use Rattle.machine_core.specs.declared.saving_back.SaveFailure.TheVariants.{Mismatch, Device}
+use Rattle.machine_core.specs.declared.saving_back.SaveOutcome.{SaveOutcome}
+use Rattle.machine_core.specs.declared.saving_back.SaveOutcome.TheVariants.{Freed, HandedBack, WrongPage, ResidentAgain, NotRestored}
+use Rattle.machine_core.specs.Machine.{CoreValue, IsMachine, IsOut, total, jobs_where}
+use Rattle.machine_core.specs.Returning.{DoesNotList}
+use Rattle.machine_core.specs.SavingBack.{EndsSave, Settles, LeavesAgain, FailsAndReturns, FailsAndLeaves}
+use Rattle.machine_core.specs.SavingLaws.{SaveEnds, freed_ends, returned_ends, left_ends}
+use Rattle.machine_core.specs.SavingOut.{saved_refusal, is_of_page, MakesSave, EndsWith, SavesOnce, SavedAt, IsOwn, RepliesTo}
+use Rattle.machine_core.specs.Sides.{PagerSideValue, ProcessSideValue}
+use Rattle.machine_core.specs.Together.{savings_in, key_of}
+use Rattle.swap_slots.specs.PoolValue.{PoolValue}
+use Rattle.machine_core.proofs.Cores.{lent_back}
+use Rattle.machine_core.proofs.Counted.{HoldsFrame, frame_missing, takes_back}
+use Rattle.machine_core.proofs.Finding.{total_some}
+use Rattle.machine_core.proofs.Kept.{moved_machine}
+use Rattle.machine_core.proofs.Totals.{total_set, got_set, get_set_same, get_set_other}
+use Rattle.machine_core.proofs.JobsOut.{same_key, total_permuted}
+use Rattle.machine_core.proofs.SavingPages.{saving_counted}
+
+module _ {S : Type 0} where
+  held_frame : (place : Place S) (frame : FrameValue) → place ≡ Saving frame → (frame_passes (λ _. true) (frame_of place) ≡ true) × (is_resident_place place ≡ false)
+  held_frame place frame is = (ap (λ p. frame_passes (λ _. true) (frame_of p)) is, ap is_resident_place is)
+
+  module _ (held : S → List ℕ) (honest : Type 0) (failures : S → ℕ) (core : CoreValue S) (key : Key) (q : ProcessSideValue S) (jobs' : List (JobValue S)) (saved : SavedValue S)
+      (machine : IsMachine core) (found : slice_get core.processes key.process ≡ Some q) (makes : MakesSave held honest failures key core.jobs jobs' saved) where
+    outs : All (IsOut core.processes) (makes.job ∷ jobs')
+    outs = All-permutation (IsOut core.processes) core.jobs (makes.job ∷ jobs') makes.taken machine.out
+
+    out : IsOut core.processes makes.job
+    out = All-head (IsOut core.processes) makes.job jobs' outs
+
+    here : out.process ≡ q
+    here = let a = out.found in let b = found in let c = makes.job_process in cc
+
+    vpn_is : saved.vpn ≡ key.vpn
+    vpn_is = makes.page ∙ makes.job_page
+
+    number : q.space.memory.process ≡ key.process
+    number = machine.numbered key.process q found
+
+    small : saved.vpn < 2 ^ 20
+    small = let s = out.small in let e = makes.page in omega (arith, s, e)
+
+    at : page_at q.space.memory.pages saved.vpn ≡ Some out.page
+    at = ap (page_at q.space.memory.pages) makes.page ∙ ap (λ (r : ProcessSideValue S). page_at r.space.memory.pages makes.job.vpn) (sym here) ∙ out.at
+
+    holds : HoldsFrame q.space saved.vpn
+    holds =
+        let h = held_frame out.page.place out.frame out.saving in
+        record { small = small; page = out.page; at = at; framed = h.0; apart = h.1 }
+
+    found_out : pages.IsOut q.space.memory.process saved q.space.memory.pages
+    found_out = (
+      makes.process ∙ makes.job_process ∙ sym number,
+      (small, subst IsSaving (sym at) (subst (λ (p : Place S). IfSaving p (λ _. Unit {0})) (sym out.saving) tt)),
+    )
+
+    -- the frame holds what was copied, so that it is the device that failed
+    device_failed : (failure : SaveFailure) (q' : ProcessSideValue S) → Settles saved (LeavesAgain failure saved) q q' → failure ≡ Device
+    device_failed Device q' settles = refl
+    device_failed Mismatch q' settles =
+        let told = settles.page.1.1 in
+        let page : told.page ≡ out.page = let a = told.found in let b = at in cc in
+        let place : ◌≡◌ {A = Place S} (Saving told.how.frame) (Saving out.frame) = sym told.how.was ∙ ap (λ (p : PageValue S). p.place) page ∙ out.saving in
+        let frame : told.how.frame ≡ out.frame = cc in
+        absurd (told.how.failed (ap (λ (f : FrameValue). f.bytes) frame ∙ out.same ∙ sym makes.copy))
+
+    takes : (refusal : Refusal) (pager' : PagerSideValue) → DoesNotList (key_of q.space.memory.process saved.vpn) core.pager pager' refusal → (refusal ≡ NoMemory → ⊥) → ⊥
+    takes refusal pager' unlisted other = takes_back core key.process q saved.vpn machine found holds refusal (unlisted.why other)
+
+    only_memory : (refusal : Refusal) (pager' : PagerSideValue) → DoesNotList (key_of q.space.memory.process saved.vpn) core.pager pager' refusal → refusal ≡ NoMemory
+    only_memory AlreadyResident pager' unlisted = absurd (takes AlreadyResident pager' unlisted (λ e. cc))
+    only_memory NoQuestion pager' unlisted = absurd (takes NoQuestion pager' unlisted (λ e. cc))
+    only_memory NotThere pager' unlisted = absurd (takes NotThere pager' unlisted (λ e. cc))
+    only_memory Full pager' unlisted = absurd (takes Full pager' unlisted (λ e. cc))
+    only_memory NoMemory pager' unlisted = refl
+
+    pub own : {L : Type 0} (outcome : SaveOutcome L S) (pager' : PagerSideValue) (q' : ProcessSideValue S) → EndsSave saved core.pager pager' q q' outcome → IsOwn outcome
+    own Freed pager' q' ends = tt
+    own (HandedBack frame) pager' q' ends = let full = ends.full in let missing = frame_missing core key.process q saved.vpn machine found holds in omega (arith, full, missing)
+    own (WrongPage back) pager' q' ends = ends.why found_out
+    own (ResidentAgain failure) pager' q' ends = device_failed failure ends.between ends.settles
+    own (NotRestored failure why) pager' q' ends = (device_failed failure q' ends.settles, only_memory why pager' ends.unlisted)
+
+    pub ends_with : {L : Type 0} (outcome : SaveOutcome L S) (pager' : PagerSideValue) (q' : ProcessSideValue S) (answer : Reply) → EndsSave saved core.pager pager' q q' outcome → RepliesTo outcome answer → EndsWith saved core.pager pager' q q' answer
+    ends_with Freed pager' q' answer ends told = inl (ends, told)
+    ends_with (HandedBack frame) pager' q' answer ends told = absurd told
+    ends_with (WrongPage back) pager' q' answer ends told = absurd told
+    ends_with (ResidentAgain failure) pager' q' answer ends told = inr (inl (subst (FailsAndReturns saved core.pager pager' q q') (device_failed failure ends.between ends.settles) ends, told))
+    ends_with (NotRestored failure why) pager' q' answer ends told =
+        inr (inr (subst (λ w. FailsAndLeaves saved core.pager pager' q q' Device w) (only_memory why pager' ends.unlisted) (subst (λ f. FailsAndLeaves saved core.pager pager' q q' f why) (device_failed failure q' ends.settles) ends), told))
+
+    ended : (pager' : PagerSideValue) (q' : ProcessSideValue S) (answer : Reply) → EndsWith saved core.pager pager' q q' answer → SaveEnds saved.vpn core.pager.pager pager'.pager q.space q'.space
+    ended pager' q' answer ends =
+        elim ends [
+          | inl freed ↦ freed_ends saved core.pager pager' q q' freed.0
+          | inr failed ↦ elim failed [
+            | inl back ↦ returned_ends saved core.pager pager' q q' Device back.0
+            | inr left ↦ left_ends saved core.pager pager' q q' Device NoMemory left.0
+          ]
+        ]
+
+    -- ---- the machine stays one
+
+    module _ (pager' : PagerSideValue) (q' : ProcessSideValue S) (ends : SaveEnds saved.vpn core.pager.pager pager'.pager q.space q'.space) where
+      abbrev now : List (ProcessSideValue S)
+      now = slice_set core.processes key.process q'
+
+      this : key_of q.space.memory.process saved.vpn ≡ key
+      this = one_key _ key number vpn_is
+
+      jobs_split : (test : Key → Bool) → jobs_where test core.jobs ≡ cond (test key) 1 0 + jobs_where test jobs'
+      unfolding jobs_where total
+      jobs_split test =
+          let moved : cond (test (key_of makes.job.process makes.job.vpn)) 1 0 + total (λ (job : JobValue S). cond (test (key_of job.process job.vpn)) 1 0) jobs' ≡ total (λ (job : JobValue S). cond (test (key_of job.process job.vpn)) 1 0) core.jobs = total_permuted (λ (job : JobValue S). cond (test (key_of job.process job.vpn)) 1 0) core.jobs (makes.job ∷ jobs') makes.taken in
+          let same : cond {A = ℕ} (test (key_of makes.job.process makes.job.vpn)) 1 0 ≡ cond (test key) 1 0 = ap (λ k. cond {A = ℕ} (test k) 1 0) (one_key _ key makes.job_process makes.job_page) in
+          omega (arith, moved, same)
+
+      savings_split : (test : Key → Bool) → savings_in q'.space test + cond (test key) 1 0 ≡ savings_in q.space test
+      savings_split test = ap (λ k. savings_in q'.space test + cond (test k) 1 0) (sym this) ∙ ends.savings test
+
+      now_saved : (test : Key → Bool) → jobs_where test jobs' ≡ total (λ (r : ProcessSideValue S). savings_in r.space test) now
+      now_saved test =
+          let jobs = jobs_split test in
+          let saving = savings_split test in
+          let before = machine.saved test in
+          let set = total_set (λ (r : ProcessSideValue S). savings_in r.space test) core.processes key.process q q' found in
+          omega (arith, jobs, saving, before, set)
+
+      -- the page is saved no more
+      none_saving : (i : ℕ) (r : ProcessSideValue S) → slice_get now i ≡ Some r → 1 ≤ savings_in r.space (is_key key) → ⊥
+      none_saving i r at some =
+          let there = saving_counted r.space key some in
+          let is : r ≡ q' = elim (got_set core.processes key.process i q' r at) [
+            | inl e ↦ e.1
+            | inr old ↦
+                let i_is : i ≡ key.process = sym (machine.numbered i r old) ∙ there.0 in
+                let mine = get_set_same core.processes key.process q q' found in
+                let a = at in
+                let both : Some r ≡ Some q' = sym at ∙ ap (slice_get now) i_is ∙ mine in
+                cc
+          ] in
+          let page : there.1.page ≡ ends.page' =
+          let a : page_at q'.space.memory.pages key.vpn ≡ Some there.1.page = ap (λ (s : ProcessSideValue S). page_at s.space.memory.pages key.vpn) (sym is) ∙ there.1.at in
+          let b : page_at q'.space.memory.pages key.vpn ≡ Some ends.page' = ap (page_at q'.space.memory.pages) (sym vpn_is) ∙ ends.at in
+          cc in
+          let yes : is_saving_place ends.page'.place ≡ true = ap (λ (p : PageValue S). is_saving_place p.place) (sym page) ∙ there.1.saving in
+          let no = ends.ended in
+          cc
+
+      none_left : jobs_where (is_key key) jobs' ≡ 0
+      none_left = by_count (jobs_where (is_key key) jobs') refl
+        where
+          by_count : (n : ℕ) → jobs_where (is_key key) jobs' ≡ n → jobs_where (is_key key) jobs' ≡ 0
+          by_count zero is = is
+          by_count (suc n) is =
+              let saved_now = now_saved (is_key key) in
+              let one = total_some (λ (r : ProcessSideValue S). savings_in r.space (is_key key)) now (omega (arith, is, saved_now)) in
+              absurd (none_saving one.place one.item one.found one.some)
+
+      out_still : (job : JobValue S) → is_of_page key job ≡ false → IsOut core.processes job → IsOut now job
+      out_still job apart_of out_job =
+          elim (eqb_tells job.process key.process) [
+            | inl same ↦
+                let there : out_job.process ≡ q = let a = out_job.found in let b = found in let c = same.1 in cc in
+                let apart : job.vpn ≡ saved.vpn → ⊥ = λ e. let yes = same_key key job.process job.vpn same.1 (e ∙ vpn_is) in let no = apart_of in cc in
+                record {
+                  process = q';
+                  page = out_job.page;
+                  frame = out_job.frame;
+                  small = out_job.small;
+                  found = ap (slice_get now) same.1 ∙ get_set_same core.processes key.process q q' found;
+                  at = ends.stay job.vpn apart ∙ ap (λ (r : ProcessSideValue S). page_at r.space.memory.pages job.vpn) (sym there) ∙ out_job.at;
+                  saving = out_job.saving;
+                  same = out_job.same;
+                }
+            | inr other ↦ record {
+              process = out_job.process;
+              page = out_job.page;
+              frame = out_job.frame;
+              small = out_job.small;
+              found = get_set_other core.processes key.process job.process q' other.1 ∙ out_job.found;
+              at = out_job.at;
+              saving = out_job.saving;
+              same = out_job.same;
+            }
+          ]
+
+      outs_still : (jobs : List (JobValue S)) → jobs_where (is_key key) jobs ≡ 0 → All (IsOut core.processes) jobs → All (IsOut now) jobs
+      unfolding jobs_where total
+      outs_still [] none all = All-nil _
+      outs_still (job ∷ jobs) none all =
+          All-cons (IsOut now) job jobs
+          (out_still job (apart (is_of_page key job) refl) (All-head (IsOut core.processes) job jobs all))
+          (outs_still jobs (omega (arith, none)) (All-tail (IsOut core.processes) job jobs all))
+        where
+          apart : (b : Bool) → is_of_page key job ≡ b → is_of_page key job ≡ false
+          apart false is = is
+          apart true is = let one : cond {A = ℕ} (is_of_page key job) 1 0 ≡ 1 = ap (λ t. cond {A = ℕ} t 1 0) is in absurd (omega (arith, one, none))
+
+      pub saved_machine : IsMachine (record core { pager = pager'; processes = now; jobs = jobs' })
+      saved_machine =
+          moved_machine core (record core { pager = pager'; processes = now; jobs = jobs' }) key.process q q' machine (record {
+            found = found;
+            processes = refl;
+            together = ends.together;
+            lawful = ends.lawful machine.lawful;
+            frames = ends.frames ∙ machine.frames ∙ sym ends.together.size;
+            saved = λ test. let jobs = jobs_split test in let saving = savings_split test in omega (arith, jobs, saving);
+            slotted =
+                let long : suc (length jobs') ≡ length core.jobs = length_permutation core.jobs (makes.job ∷ jobs') makes.taken in
+                let slots = ends.slots in
+                omega (arith, long, slots);
+            slots = refl;
+            out = outs_still jobs' none_left (All-tail (IsOut core.processes) makes.job jobs' outs);
+          })
+
+  -- the processes that were lent as a slice, to one of which a save comes back
+  module _ {L : Type 0} (held : S → List ℕ) (honest : Type 0) (failures : S → ℕ) (pager pager' : PagerSideValue) (slots : PoolValue S) (jobs jobs' : List (JobValue S)) (items lent new : List (ProcessSideValue S)) (n : ℕ) (key : Key) (saved : SavedValue S) (outcome : SaveOutcome L S)
+      (machine : IsMachine (record { pager = pager; slots = slots; processes = items; jobs = jobs })) (long : n ≡ length items) (same : lent ≡ items)
+      (makes : MakesSave held honest failures key jobs jobs' saved) (at : SavedAt held honest saved pager pager' key.process lent new outcome) where
+    abbrev core : CoreValue S
+    core = record { pager = pager; slots = slots; processes = items; jobs = jobs }
+
+    abbrev after : CoreValue S
+    after = record { pager = pager'; slots = slots; processes = take n (new ++ drop (length new) items); jobs = jobs' }
+
+    found_lent : slice_get items key.process ≡ Some at.process
+    found_lent = ap (λ l. slice_get l key.process) (sym same) ∙ at.found
+
+    is_set : slice_set items key.process at.process' ≡ take n (new ++ drop (length new) items)
+    is_set =
+        let is : new ≡ slice_set items key.process at.process' = at.is ∙ ap (λ l. slice_set l key.process at.process') same in
+        sym is ∙ sym (lent_back items new n long (ap length is ∙ length-set items key.process at.process'))
+
+    pub is_own : IsOwn outcome
+    is_own = own held honest failures core key at.process jobs' saved machine found_lent makes outcome pager' at.process' at.ends
+
+    module _ (answer : Reply) (told : RepliesTo outcome answer) where
+      ends_told : EndsWith saved pager pager' at.process at.process' answer
+      ends_told = ends_with held honest failures core key at.process jobs' saved machine found_lent makes outcome pager' at.process' answer at.ends told
+
+      counts : SaveEnds saved.vpn pager.pager pager'.pager at.process.space at.process'.space
+      counts = ended held honest failures core key at.process jobs' saved machine found_lent makes pager' at.process' answer ends_told
+
+      pub saved_size : pager'.pager.size ≡ pager.pager.size
+      saved_size = counts.together.size
+
+      pub saved_back : IsMachine after
+      saved_back =
+          subst (λ l. IsMachine (record { pager = pager'; slots = slots; processes = l; jobs = jobs' })) is_set
+          (saved_machine held honest failures core key at.process jobs' saved machine found_lent makes pager' at.process' counts)
+
+      pub saved_once : (old : CoreValue S) → core ≡ old → saved_refusal key items ≡ None → SavesOnce held honest failures key old after answer
+      saved_once old is allowed =
+          subst (λ o. SavesOnce held honest failures key o after answer) is
+          (record {
+            allowed = allowed;
+            process = at.process;
+            process' = at.process';
+            found = found_lent;
+            saved = saved;
+            makes = makes;
+            ends = ends_told;
+            memory = at.memory;
+            processes = sym is_set;
+            stays = refl;
+          })

@@ -1,0 +1,99 @@
+-- A page that is being saved counts once, and its save is out.
+use Rattle.std.proofs.Common.{◌≡◌, ℕ, ◌≤◌, ◌<◌, ◌^◌, ◌==◌, ◌&&◌, Bool, true, false, not, nat_lt, List, Option, Some, None, option_map, slice_get, position, refl, sym, ap, ◌∙◌, arith}
+use Rattle.std.specs.Prelude.{if◌then◌else◌}
+use borrow.Author.Tests.{eqb-true, ltb-true}
+use Rattle.clock_policy.specs.declared.key.Key.{Key}
+use Rattle.clock_policy.specs.Residents.{is_key}
+use Rattle.page_store.specs.PageValue.{PageValue, Place, Fresh, Resident, Leaving, Saving, Away, Purged, state_of}
+use Rattle.paged_memory.specs.Counting.{is_saving_place}
+use Rattle.paged_memory.specs.Paged.{page_at}
+use Rattle.space_core.specs.StandsFor.{SpaceValue}
+use Rattle.machine_core.specs.declared.error.EventRefusal.TheVariants as refusal
+use Rattle.machine_core.specs.Machine.{CoreValue, IsMachine}
+use Rattle.machine_core.specs.MachineRun.{of_process}
+use Rattle.machine_core.specs.SavingOut.{is_saving, is_saving_stage, saving_reason, saved_refusal, is_of_page}
+use Rattle.machine_core.specs.Sides.{ProcessSideValue}
+use Rattle.machine_core.specs.Together.{savings_in, key_of}
+use Rattle.machine_core.proofs.Counted.{one_fewer_where}
+use Rattle.machine_core.proofs.Finding.{some_where}
+use Rattle.machine_core.proofs.Totals.{total_at}
+use Rattle.machine_core.proofs.JobsOut.{both_true, same_key, none_found}
+
+module _ {S : Type 0} where
+  pub record IsSavingAt (space : SpaceValue S) (vpn : ℕ) : Type 0 where
+    pub small : vpn < 2 ^ 20
+    pub page : PageValue S
+    pub at : page_at space.memory.pages vpn ≡ Some page
+    pub saving : is_saving_place page.place ≡ true
+
+  saving_place : (place : Place S) → is_saving_stage (Some (state_of place)) ≡ true → is_saving_place place ≡ true
+  saving_place Fresh h = cc
+  saving_place (Resident frame slot) h = cc
+  saving_place (Leaving frame slot mark) h = cc
+  saving_place (Saving frame) h = refl
+  saving_place (Away slot) h = cc
+  saving_place Purged h = cc
+
+  pub saving_at : (space : SpaceValue S) (vpn : ℕ) → is_saving space vpn ≡ true → IsSavingAt space vpn
+  saving_at space vpn h = by_test (nat_lt vpn (2 ^ 20)) refl h
+    where
+      by_page : (o : Option (PageValue S)) → vpn < 2 ^ 20 → page_at space.memory.pages vpn ≡ o → is_saving_stage (option_map (λ (page : PageValue S). state_of page.place) o) ≡ true → IsSavingAt space vpn
+      by_page None small at is = cc
+      by_page (Some page) small at is = record { small = small; page = page; at = at; saving = saving_place page.place is }
+
+      by_test : (b : Bool) → nat_lt vpn (2 ^ 20) ≡ b → is_saving_stage (if b then option_map (λ (page : PageValue S). state_of page.place) (page_at space.memory.pages vpn) else None) ≡ true → IsSavingAt space vpn
+      by_test true small is = by_page (page_at space.memory.pages vpn) (ltb-true vpn (2 ^ 20) small) refl is
+      by_test false large is = cc
+
+  -- the process of a save that is not refused, and its page
+  pub record SavesPage (processes : List (ProcessSideValue S)) (key : Key) : Type 0 where
+    pub process : ProcessSideValue S
+    pub found : slice_get processes key.process ≡ Some process
+    pub saving : IsSavingAt process.space key.vpn
+
+  pub not_refused : (processes : List (ProcessSideValue S)) (key : Key) → saved_refusal key processes ≡ None → SavesPage processes key
+  not_refused processes key h = by_process (slice_get processes key.process) refl h
+    where
+      by_test : (q : ProcessSideValue S) (b : Bool) → slice_get processes key.process ≡ Some q → is_saving q.space key.vpn ≡ b → (if b then None else Some refusal.NotSaving) ≡ None → SavesPage processes key
+      by_test q true found is h = record { process = q; found = found; saving = saving_at q.space key.vpn is }
+      by_test q false found is h = cc
+
+      by_process : (o : Option (ProcessSideValue S)) → slice_get processes key.process ≡ o → of_process (saving_reason key.vpn) o ≡ None → SavesPage processes key
+      by_process None at h = cc
+      by_process (Some q) at h = by_test q (is_saving q.space key.vpn) at refl h
+
+  counted_at : (q : ProcessSideValue S) (key : Key) → q.space.memory.process ≡ key.process → IsSavingAt q.space key.vpn → 1 ≤ savings_in q.space (is_key key)
+  unfolding savings_in
+  counted_at q key number saving =
+      let test : ℕ → PageValue S → Bool = λ number page. is_saving_place page.place && is_key key (key_of q.space.memory.process number) in
+      let is : test key.vpn saving.page ≡ true = ap (λ b. b && is_key key (key_of q.space.memory.process key.vpn)) saving.saving ∙ same_key key q.space.memory.process key.vpn number refl in
+      let one = one_fewer_where (λ number page. false) test q.space.memory.pages (λ number page h. cc) key.vpn saving.page saving.at refl is saving.small in
+      omega (arith, one)
+
+  -- the save of a page that is being saved is out
+  pub is_out : (core : CoreValue S) (key : Key) → IsMachine core → saved_refusal key core.processes ≡ None → position (is_of_page key) core.jobs ≡ None → ⊥
+  is_out core key machine allowed none =
+      let page = not_refused core.processes key allowed in
+      let one = counted_at page.process key (machine.numbered key.process page.process page.found) page.saving in
+      let all = total_at (λ (r : ProcessSideValue S). savings_in r.space (is_key key)) core.processes key.process page.process page.found in
+      let saved = machine.saved (is_key key) in
+      let jobs = none_found key core.jobs none in
+      omega (arith, one, all, saved, jobs)
+
+  -- a process that counts for a page has it as one that is being saved
+  pub saving_counted : (space : SpaceValue S) (key : Key) → 1 ≤ savings_in space (is_key key) → (space.memory.process ≡ key.process) × IsSavingAt space key.vpn
+  unfolding savings_in
+  saving_counted space key h =
+      let found = some_where (λ number page. is_saving_place page.place && is_key key (key_of space.memory.process number)) space.memory.pages h in
+      let parts = both_true (is_saving_place found.page.place) (is_key key (key_of space.memory.process found.number)) found.passes in
+      let same = both_true (space.memory.process == key.process) (found.number == key.vpn) parts.1 in
+      let vpn : found.number ≡ key.vpn = eqb-true found.number key.vpn same.1 in
+      let small = found.small in (
+        eqb-true space.memory.process key.process same.0,
+        record {
+          small = omega (arith, small, vpn);
+          page = found.page;
+          at = ap (page_at space.memory.pages) (sym vpn) ∙ found.at;
+          saving = parts.0;
+        },
+      )

@@ -1,0 +1,111 @@
+-- The event of a page's save: the save that is out is made, and comes back to the pager and its process.
+use Rattle.std.specs.Prelude.{◌≡◌, ◌⊎◌, ◌≤◌, ℕ, Bool, true, false, List, ◌∷◌, Option, Some, None, slice_get, slice_set, IsTrue, IsFalse, IsPermutation, if◌then◌else◌}
+use Rattle.clock_policy.specs.declared.key.Key.{Key}
+use Rattle.clock_policy.specs.declared.refusal.Refusal.TheVariants as list
+use Rattle.clock_policy.specs.Residents.{is_key}
+use Rattle.page_store.specs.JobValue.{JobValue, SavedValue}
+use Rattle.page_store.specs.declared.state.PageState.{PageState}
+use Rattle.page_store.specs.declared.state.PageState.TheVariants as stage
+use Rattle.paged_memory.specs.Paged.{memory_of}
+use Rattle.space_core.specs.StandsFor.{SpaceValue}
+use Rattle.swap_slots.specs.Slot.{Rose}
+use Rattle.machine_core.specs.declared.error.EventRefusal.{EventRefusal}
+use Rattle.machine_core.specs.declared.error.EventRefusal.TheVariants as refusal
+use Rattle.machine_core.specs.declared.event.Reply.{Reply}
+use Rattle.machine_core.specs.declared.event.Reply.TheVariants as reply
+use Rattle.machine_core.specs.declared.saving_back.SaveFailure.TheVariants.{Device}
+use Rattle.machine_core.specs.declared.saving_back.SaveOutcome.{SaveOutcome}
+use Rattle.machine_core.specs.declared.saving_back.SaveOutcome.TheVariants.{Freed, HandedBack, WrongPage, ResidentAgain, NotRestored}
+use Rattle.machine_core.specs.Admitting.{stage_at}
+use Rattle.machine_core.specs.Machine.{CoreValue}
+use Rattle.machine_core.specs.MachineRun.{of_process}
+use Rattle.machine_core.specs.SavingBack.{EndsSave, IsFreed, FailsAndReturns, FailsAndLeaves}
+use Rattle.machine_core.specs.Sides.{PagerSideValue, ProcessSideValue}
+use Rattle.machine_core.specs.Together.{key_of}
+
+abbrev pub is_saving_stage : Option PageState → Bool
+is_saving_stage None = false
+is_saving_stage (Some stage.Fresh) = false
+is_saving_stage (Some stage.Resident) = false
+is_saving_stage (Some stage.Leaving) = false
+is_saving_stage (Some stage.Saving) = true
+is_saving_stage (Some stage.Away) = false
+is_saving_stage (Some stage.Purged) = false
+
+module _ {S : Type 0} where
+  -- whether the page of a number is being saved, whatever the number
+  abbrev pub is_saving : SpaceValue S → ℕ → Bool
+  is_saving space vpn = is_saving_stage (stage_at space vpn)
+
+  abbrev pub saving_reason : ℕ → ProcessSideValue S → Option EventRefusal
+  saving_reason vpn process = if is_saving process.space vpn then None else Some refusal.NotSaving
+
+  -- why no save of a page comes back
+  abbrev pub saved_refusal : Key → List (ProcessSideValue S) → Option EventRefusal
+  saved_refusal key processes = of_process (saving_reason key.vpn) (slice_get processes key.process)
+
+  -- whether a save is of a page
+  abbrev pub is_of_page : Key → JobValue S → Bool
+  is_of_page key job = is_key key (key_of job.process job.vpn)
+
+  -- the save of a page is taken from those that are out, and made: its slot holds the copy where the device passed it and
+  -- slots are honest, and where it was not passed the device failed
+  pub record MakesSave (held : S → List ℕ) (honest : Type 0) (failures : S → ℕ) (key : Key) (old new : List (JobValue S)) (saved : SavedValue S) : Type 0 where
+    pub job : JobValue S
+    pub taken : IsPermutation old (job ∷ new)
+    pub job_process : job.process ≡ key.process
+    pub job_page : job.vpn ≡ key.vpn
+    pub process : saved.process ≡ job.process
+    pub page : saved.vpn ≡ job.vpn
+    pub copy : saved.copy ≡ job.copy
+    pub kept : honest → IsTrue saved.passed → held saved.slot ≡ job.copy
+    pub fault : IsFalse saved.passed → Rose (failures job.slot) (failures saved.slot)
+    pub counted : failures job.slot ≤ failures saved.slot
+
+  -- what a save that comes back is replied with: its page's frame is free, or the device failed and the page is resident
+  -- again, or leaving, where memory is wanting to list it
+  abbrev pub EndsWith : SavedValue S → PagerSideValue → PagerSideValue → ProcessSideValue S → ProcessSideValue S → Reply → Type 0
+  EndsWith saved pager pager' process process' answer =
+      (IsFreed saved pager pager' process process' × (answer ≡ reply.Freed))
+      ⊎ ((FailsAndReturns saved pager pager' process process' Device × (answer ≡ reply.Device))
+      ⊎ (FailsAndLeaves saved pager pager' process process' Device list.NoMemory × (answer ≡ reply.Refused refusal.NoMemory)))
+
+  -- a save of a page that is out is made and comes back
+  pub record SavesOnce (held : S → List ℕ) (honest : Type 0) (failures : S → ℕ) (key : Key) (old new : CoreValue S) (answer : Reply) : Type 0 where
+    pub allowed : saved_refusal key old.processes ≡ None
+    pub process : ProcessSideValue S
+    pub process' : ProcessSideValue S
+    pub found : slice_get old.processes key.process ≡ Some process
+    pub saved : SavedValue S
+    pub makes : MakesSave held honest failures key old.jobs new.jobs saved
+    pub ends : EndsWith saved old.pager new.pager process process' answer
+    pub memory : honest → memory_of held process'.space.memory.pages ≡ memory_of held process.space.memory.pages
+    pub processes : new.processes ≡ slice_set old.processes key.process process'
+    pub stays : new ≡ record old { pager = new.pager; processes = new.processes; jobs = new.jobs }
+
+  -- ---- the steps of the event
+
+  -- a save comes back to the pager and the process of this number
+  pub record SavedAt (held : S → List ℕ) (honest : Type 0) {L : Type 0} (saved : SavedValue S) (pager pager' : PagerSideValue) (number : ℕ) (old new : List (ProcessSideValue S)) (outcome : SaveOutcome L S) : Type 0 where
+    pub process : ProcessSideValue S
+    pub process' : ProcessSideValue S
+    pub found : slice_get old number ≡ Some process
+    pub ends : EndsSave saved pager pager' process process' outcome
+    pub memory : honest → memory_of held process'.space.memory.pages ≡ memory_of held process.space.memory.pages
+    pub is : new ≡ slice_set old number process'
+
+  -- what comes of a save that the machine made itself
+  abbrev pub IsOwn : {L : Type 0} → SaveOutcome L S → Type 0
+  IsOwn Freed = Unit {0}
+  IsOwn (HandedBack frame) = ⊥
+  IsOwn (WrongPage job) = ⊥
+  IsOwn (ResidentAgain failure) = failure ≡ Device
+  IsOwn (NotRestored failure why) = (failure ≡ Device) × (why ≡ list.NoMemory)
+
+  -- the reply to it
+  abbrev pub RepliesTo : {L : Type 0} → SaveOutcome L S → Reply → Type 0
+  RepliesTo Freed answer = answer ≡ reply.Freed
+  RepliesTo (HandedBack frame) answer = ⊥
+  RepliesTo (WrongPage job) answer = ⊥
+  RepliesTo (ResidentAgain failure) answer = answer ≡ reply.Device
+  RepliesTo (NotRestored failure why) answer = answer ≡ reply.Refused refusal.NoMemory

@@ -21,6 +21,7 @@ use Rattle.machine_core.specs.declared.error.EventRefusal.TheVariants as refusal
 use Rattle.machine_core.specs.declared.event.Reply.{Reply}
 use Rattle.machine_core.specs.Collecting.{is_leaving, is_leaving_stage, IsLeaving, leaving_reason, collect_refusal, Looks, IsDropped, IsCopied, LacksAndReturns, LacksAndLeaves, CollectsTo, CollectsOnce, LooksAt, IsOwn, jobs_after, looked_reply, not_yet, freed, dirty, no_slot, no_memory}
 use Rattle.machine_core.specs.CollectLaws.{dropped_together, dropped_rest, copied_together, copied_savings, copied_slots, copied_stays, copied_now, copied_place}
+use Rattle.machine_core.specs.LookLaws.{same_sides}
 use Rattle.machine_core.specs.Machine.{CoreValue, IsMachine, IsOut, jobs_where, total}
 use Rattle.machine_core.specs.MachineRun.{of_process}
 use Rattle.machine_core.specs.ReturnLaws.{returned_rest, listed_frames, back_together}
@@ -106,11 +107,6 @@ module _ {S : Type 0} where
     same_rest : q' ≡ q → LeavesRest q.space q'.space
     same_rest same = subst (λ (r : ProcessSideValue S). LeavesRest q.space r.space) (sym same) (record { savings = λ test. refl; slots = refl; stay = λ v page frame at saving. at })
 
-    stays_together : core'.pager ≡ core.pager → q' ≡ q → Together core.pager.pager core'.pager.pager q.space q'.space
-    stays_together pager same =
-        subst (λ (r : ProcessSideValue S). Together core.pager.pager core'.pager.pager q.space r.space) (sym same)
-        (subst (λ (s : PagerSideValue). Together core.pager.pager s.pager q.space q.space) (sym pager) (record { listed = λ test. refl; framed = λ test. refl; size = refl; process = refl }))
-
     lawful_still : core'.pager ≡ core.pager → Lawful core'.pager.pager.list
     lawful_still pager = subst (λ (s : PagerSideValue). Lawful s.pager.list) (sym pager) machine.lawful
 
@@ -118,7 +114,7 @@ module _ {S : Type 0} where
     frames_still pager = subst (λ (s : PagerSideValue). s.pager.list.frames ≡ s.pager.size) (sym pager) machine.frames
 
     stays_moves : core'.pager ≡ core.pager → q' ≡ q → core'.slots ≡ core.slots → core'.jobs ≡ core.jobs → Moves core core' p q q'
-    stays_moves pager same slots jobs = quiet_moves (stays_together pager same) (lawful_still pager) (frames_still pager) (same_rest same) slots jobs
+    stays_moves pager same slots jobs = quiet_moves (same_sides core.pager core'.pager q q' pager same) (lawful_still pager) (frames_still pager) (same_rest same) slots jobs
 
     module _ (vpn : ℕ) where
       dropped_moves : IsDropped vpn core.pager core'.pager q q' core.slots core'.slots → core'.jobs ≡ core.jobs → Moves core core' p q q'

@@ -6,6 +6,7 @@ pub mod Collecting
 pub mod Faithful
 pub mod Headline
 pub mod Loading
+pub mod LookLaws
 pub mod Machine
 pub mod MachineRun
 pub mod MoveLaws

@@ -17,23 +17,21 @@ use Rattle.machine_core.specs.declared.event.Event.TheVariants.{Step, Notice, Sw
 use Rattle.machine_core.specs.declared.event.Reply.{Reply}
 use Rattle.machine_core.specs.declared.event.Reply.TheVariants.{Refused}
 use Rattle.space_core.specs.StandsFor.{SpaceValue, StandsFor, flat_with}
+use Rattle.machine_core.proofs.LeavingOrders.{collect_tells, saved_tells, purge_tells}
 use Rattle.machine_core.proofs.Orders.{Tells, still_remains, refused_tells}
 use Rattle.machine_core.proofs.EventOrders.{page_in_tells, step_tells, notice_tells, kill_tells, sweep_tells}
 
 module _ {S : Type 0} where
-  not_served : (event : Event) (old new : CoreValue S) (answer : Reply) → (new ≡ old) × (answer ≡ Refused refusal.NoMemory) → Tells event answer old new
-  not_served event old new answer h = refused_tells event (Some refusal.NoMemory) old new answer (record { refusal = refusal.NoMemory; reason_is = refl; reply_is = h.1; stays = h.0 })
-
   module _ (held : S → List ℕ) (honest : Type 0) (failures : S → ℕ) where
     serves_tells : (event : Event) (old new : CoreValue S) (answer : Reply) → Serves held honest failures event old new answer → Tells event answer old new
     serves_tells (Step p hart) old new answer serves = elim serves [ inl refuses ↦ refused_tells _ _ old new answer refuses | inr steps ↦ step_tells held honest p hart old new answer steps ]
     serves_tells (Notice p hart) old new answer serves = elim serves [ inl refuses ↦ refused_tells _ _ old new answer refuses | inr notices ↦ notice_tells p hart old new answer notices ]
     serves_tells Sweep old new answer serves = elim serves [ inl refuses ↦ refused_tells _ _ old new answer refuses | inr sweeps ↦ sweep_tells old new answer sweeps ]
-    serves_tells (Collect key) old new answer serves = not_served (Collect key) old new answer serves
-    serves_tells (Saved key) old new answer serves = not_served (Saved key) old new answer serves
+    serves_tells (Collect key) old new answer serves = elim serves [ inl refuses ↦ refused_tells _ _ old new answer refuses | inr once ↦ collect_tells held honest key old new answer once ]
+    serves_tells (Saved key) old new answer serves = elim serves [ inl refuses ↦ refused_tells _ _ old new answer refuses | inr once ↦ saved_tells held honest failures key old new answer once ]
     serves_tells (PageIn key) old new answer serves = elim serves [ inl refuses ↦ refused_tells _ _ old new answer refuses | inr once ↦ page_in_tells held honest failures key old new answer once ]
     serves_tells (Kill p cause) old new answer serves = elim serves [ inl refuses ↦ refused_tells _ _ old new answer refuses | inr kills ↦ kill_tells p cause old new answer kills ]
-    serves_tells (Purge p) old new answer serves = not_served (Purge p) old new answer serves
+    serves_tells (Purge p) old new answer serves = elim serves [ inl refuses ↦ refused_tells _ _ old new answer refuses | inr once ↦ purge_tells p old new answer once ]
 
     -- a space that stands for a flat process shows it
     stands_shows : (image : ImageContent) (input harts : List ℕ) (space : SpaceValue S) → StandsFor held space → space.image ≡ image → space.input ≡ input → written_out space.schedule ≡ harts

@@ -9,6 +9,7 @@ pub mod Invisible
 pub mod JobsOut
 pub mod Kept
 pub mod KeptPages
+pub mod LeavingOrders
 pub mod Looking
 pub mod Openings
 pub mod Orders
@@ -18,8 +19,8 @@ pub mod PageIns
 pub mod Peeked
 pub mod PurgeEvents
 pub mod PurgeSteps
-pub mod Shown
 pub mod SavesOut
 pub mod SavingPages
+pub mod Shown
 pub mod Sweeps
 pub mod Totals

@@ -1,31 +1,28 @@
 -- The machine run: events one after another, each with its reply.
 use Rattle.std.specs.Prelude.{◌≡◌, ◌⊎◌, ℕ, List, [], ◌∷◌}
 use Rattle.clock_policy.specs.ClockPro.{question_of}
-use Rattle.machine_core.specs.declared.error.EventRefusal.TheVariants.{NoMemory}
 use Rattle.machine_core.specs.declared.event.Event.{Event}
 use Rattle.machine_core.specs.declared.event.Event.TheVariants.{Step, Notice, Sweep, Collect, Saved, PageIn, Kill, Purge}
 use Rattle.machine_core.specs.declared.event.Reply.{Reply}
-use Rattle.machine_core.specs.declared.event.Reply.TheVariants.{Refused}
+use Rattle.machine_core.specs.Collecting.{collect_refusal, CollectsOnce}
+use Rattle.machine_core.specs.PurgeEvent.{purge_refusal, PurgesOnce}
+use Rattle.machine_core.specs.SavingOut.{saved_refusal, SavesOnce}
 use Rattle.machine_core.specs.Faithful.{IsFaithful}
 use Rattle.machine_core.specs.Machine.{CoreValue}
 use Rattle.machine_core.specs.PagingIn.{page_in_refusal, PagesInOnce}
 use Rattle.machine_core.specs.MachineRun.{hart_refusal, kill_refusal, sweep_refusal, Refuses, Steps, Notices, Kills, SweepsOnce}
 
 module _ {S : Type 0} (held : S → List ℕ) (honest : Type 0) (failures : S → ℕ) where
-  -- an event that the machine does not serve yet
-  abbrev pub IsNotServed : CoreValue S → CoreValue S → Reply → Type 0
-  IsNotServed old new reply = (new ≡ old) × (reply ≡ Refused NoMemory)
-
   -- what an event does: it is refused for the first reason that holds, or it is served
   abbrev pub Serves : Event → CoreValue S → CoreValue S → Reply → Type 0
   Serves (Step process hart) old new reply = Refuses (hart_refusal process hart old.processes) old new reply ⊎ Steps held honest process hart old new reply
   Serves (Notice process hart) old new reply = Refuses (hart_refusal process hart old.processes) old new reply ⊎ Notices process hart old new reply
   Serves Sweep old new reply = Refuses (sweep_refusal (question_of old.pager.pager.list)) old new reply ⊎ SweepsOnce old new reply
-  Serves (Collect key) old new reply = IsNotServed old new reply
-  Serves (Saved key) old new reply = IsNotServed old new reply
+  Serves (Collect key) old new reply = Refuses (collect_refusal key old.processes) old new reply ⊎ CollectsOnce held honest key old new reply
+  Serves (Saved key) old new reply = Refuses (saved_refusal key old.processes) old new reply ⊎ SavesOnce held honest failures key old new reply
   Serves (PageIn key) old new reply = Refuses (page_in_refusal key old) old new reply ⊎ PagesInOnce held honest failures key old new reply
   Serves (Kill process cause) old new reply = Refuses (kill_refusal process old.processes) old new reply ⊎ Kills process cause old new reply
-  Serves (Purge process) old new reply = IsNotServed old new reply
+  Serves (Purge process) old new reply = Refuses (purge_refusal process old.processes) old new reply ⊎ PurgesOnce process old new reply
 
   -- an event and its reply, and the machine that it leaves, which is a faithful one
   pub record Applies (event : Event) (old new : CoreValue S) (reply : Reply) : Type 0 where

@@ -4,7 +4,6 @@ ghost use Rattle.std.specs.Prelude.{◌≡◌};
 ghost use Rattle.machine_core.specs.Applying.{Serves, Applies};
 ghost use Rattle.machine_core.specs.Faithful.{EachStands, IsFaithful};
 
-use crate::error::EventRefusal;
 use crate::event::{Event, Reply};
 use crate::machine::Core;
 use crate::process_side::ProcessSide;
@@ -46,11 +45,11 @@ impl<L: Ledger, S: SwapSlot, C: Clock> Core<L, S, C> {
             Event::Step { process, hart } => self.step(process, hart),
             Event::Notice { process, hart } => self.notice(process, hart),
             Event::Sweep => self.sweep(),
-            Event::Collect(_) => Reply::Refused(EventRefusal::NoMemory),
-            Event::Saved(_) => Reply::Refused(EventRefusal::NoMemory),
+            Event::Collect(key) => self.collect(key),
+            Event::Saved(key) => self.saved(key),
             Event::PageIn(key) => self.page_in(key),
             Event::Kill { process, cause } => self.kill(process, cause),
-            Event::Purge { .. } => Reply::Refused(EventRefusal::NoMemory),
+            Event::Purge { process } => self.purge(process),
         }
     }
 }

@@ -14,6 +14,8 @@ mod flat;
 #[cfg(test)]
 mod pager;
 #[cfg(test)]
+mod ring;
+#[cfg(test)]
 mod runs;
 #[cfg(test)]
 mod source;

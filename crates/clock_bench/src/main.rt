@@ -1,5 +1,7 @@
 //! A replacement list that serves page faults: prints how many calls it had and a checksum of its victims, and on standard
 //! error the nanoseconds. Arguments: `ring` or `list`, frames, pages, references.
+//! With `whole` first, the circle of links is purged of one process of 16 and copied, each as often as there are references: prints
+//! how many entries went, and on standard error the nanoseconds of all purges and of all copies.
 #![tactic(auto)]
 
 use anyhow::{Context, Result};
@@ -129,12 +131,50 @@ fn timed<C: Clock>(
     Ok(())
 }
 
+/// Each frame gets a page, of 16 processes by turns.
+fn fill<C: Clock>(clock: &mut C, frames: usize) {
+    for i in 0..frames {
+        let vpn = u32::try_from(i).unwrap_or(0);
+        // A page that is there already is refused.
+        let _ = clock.admit(Key {
+            process: vpn % 16,
+            vpn,
+        });
+    }
+}
+
+/// Calls that go through the whole list.
+fn whole<C: Clock>(rt: &HostRuntime, mut clock: C, frames: usize, rounds: usize) -> Result<()> {
+    let mut entries = Vec::with_capacity(rt.alloc(), frames)?;
+    let (mut gone, mut purging, mut copying) = (0u64, 0u64, 0u64);
+    for round in 0..rounds {
+        fill(&mut clock, frames);
+        let start = Instant::now(rt)?;
+        entries.clear();
+        clock.copy_entries(&mut entries)?;
+        let copied = start.elapsed(rt)?.as_nanos();
+        let process = u32::try_from(round).unwrap_or(0) % 16;
+        let start = Instant::now(rt)?;
+        gone = gone.saturating_add(u64::from(clock.purge(process)));
+        let purged = start.elapsed(rt)?.as_nanos();
+        copying = copying.saturating_add(u64::try_from(copied).unwrap_or(0));
+        purging = purging.saturating_add(u64::try_from(purged).unwrap_or(0));
+    }
+    println!(rt; "{gone}")?;
+    eprintln!(rt; "{purging} {copying}")?;
+    Ok(())
+}
+
 fn main(rt: HostRuntime) -> Result<()> {
     let mut list = false;
+    let mut through = false;
     let mut numbers = [64usize, 200, 100_000];
     for (i, argument) in env::args(&rt)?.skip(1).enumerate() {
         match i {
-            0 => list = argument.as_str() == "list",
+            0 => {
+                list = argument.as_str() == "list";
+                through = argument.as_str() == "whole";
+            }
             1 | 2 | 3 => {
                 numbers[i - 1] = argument
                     .as_str()
@@ -145,7 +185,9 @@ fn main(rt: HostRuntime) -> Result<()> {
         }
     }
     let [frames, pages, references] = numbers;
-    if list {
+    if through {
+        whole(&rt, ClockRing::new(rt.alloc(), frames)?, frames, references)
+    } else if list {
         timed(
             &rt,
             ClockList::new(rt.alloc(), frames)?,

@@ -131,12 +131,12 @@ fn timed<C: Clock>(
     Ok(())
 }
 
-/// Each frame gets a page, of 16 processes by turns.
+/// Each frame has a page again, of 16 processes by turns.
 fn fill<C: Clock>(clock: &mut C, frames: usize) {
     for i in 0..frames {
         let vpn = u32::try_from(i).unwrap_or(0);
         // A page that is there already is refused.
-        let _ = clock.admit(Key {
+        let _ = clock.restore(Key {
             process: vpn % 16,
             vpn,
         });

@@ -106,6 +106,7 @@ impl Body {
     }
 
     /// Adds an entry of a new page as the last. Hands that stand on none rest on it.
+    #[inline(always)]
     pub(crate) fn append(&mut self, entry: Entry) -> Result<(), AllocError>
         requires new { at_of entry.key self.old.ring.cells ≡ None }
         requires room { length self.old.ring.cells < 2 * self.old.frames }
@@ -136,6 +137,7 @@ impl Body {
     }
 
     #[tactic(auto, unfolding(clock_policy::specs::ClockPro::grown))]
+    #[inline(always)]
     pub(crate) fn grow(&mut self)
         ensures moved { state_of self.new ≡ grown (state_of self.old) }
     {
@@ -202,6 +204,7 @@ impl Body {
     }
 
     /// The entry of a page.
+    #[inline(always)]
     pub(crate) fn find(&self, key: Key) -> Option<Found>
         ensures holds { IfSome result (λ found. Holds self.now found) }
         ensures key { IfSome result (λ found. found.entry.key ≡ key) }

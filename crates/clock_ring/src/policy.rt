@@ -113,6 +113,7 @@ impl Body {
         self.counts.hot + self.counts.cold == self.frames
     }
 
+    #[inline(always)]
     fn admit_new(&mut self, key: Key) -> Result<Kind, Refusal>
         requires few { HasFewEntries (state_of self.old) }
         requires new { at_of key self.old.ring.cells ≡ None }
@@ -134,6 +135,7 @@ impl Body {
         }
     }
 
+    #[inline(always)]
     fn admit_shadow(&mut self, shadow: Found) -> Result<Kind, Refusal>
         requires { Holds self.old shadow }
         ensures moved { state_of self.new ≡ (shadow_admitted shadow.entry.key (state_of self.old)).0 }
@@ -149,6 +151,7 @@ impl Body {
     }
 
     #[tactic(auto, unfolding(clock_policy::specs::ClockPro::admitted))]
+    #[inline(always)]
     pub(crate) fn admit(&mut self, key: Key) -> Result<Kind, Refusal>
         requires { HasFewEntries (state_of self.old) }
         ensures moved { OnOk result (state_of self.new ≡ (admitted key (state_of self.old)).0) }

@@ -57,6 +57,7 @@ impl Clock for ClockRing {
     }
 
     /// Answers `NoMemory` for a new page alone, whose place in the index found no room.
+    #[inline(always)]
     fn admit(&mut self, key: Key) -> Result<Kind, Refusal>
         ensures moved { OnOk result (self.new ≡ (admitted key self.old).0) }
         ensures exact { result ≢ Err Refusal.NoMemory → result ≡ (admitted key self.old).1 }

@@ -67,6 +67,7 @@ impl IndexedRing {
     }
 
     /// The node of a page's entry, in constant time.
+    #[inline(always)]
     pub fn find(&self, key: Key) -> Option<usize>
         ensures { result ≡ at_of key self.now.cells }
     {
@@ -94,6 +95,7 @@ impl IndexedRing {
     }
 
     /// Adds an entry of a new page as the last, before the front. A refusal changes nothing.
+    #[inline(always)]
     pub fn append(&mut self, entry: Entry) -> Result<usize, AllocError>
         requires new { at_of entry.key self.old.cells ≡ None }
         requires room { length self.old.cells < self.old.room }

@@ -122,6 +122,7 @@ fn link_again(nodes: &mut Slab<Node>, front: usize, at: usize, entry: Entry)
 }
 
 /// Adds a node as the last of the circle that begins at `front`.
+#[inline(always)]
 fn link_last(nodes: &mut Slab<Node>, front: usize, entry: Entry) -> usize
     requires room { HasRoomFor nodes.old 1 }
     requires front { ContainsKey nodes.old front }
@@ -204,6 +205,7 @@ impl Links {
     }
 
     /// The node that the next new entry gets.
+    #[inline(always)]
     pub(crate) fn vacant(&self) -> usize
         ensures { result ≡ self.now.vacant }
     {
@@ -238,6 +240,7 @@ impl Links {
     }
 
     /// Adds an entry as the last, before the front.
+    #[inline(always)]
     pub(crate) fn append(&mut self, entry: Entry) -> usize
         requires { length self.old.cells < self.old.room }
         ensures cells { self.new.cells ≡ self.old.cells ++ record { at = result; entry = entry } ∷ [] }

@@ -64,6 +64,9 @@ impl Places {
                 return Some(place.at as usize);
             }
         }
+        if self.others.is_empty() {
+            return None;
+        }
         self.others.get(&key).map(|at| *at)
     }
 

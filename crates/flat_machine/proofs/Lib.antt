@@ -1,4 +1,3 @@
-pub mod Turns
 pub mod Runs
 pub mod Turning
 pub mod PlainSteps

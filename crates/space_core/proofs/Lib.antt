@@ -8,3 +8,4 @@ pub mod LeavingPages
 mod PagingSpaces
 pub mod FreshPages
 pub mod Opened
+pub mod StepsOn

@@ -15,9 +15,12 @@ mod space_harts;
 mod space_moves;
 mod space_paging;
 mod space_slice;
+mod space_steps;
 mod stepping;
+mod stepping_on;
 
 pub use progress::{Progress, Slice, SliceStop};
 pub use recorded::Recorded;
 pub use running::Running;
 pub use space::Space;
+pub use space_steps::Steps;

@@ -106,7 +106,7 @@ impl Recorded {
 }
 
 /// The lesser of two.
-fn least(budget: u32, room: u64) -> u32
+pub(crate) fn least(budget: u32, room: u64) -> u32
     ensures { result ≡ min budget room }
 {
     if u64::from(budget) <= room {

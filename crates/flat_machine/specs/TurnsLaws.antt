@@ -1,6 +1,6 @@
 -- How a schedule grows by instructions of one hart.
 use Rattle.std.proofs.Common.{◌≡◌, ◌≢◌, ℕ, zero, suc, ◌+◌, ◌-◌, ◌*◌, ◌<◌, ◌≤◌, ◌^◌, List, [], ◌∷◌, ◌++◌, length, replicate, slice_set, slice_index_or, slice_get, Some, None, cond, arith, refl, sym, ap, ◌∙◌, append_assoc, append-nil, eq-eqb, ne_eqb, below_more, length-set, subst, inl, inr}
-use Rattle.std.proofs.lemmas.Bool.Decides.{eqb_tells}
+use Rattle.std.proofs.lemmas.Bool.Decides.{eqb_tells, leb_tells}
 use Rattle.std.proofs.lemmas.Option.{slice_get_within, get_or_from_slice_get, slice_get-get_or, none-some}
 use Rattle.std.proofs.lemmas.List.{get_or_append_left, get_or_default, get_or-set_same, get_or-set_other, length_push, replicate-append-replicate}
 use Rattle.std.proofs.Math.Seq.{get_or-append_seam}
@@ -215,4 +215,52 @@ joined_up turns last n t is at there small some =
         elim (eqb_tells k last) [
           | inl here ↦ subst P (sym (ap (λ i. (slice_index_or (slice_set turns last (record { hart = t.hart; count = t.count + n })) i d).count) here.1 ∙ ap (λ (u : Turn). u.count) (get_or-set_same turns last (record { hart = t.hart; count = t.count + n }) d (omega arith)))) up
           | inr apart ↦ subst P (sym (ap (λ (u : Turn). u.count) (get_or-set_other turns last k (record { hart = t.hart; count = t.count + n }) d apart.1))) stay
+        ]
+
+-- ---- one more instruction
+
+-- a schedule with one more instruction of a hart
+pub record OneMore (turns : List Turn) (hart : ℕ) : Type 0 where
+  pub after : List Turn
+  pub recorded : written_out after ≡ written_out turns ++ replicate 1 hart
+  pub left : room after hart + 1 ≡ room turns hart
+
+-- there is one, where one more fits
+pub one_more : (turns : List Turn) (hart : ℕ) → 0 < room turns hart → OneMore turns hart
+one_more turns hart some =
+    let d : Turn = record { hart = hart; count = 0 } in
+    elim (eqb_tells (rest_in_last turns hart) 0) [
+      | inl none ↦
+          let first : Turn = record { hart = hart; count = 1 } in
+          let is = room_is turns hart in
+          let few : length turns < 1000000 = few_turns turns hart some none.1 in
+          record {
+            after = turns ++ first ∷ [];
+            recorded = written_new turns hart 1;
+            left = room_new turns (turns ++ first ∷ []) hart 1 few (length_push turns first) none.1 (rest_new turns hart 1 (omega arith));
+          }
+      | inr more ↦
+          let takes : 0 < rest_in_last turns hart = let e = more.1 in omega arith in
+          let facts = last_turn turns hart d takes in
+          let last : length turns - 1 + 1 ≡ length turns = let there = facts.0 in omega arith in
+          let t : Turn = slice_index_or turns (length turns - 1) d in
+          let at : t ≡ slice_index_or turns (length turns - 1) t = let there = facts.0 in get_or_default turns (length turns - 1) d t (omega arith) in
+          let fits = last_at turns (length turns - 1) hart 1 t last at takes (omega arith) in
+          let after : List Turn = slice_set turns (length turns - 1) (record { hart = t.hart; count = t.count + 1 }) in
+          record {
+            after = after;
+            recorded = written_up turns (length turns - 1) hart 1 t d last refl fits.0;
+            left = room_up turns after hart 1 (length-set turns (length turns - 1) (record { hart = t.hart; count = t.count + 1 })) (rest_up turns (length turns - 1) hart 1 t last at fits.0 fits.1);
+          }
+    ]
+  where
+    few_turns : (turns : List Turn) (hart : ℕ) → 0 < room turns hart → rest_in_last turns hart ≡ 0 → length turns < 1000000
+    few_turns turns hart some none =
+        let is = room_is turns hart in
+        elim (leb_tells 1000000 (length turns)) [
+          | inl full ↦
+              let over : 1000000 - length turns ≡ 0 = let l = full.1 in omega arith in
+              let nothing : (2 ^ 32 - 1) * (1000000 - length turns) ≡ 0 = ap (λ n. (2 ^ 32 - 1) * n) over in
+              absurd (omega (arith, some, none, is, nothing))
+          | inr below ↦ let l = below.1 in omega arith
         ]

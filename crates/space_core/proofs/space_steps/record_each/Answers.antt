@@ -1,0 +1,29 @@
+use Rattle.std.proofs.Common.{◌≡◌, ◌∙◌, refl, sym, inr, arith}
+use Rattle.std.proofs.Math.Nat.{min-le_left}
+use Rattle.paged_memory.specs.Paged.{memory_of}
+use Rattle.space_core.proofs.StepsOn.{is_recorded, none_recorded}
+use Rattle.space_core.proofs.space_steps.record_each.Goals as goal
+
+pub step_each-ran-requires-clause-may : goal.step_each-ran-requires-clause-may
+step_each-ran-requires-clause-may g c = sym (c.may_step.ensures (memory_of g.S.SwapSlot.content c.args.memory.now.pages)) ∙ c.if-not-may_step.false
+
+pub returns-then-ran-gt0-clause-short : goal.returns-then-ran-gt0-clause-short
+returns-then-ran-gt0-clause-short g c =
+    inr (is_recorded c.args.hart c.step_each-ran.result _ (record { running = c.recorded.inside.running; schedule = c.recorded.inside.schedule }) c.args.recorded.now c.step_each-ran.new.self c.record.new.self c.recorded.view_is c.step_each-ran.ensures.short
+    (λ memory. sym (c.may_step.ensures memory) ∙ c.if-not-may_step.false) c.record.ensures.recorded c.record.ensures.left (λ e. absurd (omega (arith, e, c.if-ran-gt0.true))))
+
+pub returns-then-ran-gt0-clause-all : goal.returns-then-ran-gt0-clause-all
+returns-then-ran-gt0-clause-all g c = λ all.
+    let whole : c.step_each-ran.result ≡ c.least-allowed.result =
+    let within = c.step_each-ran.ensures.within in
+    let least = c.least-allowed.ensures in
+    let below = min-le_left c.args.most c.room.result in
+    omega (arith, within, least, below, all) in
+    inr (is_recorded c.args.hart c.step_each-ran.result _ (record { running = c.recorded.inside.running; schedule = c.recorded.inside.schedule }) c.args.recorded.now c.step_each-ran.new.self c.record.new.self c.recorded.view_is (c.step_each-ran.ensures.all whole)
+    (λ memory. sym (c.may_step.ensures memory) ∙ c.if-not-may_step.false) c.record.ensures.recorded c.record.ensures.left (λ e. absurd (omega (arith, e, c.if-ran-gt0.true))))
+
+pub returns-else-ran-gt0-clause-short : goal.returns-else-ran-gt0-clause-short
+returns-else-ran-gt0-clause-short g c =
+    let none : c.step_each-ran.result ≡ 0 = omega (arith, c.if-ran-gt0.false) in
+    inr (is_recorded c.args.hart c.step_each-ran.result _ (record { running = c.recorded.inside.running; schedule = c.recorded.inside.schedule }) c.args.recorded.now c.step_each-ran.new.self c.recorded.inside.schedule c.recorded.view_is c.step_each-ran.ensures.short
+    (λ memory. sym (c.may_step.ensures memory) ∙ c.if-not-may_step.false) (none_recorded c.recorded.inside.schedule c.args.hart c.step_each-ran.result none) (omega (arith, none)) (λ _. refl))

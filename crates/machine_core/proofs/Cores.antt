@@ -52,7 +52,7 @@ pub lent_back : {A : Type 0} (items new : List A) (n : ℕ) → n ≡ length ite
 lent_back items new n long same = let past : length items ≤ length new = omega (arith, same) in rw (drop_all (length new) items past, append-nil new) (take_all n new (omega (arith, long, same)))
 
 module _ {S : Type 0} where
-  alike_machine : (core : CoreValue S) (p : ℕ) (q q' : ProcessSideValue S) → IsMachine core → slice_get core.processes p ≡ Some q → CountAlike q.space q'.space
+  pub alike_machine : (core : CoreValue S) (p : ℕ) (q q' : ProcessSideValue S) → IsMachine core → slice_get core.processes p ≡ Some q → CountAlike q.space q'.space
       → IsMachine (record core { processes = slice_set core.processes p q' })
   alike_machine core p q q' machine found alike =
       moved_machine core (record core { processes = slice_set core.processes p q' }) p q q' machine (record {

@@ -22,5 +22,6 @@ pub mod PurgeSteps
 pub mod SavesOut
 pub mod SavingPages
 pub mod Shown
+pub mod SingleSteps
 pub mod Sweeps
 pub mod Totals

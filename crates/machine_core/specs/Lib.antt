@@ -9,6 +9,7 @@ pub mod Loading
 pub mod LookLaws
 pub mod Machine
 pub mod MachineRun
+pub mod ManySteps
 pub mod MoveLaws
 pub mod Opening
 pub mod PagingIn

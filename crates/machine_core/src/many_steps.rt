@@ -1,0 +1,112 @@
+//! Steps of one hart in a row.
+
+ghost use Rattle.std.specs.Prelude.{◌≡◌, ◌<◌, ◌≤◌, length, option_map, IfSome, IfNone};
+ghost use Rattle.machine_core.specs.Applying.{Runs};
+ghost use Rattle.machine_core.specs.MachineRun.{ChangesOne, step_reply};
+ghost use Rattle.machine_core.specs.ManySteps.{steps_of, replies_of, SlicesMany};
+
+use crate::core_steps::{hart_refusal, step_reply};
+use crate::event::Reply;
+use crate::machine::Core;
+use crate::process_side::ProcessSide;
+use clock_policy::Clock;
+use space_core::SliceStop;
+use std::sync::ledger::Ledger;
+use swap_slots::SwapSlot;
+
+/// What came of steps of a hart in a row.
+#[derive(Clone, Copy, PartialEq, Eq, Debug)]
+pub struct Steps {
+    /// How many ran, and their hart went on.
+    pub ran: u32,
+    /// The reply to one more, after which the hart does not go on as it did.
+    pub last: Option<Reply>,
+}
+
+/// What came of slices of one instruction each.
+#[derive(Clone, Copy)]
+struct ManySlices {
+    ran: u32,
+    last: Option<SliceStop>,
+}
+
+impl<L: Ledger, S: SwapSlot, C: Clock> Core<L, S, C> {
+    /// Steps of one hart, one after another, up to so many: they end with the first that is not answered with
+    /// [`Reply::Ran`].
+    pub fn steps(&mut self, process: u32, hart: u32, most: u32) -> Steps
+        ensures runs { Runs S.content S.honest S.failures (steps_of process hart result.ran result.last) (replies_of result.ran result.last) self.old self.new }
+        ensures within { result.ran ≤ most }
+        ensures all { IfNone result.last (result.ran ≡ most) }
+        ensures short { IfSome result.last (λ _. result.ran < most) }
+    {
+        if most == 0 {
+            return Steps { ran: 0, last: None };
+        }
+        self.faithful();
+        let refusal = hart_refusal(self.processes.as_slice(), process, hart);
+        if let Some(refusal) = refusal {
+            return Steps {
+                ran: 0,
+                last: Some(Reply::Refused(refusal)),
+            };
+        }
+        let slices = slices_at(
+            self.processes.as_mut_slice(),
+            process as usize,
+            hart,
+            most,
+        );
+        Steps {
+            ran: slices.ran,
+            last: last_reply(slices.last),
+        }
+    }
+}
+
+fn last_reply(last: Option<SliceStop>) -> Option<Reply>
+    ensures { result ≡ option_map step_reply last }
+{
+    match last {
+        None => None,
+        Some(stop) => Some(step_reply(stop)),
+    }
+}
+
+fn slices_at<L: Ledger, S: SwapSlot>(
+    processes: &mut [ProcessSide<L, S>],
+    process: usize,
+    hart: u32,
+    most: u32,
+) -> ManySlices
+    requires { process < length processes.old }
+    ensures changes { ChangesOne (SlicesMany S.content S.honest hart result.ran result.last) process processes.old processes.new }
+    ensures within { result.ran ≤ most }
+    ensures all { IfNone result.last (result.ran ≡ most) }
+    ensures short { IfSome result.last (λ _. result.ran < most) }
+{
+    processes[process].many_slices(hart, most)
+}
+
+impl<L: Ledger, S: SwapSlot> ProcessSide<L, S> {
+    /// Slices of one instruction each, up to so many, until one does not go on.
+    fn many_slices(&mut self, hart: u32, most: u32) -> ManySlices
+        ensures slices { SlicesMany S.content S.honest hart result.ran result.last self.old self.new }
+        ensures within { result.ran ≤ most }
+        ensures all { IfNone result.last (result.ran ≡ most) }
+        ensures short { IfSome result.last (λ _. result.ran < most) }
+    {
+        for ran in 0..most {
+            let slice = self.slice(hart, 1);
+            let SliceStop::Budget = slice.stop else {
+                return ManySlices {
+                    ran,
+                    last: Some(slice.stop),
+                };
+            };
+        }
+        ManySlices {
+            ran: most,
+            last: None,
+        }
+    }
+}

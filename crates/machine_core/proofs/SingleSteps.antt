@@ -16,6 +16,8 @@ use Rattle.machine_core.specs.declared.event.Event.{Event}
 use Rattle.machine_core.specs.declared.event.Event.TheVariants.{Step}
 use Rattle.machine_core.specs.declared.event.Reply.{Reply}
 use Rattle.machine_core.specs.declared.event.Reply.TheVariants.{Ran}
+use Rattle.space_core.specs.StepByStep.{SlicesOne, StepsOn, StepsEach}
+use Rattle.space_core.specs.declared.progress.Slice.{Slice}
 use Rattle.space_core.specs.StandsFor.{SpaceValue, StandsFor}
 use Rattle.space_core.specs.declared.progress.SliceStop.{SliceStop}
 use Rattle.space_core.specs.declared.progress.SliceStop.TheVariants.{Budget}
@@ -154,24 +156,44 @@ module _ {S : Type 0} (held : S → List ℕ) (honest : Type 0) (failures : S �
       → None ≡ hart_refusal p hart items → IsFaithful held honest (record { pager = pager; slots = slots; processes = items; jobs = jobs }) → n ≡ length items → lent ≡ items
       → (one : ChangesOne (SlicesMany held honest hart count last) p lent new)
       → (Runs held honest failures (steps_of p hart count (option_map step_reply last)) (replies_of count (option_map step_reply last)) (record { pager = pager; slots = slots; processes = items; jobs = jobs })
-          (record { pager = pager; slots = slots; processes = take n (new ++ drop (length new) items); jobs = jobs }))
-        × IsFaithful held honest (record { pager = pager; slots = slots; processes = take n (new ++ drop (length new) items); jobs = jobs })
+      (record { pager = pager; slots = slots; processes = take n (new ++ drop (length new) items); jobs = jobs }))
+      × IsFaithful held honest (record { pager = pager; slots = slots; processes = take n (new ++ drop (length new) items); jobs = jobs })
   many_back pager slots jobs items lent new n count last allowed faithful long same one =
       let core : CoreValue S = record { pager = pager; slots = slots; processes = items; jobs = jobs } in
       let found : slice_get items p ≡ Some one.process = ap (λ l. slice_get l p) (sym same) ∙ one.found in
       let is : new ≡ slice_set items p one.process' = one.is ∙ ap (λ l. slice_set l p one.process') same in
       let all : slice_set items p one.process' ≡ take n (new ++ drop (length new) items) = sym is ∙ sym (lent_back items new n long (ap length is ∙ length-set items p one.process')) in
       let may : hart_reason hart one.process ≡ None = sym (ap (of_process (hart_reason hart)) found) ∙ sym allowed in
-      let stepped = many_stepped core one.process found may faithful count last one.process' one.how in
-      ( subst (λ l. Runs held honest failures (steps_of p hart count (option_map step_reply last)) (replies_of count (option_map step_reply last)) core (record { pager = pager; slots = slots; processes = l; jobs = jobs })) all stepped.runs,
-        subst (λ l. IsFaithful held honest (record { pager = pager; slots = slots; processes = l; jobs = jobs })) all stepped.faithful)
+      let stepped = many_stepped core one.process found may faithful count last one.process' one.how in (
+        subst (λ l. Runs held honest failures (steps_of p hart count (option_map step_reply last)) (replies_of count (option_map step_reply last)) core (record { pager = pager; slots = slots; processes = l; jobs = jobs })) all stepped.runs,
+        subst (λ l. IsFaithful held honest (record { pager = pager; slots = slots; processes = l; jobs = jobs })) all stepped.faithful,
+      )
 
--- one more slice that went on
-pub slices_more : {S : Type 0} (held : S → List ℕ) (honest : Type 0) (hart n ran : ℕ) (why : SliceStop) (old between new : SpaceValue S) → SlicesOn held honest hart n old between → why ≡ Budget
-    → Slices held honest hart 1 between new ran why → SlicesOn held honest hart (n + 1) old new
-unfolding SlicesOn
-slices_more held honest hart n ran why old between new on goes slice =
-    let at : Slices held honest hart 1 between new ran Budget = subst (λ w. Slices held honest hart 1 between new ran w) goes slice in
-    let one : Slices held honest hart 1 between new 1 Budget = subst (λ r. Slices held honest hart 1 between new r Budget) at.stops.0 at in
-    let e : suc n ≡ n + 1 = omega arith in
-    subst (λ m. SlicesOn held honest hart m old new) e (between, (on, one))
+one_slice : {S : Type 0} (held : S → List ℕ) (honest : Type 0) (hart ran : ℕ) (why : SliceStop) (old new : SpaceValue S) → SlicesOne held honest hart ran why old new → Slices held honest hart 1 old new ran why
+one_slice held honest hart ran why old new one = record {
+  ran_is = one.ran_is;
+  recorded = one.recorded;
+  left = one.left;
+  within = one.within;
+  stops = one.stops;
+  pages = one.pages;
+  kept = one.kept;
+  stands = one.stands;
+}
+
+-- steps of a space in a row, and its slices
+slices_on : {S : Type 0} (held : S → List ℕ) (honest : Type 0) (hart n : ℕ) (old new : SpaceValue S) → StepsOn held honest hart n old new → SlicesOn held honest hart n old new
+unfolding StepsOn SlicesOn
+slices_on held honest hart zero old new on = on
+slices_on held honest hart (suc n) old new on = (on.0, (slices_on held honest hart n old on.0 on.1.0, one_slice held honest hart 1 Budget on.0 new on.1.1))
+
+pub many_of_steps : {S : Type 0} (held : S → List ℕ) (honest : Type 0) (hart count : ℕ) (last : Option Slice) (old new : ProcessSideValue S)
+    → StepsEach held honest hart count (option_map (λ slice. (slice.ran, slice.stop)) last) old.space new.space → new.purged ≡ old.purged
+    → SlicesMany held honest hart count (option_map (λ slice. slice.stop) last) old new
+many_of_steps held honest hart count None old new each purged = record { between = each.between; on = slices_on held honest hart count old.space each.between each.on; ends = each.at_last; purged = purged }
+many_of_steps held honest hart count (Some slice) old new each purged = record {
+  between = each.between;
+  on = slices_on held honest hart count old.space each.between each.on;
+  ends = (slice.ran, one_slice held honest hart slice.ran slice.stop each.between new.space each.at_last);
+  purged = purged;
+}

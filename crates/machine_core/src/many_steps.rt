@@ -10,7 +10,7 @@ use crate::event::Reply;
 use crate::machine::Core;
 use crate::process_side::ProcessSide;
 use clock_policy::Clock;
-use space_core::SliceStop;
+use space_core::{Slice, SliceStop};
 use std::sync::ledger::Ledger;
 use swap_slots::SwapSlot;
 
@@ -50,12 +50,7 @@ impl<L: Ledger, S: SwapSlot, C: Clock> Core<L, S, C> {
                 last: Some(Reply::Refused(refusal)),
             };
         }
-        let slices = slices_at(
-            self.processes.as_mut_slice(),
-            process as usize,
-            hart,
-            most,
-        );
+        let slices = slices_at(self.processes.as_mut_slice(), process as usize, hart, most);
         Steps {
             ran: slices.ran,
             last: last_reply(slices.last),
@@ -95,18 +90,19 @@ impl<L: Ledger, S: SwapSlot> ProcessSide<L, S> {
         ensures all { IfNone result.last (result.ran ≡ most) }
         ensures short { IfSome result.last (λ _. result.ran < most) }
     {
-        for ran in 0..most {
-            let slice = self.slice(hart, 1);
-            let SliceStop::Budget = slice.stop else {
-                return ManySlices {
-                    ran,
-                    last: Some(slice.stop),
-                };
-            };
-        }
+        let steps = self.space.steps(hart, most);
         ManySlices {
-            ran: most,
-            last: None,
+            ran: steps.ran,
+            last: last_stop(steps.last),
         }
+    }
+}
+
+fn last_stop(last: Option<Slice>) -> Option<SliceStop>
+    ensures { result ≡ option_map (λ slice. slice.stop) last }
+{
+    match last {
+        None => None,
+        Some(slice) => Some(slice.stop),
     }
 }

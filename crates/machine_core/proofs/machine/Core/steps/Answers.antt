@@ -58,11 +58,11 @@ returns-clause-runs g c =
       jobs = c.self.inside.jobs.items;
     } in
     let back =
-        many_back g.S.SwapSlot.content g.S.SwapSlot.honest g.S.SwapSlot.failures c.args.process c.args.hart c.self.inside.pager c.self.inside.slots c.self.inside.jobs.items c.self.inside.processes.items
-        c.as_mut_slice.result.now c.slices_at-slices.new.processes c.self.inside.processes.len c.slices_at-slices.result.ran c.slices_at-slices.result.last
-        (sym c.in_default.is ∙ c.hart_refusal-refusal.ensures ∙ ap (hart_refusal c.args.process c.args.hart) c.as_slice.ensures.value)
-        (subst (λ (k : CoreValue _). IsFaithful g.S.SwapSlot.content g.S.SwapSlot.honest k) (sym c.self.view_is) c.faithful.ensures)
-        (omega (arith, c.self.inside.processes.ok.0)) c.as_mut_slice.ensures.value c.slices_at-slices.ensures.changes in
+    many_back g.S.SwapSlot.content g.S.SwapSlot.honest g.S.SwapSlot.failures c.args.process c.args.hart c.self.inside.pager c.self.inside.slots c.self.inside.jobs.items c.self.inside.processes.items
+    c.as_mut_slice.result.now c.slices_at-slices.new.processes c.self.inside.processes.len c.slices_at-slices.result.ran c.slices_at-slices.result.last
+    (sym c.in_default.is ∙ c.hart_refusal-refusal.ensures ∙ ap (hart_refusal c.args.process c.args.hart) c.as_slice.ensures.value)
+    (subst (λ (k : CoreValue _). IsFaithful g.S.SwapSlot.content g.S.SwapSlot.honest k) (sym c.self.view_is) c.faithful.ensures)
+    (omega (arith, c.self.inside.processes.ok.0)) c.as_mut_slice.ensures.value c.slices_at-slices.ensures.changes in
     subst (λ l. Runs g.S.SwapSlot.content g.S.SwapSlot.honest g.S.SwapSlot.failures (steps_of c.args.process c.args.hart c.slices_at-slices.result.ran l) (replies_of c.slices_at-slices.result.ran l) c.args.self.now new)
     (sym c.last_reply.ensures)
     (subst (λ (k : CoreValue _). Runs g.S.SwapSlot.content g.S.SwapSlot.honest g.S.SwapSlot.failures (steps_of c.args.process c.args.hart c.slices_at-slices.result.ran (option_map step_reply c.slices_at-slices.result.last)) (replies_of c.slices_at-slices.result.ran (option_map step_reply c.slices_at-slices.result.last)) k new)

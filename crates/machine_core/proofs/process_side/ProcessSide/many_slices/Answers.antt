@@ -1,15 +1,15 @@
-use Rattle.std.proofs.Common.{refl, ◌∙◌}
-use Rattle.machine_core.specs.ManySteps.{SlicesOn}
-use Rattle.machine_core.proofs.SingleSteps.{slices_more}
+use Rattle.std.proofs.Common.{option_map, refl, sym, subst}
+use Rattle.space_core.specs.declared.progress.Slice.{Slice}
+use Rattle.space_core.specs.declared.progress.SliceStop.{SliceStop}
+use Rattle.machine_core.specs.ManySteps.{SlicesMany}
+use Rattle.machine_core.specs.Sides.{ProcessSideValue}
+use Rattle.machine_core.proofs.SingleSteps.{many_of_steps}
 use Rattle.machine_core.proofs.process_side.ProcessSide.many_slices.Goals as goal
 
-pub loop-ran-init : goal.loop-ran-init
-unfolding SlicesOn
-loop-ran-init g c = record { on = refl; purged = refl }
-
-pub loop-ran-preserved : goal.loop-ran-preserved
-loop-ran-preserved g c = record {
-  on = slices_more g.S.SwapSlot.content g.S.SwapSlot.honest c.args.hart c.loop-ran.ran c.slice-slice.result.ran c.slice-slice.result.stop c.args.self.now.space c.loop-ran.self.space c.slice-slice.new.self.space
-      c.loop-ran.invariant.on c.in-Budget.is c.slice-slice.ensures.slice;
-  purged = c.slice-slice.ensures.purged ∙ c.loop-ran.invariant.purged;
-}
+pub returns-clause-slices : goal.returns-clause-slices
+returns-clause-slices g c =
+    let new : ProcessSideValue _ = record { space = c.steps-steps.new.self; purged = c.self.inside.purged } in
+    let was : ProcessSideValue _ = record { space = c.self.inside.space; purged = c.self.inside.purged } in
+    subst (λ l. SlicesMany g.S.SwapSlot.content g.S.SwapSlot.honest c.args.hart c.steps-steps.result.ran l c.args.self.now new) (sym c.last_stop.ensures)
+    (subst (λ (o : ProcessSideValue _). SlicesMany g.S.SwapSlot.content g.S.SwapSlot.honest c.args.hart c.steps-steps.result.ran (option_map (λ (slice : Slice). slice.stop) c.steps-steps.result.last) o new) c.self.view_is
+    (many_of_steps g.S.SwapSlot.content g.S.SwapSlot.honest c.args.hart c.steps-steps.result.ran c.steps-steps.result.last was new c.steps-steps.ensures.each refl))

@@ -2,7 +2,7 @@
 use Rattle.std.proofs.Common.{ℕ, List}
 use Rattle.machine_core.specs.declared.event.Event.{Event}
 use Rattle.machine_core.specs.declared.event.Reply.{Reply}
-use Rattle.machine_core.specs.Applying.{Applies, Reaches}
+use Rattle.machine_core.specs.Applying.{Applies, Runs, Reaches}
 use Rattle.machine_core.specs.ApplyingLaws.{reaches_same, reaches_more, reaches_on}
 use Rattle.machine_core.specs.Machine.{CoreValue}
 
@@ -17,3 +17,6 @@ module _ {S : Type 0} (held : S → List ℕ) (honest : Type 0) (failures : S �
   pub reaches_last : (old between late new : CoreValue S) → Reaches held honest failures old between → Reaches held honest failures between late
       → Reaches held honest failures late new → Reaches held honest failures old new
   reaches_last old between late new a b c = reaches_on held honest failures old late new (reaches_on held honest failures old between late a b) c
+
+  pub reaches_by : (events : List Event) (replies : List Reply) (old new : CoreValue S) → Runs held honest failures events replies old new → Reaches held honest failures old new
+  reaches_by events replies old new run = record { events = events; replies = replies; runs = run }

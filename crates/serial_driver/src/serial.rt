@@ -4,7 +4,7 @@ ghost use Rattle.serial_driver.specs.Reporting.{Reports};
 
 use crate::harts::is_running;
 use crate::reporting::report;
-use crate::turns::Turns;
+use crate::turns::{Next, Turns};
 use clock_policy::{Clock, Key};
 use flat_machine::KillCause;
 use machine_core::{Core, Event, Report};
@@ -48,7 +48,7 @@ fn play<L: Ledger, S: SwapSlot, C: Clock>(core: &mut Core<L, S, C>, slice: u32, 
 }
 
 /// Plays a machine until each process has ended, or so many events have happened.
-#[tactic(auto, using(machine_core::specs::ApplyingLaws::reaches_more, machine_core::specs::ApplyingLaws::reaches_same))]
+#[tactic(auto, using(machine_core::specs::ApplyingLaws::reaches_on, machine_core::specs::ApplyingLaws::reaches_same))]
 fn play_events<L: Ledger, S: SwapSlot, C: Clock>(
     core: &mut Core<L, S, C>,
     turns: &mut Turns,
@@ -56,17 +56,66 @@ fn play_events<L: Ledger, S: SwapSlot, C: Clock>(
 )
     ensures { Reaches S.content S.honest S.failures core.old core.new }
 {
-    'events: for _ in 0..limit {
-        let Some(event) = turns.next(core) else {
+    let mut left = limit;
+    'turns: for _ in 0..limit {
+        if left == 0 {
+            return;
+        }
+        let Some(next) = turns.next(core, left) else {
             return;
         };
-        let reply = core.apply(event);
-        turns.heed(event, reply);
+        left = left.saturating_sub(act(core, turns, next));
     }
 }
 
+/// Does what comes next, and tells how many events that was.
+fn act<L: Ledger, S: SwapSlot, C: Clock>(
+    core: &mut Core<L, S, C>,
+    turns: &mut Turns,
+    next: Next,
+) -> u64
+    ensures { Reaches S.content S.honest S.failures core.old core.new }
+{
+    match next {
+        Next::Event(event) => apply(core, turns, event),
+        Next::Steps {
+            process,
+            hart,
+            most,
+        } => run(core, turns, process, hart, most),
+    }
+}
+
+/// Applies an event.
+fn apply<L: Ledger, S: SwapSlot, C: Clock>(
+    core: &mut Core<L, S, C>,
+    turns: &mut Turns,
+    event: Event,
+) -> u64
+    ensures { Reaches S.content S.honest S.failures core.old core.new }
+{
+    let reply = core.apply(event);
+    turns.heed(event, reply);
+    1
+}
+
+/// Runs steps of a hart, and tells how many events that was.
+fn run<L: Ledger, S: SwapSlot, C: Clock>(
+    core: &mut Core<L, S, C>,
+    turns: &mut Turns,
+    process: u32,
+    hart: u32,
+    most: u32,
+) -> u64
+    ensures { Reaches S.content S.honest S.failures core.old core.new }
+{
+    let done = core.steps(process, hart, most);
+    turns.heed_steps(done);
+    u64::from(done.ran) + u64::from(done.last.is_some())
+}
+
 /// Does the save that is out, if there is one.
-#[tactic(auto, using(crate::proofs::Reached::reaches_one, machine_core::specs::ApplyingLaws::reaches_same))]
+#[tactic(auto, using(machine_core::specs::ApplyingLaws::reaches_same))]
 fn save<L: Ledger, S: SwapSlot, C: Clock>(core: &mut Core<L, S, C>, unsaved: Option<Key>)
     ensures { Reaches S.content S.honest S.failures core.old core.new }
 {

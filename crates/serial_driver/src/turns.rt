@@ -4,7 +4,7 @@ use crate::harts::{HartOf, live_hart_from, next_live};
 use crate::patience::Patience;
 use clock_policy::{Clock, Key};
 use flat_machine::KillCause;
-use machine_core::{Core, Event, EventRefusal, Reply};
+use machine_core::{Core, Event, EventRefusal, Reply, Steps};
 use std::sync::ledger::Ledger;
 use swap_slots::SwapSlot;
 
@@ -25,6 +25,14 @@ enum Stage {
     Save(Key),
     Kill { process: u32, cause: KillCause },
     Purge { process: u32 },
+}
+
+/// What comes next.
+#[derive(Clone, Copy)]
+pub(crate) enum Next {
+    /// Steps of a hart, up to so many, until one does not go on.
+    Steps { process: u32, hart: u32, most: u32 },
+    Event(Event),
 }
 
 /// Whose turn it is, and at what.
@@ -58,25 +66,38 @@ impl Turns {
         }
     }
 
-    /// The next event, or `None` once each process has ended.
+    /// What comes next where so many events may happen still, or `None` once each process has ended.
     pub(crate) fn next<L: Ledger, S: SwapSlot, C: Clock>(
         &mut self,
         core: &Core<L, S, C>,
-    ) -> Option<Event> {
-        match self.stage {
-            Stage::Run => Some(self.step()),
+        allowed: u64,
+    ) -> Option<Next> {
+        let event = match self.stage {
+            Stage::Run => return Some(self.steps(allowed)),
             Stage::Choose(from) => {
                 self.running = next_live(core, from)?;
                 self.left = self.slice;
                 self.stage = Stage::Run;
-                Some(self.step())
+                return Some(self.steps(allowed));
             }
-            Stage::Rest => Some(notice(self.running)),
-            Stage::Wait => Some(self.bring(core.counts().pager.free > 0)),
-            Stage::Clear { victim, hart } => Some(self.clear(core, victim, hart)),
-            Stage::Save(victim) => Some(Event::Saved(victim)),
-            Stage::Kill { process, cause } => Some(Event::Kill { process, cause }),
-            Stage::Purge { process } => Some(Event::Purge { process }),
+            Stage::Rest => notice(self.running),
+            Stage::Wait => self.bring(core.counts().pager.free > 0),
+            Stage::Clear { victim, hart } => self.clear(core, victim, hart),
+            Stage::Save(victim) => Event::Saved(victim),
+            Stage::Kill { process, cause } => Event::Kill { process, cause },
+            Stage::Purge { process } => Event::Purge { process },
+        };
+        Some(Next::Event(event))
+    }
+
+    /// Goes on by how many steps of the hart ran and went on, and by the reply to a further one.
+    pub(crate) fn heed_steps(&mut self, steps: Steps) {
+        if steps.ran > 0 {
+            self.ran(steps.ran);
+        }
+        match steps.last {
+            Some(reply) => self.after_step(reply),
+            None => self.rest_at_end(),
         }
     }
 
@@ -102,9 +123,15 @@ impl Turns {
         }
     }
 
-    fn step(&self) -> Event {
+    /// The rest of the hart's slice, of which so many events may happen still.
+    fn steps(&self, allowed: u64) -> Next {
         let HartOf { process, hart } = self.running;
-        Event::Step { process, hart }
+        let most = u32::try_from(allowed).unwrap_or(u32::MAX).min(self.left);
+        Next::Steps {
+            process,
+            hart,
+            most,
+        }
     }
 
     /// Brings the page in that the hart waits for, or asks the list for a victim.
@@ -137,21 +164,18 @@ impl Turns {
         notice(HartOf { process, hart })
     }
 
-    #[inline]
     fn after_step(&mut self, reply: Reply) {
         match reply {
             Reply::Ran => {
-                self.ran();
-                if self.left == 0 {
-                    self.stage = Stage::Rest;
-                }
+                self.ran(1);
+                self.rest_at_end();
             }
             Reply::Yielded => {
-                self.ran();
+                self.ran(1);
                 self.stage = Stage::Rest;
             }
             Reply::HartDone => {
-                self.ran();
+                self.ran(1);
                 self.choose();
             }
             Reply::Absent(page) => {
@@ -163,10 +187,17 @@ impl Turns {
         }
     }
 
-    /// An instruction of the hart ran.
-    fn ran(&mut self) {
+    /// So many instructions of the hart ran.
+    fn ran(&mut self, count: u32) {
         self.patience.renew(self.running.process);
-        self.left = self.left.saturating_sub(1);
+        self.left = self.left.saturating_sub(count);
+    }
+
+    /// The slice is over where nothing is left of it.
+    fn rest_at_end(&mut self) {
+        if self.left == 0 {
+            self.stage = Stage::Rest;
+        }
     }
 
     /// The process of the hart goes on no more.

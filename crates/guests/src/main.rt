@@ -7,7 +7,7 @@ use std::io::{BufWriter, Write};
 use std::process::ExitCode;
 
 /// The words of each run: a guest's file, and the file that it reads where it reads one.
-const RUNS: [&[&str]; 9] = [
+const RUNS: [&[&str]; 13] = [
     &["flat", "hi.words"],
     &["flat", "p8.s"],
     &["flat", "p15.s"],
@@ -17,6 +17,18 @@ const RUNS: [&[&str]; 9] = [
     &["flat", "c/queens.elf"],
     &["flat", "c/mandelbrot.elf"],
     &["flat", "c/words.elf", "--input", "c/address.txt"],
+    &["run", "--serial", "--frames", "4", "p8.s"],
+    &["run", "--serial", "--frames", "16", "by_rows.s"],
+    &["run", "--serial", "--frames", "16", "by_columns.s"],
+    &[
+        "drive",
+        "--frames",
+        "4",
+        "--slots",
+        "4",
+        "drive.txt",
+        "p15.s",
+    ],
 ];
 
 /// Runs them all; the exit status is the highest of theirs.

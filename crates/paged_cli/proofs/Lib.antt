@@ -1,2 +1,2 @@
-pub mod Rows
+pub mod Slots
 pub mod WordLines

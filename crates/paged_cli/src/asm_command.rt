@@ -2,6 +2,7 @@
 
 use crate::fault::Fault;
 use crate::image_file::read_source;
+use command_line::AsmRequest;
 use elf_image::write_elf;
 use std::fs;
 use std::io::Write;
@@ -10,14 +11,13 @@ use std::rt::Files;
 /// Writes the ELF file of a source, and what it holds: its words of text, its bytes of data before padding, its entry.
 pub fn run_asm<'a, R: Files + AllocGlobal, W: Write>(
     rt: &R,
-    source: &'a str,
-    target: &'a str,
+    request: &AsmRequest<'a>,
     out: &mut W,
 ) -> Result<(), Fault<'a>> {
-    let listing = read_source(rt, source)?;
+    let listing = read_source(rt, request.source)?;
     let file = write_elf(rt.alloc(), listing.image())?;
-    if fs::write(rt, target, file.as_slice()).is_err() {
-        return Err(Fault::CannotRead(target));
+    if fs::write(rt, request.target, file.as_slice()).is_err() {
+        return Err(Fault::CannotRead(request.target));
     }
     writeln!(
         out,

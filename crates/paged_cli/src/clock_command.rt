@@ -2,8 +2,9 @@
 
 use crate::fault::Fault;
 use crate::files::read_text;
-use clock_list::ClockList;
 use clock_policy::{Clock, Key, Refusal, Verdict};
+use clock_ring::ClockRing;
+use command_line::ClockRequest;
 use scripts::{ClockCall, call_on_line};
 use std::io::Write;
 use std::rt::Files;
@@ -13,12 +14,11 @@ use text_lines::next_line;
 /// Plays the script in a file on a new list.
 pub fn run_clock<'a, R: Files + AllocGlobal, W: Write>(
     rt: &R,
-    frames: u32,
-    script: &'a str,
+    request: &ClockRequest<'a>,
     out: &mut W,
 ) -> Result<(), Fault<'a>> {
-    let text = read_text(rt, script)?;
-    match ClockList::new(rt.alloc(), frames as usize) {
+    let text = read_text(rt, request.script)?;
+    match ClockRing::new(rt.alloc(), request.frames as usize) {
         Ok(mut list) => play(&mut list, text.as_str().as_bytes(), out),
         Err(_) => Err(Fault::NoMemory),
     }

@@ -1,3 +1,4 @@
+use command_line::UsageError;
 use std::alloc::AllocError;
 use std::io;
 use thiserror::Error;
@@ -34,6 +35,15 @@ impl From<AllocError> for Fault<'_> {
 
     fn from(_: AllocError) -> Self {
         Fault::NoMemory
+    }
+}
+
+impl From<UsageError> for Fault<'_> {
+    fn from(error: UsageError) -> Self {
+        match error {
+            UsageError::BadUsage => Fault::BadUsage,
+            UsageError::NoMemory => Fault::NoMemory,
+        }
     }
 }
 

@@ -31,6 +31,17 @@ pub fn read_file<'a, R: Files + AllocGlobal>(rt: &R, name: &'a str) -> Result<Ve
     Ok(bytes)
 }
 
+/// The input of a process: the bytes of a file, or none where no file is named.
+pub fn read_input<'a, R: Files + AllocGlobal>(
+    rt: &R,
+    name: Option<&'a str>,
+) -> Result<Vec<u8>, Fault<'a>> {
+    match name {
+        Some(name) => read_file(rt, name),
+        None => Ok(Vec::new(rt.alloc())),
+    }
+}
+
 /// The text of a file, which has to be UTF-8.
 pub fn read_text<'a, R: Files + AllocGlobal>(rt: &R, name: &'a str) -> Result<String, Fault<'a>> {
     text_of(read_file(rt, name)?, name)

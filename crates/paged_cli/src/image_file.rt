@@ -1,7 +1,9 @@
 //! Images and sources in files.
 
+ghost use Rattle.std.specs.Prelude.{◌≡◌, IfOk, length};
+
 use crate::fault::Fault;
-use crate::files::{read_file, text_of};
+use crate::files::{read_file, read_input, text_of};
 use crate::image_kind::{ImageKind, kind_of_file};
 use crate::words_file::{WordsError, words_of_file};
 use elf_image::{ElfFault, Image, read_elf};
@@ -17,6 +19,29 @@ pub fn read_image<'a, R: Files + AllocGlobal>(rt: &R, name: &'a str) -> Result<I
         ImageKind::Words => image_of_words(rt.alloc(), file.as_slice(), name),
         ImageKind::Source => Ok(listing_of(rt.alloc(), file, name)?.into_image()),
     }
+}
+
+/// What the processes of a machine are to run: for each file the image that it holds, the first on an input and the others on
+/// none. The images are read before the input.
+pub fn read_processes<'a, R: Files + AllocGlobal>(
+    rt: &R,
+    images: &[&'a str],
+    input: Option<&'a str>,
+) -> Result<Vec<(Image, Vec<u8>)>, Fault<'a>>
+    ensures { IfOk result (λ processes. length processes.items ≡ length images.now) }
+{
+    let mut processes = Vec::new(rt.alloc());
+    for image in images {
+        let image = read_image(rt, image)?;
+        if processes.push((image, Vec::new(rt.alloc()))).is_err() {
+            return Err(Fault::NoMemory);
+        }
+    }
+    let input = read_input(rt, input)?;
+    if let Some(first) = processes.first_mut() {
+        first.1 = input;
+    }
+    Ok(processes)
 }
 
 /// The listing of the source that a file holds, whatever it begins with.

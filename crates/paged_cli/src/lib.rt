@@ -1,16 +1,19 @@
-//! The program `paged`: its command line, the files that it reads, and what it prints.
+//! The program `paged`: the files that it reads, what its commands come to, and what it prints.
 #![tactic(auto)]
 
-mod arguments;
 mod asm_command;
 mod clock_command;
+mod drive_command;
 mod fault;
 mod files;
 mod flat_command;
 mod image_file;
 mod image_kind;
+mod machine;
 mod process_lines;
 mod program;
+mod report_lines;
+mod run_command;
 mod words_file;
 
 pub use program::run_paged;

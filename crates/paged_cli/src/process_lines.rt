@@ -1,9 +1,10 @@
 //! What is told of a process that has ended.
 
-ghost use Rattle.std.specs.Prelude.{◌≡◌};
-ghost use Rattle.paged_cli.specs.ExitStatus.{exit_status};
+ghost use Rattle.std.specs.Prelude.{◌≡◌, map, max};
+ghost use Rattle.paged_cli.specs.ExitStatus.{exit_status, ending_of, worst_status};
 
-use flat_machine::End;
+use flat_machine::{End, KillCause};
+use machine_core::ProcessReport;
 use std::io::Write;
 use std::{fmt, io};
 
@@ -18,9 +19,38 @@ pub fn status_of_end(end: End) -> u8
     }
 }
 
+/// The exit status of a run: the highest of its processes' statuses.
+pub fn status_of_all(processes: &[ProcessReport]) -> u8
+    ensures { result ≡ worst_status 0 (map (λ process. process.end) processes.now) }
+{
+    let mut status = 0;
+    let mut rest = processes;
+    while let Some((first, others)) = rest.split_first() {
+        status = worse(status, status_of_end(end_of(first.end)));
+        rest = others;
+    }
+    status
+}
+
+fn worse(status: u8, other: u8) -> u8
+    ensures { result ≡ max status other }
+{
+    if other > status { other } else { status }
+}
+
+/// How a process ended; one that goes on when its run is over was stopped at the limit.
+pub fn end_of(end: Option<End>) -> End
+    ensures { result ≡ ending_of end }
+{
+    match end {
+        Some(end) => end,
+        None => End::Killed(KillCause::Limit),
+    }
+}
+
 /// Writes the output of a process, and how it ended and after how many steps.
 pub fn write_process<W: Write>(
-    number: u32,
+    number: usize,
     output: &[u8],
     end: End,
     steps: u64,

@@ -1,10 +1,12 @@
 //! A run of the program.
 
-use crate::arguments::{Request, read_request};
 use crate::asm_command::run_asm;
 use crate::clock_command::run_clock;
+use crate::drive_command::run_drive;
 use crate::fault::Fault;
 use crate::flat_command::run_flat;
+use crate::run_command::run_machine;
+use command_line::{Request, read_request};
 use std::convert::AsStr;
 use std::io::{Read, Write};
 use std::rt::Files;
@@ -12,7 +14,7 @@ use std::rt::Files;
 /// The exit status where a fault stopped the command.
 const FAULT: u8 = 2;
 
-/// Runs the program on the words behind its name, and answers its exit status: 0 or, of a process, how it ended; 2 for a fault,
+/// Runs the program on the words behind its name, and answers its exit status: 0 or, of processes, how they ended; 2 for a fault,
 /// which is told on `err`. The files that the words name are read by `rt`.
 pub fn run_paged<R: Files + AllocGlobal, S: AsStr, I: Read, O: Write, E: Write>(
     rt: &R,
@@ -38,19 +40,20 @@ fn run_words<'a, R: Files + AllocGlobal, S: AsStr, O: Write>(
     out: &mut O,
 ) -> Result<u8, Fault<'a>> {
     match read_request(rt.alloc(), words)? {
-        Request::Asm { source, target } => {
-            run_asm(rt, source, target, out)?;
+        Request::Asm(request) => {
+            run_asm(rt, &request, out)?;
             Ok(0)
         }
-        Request::Flat {
-            limit,
-            input,
-            image,
-        } => run_flat(rt, limit, input, image, out),
-        Request::Clock { frames, script } => {
-            run_clock(rt, frames, script, out)?;
+        Request::Flat(request) => run_flat(rt, &request, out),
+        Request::Clock(request) => {
+            run_clock(rt, &request, out)?;
             Ok(0)
         }
+        Request::Drive(request) => {
+            run_drive(rt, &request, out)?;
+            Ok(0)
+        }
+        Request::Run(request) => run_machine(rt, &request, out),
     }
 }
 

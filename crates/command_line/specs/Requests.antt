@@ -1,0 +1,98 @@
+-- The request that a command's arguments make: every default and every range.
+use Rattle.std.specs.Prelude.{◌≡◌, ℕ, ◌≤◌, List, Option, Some, None, codes, length, map, option_map, IsSomeAnd, ⊤}
+use Rattle.std.specs.Str.Parse.{digits_value}
+use Rattle.clap.specs.Walk.{Row, Text, all_of, first_of}
+use Rattle.text_lines.specs.Numbers.{IsUpTo}
+use Rattle.command_line.specs.declared.request.AsmRequest.{AsmRequest}
+use Rattle.command_line.specs.declared.request.FlatRequest.{FlatRequest}
+use Rattle.command_line.specs.declared.request.ClockRequest.{ClockRequest}
+use Rattle.command_line.specs.declared.request.DriveRequest.{DriveRequest}
+use Rattle.command_line.specs.declared.request.RunRequest.{RunRequest}
+use Rattle.command_line.specs.declared.request.Request.{Request}
+use Rattle.command_line.specs.declared.request.Request.TheVariants.{Asm, Flat, Clock, Drive, Run}
+
+-- a decimal number from `least` to `most`, and nothing else
+abbrev pub IsBetween : ℕ → ℕ → Text → Type 0
+IsBetween least most text = IsUpTo most 10 text × (least ≤ digits_value 10 text)
+
+-- the number of a text, in a range
+abbrev pub IsNumberFrom : ℕ → ℕ → ℕ → Text → Type 0
+IsNumberFrom least most number text = IsBetween least most text × (number ≡ digits_value 10 text)
+
+-- the number of an option, in a range, or what it is where the option is not given
+abbrev pub IsOption : ℕ → ℕ → ℕ → ℕ → Option Text → Type 0
+IsOption default least most number None = number ≡ default
+IsOption default least most number (Some text) = IsNumberFrom least most number text
+
+-- the files of the images, in their order
+abbrev pub AreImages : List Row → List Text → Type 0
+AreImages rows names = (all_of (codes "image") rows ≡ Some names) × (length names ≤ 16)
+
+-- one thread is asked for; a number of workers may stand beside it, and has to lie in its range
+abbrev pub IsSerial : List Row → Type 0
+IsSerial rows = (first_of (codes "serial") rows ≡ Some (codes "true"))
+    × ((workers : ℕ) × IsOption 4 1 64 workers (first_of (codes "workers") rows))
+
+abbrev pub AsksAsm : List Row → AsmRequest → Type 0
+AsksAsm rows request = (first_of (codes "source") rows ≡ Some request.source.now)
+    × (first_of (codes "target") rows ≡ Some request.target.now)
+
+abbrev pub AsksFlat : List Row → FlatRequest → Type 0
+AsksFlat rows request = IsOption 100000000 1 1000000000 request.limit (first_of (codes "limit") rows)
+    × (first_of (codes "input") rows ≡ option_map (λ s. s.now) request.input)
+    × (first_of (codes "image") rows ≡ Some request.image.now)
+
+abbrev pub AsksClock : List Row → ClockRequest → Type 0
+AsksClock rows request = IsSomeAnd (first_of (codes "frames") rows) (IsNumberFrom 4 4096 request.frames)
+    × (first_of (codes "script") rows ≡ Some request.script.now)
+
+pub record AsksDrive (rows : List Row) (request : DriveRequest) : Type 0 where
+  pub frames_are : IsOption 64 4 4096 request.frames (first_of (codes "frames") rows)
+  pub slots_are : IsOption 4096 0 65536 request.slots (first_of (codes "slots") rows)
+  pub script_is : first_of (codes "script") rows ≡ Some request.script.now
+  pub images_are : AreImages rows (map (λ s. s.now) request.images.items)
+
+pub record AsksRun (rows : List Row) (request : RunRequest) : Type 0 where
+  pub frames_are : IsOption 64 4 4096 request.frames (first_of (codes "frames") rows)
+  pub slots_are : IsOption 4096 0 65536 request.slots (first_of (codes "slots") rows)
+  pub slice_is : IsOption 1000 1 100000 request.slice (first_of (codes "slice") rows)
+  pub limit_is : IsOption 100000000 1 1000000000 request.limit (first_of (codes "limit") rows)
+  pub input_is : first_of (codes "input") rows ≡ option_map (λ s. s.now) request.input
+  pub serial : IsSerial rows
+  pub images_are : AreImages rows (map (λ s. s.now) request.images.items)
+
+-- what a command asks for, by its name and its arguments
+abbrev pub Asks : Text → List Row → Request → Type 0
+Asks name rows (Asm request) = (name ≡ codes "asm") × AsksAsm rows request
+Asks name rows (Flat request) = (name ≡ codes "flat") × AsksFlat rows request
+Asks name rows (Clock request) = (name ≡ codes "clock") × AsksClock rows request
+Asks name rows (Drive request) = (name ≡ codes "drive") × AsksDrive rows request
+Asks name rows (Run request) = (name ≡ codes "run") × AsksRun rows request
+
+-- of the command that was found among the words, with its arguments
+abbrev pub IsAsked : Option (Text × List Row) → Request → Type 0
+IsAsked found request = IsSomeAnd found (λ command. Asks command.0 command.1 request)
+
+-- what lies in a range from `least` to `most`
+abbrev pub IsFrom : ℕ → ℕ → ℕ → Type 0
+IsFrom least most number = (least ≤ number) × (number ≤ most)
+
+abbrev pub IsFlatInRange : FlatRequest → Type 0
+IsFlatInRange request = IsFrom 1 1000000000 request.limit
+
+abbrev pub IsClockInRange : ClockRequest → Type 0
+IsClockInRange request = IsFrom 4 4096 request.frames
+
+abbrev pub IsDriveInRange : DriveRequest → Type 0
+IsDriveInRange request = IsFrom 4 4096 request.frames × (request.slots ≤ 65536) × (length request.images.items ≤ 16)
+
+abbrev pub IsRunInRange : RunRequest → Type 0
+IsRunInRange request = IsFrom 4 4096 request.frames × (request.slots ≤ 65536) × IsFrom 1 100000 request.slice
+    × IsFrom 1 1000000000 request.limit × (length request.images.items ≤ 16)
+
+abbrev pub IsInRange : Request → Type 0
+IsInRange (Asm request) = ⊤
+IsInRange (Flat request) = IsFlatInRange request
+IsInRange (Clock request) = IsClockInRange request
+IsInRange (Drive request) = IsDriveInRange request
+IsInRange (Run request) = IsRunInRange request

@@ -1,0 +1,13 @@
+//! The command line of the program `paged`: the request that the words behind the program's name make.
+#![tactic(auto)]
+
+mod commands;
+mod request;
+mod requests;
+mod values;
+mod words;
+
+pub use request::{
+    AsmRequest, ClockRequest, DriveRequest, FlatRequest, Request, RunRequest, UsageError,
+};
+pub use words::read_request;

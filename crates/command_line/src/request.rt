@@ -1,0 +1,80 @@
+use std::alloc::AllocError;
+use thiserror::Error;
+
+/// What is asked for on the command line.
+#[derive(Debug, Drop)]
+pub enum Request<'a> {
+    Asm(AsmRequest<'a>),
+    Flat(FlatRequest<'a>),
+    Clock(ClockRequest<'a>),
+    Drive(DriveRequest<'a>),
+    Run(RunRequest<'a>),
+}
+
+/// Assemble a source into an ELF file.
+#[derive(Clone, Copy, Debug)]
+pub struct AsmRequest<'a> {
+    pub source: &'a str,
+    /// The file to be written.
+    pub target: &'a str,
+}
+
+/// Run an image on flat memory.
+#[derive(Clone, Copy, Debug)]
+pub struct FlatRequest<'a> {
+    /// The most instructions that are run.
+    pub limit: u32,
+    /// The file whose bytes the process reads, if there is one.
+    pub input: Option<&'a str>,
+    pub image: &'a str,
+}
+
+/// Play a script on a replacement list.
+#[derive(Clone, Copy, Debug)]
+pub struct ClockRequest<'a> {
+    pub frames: u32,
+    pub script: &'a str,
+}
+
+/// Play a script of events on a machine, with a process for each image.
+#[derive(Debug, Drop)]
+pub struct DriveRequest<'a> {
+    pub frames: u32,
+    pub slots: u32,
+    pub script: &'a str,
+    pub images: Vec<&'a str>,
+}
+
+/// Run a machine with a process for each image to its end, on one thread.
+#[derive(Debug, Drop)]
+pub struct RunRequest<'a> {
+    pub frames: u32,
+    pub slots: u32,
+    /// The most instructions that a hart runs in its turn.
+    pub slice: u32,
+    /// The most events that are applied.
+    pub limit: u32,
+    /// The file whose bytes the first process reads, if there is one.
+    pub input: Option<&'a str>,
+    pub images: Vec<&'a str>,
+}
+
+/// Why the words make no request.
+#[derive(Clone, Copy, Debug, PartialEq, Eq, Error)]
+pub enum UsageError {
+    #[error("bad usage")]
+    BadUsage,
+    #[error("no memory")]
+    NoMemory,
+}
+
+impl From<AllocError> for UsageError {
+    ghost use Rattle.std.specs.Prelude.{◌≡◌};
+    ghost use Rattle.command_line.specs.declared.request.UsageError.TheVariants.{NoMemory};
+
+    ghost from_gives = { λ _ error. error ≡ NoMemory };
+
+    fn from(_: AllocError) -> Self {
+        UsageError::NoMemory
+    }
+}

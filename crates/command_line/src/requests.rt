@@ -1,0 +1,113 @@
+//! The requests that commands make of their arguments.
+
+ghost use Rattle.std.specs.Prelude.{◌≡◌, IfOk, IfErr, IsErr, Err};
+ghost use Rattle.clap.specs.Matches.{found_of};
+ghost use Rattle.clap.specs.Walk.{rows_of};
+ghost use Rattle.command_line.specs.Requests.{AsksAsm, AsksFlat, AsksClock, AsksDrive, AsksRun, IsSerial, IsFlatInRange, IsClockInRange, IsDriveInRange, IsRunInRange};
+ghost use Rattle.command_line.specs.declared.request.AsmRequest.{AsmRequest};
+ghost use Rattle.command_line.specs.declared.request.FlatRequest.{FlatRequest};
+ghost use Rattle.command_line.specs.declared.request.ClockRequest.{ClockRequest};
+ghost use Rattle.command_line.specs.declared.request.DriveRequest.{DriveRequest};
+ghost use Rattle.command_line.specs.declared.request.RunRequest.{RunRequest};
+
+use crate::request::{AsmRequest, ClockRequest, DriveRequest, FlatRequest, RunRequest, UsageError};
+use crate::values::{found, images, in_range, is_given, limit, number_or, value};
+use clap::ArgMatches;
+use std::alloc::Global;
+
+pub fn asm_request<'a>(matches: &ArgMatches<'a>) -> Result<AsmRequest<'a>, UsageError>
+    ensures asked { IfOk result (AsksAsm (rows_of (found_of matches.now))) }
+    ensures bad { IsErr result → (request : AsmRequest) → ¬ AsksAsm (rows_of (found_of matches.now)) request }
+    ensures refused { IfErr result (λ error. error ≡ UsageError.BadUsage) }
+{
+    let source = value(matches, "source")?;
+    let target = value(matches, "target")?;
+    Ok(AsmRequest { source, target })
+}
+
+pub fn flat_request<'a>(matches: &ArgMatches<'a>) -> Result<FlatRequest<'a>, UsageError>
+    ensures in_range { IfOk result IsFlatInRange }
+    ensures asked { IfOk result (AsksFlat (rows_of (found_of matches.now))) }
+    ensures bad { IsErr result → (request : FlatRequest) → ¬ AsksFlat (rows_of (found_of matches.now)) request }
+    ensures refused { IfErr result (λ error. error ≡ UsageError.BadUsage) }
+{
+    let limit = limit(matches)?;
+    let input = found(matches, "input");
+    let image = value(matches, "image")?;
+    Ok(FlatRequest {
+        limit,
+        input,
+        image,
+    })
+}
+
+pub fn clock_request<'a>(matches: &ArgMatches<'a>) -> Result<ClockRequest<'a>, UsageError>
+    ensures in_range { IfOk result IsClockInRange }
+    ensures asked { IfOk result (AsksClock (rows_of (found_of matches.now))) }
+    ensures bad { IsErr result → (request : ClockRequest) → ¬ AsksClock (rows_of (found_of matches.now)) request }
+    ensures refused { IfErr result (λ error. error ≡ UsageError.BadUsage) }
+{
+    let frames = value(matches, "frames")?;
+    let frames = in_range(frames, 4, 4096)?;
+    let script = value(matches, "script")?;
+    Ok(ClockRequest { frames, script })
+}
+
+pub fn drive_request<'a>(
+    alloc: Global,
+    matches: &ArgMatches<'a>,
+) -> Result<DriveRequest<'a>, UsageError>
+    ensures in_range { IfOk result IsDriveInRange }
+    ensures asked { IfOk result (AsksDrive (rows_of (found_of matches.now))) }
+    ensures bad { result ≡ Err UsageError.BadUsage → (request : DriveRequest) → ¬ AsksDrive (rows_of (found_of matches.now)) request }
+{
+    let frames = number_or(matches, "frames", 64, 4, 4096)?;
+    let slots = number_or(matches, "slots", 4096, 0, 65_536)?;
+    let script = value(matches, "script")?;
+    let images = images(alloc, matches)?;
+    Ok(DriveRequest {
+        frames,
+        slots,
+        script,
+        images,
+    })
+}
+
+pub fn run_request<'a>(
+    alloc: Global,
+    matches: &ArgMatches<'a>,
+) -> Result<RunRequest<'a>, UsageError>
+    ensures in_range { IfOk result IsRunInRange }
+    ensures asked { IfOk result (AsksRun (rows_of (found_of matches.now))) }
+    ensures bad { result ≡ Err UsageError.BadUsage → (request : RunRequest) → ¬ AsksRun (rows_of (found_of matches.now)) request }
+{
+    let frames = number_or(matches, "frames", 64, 4, 4096)?;
+    let slots = number_or(matches, "slots", 4096, 0, 65_536)?;
+    let slice = number_or(matches, "slice", 1000, 1, 100_000)?;
+    let limit = number_or(matches, "limit", 100_000_000, 1, 1_000_000_000)?;
+    let input = found(matches, "input");
+    serial(matches)?;
+    let images = images(alloc, matches)?;
+    Ok(RunRequest {
+        frames,
+        slots,
+        slice,
+        limit,
+        input,
+        images,
+    })
+}
+
+/// Whether all runs on one thread, as it has to today. A number of workers is looked at all the same.
+fn serial(matches: &ArgMatches<'_>) -> Result<(), UsageError>
+    ensures asked { IfOk result (λ _. IsSerial (rows_of (found_of matches.now))) }
+    ensures bad { IsErr result → ¬ IsSerial (rows_of (found_of matches.now)) }
+    ensures refused { IfErr result (λ error. error ≡ UsageError.BadUsage) }
+{
+    number_or(matches, "workers", 4, 1, 64)?;
+    if is_given(matches, "serial") {
+        Ok(())
+    } else {
+        Err(UsageError::BadUsage)
+    }
+}

@@ -1,0 +1,81 @@
+//! From words to a request.
+
+ghost use Rattle.std.specs.Prelude.{◌≡◌, [], IfOk, IfErr, Err, codes, map, true};
+ghost use Rattle.clap.specs.Faults.{fault_of};
+ghost use Rattle.clap.specs.Simple.{subcommand_of, subcommand_rows_of};
+ghost use Rattle.clap.specs.Matches.{found_of};
+ghost use Rattle.clap.specs.Takes.{takes};
+ghost use Rattle.clap.specs.Walk.{rows_of};
+ghost use Rattle.command_line.specs.Commands.{paged_app};
+ghost use Rattle.command_line.specs.Requests.{Asks, IsAsked, IsInRange};
+ghost use Rattle.command_line.specs.declared.request.Request.{Request};
+
+use crate::commands::paged;
+use crate::request::{Request, UsageError};
+use crate::requests::{asm_request, clock_request, drive_request, flat_request, run_request};
+use clap::ArgMatches;
+use clap::error::ErrorKind;
+use std::alloc::Global;
+use std::convert::AsStr;
+
+/// The request that the words behind the program's name make.
+pub fn read_request<'a, S: AsStr>(alloc: Global, words: &'a [S]) -> Result<Request<'a>, UsageError>
+    ensures in_range { IfOk result IsInRange }
+
+    // What is asked for is what the words say, and they have no fault.
+    ensures asked { IfOk result (IsAsked (subcommand_of paged_app (map S.text words.now))) }
+    ensures no_fault { IfOk result (λ _. fault_of paged_app (map S.text words.now) ≡ []) }
+
+    // Where the words are taken and ask for something, want of memory alone refuses it.
+    ensures lawful { result ≡ Err UsageError.BadUsage → takes paged_app (map S.text words.now) ≡ true → (request : Request) → ¬ IsAsked (subcommand_of paged_app (map S.text words.now)) request }
+{
+    let matches = parse(alloc, words)?;
+    request_of(alloc, &matches)
+}
+
+/// The words as arguments of the commands.
+fn parse<'a, S: AsStr>(alloc: Global, words: &'a [S]) -> Result<ArgMatches<'a>, UsageError>
+    ensures rows { IfOk result (λ matches. subcommand_rows_of matches ≡ subcommand_of paged_app (map S.text words.now)) }
+    ensures no_fault { IfOk result (λ _. fault_of paged_app (map S.text words.now) ≡ []) }
+    ensures lawful { IfErr result (λ error. takes paged_app (map S.text words.now) ≡ true → error ≡ UsageError.NoMemory) }
+{
+    match paged(alloc)?.try_get_matches_from(words) {
+        Ok(matches) => Ok(matches),
+        Err(error) => Err(match error.kind() {
+            ErrorKind::OutOfMemory => UsageError::NoMemory,
+            _ => UsageError::BadUsage,
+        }),
+    }
+}
+
+/// The request that the arguments of a command make.
+fn request_of<'a>(alloc: Global, matches: &ArgMatches<'a>) -> Result<Request<'a>, UsageError>
+    ensures in_range { IfOk result IsInRange }
+    ensures asked { IfOk result (IsAsked (subcommand_rows_of matches.now)) }
+    ensures bad { result ≡ Err UsageError.BadUsage → (request : Request) → ¬ IsAsked (subcommand_rows_of matches.now) request }
+{
+    match matches.subcommand() {
+        Some((name, matches)) => named_request(alloc, name, matches),
+        None => Err(UsageError::BadUsage),
+    }
+}
+
+/// The request of the command of this name, with its arguments.
+fn named_request<'a>(
+    alloc: Global,
+    name: &str,
+    matches: &ArgMatches<'a>,
+) -> Result<Request<'a>, UsageError>
+    ensures in_range { IfOk result IsInRange }
+    ensures asked { IfOk result (Asks name.now (rows_of (found_of matches.now))) }
+    ensures bad { result ≡ Err UsageError.BadUsage → (request : Request) → ¬ Asks name.now (rows_of (found_of matches.now)) request }
+{
+    match name {
+        "asm" => Ok(Request::Asm(asm_request(matches)?)),
+        "flat" => Ok(Request::Flat(flat_request(matches)?)),
+        "clock" => Ok(Request::Clock(clock_request(matches)?)),
+        "drive" => Ok(Request::Drive(drive_request(alloc, matches)?)),
+        "run" => Ok(Request::Run(run_request(alloc, matches)?)),
+        _ => Err(UsageError::BadUsage),
+    }
+}

@@ -1,0 +1,5 @@
+-- The ledger of the machine's frames is the one that the blank names.
+use Rattle.paged_cli.proofs.run_command.run.Given as goal
+
+abbrev pub ghosts-run_with : goal.ghosts-run_with
+ghosts-run_with a = record { name = a.blank.name; parts = a.blank.parts }

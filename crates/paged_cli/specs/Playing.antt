@@ -1,0 +1,44 @@
+-- What the commands that run a machine come to.
+use Rattle.std.specs.Prelude.{ℕ, ⊤, List, Option, replicate}
+use Rattle.swap_slots.specs.Slot.{zero_bytes}
+use Rattle.machine_core.specs.Applying.{Runs, Reaches}
+use Rattle.machine_core.specs.Headline.{PagingIsInvisible}
+use Rattle.machine_core.specs.Machine.{CoreValue}
+use Rattle.machine_core.specs.Opening.{Start, MachineBegins}
+use Rattle.machine_core.specs.declared.event.Event.{Event}
+use Rattle.machine_core.specs.declared.event.Reply.{Reply}
+use Rattle.machine_core.specs.declared.report.Report.{Report}
+use Rattle.scripts.specs.DriveScript.{IsScript}
+use Rattle.serial_driver.specs.Reporting.{Reports}
+
+-- a slot in memory is seen as the page that it holds; it keeps what was saved, and never fails
+abbrev pub Slot : Type 0
+Slot = List ℕ
+
+abbrev pub page_of : Slot → List ℕ
+page_of slot = slot
+
+abbrev pub never : Slot → ℕ
+never slot = 0
+
+-- the machine before its first event
+abbrev pub IsNew : ℕ → ℕ → List Start → CoreValue Slot → Type 0
+IsNew frames slots starts core = MachineBegins frames (replicate slots zero_bytes) starts core
+
+-- a script, by its lines, on a new machine: the replies to the events above its first bad line, whose number is told
+pub record Plays (frames slots : ℕ) (starts : List Start) (lines : List (List ℕ)) (replies : List Reply) (bad_line : Option ℕ) : Type 0 where
+  pub events : List Event
+  pub start : CoreValue Slot
+  pub end : CoreValue Slot
+  pub new : IsNew frames slots starts start
+  pub script : IsScript lines events bad_line
+  pub runs : Runs page_of ⊤ never events replies start end
+  pub invisible : PagingIsInvisible page_of ⊤ events replies start end
+
+-- what is reported of a new machine after some events
+pub record ReportsRun (frames slots : ℕ) (starts : List Start) (report : Report) : Type 0 where
+  pub start : CoreValue Slot
+  pub end : CoreValue Slot
+  pub new : IsNew frames slots starts start
+  pub reached : Reaches page_of ⊤ never start end
+  pub told : Reports end report

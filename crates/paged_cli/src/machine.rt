@@ -1,0 +1,48 @@
+//! The machines that commands run.
+
+ghost use Rattle.std.specs.Prelude.{◌≡◌, ◌+◌, ◌≤◌, IfOk, length, map, replicate};
+ghost use Rattle.machine_core.specs.Opening.{start_of, MachineBegins};
+ghost use Rattle.swap_slots.specs.Slot.{zero_bytes};
+
+use clock_ring::ClockRing;
+use elf_image::Image;
+use machine_core::Core;
+use std::alloc::{AllocError, Global};
+use std::sync::ledger::{Blank, Ledger};
+use swap_slots::MemorySlot;
+
+/// A machine of so many frames and slots, in memory, that is to run images on inputs.
+pub fn new_machine<L: Ledger>(
+    alloc: Global,
+    frames: u32,
+    blank: Blank,
+    slots: u32,
+    processes: Vec<(Image, Vec<u8>)>,
+) -> Result<Core<L, MemorySlot, ClockRing>, AllocError>
+    requires name { blank.name ≡ L.name }
+    requires parts { blank.parts ≡ L.parts }
+    requires one_each { L.parts ≡ frames + 1 }
+    requires least { 4 ≤ frames }
+    requires most { frames ≤ 4096 }
+    requires few { length processes.items ≤ 16 }
+    ensures { IfOk result (λ core. MachineBegins frames (replicate slots zero_bytes) (map (λ start. start_of start.0 start.1.items) processes.items) core) }
+{
+    let slots = memory_slots(alloc, slots)?;
+    match Core::new(alloc, frames, blank, slots, processes) {
+        Ok(core) => Ok(core),
+        Err(_) => Err(AllocError),
+    }
+}
+
+/// So many slots in memory.
+#[tactic(auto, using(crate::proofs::Slots::one_more, crate::proofs::Slots::as_many))]
+fn memory_slots(alloc: Global, count: u32) -> Result<Vec<MemorySlot>, AllocError>
+    ensures { IfOk result (λ slots. slots.items ≡ replicate count zero_bytes) }
+{
+    let wanted = count as usize;
+    let mut slots = Vec::new(alloc);
+    'slots: while slots.len() < wanted {
+        slots.push(MemorySlot::new(alloc)?)?;
+    }
+    Ok(slots)
+}

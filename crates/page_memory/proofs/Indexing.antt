@@ -11,7 +11,7 @@ use Rattle.std.proofs.lemmas.List.{get_or_default, get_or_append_left, length_pu
 use Rattle.std.proofs.lemmas.Option.{none-some}
 use Rattle.std.proofs.Math.Seq.{get_or-append_seam}
 use Rattle.std.proofs.lemmas.Grind.{common_steps}
-use Rattle.page_memory.specs.PageIndex.{kept, number_at, Indexes, Keeps, Remembers}
+use Rattle.page_memory.specs.PageIndex.{kept, number_at, Indexes, Keeps}
 
 -- a list's first place of an element is the one place where it stands
 first_place : (pages : List ℕ) (page i : ℕ) → i ≤ length pages → ((k : ℕ) → k < i → slice_index pages k ≢ page) → (i < length pages → slice_index pages i ≡ page) → position_or_len (λ listed. listed == page) pages ≡ i
@@ -166,25 +166,6 @@ empty_index directory e =
       within = λ page. let zeroed : number_at directory page ≡ 0 = ap (λ d. number_at d page) e ∙ no_leaf 1024 page in omega arith;
       found = λ page some. let zeroed : number_at directory page ≡ 0 = ap (λ d. number_at d page) e ∙ no_leaf 1024 page in absurd (omega arith);
     }
-
--- no page is remembered
-pub none_remembered : (pages : List ℕ) (place : ℕ) → Remembers pages (2 ^ 20) place
-none_remembered pages place = record { stands = λ small. absurd (omega arith) }
-
--- a listed page's place is the same in a longer list
-still_there : (pages : List ℕ) (more page place : ℕ) → position (λ listed. listed == page) pages ≡ Some place → position (λ listed. listed == page) (pages ++ more ∷ []) ≡ Some place
-still_there pages more page place at =
-    let here = position-Some (λ listed. listed == page) pages place 0 at in
-    let within : place < length (pages ++ more ∷ []) = omega (arith, here.0, length_push pages more) in
-    let same : slice_index (pages ++ more ∷ []) place ≡ page = get_or_append_left pages (more ∷ []) 0 place here.0 ∙ eqb-true _ _ here.1 in
-    place_within (pages ++ more ∷ []) page place within
-    (first_place (pages ++ more ∷ []) page place (omega arith) (λ k h e. let other : eqb (get_or pages k 0) page ≡ false = here.2 k h in let k_in : k < length pages = omega (arith, here.0) in ne_from other (sym (get_or_append_left pages (more ∷ []) 0 k k_in) ∙ e)) (λ h. same))
-  where
-    ne_from : {a b : ℕ} → eqb a b ≡ false → a ≡ b → ⊥
-    ne_from {a} {b} f e = let t : eqb a b ≡ true = eq-eqb a b e in cc
-
-pub still_remembered : (pages : List ℕ) (more page place : ℕ) → Remembers pages page place → Remembers (pages ++ more ∷ []) page place
-still_remembered pages more page place is = record { stands = λ small. still_there pages more page place (is.stands small) }
 
 -- one page fewer
 pub one_less : (old new : List (Option (Box (List ℕ)))) (pages : List ℕ) (page : ℕ) → Indexes old (pages ++ page ∷ []) → Keeps old new page 0 → Indexes new pages

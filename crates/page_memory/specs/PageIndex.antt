@@ -23,7 +23,3 @@ pub record Indexes (directory : List (Option (Box (List ℕ)))) (pages : List �
 pub record Keeps (old new : List (Option (Box (List ℕ)))) (page number : ℕ) : Type 0 where
   pub wide : length new ≡ length old
   pub numbers : (other : ℕ) → number_at new other ≡ (if other == page then number else number_at old other)
-
--- a page number that is remembered stands at the place that is kept with it
-pub record Remembers (pages : List ℕ) (page place : ℕ) : Type 0 where
-  pub stands : page < 2 ^ 20 → position (λ listed. listed == page) pages ≡ Some place

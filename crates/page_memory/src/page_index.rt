@@ -9,31 +9,25 @@ use std::marker::Model;
 /// How many page numbers a leaf of the directory serves.
 const LEAF_PAGES: u32 = 1024;
 
-/// Where no page is remembered.
-const NO_PAGE: u32 = PAGE_COUNT;
-
 /// A list of different page numbers that answers in constant time at which place one stands.
 ///
 /// It is laid out as a two-level page table: a directory of 1024 leaves, of which only those that are
-/// needed are there, and each leaf has a number for each of its 1024 pages. The place of one page is
-/// remembered beside it, so that to find that page again takes no look-up.
+/// needed are there, and each leaf has a number for each of its 1024 pages.
 #[derive(Drop)]
 pub struct PageIndex {
     directory: Vec<Option<Box<[u32; 1024]>>>,
     pages: Vec<u32>,
-    remembered: u32,
-    place: usize,
 }
 
 impl Model for PageIndex {
     ghost use Rattle.std.specs.Prelude.{List, ℕ};
-    ghost use Rattle.page_memory.specs.PageIndex.{Indexes, Remembers};
+    ghost use Rattle.page_memory.specs.PageIndex.{Indexes};
 
     ghost Value = { List ℕ };
 
     ghost view = { λ index. index.pages.items };
 
-    ghost invariant = { λ index. Indexes index.directory.items index.pages.items × Remembers index.pages.items index.remembered index.place };
+    ghost invariant = { λ index. Indexes index.directory.items index.pages.items };
 }
 
 impl PageIndex {
@@ -48,8 +42,6 @@ impl PageIndex {
         Ok(PageIndex {
             directory,
             pages: Vec::new(alloc),
-            remembered: NO_PAGE,
-            place: 0,
         })
     }
 
@@ -94,42 +86,6 @@ impl PageIndex {
         }
     }
 
-    /// The same, found at once where the page is the one that is remembered.
-    #[inline]
-    pub fn find_remembered(&self, page: u32) -> Option<usize>
-        requires { page < 2 ^ 20 }
-        ensures place { result ≡ position (λ listed. listed == page) self.now }
-        ensures within { IfSome result (λ place. place < length self.now) }
-    {
-        if page == self.remembered {
-            Some(self.place)
-        } else {
-            self.find(page)
-        }
-    }
-
-    /// Remembers a page's place, if it is listed.
-    #[inline]
-    pub fn remember(&mut self, page: u32)
-        requires { page < 2 ^ 20 }
-        ensures { self.new ≡ self.old }
-    {
-        if page != self.remembered {
-            self.remember_another(page);
-        }
-    }
-
-    #[cold]
-    fn remember_another(&mut self, page: u32)
-        requires { page < 2 ^ 20 }
-        ensures { self.new ≡ self.old }
-    {
-        if let Some(place) = self.find(page) {
-            self.remembered = page;
-            self.place = place;
-        }
-    }
-
     /// Lists a page number that is not listed yet, behind the others.
     #[tactic(auto, using(crate::proofs::Indexing::few))]
     pub fn push(&mut self, alloc: Global, page: u32) -> Result<(), AllocError>
@@ -161,7 +117,6 @@ impl PageIndex {
     {
         if let Some(page) = self.pages.pop() {
             clear(&mut self.directory, page);
-            self.remembered = NO_PAGE;
         }
     }
 }

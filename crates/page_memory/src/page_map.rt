@@ -87,27 +87,6 @@ impl<T> PageMap<T> {
         self.index.find(page)
     }
 
-    /// The same, found at once where the page is the one that was remembered last.
-    #[inline]
-    #[tactic(auto, using(crate::proofs::PlacedEntries::of_values))]
-    pub fn place_remembered(&self, page: u32) -> Option<usize>
-        requires { page < 2 ^ 20 }
-        ensures place { result ≡ place_of page self.now }
-        ensures within { IfSome result (λ place. place < length self.now) }
-    {
-        let _ = &self.values;
-        self.index.find_remembered(page)
-    }
-
-    /// Remembers a page's place.
-    #[inline]
-    pub fn remember(&mut self, page: u32)
-        requires { page < 2 ^ 20 }
-        ensures { self.new ≡ self.old }
-    {
-        self.index.remember(page);
-    }
-
     /// The value at a place.
     #[inline]
     pub fn at(&self, place: usize) -> &T

@@ -1,6 +1,6 @@
 use super::instruction::Insn;
 use super::kinds::{AmoKind, BranchKind, ImmediateKind, LoadKind, OpKind, ShiftKind, StoreKind};
-use super::operands::Reg;
+use super::operands::{FenceBits, Reg};
 use std::fmt;
 use std::fmt::Write;
 
@@ -62,13 +62,7 @@ impl fmt::Display for Insn {
                 amount,
             } => { write!(f, "{} {rd},{rs1},{}", shift_name(*kind), amount.value()) }
             Insn::Op { kind, rd, rs1, rs2 } => write!(f, "{} {rd},{rs1},{rs2}", op_name(*kind)),
-            Insn::Fence { bits, rd, rs1 } => {
-                if bits.value() == FULL_FENCE && rd.index() == 0 && rs1.index() == 0 {
-                    f.write_str("fence")
-                } else {
-                    write!(f, "fence {},{rd},{rs1}", bits.value())
-                }
-            }
+            Insn::Fence { bits, rd, rs1 } => write_fence(f, *bits, *rd, *rs1),
             Insn::Amo {
                 kind,
                 acquire,
@@ -88,6 +82,19 @@ impl fmt::Display for Insn {
 
 /// The bits of a plain `fence`: all accesses before it, then all after it.
 const FULL_FENCE: u16 = 0x0FF;
+
+fn write_fence<W: fmt::Write>(
+    f: &mut fmt::Formatter<W>,
+    bits: FenceBits,
+    rd: Reg,
+    rs1: Reg,
+) -> fmt::Result {
+    if bits.value() == FULL_FENCE && rd.index() == 0 && rs1.index() == 0 {
+        f.write_str("fence")
+    } else {
+        write!(f, "fence {},{rd},{rs1}", bits.value())
+    }
+}
 
 fn ordering_name(acquire: bool, release: bool) -> &'static str {
     match (acquire, release) {

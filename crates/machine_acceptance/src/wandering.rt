@@ -1,0 +1,247 @@
+//! Three processes on four frames do what flat processes do, whatever events come.
+
+ghost use Rattle.std.specs.Prelude.{◌≡◌, ◌<◌};
+
+use crate::image::image_of;
+use clock_policy::Key;
+use clock_ring::ClockRing;
+use flat_machine::FlatProcess;
+use machine_core::{Core, Event, Reply};
+use std::alloc::Global;
+use std::marker::Brand;
+use std::process::Abort;
+use std::sync::ledger::{Blank, Ledger};
+use std::test::Fail;
+use swap_slots::MemorySlot;
+
+/// Two harts that go at random over eight pages of data, 0x11 to 0x18: each loads a word, and stores another sum in its
+/// place or not.
+const WANDERS: &str = "        la   s0, data
+        li   s1, 0x12345678
+        li   s4, 0x7FFC
+        la   a0, child
+        li   a1, 0
+        li   a2, 0
+        li   a7, 1024
+        ecall
+loop:   slli t0, s1, 13
+        xor  s1, s1, t0
+        srli t0, s1, 17
+        xor  s1, s1, t0
+        slli t0, s1, 5
+        xor  s1, s1, t0
+        srli t1, s1, 3
+        and  t1, t1, s4
+        add  t1, t1, s0
+        lw   t2, 0(t1)
+        add  s2, s2, t2
+        andi t3, s1, 1
+        bnez t3, loop
+        add  t2, t2, s1
+        sw   t2, 0(t1)
+        andi t3, s1, 2
+        bnez t3, loop
+        amoadd.w t4, s1, (t1)
+        j    loop
+child:  la   s0, data
+        li   s1, 0x2468ACE1
+        li   s4, 0x7FFC
+        j    loop
+
+        .data
+data:   .space 32768
+";
+
+const PROCESSES: u32 = 3;
+
+const EVENTS: u32 = 10_000;
+
+/// Numbers that look random, the same ones from the same seed.
+#[derive(Drop)]
+struct Random {
+    state: u64,
+}
+
+impl Random {
+    fn below(&mut self, bound: u32) -> u32
+        requires { 0 < bound }
+        ensures { result < bound }
+    {
+        self.state = self
+            .state
+            .wrapping_mul(6_364_136_223_846_793_005)
+            .wrapping_add(1_442_695_040_888_963_407);
+        ((self.state >> 33) % u64::from(bound)) as u32
+    }
+
+    /// Any page of any process, and some that are not there.
+    fn key(&mut self) -> Key {
+        Key {
+            process: self.below(PROCESSES + 1),
+            vpn: 0x10 + self.below(10),
+        }
+    }
+}
+
+/// The pages that the replies told of last: what to do next with a machine that is to get on.
+#[derive(Drop)]
+struct Told {
+    absent: Key,
+    victim: Key,
+    dirty: Key,
+    /// The step that ran just now.
+    goes_on: Option<Event>,
+    ran: u32,
+    freed: u32,
+    saved: u32,
+    refused: u32,
+}
+
+impl Told {
+    /// An event that is chosen at random, most of them ones that get on.
+    fn next(&self, random: &mut Random) -> Event {
+        if let Some(step) = self.goes_on {
+            if random.below(8) > 0 {
+                return step;
+            }
+        }
+        let process = if random.below(16) == 0 {
+            random.below(PROCESSES + 1)
+        } else {
+            self.absent.process
+        };
+        let hart = random.below(3);
+        match random.below(64) {
+            0..=29 => Event::Step { process, hart },
+            30..=33 => Event::Notice { process, hart },
+            34..=39 => Event::Sweep,
+            40..=45 => Event::Collect(self.victim),
+            46 => Event::Collect(random.key()),
+            47..=51 => Event::Saved(self.dirty),
+            52 => Event::Saved(random.key()),
+            53..=61 => Event::PageIn(self.absent),
+            62 => Event::PageIn(random.key()),
+            _ => Event::Purge { process },
+        }
+    }
+
+    /// What a reply tells.
+    fn heed(&mut self, event: Event, reply: Reply) {
+        self.goes_on = None;
+        match reply {
+            Reply::Ran => {
+                self.goes_on = Some(event);
+                self.ran = self.ran.saturating_add(1);
+            }
+            Reply::Absent(vpn) => self.miss(event, vpn),
+            Reply::Victim(key) => self.victim = key,
+            Reply::Dirty => self.copied(event),
+            Reply::Freed => self.free(event),
+            Reply::Refused(_) => self.refused = self.refused.saturating_add(1),
+            _ => {}
+        }
+    }
+
+    fn miss(&mut self, event: Event, vpn: u32) {
+        if let Event::Step { process, .. } = event {
+            self.absent = Key { process, vpn };
+        }
+    }
+
+    fn copied(&mut self, event: Event) {
+        if let Event::Collect(key) = event {
+            self.dirty = key;
+        }
+    }
+
+    fn free(&mut self, event: Event) {
+        match event {
+            Event::Collect(_) => self.freed = self.freed.saturating_add(1),
+            _ => self.saved = self.saved.saturating_add(1),
+        }
+    }
+}
+
+/// Whether a process shows what the flat run of its schedule leaves.
+fn stands_for_its_run<L: Ledger>(
+    alloc: Global,
+    core: &mut Core<L, MemorySlot, ClockRing>,
+    process: u32,
+) -> Result<bool, Fail> {
+    let mut flat = FlatProcess::new(alloc, &image_of(alloc, WANDERS)?, Vec::new(alloc))?;
+    let Some(schedule) = core.schedule(process) else {
+        return Ok(false);
+    };
+    if flat.run(schedule).is_err() {
+        return Ok(false);
+    }
+    for hart in 0..2 {
+        if core.regs(process, hart) != flat.regs(hart) {
+            return Ok(false);
+        }
+    }
+    if core.output(process) != Some(flat.output()) || core.end(process) != Some(flat.end()) {
+        return Ok(false);
+    }
+    for address in 0x1_0000..0x1_9000 {
+        if core.peek(process, address).and_then(|byte| byte.ok()) != flat.byte(address) {
+            return Ok(false);
+        }
+    }
+    Ok(true)
+}
+
+fn wanders_from<L: Ledger>(
+    rt: &impl Abort,
+    alloc: Global,
+    blank: Blank,
+    seed: u64,
+) -> Result<(), Fail>
+    requires name { blank.name ≡ L.name }
+    requires parts { blank.parts ≡ L.parts }
+    requires one_each { L.parts ≡ 5 }
+{
+    let mut starts = Vec::new(alloc);
+    for _ in 0..PROCESSES {
+        starts.push((image_of(alloc, WANDERS)?, Vec::new(alloc)))?;
+    }
+    let mut slots = Vec::new(alloc);
+    for _ in 0..12 {
+        slots.push(MemorySlot::new(alloc)?)?;
+    }
+    let mut core: Core<L, MemorySlot, ClockRing> = Core::new(
+        alloc, 4, blank, slots, starts,
+    ).map_err(|_| "no machine")?;
+    let nowhere = Key { process: 0, vpn: 0 };
+    let mut told = Told {
+        absent: nowhere,
+        victim: nowhere,
+        dirty: nowhere,
+        goes_on: None,
+        ran: 0,
+        freed: 0,
+        saved: 0,
+        refused: 0,
+    };
+    let mut random = Random { state: seed };
+    for _ in 0..EVENTS {
+        let event = told.next(&mut random);
+        let reply = core.apply(event);
+        told.heed(event, reply);
+    }
+    assert!(rt; told.ran > 500, "{} steps", told.ran);
+    assert!(rt; told.freed > 10, "{} drops", told.freed);
+    assert!(rt; told.saved > 10, "{} saves", told.saved);
+    assert!(rt; told.refused > 1000, "{} refusals", told.refused);
+    for process in 0..PROCESSES {
+        let stands = stands_for_its_run(alloc, &mut core, process)?;
+        assert!(rt; stands, "process {process} of seed {seed}");
+    }
+    Ok(())
+}
+
+#[test]
+fn processes_on_four_frames_do_what_they_do_flat(rt: HostRuntime) -> Result<(), Fail> {
+    wanders_from::<Brand>(&rt, rt.alloc(), Blank::new(5), 1)?;
+    wanders_from::<Brand>(&rt, rt.alloc(), Blank::new(5), 20_261_123)
+}

@@ -1,0 +1,237 @@
+//! A process on paged memory with the frames that it may use, and calls of it as values.
+
+ghost use Rattle.std.specs.Prelude.{◌≡◌, ◌<◌, ◌^◌};
+
+use elf_image::Image;
+use flat_machine::FlatProcess;
+use frame_pool::{Frame, FramePool};
+use page_store::{Collected, PageState, SaveJob};
+use paged_memory::PeekFault;
+use rv_asm::assemble;
+use rv_exec::Regs;
+use space_core::{Slice, Space};
+use std::alloc::Global;
+use std::process::Abort;
+use std::sync::ledger::{Blank, Ledger};
+use std::test::Fail;
+use swap_slots::SwapSlot;
+
+/// A call of the process.
+#[derive(Clone, Copy, PartialEq, Eq, Debug)]
+pub(crate) enum Call {
+    State(u32),
+    Slice { hart: u32, budget: u32 },
+    TakeNotices(u32),
+    PageIn(u32),
+    BeginEvict(u32),
+    /// With a spare slot, if there is one left.
+    Collect(u32),
+    /// The save that went out last comes back.
+    Save,
+    BringBack(u32),
+    TestAndClear(u32),
+    TakeOne,
+    Peek(u32),
+    Register { hart: u32, register: u8 },
+    /// How many turns the schedule has, and how many instructions the first has.
+    Schedule,
+}
+
+/// What it answers.
+#[derive(Clone, Copy, PartialEq, Eq, Debug)]
+pub(crate) enum Answer {
+    Done,
+    Refused,
+    State(Option<PageState>),
+    Ran(Slice),
+    NotYet,
+    /// An unchanged page has let its frame go, which is free again.
+    Clean,
+    Dirty,
+    Word(Option<u32>),
+    Byte(Result<u8, PeekFault>),
+    /// Whether there was a frame, and a slot.
+    Given { frame: bool, slot: bool },
+    Nothing,
+    Turns(usize, u32),
+}
+
+#[derive(Drop)]
+pub(crate) struct Bench<L: Ledger, S: SwapSlot> {
+    space: Space<L, S>,
+    frames: FramePool<L>,
+    spares: Vec<S>,
+    jobs: Vec<SaveJob<S>>,
+}
+
+impl<L: Ledger, S: SwapSlot> Bench<L, S> {
+    /// The process that is to run a source, with four frames and these slots.
+    pub fn begin(alloc: Global, source: &str, spares: Vec<S>, blank: Blank) -> Result<Self, Fail>
+        requires name { blank.name ≡ L.name }
+        requires parts { blank.parts ≡ L.parts }
+        requires one_each { L.parts ≡ 5 }
+    {
+        let image = image_of(alloc, source)?;
+        Ok(Bench {
+            space: Space::new(alloc, 0, image, Vec::new(alloc))?,
+            frames: FramePool::new(alloc, 4, blank)?,
+            spares,
+            jobs: Vec::new(alloc),
+        })
+    }
+
+    /// Makes a call.
+    pub fn call(&mut self, call: Call) -> Answer {
+        match call {
+            Call::Slice { hart, budget } => Answer::Ran(self.space.slice(hart, budget)),
+            Call::TakeNotices(hart) => self.take_notices(hart),
+            Call::Save => self.save(),
+            Call::TakeOne => self.take_one(),
+            Call::Peek(address) => Answer::Byte(self.space.peek(address)),
+            Call::Register { hart, register } => Answer::Word(self.register(hart, register)),
+            Call::Schedule => self.schedule(),
+            Call::State(vpn)
+            | Call::PageIn(vpn)
+            | Call::BeginEvict(vpn)
+            | Call::Collect(vpn)
+            | Call::BringBack(vpn)
+            | Call::TestAndClear(vpn) => {
+                if vpn < 1 << 20 {
+                    self.call_page(call, vpn)
+                } else {
+                    Answer::Refused
+                }
+            }
+        }
+    }
+
+    fn call_page(&mut self, call: Call, vpn: u32) -> Answer
+        requires { vpn < 2 ^ 20 }
+    {
+        match call {
+            Call::State(_) => Answer::State(self.space.state(vpn)),
+            Call::PageIn(_) => self.page_in(vpn),
+            Call::BeginEvict(_) => done(self.space.begin_evict(vpn).is_ok()),
+            Call::Collect(_) => self.collect(vpn),
+            Call::BringBack(_) => done(self.space.bring_back(vpn).is_ok()),
+            Call::TestAndClear(_) => done(self.space.test_and_clear(vpn).is_some()),
+            _ => Answer::Nothing,
+        }
+    }
+
+    fn take_notices(&mut self, hart: u32) -> Answer {
+        self.space.take_notices(hart);
+        Answer::Done
+    }
+
+    fn page_in(&mut self, vpn: u32) -> Answer
+        requires { vpn < 2 ^ 20 }
+    {
+        let Some(frame) = self.frames.take() else {
+            return Answer::Nothing;
+        };
+        match self.space.page_in(vpn, frame) {
+            Ok(()) => Answer::Done,
+            Err((frame, _)) => self.give(frame, Answer::Refused),
+        }
+    }
+
+    fn collect(&mut self, vpn: u32) -> Answer
+        requires { vpn < 2 ^ 20 }
+    {
+        let mut spare = self.spares.pop();
+        let collected = self.space.collect(vpn, &mut spare);
+        if let Some(slot) = spare {
+            if self.spares.push(slot).is_err() {
+                return Answer::Nothing;
+            }
+        }
+        self.heed(collected)
+    }
+
+    fn heed(&mut self, collected: Collected<L, S>) -> Answer {
+        match collected {
+            Collected::NotYet => Answer::NotYet,
+            Collected::Clean(frame) => self.give(frame, Answer::Clean),
+            Collected::Dirty(job) => match self.jobs.push(job) {
+                Ok(()) => Answer::Dirty,
+                Err(_) => Answer::Nothing,
+            },
+            Collected::NotLeaving | Collected::NoSlot => Answer::Refused,
+        }
+    }
+
+    fn save(&mut self) -> Answer {
+        let Some(job) = self.jobs.pop() else {
+            return Answer::Nothing;
+        };
+        match self.space.saved(job.run()) {
+            Ok(frame) => self.give(frame, Answer::Done),
+            Err(_) => Answer::Refused,
+        }
+    }
+
+    fn give(&mut self, frame: Frame<L>, answer: Answer) -> Answer {
+        match self.frames.give(frame) {
+            Ok(()) => answer,
+            Err(_) => Answer::Nothing,
+        }
+    }
+
+    fn take_one(&mut self) -> Answer {
+        match self.space.take_one() {
+            Some((frame, slot)) => Answer::Given {
+                frame: frame.is_some(),
+                slot: slot.is_some(),
+            },
+            None => Answer::Nothing,
+        }
+    }
+
+    fn register(&self, hart: u32, register: u8) -> Option<u32> {
+        if register >= 32 {
+            return None;
+        }
+        Some(self.space.regs(hart)?.x(register))
+    }
+
+    /// Whether a hart has these registers.
+    pub fn has_regs(&self, hart: u32, regs: Option<&Regs>) -> bool {
+        self.space.regs(hart) == regs
+    }
+
+    /// Runs the instructions that ran on another process. False where they have no flat run there.
+    pub fn run_again(&self, flat: &mut FlatProcess) -> bool {
+        flat.run(self.space.schedule()).is_ok()
+    }
+
+    fn schedule(&self) -> Answer {
+        let turns = self.space.schedule().turns();
+        match turns.first() {
+            Some(turn) => Answer::Turns(turns.len(), turn.count),
+            None => Answer::Nothing,
+        }
+    }
+}
+
+fn done(ok: bool) -> Answer {
+    if ok { Answer::Done } else { Answer::Refused }
+}
+
+/// Makes calls one after another, and looks at each answer.
+pub(crate) fn expect<L: Ledger, S: SwapSlot>(
+    rt: &impl Abort,
+    bench: &mut Bench<L, S>,
+    calls: &[(Call, Answer)],
+) {
+    for (place, (call, answer)) in calls.iter().enumerate() {
+        let got = bench.call(*call);
+        assert!(rt; got == *answer, "call {place}");
+    }
+}
+
+/// The image of a source.
+pub(crate) fn image_of(alloc: Global, source: &str) -> Result<Image, Fail> {
+    let listing = assemble(alloc, source).map_err(|_| "the source has a fault")?;
+    Ok(listing.into_image())
+}

@@ -1,0 +1,9 @@
+//! Tests of one process on paged memory: what its calls do together, and that it computes what a flat process computes.
+#![tactic(auto)]
+
+#[cfg(test)]
+mod bench;
+#[cfg(test)]
+mod paging;
+#[cfg(test)]
+mod wandering;

@@ -1,0 +1,203 @@
+//! A process whose pages are brought in, evicted, saved and brought back.
+
+ghost use Rattle.std.specs.Prelude.{◌≡◌};
+
+use crate::bench::{Answer, Bench, Call, expect};
+use page_store::PageState;
+use paged_memory::PeekFault;
+use space_core::{Slice, SliceStop};
+use std::alloc::Global;
+use std::marker::Brand;
+use std::process::Abort;
+use std::sync::ledger::{Blank, Ledger};
+use std::test::Fail;
+use swap_slots::{FuseSlot, MemorySlot};
+
+/// Stores a byte in its page of data, 0x11, with the fourth instruction, and ends with the seventh.
+const STORES_A_BYTE: &str = "        la   s0, buf
+        li   t0, 5
+        sb   t0, 3(s0)
+        li   a0, 0
+        li   a7, 94
+        ecall
+
+        .data
+buf:    .word 0
+";
+
+/// Starts hart 1, which stores 5 and then 7 in the page of data, 0x11, and loads the word.
+const STORES_TWICE: &str = "        la   a0, child
+        li   a1, 0
+        li   a2, 0
+        li   a7, 1024
+        ecall
+wait:   j    wait
+child:  la   s0, buf
+        li   t0, 5
+        li   t1, 7
+        sw   t0, 0(s0)
+        sw   t1, 0(s0)
+        lw   t2, 0(s0)
+end:    j    end
+
+        .data
+buf:    .word 0
+";
+
+const fn slice(hart: u32, budget: u32) -> Call {
+    Call::Slice { hart, budget }
+}
+
+const fn ran(ran: u32, stop: SliceStop) -> Answer {
+    Answer::Ran(Slice { ran, stop })
+}
+
+const GIVEN: Answer = Answer::Given {
+    frame: true,
+    slot: false,
+};
+
+fn runs_over_two_pages<L: Ledger>(rt: &impl Abort, alloc: Global, blank: Blank) -> Result<(), Fail>
+    requires name { blank.name ≡ L.name }
+    requires parts { blank.parts ≡ L.parts }
+    requires one_each { L.parts ≡ 5 }
+{
+    let slots = vec![in alloc; MemorySlot::new(alloc)?]?;
+    let mut bench: Bench<L, MemorySlot> = Bench::begin(alloc, STORES_A_BYTE, slots, blank)?;
+    let calls = [
+        (Call::State(0x10), Answer::State(Some(PageState::Fresh))),
+        (Call::State(0x12), Answer::State(None)),
+        (slice(0, 10), ran(0, SliceStop::Absent(0x10))),
+        (Call::PageIn(0x10), Answer::Done),
+        (slice(0, 10), ran(3, SliceStop::Absent(0x11))),
+        (Call::PageIn(0x11), Answer::Done),
+        (slice(0, 10), ran(4, SliceStop::Ended)),
+        (Call::Schedule, Answer::Turns(1, 7)),
+        (Call::Peek(0x1_1003), Answer::Byte(Ok(5))),
+        (Call::TakeOne, GIVEN),
+        (Call::TakeOne, GIVEN),
+        (Call::TakeOne, Answer::Nothing),
+        (Call::Peek(0x1_1003), Answer::Byte(Err(PeekFault::Purged))),
+        (
+            Call::Peek(0x1_2000),
+            Answer::Byte(Err(PeekFault::NotMapped)),
+        ),
+    ];
+    expect(rt, &mut bench, &calls);
+    Ok(())
+}
+
+/// A page leaves while a hart's cache holds it: until its notices are taken, the hart stores by its cache.
+fn stores_while_it_leaves<L: Ledger>(
+    rt: &impl Abort,
+    alloc: Global,
+    blank: Blank,
+) -> Result<(), Fail>
+    requires name { blank.name ≡ L.name }
+    requires parts { blank.parts ≡ L.parts }
+    requires one_each { L.parts ≡ 5 }
+{
+    let slots = vec![in alloc; MemorySlot::new(alloc)?]?;
+    let mut bench: Bench<L, MemorySlot> = Bench::begin(alloc, STORES_TWICE, slots, blank)?;
+    let calls = [
+        (Call::PageIn(0x10), Answer::Done),
+        (Call::PageIn(0x11), Answer::Done),
+        (slice(0, 10), ran(10, SliceStop::Budget)),
+        (slice(1, 4), ran(4, SliceStop::Budget)),
+        (slice(1, 1), ran(1, SliceStop::Budget)),
+        (Call::BeginEvict(0x11), Answer::Done),
+        (slice(1, 1), ran(1, SliceStop::Budget)),
+        (Call::Peek(0x1_1000), Answer::Byte(Ok(7))),
+        (Call::Collect(0x11), Answer::NotYet),
+        (Call::TakeNotices(1), Answer::Done),
+        (Call::Collect(0x11), Answer::Dirty),
+        (Call::Save, Answer::Done),
+        (slice(1, 1), ran(0, SliceStop::Absent(0x11))),
+        (Call::PageIn(0x11), Answer::Done),
+        (slice(1, 1), ran(1, SliceStop::Budget)),
+        (
+            Call::Register {
+                hart: 1,
+                register: 7,
+            },
+            Answer::Word(Some(7)),
+        ),
+    ];
+    expect(rt, &mut bench, &calls);
+    Ok(())
+}
+
+/// An unchanged page needs no slot, however often it comes and goes, and shows the image's bytes.
+fn drops_a_clean_page<L: Ledger>(rt: &impl Abort, alloc: Global, blank: Blank) -> Result<(), Fail>
+    requires name { blank.name ≡ L.name }
+    requires parts { blank.parts ≡ L.parts }
+    requires one_each { L.parts ≡ 5 }
+{
+    let slots = vec![in alloc; MemorySlot::new(alloc)?]?;
+    let mut bench: Bench<L, MemorySlot> = Bench::begin(alloc, STORES_A_BYTE, slots, blank)?;
+    let calls = [
+        (Call::PageIn(0x10), Answer::Done),
+        (slice(0, 1), ran(1, SliceStop::Budget)),
+        (Call::BeginEvict(0x10), Answer::Done),
+        (Call::TakeNotices(0), Answer::Done),
+        (Call::Collect(0x10), Answer::Clean),
+        (Call::State(0x10), Answer::State(Some(PageState::Fresh))),
+
+        // lui s0, 0x11
+        (Call::Peek(0x1_0000), Answer::Byte(Ok(0x37))),
+        (Call::Peek(0x1_0001), Answer::Byte(Ok(0x14))),
+    ];
+    for _ in 0..2 {
+        expect(rt, &mut bench, &calls);
+    }
+    Ok(())
+}
+
+/// A page whose device fails to save it stays in its frame.
+fn keeps_what_is_not_saved<L: Ledger>(
+    rt: &impl Abort,
+    alloc: Global,
+    blank: Blank,
+) -> Result<(), Fail>
+    requires name { blank.name ≡ L.name }
+    requires parts { blank.parts ≡ L.parts }
+    requires one_each { L.parts ≡ 5 }
+{
+    let slots = vec![in alloc; FuseSlot::new(alloc, 0)?]?;
+    let mut bench: Bench<L, FuseSlot> = Bench::begin(alloc, STORES_A_BYTE, slots, blank)?;
+    let calls = [
+        (Call::PageIn(0x10), Answer::Done),
+        (Call::PageIn(0x11), Answer::Done),
+        (slice(0, 4), ran(4, SliceStop::Budget)),
+        (Call::BeginEvict(0x11), Answer::Done),
+        (Call::TakeNotices(0), Answer::Done),
+        (Call::Collect(0x11), Answer::Dirty),
+        (Call::Save, Answer::Refused),
+        (Call::State(0x11), Answer::State(Some(PageState::Leaving))),
+        (Call::BringBack(0x11), Answer::Done),
+        (Call::State(0x11), Answer::State(Some(PageState::Resident))),
+        (Call::Peek(0x1_1003), Answer::Byte(Ok(5))),
+    ];
+    expect(rt, &mut bench, &calls);
+    Ok(())
+}
+
+#[test]
+fn a_process_runs_over_two_pages(rt: HostRuntime) -> Result<(), Fail> {
+    runs_over_two_pages::<Brand>(&rt, rt.alloc(), Blank::new(5))
+}
+
+#[test]
+fn a_hart_stores_while_its_page_leaves(rt: HostRuntime) -> Result<(), Fail> {
+    stores_while_it_leaves::<Brand>(&rt, rt.alloc(), Blank::new(5))
+}
+
+#[test]
+fn an_unchanged_page_is_dropped(rt: HostRuntime) -> Result<(), Fail> {
+    drops_a_clean_page::<Brand>(&rt, rt.alloc(), Blank::new(5))
+}
+
+#[test]
+fn a_page_that_is_not_saved_stays(rt: HostRuntime) -> Result<(), Fail> {
+    keeps_what_is_not_saved::<Brand>(&rt, rt.alloc(), Blank::new(5))
+}

@@ -2,7 +2,7 @@
 
 use crate::fault::Fault;
 use crate::files::read_text;
-use clock_policy::{Clock, Key, Refusal, Verdict};
+use clock_policy::{Clock, Entry, Key, Refusal, Verdict};
 use clock_ring::ClockRing;
 use command_line::ClockRequest;
 use scripts::{ClockCall, call_on_line};
@@ -19,19 +19,27 @@ pub fn run_clock<'a, R: Files + AllocGlobal, W: Write>(
 ) -> Result<(), Fault<'a>> {
     let text = read_text(rt, request.script)?;
     match ClockRing::new(rt.alloc(), request.frames as usize) {
-        Ok(mut list) => play(&mut list, text.as_str().as_bytes(), out),
+        Ok(mut list) => {
+            let mut entries = Vec::new(rt.alloc());
+            play(&mut list, &mut entries, text.as_str().as_bytes(), out)
+        }
         Err(_) => Err(Fault::NoMemory),
     }
 }
 
 /// Writes a reply for each call of a script. A bad line ends it behind the replies so far.
-fn play<'a, C: Clock, W: Write>(list: &mut C, text: &[u8], out: &mut W) -> Result<(), Fault<'a>> {
+fn play<'a, C: Clock, W: Write>(
+    list: &mut C,
+    entries: &mut Vec<Entry>,
+    text: &[u8],
+    out: &mut W,
+) -> Result<(), Fault<'a>> {
     let mut number = 0u64;
     let mut rest = text;
     while let Some((line, others)) = next_line(rest) {
         number += 1;
         match call_on_line(line) {
-            Ok(Some(call)) => reply(list, call, out)?,
+            Ok(Some(call)) => reply(list, entries, call, out)?,
             Ok(None) => {}
             Err(_) => return Err(Fault::BadLine(number)),
         }
@@ -41,7 +49,12 @@ fn play<'a, C: Clock, W: Write>(list: &mut C, text: &[u8], out: &mut W) -> Resul
 }
 
 /// Makes a call, and writes the line that tells what came of it.
-fn reply<C: Clock, W: Write>(list: &mut C, call: ClockCall, out: &mut W) -> io::Result<()> {
+fn reply<C: Clock, W: Write>(
+    list: &mut C,
+    entries: &mut Vec<Entry>,
+    call: ClockCall,
+    out: &mut W,
+) -> io::Result<()> {
     match call {
         ClockCall::Admit(key) => match list.admit(key) {
             Ok(kind) => writeln!(out, "{kind}"),
@@ -68,7 +81,7 @@ fn reply<C: Clock, W: Write>(list: &mut C, call: ClockCall, out: &mut W) -> io::
             let purged = list.purge(process);
             writeln!(out, "purged {purged}")
         }
-        ClockCall::Show => write_list(list, out),
+        ClockCall::Show => write_list(list, entries, out),
     }
 }
 
@@ -77,18 +90,22 @@ fn write_refusal<W: Write>(refusal: Refusal, out: &mut W) -> io::Result<()> {
     writeln!(out, "refused {number}")
 }
 
-/// The state of a list in one line: the numbers, the hands, and the entries from the front.
-fn write_list<C: Clock, W: Write>(list: &C, out: &mut W) -> io::Result<()> {
+/// The state of a list in one line: the numbers, the hands, and the entries from the front, which are copied at once, since
+/// a circle of links reaches a place by all those before it.
+fn write_list<C: Clock, W: Write>(
+    list: &C,
+    entries: &mut Vec<Entry>,
+    out: &mut W,
+) -> io::Result<()> {
     let share = list.share();
     let asked = list.asked();
     let cold = Hand(list.cold_hand());
     let test = Hand(list.test_hand());
     write!(out, "share {share} asked {asked} cold {cold} test {test}:")?;
-    for i in 0..usize::MAX {
-        let Some((key, kind)) = list.entry(i) else {
-            break;
-        };
-        write!(out, " {key}={kind}")?;
+    entries.clear();
+    list.copy_entries(entries)?;
+    for entry in entries.iter() {
+        write!(out, " {}={}", entry.key, entry.kind)?;
     }
     writeln!(out)
 }

@@ -1,0 +1,2 @@
+# A loop with no end.
+again:  j    again

@@ -1,0 +1,3 @@
+# A jump to a label that stands nowhere.
+        nop
+        j    away

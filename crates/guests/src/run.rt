@@ -1,0 +1,39 @@
+//! One run of the program, and how it is shown.
+
+use paged_cli::run_paged;
+use std::io;
+use std::io::Write;
+
+/// What a run left behind.
+#[derive(Drop)]
+pub struct Run {
+    pub out: Vec<u8>,
+    pub err: Vec<u8>,
+    pub status: u8,
+}
+
+/// Runs a command line, whose words are parted by one blank each.
+pub fn run_line(rt: &HostRuntime, line: &str) -> io::Result<Run> {
+    let words: Vec<&str> = line.split(' ').collect(rt.alloc())?;
+    let mut out = Vec::new(rt.alloc());
+    let mut err = Vec::new(rt.alloc());
+    let status = run_paged(rt, words.as_slice(), &mut io::empty(), &mut out, &mut err);
+    Ok(Run { out, err, status })
+}
+
+/// Shows a run: its command line, what it printed, and how it ended.
+pub fn show_run<W: Write>(line: &str, run: &Run, out: &mut W) -> io::Result<()> {
+    writeln!(out, "== {line}")?;
+    out.write_all(run.out.as_slice())?;
+    show_end(run, out)
+}
+
+/// Shows what stands on standard error, if anything, and the exit status.
+pub fn show_end<W: Write>(run: &Run, out: &mut W) -> io::Result<()> {
+    let status = run.status;
+    if !run.err.is_empty() {
+        write!(out, "-- ")?;
+        out.write_all(run.err.as_slice())?;
+    }
+    writeln!(out, "-- status {status}")
+}

@@ -9,11 +9,11 @@ use Rattle.page_memory.specs.EntriesLaws.{has_value}
 use Rattle.page_store.specs.PageValue.{PageValue, Place, Fresh, Resident, Leaving, Saving, Away, Purged, writable}
 use Rattle.sv32_table.specs.EntryAt.{entry_at}
 use Rattle.tlb_core.specs.declared.translation.Translation.{Translation}
-use Rattle.tlb_core.specs.Cache.{entry_of, is_of}
+use Rattle.tlb_core.specs.Cache.{Hits, entry_of, is_of}
 use Rattle.tlb_core.specs.CacheLaws.{All-entry_of, page-entry_of}
 use Rattle.paged_memory.specs.Seen.{frame_seen, frame_standing, rights_seen, is_changed}
 use Rattle.paged_memory.specs.Soundness.{IsSound}
-use Rattle.paged_memory.specs.Access.{Hits, Reaches, HasPage, MarksUse, cache_of, is_doomed}
+use Rattle.paged_memory.specs.Access.{Reaches, HasPage, MarksUse, cache_of, is_doomed}
 use Rattle.paged_memory.specs.Paged.{standing_of, seen_of, seen_at, Holds}
 use Rattle.paged_memory.proofs.PagedLaws.{page_at-place}
 

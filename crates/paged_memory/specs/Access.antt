@@ -34,14 +34,6 @@ is_resident None = false
 abbrev pub cache_of : List (List Translation) → ℕ → List Translation
 cache_of caches hart = slice_index_or caches hart []
 
--- a hart's cache shows the place of a page for an access: it has a translation with the right, and for a store with D
-pub record Hits (cache : List Translation) (access : Access) (page place : ℕ) : Type 0 where
-  pub entry : Translation
-  pub found : entry_of page cache ≡ Some entry
-  pub at : entry.place ≡ place
-  pub allowed : may access entry.rights ≡ true
-  pub dirty : access ≡ Store → entry.dirty ≡ true
-
 module _ {S : Type 0} where
   -- a page that an access may use at its place: it has the right, and its frame may be read and written; for a store it
   -- counts as changed

@@ -1,19 +1,41 @@
-ghost use Rattle.std.specs.Prelude.{◌≡◌, ◌<◌, ◌^◌, length, is_some, Some, IfSome, IfNone, IfOk, IfErr, OnOk, ◌⊎◌, true, option_map};
-ghost use Rattle.page_memory.specs.Words.{page_number};
+ghost use Rattle.std.specs.Prelude.{◌≡◌, ◌<◌, ◌^◌, ◌%◌, length, is_some, Some, IfSome, IfNone, IfOk, IfErr, OnOk, ◌⊎◌, true, option_map};
+ghost use Rattle.page_memory.specs.Words.{page_number, bytes_in};
 ghost use Rattle.page_store.specs.PageValue.{Place};
 ghost use Rattle.sv32_table.specs.EntryAt.{entry_at};
 ghost use Rattle.paged_memory.specs.Paged.{Holds, seen_at, page_at};
 ghost use Rattle.paged_memory.specs.Seen.{is_used};
-ghost use Rattle.paged_memory.specs.Access.{Hits, Reaches, RefusesAccess, Locates, HasPage, MarksUse, KeepsTranslations, MayWalk, cache_of, is_doomed, resident_frame};
+ghost use Rattle.tlb_core.specs.Cache.{Hits};
+ghost use Rattle.paged_memory.specs.Access.{Reaches, RefusesAccess, Locates, HasPage, MarksUse, KeepsTranslations, MayWalk, cache_of, is_doomed, resident_frame};
 
 use crate::caches::Caches;
-use page_memory::{Access, MemoryFault, PageMap, Rights, page_of};
+use page_memory::{Access, MemoryFault, PageMap, Rights, Width, page_of};
 use page_store::{PageState, StoredPage};
 use rv_exec::BusError;
 use std::sync::ledger::Ledger;
 use sv32_table::PageTables;
 use swap_slots::SwapSlot;
 use tlb_core::Translation;
+
+/// The place of a page that is ready for an aligned access of a hart.
+#[inline]
+pub(crate) fn at_hand<L: Ledger, S: SwapSlot>(
+    pages: &PageMap<StoredPage<L, S>>,
+    tables: &PageTables,
+    caches: &Caches,
+    hart: usize,
+    access: Access,
+    width: Width,
+    address: u32,
+) -> Option<usize>
+    requires hart { hart < length caches.now }
+    requires holds { Holds S.content S.honest pages.now tables.now caches.now }
+    ensures aligned { IfSome result (λ _. address % bytes_in width ≡ 0) }
+    ensures reaches { IfSome result (λ place. Reaches pages.now tables.now access (page_number address) place) }
+    ensures has { IfSome result (λ _. HasPage pages.now (cache_of caches.now hart) (page_number address)) }
+    ensures marked { IfSome result (λ _. MarksUse pages.now tables.now (cache_of caches.now hart) (page_number address)) }
+{
+    caches.ready(hart, access, width, address)
+}
 
 /// The place of a page that a hart's cache shows for an access.
 #[inline]
@@ -121,8 +143,7 @@ fn walk<L: Ledger, S: SwapSlot>(
 }
 
 /// The place of a page for a hart's access, by its cache or by a walk.
-#[inline]
-pub(crate) fn reach<L: Ledger, S: SwapSlot>(
+fn hit_or_walk<L: Ledger, S: SwapSlot>(
     pages: &PageMap<StoredPage<L, S>>,
     tables: &mut PageTables,
     caches: &mut Caches,
@@ -145,4 +166,28 @@ pub(crate) fn reach<L: Ledger, S: SwapSlot>(
         Some(place) => Ok(place),
         None => walk(pages, tables, caches, hart, access, page, address),
     }
+}
+
+/// The same, and the page is ready for the hart's next access of the kind.
+pub(crate) fn reach<L: Ledger, S: SwapSlot>(
+    pages: &PageMap<StoredPage<L, S>>,
+    tables: &mut PageTables,
+    caches: &mut Caches,
+    hart: usize,
+    access: Access,
+    address: u32,
+) -> Result<usize, BusError>
+    requires hart { hart < length caches.old }
+    requires holds { Holds S.content S.honest pages.now tables.old caches.old }
+    ensures holds { Holds S.content S.honest pages.now tables.new caches.new }
+    ensures reaches { IfOk result (λ place. Reaches pages.now tables.new access (page_number address) place) }
+    ensures refused { IfErr result (RefusesAccess pages.now access (page_number address)) }
+    ensures kept { KeepsTranslations pages.now hart tables.old tables.new caches.old caches.new }
+    ensures entries { MayWalk access (page_number address) tables.old tables.new }
+    ensures has { OnOk result (HasPage pages.now (cache_of caches.old hart) (page_number address)) }
+    ensures marked { OnOk result (MarksUse pages.now tables.new (cache_of caches.old hart) (page_number address)) }
+{
+    let reached = hit_or_walk(pages, tables, caches, hart, access, address);
+    caches.remember(hart, access, address);
+    reached
 }

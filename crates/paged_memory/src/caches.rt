@@ -1,7 +1,9 @@
-ghost use Rattle.std.specs.Prelude.{◌≡◌, ◌<◌, ◌≤◌, ℕ, [], ◌∷◌, ◌++◌, map, length, is_some, IfOk, slice_index_or, slice_set};
-ghost use Rattle.tlb_core.specs.Cache.{doomed, undoomed, filled, entry_of};
+ghost use Rattle.std.specs.Prelude.{◌≡◌, ◌<◌, ◌≤◌, ◌%◌, ℕ, [], ◌∷◌, ◌++◌, map, length, is_some, IfOk, IfSome, slice_index_or, slice_set};
+ghost use Rattle.page_memory.specs.Words.{page_number, bytes_in};
+ghost use Rattle.tlb_core.specs.Cache.{Hits, doomed, undoomed, filled, entry_of};
 ghost use Rattle.paged_memory.specs.Soundness.{is_held};
 
+use page_memory::{Access, Width};
 use std::alloc::{AllocError, Global};
 use std::marker::Model;
 use tlb_core::{Tlb, Translation};
@@ -59,6 +61,24 @@ impl Caches {
         ensures { result ≡ entry_of page (slice_index_or self.now hart []) }
     {
         self.harts[hart].look(page)
+    }
+
+    /// The place of an address's page that is ready for an aligned access of a hart.
+    #[inline]
+    pub fn ready(&self, hart: usize, access: Access, width: Width, address: u32) -> Option<usize>
+        requires { hart < length self.now }
+        ensures aligned { IfSome result (λ _. address % bytes_in width ≡ 0) }
+        ensures hits { IfSome result (λ place. Hits (slice_index_or self.now hart []) access (page_number address) place) }
+    {
+        self.harts[hart].ready(access, width, address)
+    }
+
+    /// Makes an address's page ready for a hart's access that its translation serves.
+    pub fn remember(&mut self, hart: usize, access: Access, address: u32)
+        requires { hart < length self.old }
+        ensures { self.new ≡ self.old }
+    {
+        self.harts[hart].remember(access, address);
     }
 
     /// Puts a translation into a hart's cache.

@@ -9,7 +9,7 @@ ghost use Rattle.rv_exec.specs.Answers.{Answers, Refuses, with_answer};
 ghost use Rattle.paged_memory.specs.Paged.{Holds, memory_of};
 ghost use Rattle.paged_memory.specs.Access.{HasPage, LacksPage, MarksUse, KeepsTranslations, MayWalk, UsesBytes, cache_of};
 
-use crate::access::reach;
+use crate::access::{at_hand, reach};
 use crate::caches::Caches;
 use page_memory::{Access, MemoryFault, PageMap, Width, number, offset_in_page};
 use page_store::StoredPage;
@@ -28,6 +28,31 @@ pub(crate) fn bytes_of<L: Ledger, S: SwapSlot>(page: &StoredPage<L, S>) -> &[u8;
     match page.frame() {
         Some(frame) => frame.bytes(),
         None => unreachable!(),
+    }
+}
+
+/// The bytes of a page that is ready for an aligned access of a hart.
+#[inline]
+fn read_ready<'a, L: Ledger, S: SwapSlot>(
+    pages: &'a PageMap<StoredPage<L, S>>,
+    tables: &PageTables,
+    caches: &Caches,
+    hart: usize,
+    access: Access,
+    width: Width,
+    address: u32,
+) -> Option<&'a [u8; 4096]>
+    requires hart { hart < length caches.now }
+    requires holds { Holds S.content S.honest pages.now tables.now caches.now }
+    ensures aligned { IfSome result (λ _. address % bytes_in width ≡ 0) }
+    ensures bytes { IfSome result (λ bytes. UsesBytes (usable (memory_of S.content pages.now) access address) bytes.now) }
+    ensures whole { IfSome result (λ bytes. length bytes.now ≡ 4096) }
+    ensures has { IfSome result (λ _. HasPage pages.now (cache_of caches.now hart) (page_number address)) }
+    ensures marked { IfSome result (λ _. MarksUse pages.now tables.now (cache_of caches.now hart) (page_number address)) }
+{
+    match at_hand(pages, tables, caches, hart, access, width, address) {
+        Some(place) => Some(bytes_of(pages.at(place))),
+        None => None,
     }
 }
 
@@ -75,6 +100,38 @@ pub(crate) fn fetch<L: Ledger, S: SwapSlot>(
     ensures kept { KeepsTranslations pages.now hart tables.old tables.new caches.old caches.new }
     ensures entries { MayWalk Access.Fetch (page_number address) tables.old tables.new }
 {
+    match read_ready(
+        pages,
+        tables,
+        caches,
+        hart,
+        Access::Fetch,
+        Width::Word,
+        address,
+    ) {
+        Some(page) => Ok(number(page, Width::Word, address)),
+        None => fetch_anew(pages, tables, caches, hart, address),
+    }
+}
+
+/// The same from a page that is not ready, which it makes ready.
+#[cold]
+#[inline(never)]
+#[tactic(auto, unfolding(page_memory::specs::Memory::fetched, page_memory::specs::Memory::aligned_page))]
+fn fetch_anew<L: Ledger, S: SwapSlot>(
+    pages: &PageMap<StoredPage<L, S>>,
+    tables: &mut PageTables,
+    caches: &mut Caches,
+    hart: usize,
+    address: u32,
+) -> Result<u32, BusError>
+    requires hart { hart < length caches.old }
+    requires holds { Holds S.content S.honest pages.now tables.old caches.old }
+    ensures holds { Holds S.content S.honest pages.now tables.new caches.new }
+    ensures answer { Answers (HasPage pages.now (cache_of caches.old hart)) (MarksUse pages.now tables.new (cache_of caches.old hart)) (LacksPage pages.now) address (fetched (memory_of S.content pages.now) address) result }
+    ensures kept { KeepsTranslations pages.now hart tables.old tables.new caches.old caches.new }
+    ensures entries { MayWalk Access.Fetch (page_number address) tables.old tables.new }
+{
     if address % 4 != 0 {
         return Err(BusError::Fault(MemoryFault::Misaligned));
     }
@@ -88,6 +145,31 @@ pub(crate) fn fetch<L: Ledger, S: SwapSlot>(
 #[inline]
 #[tactic(auto, unfolding(page_memory::specs::Memory::loaded, page_memory::specs::Memory::aligned_page))]
 pub(crate) fn load<L: Ledger, S: SwapSlot>(
+    pages: &PageMap<StoredPage<L, S>>,
+    tables: &mut PageTables,
+    caches: &mut Caches,
+    hart: usize,
+    width: Width,
+    address: u32,
+) -> Result<u32, BusError>
+    requires hart { hart < length caches.old }
+    requires holds { Holds S.content S.honest pages.now tables.old caches.old }
+    ensures holds { Holds S.content S.honest pages.now tables.new caches.new }
+    ensures answer { Answers (HasPage pages.now (cache_of caches.old hart)) (MarksUse pages.now tables.new (cache_of caches.old hart)) (LacksPage pages.now) address (loaded (memory_of S.content pages.now) width address) result }
+    ensures kept { KeepsTranslations pages.now hart tables.old tables.new caches.old caches.new }
+    ensures entries { MayWalk Access.Load (page_number address) tables.old tables.new }
+{
+    match read_ready(pages, tables, caches, hart, Access::Load, width, address) {
+        Some(page) => Ok(number(page, width, address)),
+        None => load_anew(pages, tables, caches, hart, width, address),
+    }
+}
+
+/// The same from a page that is not ready, which it makes ready.
+#[cold]
+#[inline(never)]
+#[tactic(auto, unfolding(page_memory::specs::Memory::loaded, page_memory::specs::Memory::aligned_page))]
+fn load_anew<L: Ledger, S: SwapSlot>(
     pages: &PageMap<StoredPage<L, S>>,
     tables: &mut PageTables,
     caches: &mut Caches,

@@ -10,7 +10,7 @@ ghost use Rattle.page_memory.specs.declared.words.Access.{Access};
 ghost use Rattle.paged_memory.specs.Paged.{Holds, memory_of};
 ghost use Rattle.paged_memory.specs.Access.{HasPage, LacksPage, MarksUse, KeepsTranslations, MayWalk, KeepsBare, cache_of};
 
-use crate::access::reach;
+use crate::access::{at_hand, reach};
 use crate::caches::Caches;
 use crate::reading::bytes_of;
 use page_memory::{
@@ -56,6 +56,37 @@ fn put_bytes_in<L: Ledger, S: SwapSlot>(page: &mut StoredPage<L, S>, offset: usi
 /// Stores the low bytes of a word.
 #[inline]
 pub(crate) fn store<L: Ledger, S: SwapSlot>(
+    pages: &mut PageMap<StoredPage<L, S>>,
+    tables: &mut PageTables,
+    caches: &mut Caches,
+    hart: usize,
+    width: Width,
+    address: u32,
+    word: u32,
+) -> Result<(), BusError>
+    requires hart { hart < length caches.old }
+    requires holds { Holds S.content S.honest pages.old tables.old caches.old }
+    ensures holds { Holds S.content S.honest pages.new tables.new caches.new }
+    ensures answer { let after = with_answer (λ _. memory_of S.content pages.new) result in
+        Answers (HasPage pages.old (cache_of caches.old hart)) (MarksUse pages.old tables.new (cache_of caches.old hart)) (LacksPage pages.old) address (stored (memory_of S.content pages.old) width address word) after }
+    ensures refused { OnErr result (pages.new ≡ pages.old) }
+    ensures bare { KeepsBare pages.old pages.new }
+    ensures kept { KeepsTranslations pages.old hart tables.old tables.new caches.old caches.new }
+    ensures entries { MayWalk Access.Store (page_number address) tables.old tables.new }
+{
+    match at_hand(pages, tables, caches, hart, Access::Store, width, address) {
+        Some(place) => {
+            put_number_in(pages.at_mut(place), width, address, word);
+            Ok(())
+        }
+        None => store_anew(pages, tables, caches, hart, width, address, word),
+    }
+}
+
+/// The same in a page that is not ready, which it makes ready.
+#[cold]
+#[inline(never)]
+fn store_anew<L: Ledger, S: SwapSlot>(
     pages: &mut PageMap<StoredPage<L, S>>,
     tables: &mut PageTables,
     caches: &mut Caches,

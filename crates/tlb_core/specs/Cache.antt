@@ -1,5 +1,8 @@
 -- A translation cache: the entries of pages, at most 16, at most one for each page, the oldest first.
-use Rattle.std.specs.Prelude.{◌≢◌, ℕ, Bool, ◌==◌, ◌||◌, not, nat_lt, if◌then◌else◌, Option, Some, None, List, [], ◌∷◌, ◌++◌, length, drop, map, filter, find, position, slice_set, AllPairs}
+use Rattle.std.specs.Prelude.{◌≡◌, ◌≢◌, ℕ, Bool, true, ◌==◌, ◌||◌, not, nat_lt, if◌then◌else◌, Option, Some, None, List, [], ◌∷◌, ◌++◌, length, drop, map, filter, find, position, slice_set, AllPairs}
+use Rattle.page_memory.specs.declared.words.Access.{Access}
+use Rattle.page_memory.specs.declared.words.Access.TheVariants.{Store}
+use Rattle.page_memory.specs.Rights.{may}
 use Rattle.tlb_core.specs.declared.translation.Translation.{Translation}
 
 -- each page has at most one entry
@@ -13,6 +16,14 @@ is_of page e = e.page == page
 -- the entry of a page
 abbrev pub entry_of : ℕ → List Translation → Option Translation
 entry_of page cache = find (is_of page) cache
+
+-- a cache shows the place of a page for an access: it has a translation with the right, and for a store with D
+pub record Hits (cache : List Translation) (access : Access) (page place : ℕ) : Type 0 where
+  pub entry : Translation
+  pub found : entry_of page cache ≡ Some entry
+  pub at : entry.place ≡ place
+  pub allowed : may access entry.rights ≡ true
+  pub dirty : access ≡ Store → entry.dirty ≡ true
 
 -- the cache with room for one more: the oldest of 16 goes
 unfoldable pub with_room : List Translation → List Translation

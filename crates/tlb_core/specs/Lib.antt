@@ -1,2 +1,3 @@
 pub mod Cache
 pub mod CacheLaws
+pub mod Ready

@@ -1,5 +1,5 @@
 use crate::{Tlb, Translation};
-use page_memory::Rights;
+use page_memory::{Access, Rights, Width};
 
 fn entry(page: u32, frame: u32) -> Translation {
     Translation {
@@ -34,4 +34,69 @@ fn the_oldest_goes_first(rt: HostRuntime) {
     assert_eq!(rt; cache.entries().len(), 14);
     cache.clear();
     assert!(rt; !cache.holds(4));
+}
+
+#[derive(Clone, Copy)]
+enum Change {
+    AnotherIsFilled,
+    Refilled,
+    TheOldestGoes,
+    Marked,
+    MarkedAreDropped,
+    Cleared,
+}
+
+fn apply(cache: &mut Tlb, change: Change) {
+    match change {
+        Change::AnotherIsFilled => cache.fill(entry(34, 1)),
+        Change::Refilled => cache.fill(entry(2, 1)),
+        Change::TheOldestGoes => {
+            for page in 3..19 {
+                cache.fill(entry(page, page));
+            }
+        }
+        Change::Marked => cache.doom(2),
+        Change::MarkedAreDropped => {
+            cache.doom(2);
+            cache.drop_doomed();
+        }
+        Change::Cleared => cache.clear(),
+    }
+}
+
+#[test]
+fn a_page_is_ready_until_its_entry_goes(rt: HostRuntime) {
+    for (change, stays) in [
+        (Change::AnotherIsFilled, true),
+        (Change::Refilled, false),
+        (Change::TheOldestGoes, false),
+        (Change::Marked, true),
+        (Change::MarkedAreDropped, false),
+        (Change::Cleared, false),
+    ] {
+        let mut cache = Tlb::new();
+        cache.fill(entry(2, 2));
+        cache.remember(Access::Load, 0x2ffc);
+        apply(&mut cache, change);
+        let ready = cache.ready(Access::Load, Width::Half, 0x2002).is_some();
+        assert_eq!(rt; ready, stays);
+    }
+}
+
+#[test]
+fn a_page_is_ready_for_an_aligned_access_of_its_kind(rt: HostRuntime) {
+    let mut cache = Tlb::new();
+    cache.fill(entry(2, 2));
+    cache.remember(Access::Load, 0x2000);
+    for (access, width, address, ready) in [
+        (Access::Load, Width::Word, 0x2000, true),
+        (Access::Load, Width::Byte, 0x2fff, true),
+        (Access::Load, Width::Half, 0x2fff, false),
+        (Access::Load, Width::Word, 0x2ffe, false),
+        (Access::Load, Width::Word, 0x3000, false),
+        (Access::Store, Width::Word, 0x2000, false),
+        (Access::Fetch, Width::Word, 0x2000, false),
+    ] {
+        assert_eq!(rt; cache.ready(access, width, address).is_some(), ready);
+    }
 }

@@ -1,9 +1,12 @@
-ghost use Rattle.std.specs.Prelude.{◌≡◌, ◌<◌, ◌≤◌, ℕ, [], ◌∷◌, ◌++◌, length, is_some, Some, None, position, slice_set, IfSome};
-ghost use Rattle.tlb_core.specs.Cache.{OnePerPage, entry_of, is_of, filled, doomed, undoomed, with_room};
+ghost use Rattle.std.specs.Prelude.{◌≡◌, ◌<◌, ◌≤◌, ◌%◌, ℕ, [], ◌∷◌, ◌++◌, length, is_some, Some, None, position, slice_set, IfSome};
+ghost use Rattle.page_memory.specs.Words.{page_number, bytes_in};
+ghost use Rattle.tlb_core.specs.Cache.{OnePerPage, Hits, entry_of, is_of, filled, doomed, undoomed, with_room};
 
 use crate::hints::Hints;
+use crate::ready::{Ready, start_if_aligned};
 use crate::translation::Translation;
 use arrayvec::ArrayVec;
+use page_memory::{Access, Width, page_of};
 use std::marker::Model;
 
 /// The most entries that a cache has.
@@ -14,18 +17,19 @@ pub const TLB_ENTRIES: usize = 16;
 pub struct Tlb {
     entries: ArrayVec<Translation, TLB_ENTRIES>,
     hints: Hints,
+    ready: Ready,
 }
 
 impl Model for Tlb {
     ghost use Rattle.std.specs.Prelude.{List};
     ghost use Rattle.tlb_core.specs.declared.translation.Translation.{Translation};
-    ghost use Rattle.tlb_core.specs.Cache.{OnePerPage};
+    ghost use Rattle.tlb_core.specs.Ready.{IsCache};
 
     ghost Value = { List Translation };
 
     ghost view = { λ t. t.entries.items };
 
-    ghost invariant = { λ t. OnePerPage t.entries.items };
+    ghost invariant = { λ t. IsCache t.entries.items t.ready };
 }
 
 impl Tlb {
@@ -36,6 +40,7 @@ impl Tlb {
         Tlb {
             entries: ArrayVec::new(),
             hints: Hints::new(),
+            ready: Ready::new(),
         }
     }
 
@@ -57,6 +62,43 @@ impl Tlb {
         match self.entries.as_slice().get(self.hints.place(page)) {
             Some(entry) if entry.page == page => Some(*entry),
             _ => self.search(page),
+        }
+    }
+
+    /// The place of an address's page that is ready for an aligned access. One comparison tells it.
+    #[inline]
+    pub fn ready(&self, access: Access, width: Width, address: u32) -> Option<usize>
+        ensures aligned { IfSome result (λ _. address % bytes_in width ≡ 0) }
+        ensures hits { IfSome result (λ place. Hits self.now access (page_number address) place) }
+    {
+        let known = self.ready.known(access, address);
+        if start_if_aligned(address, width) == known.start {
+            Some(known.place)
+        } else {
+            None
+        }
+    }
+
+    /// Makes an address's page ready for an access that its entry serves. The entries stay as they are.
+    pub fn remember(&mut self, access: Access, address: u32)
+        ensures { self.new ≡ self.old }
+    {
+        if let Some(place) = self.hit(access, page_of(address)) {
+            self.ready.learn(access, address, place);
+        }
+    }
+
+    /// The place of a page that has an entry with the right for an access, and for a store one that is dirty.
+    fn hit(&self, access: Access, page: u32) -> Option<usize>
+        ensures { IfSome result (λ place. Hits self.now access page place) }
+    {
+        let entry = self.look(page)?;
+        if !entry.rights.allow(access) {
+            return None;
+        }
+        match access {
+            Access::Store if !entry.dirty => None,
+            _ => Some(entry.place),
         }
     }
 
@@ -98,6 +140,7 @@ impl Tlb {
     {
         self.entries.as_mut_slice()[place] = entry;
         self.hints.put(entry.page, place);
+        self.ready.forget(entry.page);
     }
 
     /// Where the entry of a page stands.
@@ -130,8 +173,9 @@ impl Tlb {
         ensures room { length self.new < 16 }
     {
         if self.entries.is_full() {
-            self.entries.remove(0);
+            let oldest = self.entries.remove(0);
             self.hints.first_is_gone();
+            self.ready.forget(oldest.page);
         }
     }
 
@@ -149,6 +193,7 @@ impl Tlb {
     {
         keep_undoomed(&mut self.entries);
         self.hints.set(self.entries.as_slice());
+        self.ready = Ready::new();
     }
 
     /// Drops all entries.
@@ -156,6 +201,7 @@ impl Tlb {
         ensures { self.new ≡ [] }
     {
         self.entries.clear();
+        self.ready = Ready::new();
     }
 }
 

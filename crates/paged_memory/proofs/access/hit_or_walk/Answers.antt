@@ -1,8 +1,9 @@
 use Rattle.std.proofs.Common.{subst}
 use Rattle.page_memory.specs.Words.{page_number}
-use Rattle.paged_memory.specs.Access.{Hits, cache_of}
+use Rattle.tlb_core.specs.Cache.{Hits}
+use Rattle.paged_memory.specs.Access.{cache_of}
 use Rattle.paged_memory.proofs.HitLaws.{reaches_hit, marks_hit}
-use Rattle.paged_memory.proofs.access.reach.Goals as goal
+use Rattle.paged_memory.proofs.access.hit_or_walk.Goals as goal
 
 pub returns-in-Some-clause-reaches : goal.returns-in-Some-clause-reaches
 returns-in-Some-clause-reaches g c =

@@ -1,0 +1,50 @@
+-- The pages of a translation cache that are ready: an access uses them by one comparison, without a look-up.
+use Rattle.std.specs.Prelude.{◌≡◌, ℕ, ◌+◌, ◌*◌, ◌/◌, ◌%◌, ◌<◌, ◌==◌, if◌then◌else◌, List, slice_index_or, slice_set}
+use Rattle.page_memory.specs.declared.words.Access.{Access}
+use Rattle.page_memory.specs.declared.words.Access.TheVariants.{Fetch, Load, Store}
+use Rattle.page_memory.specs.Words.{page_number}
+use Rattle.tlb_core.specs.declared.translation.Translation.{Translation}
+use Rattle.tlb_core.specs.declared.ready.Known.{Known}
+use Rattle.tlb_core.specs.declared.ready.Ready.{Ready}
+use Rattle.tlb_core.specs.Cache.{Hits, OnePerPage}
+
+-- no page
+abbrev pub nowhere : Known
+nowhere = record { start = 4; place = 0 }
+
+-- what may serve an access to a page: the one that is fetched from, or that of the page number's low bits
+abbrev pub known_for : Access → ℕ → Ready → Known
+known_for Fetch page ready = ready.fetched
+known_for Load page ready = slice_index_or ready.loaded (page % 32) nowhere
+known_for Store page ready = slice_index_or ready.stored (page % 32) nowhere
+
+-- with an address's page at a place
+abbrev pub with_known : Access → ℕ → Known → Ready → Ready
+with_known Fetch page known ready = record ready { fetched = known }
+with_known Load page known ready = record ready { loaded = slice_set ready.loaded (page % 32) known }
+with_known Store page known ready = record ready { stored = slice_set ready.stored (page % 32) known }
+
+abbrev pub learned : Access → ℕ → ℕ → Ready → Ready
+learned access address at ready = with_known access (page_number address) (record { start = address / 4096 * 4096; place = at }) ready
+
+-- and without a page
+abbrev pub unless_of : ℕ → Known → Known
+unless_of page known = if known.start / 4096 == page then nowhere else known
+
+abbrev pub forgotten : ℕ → Ready → Ready
+forgotten page ready = record {
+  fetched = unless_of page ready.fetched;
+  loaded = slice_set ready.loaded (page % 32) nowhere;
+  stored = slice_set ready.stored (page % 32) nowhere;
+}
+
+-- what is ready the cache shows: an address whose offset past its page's start is below 4 is the start that is known only
+-- where it is the page's start, and the cache shows the page at the place for the access
+pub record IsReady (cache : List Translation) (ready : Ready) : Type 0 where
+  pub aligned : (access : Access) (page past : ℕ) → past < 4 → page * 4096 + past ≡ (known_for access page ready).start → past ≡ 0
+  pub shown : (access : Access) (page past : ℕ) → past < 4 → page * 4096 + past ≡ (known_for access page ready).start → Hits cache access page (known_for access page ready).place
+
+-- a cache has at most one entry for a page, and shows what is ready
+pub record IsCache (cache : List Translation) (ready : Ready) : Type 0 where
+  pub one : OnePerPage cache
+  pub shows : IsReady cache ready

@@ -1,7 +1,7 @@
-ghost use Rattle.std.specs.Prelude.{◌≡◌, ◌+◌, ◌≤◌, ◌<◌, ◌%◌, length, is_some, Some, Ok, OnOk, OnErr, true, IfOk, IfErr, IfSome, ℕ};
+ghost use Rattle.std.specs.Prelude.{◌≡◌, ◌+◌, ◌≤◌, ◌<◌, ◌%◌, length, is_some, Some, Ok, OnOk, OnErr, true, IfOk, IfErr, IfSome, ℕ, drop};
 ghost use Rattle.page_memory.specs.Words.{page_number, page_offset, bytes_in};
 ghost use Rattle.page_memory.specs.Memory.{overwritten, stored, replaced, copied_in};
-ghost use Rattle.byteorder.specs.Endian.{little_bytes};
+ghost use Rattle.byteorder.specs.Endian.{little_bytes, little_number};
 ghost use Rattle.page_store.specs.PageValue.{content, writable};
 ghost use Rattle.page_store.specs.Lending.{with_bytes};
 ghost use Rattle.rv_exec.specs.Amo.{amo_result};
@@ -51,6 +51,25 @@ fn put_bytes_in<L: Ledger, S: SwapSlot>(page: &mut StoredPage<L, S>, offset: usi
         Some(bytes) => put_bytes(bytes, offset, from),
         None => unreachable!(),
     }
+}
+
+/// Replaces a word of a page that has a frame by an operation's result, and answers the old word.
+#[inline]
+fn replace_word_in<L: Ledger, S: SwapSlot>(
+    page: &mut StoredPage<L, S>,
+    address: u32,
+    operation: AmoKind,
+    operand: u32,
+) -> u32
+    requires framed { is_some (writable page.old.place) ≡ true }
+    requires aligned { address % 4 ≡ 0 }
+    ensures old { result ≡ little_number 4 (drop (page_offset address) (content S.content page.old)) }
+    ensures page { page.new ≡ with_bytes page.old (overwritten (content S.content page.old) (page_offset address) (little_bytes 4 (amo_result operation result operand))) }
+{
+    let old = number(bytes_of(page), Width::Word, address);
+    let word = amo_word(operation, old, operand);
+    put_number_in(page, Width::Word, address, word);
+    old
 }
 
 /// Stores the low bytes of a word.
@@ -167,16 +186,48 @@ pub(crate) fn amo<L: Ledger, S: SwapSlot>(
     ensures kept { KeepsTranslations pages.old hart tables.old tables.new caches.old caches.new }
     ensures entries { MayWalk Access.Store (page_number address) tables.old tables.new }
 {
+    match at_hand(
+        pages,
+        tables,
+        caches,
+        hart,
+        Access::Store,
+        Width::Word,
+        address,
+    ) {
+        Some(place) => Ok(replace_word_in(pages.at_mut(place), address, operation, operand)),
+        None => amo_anew(pages, tables, caches, hart, address, operation, operand),
+    }
+}
+
+/// The same in a page that is not ready, which it makes ready.
+#[cold]
+#[inline(never)]
+fn amo_anew<L: Ledger, S: SwapSlot>(
+    pages: &mut PageMap<StoredPage<L, S>>,
+    tables: &mut PageTables,
+    caches: &mut Caches,
+    hart: usize,
+    address: u32,
+    operation: AmoKind,
+    operand: u32,
+) -> Result<u32, BusError>
+    requires hart { hart < length caches.old }
+    requires holds { Holds S.content S.honest pages.old tables.old caches.old }
+    ensures holds { Holds S.content S.honest pages.new tables.new caches.new }
+    ensures answer { let update = λ (old : ℕ). amo_result operation old operand in
+        let after = with_answer (λ old. (old, memory_of S.content pages.new)) result in
+        Answers (HasPage pages.old (cache_of caches.old hart)) (MarksUse pages.old tables.new (cache_of caches.old hart)) (LacksPage pages.old) address (replaced (memory_of S.content pages.old) update address) after }
+    ensures refused { OnErr result (pages.new ≡ pages.old) }
+    ensures bare { KeepsBare pages.old pages.new }
+    ensures kept { KeepsTranslations pages.old hart tables.old tables.new caches.old caches.new }
+    ensures entries { MayWalk Access.Store (page_number address) tables.old tables.new }
+{
     if address % 4 != 0 {
         return Err(BusError::Fault(MemoryFault::Misaligned));
     }
     match reach(pages, tables, caches, hart, Access::Store, address) {
-        Ok(place) => {
-            let old = number(bytes_of(pages.at(place)), Width::Word, address);
-            let word = amo_word(operation, old, operand);
-            put_number_in(pages.at_mut(place), Width::Word, address, word);
-            Ok(old)
-        }
+        Ok(place) => Ok(replace_word_in(pages.at_mut(place), address, operation, operand)),
         Err(refusal) => Err(refusal),
     }
 }

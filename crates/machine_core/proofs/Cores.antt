@@ -28,12 +28,13 @@ use Rattle.clock_policy.specs.declared.answer.Verdict.TheVariants.{GoOn}
 use Rattle.clock_policy.specs.declared.answer.Verdict.TheVariants as verdict
 use Rattle.machine_core.specs.declared.event.Reply.{Reply}
 use Rattle.machine_core.specs.declared.event.Reply.TheVariants.{Asked as AskedReply, Victim}
-use Rattle.machine_core.specs.declared.sweeping.Swept.{Swept}
-use Rattle.machine_core.specs.declared.sweeping.Swept.TheVariants as swept
-use Rattle.machine_core.specs.MachineRun.{ChangesOne, StepsOnce, TakesNotices, IsKilled, of_process, is_used, SweepsAt, SweepsOnce, sweep_reply, swept_reply}
-use Rattle.machine_core.specs.Sides.{PagerSideValue, ProcessSideValue}
-use Rattle.machine_core.specs.Sweeping.{Answers, Sweeps}
-use Rattle.machine_core.specs.SweepLaws.{answers_together, answers_rest}
+use Rattle.machine_sides.specs.declared.sweeping.Swept.{Swept}
+use Rattle.machine_sides.specs.declared.sweeping.Swept.TheVariants as swept
+use Rattle.machine_core.specs.MachineRun.{ChangesOne, of_process, is_used, SweepsAt, SweepsOnce, sweep_reply, swept_reply}
+use Rattle.machine_sides.specs.ProcessCalls.{StepsOnce, TakesNotices, IsKilled}
+use Rattle.machine_sides.specs.Sides.{PagerSideValue, ProcessSideValue}
+use Rattle.machine_sides.specs.Sweeping.{Answers, Sweeps}
+use Rattle.machine_sides.specs.SweepLaws.{answers_together, answers_rest}
 use Rattle.machine_core.specs.declared.error.EventRefusal.{EventRefusal}
 use Rattle.machine_core.proofs.Finding.{Asked, HasResident, asked_process, bit_there}
 use Rattle.machine_core.proofs.Kept.{Moves, moved_machine, out_stays, SavingsStay}

@@ -13,9 +13,10 @@ use Rattle.flat_machine.specs.declared.end.End.{End}
 use Rattle.flat_machine.specs.declared.end.KillCause.{KillCause}
 use Rattle.machine_core.specs.Headline.{has_run, adds}
 use Rattle.machine_core.specs.Machine.{CoreValue}
-use Rattle.machine_core.specs.MachineRun.{step_reply, sweep_reply, hart_reason, of_process, Slices, Steps, Notices, Kills, SweepsOnce}
-use Rattle.machine_core.specs.Sides.{ProcessSideValue}
-use Rattle.machine_core.specs.Sweeping.{ReadsBit, HeedsVerdict, bit_at}
+use Rattle.machine_core.specs.MachineRun.{step_reply, sweep_reply, hart_reason, of_process, Steps, Notices, Kills, SweepsOnce}
+use Rattle.machine_sides.specs.ProcessCalls.{Slices}
+use Rattle.machine_sides.specs.Sides.{ProcessSideValue}
+use Rattle.machine_sides.specs.Sweeping.{ReadsBit, HeedsVerdict, bit_at}
 use Rattle.machine_core.specs.declared.error.EventRefusal.TheVariants as refusal
 use Rattle.clock_policy.specs.declared.refusal.Refusal.{Refusal}
 use Rattle.machine_core.specs.declared.event.Event.TheVariants.{Step, Notice, Sweep, PageIn, Kill}
@@ -23,7 +24,7 @@ use Rattle.machine_core.specs.declared.event.Reply.{Reply}
 use Rattle.machine_core.specs.declared.event.Reply.TheVariants.{Refused}
 use Rattle.machine_core.specs.declared.event.Reply.TheVariants as reply
 use Rattle.pager_core.specs.Pager.{pager_answered}
-use Rattle.machine_core.specs.Sides.{PagerSideValue}
+use Rattle.machine_sides.specs.Sides.{PagerSideValue}
 use Rattle.space_core.specs.StandsFor.{SpaceValue}
 use Rattle.space_core.specs.declared.progress.SliceStop.{SliceStop}
 use Rattle.space_core.specs.declared.progress.SliceStop.TheVariants as stop

@@ -15,9 +15,9 @@ use Rattle.sv32_table.specs.Entry.{Entry}
 use Rattle.clock_policy.specs.declared.answer.Bit.TheVariants.{Gone}
 use Rattle.space_core.specs.StandsFor.{SpaceValue}
 use Rattle.machine_core.specs.Machine.{CoreValue, IsMachine, total}
-use Rattle.machine_core.specs.Sides.{ProcessSideValue}
-use Rattle.machine_core.specs.Sweeping.{bit_of, bit_at}
-use Rattle.machine_core.specs.Together.{residents_in, key_of}
+use Rattle.machine_sides.specs.Sides.{ProcessSideValue}
+use Rattle.machine_sides.specs.Sweeping.{bit_of, bit_at}
+use Rattle.machine_sides.specs.Together.{residents_in, key_of}
 
 -- a place that counts where a sum does
 pub record Counts {A : Type 0} (f : A → ℕ) (xs : List A) : Type 0 where

@@ -5,12 +5,12 @@ use Rattle.machine_core.specs.Applying.{Serves, Applies, Runs}
 use Rattle.machine_core.specs.Faithful.{EachStands, IsFaithful}
 use Rattle.machine_core.specs.Headline.{adds, order_of, Remains, ShowsFlatRun, ShowsRun, IsInvisible, AfterEach, PagingIsInvisible}
 use Rattle.machine_core.specs.Machine.{CoreValue}
-use Rattle.machine_core.specs.Opening.{Start, Begins}
+use Rattle.machine_sides.specs.Starting.{Start, Begins}
 use Rattle.elf_image.specs.Image.{ImageContent}
 use Rattle.flat_machine.specs.Process.{opening, flat_run}
 use Rattle.std.proofs.lemmas.Option.{slice_get_within}
 use Rattle.std.proofs.Common.{append_assoc}
-use Rattle.machine_core.specs.Sides.{ProcessSideValue}
+use Rattle.machine_sides.specs.Sides.{ProcessSideValue}
 use Rattle.machine_core.specs.declared.error.EventRefusal.TheVariants as refusal
 use Rattle.machine_core.specs.declared.event.Event.{Event}
 use Rattle.machine_core.specs.declared.event.Event.TheVariants.{Step, Notice, Sweep, Collect, Saved, PageIn, Kill, Purge}

@@ -10,8 +10,8 @@ use Rattle.page_store.specs.JobValue.{JobValue}
 use Rattle.page_store.specs.PageValue.{PageValue, Saving}
 use Rattle.paged_memory.specs.Counting.{slots_of}
 use Rattle.paged_memory.specs.Paged.{page_at}
-use Rattle.machine_core.specs.Sides.{PagerSideValue, ProcessSideValue}
-use Rattle.machine_core.specs.Together.{Together, residents_in, savings_in, frames_in, frames_where}
+use Rattle.machine_sides.specs.Sides.{PagerSideValue, ProcessSideValue}
+use Rattle.machine_sides.specs.Together.{Together, residents_in, savings_in, frames_in, frames_where}
 use Rattle.machine_core.specs.Machine.{CoreValue, IsMachine, IsOut, total, jobs_where, numbers_below}
 use Rattle.machine_core.proofs.Totals.{total_set, got_set, get_set_same, get_set_other, All_map}
 

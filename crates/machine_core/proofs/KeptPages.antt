@@ -10,7 +10,7 @@ use Rattle.paged_memory.specs.Growth.{zero_page}
 use Rattle.paged_memory.specs.HartMemory.{KeepsPages}
 use Rattle.paged_memory.specs.Paged.{page_at}
 use Rattle.space_core.specs.StandsFor.{SpaceValue}
-use Rattle.machine_core.specs.Together.{residents_in, savings_in, frames_in, key_of}
+use Rattle.machine_sides.specs.Together.{residents_in, savings_in, frames_in, key_of}
 use Rattle.machine_core.proofs.Kept.{SavingsStay}
 
 module _ {S : Type 0} where

@@ -2,11 +2,11 @@
 use Rattle.std.proofs.Common.{◌≡◌, ℕ, List, inl, inr, refl, sym, ap, ◌∙◌}
 use Rattle.clock_policy.specs.declared.key.Key.{Key}
 use Rattle.machine_core.proofs.Orders.{SameOrder, same_beside, same_all, same_side, then_same, Tells, quiet_tells}
-use Rattle.machine_core.specs.Collecting.{CollectsTo, CollectsOnce, not_yet, freed, dirty, no_slot, no_memory}
+use Rattle.machine_core.specs.CollectEvent.{CollectsTo, not_yet, freed, dirty, no_slot, no_memory, CollectsOnce}
 use Rattle.machine_core.specs.Machine.{CoreValue}
 use Rattle.machine_core.specs.PurgeEvent.{PurgesOnce}
 use Rattle.machine_core.specs.SavingOut.{SavesOnce}
-use Rattle.machine_core.specs.Sides.{ProcessSideValue}
+use Rattle.machine_sides.specs.Sides.{ProcessSideValue}
 use Rattle.machine_core.specs.declared.error.EventRefusal.TheVariants as refusal
 use Rattle.machine_core.specs.declared.event.Event.TheVariants.{Collect, Saved, Purge}
 use Rattle.machine_core.specs.declared.event.Reply.{Reply}

@@ -1,16 +1,13 @@
-pub mod Admissions
 pub mod Collects
 pub mod Cores
 pub mod Counted
 pub mod EventOrders
 pub mod Finding
-pub mod GivenPages
 pub mod Invisible
 pub mod JobsOut
 pub mod Kept
 pub mod KeptPages
 pub mod LeavingOrders
-pub mod Looking
 pub mod Openings
 pub mod Orders
 pub mod PageInEvents
@@ -18,10 +15,7 @@ pub mod PageInReasons
 pub mod PageIns
 pub mod Peeked
 pub mod PurgeEvents
-pub mod PurgeSteps
 pub mod SavesOut
 pub mod SavingPages
-pub mod Shown
 pub mod SingleSteps
-pub mod Sweeps
 pub mod Totals

@@ -11,9 +11,10 @@ use Rattle.space_core.specs.StandsFor.{SpaceValue}
 use Rattle.machine_core.specs.declared.error.EventRefusal.TheVariants as refusal
 use Rattle.machine_core.specs.Machine.{CoreValue, IsMachine}
 use Rattle.machine_core.specs.MachineRun.{of_process}
-use Rattle.machine_core.specs.SavingOut.{is_saving, is_saving_stage, saving_reason, saved_refusal, is_of_page}
-use Rattle.machine_core.specs.Sides.{ProcessSideValue}
-use Rattle.machine_core.specs.Together.{savings_in, key_of}
+use Rattle.machine_sides.specs.SavingBack.{is_saving, is_saving_stage}
+use Rattle.machine_core.specs.SavingOut.{saving_reason, saved_refusal, is_of_page}
+use Rattle.machine_sides.specs.Sides.{ProcessSideValue}
+use Rattle.machine_sides.specs.Together.{savings_in, key_of}
 use Rattle.machine_core.proofs.Counted.{one_fewer_where}
 use Rattle.machine_core.proofs.Finding.{some_where}
 use Rattle.machine_core.proofs.Totals.{total_at}

@@ -32,7 +32,7 @@ use Rattle.machine_sides.specs.Together.{Together, key_of}
 use Rattle.machine_core.proofs.Cores.{lent_back}
 use Rattle.machine_core.proofs.Counted.{HoldsFrame, frame_missing, job_fits, takes_back}
 use Rattle.machine_core.proofs.Kept.{Moves, moved_machine, out_stays, SavingsStay}
-use Rattle.machine_core.proofs.Totals.{get_set_same}
+use Rattle.machine_core.specs.TotalLaws.{get_set_same}
 
 -- a refusal that can be no other is want of memory
 only_memory : (reason : Refusal) → ((reason ≡ list.NoMemory → ⊥) → ⊥) → reason ≡ list.NoMemory

@@ -1,15 +1,11 @@
 pub mod Collects
 pub mod Cores
 pub mod Counted
-pub mod EventOrders
 pub mod Finding
-pub mod Invisible
 pub mod JobsOut
 pub mod Kept
 pub mod KeptPages
-pub mod LeavingOrders
 pub mod Openings
-pub mod Orders
 pub mod PageInEvents
 pub mod PageInReasons
 pub mod PageIns
@@ -18,4 +14,3 @@ pub mod PurgeEvents
 pub mod SavesOut
 pub mod SavingPages
 pub mod SingleSteps
-pub mod Totals

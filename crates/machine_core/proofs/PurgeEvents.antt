@@ -33,7 +33,7 @@ use Rattle.machine_sides.specs.Together.{residents_in, frames_in, key_of}
 use Rattle.machine_core.proofs.Cores.{lent_back}
 use Rattle.machine_core.proofs.Counted.{all_frames, all_numbers}
 use Rattle.machine_core.proofs.Kept.{moved_machine, out_stays, SavingsStay}
-use Rattle.machine_core.proofs.Totals.{total_at}
+use Rattle.machine_core.specs.TotalLaws.{total_at}
 
 -- ---- a sum of which one place alone counts
 

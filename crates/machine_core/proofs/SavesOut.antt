@@ -35,7 +35,7 @@ use Rattle.machine_core.proofs.Cores.{lent_back}
 use Rattle.machine_core.proofs.Counted.{HoldsFrame, frame_missing, takes_back}
 use Rattle.machine_core.proofs.Finding.{total_some}
 use Rattle.machine_core.proofs.Kept.{moved_machine}
-use Rattle.machine_core.proofs.Totals.{total_set, got_set, get_set_same, get_set_other}
+use Rattle.machine_core.specs.TotalLaws.{total_set, got_set, get_set_same, get_set_other}
 use Rattle.machine_core.proofs.JobsOut.{same_key, total_permuted}
 use Rattle.machine_core.proofs.SavingPages.{saving_counted}
 

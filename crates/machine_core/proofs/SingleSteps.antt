@@ -1,9 +1,9 @@
 -- Slices of one instruction in a row are so many steps of the machine.
-use Rattle.std.proofs.Common.{◌≡◌, ℕ, zero, suc, ◌+◌, ◌&&◌, Bool, true, false, List, [], ◌∷◌, ◌++◌, Option, Some, None, slice_get, inl, inr, refl, sym, ap, ◌∙◌, arith, subst}
+use Rattle.std.proofs.Common.{◌≡◌, ℕ, zero, suc, ◌&&◌, Bool, true, false, List, [], ◌∷◌, ◌++◌, Option, Some, None, slice_get, inl, inr, refl, sym, ap, ◌∙◌, arith, subst}
 use Rattle.std.specs.Prelude.{slice_set, slice_index_or, replicate, option_map, take, drop, length, is_some, is_none, if◌then◌else◌}
 use Rattle.flat_machine.specs.declared.end.End.{End}
 use Rattle.machine_core.proofs.Cores.{alike_machine, step_alike, lent_back}
-use Rattle.machine_core.proofs.Totals.{got_set, get_set_same}
+use Rattle.machine_core.specs.TotalLaws.{got_set, get_set_same}
 use Rattle.machine_core.specs.Applying.{Applies, Runs}
 use Rattle.machine_core.specs.ApplyingLaws.{runs_none, runs_more}
 use Rattle.machine_core.specs.Faithful.{EachStands, IsFaithful}

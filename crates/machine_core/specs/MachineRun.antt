@@ -1,5 +1,5 @@
 -- The machine's events: when each is refused, and what each does.
-use Rattle.std.specs.Prelude.{◌≡◌, ℕ, Bool, true, false, not, is_some, Option, Some, None, List, slice_get, slice_set, slice_index_or, if◌then◌else◌}
+use Rattle.std.specs.Prelude.{◌≡◌, ℕ, Bool, true, false, is_some, Option, Some, None, List, slice_get, slice_set, slice_index_or, if◌then◌else◌}
 use Rattle.flat_machine.specs.declared.end.KillCause.{KillCause}
 use Rattle.space_core.specs.declared.progress.SliceStop.{SliceStop}
 use Rattle.space_core.specs.declared.progress.SliceStop.TheVariants as stop

@@ -1,5 +1,5 @@
 -- Why a page is not admitted.
-use Rattle.std.proofs.Common.{◌≡◌, ◌++◌, [], ◌∷◌, length, Bool, true, false, Some, None, option_map, is_some, ◌+◌, refl, sym, ap, ◌∙◌}
+use Rattle.std.proofs.Common.{◌≡◌, ◌++◌, [], ◌∷◌, length, Bool, true, false, Some, None, option_map, is_some, refl, sym, ap, ◌∙◌}
 use Rattle.std.specs.Prelude.{if◌then◌else◌}
 use Rattle.clock_policy.specs.declared.key.Key.{Key}
 use Rattle.clock_policy.specs.Lawful.{Lawful}
@@ -11,7 +11,7 @@ use Rattle.pager_core.specs.Refusals.{Refuses}
 use Rattle.space_core.specs.StandsFor.{SpaceValue}
 use Rattle.machine_sides.specs.Sides.{PagerSideValue}
 use Rattle.machine_sides.specs.declared.admission.NotAdmitted.{NotAdmitted}
-use Rattle.machine_sides.specs.declared.admission.NotAdmitted.TheVariants.{Ended, NotAbsent, AlreadyResident, NoFrame, NoMemory}
+use Rattle.machine_sides.specs.declared.admission.NotAdmitted.TheVariants.{Ended, NotAbsent}
 use Rattle.machine_sides.specs.Admitting.{is_absent, page_bars, bars, bars_from, told_by, pager_refusal, Admits, DoesNotAdmit}
 
 page_told : (ended absent : Bool) (reason : NotAdmitted) → (if ended then Some Ended else (if absent then None else Some NotAbsent)) ≡ Some reason → Some reason ≡ told_by reason

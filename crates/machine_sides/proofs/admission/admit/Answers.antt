@@ -1,5 +1,5 @@
 -- The process's reason comes first, then the pager's.
-use Rattle.std.proofs.Common.{◌≡◌, sym, ap, ◌∙◌, subst}
+use Rattle.std.proofs.Common.{sym, ap, ◌∙◌, subst}
 use Rattle.pager_core.specs.Pager.{PagerState, admission_refused, admitted_with}
 use Rattle.pager_core.specs.Refusals.{Refuses}
 use Rattle.machine_sides.specs.Sides.{PagerSideValue}

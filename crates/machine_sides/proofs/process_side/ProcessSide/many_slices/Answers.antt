@@ -1,6 +1,5 @@
 use Rattle.std.proofs.Common.{option_map, refl, sym, subst}
 use Rattle.space_core.specs.declared.progress.Slice.{Slice}
-use Rattle.space_core.specs.declared.progress.SliceStop.{SliceStop}
 use Rattle.machine_sides.specs.ProcessCalls.{SlicesMany}
 use Rattle.machine_sides.specs.Sides.{ProcessSideValue}
 use Rattle.machine_sides.proofs.SlicesInARow.{many_of_steps}

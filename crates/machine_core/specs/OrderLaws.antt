@@ -5,7 +5,7 @@ use Rattle.std.proofs.lemmas.Bool.Decides.{eqb_tells}
 use Rattle.std.proofs.lemmas.List.{append-nil}
 use Rattle.clock_policy.specs.declared.key.Key.{Key}
 use Rattle.flat_machine.specs.Schedule.{written_out}
-use Rattle.machine_core.proofs.Totals.{get_set_same, get_set_other}
+use Rattle.machine_core.specs.TotalLaws.{get_set_same, get_set_other}
 use Rattle.machine_core.specs.Headline.{adds, GoesOn, Remains, IsNamed}
 use Rattle.machine_core.specs.Machine.{CoreValue}
 use Rattle.machine_core.specs.MachineRun.{Refuses}

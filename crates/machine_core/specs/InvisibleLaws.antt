@@ -11,15 +11,13 @@ use Rattle.flat_machine.specs.Process.{opening, flat_run}
 use Rattle.std.proofs.lemmas.Option.{slice_get_within}
 use Rattle.std.proofs.Common.{append_assoc}
 use Rattle.machine_sides.specs.Sides.{ProcessSideValue}
-use Rattle.machine_core.specs.declared.error.EventRefusal.TheVariants as refusal
 use Rattle.machine_core.specs.declared.event.Event.{Event}
 use Rattle.machine_core.specs.declared.event.Event.TheVariants.{Step, Notice, Sweep, Collect, Saved, PageIn, Kill, Purge}
 use Rattle.machine_core.specs.declared.event.Reply.{Reply}
-use Rattle.machine_core.specs.declared.event.Reply.TheVariants.{Refused}
 use Rattle.space_core.specs.StandsFor.{SpaceValue, StandsFor, flat_with}
-use Rattle.machine_core.proofs.LeavingOrders.{collect_tells, saved_tells, purge_tells}
-use Rattle.machine_core.proofs.Orders.{Tells, still_remains, refused_tells}
-use Rattle.machine_core.proofs.EventOrders.{page_in_tells, step_tells, notice_tells, kill_tells, sweep_tells}
+use Rattle.machine_core.specs.LeavingOrderLaws.{collect_tells, saved_tells, purge_tells}
+use Rattle.machine_core.specs.OrderLaws.{Tells, still_remains, refused_tells}
+use Rattle.machine_core.specs.EventOrderLaws.{page_in_tells, step_tells, notice_tells, kill_tells, sweep_tells}
 
 module _ {S : Type 0} where
   module _ (held : S → List ℕ) (honest : Type 0) (failures : S → ℕ) where

@@ -1,7 +1,7 @@
 -- What the events of a page that leaves, and of an ended process, add to the recorded orders: nothing.
 use Rattle.std.proofs.Common.{◌≡◌, ℕ, List, inl, inr, refl, sym, ap, ◌∙◌}
 use Rattle.clock_policy.specs.declared.key.Key.{Key}
-use Rattle.machine_core.proofs.Orders.{SameOrder, same_beside, same_all, same_side, then_same, Tells, quiet_tells}
+use Rattle.machine_core.specs.OrderLaws.{SameOrder, same_beside, same_all, same_side, then_same, Tells, quiet_tells}
 use Rattle.machine_core.specs.CollectEvent.{CollectsTo, not_yet, freed, dirty, no_slot, no_memory, CollectsOnce}
 use Rattle.machine_core.specs.Machine.{CoreValue}
 use Rattle.machine_core.specs.PurgeEvent.{PurgesOnce}

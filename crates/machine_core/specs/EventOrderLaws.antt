@@ -31,7 +31,7 @@ use Rattle.space_core.specs.declared.progress.SliceStop.TheVariants as stop
 use Rattle.paged_memory.specs.declared.filling.PageInFault.{PageInFault}
 use Rattle.paged_memory.specs.declared.filling.PageInFault.TheVariants as fault
 use Rattle.machine_core.specs.PagingIn.{fault_reply, PagesInOnce}
-use Rattle.machine_core.proofs.Orders.{SameOrder, same_beside, same_all, then_same, goes_same, Tells, one_remains, quiet_remains, quiet_tells}
+use Rattle.machine_core.specs.OrderLaws.{SameOrder, same_beside, same_all, then_same, goes_same, Tells, one_remains, quiet_remains, quiet_tells}
 
 -- the question's page is the victim
 record ToldVictim (key : Key) (v : Verdict) (k : Key) : Type 0 where

@@ -15,23 +15,24 @@ use Rattle.paged_memory.specs.Counting.{is_resident_place, is_saving_place, fram
 use Rattle.paged_memory.specs.Paged.{page_at}
 use Rattle.space_core.specs.StandsFor.{SpaceValue}
 use Rattle.swap_slots.specs.PoolValue.{PoolValue}
-use Rattle.machine_core.specs.declared.collecting.Looked.{Looked}
-use Rattle.machine_core.specs.declared.collecting.Looked.TheVariants.{NotLeaving, NotYet, Freed, Dirty, NoSlot, NotRestored, HandedBack}
+use Rattle.machine_sides.specs.declared.collecting.Looked.{Looked}
+use Rattle.machine_sides.specs.declared.collecting.Looked.TheVariants.{NotLeaving, NotYet, Freed, Dirty, NoSlot, NotRestored, HandedBack}
 use Rattle.machine_core.specs.declared.error.EventRefusal.TheVariants as refusal
 use Rattle.machine_core.specs.declared.event.Reply.{Reply}
-use Rattle.machine_core.specs.Collecting.{is_leaving, is_leaving_stage, IsLeaving, leaving_reason, collect_refusal, Looks, IsDropped, IsCopied, LacksAndReturns, LacksAndLeaves, CollectsTo, CollectsOnce, LooksAt, IsOwn, jobs_after, looked_reply, not_yet, freed, dirty, no_slot, no_memory}
-use Rattle.machine_core.specs.CollectLaws.{dropped_together, dropped_rest, copied_together, copied_savings, copied_slots, copied_stays, copied_now, copied_place}
-use Rattle.machine_core.specs.LookLaws.{same_sides}
+use Rattle.machine_sides.specs.Collecting.{is_leaving, is_leaving_stage, IsLeaving, Looks, IsDropped, IsCopied, LacksAndReturns, LacksAndLeaves}
+use Rattle.machine_core.specs.CollectEvent.{leaving_reason, collect_refusal, CollectsTo, not_yet, freed, dirty, no_slot, no_memory, CollectsOnce, LooksAt, IsOwn, jobs_after, looked_reply}
+use Rattle.machine_sides.specs.CollectLaws.{dropped_together, dropped_rest, copied_together, copied_savings, copied_slots, copied_stays, copied_now, copied_place}
+use Rattle.machine_sides.specs.LookLaws.{same_sides}
 use Rattle.machine_core.specs.Machine.{CoreValue, IsMachine, IsOut, jobs_where, total}
 use Rattle.machine_core.specs.MachineRun.{of_process}
-use Rattle.machine_core.specs.ReturnLaws.{returned_rest, listed_frames, back_together}
-use Rattle.machine_core.specs.Sides.{PagerSideValue, ProcessSideValue}
-use Rattle.machine_core.specs.SweepLaws.{LeavesRest}
-use Rattle.machine_core.specs.Together.{Together, key_of}
+use Rattle.machine_sides.specs.ReturnLaws.{returned_rest, listed_frames, back_together}
+use Rattle.machine_sides.specs.Sides.{PagerSideValue, ProcessSideValue}
+use Rattle.machine_sides.specs.SweepLaws.{LeavesRest}
+use Rattle.machine_sides.specs.Together.{Together, key_of}
 use Rattle.machine_core.proofs.Cores.{lent_back}
 use Rattle.machine_core.proofs.Counted.{HoldsFrame, frame_missing, job_fits, takes_back}
 use Rattle.machine_core.proofs.Kept.{Moves, moved_machine, out_stays, SavingsStay}
-use Rattle.machine_core.proofs.Totals.{get_set_same}
+use Rattle.machine_core.specs.TotalLaws.{get_set_same}
 
 -- a refusal that can be no other is want of memory
 only_memory : (reason : Refusal) → ((reason ≡ list.NoMemory → ⊥) → ⊥) → reason ≡ list.NoMemory

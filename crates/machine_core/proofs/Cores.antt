@@ -1,25 +1,22 @@
 -- The machine stays one by each event of a process, and by a sweep.
-use Rattle.std.proofs.Common.{◌≡◌, ℕ, ◌+◌, ◌<◌, ◌^◌, Bool, true, false, cond, nat_lt, ◌≤◌, ◌++◌, take, drop, List, [], length, Option, Some, None, slice_get, refl, sym, ap, ◌∙◌, arith, subst}
-use Rattle.std.specs.Prelude.{slice_set, slice_index_or, if◌then◌else◌}
+use Rattle.std.proofs.Common.{◌≡◌, ℕ, ◌<◌, true, false, cond, nat_lt, ◌≤◌, ◌++◌, take, drop, List, [], length, Option, Some, None, slice_get, refl, sym, ap, ◌∙◌, arith, subst}
+use Rattle.std.specs.Prelude.{slice_set, slice_index_or}
 use Rattle.std.proofs.lemmas.Option.{slice_get_within}
 use Rattle.std.proofs.lemmas.List.{length-set, take_all, drop_all, append-nil}
 use Rattle.clock_policy.specs.declared.key.Key.{Key}
 use Rattle.clock_policy.specs.declared.answer.Bit.{Bit}
 use Rattle.clock_policy.specs.declared.answer.Verdict.{Verdict}
 use Rattle.clock_policy.specs.ClockLaws.{answered_lawful}
-use Rattle.clock_policy.specs.ClockPro.{ClockState, question_of, answered}
+use Rattle.clock_policy.specs.ClockPro.{question_of}
 use Rattle.clock_policy.specs.KeptLaws.{answered_frames}
 use Rattle.clock_policy.specs.Lawful.{Lawful}
 use Rattle.clock_policy.specs.Residents.{is_gone}
-use Rattle.frame_pool.specs.FrameValue.{FrameValue}
-use Rattle.page_store.specs.PageValue.{PageValue}
 use Rattle.pager_core.specs.Pager.{PagerState, pager_answered}
 use Rattle.flat_machine.specs.declared.end.End.{End}
 use Rattle.flat_machine.specs.declared.end.KillCause.{KillCause}
 use Rattle.tlb_core.specs.Cache.{undoomed}
 use Rattle.space_core.specs.Caches.{noticed, if_killed}
 use Rattle.space_core.specs.RunningValue.{RunningValue}
-use Rattle.space_core.specs.StandsFor.{SpaceValue}
 use Rattle.space_core.specs.declared.progress.SliceStop.{SliceStop}
 use Rattle.machine_core.specs.Machine.{CoreValue, IsMachine}
 use Rattle.page_store.specs.JobValue.{JobValue}
@@ -28,15 +25,16 @@ use Rattle.clock_policy.specs.declared.answer.Verdict.TheVariants.{GoOn}
 use Rattle.clock_policy.specs.declared.answer.Verdict.TheVariants as verdict
 use Rattle.machine_core.specs.declared.event.Reply.{Reply}
 use Rattle.machine_core.specs.declared.event.Reply.TheVariants.{Asked as AskedReply, Victim}
-use Rattle.machine_core.specs.declared.sweeping.Swept.{Swept}
-use Rattle.machine_core.specs.declared.sweeping.Swept.TheVariants as swept
-use Rattle.machine_core.specs.MachineRun.{ChangesOne, StepsOnce, TakesNotices, IsKilled, of_process, is_used, SweepsAt, SweepsOnce, sweep_reply, swept_reply}
-use Rattle.machine_core.specs.Sides.{PagerSideValue, ProcessSideValue}
-use Rattle.machine_core.specs.Sweeping.{Answers, Sweeps}
-use Rattle.machine_core.specs.SweepLaws.{answers_together, answers_rest}
+use Rattle.machine_sides.specs.declared.sweeping.Swept.{Swept}
+use Rattle.machine_sides.specs.declared.sweeping.Swept.TheVariants as swept
+use Rattle.machine_core.specs.MachineRun.{ChangesOne, of_process, is_used, SweepsAt, SweepsOnce, sweep_reply, swept_reply}
+use Rattle.machine_sides.specs.ProcessCalls.{StepsOnce, TakesNotices, IsKilled}
+use Rattle.machine_sides.specs.Sides.{PagerSideValue, ProcessSideValue}
+use Rattle.machine_sides.specs.Sweeping.{Answers, Sweeps}
+use Rattle.machine_sides.specs.SweepLaws.{answers_together, answers_rest}
 use Rattle.machine_core.specs.declared.error.EventRefusal.{EventRefusal}
 use Rattle.machine_core.proofs.Finding.{Asked, HasResident, asked_process, bit_there}
-use Rattle.machine_core.proofs.Kept.{Moves, moved_machine, out_stays, SavingsStay}
+use Rattle.machine_core.proofs.Kept.{moved_machine, out_stays, SavingsStay}
 use Rattle.machine_core.proofs.KeptPages.{CountAlike, same_pages, kept_pages}
 
 -- a process that an event is not refused for is there

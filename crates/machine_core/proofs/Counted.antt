@@ -12,8 +12,8 @@ use Rattle.paged_memory.specs.Counting.{page_passes, pages_below, pages_where, i
 use Rattle.paged_memory.specs.Paged.{page_at}
 use Rattle.space_core.specs.StandsFor.{SpaceValue}
 use Rattle.machine_core.specs.Machine.{CoreValue, IsMachine, total, numbers_below, jobs_where}
-use Rattle.machine_core.specs.Sides.{ProcessSideValue}
-use Rattle.machine_core.specs.Together.{residents_in, savings_in, frames_in, frames_where, key_of}
+use Rattle.machine_sides.specs.Sides.{ProcessSideValue}
+use Rattle.machine_sides.specs.Together.{residents_in, savings_in, frames_in, frames_where, key_of}
 use Rattle.machine_core.proofs.Finding.{total_some, has_resident as resident_of}
 
 -- ---- what passes one test passes another

@@ -1,23 +1,23 @@
 -- The page of the list's question is resident in the process that its key names.
-use Rattle.std.proofs.Common.{◌≡◌, ℕ, zero, suc, ◌+◌, ◌≤◌, ◌<◌, ◌^◌, ◌==◌, ◌&&◌, Bool, true, false, cond, List, [], ◌∷◌, length, Option, Some, None, option_map, slice_get, refl, sym, ap, ◌∙◌, arith}
+use Rattle.std.proofs.Common.{◌≡◌, ℕ, zero, suc, ◌≤◌, ◌<◌, ◌^◌, ◌==◌, ◌&&◌, Bool, true, false, cond, List, [], ◌∷◌, length, Option, Some, None, option_map, slice_get, refl, sym, ap, ◌∙◌, arith}
 use Rattle.std.proofs.lemmas.Option.{slice_get_within}
 use borrow.Author.Tests.{eqb-true, lt-ltb}
 use Rattle.clock_policy.specs.declared.key.Key.{Key}
 use Rattle.clock_policy.specs.AdmitLaws.{asked_once}
 use Rattle.clock_policy.specs.ClockPro.{question_of}
-use Rattle.clock_policy.specs.Residents.{residents, is_key, is_gone}
+use Rattle.clock_policy.specs.Residents.{is_key, is_gone}
 use Rattle.page_store.specs.PageValue.{PageValue, Place, Fresh, Resident, Leaving, Saving, Away, Purged}
 use Rattle.sv32_table.specs.EntryAt.{entry_at}
 use Rattle.paged_memory.specs.Calls.{accessed_at}
-use Rattle.paged_memory.specs.Counting.{page_passes, pages_below, pages_where, is_resident_place, residents_of}
+use Rattle.paged_memory.specs.Counting.{page_passes, pages_below, pages_where, is_resident_place}
 use Rattle.paged_memory.specs.Paged.{page_at, seen_at, seen_of, standing_of}
 use Rattle.sv32_table.specs.Entry.{Entry}
 use Rattle.clock_policy.specs.declared.answer.Bit.TheVariants.{Gone}
 use Rattle.space_core.specs.StandsFor.{SpaceValue}
 use Rattle.machine_core.specs.Machine.{CoreValue, IsMachine, total}
-use Rattle.machine_core.specs.Sides.{ProcessSideValue}
-use Rattle.machine_core.specs.Sweeping.{bit_of, bit_at}
-use Rattle.machine_core.specs.Together.{residents_in, key_of}
+use Rattle.machine_sides.specs.Sides.{ProcessSideValue}
+use Rattle.machine_sides.specs.Sweeping.{bit_of, bit_at}
+use Rattle.machine_sides.specs.Together.{residents_in, key_of}
 
 -- a place that counts where a sum does
 pub record Counts {A : Type 0} (f : A → ℕ) (xs : List A) : Type 0 where

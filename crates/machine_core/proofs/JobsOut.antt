@@ -12,7 +12,7 @@ use Rattle.clock_policy.specs.Residents.{is_key}
 use Rattle.page_store.specs.JobValue.{JobValue}
 use Rattle.machine_core.specs.Machine.{total, jobs_where}
 use Rattle.machine_core.specs.SavingOut.{is_of_page}
-use Rattle.machine_core.specs.Together.{key_of}
+use Rattle.machine_sides.specs.Together.{key_of}
 
 pub both_true : (a b : Bool) → a && b ≡ true → (a ≡ true) × (b ≡ true)
 both_true true true h = (refl, refl)

@@ -1,5 +1,5 @@
 -- The machine stays one where one process and what it shares change together.
-use Rattle.std.proofs.Common.{◌≡◌, ℕ, ◌+◌, ◌^◌, ◌<◌, ◌≤◌, Bool, true, false, cond, List, length, Option, Some, None, slice_get, ◌⊎◌, inl, inr, refl, sym, ap, ◌∙◌, arith, subst}
+use Rattle.std.proofs.Common.{◌≡◌, ℕ, ◌+◌, ◌^◌, ◌<◌, Bool, List, length, Some, slice_get, inl, inr, sym, ap, ◌∙◌, arith}
 use Rattle.std.specs.Prelude.{slice_set, All}
 use Rattle.std.proofs.lemmas.Bool.Decides.{eqb_tells}
 use Rattle.std.proofs.lemmas.List.{length-set}
@@ -10,10 +10,10 @@ use Rattle.page_store.specs.JobValue.{JobValue}
 use Rattle.page_store.specs.PageValue.{PageValue, Saving}
 use Rattle.paged_memory.specs.Counting.{slots_of}
 use Rattle.paged_memory.specs.Paged.{page_at}
-use Rattle.machine_core.specs.Sides.{PagerSideValue, ProcessSideValue}
-use Rattle.machine_core.specs.Together.{Together, residents_in, savings_in, frames_in, frames_where}
+use Rattle.machine_sides.specs.Sides.{ProcessSideValue}
+use Rattle.machine_sides.specs.Together.{Together, residents_in, savings_in, frames_in}
 use Rattle.machine_core.specs.Machine.{CoreValue, IsMachine, IsOut, total, jobs_where, numbers_below}
-use Rattle.machine_core.proofs.Totals.{total_set, got_set, get_set_same, get_set_other, All_map}
+use Rattle.machine_core.specs.TotalLaws.{total_set, got_set, get_set_same, get_set_other, All_map}
 
 module _ {S : Type 0} where
   -- pages that are being saved stay as they are

@@ -1,6 +1,5 @@
 -- What a process's own steps leave of the counts: its pages stay where they are, with their frames and slots.
-use Rattle.std.proofs.Common.{◌≡◌, ℕ, ◌^◌, ◌<◌, Bool, true, false, ◌&&◌, cond, List, [], Option, Some, None, option_map, is_some, refl, sym, ap, ◌∙◌}
-use Rattle.frame_pool.specs.FrameValue.{FrameValue}
+use Rattle.std.proofs.Common.{◌≡◌, ℕ, Bool, false, ◌&&◌, List, [], Option, Some, None, option_map, is_some, refl, sym, ap, ◌∙◌}
 use Rattle.clock_policy.specs.declared.key.Key.{Key}
 use Rattle.page_store.specs.Lending.{with_bytes, rewritten}
 use Rattle.page_store.specs.PageValue.{PageValue, Place, Fresh, Resident, Leaving, Saving, Away, Purged, frame_of, slot_of}
@@ -10,7 +9,7 @@ use Rattle.paged_memory.specs.Growth.{zero_page}
 use Rattle.paged_memory.specs.HartMemory.{KeepsPages}
 use Rattle.paged_memory.specs.Paged.{page_at}
 use Rattle.space_core.specs.StandsFor.{SpaceValue}
-use Rattle.machine_core.specs.Together.{residents_in, savings_in, frames_in, key_of}
+use Rattle.machine_sides.specs.Together.{residents_in, savings_in, frames_in, key_of}
 use Rattle.machine_core.proofs.Kept.{SavingsStay}
 
 module _ {S : Type 0} where

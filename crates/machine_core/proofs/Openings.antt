@@ -25,9 +25,10 @@ use Rattle.pager_core.specs.Pager.{full_pager}
 use Rattle.space_core.specs.Fresh.{fresh, all_fresh}
 use Rattle.swap_slots.specs.PoolValue.{PoolValue}
 use Rattle.machine_core.specs.Machine.{CoreValue, IsMachine, IsOut, total, jobs_where, numbers_below}
-use Rattle.machine_core.specs.Opening.{Start, Begins, BeginsAt, AllBegin, MachineBegins}
-use Rattle.machine_core.specs.Sides.{PagerSideValue, ProcessSideValue}
-use Rattle.machine_core.specs.Together.{frames_where, residents_in, savings_in, frames_in, key_of}
+use Rattle.machine_sides.specs.Starting.{Start, Begins}
+use Rattle.machine_core.specs.Opening.{BeginsAt, AllBegin, MachineBegins}
+use Rattle.machine_sides.specs.Sides.{PagerSideValue, ProcessSideValue}
+use Rattle.machine_sides.specs.Together.{frames_where, residents_in, savings_in, frames_in, key_of}
 
 total_none : {A : Type 0} (f : A → ℕ) (xs : List A) → ((i : ℕ) (x : A) → slice_get xs i ≡ Some x → f x ≡ 0) → total f xs ≡ 0
 unfolding total

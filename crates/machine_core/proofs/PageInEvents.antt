@@ -20,9 +20,9 @@ use Rattle.paged_memory.specs.declared.filling.PageInFault.TheVariants as fault
 use Rattle.space_core.specs.StandsFor.{SpaceValue}
 use Rattle.sv32_table.specs.EntryAt.{has_table}
 use Rattle.swap_slots.specs.PoolValue.{PoolValue}
-use Rattle.machine_core.specs.Admitting.{is_resident_stage, is_resident, is_absent, bars, told_by, taken_back}
-use Rattle.machine_core.specs.declared.admission.NotAdmitted.{NotAdmitted}
-use Rattle.machine_core.specs.declared.admission.NotAdmitted.TheVariants.{Ended, NotAbsent, AlreadyResident, NoFrame, NoMemory}
+use Rattle.machine_sides.specs.Admitting.{is_resident_stage, is_resident, is_absent, bars, told_by, taken_back}
+use Rattle.machine_sides.specs.declared.admission.NotAdmitted.{NotAdmitted}
+use Rattle.machine_sides.specs.declared.admission.NotAdmitted.TheVariants.{Ended, NotAbsent, AlreadyResident, NoFrame, NoMemory}
 use Rattle.machine_core.specs.declared.error.EventRefusal.{EventRefusal}
 use Rattle.machine_core.specs.declared.error.EventRefusal.TheVariants as refusal
 use Rattle.machine_core.specs.declared.event.Reply.{Reply}
@@ -30,7 +30,7 @@ use Rattle.machine_core.specs.declared.event.Reply.TheVariants.{Refused}
 use Rattle.machine_core.specs.Machine.{CoreValue, IsMachine}
 use Rattle.machine_core.specs.MachineRun.{of_process, Refuses}
 use Rattle.machine_core.specs.PagingIn.{admit_reason, ComesIn, IsTakenBack, GoesBack, PagesIn, PagesInAt, PagesInOnce, page_in_reason, page_in_refusal}
-use Rattle.machine_core.specs.Sides.{PagerSideValue, ProcessSideValue}
+use Rattle.machine_sides.specs.Sides.{PagerSideValue, ProcessSideValue}
 use Rattle.machine_core.proofs.Counted.{all_frames, all_numbers}
 use Rattle.machine_core.proofs.Cores.{lent_back}
 use Rattle.machine_core.proofs.PageInReasons.{unbarred, first_reason, bars_are, reason_is}

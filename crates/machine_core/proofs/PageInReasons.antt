@@ -22,14 +22,14 @@ use Rattle.paged_memory.specs.Counting.{is_resident_place}
 use Rattle.paged_memory.specs.Filling.{IsAbsent}
 use Rattle.paged_memory.specs.Paged.{page_at}
 use Rattle.space_core.specs.StandsFor.{SpaceValue}
-use Rattle.machine_core.specs.Admitting.{is_absent_stage, is_absent, page_bars, bars, bars_from, pager_refusal}
-use Rattle.machine_core.specs.declared.admission.NotAdmitted.{NotAdmitted}
-use Rattle.machine_core.specs.declared.admission.NotAdmitted.TheVariants.{Ended, NotAbsent, NoFrame}
+use Rattle.machine_sides.specs.Admitting.{is_absent_stage, is_absent, page_bars, bars, bars_from, pager_refusal}
+use Rattle.machine_sides.specs.declared.admission.NotAdmitted.{NotAdmitted}
+use Rattle.machine_sides.specs.declared.admission.NotAdmitted.TheVariants.{Ended, NotAbsent, NoFrame}
 use Rattle.machine_core.specs.declared.error.EventRefusal.TheVariants as refusal
 use Rattle.machine_core.specs.Machine.{CoreValue, IsMachine}
 use Rattle.machine_core.specs.PagingIn.{admit_reason, page_in_reason}
-use Rattle.machine_core.specs.Sides.{ProcessSideValue}
-use Rattle.machine_core.specs.Together.{residents_in, frames_in}
+use Rattle.machine_sides.specs.Sides.{ProcessSideValue}
+use Rattle.machine_sides.specs.Together.{residents_in, frames_in}
 use Rattle.machine_core.proofs.Counted.{fewer_total, all_frames, all_numbers, residents_framed}
 use Rattle.machine_core.proofs.Finding.{HasResident, total_some, has_resident as resident_of}
 

@@ -19,13 +19,13 @@ use Rattle.paged_memory.specs.declared.filling.PageInFault.{PageInFault}
 use Rattle.paged_memory.specs.declared.filling.PageInFault.TheVariants as fault
 use Rattle.space_core.specs.StandsFor.{SpaceValue}
 use Rattle.sv32_table.specs.EntryAt.{has_table}
-use Rattle.machine_core.specs.Admitting.{AdmissionValue, Admits}
+use Rattle.machine_sides.specs.Admitting.{AdmissionValue, Admits}
 use Rattle.machine_core.specs.declared.event.Reply.{Reply}
 use Rattle.machine_core.specs.Machine.{CoreValue, IsMachine}
 use Rattle.machine_core.specs.PagingIn.{ComesIn, GoesBack}
 use Rattle.machine_core.specs.PagingLaws.{arrived_residents, arrived_frames, arrived_savings, arrived_slots, arrived_stays, absent_residents, absent_frames, absent_savings, absent_slots, absent_stays}
-use Rattle.machine_core.specs.Sides.{PagerSideValue, ProcessSideValue}
-use Rattle.machine_core.specs.Together.{frames_where, residents_in, savings_in, frames_in, key_of}
+use Rattle.machine_sides.specs.Sides.{PagerSideValue, ProcessSideValue}
+use Rattle.machine_sides.specs.Together.{frames_where, residents_in, savings_in, frames_in, key_of}
 use Rattle.machine_core.proofs.Kept.{Moves, moved_machine, out_stays, SavingsStay}
 use Rattle.machine_core.proofs.KeptPages.{CountAlike}
 use Rattle.machine_core.proofs.PageInReasons.{Unbarred, unbarred}

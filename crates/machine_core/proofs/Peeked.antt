@@ -10,9 +10,9 @@ use Rattle.paged_memory.specs.Peeking.{LeavesPlace, LeavesPage}
 use Rattle.paged_memory.specs.declared.peeking.PeekFault.{PeekFault}
 use Rattle.space_core.specs.StandsFor.{SpaceValue}
 use Rattle.std.specs.Prelude.{Result}
-use Rattle.machine_core.specs.MoveLaws.{moved_residents, moved_savings, moved_frames, moved_slots, moved_stays}
-use Rattle.machine_core.specs.Reading.{Peeks}
-use Rattle.machine_core.specs.Sides.{ProcessSideValue}
+use Rattle.machine_sides.specs.MoveLaws.{moved_residents, moved_savings, moved_frames, moved_slots, moved_stays}
+use Rattle.machine_sides.specs.Showing.{Peeks}
+use Rattle.machine_sides.specs.Sides.{ProcessSideValue}
 use Rattle.machine_core.proofs.Kept.{SavingsStay}
 use Rattle.machine_core.proofs.KeptPages.{CountAlike, same_pages}
 

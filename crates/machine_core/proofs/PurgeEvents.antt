@@ -20,20 +20,20 @@ use Rattle.space_core.specs.StandsFor.{SpaceValue}
 use Rattle.swap_slots.specs.PoolValue.{PoolValue}
 use Rattle.machine_core.specs.declared.event.Reply.{Reply}
 use Rattle.machine_core.specs.declared.event.Reply.TheVariants.{Purged}
-use Rattle.machine_core.specs.declared.purging.PurgeRefusal.{PurgeRefusal}
-use Rattle.machine_core.specs.declared.purging.Purging.{Purging}
-use Rattle.machine_core.specs.declared.purging.Purging.TheVariants.{Done, Refused, HandedBack}
+use Rattle.machine_sides.specs.declared.purging.PurgeRefusal.{PurgeRefusal}
+use Rattle.machine_sides.specs.declared.purging.Purging.{Purging}
+use Rattle.machine_sides.specs.declared.purging.Purging.TheVariants.{Done, Refused, HandedBack}
 use Rattle.machine_core.specs.Machine.{CoreValue, IsMachine, total}
 use Rattle.machine_core.specs.MachineRun.{of_process}
 use Rattle.machine_core.specs.PurgeEvent.{purge_reason, purge_refusal, PurgesAt, PurgesOnce, IsDone}
-use Rattle.machine_core.specs.PurgeLaws.{given_savings, given_stays, purged_together, purged_pool}
-use Rattle.machine_core.specs.Purging.{purge_bars, Purges, PurgesAll, StopsPurging}
-use Rattle.machine_core.specs.Sides.{PagerSideValue, ProcessSideValue}
-use Rattle.machine_core.specs.Together.{residents_in, frames_in, key_of}
+use Rattle.machine_sides.specs.PurgeLaws.{given_savings, given_stays, purged_together, purged_pool}
+use Rattle.machine_sides.specs.Purging.{purge_bars, Purges, PurgesAll, StopsPurging}
+use Rattle.machine_sides.specs.Sides.{PagerSideValue, ProcessSideValue}
+use Rattle.machine_sides.specs.Together.{residents_in, frames_in, key_of}
 use Rattle.machine_core.proofs.Cores.{lent_back}
 use Rattle.machine_core.proofs.Counted.{all_frames, all_numbers}
 use Rattle.machine_core.proofs.Kept.{moved_machine, out_stays, SavingsStay}
-use Rattle.machine_core.proofs.Totals.{total_at}
+use Rattle.machine_core.specs.TotalLaws.{total_at}
 
 -- ---- a sum of which one place alone counts
 

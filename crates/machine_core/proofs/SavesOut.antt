@@ -19,23 +19,23 @@ use Rattle.paged_memory.specs.Leaving.{IsSaving}
 use Rattle.paged_memory.specs.Leaving as pages
 use Rattle.paged_memory.specs.Paged.{page_at}
 use Rattle.machine_core.specs.declared.event.Reply.{Reply}
-use Rattle.machine_core.specs.declared.saving_back.SaveFailure.{SaveFailure}
-use Rattle.machine_core.specs.declared.saving_back.SaveFailure.TheVariants.{Mismatch, Device}
-use Rattle.machine_core.specs.declared.saving_back.SaveOutcome.{SaveOutcome}
-use Rattle.machine_core.specs.declared.saving_back.SaveOutcome.TheVariants.{Freed, HandedBack, WrongPage, ResidentAgain, NotRestored}
+use Rattle.machine_sides.specs.declared.saving_back.SaveFailure.{SaveFailure}
+use Rattle.machine_sides.specs.declared.saving_back.SaveFailure.TheVariants.{Mismatch, Device}
+use Rattle.machine_sides.specs.declared.saving_back.SaveOutcome.{SaveOutcome}
+use Rattle.machine_sides.specs.declared.saving_back.SaveOutcome.TheVariants.{Freed, HandedBack, WrongPage, ResidentAgain, NotRestored}
 use Rattle.machine_core.specs.Machine.{CoreValue, IsMachine, IsOut, total, jobs_where}
-use Rattle.machine_core.specs.Returning.{DoesNotList}
-use Rattle.machine_core.specs.SavingBack.{EndsSave, Settles, LeavesAgain, FailsAndReturns, FailsAndLeaves}
-use Rattle.machine_core.specs.SavingLaws.{SaveEnds, freed_ends, returned_ends, left_ends}
+use Rattle.machine_sides.specs.Returning.{DoesNotList}
+use Rattle.machine_sides.specs.SavingBack.{EndsSave, Settles, LeavesAgain, FailsAndReturns, FailsAndLeaves}
+use Rattle.machine_sides.specs.SavingLaws.{SaveEnds, freed_ends, returned_ends, left_ends}
 use Rattle.machine_core.specs.SavingOut.{saved_refusal, is_of_page, MakesSave, EndsWith, SavesOnce, SavedAt, IsOwn, RepliesTo}
-use Rattle.machine_core.specs.Sides.{PagerSideValue, ProcessSideValue}
-use Rattle.machine_core.specs.Together.{savings_in, key_of}
+use Rattle.machine_sides.specs.Sides.{PagerSideValue, ProcessSideValue}
+use Rattle.machine_sides.specs.Together.{savings_in, key_of}
 use Rattle.swap_slots.specs.PoolValue.{PoolValue}
 use Rattle.machine_core.proofs.Cores.{lent_back}
 use Rattle.machine_core.proofs.Counted.{HoldsFrame, frame_missing, takes_back}
 use Rattle.machine_core.proofs.Finding.{total_some}
 use Rattle.machine_core.proofs.Kept.{moved_machine}
-use Rattle.machine_core.proofs.Totals.{total_set, got_set, get_set_same, get_set_other}
+use Rattle.machine_core.specs.TotalLaws.{total_set, got_set, get_set_same, get_set_other}
 use Rattle.machine_core.proofs.JobsOut.{same_key, total_permuted}
 use Rattle.machine_core.proofs.SavingPages.{saving_counted}
 

@@ -1,5 +1,5 @@
 -- A page that is being saved counts once, and its save is out.
-use Rattle.std.proofs.Common.{◌≡◌, ℕ, ◌≤◌, ◌<◌, ◌^◌, ◌==◌, ◌&&◌, Bool, true, false, not, nat_lt, List, Option, Some, None, option_map, slice_get, position, refl, sym, ap, ◌∙◌, arith}
+use Rattle.std.proofs.Common.{◌≡◌, ℕ, ◌≤◌, ◌<◌, ◌^◌, ◌==◌, ◌&&◌, Bool, true, false, nat_lt, List, Option, Some, None, option_map, slice_get, position, refl, sym, ap, ◌∙◌, arith}
 use Rattle.std.specs.Prelude.{if◌then◌else◌}
 use borrow.Author.Tests.{eqb-true, ltb-true}
 use Rattle.clock_policy.specs.declared.key.Key.{Key}
@@ -11,12 +11,13 @@ use Rattle.space_core.specs.StandsFor.{SpaceValue}
 use Rattle.machine_core.specs.declared.error.EventRefusal.TheVariants as refusal
 use Rattle.machine_core.specs.Machine.{CoreValue, IsMachine}
 use Rattle.machine_core.specs.MachineRun.{of_process}
-use Rattle.machine_core.specs.SavingOut.{is_saving, is_saving_stage, saving_reason, saved_refusal, is_of_page}
-use Rattle.machine_core.specs.Sides.{ProcessSideValue}
-use Rattle.machine_core.specs.Together.{savings_in, key_of}
+use Rattle.machine_sides.specs.SavingBack.{is_saving, is_saving_stage}
+use Rattle.machine_core.specs.SavingOut.{saving_reason, saved_refusal, is_of_page}
+use Rattle.machine_sides.specs.Sides.{ProcessSideValue}
+use Rattle.machine_sides.specs.Together.{savings_in, key_of}
 use Rattle.machine_core.proofs.Counted.{one_fewer_where}
 use Rattle.machine_core.proofs.Finding.{some_where}
-use Rattle.machine_core.proofs.Totals.{total_at}
+use Rattle.machine_core.specs.TotalLaws.{total_at}
 use Rattle.machine_core.proofs.JobsOut.{both_true, same_key, none_found}
 
 module _ {S : Type 0} where

@@ -1,36 +1,27 @@
 -- Slices of one instruction in a row are so many steps of the machine.
-use Rattle.std.proofs.Common.{◌≡◌, ℕ, zero, suc, ◌+◌, ◌<◌, ◌&&◌, Bool, true, false, List, [], ◌∷◌, ◌++◌, Option, Some, None, slice_get, inl, inr, refl, sym, ap, ◌∙◌, arith, subst, append-nil}
-use Rattle.std.specs.Prelude.{slice_set, slice_index_or, replicate, is_some, is_none, if◌then◌else◌}
+use Rattle.std.proofs.Common.{◌≡◌, ℕ, zero, suc, ◌&&◌, Bool, true, false, List, [], ◌∷◌, ◌++◌, Option, Some, None, slice_get, inl, inr, refl, sym, ap, ◌∙◌, arith, subst}
+use Rattle.std.specs.Prelude.{slice_set, slice_index_or, replicate, option_map, take, drop, length, is_some, is_none, if◌then◌else◌}
 use Rattle.flat_machine.specs.declared.end.End.{End}
-use Rattle.machine_core.proofs.Cores.{alike_machine, step_alike}
-use Rattle.machine_core.proofs.Totals.{got_set, get_set_same}
+use Rattle.machine_core.proofs.Cores.{alike_machine, step_alike, lent_back}
+use Rattle.machine_core.specs.TotalLaws.{got_set, get_set_same}
 use Rattle.machine_core.specs.Applying.{Applies, Runs}
 use Rattle.machine_core.specs.ApplyingLaws.{runs_none, runs_more}
 use Rattle.machine_core.specs.Faithful.{EachStands, IsFaithful}
 use Rattle.machine_core.specs.Machine.{CoreValue}
-use Rattle.machine_core.specs.MachineRun.{step_reply, hart_reason, of_process, Slices, StepsOnce}
-use Rattle.machine_core.specs.Sides.{ProcessSideValue}
-use Rattle.machine_core.specs.declared.error.EventRefusal.{EventRefusal}
+use Rattle.machine_core.specs.MachineRun.{step_reply, hart_reason, hart_refusal, of_process, ChangesOne}
+use Rattle.machine_sides.specs.ProcessCalls.{Slices, StepsOnce, SlicesOn, SliceEnds, SlicesMany}
+use Rattle.machine_sides.specs.Sides.{PagerSideValue, ProcessSideValue}
 use Rattle.machine_core.specs.declared.error.EventRefusal.TheVariants as refusal
-use Rattle.machine_core.specs.declared.event.Event.{Event}
 use Rattle.machine_core.specs.declared.event.Event.TheVariants.{Step}
 use Rattle.machine_core.specs.declared.event.Reply.{Reply}
 use Rattle.machine_core.specs.declared.event.Reply.TheVariants.{Ran}
-use Rattle.space_core.specs.StepByStep.{SlicesOne, StepsOn, StepsEach}
-use Rattle.space_core.specs.declared.progress.Slice.{Slice}
 use Rattle.space_core.specs.StandsFor.{SpaceValue, StandsFor}
 use Rattle.space_core.specs.declared.progress.SliceStop.{SliceStop}
 use Rattle.space_core.specs.declared.progress.SliceStop.TheVariants.{Budget}
-use Rattle.machine_core.specs.ManySteps.{SlicesOn, SliceEnds, SlicesMany, steps_of, replies_of}
-use Rattle.std.specs.Prelude.{option_map, take, drop, length}
+use Rattle.machine_core.specs.ManySteps.{steps_of, replies_of}
 use Rattle.std.proofs.lemmas.List.{length-set}
-use Rattle.machine_core.proofs.Cores.{lent_back}
-use Rattle.machine_core.specs.MachineRun.{ChangesOne, hart_refusal, Refuses}
-use Rattle.machine_core.specs.Machine.{IsMachine}
-use Rattle.machine_core.specs.Sides.{PagerSideValue}
 use Rattle.swap_slots.specs.PoolValue.{PoolValue}
 use Rattle.page_store.specs.JobValue.{JobValue}
-use Rattle.machine_core.specs.ApplyingLaws.{runs_one}
 
 -- one more of the same stands at the end too
 replicate_last : {A : Type 0} (n : ℕ) (x : A) → replicate n x ++ x ∷ [] ≡ replicate (suc n) x
@@ -168,32 +159,3 @@ module _ {S : Type 0} (held : S → List ℕ) (honest : Type 0) (failures : S �
         subst (λ l. Runs held honest failures (steps_of p hart count (option_map step_reply last)) (replies_of count (option_map step_reply last)) core (record { pager = pager; slots = slots; processes = l; jobs = jobs })) all stepped.runs,
         subst (λ l. IsFaithful held honest (record { pager = pager; slots = slots; processes = l; jobs = jobs })) all stepped.faithful,
       )
-
-one_slice : {S : Type 0} (held : S → List ℕ) (honest : Type 0) (hart ran : ℕ) (why : SliceStop) (old new : SpaceValue S) → SlicesOne held honest hart ran why old new → Slices held honest hart 1 old new ran why
-one_slice held honest hart ran why old new one = record {
-  ran_is = one.ran_is;
-  recorded = one.recorded;
-  left = one.left;
-  within = one.within;
-  stops = one.stops;
-  pages = one.pages;
-  kept = one.kept;
-  stands = one.stands;
-}
-
--- steps of a space in a row, and its slices
-slices_on : {S : Type 0} (held : S → List ℕ) (honest : Type 0) (hart n : ℕ) (old new : SpaceValue S) → StepsOn held honest hart n old new → SlicesOn held honest hart n old new
-unfolding StepsOn SlicesOn
-slices_on held honest hart zero old new on = on
-slices_on held honest hart (suc n) old new on = (on.0, (slices_on held honest hart n old on.0 on.1.0, one_slice held honest hart 1 Budget on.0 new on.1.1))
-
-pub many_of_steps : {S : Type 0} (held : S → List ℕ) (honest : Type 0) (hart count : ℕ) (last : Option Slice) (old new : ProcessSideValue S)
-    → StepsEach held honest hart count (option_map (λ slice. (slice.ran, slice.stop)) last) old.space new.space → new.purged ≡ old.purged
-    → SlicesMany held honest hart count (option_map (λ slice. slice.stop) last) old new
-many_of_steps held honest hart count None old new each purged = record { between = each.between; on = slices_on held honest hart count old.space each.between each.on; ends = each.at_last; purged = purged }
-many_of_steps held honest hart count (Some slice) old new each purged = record {
-  between = each.between;
-  on = slices_on held honest hart count old.space each.between each.on;
-  ends = (slice.ran, one_slice held honest hart slice.ran slice.stop each.between new.space each.at_last);
-  purged = purged;
-}

@@ -4,7 +4,7 @@ use Rattle.clock_policy.specs.ClockPro.{question_of}
 use Rattle.machine_core.specs.declared.event.Event.{Event}
 use Rattle.machine_core.specs.declared.event.Event.TheVariants.{Step, Notice, Sweep, Collect, Saved, PageIn, Kill, Purge}
 use Rattle.machine_core.specs.declared.event.Reply.{Reply}
-use Rattle.machine_core.specs.Collecting.{collect_refusal, CollectsOnce}
+use Rattle.machine_core.specs.CollectEvent.{collect_refusal, CollectsOnce}
 use Rattle.machine_core.specs.PurgeEvent.{purge_refusal, PurgesOnce}
 use Rattle.machine_core.specs.SavingOut.{saved_refusal, SavesOnce}
 use Rattle.machine_core.specs.Faithful.{IsFaithful}

@@ -2,7 +2,7 @@
 use Rattle.std.specs.Prelude.{◌≡◌, ℕ, List, Some, slice_get}
 use Rattle.space_core.specs.StandsFor.{StandsFor}
 use Rattle.machine_core.specs.Machine.{CoreValue, IsMachine}
-use Rattle.machine_core.specs.Sides.{ProcessSideValue}
+use Rattle.machine_sides.specs.Sides.{ProcessSideValue}
 
 module _ {S : Type 0} (held : S → List ℕ) where
   -- each process stands for the flat process that the run of its schedule leaves

@@ -14,10 +14,11 @@ use Rattle.machine_core.specs.declared.event.Event.TheVariants as event
 use Rattle.machine_core.specs.declared.event.Reply.{Reply}
 use Rattle.machine_core.specs.declared.event.Reply.TheVariants as reply
 use Rattle.machine_core.specs.Machine.{CoreValue, total}
-use Rattle.machine_core.specs.Opening.{Start, MachineBegins}
-use Rattle.machine_core.specs.Sides.{ProcessSideValue}
-use Rattle.machine_core.specs.Sweeping.{bit_at}
-use Rattle.machine_core.specs.Together.{residents_in}
+use Rattle.machine_sides.specs.Starting.{Start}
+use Rattle.machine_core.specs.Opening.{MachineBegins}
+use Rattle.machine_sides.specs.Sides.{ProcessSideValue}
+use Rattle.machine_sides.specs.Sweeping.{bit_at}
+use Rattle.machine_sides.specs.Together.{residents_in}
 use Rattle.page_store.specs.PageValue.{PageValue}
 use Rattle.paged_memory.specs.Paged.{page_at, flat_page}
 use Rattle.space_core.specs.StandsFor.{SpaceValue, own_ending, is_purged}

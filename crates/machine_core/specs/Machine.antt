@@ -9,8 +9,8 @@ use Rattle.page_store.specs.PageValue.{PageValue, Saving}
 use Rattle.paged_memory.specs.Counting.{slots_of}
 use Rattle.paged_memory.specs.Paged.{page_at}
 use Rattle.swap_slots.specs.PoolValue.{PoolValue}
-use Rattle.machine_core.specs.Sides.{PagerSideValue, ProcessSideValue}
-use Rattle.machine_core.specs.Together.{frames_where, residents_in, savings_in, frames_in, key_of}
+use Rattle.machine_sides.specs.Sides.{PagerSideValue, ProcessSideValue}
+use Rattle.machine_sides.specs.Together.{frames_where, residents_in, savings_in, frames_in, key_of}
 
 pub record CoreValue (S : Type 0) : Type 0 where
   pub pager : PagerSideValue

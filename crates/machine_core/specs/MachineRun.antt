@@ -1,18 +1,6 @@
 -- The machine's events: when each is refused, and what each does.
-use Rattle.std.specs.Prelude.{◌≡◌, ◌⊎◌, ℕ, ◌≤◌, ◌+◌, ◌++◌, Bool, true, false, not, is_some, Option, Some, None, List, replicate, slice_get, slice_set, slice_index_or, if◌then◌else◌}
-use Rattle.std.specs.Option.{option_or}
-use Rattle.flat_machine.specs.Process.{flat_run}
-use Rattle.flat_machine.specs.Schedule.{written_out, room}
+use Rattle.std.specs.Prelude.{◌≡◌, ℕ, Bool, true, false, is_some, Option, Some, None, List, slice_get, slice_set, slice_index_or, if◌then◌else◌}
 use Rattle.flat_machine.specs.declared.end.KillCause.{KillCause}
-use Rattle.flat_machine.specs.declared.end.End.TheVariants.{Killed as KilledBy}
-use Rattle.rv_exec.specs.Outcomes.{Used}
-use Rattle.paged_memory.specs.Access.{HasPage, LacksPage, cache_of}
-use Rattle.paged_memory.specs.HartMemory.{MarksSince}
-use Rattle.space_core.specs.Caches.{noticed, if_killed}
-use Rattle.space_core.specs.Next.{next_pages}
-use Rattle.space_core.specs.Slices.{EachStep, StopsRecorded}
-use Rattle.space_core.specs.Slicing.{shown_process, KeepsSpace}
-use Rattle.space_core.specs.StandsFor.{SpaceValue, StandsFor}
 use Rattle.space_core.specs.declared.progress.SliceStop.{SliceStop}
 use Rattle.space_core.specs.declared.progress.SliceStop.TheVariants as stop
 use Rattle.clock_policy.specs.declared.answer.Bit.{Bit}
@@ -23,12 +11,13 @@ use Rattle.clock_policy.specs.declared.answer.Verdict.TheVariants as verdict
 use Rattle.clock_policy.specs.declared.key.Key.{Key}
 use Rattle.clock_policy.specs.Residents.{is_gone}
 use Rattle.machine_core.specs.Machine.{CoreValue}
-use Rattle.machine_core.specs.Sides.{PagerSideValue, ProcessSideValue}
-use Rattle.machine_core.specs.Sweeping.{Answers, Sweeps}
+use Rattle.machine_sides.specs.ProcessCalls.{StepsOnce, TakesNotices, IsKilled}
+use Rattle.machine_sides.specs.Sides.{PagerSideValue, ProcessSideValue}
+use Rattle.machine_sides.specs.Sweeping.{Answers, Sweeps}
 use Rattle.machine_core.specs.declared.error.EventRefusal.{EventRefusal}
 use Rattle.machine_core.specs.declared.error.EventRefusal.TheVariants as refusal
-use Rattle.machine_core.specs.declared.sweeping.Swept.{Swept}
-use Rattle.machine_core.specs.declared.sweeping.Swept.TheVariants as swept
+use Rattle.machine_sides.specs.declared.sweeping.Swept.{Swept}
+use Rattle.machine_sides.specs.declared.sweeping.Swept.TheVariants as swept
 use Rattle.machine_core.specs.declared.event.Reply.{Reply}
 use Rattle.machine_core.specs.declared.event.Reply.TheVariants.{Ran, Yielded, HartDone, Ended, Absent, ScheduleFull, Noticed, Asked, Victim, Killed, Refused}
 
@@ -107,23 +96,7 @@ module _ {S : Type 0} where
     pub how : Sweeps pager pager' process process' result
     pub is : new ≡ slice_set old number process'
 
-  -- a hart's slice: what ran is the flat run of so many of its instructions, and is recorded; why it stops; and what is left
-  pub record Slices (held : S → List ℕ) (honest : Type 0) (hart budget : ℕ) (old new : SpaceValue S) (ran : ℕ) (why : SliceStop) : Type 0 where
-    pub ran_is : flat_run (replicate ran hart) (shown_process held old) ≡ Some (shown_process held new)
-    pub recorded : written_out new.schedule ≡ written_out old.schedule ++ replicate ran hart
-    pub left : room new.schedule hart + ran ≡ room old.schedule hart
-    pub within : ran ≤ budget
-    pub stops : StopsRecorded (LacksPage old.memory.pages) hart budget (room old.schedule hart) (shown_process held old) why ran (shown_process held new)
-    pub pages : EachStep (λ at. Used (HasPage old.memory.pages (cache_of old.memory.caches hart)) (MarksSince new.memory (cache_of old.memory.caches hart)) (next_pages hart at)) hart ran (shown_process held old)
-    pub kept : KeepsSpace hart why old new
-    pub stands : honest → StandsFor held new
-
   -- a process's hart runs one instruction, or does not
-  pub record StepsOnce (held : S → List ℕ) (honest : Type 0) (hart : ℕ) (why : SliceStop) (old new : ProcessSideValue S) : Type 0 where
-    pub ran : ℕ
-    pub slice : Slices held honest hart 1 old.space new.space ran why
-    pub purged : new.purged ≡ old.purged
-
   pub record Steps (held : S → List ℕ) (honest : Type 0) (process hart : ℕ) (old new : CoreValue S) (reply : Reply) : Type 0 where
     pub allowed : hart_refusal process hart old.processes ≡ None
     pub why : SliceStop
@@ -131,10 +104,7 @@ module _ {S : Type 0} where
     pub stays : new ≡ record old { processes = new.processes }
     pub reply_is : reply ≡ step_reply why
 
-  -- a hart drops its translations that are to be dropped
-  abbrev pub TakesNotices : ℕ → ProcessSideValue S → ProcessSideValue S → Type 0
-  TakesNotices hart old new = new ≡ record old { space = record old.space { memory = noticed hart old.space.memory } }
-
+  -- a process's hart drops its translations that are to be dropped
   pub record Notices (process hart : ℕ) (old new : CoreValue S) (reply : Reply) : Type 0 where
     pub allowed : hart_refusal process hart old.processes ≡ None
     pub one : ChangesOne (TakesNotices hart) process old.processes new.processes
@@ -142,14 +112,6 @@ module _ {S : Type 0} where
     pub reply_is : reply ≡ Noticed
 
   -- the machine ends a process
-  abbrev pub IsKilled : KillCause → ProcessSideValue S → ProcessSideValue S → Type 0
-  IsKilled cause old new = new ≡ record old {
-    space = record old.space {
-      running = record old.space.running { ending = option_or old.space.running.ending (Some (KilledBy cause)) };
-      memory = if_killed old.space.running.ending old.space.memory;
-    };
-  }
-
   pub record Kills (process : ℕ) (cause : KillCause) (old new : CoreValue S) (reply : Reply) : Type 0 where
     pub allowed : kill_refusal process old.processes ≡ None
     pub one : ChangesOne (IsKilled cause) process old.processes new.processes

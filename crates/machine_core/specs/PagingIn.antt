@@ -9,17 +9,17 @@ use Rattle.paged_memory.specs.declared.filling.PageInFault.{PageInFault}
 use Rattle.paged_memory.specs.declared.filling.PageInFault.TheVariants as fault
 use Rattle.pager_core.specs.Pager.{none_free}
 use Rattle.sv32_table.specs.EntryAt.{has_table}
-use Rattle.machine_core.specs.declared.admission.NotAdmitted.{NotAdmitted}
-use Rattle.machine_core.specs.declared.admission.NotAdmitted.TheVariants as unadmitted
+use Rattle.machine_sides.specs.declared.admission.NotAdmitted.{NotAdmitted}
+use Rattle.machine_sides.specs.declared.admission.NotAdmitted.TheVariants as unadmitted
 use Rattle.machine_core.specs.declared.error.EventRefusal.{EventRefusal}
 use Rattle.machine_core.specs.declared.error.EventRefusal.TheVariants.{Ended, NotAbsent, NoFrame, NoMemory}
 use Rattle.machine_core.specs.declared.event.Reply.{Reply}
 use Rattle.machine_core.specs.declared.event.Reply.TheVariants.{Mapped, Device, Refused}
-use Rattle.machine_core.specs.Admitting.{AdmissionValue, Admits, DoesNotAdmit, is_absent, is_resident, taken_back}
-use Rattle.machine_core.specs.Loading.{Loads, DoesNotLoad, KeepsRest}
+use Rattle.machine_sides.specs.Admitting.{AdmissionValue, Admits, DoesNotAdmit, is_absent, is_resident, taken_back}
+use Rattle.machine_sides.specs.Loading.{Loads, DoesNotLoad, KeepsRest}
 use Rattle.machine_core.specs.Machine.{CoreValue}
 use Rattle.machine_core.specs.MachineRun.{of_process}
-use Rattle.machine_core.specs.Sides.{PagerSideValue, ProcessSideValue}
+use Rattle.machine_sides.specs.Sides.{PagerSideValue, ProcessSideValue}
 
 -- why a page does not come in that was not admitted; one that is listed is not absent
 abbrev pub admit_reason : NotAdmitted → EventRefusal

@@ -3,16 +3,16 @@ use Rattle.std.specs.Prelude.{◌≡◌, ℕ, Option, Some, None, option_map, Li
 use Rattle.swap_slots.specs.PoolValue.{PoolValue}
 use Rattle.machine_core.specs.Machine.{CoreValue}
 use Rattle.machine_core.specs.MachineRun.{of_process}
-use Rattle.machine_core.specs.Purging.{purge_bars, PurgesAll, Purges}
-use Rattle.machine_core.specs.Sides.{PagerSideValue, ProcessSideValue}
+use Rattle.machine_sides.specs.Purging.{purge_bars, PurgesAll, Purges}
+use Rattle.machine_sides.specs.Sides.{PagerSideValue, ProcessSideValue}
 use Rattle.machine_core.specs.declared.error.EventRefusal.{EventRefusal}
 use Rattle.machine_core.specs.declared.error.EventRefusal.TheVariants as refusal
 use Rattle.machine_core.specs.declared.event.Reply.{Reply}
 use Rattle.machine_core.specs.declared.event.Reply.TheVariants.{Purged}
-use Rattle.machine_core.specs.declared.purging.PurgeRefusal.{PurgeRefusal}
-use Rattle.machine_core.specs.declared.purging.PurgeRefusal.TheVariants.{NotEnded, SavingStill, AlreadyPurged}
-use Rattle.machine_core.specs.declared.purging.Purging.{Purging}
-use Rattle.machine_core.specs.declared.purging.Purging.TheVariants.{Done, Refused, HandedBack}
+use Rattle.machine_sides.specs.declared.purging.PurgeRefusal.{PurgeRefusal}
+use Rattle.machine_sides.specs.declared.purging.PurgeRefusal.TheVariants.{NotEnded, SavingStill, AlreadyPurged}
+use Rattle.machine_sides.specs.declared.purging.Purging.{Purging}
+use Rattle.machine_sides.specs.declared.purging.Purging.TheVariants.{Done, Refused, HandedBack}
 
 -- a process's reason to give nothing back as a refusal of the event
 abbrev pub purge_reason : PurgeRefusal → EventRefusal

@@ -1,42 +1,25 @@
 -- The event of a page's save: the save that is out is made, and comes back to the pager and its process.
-use Rattle.std.specs.Prelude.{◌≡◌, ◌⊎◌, ◌≤◌, ℕ, Bool, true, false, List, ◌∷◌, Option, Some, None, slice_get, slice_set, IsTrue, IsFalse, IsPermutation, if◌then◌else◌}
+use Rattle.std.specs.Prelude.{◌≡◌, ◌⊎◌, ◌≤◌, ℕ, Bool, List, ◌∷◌, Option, Some, None, slice_get, slice_set, IsTrue, IsFalse, IsPermutation, if◌then◌else◌}
 use Rattle.clock_policy.specs.declared.key.Key.{Key}
 use Rattle.clock_policy.specs.declared.refusal.Refusal.TheVariants as list
 use Rattle.clock_policy.specs.Residents.{is_key}
 use Rattle.page_store.specs.JobValue.{JobValue, SavedValue}
-use Rattle.page_store.specs.declared.state.PageState.{PageState}
-use Rattle.page_store.specs.declared.state.PageState.TheVariants as stage
 use Rattle.paged_memory.specs.Paged.{memory_of}
-use Rattle.space_core.specs.StandsFor.{SpaceValue}
 use Rattle.swap_slots.specs.Slot.{Rose}
 use Rattle.machine_core.specs.declared.error.EventRefusal.{EventRefusal}
 use Rattle.machine_core.specs.declared.error.EventRefusal.TheVariants as refusal
 use Rattle.machine_core.specs.declared.event.Reply.{Reply}
 use Rattle.machine_core.specs.declared.event.Reply.TheVariants as reply
-use Rattle.machine_core.specs.declared.saving_back.SaveFailure.TheVariants.{Device}
-use Rattle.machine_core.specs.declared.saving_back.SaveOutcome.{SaveOutcome}
-use Rattle.machine_core.specs.declared.saving_back.SaveOutcome.TheVariants.{Freed, HandedBack, WrongPage, ResidentAgain, NotRestored}
-use Rattle.machine_core.specs.Admitting.{stage_at}
+use Rattle.machine_sides.specs.declared.saving_back.SaveFailure.TheVariants.{Device}
+use Rattle.machine_sides.specs.declared.saving_back.SaveOutcome.{SaveOutcome}
+use Rattle.machine_sides.specs.declared.saving_back.SaveOutcome.TheVariants.{Freed, HandedBack, WrongPage, ResidentAgain, NotRestored}
 use Rattle.machine_core.specs.Machine.{CoreValue}
 use Rattle.machine_core.specs.MachineRun.{of_process}
-use Rattle.machine_core.specs.SavingBack.{EndsSave, IsFreed, FailsAndReturns, FailsAndLeaves}
-use Rattle.machine_core.specs.Sides.{PagerSideValue, ProcessSideValue}
-use Rattle.machine_core.specs.Together.{key_of}
-
-abbrev pub is_saving_stage : Option PageState → Bool
-is_saving_stage None = false
-is_saving_stage (Some stage.Fresh) = false
-is_saving_stage (Some stage.Resident) = false
-is_saving_stage (Some stage.Leaving) = false
-is_saving_stage (Some stage.Saving) = true
-is_saving_stage (Some stage.Away) = false
-is_saving_stage (Some stage.Purged) = false
+use Rattle.machine_sides.specs.SavingBack.{is_saving, EndsSave, IsFreed, FailsAndReturns, FailsAndLeaves}
+use Rattle.machine_sides.specs.Sides.{PagerSideValue, ProcessSideValue}
+use Rattle.machine_sides.specs.Together.{key_of}
 
 module _ {S : Type 0} where
-  -- whether the page of a number is being saved, whatever the number
-  abbrev pub is_saving : SpaceValue S → ℕ → Bool
-  is_saving space vpn = is_saving_stage (stage_at space vpn)
-
   abbrev pub saving_reason : ℕ → ProcessSideValue S → Option EventRefusal
   saving_reason vpn process = if is_saving process.space vpn then None else Some refusal.NotSaving
 

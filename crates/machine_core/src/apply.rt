@@ -6,8 +6,8 @@ ghost use Rattle.machine_core.specs.Faithful.{EachStands, IsFaithful};
 
 use crate::event::{Event, Reply};
 use crate::machine::Core;
-use crate::process_side::ProcessSide;
 use clock_policy::Clock;
+use machine_sides::ProcessSide;
 use std::sync::ledger::Ledger;
 use swap_slots::SwapSlot;
 

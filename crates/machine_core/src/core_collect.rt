@@ -1,16 +1,14 @@
 //! The machine's event of a page that is to leave its frame.
 
 ghost use Rattle.std.specs.Prelude.{◌≡◌, ◌⊎◌, ◌<◌, length, vec_len, vec_capacity};
-ghost use Rattle.machine_core.specs.Collecting.{collect_refusal, CollectsOnce, LooksAt, IsOwn, jobs_after, looked_reply};
+ghost use Rattle.machine_core.specs.CollectEvent.{collect_refusal, CollectsOnce, LooksAt, IsOwn, jobs_after, looked_reply};
 ghost use Rattle.machine_core.specs.MachineRun.{Refuses};
 
-use crate::collecting::{Looked, collect};
 use crate::error::EventRefusal;
 use crate::event::Reply;
 use crate::machine::Core;
-use crate::pager_side::PagerSide;
-use crate::process_side::ProcessSide;
 use clock_policy::{Clock, Key};
+use machine_sides::{Looked, PagerSide, ProcessSide, collect};
 use page_store::SaveJob;
 use std::sync::ledger::Ledger;
 use swap_slots::{SlotPool, SwapSlot};

@@ -7,10 +7,9 @@ ghost use Rattle.machine_core.specs.PagingIn.{page_in_refusal, PagesInAt, PagesI
 use crate::error::EventRefusal;
 use crate::event::Reply;
 use crate::machine::Core;
-use crate::pager_side::PagerSide;
 use crate::paging_in::page_in;
-use crate::process_side::ProcessSide;
 use clock_policy::{Clock, Key};
+use machine_sides::{PagerSide, ProcessSide};
 use std::sync::ledger::Ledger;
 use swap_slots::SwapSlot;
 

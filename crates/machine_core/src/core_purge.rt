@@ -7,10 +7,8 @@ ghost use Rattle.machine_core.specs.PurgeEvent.{purge_reason, purge_refusal, Pur
 use crate::error::EventRefusal;
 use crate::event::Reply;
 use crate::machine::Core;
-use crate::pager_side::PagerSide;
-use crate::process_side::ProcessSide;
-use crate::purging::{PurgeRefusal, Purging, purge, purge_bars};
 use clock_policy::Clock;
+use machine_sides::{PagerSide, ProcessSide, PurgeRefusal, Purging, purge, purge_bars};
 use std::sync::ledger::Ledger;
 use swap_slots::{SlotPool, SwapSlot};
 

@@ -2,16 +2,14 @@
 
 ghost use Rattle.std.specs.Prelude.{◌≡◌, ◌⊎◌, ◌<◌, length, position, vec_capacity, IfSome, IfNone};
 ghost use Rattle.machine_core.specs.MachineRun.{Refuses};
-ghost use Rattle.machine_core.specs.SavingOut.{is_saving, saved_refusal, is_of_page, MakesSave, SavesOnce, SavedAt, IsOwn, RepliesTo};
+ghost use Rattle.machine_core.specs.SavingOut.{saved_refusal, is_of_page, MakesSave, SavesOnce, SavedAt, IsOwn, RepliesTo};
 
 use crate::error::EventRefusal;
 use crate::event::Reply;
 use crate::machine::Core;
-use crate::pager_side::PagerSide;
-use crate::process_side::ProcessSide;
-use crate::saving_back::{SaveOutcome, saved};
 use clock_policy::{Clock, Key};
-use page_store::{PageState, SaveJob, SavedJob};
+use machine_sides::{PagerSide, ProcessSide, SaveOutcome, saved};
+use page_store::{SaveJob, SavedJob};
 use std::sync::ledger::Ledger;
 use swap_slots::SwapSlot;
 
@@ -51,25 +49,6 @@ fn saved_refusal<L: Ledger, S: SwapSlot>(
         return None;
     }
     Some(EventRefusal::NotSaving)
-}
-
-impl<L: Ledger, S: SwapSlot> ProcessSide<L, S> {
-    /// Whether a page is being saved.
-    fn is_saving(&self, vpn: u32) -> bool
-        ensures { result ≡ is_saving self.now.space vpn }
-    {
-        match self.state(vpn) {
-            Some(PageState::Saving) => true,
-            Some(
-                PageState::Fresh
-                | PageState::Resident
-                | PageState::Leaving
-                | PageState::Away
-                | PageState::Purged,
-            ) => false,
-            None => false,
-        }
-    }
 }
 
 /// Takes the save of a page from those that are out, and makes it.

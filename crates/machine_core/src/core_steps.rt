@@ -1,15 +1,14 @@
 //! Events of one process.
 
 ghost use Rattle.std.specs.Prelude.{◌≡◌, ◌<◌, length};
-ghost use Rattle.machine_core.specs.MachineRun.{hart_refusal, kill_refusal, step_reply, swept_reply, SweepsAt, ChangesOne, StepsOnce, TakesNotices, IsKilled};
+ghost use Rattle.machine_core.specs.MachineRun.{hart_refusal, kill_refusal, step_reply, swept_reply, SweepsAt, ChangesOne};
+ghost use Rattle.machine_sides.specs.ProcessCalls.{StepsOnce, TakesNotices, IsKilled};
 
 use crate::error::EventRefusal;
 use crate::event::Reply;
-use crate::pager_side::PagerSide;
-use crate::process_side::ProcessSide;
-use crate::sweeping::{Swept, sweep};
 use clock_policy::{Bit, Clock};
 use flat_machine::KillCause;
+use machine_sides::{PagerSide, ProcessSide, Swept, sweep};
 use space_core::SliceStop;
 use std::sync::ledger::Ledger;
 use swap_slots::SwapSlot;

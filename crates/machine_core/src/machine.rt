@@ -5,10 +5,9 @@ ghost use Rattle.machine_core.specs.MachineRun.{hart_refusal, kill_refusal, swee
 use crate::core_steps;
 use crate::error::EventRefusal;
 use crate::event::Reply;
-use crate::pager_side::PagerSide;
-use crate::process_side::ProcessSide;
 use clock_policy::Clock;
 use flat_machine::KillCause;
+use machine_sides::{PagerSide, ProcessSide};
 use page_store::SaveJob;
 use std::marker::Model;
 use std::sync::ledger::Ledger;

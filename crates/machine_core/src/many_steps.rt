@@ -3,14 +3,15 @@
 ghost use Rattle.std.specs.Prelude.{◌≡◌, ◌<◌, ◌≤◌, length, option_map, IfSome, IfNone};
 ghost use Rattle.machine_core.specs.Applying.{Runs};
 ghost use Rattle.machine_core.specs.MachineRun.{ChangesOne, step_reply};
-ghost use Rattle.machine_core.specs.ManySteps.{steps_of, replies_of, SlicesMany};
+ghost use Rattle.machine_core.specs.ManySteps.{steps_of, replies_of};
+ghost use Rattle.machine_sides.specs.ProcessCalls.{SlicesMany};
 
 use crate::core_steps::{hart_refusal, step_reply};
 use crate::event::Reply;
 use crate::machine::Core;
-use crate::process_side::ProcessSide;
 use clock_policy::Clock;
-use space_core::{Slice, SliceStop};
+use machine_sides::{ManySlices, ProcessSide};
+use space_core::SliceStop;
 use std::sync::ledger::Ledger;
 use swap_slots::SwapSlot;
 
@@ -21,13 +22,6 @@ pub struct Steps {
     pub ran: u32,
     /// The reply to one more, after which the hart does not go on as it did.
     pub last: Option<Reply>,
-}
-
-/// What came of slices of one instruction each.
-#[derive(Clone, Copy)]
-struct ManySlices {
-    ran: u32,
-    last: Option<SliceStop>,
 }
 
 impl<L: Ledger, S: SwapSlot, C: Clock> Core<L, S, C> {
@@ -80,29 +74,4 @@ fn slices_at<L: Ledger, S: SwapSlot>(
     ensures short { IfSome result.last (λ _. result.ran < most) }
 {
     processes[process].many_slices(hart, most)
-}
-
-impl<L: Ledger, S: SwapSlot> ProcessSide<L, S> {
-    /// Slices of one instruction each, up to so many, until one does not go on.
-    fn many_slices(&mut self, hart: u32, most: u32) -> ManySlices
-        ensures slices { SlicesMany S.content S.honest hart result.ran result.last self.old self.new }
-        ensures within { result.ran ≤ most }
-        ensures all { IfNone result.last (result.ran ≡ most) }
-        ensures short { IfSome result.last (λ _. result.ran < most) }
-    {
-        let steps = self.space.steps(hart, most);
-        ManySlices {
-            ran: steps.ran,
-            last: last_stop(steps.last),
-        }
-    }
-}
-
-fn last_stop(last: Option<Slice>) -> Option<SliceStop>
-    ensures { result ≡ option_map (λ slice. slice.stop) last }
-{
-    match last {
-        None => None,
-        Some(slice) => Some(slice.stop),
-    }
 }

@@ -1,15 +1,14 @@
 //! A machine begins.
 
 ghost use Rattle.std.specs.Prelude.{◌≡◌, ◌+◌, ◌<◌, ◌≤◌, ◌↔◌, ◌⊎◌, map, length, IfOk, IsErrOf};
-ghost use Rattle.machine_core.specs.Opening.{start_of, Begins, AllBegin, MachineBegins};
+ghost use Rattle.machine_core.specs.Opening.{AllBegin, MachineBegins};
+ghost use Rattle.machine_sides.specs.Starting.{start_of};
 
 use crate::error::CoreError;
 use crate::machine::Core;
-use crate::pager_side::PagerSide;
-use crate::process_side::ProcessSide;
 use clock_policy::Clock;
 use elf_image::Image;
-use space_core::Space;
+use machine_sides::{PagerSide, ProcessSide};
 use std::alloc::{AllocError, Global};
 use std::sync::ledger::{Blank, Ledger};
 use swap_slots::{SlotPool, SwapSlot};
@@ -21,23 +20,6 @@ const MOST_FRAMES: u32 = 4096;
 
 /// The most processes that a machine runs.
 const MOST_PROCESSES: usize = 16;
-
-impl<L: Ledger, S: SwapSlot> ProcessSide<L, S> {
-    /// The process of this number that is to run an image on an input: none of its pages is brought in yet.
-    pub fn new(
-        alloc: Global,
-        process: u32,
-        image: Image,
-        input: Vec<u8>,
-    ) -> Result<Self, AllocError>
-        ensures { IfOk result (λ side. Begins process (start_of image input.items) side) }
-    {
-        Ok(ProcessSide {
-            space: Space::new(alloc, process, image, input)?,
-            purged: false,
-        })
-    }
-}
 
 impl<L: Ledger, S: SwapSlot, C: Clock> Core<L, S, C> {
     /// A machine of 4 to 4096 frames, with these slots, that is to run these images on these inputs. The processes are numbered

@@ -1,12 +1,10 @@
 ghost use Rattle.std.specs.Prelude.{◌≡◌, ◌≤◌, length};
 ghost use Rattle.machine_core.specs.PagingIn.{admit_reason, fault_reply, PagesIn};
 
-use crate::admission::{NotAdmitted, admit, undo};
 use crate::error::EventRefusal;
 use crate::event::Reply;
-use crate::pager_side::PagerSide;
-use crate::process_side::ProcessSide;
 use clock_policy::{Clock, Key};
+use machine_sides::{NotAdmitted, PagerSide, ProcessSide, admit, undo};
 use paged_memory::PageInFault;
 use std::sync::ledger::Ledger;
 use swap_slots::SwapSlot;

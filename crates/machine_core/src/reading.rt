@@ -2,17 +2,17 @@
 
 ghost use Rattle.std.specs.Prelude.{◌≡◌, ◌≢◌, ◌↔◌, ◌*◌, ◌<◌, ◌≤◌, Some, true, false, IsNone, IfSome, length, slice_get, option_copied, option_map};
 ghost use Rattle.std.specs.Option.{option_and_then};
-ghost use Rattle.machine_core.specs.Admitting.{stage_at};
+ghost use Rattle.machine_sides.specs.Admitting.{stage_at};
 ghost use Rattle.machine_core.specs.MachineRun.{ChangesOne};
-ghost use Rattle.machine_core.specs.Reading.{is_live_in, IfThere, Peeks, PeeksAt};
+ghost use Rattle.machine_core.specs.Reading.{is_live_in, IfThere, PeeksAt};
+ghost use Rattle.machine_sides.specs.Showing.{Peeks};
 ghost use Rattle.space_core.specs.StandsFor.{own_ending};
 
 use crate::machine::Core;
-use crate::pager_side::SideCounts;
-use crate::process_side::ProcessSide;
 use clock_policy::{Clock, EntryKind, Key};
 use elf_image::Image;
 use flat_machine::{End, Schedule};
+use machine_sides::{ProcessSide, SideCounts};
 use page_store::PageState;
 use paged_memory::PeekFault;
 use rv_exec::Regs;

@@ -4,7 +4,8 @@ use Rattle.swap_slots.specs.Slot.{zero_bytes}
 use Rattle.machine_core.specs.Applying.{Runs, Reaches}
 use Rattle.machine_core.specs.Headline.{PagingIsInvisible}
 use Rattle.machine_core.specs.Machine.{CoreValue}
-use Rattle.machine_core.specs.Opening.{Start, MachineBegins}
+use Rattle.machine_sides.specs.Starting.{Start}
+use Rattle.machine_core.specs.Opening.{MachineBegins}
 use Rattle.machine_core.specs.declared.event.Event.{Event}
 use Rattle.machine_core.specs.declared.event.Reply.{Reply}
 use Rattle.machine_core.specs.declared.report.Report.{Report}

@@ -1,7 +1,8 @@
 //! The machines that commands run.
 
 ghost use Rattle.std.specs.Prelude.{◌≡◌, ◌+◌, ◌≤◌, IfOk, length, map, replicate};
-ghost use Rattle.machine_core.specs.Opening.{start_of, MachineBegins};
+ghost use Rattle.machine_sides.specs.Starting.{start_of};
+ghost use Rattle.machine_core.specs.Opening.{MachineBegins};
 ghost use Rattle.swap_slots.specs.Slot.{zero_bytes};
 
 use clock_ring::ClockRing;

@@ -2,7 +2,7 @@
 
 ghost use Rattle.std.specs.Prelude.{◌≡◌, ◌+◌, ◌≤◌, IfOk, length, map};
 ghost use Rattle.command_line.specs.Requests.{IsRunInRange};
-ghost use Rattle.machine_core.specs.Opening.{start_of};
+ghost use Rattle.machine_sides.specs.Starting.{start_of};
 ghost use Rattle.paged_cli.specs.Playing.{ReportsRun};
 
 use crate::fault::Fault;

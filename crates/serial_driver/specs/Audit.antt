@@ -5,10 +5,10 @@ use Rattle.clock_policy.specs.declared.key.Key.{Key}
 use Rattle.clock_policy.specs.Residents.{residents}
 use Rattle.page_store.specs.declared.state.PageState.{PageState}
 use Rattle.page_store.specs.declared.state.PageState.TheVariants as stage
-use Rattle.machine_core.specs.Admitting.{is_resident_stage, stage_at}
+use Rattle.machine_sides.specs.Admitting.{is_resident_stage, stage_at}
 use Rattle.machine_core.specs.Machine.{CoreValue, total}
-use Rattle.machine_core.specs.Sides.{ProcessSideValue}
-use Rattle.machine_core.specs.Together.{residents_in, frames_in}
+use Rattle.machine_sides.specs.Sides.{ProcessSideValue}
+use Rattle.machine_sides.specs.Together.{residents_in, frames_in}
 
 -- whether a page that is there stands in a frame
 abbrev pub has_frame_stage : Option PageState → Bool

@@ -5,7 +5,7 @@ use Rattle.flat_machine.specs.Schedule.{written_out}
 use Rattle.machine_core.specs.declared.report.ProcessReport.{ProcessReport}
 use Rattle.machine_core.specs.declared.report.Report.{Report}
 use Rattle.machine_core.specs.Machine.{CoreValue}
-use Rattle.machine_core.specs.Sides.{ProcessSideValue}
+use Rattle.machine_sides.specs.Sides.{ProcessSideValue}
 use Rattle.serial_driver.specs.Audit.{IsSound}
 
 -- a process's output and ending, and how many instructions ran

@@ -2,7 +2,7 @@
 
 ghost use Rattle.std.specs.Prelude.{◌≡◌, ◌↔◌, ◌<◌, ◌≤◌, ◌^◌, ◌&&◌, true, IsTrue, length, Some, slice_get, cond};
 ghost use Rattle.clock_policy.specs.Residents.{residents, in_frame};
-ghost use Rattle.machine_core.specs.Admitting.{is_resident_stage};
+ghost use Rattle.machine_sides.specs.Admitting.{is_resident_stage};
 ghost use Rattle.serial_driver.specs.Audit.{has_resident, has_frame_stage, resident_pages, framed_pages, IsHeld, IsSound};
 
 use clock_policy::{Clock, EntryKind, Key};

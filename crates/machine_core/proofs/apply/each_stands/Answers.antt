@@ -3,7 +3,7 @@ use Rattle.std.proofs.Common.{◌≡◌, ◌<◌, Some, length, slice_get, subst
 use Rattle.std.proofs.lemmas.Option.{get_or_from_slice_get, slice_get_within}
 use Rattle.space_core.specs.StandsFor.{StandsFor}
 use Rattle.machine_core.specs.Faithful.{EachStands}
-use Rattle.machine_core.specs.Sides.{ProcessSideValue}
+use Rattle.machine_sides.specs.Sides.{ProcessSideValue}
 use Rattle.machine_core.proofs.apply.each_stands.Goals as goal
 
 pub loop-side-preserved : goal.loop-side-preserved

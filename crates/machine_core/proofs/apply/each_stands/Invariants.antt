@@ -1,6 +1,6 @@
 use Rattle.std.proofs.Common.{◌≡◌, ℕ, ◌<◌, Some, slice_get}
 use Rattle.space_core.specs.StandsFor.{StandsFor}
-use Rattle.machine_core.specs.Sides.{ProcessSideValue}
+use Rattle.machine_sides.specs.Sides.{ProcessSideValue}
 use Rattle.machine_core.proofs.apply.each_stands.Given as goal
 
 abbrev pub invariant-loop-side : goal.invariant-loop-side

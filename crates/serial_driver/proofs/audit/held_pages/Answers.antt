@@ -2,8 +2,8 @@
 use Rattle.std.proofs.Common.{◌≡◌, ◌≤◌, ◌+◌, suc, true, length, take, refl, sym, ap, ◌∙◌, arith, add-one}
 use Rattle.std.proofs.lemmas.List.{take_all}
 use Rattle.machine_core.specs.Machine.{total}
-use Rattle.machine_core.specs.Sides.{ProcessSideValue}
-use Rattle.machine_core.specs.Together.{residents_in, frames_in}
+use Rattle.machine_sides.specs.Sides.{ProcessSideValue}
+use Rattle.machine_sides.specs.Together.{residents_in, frames_in}
 use Rattle.serial_driver.proofs.Counted.{total_more}
 use Rattle.serial_driver.proofs.audit.held_pages.Goals as goal
 

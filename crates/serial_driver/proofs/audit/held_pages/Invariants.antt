@@ -1,7 +1,7 @@
 use Rattle.std.proofs.Common.{◌≡◌, ◌≤◌, ◌*◌, ◌^◌, true, take}
 use Rattle.machine_core.specs.Machine.{total}
-use Rattle.machine_core.specs.Sides.{ProcessSideValue}
-use Rattle.machine_core.specs.Together.{residents_in, frames_in}
+use Rattle.machine_sides.specs.Sides.{ProcessSideValue}
+use Rattle.machine_sides.specs.Together.{residents_in, frames_in}
 use Rattle.serial_driver.proofs.audit.held_pages.Given as goal
 
 abbrev pub invariant-processes : goal.invariant-processes

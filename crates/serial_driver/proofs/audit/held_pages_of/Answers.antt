@@ -2,9 +2,9 @@
 use Rattle.std.proofs.Common.{◌≡◌, ℕ, ◌^◌, ◌<◌, cond, Some, slice_get, true, refl, sym, ap, ◌∙◌, arith}
 use Rattle.std.specs.Option.{option_and_then}
 use Rattle.paged_memory.specs.Counting.{pages_below, pages_where}
-use Rattle.machine_core.specs.Admitting.{is_resident_stage, stage_at}
-use Rattle.machine_core.specs.Sides.{ProcessSideValue}
-use Rattle.machine_core.specs.Together.{residents_in, frames_in}
+use Rattle.machine_sides.specs.Admitting.{is_resident_stage, stage_at}
+use Rattle.machine_sides.specs.Sides.{ProcessSideValue}
+use Rattle.machine_sides.specs.Together.{residents_in, frames_in}
 use Rattle.serial_driver.specs.Audit.{has_frame_stage}
 use Rattle.serial_driver.proofs.Counted.{residents_to, frames_to, residents_more, frames_more, got_below}
 use Rattle.serial_driver.proofs.audit.held_pages_of.Goals as goal

@@ -1,5 +1,5 @@
 use Rattle.std.proofs.Common.{◌≡◌, ◌≤◌, Some, slice_get}
-use Rattle.machine_core.specs.Sides.{ProcessSideValue}
+use Rattle.machine_sides.specs.Sides.{ProcessSideValue}
 use Rattle.serial_driver.proofs.Counted.{residents_to, frames_to}
 use Rattle.serial_driver.proofs.audit.held_pages_of.Given as goal
 

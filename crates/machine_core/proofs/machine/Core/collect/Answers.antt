@@ -1,6 +1,6 @@
 -- The page is leaving, so that it holds a frame which is not free, and the list has room for it.
 use Rattle.std.proofs.Common.{sym, ap, ◌∙◌, inr, arith}
-use Rattle.machine_core.specs.Collecting.{collect_refusal}
+use Rattle.machine_core.specs.CollectEvent.{collect_refusal}
 use Rattle.machine_core.proofs.Collects.{own, room, collected_back, collected_size, collected_told}
 use Rattle.machine_core.proofs.machine.Core.collect.Goals as goal
 

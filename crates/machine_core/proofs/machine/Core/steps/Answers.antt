@@ -1,5 +1,5 @@
 -- The slices are steps, one after another.
-use Rattle.std.proofs.Common.{◌≡◌, ◌<◌, ◌++◌, Some, None, length, take, drop, option_map, inl, refl, sym, ap, ◌∙◌, arith, subst}
+use Rattle.std.proofs.Common.{◌<◌, ◌++◌, length, take, drop, option_map, inl, refl, sym, ap, ◌∙◌, arith, subst}
 use Rattle.machine_core.specs.Applying.{Runs}
 use Rattle.machine_core.specs.ApplyingLaws.{runs_none, runs_one}
 use Rattle.machine_core.specs.Faithful.{IsFaithful}

@@ -1,0 +1,85 @@
+-- The machine's event of a page that is to leave its frame: when it is refused, and what comes of a look at it.
+use Rattle.std.specs.Prelude.{◌≡◌, ℕ, Option, Some, None, List, [], ◌∷◌, ◌++◌, slice_get, slice_set, if◌then◌else◌}
+use Rattle.clock_policy.specs.declared.key.Key.{Key}
+use Rattle.clock_policy.specs.declared.refusal.Refusal.TheVariants as list
+use Rattle.page_store.specs.JobValue.{JobValue}
+use Rattle.paged_memory.specs.Paged.{memory_of}
+use Rattle.swap_slots.specs.PoolValue.{PoolValue}
+use Rattle.machine_core.specs.declared.error.EventRefusal.{EventRefusal}
+use Rattle.machine_core.specs.declared.error.EventRefusal.TheVariants as refusal
+use Rattle.machine_core.specs.declared.event.Reply.{Reply}
+use Rattle.machine_core.specs.declared.event.Reply.TheVariants as reply
+use Rattle.machine_core.specs.Machine.{CoreValue}
+use Rattle.machine_core.specs.MachineRun.{of_process}
+use Rattle.machine_sides.specs.Collecting.{is_leaving, Looks, IsNotYet, IsDropped, IsCopied, LacksAndReturns, LacksAndLeaves}
+use Rattle.machine_sides.specs.Sides.{PagerSideValue, ProcessSideValue}
+use Rattle.machine_sides.specs.declared.collecting.Looked.{Looked}
+use Rattle.machine_sides.specs.declared.collecting.Looked.TheVariants.{NotLeaving, NotYet, Freed, Dirty, NoSlot, NotRestored, HandedBack}
+
+module _ {S : Type 0} where
+  -- why a look at a page is refused
+  abbrev pub leaving_reason : ℕ → ProcessSideValue S → Option EventRefusal
+  leaving_reason vpn process = if is_leaving process.space vpn then None else Some refusal.NotLeaving
+
+  abbrev pub collect_refusal : Key → List (ProcessSideValue S) → Option EventRefusal
+  collect_refusal key processes = of_process (leaving_reason key.vpn) (slice_get processes key.process)
+
+  module _ (vpn : ℕ) (old new : CoreValue S) (process process' : ProcessSideValue S) (answer : Reply) where
+    -- what a look at a page of a process comes to in the machine, with the saves that are then out and the reply: the save of a
+    -- changed page is kept there; memory may be wanting where the list is to take the page back
+    pub data CollectsTo : Type 0 where
+      not_yet : IsNotYet vpn old.pager new.pager process process' old.slots new.slots → new.jobs ≡ old.jobs → answer ≡ reply.NotYet → CollectsTo
+      freed : IsDropped vpn old.pager new.pager process process' old.slots new.slots → new.jobs ≡ old.jobs → answer ≡ reply.Freed → CollectsTo
+      dirty : (job : JobValue S) → IsCopied vpn old.pager new.pager process process' old.slots new.slots job → new.jobs ≡ old.jobs ++ job ∷ [] → answer ≡ reply.Dirty → CollectsTo
+      no_slot : LacksAndReturns vpn old.pager new.pager process process' old.slots new.slots → new.jobs ≡ old.jobs → answer ≡ reply.NoSlot → CollectsTo
+      no_memory : LacksAndLeaves vpn old.pager new.pager process process' old.slots new.slots list.NoMemory → new.jobs ≡ old.jobs → answer ≡ reply.Refused refusal.NoMemory → CollectsTo
+
+  -- a page that is leaving is looked at
+  pub record CollectsOnce (held : S → List ℕ) (honest : Type 0) (key : Key) (old new : CoreValue S) (answer : Reply) : Type 0 where
+    pub allowed : collect_refusal key old.processes ≡ None
+    pub process : ProcessSideValue S
+    pub process' : ProcessSideValue S
+    pub found : slice_get old.processes key.process ≡ Some process
+    pub comes_to : CollectsTo key.vpn old new process process' answer
+    pub memory : honest → memory_of held process'.space.memory.pages ≡ memory_of held process.space.memory.pages
+    pub processes : new.processes ≡ slice_set old.processes key.process process'
+
+  -- ---- the steps of the event
+
+  -- a look at a page of the process of this number
+  pub record LooksAt (held : S → List ℕ) (honest : Type 0) {L : Type 0} (number vpn : ℕ) (pager pager' : PagerSideValue) (slots slots' : PoolValue S) (old new : List (ProcessSideValue S)) (looked : Looked L S) : Type 0 where
+    pub process : ProcessSideValue S
+    pub process' : ProcessSideValue S
+    pub found : slice_get old number ≡ Some process
+    pub how : Looks vpn pager pager' process process' slots slots' looked
+    pub memory : honest → memory_of held process'.space.memory.pages ≡ memory_of held process.space.memory.pages
+    pub is : new ≡ slice_set old number process'
+
+  -- what comes of a look at a page that is leaving in the machine, where each frame has its place and the list its pages
+  abbrev pub IsOwn : {L : Type 0} → Looked L S → Type 0
+  IsOwn NotLeaving = ⊥
+  IsOwn NotYet = Unit {0}
+  IsOwn Freed = Unit {0}
+  IsOwn (Dirty job) = Unit {0}
+  IsOwn NoSlot = Unit {0}
+  IsOwn (NotRestored reason) = reason ≡ list.NoMemory
+  IsOwn (HandedBack frame) = ⊥
+
+  -- the saves that are out after it, and the reply
+  abbrev pub jobs_after : {L : Type 0} → Looked L S → List (JobValue S) → List (JobValue S)
+  jobs_after NotLeaving jobs = jobs
+  jobs_after NotYet jobs = jobs
+  jobs_after Freed jobs = jobs
+  jobs_after (Dirty job) jobs = jobs ++ job ∷ []
+  jobs_after NoSlot jobs = jobs
+  jobs_after (NotRestored reason) jobs = jobs
+  jobs_after (HandedBack frame) jobs = jobs
+
+  abbrev pub looked_reply : {L : Type 0} → Looked L S → Reply
+  looked_reply NotLeaving = reply.Refused refusal.NotLeaving
+  looked_reply NotYet = reply.NotYet
+  looked_reply Freed = reply.Freed
+  looked_reply (Dirty job) = reply.Dirty
+  looked_reply NoSlot = reply.NoSlot
+  looked_reply (NotRestored reason) = reply.Refused refusal.NoMemory
+  looked_reply (HandedBack frame) = reply.Freed

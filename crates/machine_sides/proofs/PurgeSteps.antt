@@ -1,0 +1,201 @@
+-- Pages give back what they have, one after another.
+use Rattle.std.proofs.Common.{◌≡◌, ℕ, ◌+◌, ◌++◌, ◌^◌, ◌<◌, Bool, true, false, ◌||◌, cond, map, List, [], ◌∷◌, length, Option, Some, None, is_some, IsSome, inr, refl, sym, ap, ◌∙◌, arith, subst}
+use Rattle.std.proofs.lemmas.List.{append-nil, append_assoc, length-append}
+use Rattle.flat_machine.specs.declared.end.End.{End}
+use Rattle.frame_pool.specs.FrameValue.{FrameValue}
+use Rattle.swap_slots.specs.PoolValue.{PoolValue}
+use Rattle.tlb_core.specs.declared.translation.Translation.{Translation}
+use Rattle.paged_memory.specs.Counting.{frame_passes}
+use Rattle.paged_memory.specs.GivingBack.{GivesOne, GivesNothing}
+use Rattle.paged_memory.specs.Paged.{PagedValue, page_at}
+use Rattle.pager_core.specs.Pager.{PagerState}
+use Rattle.space_core.specs.Caches.{if_ended, emptied}
+use Rattle.space_core.specs.StandsFor.{SpaceValue}
+use Rattle.machine_sides.specs.Together.{frames_where, frames_in}
+use Rattle.machine_sides.specs.PurgeLaws.{frames_where-append}
+use Rattle.machine_sides.specs.Purging.{as_list, Frees, Pools, GivesSome, StopsGiving, GivesToPools}
+use Rattle.machine_sides.proofs.GivenPages.{given_frames, given_slots, one_given, then_given, given_page, given_entry}
+
+frames_where-as_list : (test : ℕ → Bool) (o : Option FrameValue) → frames_where test (as_list o) ≡ cond (frame_passes test o) 1 0
+unfolding frames_where
+frames_where-as_list test None = refl
+frames_where-as_list test (Some frame) = omega arith
+
+length-as_list : {A : Type 0} (o : Option A) → length (as_list o) ≡ cond (is_some o) 1 0
+length-as_list None = refl
+length-as_list (Some a) = refl
+
+-- the free frames once one more came free, or was handed back
+record FreesMore (pager pager' : PagerState) (frames : List FrameValue) (given frame : Option FrameValue) : Type 0 where
+  pub more : List FrameValue
+  pub is : pager' ≡ record pager { free = pager.free ++ more }
+  pub counts : (test : ℕ → Bool) → frames_where test more + cond (frame_passes test frame) 1 0 ≡ frames_where test frames + cond (frame_passes test given) 1 0
+
+frees_more : (pager between pager' : PagerState) (frames : List FrameValue) (given frame : Option FrameValue) → between ≡ record pager { free = pager.free ++ frames } → Frees given frame between pager' → FreesMore pager pager' frames given frame
+frees_more pager between pager' frames given None was frees = record {
+  more = frames ++ as_list given;
+  is = frees ∙ ap (λ (p : PagerState). record p { free = p.free ++ as_list given }) was ∙ ap (λ l. record pager { free = l }) (append_assoc pager.free frames (as_list given));
+  counts = λ test. omega (arith, frames_where-append test frames (as_list given), frames_where-as_list test given);
+}
+frees_more pager between pager' frames given (Some back) was frees = record {
+  more = frames;
+  is = frees.1.1 ∙ was;
+  counts = λ test. ap (λ o. frames_where test frames + cond (frame_passes test o) 1 0) (sym frees.0);
+}
+
+pub emptied_twice : (caches : List (List Translation)) → map {B = List Translation} (λ _. []) (map {B = List Translation} (λ _. []) caches) ≡ map (λ _. []) caches
+emptied_twice [] = refl
+emptied_twice (cache ∷ caches) = ap (λ l. [] ∷ l) (emptied_twice caches)
+
+frame_stays : (given frame : Option FrameValue) (old new : PagerState) → Frees given frame old new → is_some frame ≡ true → length new.free ≡ new.size
+frame_stays given None old new frees h = cc
+frame_stays given (Some back) old new frees h = ap (λ (p : PagerState). length p.free) frees.1.1 ∙ frees.1.0 ∙ sym (ap (λ (p : PagerState). p.size) frees.1.1)
+
+either : (a b : Bool) → a ≡ true → a || b ≡ true
+either true b h = refl
+either false b h = cc
+
+pub first_some : (frame : Option FrameValue) (b : Bool) → is_some frame ≡ true → is_some frame || b ≡ true
+first_some frame b h = either (is_some frame) b h
+
+pub then_some : (a b : Bool) → b ≡ true → a || b ≡ true
+then_some true b h = refl
+then_some false b h = h
+
+is_none_of : {A : Type 0} (o : Option A) → is_some o ≡ false → o ≡ None
+is_none_of None h = refl
+is_none_of (Some a) h = cc
+
+module _ {S : Type 0} where
+  record PoolsMore (pool pool' : PoolValue S) (slots : List S) (given slot : Option S) : Type 0 where
+    pub more : List S
+    pub is : pool' ≡ record pool { free = pool.free ++ more }
+    pub counts : length more + cond (is_some slot) 1 0 ≡ length slots + cond (is_some given) 1 0
+
+  pools_more : (pool between pool' : PoolValue S) (slots : List S) (given slot : Option S) → between ≡ record pool { free = pool.free ++ slots } → Pools given slot between pool' → PoolsMore pool pool' slots given slot
+  pools_more pool between pool' slots given None was pools = record {
+    more = slots ++ as_list given;
+    is = pools ∙ ap (λ (p : PoolValue S). record p { free = p.free ++ as_list given }) was ∙ ap (λ l. record pool { free = l }) (append_assoc pool.free slots (as_list given));
+    counts = omega (arith, length-append slots (as_list given), length-as_list given);
+  }
+  pools_more pool between pool' slots given (Some back) was pools = record {
+    more = slots;
+    is = pools.1.1 ∙ was;
+    counts = ap (λ o. length slots + cond (is_some o) 1 0) (sym pools.0);
+  }
+
+  -- no page has given anything back
+  pub none_gave : (pager : PagerState) (pool : PoolValue S) (space : SpaceValue S) → GivesSome None None pager pager pool pool space space
+  unfolding frames_where
+  none_gave pager pool space = record {
+    frames = [];
+    slots = [];
+    pager_is = ap (λ l. record pager { free = l }) (sym (append-nil pager.free));
+    pool_is = ap (λ l. record pool { free = l }) (sym (append-nil pool.free));
+    framed = λ test. omega arith;
+    slotted = omega arith;
+    stays = refl;
+    process = refl;
+    each = λ number small. inr (record { page = refl; entry = refl });
+  }
+
+  -- one page more gives back
+  pub one_more_gave : (given : Option FrameValue × Option S) (frame : Option FrameValue) (slot : Option S) (pager between pager' : PagerState) (pool amid pool' : PoolValue S) (old mid new : SpaceValue S)
+      → GivesSome None None pager between pool amid old mid
+      → GivesOne given mid.memory.pages new.memory.pages mid.memory.tables new.memory.tables → new ≡ record mid { memory = new.memory } → new.memory.process ≡ mid.memory.process
+      → Frees given.0 frame between pager' → Pools given.1 slot amid pool'
+      → GivesSome frame slot pager pager' pool pool' old new
+  unfolding frames_in
+  one_more_gave given frame slot pager between pager' pool amid pool' old mid new gave one stays process frees pools =
+      let f = frees_more pager between pager' gave.frames given.0 frame gave.pager_is frees in
+      let p = pools_more pool amid pool' gave.slots given.1 slot gave.pool_is pools in
+      record {
+        frames = f.more;
+        slots = p.more;
+        pager_is = f.is;
+        pool_is = p.is;
+        framed = λ test.
+            let a = gave.framed test in
+            let b = f.counts test in
+            let c = given_frames given mid.memory.pages new.memory.pages mid.memory.tables new.memory.tables one test in
+            omega (arith, a, b, c);
+        slotted =
+            let a = gave.slotted in
+            let b = p.counts in
+            let c = given_slots given mid.memory.pages new.memory.pages mid.memory.tables new.memory.tables one in
+            omega (arith, a, b, c);
+        stays = stays ∙ ap (λ (s : SpaceValue S). record s { memory = new.memory }) gave.stays;
+        process = process ∙ gave.process;
+        each = λ number small. then_given old mid new number (gave.each number small) (one_given given mid new one number small);
+      }
+
+  pub ended_caches : (o : Option End) (memory : PagedValue S) → IsSome o → (if_ended o memory).caches ≡ map (λ _. []) memory.caches
+  ended_caches None memory h = cc
+  ended_caches (Some end) memory h = refl
+
+  -- the process has ended all along
+  pub ended_still : (pager pager' : PagerState) (pool pool' : PoolValue S) (old new : SpaceValue S) → GivesSome None None pager pager' pool pool' old new → IsSome old.running.ending → IsSome new.running.ending
+  ended_still pager pager' pool pool' old new gave ended = subst (λ (s : SpaceValue S). IsSome s.running.ending) (sym gave.stays) ended
+
+  -- no page has anything left
+  pub all_gave : (pager pager' : PagerState) (pool pool' : PoolValue S) (old mid new : SpaceValue S)
+      → GivesSome None None pager pager' pool pool' old mid → IsSome mid.running.ending → map {B = List Translation} (λ _. []) mid.memory.caches ≡ map (λ _. []) old.memory.caches
+      → new ≡ record mid { memory = if_ended mid.running.ending mid.memory }
+      → ((number : ℕ) → number < 2 ^ 20 → GivesNothing (page_at mid.memory.pages number)) → GivesToPools pager pager' pool pool' old new
+  unfolding frames_in
+  all_gave pager pager' pool pool' old mid new gave ended caches left none = subst (λ (s : SpaceValue S). GivesToPools pager pager' pool pool' old s) (sym (left ∙ emptied_all)) (record {
+    frames = gave.frames;
+    slots = gave.slots;
+    pager_is = gave.pager_is;
+    pool_is = gave.pool_is;
+    framed = λ test. let a = gave.framed test in omega (arith, a);
+    slotted = let a = gave.slotted in omega (arith, a);
+    space = record {
+      stays = ap (λ (s : SpaceValue S). record s { memory = emptied mid.memory }) gave.stays;
+      process = gave.process;
+      pages = λ number small. given_page old mid number (none number small) (gave.each number small);
+      entries = λ number small. given_entry old mid number (none number small) (gave.each number small);
+      caches = caches;
+    };
+  })
+    where
+      by_end : (o : Option End) → IsSome o → if_ended o mid.memory ≡ emptied mid.memory
+      by_end None h = cc
+      by_end (Some end) h = refl
+
+      emptied_all : record mid { memory = if_ended mid.running.ending mid.memory } ≡ record mid { memory = emptied mid.memory }
+      emptied_all = ap (λ m. record mid { memory = m }) (by_end mid.running.ending ended)
+
+  slot_stays : (given slot : Option S) (old new : PoolValue S) → Pools given slot old new → is_some slot ≡ true → length new.free ≡ new.size
+  slot_stays given None old new pools h = cc
+  slot_stays given (Some back) old new pools h = ap (λ (p : PoolValue S). length p.free) pools.1.1 ∙ pools.1.0 ∙ sym (ap (λ (p : PoolValue S). p.size) pools.1.1)
+
+  -- what a page gave does not come where it is to
+  pub stopped : (given : Option FrameValue × Option S) (frame : Option FrameValue) (slot : Option S) (pager between pager' : PagerState) (pool amid pool' : PoolValue S) (old mid new : SpaceValue S)
+      → GivesSome None None pager between pool amid old mid
+      → GivesOne given mid.memory.pages new.memory.pages mid.memory.tables new.memory.tables → new ≡ record mid { memory = new.memory } → new.memory.process ≡ mid.memory.process
+      → Frees given.0 frame between pager' → Pools given.1 slot amid pool'
+      → new.memory.caches ≡ map {B = List Translation} (λ _. []) old.memory.caches → is_some frame || is_some slot ≡ true
+      → StopsGiving frame slot pager pager' pool pool' old new
+  stopped given frame slot pager between pager' pool amid pool' old mid new gave one stays process frees pools caches some = record {
+    some = some;
+    gave = one_more_gave given frame slot pager between pager' pool amid pool' old mid new gave one stays process frees pools;
+    frame_full = frame_stays given.0 frame between pager' frees;
+    slot_full = slot_stays given.1 slot amid pool' pools;
+    caches = caches;
+  }
+
+  -- a call that gave one empties the caches
+  pub caches_now : (old mid new : SpaceValue S) → IsSome mid.running.ending → map {B = List Translation} (λ _. []) mid.memory.caches ≡ map (λ _. []) old.memory.caches
+      → new.memory.caches ≡ (if_ended mid.running.ending mid.memory).caches → new.memory.caches ≡ map (λ _. []) old.memory.caches
+  caches_now old mid new ended caches is = is ∙ ended_caches mid.running.ending mid.memory ended ∙ caches
+
+  -- what a page gave has come where it is to
+  pub went_on : (given : Option FrameValue × Option S) (frame : Option FrameValue) (slot : Option S) (pager between pager' : PagerState) (pool amid pool' : PoolValue S) (old mid new : SpaceValue S)
+      → GivesSome None None pager between pool amid old mid
+      → GivesOne given mid.memory.pages new.memory.pages mid.memory.tables new.memory.tables → new ≡ record mid { memory = new.memory } → new.memory.process ≡ mid.memory.process
+      → Frees given.0 frame between pager' → Pools given.1 slot amid pool' → is_some frame ≡ false → is_some slot ≡ false
+      → GivesSome None None pager pager' pool pool' old new
+  went_on given frame slot pager between pager' pool amid pool' old mid new gave one stays process frees pools no_frame no_slot =
+      one_more_gave given None None pager between pager' pool amid pool' old mid new gave one stays process
+      (subst (λ o. Frees given.0 o between pager') (is_none_of frame no_frame) frees) (subst (λ o. Pools given.1 o amid pool') (is_none_of slot no_slot) pools)

@@ -1,0 +1,39 @@
+-- Steps of a space in a row are so many slices of one instruction.
+use Rattle.std.proofs.Common.{◌≡◌, ℕ, zero, suc, List, Option, Some, None}
+use Rattle.std.specs.Prelude.{option_map}
+use Rattle.machine_sides.specs.ProcessCalls.{Slices, SlicesOn, SlicesMany}
+use Rattle.machine_sides.specs.Sides.{ProcessSideValue}
+use Rattle.space_core.specs.StandsFor.{SpaceValue}
+use Rattle.space_core.specs.StepByStep.{SlicesOne, StepsOn, StepsEach}
+use Rattle.space_core.specs.declared.progress.Slice.{Slice}
+use Rattle.space_core.specs.declared.progress.SliceStop.{SliceStop}
+use Rattle.space_core.specs.declared.progress.SliceStop.TheVariants.{Budget}
+
+one_slice : {S : Type 0} (held : S → List ℕ) (honest : Type 0) (hart ran : ℕ) (why : SliceStop) (old new : SpaceValue S) → SlicesOne held honest hart ran why old new → Slices held honest hart 1 old new ran why
+one_slice held honest hart ran why old new one = record {
+  ran_is = one.ran_is;
+  recorded = one.recorded;
+  left = one.left;
+  within = one.within;
+  stops = one.stops;
+  pages = one.pages;
+  kept = one.kept;
+  stands = one.stands;
+}
+
+-- steps of a space in a row, and its slices
+slices_on : {S : Type 0} (held : S → List ℕ) (honest : Type 0) (hart n : ℕ) (old new : SpaceValue S) → StepsOn held honest hart n old new → SlicesOn held honest hart n old new
+unfolding StepsOn SlicesOn
+slices_on held honest hart zero old new on = on
+slices_on held honest hart (suc n) old new on = (on.0, (slices_on held honest hart n old on.0 on.1.0, one_slice held honest hart 1 Budget on.0 new on.1.1))
+
+pub many_of_steps : {S : Type 0} (held : S → List ℕ) (honest : Type 0) (hart count : ℕ) (last : Option Slice) (old new : ProcessSideValue S)
+    → StepsEach held honest hart count (option_map (λ slice. (slice.ran, slice.stop)) last) old.space new.space → new.purged ≡ old.purged
+    → SlicesMany held honest hart count (option_map (λ slice. slice.stop) last) old new
+many_of_steps held honest hart count None old new each purged = record { between = each.between; on = slices_on held honest hart count old.space each.between each.on; ends = each.at_last; purged = purged }
+many_of_steps held honest hart count (Some slice) old new each purged = record {
+  between = each.between;
+  on = slices_on held honest hart count old.space each.between each.on;
+  ends = (slice.ran, one_slice held honest hart slice.ran slice.stop each.between new.space each.at_last);
+  purged = purged;
+}

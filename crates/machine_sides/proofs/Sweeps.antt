@@ -1,0 +1,110 @@
+-- A question's page, its accessed bit and what the list makes of it.
+use Rattle.std.proofs.Common.{◌≡◌, ℕ, ◌^◌, ◌<◌, true, false, cond, nat_lt, Option, Some, None, option_map, Result, Ok, refl, sym, ap, ◌∙◌}
+use borrow.Author.Tests.{ltb-true}
+use Rattle.clock_policy.specs.declared.key.Key.{Key}
+use Rattle.clock_policy.specs.declared.entry.Entry.{Entry}
+use Rattle.clock_policy.specs.declared.entry.EntryKind.{EntryKind}
+use Rattle.clock_policy.specs.declared.entry.EntryKind.TheVariants.{Hot, Test, Cold, Shadow}
+use Rattle.clock_policy.specs.declared.answer.Bit.{Bit}
+use Rattle.clock_policy.specs.declared.answer.Bit.TheVariants.{Zero, One, Gone}
+use Rattle.clock_policy.specs.declared.answer.Verdict.{Verdict}
+use Rattle.clock_policy.specs.declared.answer.Verdict.TheVariants.{Victim}
+use Rattle.clock_policy.specs.declared.refusal.Refusal.{Refusal}
+use Rattle.clock_policy.specs.ResidentLaws.{victim_asked}
+use Rattle.clock_policy.specs.ClockPro.{ClockState, question_of, answered, asked_entry, entry_answered, kind_answered, gone_on}
+use Rattle.clock_policy.specs.Residents.{is_gone}
+use Rattle.page_store.specs.declared.refusal.LeaveRefusal.{LeaveRefusal}
+use Rattle.page_store.specs.PageValue.{PageValue, Place, Fresh, Resident, Leaving, Saving, Away, Purged}
+use Rattle.sv32_table.specs.Entry.{Entry as TableEntry}
+use Rattle.paged_memory.specs.Access.{is_resident}
+use Rattle.paged_memory.specs.Calls.{accessed_at, RefusesLeave}
+use Rattle.paged_memory.specs.Paged.{seen_at, seen_of}
+use Rattle.paged_memory.specs.Seen.{Seen}
+use Rattle.paged_memory.specs.Seen as seen
+use Rattle.sv32_table.specs.EntryAt.{entry_at}
+use Rattle.space_core.specs.StandsFor.{SpaceValue}
+use Rattle.pager_core.specs.Pager.{pager_answered}
+use Rattle.machine_sides.specs.Sides.{PagerSideValue, ProcessSideValue}
+use Rattle.machine_sides.specs.Sweeping.{bit_of, bit_at, ReadsBit, Evicts, Answers}
+
+-- a page that is gone is no victim
+kind_gone : (kind : EntryKind) (x : Entry) (s : ClockState) (k : Key) → (kind_answered kind Gone x s).1 ≡ Ok (Victim k) → ⊥
+unfolding gone_on
+kind_gone Hot x s k h = cc
+kind_gone Test x s k h = cc
+kind_gone Cold x s k h = cc
+kind_gone Shadow x s k h = cc
+
+gone_stays : (s : ClockState) (k : Key) → (answered Gone s).1 ≡ Ok (Victim k) → ⊥
+unfolding answered
+gone_stays s k h =
+    elim (asked_entry s) as (λ found. (entry_answered found Gone s).1 ≡ Ok (Victim k) → ⊥) [
+      | None ↦ λ g. cc
+      | Some x ↦ λ g. kind_gone x.kind x s k g
+    ] h
+
+pub victim_is_there : (bit : Bit) (s : ClockState) (k : Key) → (answered bit s).1 ≡ Ok (Victim k) → is_gone bit ≡ false
+victim_is_there Zero s k h = refl
+victim_is_there One s k h = refl
+victim_is_there Gone s k h = absurd (gone_stays s k h)
+
+seen_resident : (o : Option Seen) (e : TableEntry) → is_gone (bit_of (accessed_at o e)) ≡ false → is_resident o ≡ true
+seen_resident None e h = cc
+seen_resident (Some s) e h = by_standing s.standing h
+  where
+    by_standing : (t : seen.Standing) → is_gone (bit_of (accessed_at (Some (record { rights = s.rights; standing = t })) e)) ≡ false → is_resident (Some (record { rights = s.rights; standing = t })) ≡ true
+    by_standing (seen.Resident frame) h = refl
+    by_standing (seen.Leaving frame mark) h = cc
+    by_standing seen.Elsewhere h = cc
+
+module _ {S : Type 0} where
+  -- a page whose bit was read is resident
+  pub read_resident : (space : SpaceValue S) (vpn : ℕ) → is_gone (bit_at space vpn) ≡ false → (vpn < 2 ^ 20) × (is_resident (seen_at space.memory.pages vpn) ≡ true)
+  read_resident space vpn h =
+      elim (nat_lt vpn (2 ^ 20)) as (λ t. nat_lt vpn (2 ^ 20) ≡ t → is_gone (cond t (bit_of (accessed_at (seen_at space.memory.pages vpn) (entry_at space.memory.tables vpn))) Gone) ≡ false → (vpn < 2 ^ 20) × (is_resident (seen_at space.memory.pages vpn) ≡ true)) [
+        | true ↦ λ small there. (ltb-true vpn (2 ^ 20) small, seen_resident (seen_at space.memory.pages vpn) (entry_at space.memory.tables vpn) there)
+        | false ↦ λ large there. cc
+      ] refl h
+
+  -- and it may begin to leave
+  pub resident_leaves : (o : Option (PageValue S)) (refusal : LeaveRefusal) → is_resident (option_map seen_of o) ≡ true → RefusesLeave o refusal → ⊥
+  resident_leaves None refusal is h = cc
+  resident_leaves (Some page) refusal is h = by_place page.place is h
+    where
+      by_place : (place : Place S) → is_resident (Some (seen_of (record { origin = page.origin; place = place }))) ≡ true → RefusesLeave (Some (record { origin = page.origin; place = place })) refusal → ⊥
+      by_place Fresh is h = cc
+      by_place (Resident frame slot) is h = let g = h true in cc
+      by_place (Leaving frame slot mark) is h = cc
+      by_place (Saving frame) is h = cc
+      by_place (Away slot) is h = cc
+      by_place Purged is h = cc
+
+  read_pages : (bit : Bit) (vpn : ℕ) (old new : SpaceValue S) → is_gone bit ≡ false → ReadsBit bit vpn old new → new.memory.pages ≡ old.memory.pages
+  read_pages Zero vpn old new there read = read.pages
+  read_pages One vpn old new there read = read.pages
+  read_pages Gone vpn old new there read = cc
+
+  -- a victim's page is resident when it begins to leave
+  pub victim_resident : (bit : Bit) (vpn : ℕ) (space between : SpaceValue S) (s : ClockState) (k : Key) → (answered bit s).1 ≡ Ok (Victim k) → bit ≡ bit_at space vpn → ReadsBit bit vpn space between
+      → (vpn < 2 ^ 20) × (is_resident (seen_at between.memory.pages vpn) ≡ true)
+  victim_resident bit vpn space between s k told is read =
+      let there = victim_is_there bit s k told in
+      let resident = read_resident space vpn (ap is_gone (sym is) ∙ there) in
+      (resident.0, ap (λ pages. is_resident (seen_at pages vpn)) (read_pages bit vpn space between there read) ∙ resident.1)
+
+  pub victim_answers : (pager pager' : PagerSideValue) (process process' : ProcessSideValue S) (between : SpaceValue S) (key k : Key) (bit : Bit)
+      → question_of pager.pager.list ≡ Some key → (answered bit pager.pager.list).1 ≡ Ok (Victim k) → pager' ≡ record pager { pager = pager_answered bit pager.pager }
+      → bit ≡ bit_at process.space key.vpn → ReadsBit bit key.vpn process.space between → Evicts key.vpn between process'.space → process'.purged ≡ process.purged
+      → Answers pager pager' process process' key bit (Victim key)
+  victim_answers pager pager' process process' between key k bit asks told moved is read evicts purged =
+      let same : k ≡ key = let e = victim_asked bit pager.pager.list k told in cc in
+      record {
+        question = asks;
+        told = told ∙ ap {B = Result Verdict Refusal} (λ (q : Key). Ok (Victim q)) same;
+        pager_is = moved;
+        bit_is = sym is;
+        between = between;
+        read = read;
+        heeded = evicts;
+        purged = purged;
+      }

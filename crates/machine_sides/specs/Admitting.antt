@@ -1,0 +1,97 @@
+-- A page is admitted to a frame, and the admission taken back where the page does not come in.
+use Rattle.std.specs.Prelude.{◌≡◌, ℕ, ◌^◌, ◌++◌, [], ◌∷◌, Bool, true, false, is_some, nat_lt, length, Option, Some, None, option_map, if◌then◌else◌}
+use Rattle.clock_policy.specs.declared.key.Key.{Key}
+use Rattle.clock_policy.specs.ClockPro.{ClockState, withdrawn}
+use Rattle.clock_policy.specs.Lawful.{Lawful}
+use Rattle.frame_pool.specs.FrameValue.{FrameValue}
+use Rattle.page_store.specs.declared.state.PageState.{PageState}
+use Rattle.page_store.specs.declared.state.PageState.TheVariants as stage
+use Rattle.page_store.specs.PageValue.{state_of}
+use Rattle.paged_memory.specs.Paged.{page_at}
+use Rattle.pager_core.specs.declared.refusal.AdmitRefusal.{AdmitRefusal}
+use Rattle.pager_core.specs.declared.refusal.AdmitRefusal.TheVariants as pager
+use Rattle.pager_core.specs.Pager.{PagerState, admission_refused, admitted_with}
+use Rattle.space_core.specs.StandsFor.{SpaceValue}
+use Rattle.machine_sides.specs.Sides.{PagerSideValue}
+use Rattle.machine_sides.specs.declared.admission.NotAdmitted.{NotAdmitted}
+use Rattle.machine_sides.specs.declared.admission.NotAdmitted.TheVariants.{Ended, NotAbsent, AlreadyResident, NoFrame, NoMemory}
+
+-- a page that was admitted and is not yet mapped, with the frame that it is to have
+pub record AdmissionValue : Type 0 where
+  pub key : Key
+  pub frame : FrameValue
+
+abbrev pub is_absent_stage : Option PageState → Bool
+is_absent_stage None = false
+is_absent_stage (Some stage.Fresh) = true
+is_absent_stage (Some stage.Resident) = false
+is_absent_stage (Some stage.Leaving) = false
+is_absent_stage (Some stage.Saving) = false
+is_absent_stage (Some stage.Away) = true
+is_absent_stage (Some stage.Purged) = false
+
+abbrev pub is_resident_stage : Option PageState → Bool
+is_resident_stage None = false
+is_resident_stage (Some stage.Fresh) = false
+is_resident_stage (Some stage.Resident) = true
+is_resident_stage (Some stage.Leaving) = false
+is_resident_stage (Some stage.Saving) = false
+is_resident_stage (Some stage.Away) = false
+is_resident_stage (Some stage.Purged) = false
+
+-- why the pager does not admit a page
+abbrev pub pager_refusal : AdmitRefusal → NotAdmitted
+pager_refusal pager.AlreadyResident = AlreadyResident
+pager_refusal pager.NoFrame = NoFrame
+pager_refusal pager.NoMemory = NoMemory
+
+-- the first reason, of the process's and the pager's
+abbrev pub bars_from : Option NotAdmitted → Option AdmitRefusal → Option NotAdmitted
+bars_from (Some reason) refusal = Some reason
+bars_from None refusal = option_map pager_refusal refusal
+
+-- the reason that a refusal tells of: want of memory is none
+abbrev pub told_by : NotAdmitted → Option NotAdmitted
+told_by Ended = Some Ended
+told_by NotAbsent = Some NotAbsent
+told_by AlreadyResident = Some AlreadyResident
+told_by NoFrame = Some NoFrame
+told_by NoMemory = None
+
+module _ {S : Type 0} where
+  -- where the page of a number is, whatever the number
+  abbrev pub stage_at : SpaceValue S → ℕ → Option PageState
+  stage_at space vpn = if nat_lt vpn (2 ^ 20) then option_map (λ page. state_of page.place) (page_at space.memory.pages vpn) else None
+
+  abbrev pub is_absent : SpaceValue S → ℕ → Bool
+  is_absent space vpn = is_absent_stage (stage_at space vpn)
+
+  abbrev pub is_resident : SpaceValue S → ℕ → Bool
+  is_resident space vpn = is_resident_stage (stage_at space vpn)
+
+  -- why a page of a process is not admitted, as the process tells
+  unfoldable pub page_bars : SpaceValue S → ℕ → Option NotAdmitted
+  page_bars space vpn = if is_some space.running.ending then Some Ended else (if is_absent space vpn then None else Some NotAbsent)
+
+  -- the same with what the pager tells, want of memory aside: the first reason that holds
+  unfoldable pub bars : Key → PagerState → SpaceValue S → Option NotAdmitted
+  bars key state space = bars_from (page_bars space key.vpn) (admission_refused key state)
+
+  -- the page is listed, and the frame taken, whole
+  pub record Admits (key : Key) (old new : PagerSideValue) (space : SpaceValue S) (admission : AdmissionValue) : Type 0 where
+    pub allowed : bars key old.pager space ≡ None
+    pub key_is : admission.key ≡ key
+    pub taken : old.pager.free ≡ new.pager.free ++ admission.frame ∷ []
+    pub whole : length admission.frame.bytes ≡ 4096
+    pub pager_is : new ≡ record old { pager = admitted_with key new.pager.free old.pager }
+    pub lawful : Lawful new.pager.list
+
+  -- it is refused for the first reason that holds, or, where none does, for want of memory
+  pub record DoesNotAdmit (key : Key) (old new : PagerSideValue) (space : SpaceValue S) (refusal : NotAdmitted) : Type 0 where
+    pub why : bars key old.pager space ≡ told_by refusal
+    pub stays : new ≡ old
+
+-- the list once an admission was taken back: a page that came in by another way stays
+abbrev pub taken_back : Bool → Key → ClockState → ClockState
+taken_back true key list = list
+taken_back false key list = (withdrawn key list).0

@@ -1,0 +1,149 @@
+-- An ended process gives everything back: its entries in the list, its frames and its slots.
+use Rattle.std.specs.Prelude.{◌≡◌, ◌⊎◌, ℕ, ◌+◌, ◌++◌, ◌^◌, ◌<◌, ◌==◌, ◌||◌, Bool, true, false, not, cond, is_some, length, map, List, [], ◌∷◌, Option, Some, None, option_map, if◌then◌else◌}
+use Rattle.clock_policy.specs.ClockPro.{purged}
+use Rattle.frame_pool.specs.FrameValue.{FrameValue}
+use Rattle.swap_slots.specs.PoolValue.{PoolValue}
+use Rattle.page_store.specs.Moves.{given_back}
+use Rattle.page_store.specs.PageValue.{PageValue, Place, Fresh, Resident, Leaving, Saving, Away, Purged}
+use Rattle.sv32_table.specs.Entry.{blank}
+use Rattle.sv32_table.specs.EntryAt.{entry_at}
+use Rattle.paged_memory.specs.Counting.{frame_passes, savings_of, slots_of}
+use Rattle.paged_memory.specs.Paged.{page_at}
+use Rattle.pager_core.specs.Pager.{PagerState}
+use Rattle.space_core.specs.StandsFor.{SpaceValue}
+use Rattle.machine_sides.specs.Sides.{PagerSideValue, ProcessSideValue}
+use Rattle.machine_sides.specs.Together.{frames_where, frames_in}
+use Rattle.machine_sides.specs.declared.purging.PurgeRefusal.{PurgeRefusal}
+use Rattle.machine_sides.specs.declared.purging.PurgeRefusal.TheVariants.{NotEnded, SavingStill, AlreadyPurged}
+use Rattle.machine_sides.specs.declared.purging.Purging.{Purging}
+use Rattle.machine_sides.specs.declared.purging.Purging.TheVariants.{Done, Refused, HandedBack}
+
+-- what there may be, as a list of none or one
+abbrev pub as_list : {A : Type 0} → Option A → List A
+as_list None = []
+as_list (Some a) = a ∷ []
+
+-- a frame comes free, if there is one, or is handed back where all of the pager's are free
+abbrev pub Frees : Option FrameValue → Option FrameValue → PagerState → PagerState → Type 0
+Frees frame None old new = new ≡ record old { free = old.free ++ as_list frame }
+Frees frame (Some back) old new = (frame ≡ Some back) × ((length old.free ≡ old.size) × (new ≡ old))
+
+module _ {S : Type 0} where
+  -- the same of a slot and its pool
+  abbrev pub Pools : Option S → Option S → PoolValue S → PoolValue S → Type 0
+  Pools slot None old new = new ≡ record old { free = old.free ++ as_list slot }
+  Pools slot (Some back) old new = (slot ≡ Some back) × ((length old.free ≡ old.size) × (new ≡ old))
+
+  -- whether a page of a process is being saved
+  unfoldable pub is_saving_any : List (ℕ × PageValue S) → Bool
+  is_saving_any pages = not (savings_of pages (λ _. true) == 0)
+
+  -- why a process gives nothing back: the first reason that holds
+  unfoldable pub purge_bars : ProcessSideValue S → Option PurgeRefusal
+  purge_bars process =
+      if is_some process.space.running.ending
+      then (if is_saving_any process.space.memory.pages then Some SavingStill else (if process.purged then Some AlreadyPurged else None))
+      else Some NotEnded
+
+  -- whether a page has a frame or a slot to give back
+  abbrev pub gives : Option (PageValue S) → Bool
+  gives None = false
+  gives (Some page) = is_some (given_back page.place)
+
+  -- a page that has is given up for good, and any other stays where it is
+  abbrev pub place_given : Place S → Place S
+  place_given Fresh = Fresh
+  place_given (Resident frame slot) = Purged
+  place_given (Leaving frame slot mark) = Purged
+  place_given (Saving frame) = Saving frame
+  place_given (Away slot) = Purged
+  place_given Purged = Purged
+
+  abbrev pub page_given : PageValue S → PageValue S
+  page_given page = record page { place = place_given page.place }
+
+  -- a page gave back what it had, and is unmapped
+  pub record IsGiven (old new : SpaceValue S) (number : ℕ) : Type 0 where
+    pub had : gives (page_at old.memory.pages number) ≡ true
+    pub page : page_at new.memory.pages number ≡ option_map page_given (page_at old.memory.pages number)
+    pub entry : entry_at new.memory.tables number ≡ blank
+
+  -- a page is as it was
+  pub record IsLeft (old new : SpaceValue S) (number : ℕ) : Type 0 where
+    pub page : page_at new.memory.pages number ≡ page_at old.memory.pages number
+    pub entry : entry_at new.memory.tables number ≡ entry_at old.memory.tables number
+
+  -- Some pages gave back what they had: the frames are free, behind those that were, and the slots are in the pool behind those that were. A frame and a
+  -- slot that were handed back are of these pages too.
+  pub record GivesSome (frame : Option FrameValue) (slot : Option S) (pager pager' : PagerState) (pool pool' : PoolValue S) (old new : SpaceValue S) : Type 0 where
+    pub frames : List FrameValue
+    pub slots : List S
+    pub pager_is : pager' ≡ record pager { free = pager.free ++ frames }
+    pub pool_is : pool' ≡ record pool { free = pool.free ++ slots }
+    pub framed : (test : ℕ → Bool) → frames_where test frames + (cond (frame_passes test frame) 1 0 + frames_in new test) ≡ frames_in old test
+    pub slotted : length slots + (cond (is_some slot) 1 0 + slots_of new.memory.pages) ≡ slots_of old.memory.pages
+    pub stays : new ≡ record old { memory = new.memory }
+    pub process : new.memory.process ≡ old.memory.process
+    pub each : (number : ℕ) → number < 2 ^ 20 → IsGiven old new number ⊎ IsLeft old new number
+
+  -- every page that had something has given it back, and no cache holds a translation
+  pub record GivesAll (old new : SpaceValue S) : Type 0 where
+    pub stays : new ≡ record old { memory = new.memory }
+    pub process : new.memory.process ≡ old.memory.process
+    pub pages : (number : ℕ) → number < 2 ^ 20 → page_at new.memory.pages number ≡ option_map page_given (page_at old.memory.pages number)
+    pub entries : (number : ℕ) → number < 2 ^ 20 → entry_at new.memory.tables number ≡ (if gives (page_at old.memory.pages number) then blank else entry_at old.memory.tables number)
+    pub caches : new.memory.caches ≡ map (λ _. []) old.memory.caches
+
+  -- a frame or a slot was handed back: the frame since all of the pager's are free, the slot since all of its pool's are there
+  pub record StopsGiving (frame : Option FrameValue) (slot : Option S) (pager pager' : PagerState) (pool pool' : PoolValue S) (old new : SpaceValue S) : Type 0 where
+    pub some : is_some frame || is_some slot ≡ true
+    pub gave : GivesSome frame slot pager pager' pool pool' old new
+    pub frame_full : is_some frame ≡ true → length pager'.free ≡ pager'.size
+    pub slot_full : is_some slot ≡ true → length pool'.free ≡ pool'.size
+    pub caches : new.memory.caches ≡ map (λ _. []) old.memory.caches
+
+  -- the pages' frames are free, and their slots in the pool
+  pub record GivesToPools (pager pager' : PagerState) (pool pool' : PoolValue S) (old new : SpaceValue S) : Type 0 where
+    pub frames : List FrameValue
+    pub slots : List S
+    pub pager_is : pager' ≡ record pager { free = pager.free ++ frames }
+    pub pool_is : pool' ≡ record pool { free = pool.free ++ slots }
+    pub framed : (test : ℕ → Bool) → frames_where test frames + frames_in new test ≡ frames_in old test
+    pub slotted : length slots + slots_of new.memory.pages ≡ slots_of old.memory.pages
+    pub space : GivesAll old new
+
+  -- all pages are asked for what they have
+  abbrev pub GivesBack : Option (Option FrameValue × Option S) → PagerState → PagerState → PoolValue S → PoolValue S → SpaceValue S → SpaceValue S → Type 0
+  GivesBack None pager pager' pool pool' old new = GivesToPools pager pager' pool pool' old new
+  GivesBack (Some left) pager pager' pool pool' old new = StopsGiving left.0 left.1 pager pager' pool pool' old new
+
+  -- the process has given everything back, and the list has none of its pages
+  pub record PurgesAll (pager pager' : PagerSideValue) (process process' : ProcessSideValue S) (pool pool' : PoolValue S) : Type 0 where
+    pub allowed : purge_bars process ≡ None
+    pub frames : List FrameValue
+    pub slots : List S
+    pub pager_is : pager' ≡ record pager { pager = record pager.pager { free = pager.pager.free ++ frames; list = purged process.space.memory.process pager.pager.list } }
+    pub pool_is : pool' ≡ record pool { free = pool.free ++ slots }
+    pub framed : (test : ℕ → Bool) → frames_where test frames ≡ frames_in process.space test
+    pub slotted : length slots ≡ slots_of process.space.memory.pages
+    pub space : GivesAll process.space process'.space
+    pub purged : process'.purged ≡ true
+
+  -- nothing has changed
+  pub record DoesNotPurge (reason : PurgeRefusal) (pager pager' : PagerSideValue) (process process' : ProcessSideValue S) (pool pool' : PoolValue S) : Type 0 where
+    pub why : purge_bars process ≡ Some reason
+    pub pager_stays : pager' ≡ pager
+    pub process_stays : process' ≡ process
+    pub pool_stays : pool' ≡ pool
+
+  -- it stops at a page whose frame or slot is handed back; the list is as it was
+  pub record StopsPurging (frame : Option FrameValue) (slot : Option S) (pager pager' : PagerSideValue) (process process' : ProcessSideValue S) (pool pool' : PoolValue S) : Type 0 where
+    pub allowed : purge_bars process ≡ None
+    pub pager_is : pager' ≡ record pager { pager = pager'.pager }
+    pub stops : StopsGiving frame slot pager.pager pager'.pager pool pool' process.space process'.space
+    pub purged : process'.purged ≡ process.purged
+
+  abbrev pub Purges : {L : Type 0} → PagerSideValue → PagerSideValue → ProcessSideValue S → ProcessSideValue S → PoolValue S → PoolValue S → Purging L S → Type 0
+  Purges pager pager' process process' pool pool' Done = PurgesAll pager pager' process process' pool pool'
+  Purges pager pager' process process' pool pool' (Refused reason) = DoesNotPurge reason pager pager' process process' pool pool'
+  Purges pager pager' process process' pool pool' (HandedBack frame slot) = StopsPurging frame slot pager pager' process process' pool pool'

@@ -1,0 +1,74 @@
+-- A page that is resident again keeps list and pages together.
+use Rattle.std.proofs.Common.{◌≡◌, ℕ, ◌+◌, Bool, true, ◌&&◌, cond, Ok, Err, IsOk, Result, refl, ap, ◌∙◌, arith}
+use Rattle.std.specs.Prelude.{is_ok}
+use Rattle.clock_policy.specs.declared.key.Key.{Key}
+use Rattle.clock_policy.specs.AdmitLaws.{restored_residents}
+use Rattle.clock_policy.specs.ClockPro.{restored}
+use Rattle.clock_policy.specs.KeptLaws.{restored_frames}
+use Rattle.clock_policy.specs.Residents.{residents}
+use Rattle.page_store.specs.PageValue.{PageValue, Resident}
+use Rattle.paged_memory.specs.Leaving.{Returns}
+use Rattle.machine_sides.specs.MoveLaws.{moved_residents, moved_savings, moved_frames, moved_slots, moved_stays}
+use Rattle.machine_sides.specs.Returning.{ListsAgain, MapsAgain, ComesBack}
+use Rattle.machine_sides.specs.Sides.{PagerSideValue, ProcessSideValue}
+use Rattle.machine_sides.specs.SweepLaws.{LeavesRest}
+use Rattle.machine_sides.specs.Together.{Together, residents_in, savings_in, frames_in, frames_where, key_of}
+
+-- the list has one more
+pub listed_again : (key : Key) (old new : PagerSideValue) (test : Key → Bool) → ListsAgain key old new → residents new.pager.list test ≡ residents old.pager.list test + cond (test key) 1 0
+listed_again key old new test lists =
+    let now : residents new.pager.list test ≡ residents (restored key old.pager.list).0 test = ap (λ (p : PagerSideValue). residents p.pager.list test) lists.pager_is in
+    now ∙ restored_residents test key old.pager.list ∙ ap (λ b. residents old.pager.list test + cond (b && test key) 1 0) (ok (restored key old.pager.list).1 lists.taken)
+  where
+    ok : {A E : Type 0} (r : Result A E) → IsOk r → is_ok r ≡ true
+    ok (Ok a) h = refl
+    ok (Err e) h = cc
+
+-- and as many frames
+pub listed_frames : (key : Key) (old new : PagerSideValue) → ListsAgain key old new → new.pager.list.frames ≡ old.pager.list.frames
+listed_frames key old new lists = ap (λ (p : PagerSideValue). p.pager.list.frames) lists.pager_is ∙ restored_frames key old.pager.list
+
+module _ {S : Type 0} (vpn : ℕ) (old new : ProcessSideValue S) (maps : MapsAgain vpn old new) where
+  abbrev returns : Returns maps.page.mark maps.page.page.page maps.page.page.page'
+  returns = maps.page.page.how
+
+  placed : maps.page.page.page'.place ≡ Resident returns.frame returns.slot
+  placed = ap (λ (p : PageValue S). p.place) returns.is
+
+  pub returned_residents : (test : Key → Bool) → residents_in new.space test ≡ residents_in old.space test + cond (test (key_of old.space.memory.process vpn)) 1 0
+  returned_residents test =
+      let moved : residents_in new.space test + 0 ≡ residents_in old.space test + cond (test (key_of old.space.memory.process vpn)) 1 0 = moved_residents _ old.space new.space vpn maps.small maps.page.page _ _ returns.was placed maps.process test in
+      omega (arith, moved)
+
+  pub returned_frames : (test : ℕ → Bool) → frames_in new.space test ≡ frames_in old.space test
+  returned_frames test =
+      let moved : frames_in new.space test + cond (test returns.frame.number) 1 0 ≡ frames_in old.space test + cond (test returns.frame.number) 1 0 = moved_frames _ old.space new.space vpn maps.small maps.page.page _ _ returns.was placed maps.process test in
+      omega (arith, moved)
+
+  -- the rest of the counts stays
+  pub returned_rest : LeavesRest old.space new.space
+  returned_rest = record {
+    savings = λ test.
+        let moved : savings_in new.space test + 0 ≡ savings_in old.space test + 0 = moved_savings _ old.space new.space vpn maps.small maps.page.page _ _ returns.was placed maps.process test in
+        omega (arith, moved);
+    slots =
+        let moved = moved_slots _ old.space new.space vpn maps.small maps.page.page _ _ returns.was placed maps.process in
+        omega (arith, moved);
+    stay = moved_stays _ old.space new.space vpn maps.small maps.page.page _ _ returns.was placed maps.process refl;
+  }
+
+module _ {S : Type 0} (vpn : ℕ) (pager pager' : PagerSideValue) (old new : ProcessSideValue S) where
+  -- the list gains what the process does
+  pub back_together : ComesBack vpn pager pager' old new → Together pager.pager pager'.pager old.space new.space
+  back_together back = record {
+    listed = λ test.
+        let list = listed_again (key_of old.space.memory.process vpn) pager pager' test back.listed in
+        let pages = returned_residents vpn old new back.mapped test in
+        omega (arith, list, pages);
+    framed = λ test.
+        let free : frames_where test pager'.pager.free ≡ frames_where test pager.pager.free = ap (λ (p : PagerSideValue). frames_where test p.pager.free) back.listed.pager_is in
+        let pages = returned_frames vpn old new back.mapped test in
+        omega (arith, free, pages);
+    size = ap (λ (p : PagerSideValue). p.pager.size) back.listed.pager_is;
+    process = back.mapped.process;
+  }

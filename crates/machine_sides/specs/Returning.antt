@@ -1,0 +1,42 @@
+-- A page that could not leave its frame is resident again: it is listed again, and then mapped again.
+use Rattle.std.specs.Prelude.{◌≡◌, ◌≢◌, ℕ, ◌^◌, ◌<◌, Err, IsOk}
+use Rattle.clock_policy.specs.declared.key.Key.{Key}
+use Rattle.clock_policy.specs.declared.refusal.Refusal.{Refusal}
+use Rattle.clock_policy.specs.declared.refusal.Refusal.TheVariants.{NoMemory}
+use Rattle.clock_policy.specs.ClockPro.{restored}
+use Rattle.clock_policy.specs.Lawful.{Lawful}
+use Rattle.pager_core.specs.Pager.{with_list}
+use Rattle.paged_memory.specs.Leaving.{BringsBack}
+use Rattle.machine_sides.specs.Sides.{PagerSideValue, ProcessSideValue}
+use Rattle.machine_sides.specs.Together.{key_of}
+
+-- the list takes the page back, as one in its test
+pub record ListsAgain (key : Key) (old new : PagerSideValue) : Type 0 where
+  pub taken : IsOk (restored key old.pager.list).1
+  pub pager_is : new ≡ record old { pager = with_list (restored key old.pager.list).0 old.pager }
+  pub lawful : Lawful new.pager.list
+
+-- it does not, for its own reason, or, where it has none, for want of memory
+pub record DoesNotList (key : Key) (old new : PagerSideValue) (refusal : Refusal) : Type 0 where
+  pub why : refusal ≢ NoMemory → (restored key old.pager.list).1 ≡ Err refusal
+  pub memory : refusal ≡ NoMemory → IsOk (restored key old.pager.list).1
+  pub stays : new ≡ old
+
+module _ {S : Type 0} where
+  -- a page that is leaving is mapped again, in its frame
+  pub record MapsAgain (vpn : ℕ) (old new : ProcessSideValue S) : Type 0 where
+    pub small : vpn < 2 ^ 20
+    pub page : BringsBack old.space.memory.pages new.space.memory.pages old.space.memory.tables new.space.memory.tables vpn
+    pub stays : new ≡ record old { space = record old.space { memory = new.space.memory } }
+    pub process : new.space.memory.process ≡ old.space.memory.process
+    pub caches : new.space.memory.caches ≡ old.space.memory.caches
+
+  -- the page is resident again
+  pub record ComesBack (vpn : ℕ) (pager pager' : PagerSideValue) (old new : ProcessSideValue S) : Type 0 where
+    pub listed : ListsAgain (key_of old.space.memory.process vpn) pager pager'
+    pub mapped : MapsAgain vpn old new
+
+  -- the page is leaving still
+  pub record StaysLeaving (vpn : ℕ) (pager pager' : PagerSideValue) (old new : ProcessSideValue S) (refusal : Refusal) : Type 0 where
+    pub unlisted : DoesNotList (key_of old.space.memory.process vpn) pager pager' refusal
+    pub stays : new ≡ old

@@ -1,0 +1,72 @@
+-- A question of the list and its answer: what it does to the pager and to the process that is asked for a page.
+use Rattle.std.specs.Prelude.{◌≡◌, ℕ, ◌^◌, Bool, true, false, cond, nat_lt, map, Option, Some, None, Ok}
+use Rattle.clock_policy.specs.declared.key.Key.{Key}
+use Rattle.clock_policy.specs.declared.answer.Bit.{Bit}
+use Rattle.clock_policy.specs.declared.answer.Bit.TheVariants.{Zero, One, Gone}
+use Rattle.clock_policy.specs.declared.answer.Verdict.{Verdict}
+use Rattle.clock_policy.specs.declared.answer.Verdict.TheVariants as verdict
+use Rattle.clock_policy.specs.ClockPro.{question_of, answered}
+use Rattle.sv32_table.specs.Entry.{blank}
+use Rattle.sv32_table.specs.EntryAt.{entry_at, ChangesEntry, unaccessed_entry, dirty_of}
+use Rattle.tlb_core.specs.Cache.{doomed}
+use Rattle.paged_memory.specs.Calls.{accessed_at, ChangesBy, Leaves}
+use Rattle.paged_memory.specs.Paged.{seen_at}
+use Rattle.pager_core.specs.Pager.{pager_answered}
+use Rattle.space_core.specs.StandsFor.{SpaceValue}
+use Rattle.machine_sides.specs.Sides.{PagerSideValue, ProcessSideValue}
+use Rattle.machine_sides.specs.declared.sweeping.Swept.{Swept}
+use Rattle.machine_sides.specs.declared.sweeping.Swept.TheVariants.{NothingResident, Asked, Victim}
+
+-- a page's accessed bit as an answer: a page that is not resident is gone
+abbrev pub bit_of : Option Bool → Bit
+bit_of None = Gone
+bit_of (Some false) = Zero
+bit_of (Some true) = One
+
+module _ {S : Type 0} where
+  -- the accessed bit of the page of a number, whatever the number
+  abbrev pub bit_at : SpaceValue S → ℕ → Bit
+  bit_at space vpn = cond (nat_lt vpn (2 ^ 20)) (bit_of (accessed_at (seen_at space.memory.pages vpn) (entry_at space.memory.tables vpn))) Gone
+
+  -- a page's accessed bit is cleared, and its translations are to be dropped
+  pub record Clears (vpn : ℕ) (old new : SpaceValue S) : Type 0 where
+    pub stays : new ≡ record old { memory = new.memory }
+    pub process : new.memory.process ≡ old.memory.process
+    pub pages : new.memory.pages ≡ old.memory.pages
+    pub entry : ChangesEntry old.memory.tables new.memory.tables vpn (unaccessed_entry (entry_at old.memory.tables vpn))
+    pub caches : new.memory.caches ≡ map (doomed vpn) old.memory.caches
+
+  -- a page's accessed bit is read and cleared
+  abbrev pub ReadsBit : Bit → ℕ → SpaceValue S → SpaceValue S → Type 0
+  ReadsBit Gone vpn old new = new ≡ old
+  ReadsBit Zero vpn old new = Clears vpn old new
+  ReadsBit One vpn old new = Clears vpn old new
+
+  -- a page begins to leave its frame
+  pub record Evicts (vpn : ℕ) (old new : SpaceValue S) : Type 0 where
+    pub stays : new ≡ record old { memory = new.memory }
+    pub process : new.memory.process ≡ old.memory.process
+    pub page : ChangesBy (Leaves (dirty_of (entry_at old.memory.tables vpn))) old.memory.pages new.memory.pages vpn
+    pub entry : ChangesEntry old.memory.tables new.memory.tables vpn blank
+    pub caches : new.memory.caches ≡ map (doomed vpn) old.memory.caches
+
+  -- what becomes of the process: a victim's page leaves
+  abbrev pub HeedsVerdict : Verdict → ℕ → SpaceValue S → SpaceValue S → Type 0
+  HeedsVerdict verdict.GoOn vpn old new = new ≡ old
+  HeedsVerdict (verdict.Victim key) vpn old new = Evicts vpn old new
+
+  -- the question names a page, whose accessed bit is read and cleared and is the answer; at a victim the page leaves
+  pub record Answers (pager pager' : PagerSideValue) (process process' : ProcessSideValue S) (key : Key) (bit : Bit) (verdict : Verdict) : Type 0 where
+    pub question : question_of pager.pager.list ≡ Some key
+    pub told : (answered bit pager.pager.list).1 ≡ Ok verdict
+    pub pager_is : pager' ≡ record pager { pager = pager_answered bit pager.pager }
+    pub bit_is : bit_at process.space key.vpn ≡ bit
+    pub between : SpaceValue S
+    pub read : ReadsBit bit key.vpn process.space between
+    pub heeded : HeedsVerdict verdict key.vpn between process'.space
+    pub purged : process'.purged ≡ process.purged
+
+  abbrev pub Sweeps : PagerSideValue → PagerSideValue → ProcessSideValue S → ProcessSideValue S → Swept → Type 0
+  Sweeps pager pager' process process' NothingResident = (question_of pager.pager.list ≡ None) × ((pager' ≡ pager) × (process' ≡ process))
+  Sweeps pager pager' process process' (Asked key bit) = Answers pager pager' process process' key bit verdict.GoOn
+  Sweeps pager pager' process process' (Victim key) = (bit : Bit) × Answers pager pager' process process' key bit (verdict.Victim key)

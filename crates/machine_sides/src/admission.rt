@@ -1,0 +1,117 @@
+ghost use Rattle.std.specs.Prelude.{◌≡◌, ◌↔◌, ◌++◌, [], ◌∷◌, length, IfOk, IfErr, IsErr, OnOk, OnErr};
+ghost use Rattle.clock_policy.specs.Lawful.{Lawful};
+ghost use Rattle.machine_sides.specs.Admitting.{Admits, DoesNotAdmit, page_bars, pager_refusal, is_resident, taken_back};
+
+use crate::pager_side::PagerSide;
+use crate::process_side::ProcessSide;
+use clock_policy::{Clock, Key};
+use frame_pool::Frame;
+use pager_core::AdmitRefusal;
+use std::marker::Model;
+use std::sync::ledger::Ledger;
+use swap_slots::SwapSlot;
+use thiserror::Error;
+
+/// A page that was admitted, with the frame that it is to have. It is loaded, or else the admission is undone.
+#[derive(Drop)]
+pub struct Admission<L: Ledger> {
+    pub(crate) key: Key,
+    pub(crate) frame: Frame<L>,
+}
+
+impl<L: Ledger> Model for Admission<L> {
+    ghost use Rattle.machine_sides.specs.Admitting.{AdmissionValue};
+
+    ghost Value = { AdmissionValue };
+
+    ghost view = { λ a. record { key = a.key; frame = a.frame } };
+}
+
+impl<L: Ledger> Admission<L> {
+    /// The page that was admitted.
+    pub fn key(&self) -> Key
+        ensures { result ≡ self.now.key }
+    {
+        self.key
+    }
+}
+
+/// Why a page was not admitted, in the order in which the reasons are tested. Nothing has changed.
+#[derive(Clone, Copy, PartialEq, Eq, Debug, Error)]
+pub enum NotAdmitted {
+    #[error("the process has ended")]
+    Ended,
+    #[error("the page is not absent")]
+    NotAbsent,
+    #[error("the page is listed as resident already")]
+    AlreadyResident,
+    #[error("no frame is free")]
+    NoFrame,
+    #[error("out of memory")]
+    NoMemory,
+}
+
+/// Lists an absent page of a process, and takes the frame that it is to have.
+pub fn admit<L: Ledger, S: SwapSlot, C: Clock>(
+    pager: &mut PagerSide<L, C>,
+    process: &ProcessSide<L, S>,
+    key: Key,
+) -> Result<Admission<L>, NotAdmitted>
+    ensures admitted { IfOk result (λ admission. Admits key pager.old pager.new process.now.space admission) }
+    ensures refused { IfErr result (λ refusal. DoesNotAdmit key pager.old pager.new process.now.space refusal) }
+{
+    if let Some(reason) = page_bars(process, key.vpn) {
+        return Err(reason);
+    }
+    let frame = match pager.pager.admit(key) {
+        Ok(frame) => frame,
+        Err(refusal) => return Err(pager_refusal(refusal)),
+    };
+    Ok(Admission { key, frame })
+}
+
+/// Why a page of a process is not admitted, as the process tells.
+#[tactic(auto, unfolding(crate::specs::Admitting::page_bars))]
+fn page_bars<L: Ledger, S: SwapSlot>(process: &ProcessSide<L, S>, vpn: u32) -> Option<NotAdmitted>
+    ensures { result ≡ page_bars process.now.space vpn }
+{
+    if process.space.end().is_some() {
+        return Some(NotAdmitted::Ended);
+    }
+    if process.is_absent(vpn) {
+        return None;
+    }
+    Some(NotAdmitted::NotAbsent)
+}
+
+/// What a refusal of the pager is for a page that is to be admitted.
+fn pager_refusal(refusal: AdmitRefusal) -> NotAdmitted
+    ensures { result ≡ pager_refusal refusal }
+{
+    match refusal {
+        AdmitRefusal::AlreadyResident => NotAdmitted::AlreadyResident,
+        AdmitRefusal::NoFrame => NotAdmitted::NoFrame,
+        AdmitRefusal::NoMemory => NotAdmitted::NoMemory,
+    }
+}
+
+/// Takes an admission back: its frame comes free, and its page is withdrawn from the list unless it is resident by now.
+///
+/// Where all frames of the pager are free, the frame is another pager's, and is handed back.
+pub fn undo<L: Ledger, S: SwapSlot, C: Clock>(
+    pager: &mut PagerSide<L, C>,
+    process: &ProcessSide<L, S>,
+    admission: Admission<L>,
+) -> Result<(), Frame<L>>
+    ensures list { pager.new.pager.list ≡ taken_back (is_resident process.now.space admission.key.vpn) admission.key pager.old.pager.list }
+    ensures freed { OnOk result (pager.new ≡ record pager.old { pager = record pager.old.pager { list = pager.new.pager.list; free = pager.old.pager.free ++ admission.frame ∷ [] } }) }
+    ensures full { IsErr result ↔ (length pager.old.pager.free ≡ pager.old.pager.size) }
+    ensures handed_back { IfErr result (λ back. back ≡ admission.frame) }
+    ensures kept { OnErr result (pager.new ≡ record pager.old { pager = record pager.old.pager { list = pager.new.pager.list } }) }
+{
+    let Admission { key, frame } = admission;
+    if !process.is_resident(key.vpn) {
+        let _ = pager.pager.withdraw(key);
+    }
+    pager.pager.free(frame)
+}

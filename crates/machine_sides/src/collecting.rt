@@ -1,0 +1,109 @@
+ghost use Rattle.std.specs.Prelude.{◌≡◌, ◌↔◌, ◌++◌, [], ◌∷◌, length, IsErr, IfErr, OnOk, OnErr};
+ghost use Rattle.pager_core.specs.Pager.{tallied};
+ghost use Rattle.paged_memory.specs.Paged.{memory_of};
+ghost use Rattle.machine_sides.specs.Collecting.{is_leaving, Finds, Looks};
+
+use crate::pager_side::{PagerSide, tally};
+use crate::process_side::ProcessSide;
+use crate::returning::bring_back;
+use clock_policy::{Clock, Refusal};
+use frame_pool::Frame;
+use page_store::{Collected, PageState, SaveJob};
+use std::sync::ledger::Ledger;
+use swap_slots::{SlotPool, SwapSlot};
+
+/// What came of a look at a page that is to leave its frame.
+#[derive(Drop)]
+pub enum Looked<L: Ledger, S: SwapSlot> {
+    /// The page is not leaving.
+    NotLeaving,
+    /// A cache holds a translation to its frame still.
+    NotYet,
+    /// It was unchanged and has left its frame, which is free.
+    Freed,
+    /// It is changed, and its bytes are to be saved.
+    Dirty(SaveJob<S>),
+    /// It is changed, and there is no slot for it: it is resident again.
+    NoSlot,
+    /// The same, but the list did not take it back: it is leaving still.
+    NotRestored(Refusal),
+    /// It was unchanged and has left its frame. All frames of the pager are free, so that its frame is another pager's, and
+    /// is handed back.
+    HandedBack(Frame<L>),
+}
+
+/// Looks whether a page that is leaving can let its frame go: no cache may hold a translation of it. An unchanged page
+/// goes to its backing, and its frame is free. A changed one is copied, to be saved to its slot or to a free one; where it
+/// has none and none is free, it is listed and mapped again.
+pub fn collect<L: Ledger, S: SwapSlot, C: Clock>(
+    pager: &mut PagerSide<L, C>,
+    process: &mut ProcessSide<L, S>,
+    vpn: u32,
+    slots: &mut SlotPool<S>,
+) -> Looked<L, S>
+    ensures looked { Looks vpn pager.old pager.new process.old process.new slots.old slots.new result }
+    ensures memory { S.honest → memory_of S.content process.new.space.memory.pages ≡ memory_of S.content process.old.space.memory.pages }
+{
+    match process.look(vpn, slots) {
+        Collected::NotLeaving => Looked::NotLeaving,
+        Collected::NotYet => Looked::NotYet,
+        Collected::Clean(frame) => match pager.free_dropped(frame) {
+            Ok(()) => Looked::Freed,
+            Err(frame) => Looked::HandedBack(frame),
+        },
+        Collected::Dirty(job) => Looked::Dirty(job),
+        Collected::NoSlot => match bring_back(pager, process, vpn) {
+            Ok(()) => Looked::NoSlot,
+            Err(refusal) => Looked::NotRestored(refusal),
+        },
+    }
+}
+
+impl<L: Ledger, C: Clock> PagerSide<L, C> {
+    /// Gives back the frame of a page that was dropped, and counts it. Where all are there, the frame is handed back.
+    pub(crate) fn free_dropped(&mut self, frame: Frame<L>) -> Result<(), Frame<L>>
+        ensures full { IsErr result ↔ (length self.old.pager.free ≡ self.old.pager.size) }
+        ensures ok { OnOk result (self.new ≡ record self.old { pager = record self.old.pager { free = self.old.pager.free ++ frame ∷ [] }; drops = tallied self.old.drops }) }
+        ensures handed_back { IfErr result (λ back. back ≡ frame) }
+        ensures err { OnErr result (self.new ≡ self.old) }
+    {
+        self.pager.free(frame)?;
+        self.drops = tally(self.drops);
+        Ok(())
+    }
+}
+
+impl<L: Ledger, S: SwapSlot> ProcessSide<L, S> {
+    /// Whether a page is on its way out of its frame.
+    pub fn is_leaving(&self, vpn: u32) -> bool
+        ensures { result ≡ is_leaving self.now.space vpn }
+    {
+        match self.state(vpn) {
+            Some(PageState::Leaving) => true,
+            Some(
+                PageState::Fresh
+                | PageState::Resident
+                | PageState::Saving
+                | PageState::Away
+                | PageState::Purged,
+            ) => false,
+            None => false,
+        }
+    }
+
+    /// Looks whether a page can leave its frame. A slot is taken from the free ones only for a changed page that has none.
+    pub(crate) fn look(&mut self, vpn: u32, slots: &mut SlotPool<S>) -> Collected<L, S>
+        ensures found { Finds vpn self.old self.new slots.old slots.new result }
+        ensures memory { S.honest → memory_of S.content self.new.space.memory.pages ≡ memory_of S.content self.old.space.memory.pages }
+    {
+        if vpn >= 1 << 20 {
+            return Collected::NotLeaving;
+        }
+        let found = self.space.collect(vpn, &mut None);
+        if !matches!(found, Collected::NoSlot) {
+            return found;
+        }
+        let mut spare = slots.take();
+        self.space.collect(vpn, &mut spare)
+    }
+}

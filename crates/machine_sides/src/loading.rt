@@ -1,0 +1,27 @@
+ghost use Rattle.std.specs.Prelude.{◌≡◌, IfErr, OnOk};
+ghost use Rattle.machine_sides.specs.Loading.{Loads, DoesNotLoad};
+
+use crate::admission::Admission;
+use crate::process_side::ProcessSide;
+use paged_memory::PageInFault;
+use std::sync::ledger::Ledger;
+use swap_slots::SwapSlot;
+
+impl<L: Ledger, S: SwapSlot> ProcessSide<L, S> {
+    /// Brings an admitted page into its frame, from its slot or as it began, and maps it with its rights, as used and not
+    /// changed. A refusal hands the admission back, to be undone, and leaves the page where it was.
+    pub fn load(&mut self, admission: Admission<L>) -> Result<(), (Admission<L>, PageInFault)>
+        ensures loaded { OnOk result (Loads S.content S.honest admission self.old.space self.new.space) }
+        ensures refused { IfErr result (λ back. DoesNotLoad S.content S.honest S.failures admission back.0 back.1 self.old.space self.new.space) }
+        ensures purged { self.new.purged ≡ self.old.purged }
+    {
+        let Admission { key, frame } = admission;
+        if key.vpn >= 1 << 20 {
+            return Err((Admission { key, frame }, PageInFault::NotAbsent));
+        }
+        if let Err((frame, fault)) = self.space.page_in(key.vpn, frame) {
+            return Err((Admission { key, frame }, fault));
+        }
+        Ok(())
+    }
+}

@@ -1,0 +1,45 @@
+//! What a process shows beside its pages' places.
+
+ghost use Rattle.std.specs.Prelude.{◌≡◌, ◌≢◌};
+ghost use Rattle.std.specs.Bool.{OnTrue, OnFalse};
+ghost use Rattle.machine_sides.specs.Showing.{OfFlat, Peeks};
+
+use crate::process_side::ProcessSide;
+use elf_image::Image;
+use paged_memory::PeekFault;
+use std::sync::ledger::Ledger;
+use swap_slots::SwapSlot;
+
+impl<L: Ledger, S: SwapSlot> ProcessSide<L, S> {
+    /// The number of the process.
+    pub fn process(&self) -> u32
+        ensures { result ≡ self.now.space.memory.process }
+    {
+        self.space.process()
+    }
+
+    /// Whether it was started from this image and this input.
+    pub fn started_from(&self, image: &Image, input: &[u8]) -> bool
+        ensures same { OnTrue result ((image.now ≡ self.now.space.image) × (input.now ≡ self.now.space.input)) }
+        ensures different { OnFalse result (image.now ≡ self.now.space.image → input.now ≢ self.now.space.input) }
+    {
+        self.space.started_from(image, input)
+    }
+
+    /// The byte that the memory shows at an address, wherever its page is: the flat process's, if slots are honest. No page
+    /// is brought in, and no hart's use of it is marked.
+    pub fn peek(&mut self, address: u32) -> Result<u8, PeekFault>
+        ensures { Peeks S.content S.honest S.failures address result self.old self.new }
+    {
+        self.space.peek(address)
+    }
+
+    /// What was written, to be kept.
+    pub fn into_output(self) -> Vec<u8>
+        ensures exact { result.items ≡ self.space.running.environment.output }
+        ensures flat { OfFlat S.honest (λ flat. result.items ≡ flat.environment.output) self }
+    {
+        self.coherent();
+        self.space.into_output()
+    }
+}

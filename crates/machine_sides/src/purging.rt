@@ -1,0 +1,125 @@
+ghost use Rattle.std.specs.Prelude.{◌≡◌, IsSome};
+ghost use Rattle.machine_sides.specs.Purging.{Purges, GivesBack, Frees, Pools, is_saving_any, purge_bars};
+
+use crate::pager_side::PagerSide;
+use crate::process_side::ProcessSide;
+use clock_policy::Clock;
+use frame_pool::Frame;
+use pager_core::Pager;
+use space_core::Space;
+use std::sync::ledger::Ledger;
+use swap_slots::{SlotPool, SwapSlot};
+use thiserror::Error;
+
+/// Why a process gives nothing back, in the order in which the reasons are tested.
+#[derive(Clone, Copy, PartialEq, Eq, Debug, Error)]
+pub enum PurgeRefusal {
+    #[error("the process has not ended")]
+    NotEnded,
+    #[error("a page of the process is being saved")]
+    SavingStill,
+    #[error("the process has given its pages back")]
+    AlreadyPurged,
+}
+
+/// What came of the pages of an ended process.
+#[derive(Drop)]
+pub enum Purging<L: Ledger, S: SwapSlot> {
+    /// The process has given everything back.
+    Done,
+    /// Nothing has changed.
+    Refused(PurgeRefusal),
+    /// All frames of the pager are free, or all slots are in their pool: what the last page gave is another's, and comes back.
+    /// The list is as it was, and pages that are left go on with the next call.
+    HandedBack {
+        frame: Option<Frame<L>>,
+        slot: Option<S>,
+    },
+}
+
+/// An ended process gives its frames and slots back, and the list forgets its pages.
+pub fn purge<L: Ledger, S: SwapSlot, C: Clock>(
+    pager: &mut PagerSide<L, C>,
+    process: &mut ProcessSide<L, S>,
+    slots: &mut SlotPool<S>,
+) -> Purging<L, S>
+    ensures { Purges pager.old pager.new process.old process.new slots.old slots.new result }
+{
+    if let Some(refusal) = purge_bars(process) {
+        return Purging::Refused(refusal);
+    }
+    let left = give_all_back(&mut pager.pager, &mut process.space, slots);
+    if let Some((frame, slot)) = left {
+        return Purging::HandedBack { frame, slot };
+    }
+    pager.pager.purge(process.space.process());
+    process.purged = true;
+    Purging::Done
+}
+
+/// Why a process gives nothing back.
+#[tactic(auto, unfolding(crate::specs::Purging::purge_bars))]
+pub fn purge_bars<L: Ledger, S: SwapSlot>(process: &ProcessSide<L, S>) -> Option<PurgeRefusal>
+    ensures { result ≡ purge_bars process.now }
+{
+    if process.space.end().is_none() {
+        return Some(PurgeRefusal::NotEnded);
+    }
+    if is_saving(&process.space) {
+        return Some(PurgeRefusal::SavingStill);
+    }
+    if process.purged {
+        return Some(PurgeRefusal::AlreadyPurged);
+    }
+    None
+}
+
+/// Whether a page of a process is being saved.
+#[tactic(auto, using(crate::specs::PurgeLaws::is_saving_some, crate::specs::PurgeLaws::is_saving_none))]
+fn is_saving<L: Ledger, S: SwapSlot>(space: &Space<L, S>) -> bool
+    ensures { result ≡ is_saving_any space.now.memory.pages }
+{
+    space.is_saving()
+}
+
+/// The pages of an ended process give back what they have, until the pager or the pool does not take it.
+fn give_all_back<L: Ledger, S: SwapSlot, C: Clock>(
+    pager: &mut Pager<L, C>,
+    space: &mut Space<L, S>,
+    slots: &mut SlotPool<S>,
+) -> Option<(Option<Frame<L>>, Option<S>)>
+    requires { IsSome space.old.running.ending }
+    ensures { GivesBack result pager.old pager.new slots.old slots.new space.old space.new }
+{
+    while let Some((frame, slot)) = space.take_one() {
+        let frame = free_frame(pager, frame);
+        let slot = pool_slot(slots, slot);
+        if frame.is_some() || slot.is_some() {
+            return Some((frame, slot));
+        }
+    }
+    None
+}
+
+/// A frame comes free, or is handed back where all of the pager's are free.
+fn free_frame<L: Ledger, C: Clock>(
+    pager: &mut Pager<L, C>,
+    frame: Option<Frame<L>>,
+) -> Option<Frame<L>>
+    ensures { Frees frame result pager.old pager.new }
+{
+    match frame {
+        Some(frame) => pager.free(frame).err(),
+        None => None,
+    }
+}
+
+/// A slot comes into the pool, or is handed back where all of its slots are there.
+fn pool_slot<S: SwapSlot>(slots: &mut SlotPool<S>, slot: Option<S>) -> Option<S>
+    ensures { Pools slot result slots.old slots.new }
+{
+    match slot {
+        Some(slot) => slots.give(slot).err(),
+        None => None,
+    }
+}

@@ -1,0 +1,35 @@
+//! A page that could not leave its frame is resident again.
+
+ghost use Rattle.std.specs.Prelude.{◌≡◌, ◌<◌, ◌^◌, true, OnOk, IfErr};
+ghost use Rattle.paged_memory.specs.Leaving.{is_leaving};
+ghost use Rattle.paged_memory.specs.Paged.{page_at, memory_of};
+ghost use Rattle.machine_sides.specs.Returning.{ComesBack, StaysLeaving};
+
+use crate::pager_side::PagerSide;
+use crate::process_side::ProcessSide;
+use clock_policy::{Clock, Key, Refusal};
+use std::sync::ledger::Ledger;
+use swap_slots::SwapSlot;
+
+/// Lists a page that is leaving again, and then maps it again. Where the list does not take it, it is leaving still.
+pub(crate) fn bring_back<L: Ledger, S: SwapSlot, C: Clock>(
+    pager: &mut PagerSide<L, C>,
+    process: &mut ProcessSide<L, S>,
+    vpn: u32,
+) -> Result<(), Refusal>
+    requires small { vpn < 2 ^ 20 }
+    requires leaving { is_leaving (page_at process.old.space.memory.pages vpn) ≡ true }
+    ensures back { OnOk result (ComesBack vpn pager.old pager.new process.old process.new) }
+    ensures refused { IfErr result (StaysLeaving vpn pager.old pager.new process.old process.new) }
+    ensures memory { memory_of S.content process.new.space.memory.pages ≡ memory_of S.content process.old.space.memory.pages }
+{
+    let process_number = process.space.process();
+    pager.pager.restore(Key {
+        process: process_number,
+        vpn,
+    })?;
+    if process.space.bring_back(vpn).is_err() {
+        unreachable!()
+    }
+    Ok(())
+}

@@ -1,0 +1,124 @@
+ghost use Rattle.std.specs.Prelude.{◌≡◌, length, IsErr, IfErr, OnOk, OnErr};
+ghost use Rattle.paged_memory.specs.Paged.{memory_of};
+ghost use Rattle.machine_sides.specs.SavingBack.{is_saving, EndsSave, Ends, FreesFrame};
+
+use crate::pager_side::{PagerSide, tally};
+use crate::process_side::ProcessSide;
+use crate::returning::bring_back;
+use clock_policy::{Clock, Refusal};
+use frame_pool::Frame;
+use page_store::{PageState, SaveRefusal, SavedJob};
+use std::sync::ledger::Ledger;
+use swap_slots::SwapSlot;
+
+/// Why a page that was to be saved keeps its frame.
+#[derive(Clone, Copy, PartialEq, Eq, Debug)]
+pub enum SaveFailure {
+    /// The frame no longer holds the bytes that were copied.
+    Mismatch,
+    /// The device failed when the copy was written.
+    Device,
+}
+
+/// What came of a save that comes back.
+#[derive(Drop)]
+pub enum SaveOutcome<L: Ledger, S: SwapSlot> {
+    /// The page is in its slot, and its frame is free.
+    Freed,
+    /// The page is in its slot. All frames of the pager are free, so that its frame is another pager's, and is handed back.
+    HandedBack(Frame<L>),
+    /// The process has no such page that is being saved. Nothing has changed, and the job comes back.
+    WrongPage(SavedJob<S>),
+    /// The save failed, and the page is resident again, as a changed one.
+    ResidentAgain(SaveFailure),
+    /// The save failed, and the page is leaving again, as a changed one: the list does not take it back.
+    NotRestored {
+        failure: SaveFailure,
+        refusal: Refusal,
+    },
+}
+
+/// Ends the save of a page: its frame comes free where it holds what was saved, and the device passed it. Else the page
+/// is resident again, and listed.
+///
+/// The process is the one of the save's page.
+pub fn saved<L: Ledger, S: SwapSlot, C: Clock>(
+    pager: &mut PagerSide<L, C>,
+    process: &mut ProcessSide<L, S>,
+    job: SavedJob<S>,
+) -> SaveOutcome<L, S>
+    ensures ends { EndsSave job pager.old pager.new process.old process.new result }
+    ensures memory { S.honest → memory_of S.content process.new.space.memory.pages ≡ memory_of S.content process.old.space.memory.pages }
+{
+    let vpn = job.vpn();
+    match process.end_save(job) {
+        SaveEnd::Passed(frame) => match pager.free_saved(frame) {
+            Ok(()) => SaveOutcome::Freed,
+            Err(frame) => SaveOutcome::HandedBack(frame),
+        },
+        SaveEnd::WrongPage(job) => SaveOutcome::WrongPage(job),
+        SaveEnd::Failed(failure) => match bring_back(pager, process, vpn) {
+            Ok(()) => SaveOutcome::ResidentAgain(failure),
+            Err(refusal) => SaveOutcome::NotRestored { failure, refusal },
+        },
+    }
+}
+
+/// What a save that comes back does to its process.
+#[derive(Drop)]
+enum SaveEnd<L: Ledger, S: SwapSlot> {
+    Passed(Frame<L>),
+    WrongPage(SavedJob<S>),
+    Failed(SaveFailure),
+}
+
+impl<L: Ledger, S: SwapSlot> ProcessSide<L, S> {
+    /// Whether a page is being saved.
+    pub fn is_saving(&self, vpn: u32) -> bool
+        ensures { result ≡ is_saving self.now.space vpn }
+    {
+        match self.state(vpn) {
+            Some(PageState::Saving) => true,
+            Some(
+                PageState::Fresh
+                | PageState::Resident
+                | PageState::Leaving
+                | PageState::Away
+                | PageState::Purged,
+            ) => false,
+            None => false,
+        }
+    }
+
+    /// Ends the save of a page of this process.
+    fn end_save(&mut self, job: SavedJob<S>) -> SaveEnd<L, S>
+        ensures ends { Ends job self.old self.new result }
+        ensures memory { S.honest → memory_of S.content self.new.space.memory.pages ≡ memory_of S.content self.old.space.memory.pages }
+    {
+        match self.space.saved(job) {
+            Ok(frame) => SaveEnd::Passed(frame),
+            Err(refusal) => match refusal {
+                SaveRefusal::WrongPage(job) => SaveEnd::WrongPage(job),
+                SaveRefusal::Mismatch => SaveEnd::Failed(SaveFailure::Mismatch),
+                SaveRefusal::Device => SaveEnd::Failed(SaveFailure::Device),
+            },
+        }
+    }
+}
+
+impl<L: Ledger, C: Clock> PagerSide<L, C> {
+    /// The frame of a page that was saved comes free, and is counted. Where all are free it is another pager's, and is
+    /// handed back.
+    fn free_saved(&mut self, frame: Frame<L>) -> Result<(), Frame<L>>
+        ensures freed { OnOk result (FreesFrame frame self.old self.new) }
+        ensures full { IsErr result → length self.old.pager.free ≡ self.old.pager.size }
+        ensures handed_back { IfErr result (λ back. back ≡ frame) }
+        ensures err { OnErr result (self.new ≡ self.old) }
+    {
+        if let Err(frame) = self.pager.free(frame) {
+            return Err(frame);
+        }
+        self.saves = tally(self.saves);
+        Ok(())
+    }
+}

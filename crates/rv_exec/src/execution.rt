@@ -1,7 +1,7 @@
-ghost use Rattle.std.specs.Prelude.{◌≡◌, ◌<◌};
+ghost use Rattle.std.specs.Prelude.{◌≡◌, ◌<◌, false};
 ghost use Rattle.page_memory.specs.Memory.{Memory};
 ghost use Rattle.rv_exec.specs.Line.{line, insn_line, jumped, branched};
-ghost use Rattle.rv_exec.specs.Uses.{pages_used, data_pages};
+ghost use Rattle.rv_exec.specs.Uses.{pages_used, data_pages, uses_data};
 ghost use Rattle.rv_exec.specs.Outcomes.{Follows, UnlessDone, UsesPages, IsPresent};
 
 use crate::accesses::{perform_amo, perform_load, perform_store};
@@ -40,7 +40,7 @@ pub fn execute<B: Bus>(regs: &mut Regs, bus: &mut B) -> Outcome
 
 /// Does what the table says of an instruction that was fetched at pc.
 #[inline(always)]
-#[tactic(auto, unfolding(crate::specs::Line::insn_line, crate::specs::Uses::data_pages))]
+#[tactic(auto, using(crate::specs::LineLaws::no_data_pages), unfolding(crate::specs::Line::insn_line, crate::specs::Uses::data_pages, crate::specs::Uses::uses_data))]
 fn perform<B: Bus>(regs: &mut Regs, bus: &mut B, insn: &Insn) -> Outcome
     ensures line { let line = insn_line regs.old (B.memory bus.old) insn.now in
         Follows line result regs.new (B.memory bus.new) }
@@ -49,6 +49,50 @@ fn perform<B: Bus>(regs: &mut Regs, bus: &mut B, insn: &Insn) -> Outcome
     ensures pages { let used = data_pages regs.old (B.memory bus.old) insn.now in
         UsesPages (B.has bus.old) (B.marks bus.new) (B.lacks bus.old) used result }
     ensures kept { B.keeps bus.old bus.new }
+{
+    match *insn {
+        Insn::Load {
+            kind,
+            rd,
+            rs1,
+            offset,
+        } => {
+            let address = add(regs.read(rs1), offset.word());
+            perform_load(regs, bus, kind, rd, address)
+        }
+        Insn::Store {
+            kind,
+            rs1,
+            rs2,
+            offset,
+        } => {
+            let address = add(regs.read(rs1), offset.word());
+            let word = regs.read(rs2);
+            perform_store(regs, bus, kind, address, word)
+        }
+        Insn::Amo {
+            kind,
+            rd,
+            rs1,
+            rs2,
+            ..
+        } => {
+            let address = regs.read(rs1);
+            let operand = regs.read(rs2);
+            perform_amo(regs, bus, kind, rd, address, operand)
+        }
+        _ => perform_on_registers(regs, insn),
+    }
+}
+
+/// Does what the table says of an instruction that uses no memory, where it was fetched at pc.
+#[inline(always)]
+#[tactic(auto, unfolding(crate::specs::Line::insn_line, crate::specs::Uses::uses_data))]
+fn perform_on_registers(regs: &mut Regs, insn: &Insn) -> Outcome
+    requires { uses_data insn.now ≡ false }
+    ensures line { (memory : Memory) → Follows (insn_line regs.old memory insn.now) result regs.new memory }
+    ensures registers_stay { UnlessDone result (regs.new ≡ regs.old) }
+    ensures present { IsPresent result }
 {
     match *insn {
         Insn::Lui { rd, immediate } => compute(regs, rd, immediate.value() << 12),
@@ -74,25 +118,6 @@ fn perform<B: Bus>(regs: &mut Regs, bus: &mut B, insn: &Insn) -> Outcome
             let taken = branches(kind, regs.read(rs1), regs.read(rs2));
             branch(regs, target, taken)
         }
-        Insn::Load {
-            kind,
-            rd,
-            rs1,
-            offset,
-        } => {
-            let address = add(regs.read(rs1), offset.word());
-            perform_load(regs, bus, kind, rd, address)
-        }
-        Insn::Store {
-            kind,
-            rs1,
-            rs2,
-            offset,
-        } => {
-            let address = add(regs.read(rs1), offset.word());
-            let word = regs.read(rs2);
-            perform_store(regs, bus, kind, address, word)
-        }
         Insn::OpImmediate {
             kind,
             rd,
@@ -117,19 +142,9 @@ fn perform<B: Bus>(regs: &mut Regs, bus: &mut B, insn: &Insn) -> Outcome
         }
         // Execution is sequentially consistent: there is nothing left to order.
         Insn::Fence { .. } => advance(regs),
-        Insn::Amo {
-            kind,
-            rd,
-            rs1,
-            rs2,
-            ..
-        } => {
-            let address = regs.read(rs1);
-            let operand = regs.read(rs2);
-            perform_amo(regs, bus, kind, rd, address, operand)
-        }
         Insn::Ecall => Outcome::Ecall,
         Insn::Ebreak => Outcome::Trap(Cause::Breakpoint, regs.pc()),
+        Insn::Load { .. } | Insn::Store { .. } | Insn::Amo { .. } => unreachable!(),
     }
 }
 

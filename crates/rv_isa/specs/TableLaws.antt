@@ -48,10 +48,10 @@ found_passes p [] k h = cc
 found_passes {K = K} p (x ∷ xs) k h = passes p x k (find p xs) (p x) refl (found_passes {K = K} p xs k) h
 
 -- what a kind that was found makes
-mapped : {K : Type 0} (f : K → Insn) (o : Option K) (insn : Insn) → option_map f o ≡ Some insn
+kind_found : {K : Type 0} (f : K → Insn) (o : Option K) (insn : Insn) → option_map f o ≡ Some insn
     → (k : K) × ((o ≡ Some k) × (f k ≡ insn))
-mapped f None insn h = cc
-mapped f (Some k) insn h = (k, (refl, cc))
+kind_found f None insn h = cc
+kind_found f (Some k) insn h = (k, (refl, cc))
 
 -- the first of two that is there
 either : (a b : Option Insn) (insn : Insn) → option_or a b ≡ Some insn → (a ≡ Some insn) ⊎ (b ≡ Some insn)
@@ -143,7 +143,7 @@ branch_of-agrees : (word : ℕ) (insn : Insn) → bits word 6 0 ≡ 0b1100011 �
     → Agrees word insn
 unfolding branch_of Agrees
 branch_of-agrees word insn o h =
-    let (kind, (found, is)) = mapped _ _ insn h in
+    let (kind, (found, is)) = kind_found _ _ insn h in
     subst (Agrees word) is
     (record {
       in_6_0 = o;
@@ -157,7 +157,7 @@ load_of-agrees : (word : ℕ) (insn : Insn) → bits word 6 0 ≡ 0b0000011 → 
     → Agrees word insn
 unfolding load_of Agrees
 load_of-agrees word insn o h =
-    let (kind, (found, is)) = mapped _ _ insn h in
+    let (kind, (found, is)) = kind_found _ _ insn h in
     subst (Agrees word) is
     (record {
       in_6_0 = o;
@@ -172,7 +172,7 @@ store_of-agrees : (word : ℕ) (insn : Insn) → bits word 6 0 ≡ 0b0100011 →
     → Agrees word insn
 unfolding store_of Agrees
 store_of-agrees word insn o h =
-    let (kind, (found, is)) = mapped _ _ insn h in
+    let (kind, (found, is)) = kind_found _ _ insn h in
     subst (Agrees word) is
     (record {
       in_6_0 = o;
@@ -186,7 +186,7 @@ shift_of-agrees : (word : ℕ) (insn : Insn) → bits word 6 0 ≡ 0b0010011 →
     → Agrees word insn
 unfolding shift_of Agrees
 shift_of-agrees word insn o h =
-    let (kind, (found, is)) = mapped _ _ insn h in
+    let (kind, (found, is)) = kind_found _ _ insn h in
     let codes = shift_kind-code _ _ kind found in
     subst (Agrees word) is
     (record {
@@ -204,7 +204,7 @@ op_immediate_of-agrees : (word : ℕ) (insn : Insn) → bits word 6 0 ≡ 0b0010
 unfolding op_immediate_of Agrees
 op_immediate_of-agrees word insn o h =
     elim (either _ (shift_of word) insn h) [
-      | inl one ↦ (let (kind, (found, is)) = mapped _ _ insn one in
+      | inl one ↦ (let (kind, (found, is)) = kind_found _ _ insn one in
           subst (Agrees word) is
           (record {
             in_6_0 = o;
@@ -219,7 +219,7 @@ op_immediate_of-agrees word insn o h =
 op_of-agrees : (word : ℕ) (insn : Insn) → bits word 6 0 ≡ 0b0110011 → op_of word ≡ Some insn → Agrees word insn
 unfolding op_of Agrees
 op_of-agrees word insn o h =
-    let (kind, (found, is)) = mapped _ _ insn h in
+    let (kind, (found, is)) = kind_found _ _ insn h in
     let codes = op_kind-code _ _ kind found in
     subst (Agrees word) is
     (record {
@@ -247,7 +247,7 @@ amo_of-agrees : (word : ℕ) (insn : Insn) → bits word 6 0 ≡ 0b0101111 → a
     → Agrees word insn
 unfolding amo_of Agrees
 amo_of-agrees word insn o h =
-    let (kind, (found, is)) = mapped _ _ insn h in
+    let (kind, (found, is)) = kind_found _ _ insn h in
     let codes = amo_kind-code _ _ kind found in
     subst (Agrees word) is
     (record {

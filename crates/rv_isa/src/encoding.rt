@@ -55,13 +55,9 @@ fn word_of(insn: Insn) -> u32
             rs1,
             amount,
         } => { r_format(0b001_0011, shift_code(kind), rd, rs1, amount.value()) }
-        Insn::Op { kind, rd, rs1, rs2 } => r_format(
-            0b011_0011,
-            op_code(kind),
-            rd,
-            rs1,
-            rs2.index(),
-        ),
+        Insn::Op { kind, rd, rs1, rs2 } => {
+            r_format(0b011_0011, op_code(kind), rd, rs1, rs2.index())
+        }
         Insn::Fence { bits, rd, rs1 } => fence_format(0b000_1111, bits, rd, rs1),
         Insn::Amo {
             kind,

@@ -6,5 +6,6 @@ pub mod Lines
 pub mod NumberLaws
 pub mod Numbers
 pub mod Readings
+pub mod Spellings
 pub mod TokenLaws
 pub mod Tokens

@@ -6,22 +6,8 @@ use Rattle.asm_lines.specs.declared.bytes.ByteClass.TheVariants.{Word}
 use Rattle.asm_lines.specs.declared.bytes.TextStep.TheVariants.{Closes, Belongs}
 use Rattle.asm_lines.specs.declared.token.Token.TheVariants as token
 use Rattle.asm_lines.specs.Bytes.{class_of, is_name_byte, is_text_byte, is_escape, text_step}
+use Rattle.asm_lines.specs.Spellings.{AllOfNames, EndsNames, IsText, empty, plain, escape}
 use Rattle.asm_lines.specs.Tokens.{InWord, InText, tokens_of, tokens_from, followed, word_token}
-
--- each byte may stand in a name
-abbrev pub AllOfNames : List ℕ → Type 0
-AllOfNames bytes = AllByRecursion (λ byte. is_name_byte byte ≡ true) bytes
-
--- what follows goes on with no name
-abbrev pub EndsNames : List ℕ → Type 0
-EndsNames [] = ⊤
-EndsNames (byte ∷ bytes) = is_name_byte byte ≡ false
-
--- what may stand between quotes: printed characters and spaces but for `"` and `\`, and escapes, each behind a `\`
-pub data IsText : List ℕ → Type 0 where
-  empty : IsText []
-  plain : (byte : ℕ) (text : List ℕ) → is_text_byte byte ≡ true → byte ≢ 34 → byte ≢ 92 → IsText text → IsText (byte ∷ text)
-  escape : (byte : ℕ) (text : List ℕ) → is_escape byte ≡ true → IsText text → IsText (92 ∷ byte ∷ text)
 
 append_nil : (xs : List ℕ) → xs ++ [] ≡ xs
 append_nil [] = refl

@@ -5,7 +5,7 @@ ghost use Rattle.std.specs.Prelude.{◌≡◌, ◌≤◌, pos, neg_ℤ, ℕ, Lis
 ghost use Rattle.asm_lines.specs.Numbers.{number_of, too_large};
 ghost use Rattle.asm_lines.specs.Bytes.{class_of};
 ghost use Rattle.asm_lines.specs.Tokens.{tokens_of, followed, word_token};
-ghost use Rattle.asm_lines.specs.TokenLaws.{AllOfNames, EndsNames, IsText};
+ghost use Rattle.asm_lines.specs.Spellings.{AllOfNames, EndsNames, IsText};
 ghost use Rattle.asm_lines.specs.declared.bytes.ByteClass.TheVariants.{Word};
 ghost use Rattle.asm_lines.specs.declared.token.Token.TheVariants as token;
 

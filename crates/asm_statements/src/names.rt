@@ -3,8 +3,8 @@ ghost use Rattle.std.specs.Option.{option_copied};
 ghost use Rattle.std.specs.Str.{bytes_eq};
 ghost use Rattle.asm_statements.specs.Names.{named};
 
-/// The first entry of a table that has a name.
-fn entry_of<'a, 'b, T>(table: &'a [(&'b [u8], T)], name: &[u8]) -> Option<&'a (&'b [u8], T)>
+/// The first row of a table that has a name.
+fn row_of<'a, 'b, T>(table: &'a [(&'b [u8], T)], name: &[u8]) -> Option<&'a (&'b [u8], T)>
     ensures { option_copied result ≡ find (λ entry. bytes_eq entry.0.now name.now) table.now }
 {
     table.iter().find(|entry| entry.0 == name)
@@ -15,6 +15,6 @@ fn entry_of<'a, 'b, T>(table: &'a [(&'b [u8], T)], name: &[u8]) -> Option<&'a (&
 pub(crate) fn look_up<T: Copy>(table: &[(&[u8], T)], name: &[u8]) -> Option<T>
     ensures { result ≡ named (map (λ entry. (entry.0.now, entry.1)) table.now) name.now }
 {
-    let entry = entry_of(table, name)?;
-    Some(entry.1)
+    let row = row_of(table, name)?;
+    Some(row.1)
 }

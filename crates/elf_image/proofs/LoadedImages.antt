@@ -42,16 +42,16 @@ count_loaded : (file : List ℕ) (loaded : List ProgramHeader) → length (loade
 unfolding loaded_pages
 count_loaded file loaded = length-map (touched_pages loaded) (loaded_page file loaded)
 
-number_at : (file : List ℕ) (loaded : List ProgramHeader) (k : ℕ) (d : ImagePage) → k < length (touched_pages loaded) → (get_or (loaded_pages file loaded) k d).number ≡ get_or (touched_pages loaded) k 0
+touched_number : (file : List ℕ) (loaded : List ProgramHeader) (k : ℕ) (d : ImagePage) → k < length (touched_pages loaded) → (get_or (loaded_pages file loaded) k d).number ≡ get_or (touched_pages loaded) k 0
 unfolding loaded_pages loaded_page
-number_at file loaded k d within = ap (λ (p : ImagePage). p.number) (get_or-map (loaded_page file loaded) (touched_pages loaded) k 0 d within)
+touched_number file loaded k d within = ap (λ (p : ImagePage). p.number) (get_or-map (loaded_page file loaded) (touched_pages loaded) k 0 d within)
 
 loaded_low : (file : List ℕ) (loaded : List ProgramHeader) → too_high (loaded_pages file loaded) ≡ false
 unfolding too_high
 loaded_low file loaded =
     list_any_none (λ (listed : ImagePage). leb 458752 listed.number) (loaded_pages file loaded) (λ k d within.
     let below : k < length (touched_pages loaded) = subst (λ n. k < n) (count_loaded file loaded) within in
-    under (get_or (loaded_pages file loaded) k d).number (get_or (touched_pages loaded) k 0) (number_at file loaded k d below) (touched_low loaded k 0 below))
+    under (get_or (loaded_pages file loaded) k d).number (get_or (touched_pages loaded) k 0) (touched_number file loaded k d below) (touched_low loaded k 0 below))
   where
     under : (n m : ℕ) → n ≡ m → m < 458752 → leb 458752 n ≡ false
     under n m e h = grind (arith, nat_tests)
@@ -59,8 +59,8 @@ loaded_low file loaded =
 loaded_rise : (file : List ℕ) (loaded : List ProgramHeader) → rising (loaded_pages file loaded) ≡ true
 loaded_rise file loaded = rises (loaded_pages file loaded) (λ k m d next within.
     let below : m < length (touched_pages loaded) = subst (λ n. m < n) (count_loaded file loaded) within in
-    let one = number_at file loaded k d (omega arith) in
-    let other = number_at file loaded m d below in
+    let one = touched_number file loaded k d (omega arith) in
+    let other = touched_number file loaded m d below in
     let up : get_or (touched_pages loaded) k 0 < get_or (touched_pages loaded) (k + 1) 0 = touched_rise loaded k (omega arith) in
     let at : get_or (touched_pages loaded) m 0 ≡ get_or (touched_pages loaded) (k + 1) 0 = ap (λ n. get_or (touched_pages loaded) n 0) next in
     omega arith)

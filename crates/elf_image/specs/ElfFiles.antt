@@ -5,6 +5,7 @@ use Rattle.std.specs.Prelude.{ℕ, ◌+◌, ◌-◌, ◌*◌, ◌==◌, nat_lt, 
 use Rattle.std.specs.List.{list_any, filter, range_with_len}
 use Rattle.std.specs.Option.{option_or}
 use Rattle.byteorder.specs.Endian.{little_number}
+use Rattle.page_memory.specs.MemoryMap.{image_end, image_end_page, most_image_pages, most_image_regions}
 use Rattle.page_memory.specs.declared.rights.Rights.{Rights}
 use Rattle.elf_image.specs.declared.image.ImagePage.{ImagePage}
 use Rattle.elf_image.specs.declared.program_header.ProgramHeader.{ProgramHeader}
@@ -91,9 +92,9 @@ overlap (one ∷ rest) = list_any (share_address one) rest || overlap rest
 abbrev pub touches : ℕ → ProgramHeader → Bool
 touches page segment = meet segment.address (end_of segment) (4096 * page) (4096 * page + 4096)
 
--- how many pages lie below 0x70000000
+-- how many pages lie below the end of images
 unfoldable pub page_count : ℕ
-page_count = 458752
+page_count = image_end_page
 
 -- the numbers of the pages that segments touch, rising
 unfoldable pub touched_pages : List ProgramHeader → List ℕ
@@ -181,9 +182,9 @@ is_out_of_file size header = nat_lt 0 header.file_size && nat_lt size (header.of
 abbrev pub is_larger_in_file : ProgramHeader → Bool
 is_larger_in_file header = nat_lt header.memory_size header.file_size
 
--- 11: the segment has an address at or above 0x70000000
+-- 11: the segment has an address at or above the end of images
 abbrev pub is_out_of_range : ProgramHeader → Bool
-is_out_of_range header = nat_lt 0 header.memory_size && nat_lt 0x7000_0000 (end_of header)
+is_out_of_range header = nat_lt 0 header.memory_size && nat_lt image_end (end_of header)
 
 -- the tests of the ELF header, and the first fault that they find
 abbrev pub header_tests : List ℕ → List (Bool × ElfFault)
@@ -212,13 +213,13 @@ program_tests file =
 unfoldable pub program_fault : List ℕ → Option ElfFault
 program_fault file = first_fault (program_tests file)
 
--- the tests of the segments and their pages: two segments share an address, more than 4032 pages are
--- touched, or more than 56 regions of 4 MiB, or the entry lies in no page with X; and the first fault
+-- the tests of the segments and their pages: two segments share an address, too many pages are
+-- touched, or too many regions of 4 MiB, or the entry lies in no page with X; and the first fault
 abbrev pub loading_tests : List ℕ → List (Bool × ElfFault)
 loading_tests file =
     (overlap (segments file), Overlap)
-    ∷ (nat_lt 4032 (length (file_pages file)), TooLarge)
-    ∷ (nat_lt 56 (length (regions (file_pages file))), TooSparse)
+    ∷ (nat_lt most_image_pages (length (file_pages file)), TooLarge)
+    ∷ (nat_lt most_image_regions (length (regions (file_pages file))), TooSparse)
     ∷ (not (entered (entry_of file) (file_pages file)), EntryNotExecutable)
     ∷ []
 

@@ -1,9 +1,10 @@
--- Images: an entry, and pages with rights by rising number, below 0x70000000.
-use Rattle.std.specs.Prelude.{ℕ, ◌+◌, ◌-◌, ◌*◌, ◌/◌, ◌<◌, ◌≤◌, List, ◌++◌, length, map, take, drop, replicate, IsTrue, flat_map, slice_index_or, ◌==◌, ◌&&◌}
+-- Images: an entry, and pages with rights by rising number.
+use Rattle.std.specs.Prelude.{ℕ, ◌+◌, ◌-◌, ◌*◌, ◌/◌, ◌<◌, ◌≤◌, List, ◌++◌, length, map, take, drop, replicate, IsTrue, flat_map, slice_index_or, ◌==◌, ◌&&◌, Bool}
 use Rattle.std.specs.List.{range_with_len, list_any}
 use Rattle.byteorder.specs.Endian.{little_bytes}
 use Rattle.page_memory.specs.Words.{page_number}
-use Rattle.page_memory.specs.Rights.{may}
+use Rattle.page_memory.specs.MemoryMap.{text_start, text_first_page, image_end_page, most_image_pages, most_image_regions}
+use Rattle.page_memory.specs.Rights.{read_execute, may}
 use Rattle.page_memory.specs.declared.rights.Rights.{Rights}
 use Rattle.page_memory.specs.declared.words.Access.TheVariants.{Fetch, Load, Store}
 use Rattle.elf_image.specs.declared.image.ImagePage.{ImagePage}
@@ -17,23 +18,26 @@ pub record ImageContent : Type 0 where
 pub record ArePages (pages : List ImagePage) : Type 0 where
   -- they come by rising number, and so no number twice
   pub rising : (i j : ℕ) (d : ImagePage) → i < j → j < length pages → (slice_index_or pages i d).number < (slice_index_or pages j d).number
-  -- they lie below 0x70000000
-  pub low : (i : ℕ) (d : ImagePage) → i < length pages → (slice_index_or pages i d).number < 458752
-  pub few : length pages ≤ 4032
-  -- they lie in at most 56 regions of 4 MiB
-  pub compact : length (regions pages) ≤ 56
+  -- they lie below the end of images
+  pub low : (i : ℕ) (d : ImagePage) → i < length pages → (slice_index_or pages i d).number < image_end_page
+  pub few : length pages ≤ most_image_pages
+  -- they lie in few regions of 4 MiB
+  pub compact : length (regions pages) ≤ most_image_regions
   -- they have no rights but to read, to write and to execute
   pub plain : (i : ℕ) (d : ImagePage) → i < length pages → (slice_index_or pages i d).page.rights.0 < 8
   -- what may be written may be read
   pub readable : (i : ℕ) (d : ImagePage) → i < length pages → IsTrue (may Store (slice_index_or pages i d).page.rights) → IsTrue (may Load (slice_index_or pages i d).page.rights)
 
+-- the entry lies in a page that may be executed
+abbrev pub lies_in_code : ℕ → List ImagePage → Bool
+lies_in_code entry pages = list_any (λ listed. (listed.number == page_number entry) && may Fetch listed.page.rights) pages
+
 -- what every image keeps
 pub record IsLawful (image : ImageContent) : Type 0 where
   pub pages : ArePages image.pages
-  -- the entry lies in a page that may be executed
-  pub entered : IsTrue (list_any (λ listed. (listed.number == page_number image.entry) && may Fetch listed.page.rights) image.pages)
+  pub entered : IsTrue (lies_in_code image.entry image.pages)
 
--- the most words that fit into 4032 pages
+-- the most words that fit into the pages of an image, 1024 in each
 abbrev pub most_words : ℕ
 most_words = 4128768
 
@@ -47,16 +51,16 @@ filled bytes = bytes ++ replicate (4096 - length bytes) 0
 
 -- the rights to read and to execute
 abbrev pub readable_code : Rights
-readable_code = record { 0 = 5 }
+readable_code = read_execute
 
 -- the k-th page of words: it may be read and executed, and has the 1024 words from word 1024 k on
 abbrev pub word_page : List ℕ → ℕ → ImagePage
-word_page words k = record { number = 16 + k; page = record { rights = readable_code; bytes = filled (bytes_of (take 1024 (drop (1024 * k) words))) } }
+word_page words k = record { number = text_first_page + k; page = record { rights = readable_code; bytes = filled (bytes_of (take 1024 (drop (1024 * k) words))) } }
 
 -- how many pages words need
 abbrev pub word_pages : List ℕ → ℕ
 word_pages words = (length words + 1023) / 1024
 
--- the image of words: they stand from 0x00010000 on, and the first is the entry
+-- the image of words: they stand where text begins, and the first is the entry
 unfoldable pub image_of_words : List ℕ → ImageContent
-image_of_words words = record { entry = 65536; pages = map (word_page words) (range_with_len 0 (word_pages words)) }
+image_of_words words = record { entry = text_start; pages = map (word_page words) (range_with_len 0 (word_pages words)) }

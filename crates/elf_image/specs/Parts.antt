@@ -2,12 +2,13 @@
 use Rattle.std.specs.Prelude.{ℕ, ◌==◌, nat_lt, nat_le, Bool, true, not, ◌&&◌, cond, List, [], ◌∷◌, length, map, Option, Some, None}
 use Rattle.std.specs.List.{list_any}
 use Rattle.page_memory.specs.Words.{page_number}
+use Rattle.page_memory.specs.MemoryMap.{image_end_page, most_image_pages, most_image_regions}
 use Rattle.page_memory.specs.Rights.{may, readable}
 use Rattle.page_memory.specs.declared.words.Access.TheVariants.{Fetch}
 use Rattle.elf_image.specs.declared.image.ImagePage.{ImagePage}
 use Rattle.elf_image.specs.declared.fault.ElfFault.{ElfFault}
 use Rattle.elf_image.specs.declared.fault.ElfFault.TheVariants.{Range, Overlap, TooLarge, TooSparse, EntryNotExecutable}
-use Rattle.elf_image.specs.Image.{ImageContent}
+use Rattle.elf_image.specs.Image.{ImageContent, lies_in_code}
 use Rattle.elf_image.specs.Regions.{regions}
 
 -- a page, which may be read too where it may be written
@@ -18,9 +19,9 @@ readable_page listed = record { number = listed.number; page = record { rights =
 unfoldable pub image_of_parts : ℕ → List ImagePage → ImageContent
 image_of_parts entry pages = record { entry = entry; pages = map readable_page pages }
 
--- a page lies at or above 0x70000000
+-- a page lies at or above the end of images
 unfoldable pub too_high : List ImagePage → Bool
-too_high pages = list_any (λ listed. nat_le 458752 listed.number) pages
+too_high pages = list_any (λ listed. nat_le image_end_page listed.number) pages
 
 -- each number is below the next
 unfoldable pub rising : List ImagePage → Bool
@@ -30,7 +31,7 @@ rising (one ∷ next ∷ rest) = nat_lt one.number next.number && rising (next �
 
 -- the entry lies in a page that may be executed
 unfoldable pub entered : ℕ → List ImagePage → Bool
-entered entry pages = list_any (λ listed. (listed.number == page_number entry) && may Fetch listed.page.rights) pages
+entered entry pages = lies_in_code entry pages
 
 -- the first fault of those whose test holds
 abbrev pub first_fault : List (Bool × ElfFault) → Option ElfFault
@@ -43,8 +44,8 @@ parts_fault entry pages =
     first_fault (
     (too_high pages, Range)
     ∷ (not (rising pages), Overlap)
-    ∷ (nat_lt 4032 (length pages), TooLarge)
-    ∷ (nat_lt 56 (length (regions pages)), TooSparse)
+    ∷ (nat_lt most_image_pages (length pages), TooLarge)
+    ∷ (nat_lt most_image_regions (length (regions pages)), TooSparse)
     ∷ (not (entered entry pages), EntryNotExecutable)
     ∷ []
     )

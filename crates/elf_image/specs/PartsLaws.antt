@@ -3,6 +3,7 @@ use Rattle.std.specs.Prelude.{ℕ, ◌≡◌, ◌+◌, ◌<◌, ◌≤◌, Bool,
 use Rattle.std.proofs.Common.{sym, ap, arith}
 use Rattle.std.proofs.lemmas.Bool.{false≢true}
 use Rattle.std.proofs.lemmas.Bool.Decides.{nat_tests}
+use Rattle.page_memory.specs.MemoryMap.{most_image_pages, most_image_regions}
 use Rattle.elf_image.specs.declared.image.ImagePage.{ImagePage}
 use Rattle.elf_image.specs.declared.fault.ElfFault.{ElfFault}
 use Rattle.elf_image.specs.Parts.{too_high, rising, entered, parts_fault}
@@ -13,8 +14,8 @@ use Rattle.elf_image.specs.RisingLaws.{rises, spread, distinct_none}
 pub record Pass (entry : ℕ) (pages : List ImagePage) : Type 0 where
   pub low : too_high pages ≡ false
   pub up : rising pages ≡ true
-  pub few : length pages ≤ 4032
-  pub compact : length (regions pages) ≤ 56
+  pub few : length pages ≤ most_image_pages
+  pub compact : length (regions pages) ≤ most_image_regions
   pub start : entered entry pages ≡ true
 
 -- where no fault is first, no test holds

@@ -1,6 +1,7 @@
 -- What the tests of program headers leave to be known of each segment.
 use Rattle.std.specs.Prelude.{ℕ, ◌≡◌, ◌≢◌, ◌+◌, ◌<◌, ◌≤◌, ◌==◌, Bool, not, ◌&&◌, nat_lt, bit_and, if◌then◌else◌, List, length}
 use Rattle.std.specs.List.{list_any}
+use Rattle.page_memory.specs.MemoryMap.{image_end, most_image_pages}
 use Rattle.page_memory.specs.declared.rights.Rights.{Rights}
 use Rattle.elf_image.specs.declared.program_header.ProgramHeader.{ProgramHeader}
 use Rattle.elf_image.specs.declared.fault.ElfFault.{ElfFault}
@@ -10,7 +11,7 @@ use Rattle.elf_image.specs.ElfFiles.{end_of, is_load, touched_pages}
 -- a segment that passed them, in a file of so many bytes
 pub record IsSound (size : ℕ) (segment : ProgramHeader) : Type 0 where
   pub full : 0 < segment.memory_size
-  pub low : end_of segment ≤ 0x7000_0000
+  pub low : end_of segment ≤ image_end
   pub shorter : segment.file_size ≤ segment.memory_size
   pub filed : 0 < segment.file_size → segment.offset + segment.file_size ≤ size
 
@@ -31,6 +32,6 @@ given_rights run =
           + (if list_any (has_flag 1) run then 4 else 0));
     }
 
--- a fault that says that segments touch more than 4032 pages, or that memory is wanting
+-- a fault that says that segments touch more pages than an image may have, or that memory is wanting
 abbrev pub TouchTooMany : List ProgramHeader → ElfFault → Type 0
-TouchTooMany loaded fault = fault ≢ NoMemory → (fault ≡ TooLarge) × (4032 < length (touched_pages loaded))
+TouchTooMany loaded fault = fault ≢ NoMemory → (fault ≡ TooLarge) × (most_image_pages < length (touched_pages loaded))

@@ -1,7 +1,10 @@
 //! What bounds an image.
 
-/// The number of the first page that no image may have: that of 0x70000000.
-pub(crate) const END_PAGE: u32 = 0x7_0000;
+/// The first address that no image may have.
+pub(crate) const END_OF_RANGE: u64 = 0x7000_0000;
+
+/// The number of the page that begins there.
+pub(crate) const END_PAGE: u32 = (END_OF_RANGE / 4096) as u32;
 
 /// The most pages that an image may have.
 pub(crate) const MOST_PAGES: usize = 4032;

@@ -1,5 +1,6 @@
 ghost use Rattle.std.specs.Prelude.{◌≡◌, ℕ, ◌+◌, ◌*◌, ◌<◌, ◌≤◌, ◌≢◌, cond, length, map, replicate, IfOk};
 ghost use Rattle.std.specs.List.{All, AllPairs, list_any};
+ghost use Rattle.page_memory.specs.MemoryMap.{image_end_page};
 ghost use Rattle.elf_image.specs.ElfFiles.{end_of, touches, fills, filled_byte, loaded_byte, bytes_between, loaded_page};
 ghost use Rattle.elf_image.specs.Segments.{IsSound, has_flag, given_rights};
 
@@ -20,7 +21,7 @@ pub(crate) fn load_pages(
 ) -> Result<Vec<ImagePage>, AllocError>
     requires sound { All (IsSound (length file.now)) loaded.now }
     requires apart { AllPairs (λ one other. end_of one ≤ other.address) loaded.now }
-    requires low { All (λ number. number < 458752) numbers.now }
+    requires low { All (λ number. number < image_end_page) numbers.now }
     ensures { IfOk result (λ pages. pages.items ≡ map (loaded_page file.now loaded.now) numbers.now) }
 {
     let mut pages = Vec::new(alloc);
@@ -39,7 +40,7 @@ fn load_page(
 ) -> Result<ImagePage, AllocError>
     requires sound { All (IsSound (length file.now)) loaded.now }
     requires apart { AllPairs (λ one other. end_of one ≤ other.address) loaded.now }
-    requires low { number < 458752 }
+    requires low { number < image_end_page }
     ensures { IfOk result (λ page. page ≡ loaded_page file.now loaded.now number) }
 {
     let run = touching(loaded, number);
@@ -69,7 +70,7 @@ fn any_has(run: &[ProgramHeader], flag: u32) -> bool
 /// Writes the bytes of segments to a page of zeros.
 fn fill(file: &[u8], run: &[ProgramHeader], number: u32, page: &mut Page)
     requires sound { All (IsSound (length file.now)) run.now }
-    requires low { number < 458752 }
+    requires low { number < image_end_page }
     requires blank { page.old.bytes ≡ replicate 4096 0 }
     ensures rights { page.new.rights ≡ page.old.rights }
     ensures bytes { page.new.bytes ≡ bytes_between (loaded_byte file.now run.now) (4096 * number) 4096 }
@@ -84,7 +85,7 @@ fn fill(file: &[u8], run: &[ProgramHeader], number: u32, page: &mut Page)
 /// Writes what a segment takes from the file and what lies in a page to that page.
 fn copy(file: &[u8], segment: &ProgramHeader, number: u32, page: &mut Page)
     requires sound { IsSound (length file.now) segment.now }
-    requires low { number < 458752 }
+    requires low { number < image_end_page }
     ensures rights { page.new.rights ≡ page.old.rights }
     ensures bytes { (f : ℕ → ℕ) → page.old.bytes ≡ bytes_between f (4096 * number) 4096 → page.new.bytes ≡ bytes_between (λ address. cond (fills address segment.now) (filled_byte file.now address segment.now) (f address)) (4096 * number) 4096 }
 {

@@ -1,6 +1,8 @@
 ghost use Rattle.std.specs.Prelude.{◌≡◌, ◌+◌, ◌/◌, ◌≤◌, length};
+ghost use Rattle.page_memory.specs.MemoryMap.{image_end};
 ghost use Rattle.elf_image.specs.ElfFiles.{header_at, is_load, is_dynamic, is_out_of_file, is_larger_in_file, is_out_of_range, end_of};
 
+use crate::bounds::END_OF_RANGE;
 use crate::file_header::word_at;
 use crate::format::{DYNAMIC, INTERPRETER, LOAD};
 use page_memory::PAGE_SIZE;
@@ -21,9 +23,6 @@ pub struct ProgramHeader {
     /// `p_flags`.
     pub flags: u32,
 }
-
-/// The first address that no image may have.
-const END_OF_RANGE: u64 = 0x7000_0000;
 
 impl ProgramHeader {
     ghost use Rattle.elf_image.specs.ElfFiles.{header_at, is_load, is_dynamic, is_out_of_file, is_larger_in_file, is_out_of_range, end_of};
@@ -95,7 +94,7 @@ impl ProgramHeader {
 
     /// The number of the first page behind it.
     pub(crate) fn end_page(&self) -> u32
-        requires { end_of self.now ≤ 0x7000_0000 }
+        requires { end_of self.now ≤ image_end }
         ensures { result ≡ (end_of self.now + 4095) / 4096 }
     {
         self.end().div_ceil(PAGE_SIZE as u64) as u32

@@ -1,5 +1,6 @@
 ghost use Rattle.std.specs.Prelude.{◌≡◌, ◌+◌, ◌-◌, ◌/◌, ◌*◌, ◌<◌, ◌≤◌, ◌++◌, length, IfOk, IfErr, OnOk};
 ghost use Rattle.std.specs.List.{All, AllPairs, range_with_len, filter};
+ghost use Rattle.page_memory.specs.MemoryMap.{image_end, image_end_page, most_image_pages};
 ghost use Rattle.elf_image.specs.ElfFiles.{end_of, touches, touched_pages};
 ghost use Rattle.elf_image.specs.Segments.{TouchTooMany};
 
@@ -12,10 +13,10 @@ use std::alloc::{AllocError, Global};
 /// The numbers of the pages that segments touch, by rising number, where these are at most 4032.
 pub(crate) fn touched_pages(alloc: Global, loaded: &[ProgramHeader]) -> Result<Vec<u32>, ElfFault>
     requires full { All (λ segment. 0 < segment.memory_size) loaded.now }
-    requires low { All (λ segment. end_of segment ≤ 0x7000_0000) loaded.now }
+    requires low { All (λ segment. end_of segment ≤ image_end) loaded.now }
     requires apart { AllPairs (λ one other. end_of one ≤ other.address) loaded.now }
     ensures pages { IfOk result (λ touched. touched.items ≡ touched_pages loaded.now) }
-    ensures few { IfOk result (λ touched. length touched.items ≤ 4032) }
+    ensures few { IfOk result (λ touched. length touched.items ≤ most_image_pages) }
     ensures refused { IfErr result (TouchTooMany loaded.now) }
 {
     let mut touched = Vec::new(alloc);
@@ -45,7 +46,7 @@ fn push_range(numbers: &mut Vec<u32>, first: u32, end: u32) -> Result<(), AllocE
 
 /// The segments of a list by address that touch a page: they stand side by side.
 pub(crate) fn touching(loaded: &[ProgramHeader], page: u32) -> &[ProgramHeader]
-    requires low { page < 458752 }
+    requires low { page < image_end_page }
     requires full { All (λ segment. 0 < segment.memory_size) loaded.now }
     requires apart { AllPairs (λ one other. end_of one ≤ other.address) loaded.now }
     ensures { result.now ≡ filter (touches page) loaded.now }

@@ -1,4 +1,5 @@
 ghost use Rattle.std.specs.Prelude.{◌≡◌, ℕ, ◌+◌, ◌*◌, ◌<◌, ◌≤◌, ◌^◌, ◌++◌, [], cond, length, flat_map, slice_index_or, IfOk, OnOk, List};
+ghost use Rattle.page_memory.specs.MemoryMap.{most_image_pages};
 ghost use Rattle.byteorder.specs.Endian.{little_bytes};
 ghost use Rattle.elf_image.specs.Image.{bytes_of};
 ghost use Rattle.elf_image.specs.WrittenFiles.{halves, file_header, flags_of, segment_header, page_bytes, elf_file, file_front, pages_offset, HasRoom};
@@ -139,7 +140,7 @@ fn put_segment_headers(file: &mut Vec<u8>, start: u32, segments: &[Run]) -> Resu
 /// Where the pages' bytes begin in a file of so many program headers.
 #[tactic(auto, unfolding(crate::specs::WrittenFiles::pages_offset))]
 fn offset_of_pages(count: usize) -> usize
-    requires { count ≤ 4032 }
+    requires { count ≤ most_image_pages }
     ensures offset { result ≡ pages_offset count }
     ensures small { result < 2 ^ 24 }
 {
@@ -149,7 +150,7 @@ fn offset_of_pages(count: usize) -> usize
 /// Writes what stands before the pages' bytes into an empty file.
 fn put_front(file: &mut Vec<u8>, entry: u32, segments: &[Run]) -> Result<(), AllocError>
     requires empty { file.old.items ≡ [] }
-    requires few { length segments.now ≤ 4032 }
+    requires few { length segments.now ≤ most_image_pages }
     requires room { (k : ℕ) (d : Run) → k < length segments.now → HasRoom (pages_offset (length segments.now)) (slice_index_or segments.now k d) }
     ensures { OnOk result (file.new.items ≡ file_front entry segments.now) }
 {

@@ -4,6 +4,7 @@ use Rattle.std.specs.Prelude.{ℕ, ◌+◌, ◌-◌, ◌*◌, ◌/◌, ◌^◌, 
 use Rattle.page_memory.specs.declared.fault.MemoryFault.{MemoryFault}
 use Rattle.page_memory.specs.declared.words.Access.TheVariants.{Store}
 use Rattle.page_memory.specs.Words.{page_offset}
+use Rattle.page_memory.specs.MemoryMap.{image_end, most_pages}
 use Rattle.page_memory.specs.Memory.{Memory, usable, copied_out, copied_in, with_zeroed}
 use Rattle.rv_exec.specs.Registers.{Registers, register, with_register, with_pc, next_pc, cleared}
 use Rattle.rv_exec.specs.Line.{computed}
@@ -116,10 +117,10 @@ pages_up_to address = (address + 4095) / 4096
 abbrev pub pages_to_add : Environment → ℕ → ℕ
 pages_to_add env request = pages_up_to request - pages_up_to env.break_at
 
--- it moves up alone, to 0x70000000 at most, and with 4096 pages mapped at most
+-- it moves up alone, no further than an image may reach, and with no more pages than may be mapped
 unfoldable pub is_granted : Environment → ℕ → Bool
 is_granted env request =
-    nat_lt env.break_at request && (nat_le request (7 * 2 ^ 28) && nat_le (env.pages + pages_to_add env request) 4096)
+    nat_lt env.break_at request && (nat_le request image_end && nat_le (env.pages + pages_to_add env request) most_pages)
 
 -- the break that stands is the answer in every case
 abbrev pub moved_break : Registers → Environment → Memory → ℕ → Bool → Effect

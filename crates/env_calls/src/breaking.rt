@@ -1,5 +1,6 @@
 //! The call that moves the break.
 ghost use Rattle.std.specs.Prelude.{◌≡◌, ◌+◌, ◌*◌, ◌^◌, ◌<◌, ◌≤◌, true, Err, IfOk, OnErr};
+ghost use Rattle.page_memory.specs.MemoryMap.{image_end, most_pages};
 ghost use Rattle.rv_exec.specs.Registers.{register};
 ghost use Rattle.env_calls.specs.Calls.{move_break, moved_break, pages_to_add, a0};
 ghost use Rattle.env_calls.specs.Serving.{Serves, TakesMemory};
@@ -39,8 +40,8 @@ fn grant_break<B: Bus>(
     request: u32,
 ) -> Result<Served, ServeStop>
     requires above { env.old.break_at < request }
-    requires low { request ≤ 7 * 2 ^ 28 }
-    requires few { env.old.pages + pages_to_add env.old request ≤ 4096 }
+    requires low { request ≤ image_end }
+    requires few { env.old.pages + pages_to_add env.old request ≤ most_pages }
     ensures served { let effect = moved_break regs.old env.old (B.memory bus.old) request true in
         IfOk result (λ served. Serves effect served regs.new env.new (B.memory bus.new)) }
     ensures regs_stay { OnErr result (regs.new ≡ regs.old) }

@@ -1,5 +1,6 @@
 ghost use Rattle.std.specs.Prelude.{◌≡◌, ◌≤◌, ◌<◌, ◌+◌, ◌*◌, ◌^◌, true, false, [], ◌∷◌, ◌++◌, OnOk, OnErr, length, drop, slice_index_or};
 ghost use Rattle.std.specs.Bool.{OnTrue, OnFalse};
+ghost use Rattle.page_memory.specs.MemoryMap.{image_end_page, most_pages};
 ghost use Rattle.env_calls.specs.Environment.{next_live, any_live};
 ghost use Rattle.env_calls.specs.Calls.{without, is_granted, pages_up_to, pages_to_add};
 
@@ -127,7 +128,7 @@ impl Env {
         ensures granted { result ≡ is_granted self.now request }
         ensures above { OnTrue result (self.now.break_at < request) }
         ensures low { OnTrue result (request ≤ BREAK_LIMIT) }
-        ensures few { OnTrue result (self.now.pages + pages_to_add self.now request ≤ 4096) }
+        ensures few { OnTrue result (self.now.pages + pages_to_add self.now request ≤ most_pages) }
     {
         if request <= self.break_at || request > BREAK_LIMIT {
             return false;
@@ -149,7 +150,7 @@ impl Env {
         requires above { self.now.break_at < request }
         requires low { request ≤ BREAK_LIMIT }
         ensures added { result ≡ pages_to_add self.now request }
-        ensures bound { pages_up_to self.now.break_at + result ≤ 7 * 2 ^ 16 }
+        ensures bound { pages_up_to self.now.break_at + result ≤ image_end_page }
     {
         pages_up_to(request) - pages_up_to(self.break_at)
     }
@@ -172,7 +173,7 @@ impl Env {
 
     /// Moves the break, where that was granted, past so many new pages.
     pub(crate) fn set_break(&mut self, break_at: u32, count: u32)
-        requires { self.old.pages + count ≤ 4096 }
+        requires { self.old.pages + count ≤ most_pages }
         ensures { self.new ≡ record self.old { break_at = break_at; pages = self.old.pages + count } }
     {
         self.break_at = break_at;
@@ -202,7 +203,7 @@ impl Env {
 pub fn pages_up_to(address: u32) -> u32
     requires low { address ≤ BREAK_LIMIT }
     ensures pages { result ≡ pages_up_to address }
-    ensures bound { result ≤ 7 * 2 ^ 16 }
+    ensures bound { result ≤ image_end_page }
 {
     (address + 4095) / 4096
 }

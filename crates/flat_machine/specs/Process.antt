@@ -3,9 +3,11 @@ use Rattle.std.specs.Prelude.{◌≡◌, ℕ, ◌+◌, ◌-◌, ◌*◌, ◌≤�
 use Rattle.std.specs.List.{range_with_len}
 use Rattle.std.specs.FinMap.{from_entries}
 use Rattle.page_memory.specs.Memory.{Page, Memory, zero_page}
+use Rattle.page_memory.specs.MemoryMap.{stack_first_page, stack_page_count, first_stack_pointer}
 use Rattle.rv_exec.specs.Registers.{Registers, cleared, with_register}
 use Rattle.elf_image.specs.declared.image.ImagePage.{ImagePage}
 use Rattle.elf_image.specs.Image.{ImageContent}
+use Rattle.env_calls.specs.Calls.{sp}
 use Rattle.env_calls.specs.Environment.{Environment, any_live}
 use Rattle.env_calls.specs.Effect.{Effect, Runs, Yields, Spawns, Finishes, Exits, Traps}
 use Rattle.env_calls.specs.Step.{effect}
@@ -44,9 +46,9 @@ image_entry listed = (listed.number, listed.page)
 abbrev pub stack_entry : ℕ → ℕ × Page
 stack_entry number = (number, zero_page)
 
--- the pages that a process begins with: its image's, and 64 of stack from 0x7FFC0000 to 0x7FFFFFFF
+-- the pages that a process begins with: its image's, and the stack's
 abbrev pub opening_pages : List ImagePage → List (ℕ × Page)
-opening_pages pages = map image_entry pages ++ map stack_entry (range_with_len 524224 64)
+opening_pages pages = map image_entry pages ++ map stack_entry (range_with_len stack_first_page stack_page_count)
 
 -- the address after a page
 abbrev pub after_page : Option ImagePage → ℕ
@@ -57,15 +59,15 @@ after_page (Some listed) = (listed.number + 1) * 4096
 unfoldable pub first_break : List ImagePage → ℕ
 first_break pages = after_page (slice_get pages (length pages - 1))
 
--- what a process begins as: hart 0 alone, which stands at the entry, with sp 0x7FFFFFF0 and 0 in every other register
+-- what a process begins as: hart 0 alone, which stands at the entry, with its stack pointer and 0 in every other register
 unfoldable pub opening : ImageContent → List ℕ → Process
 opening image input = record {
-  harts = with_register (cleared image.entry) 2 2147483632 ∷ [];
+  harts = with_register (cleared image.entry) sp first_stack_pointer ∷ [];
   environment = record {
     input = input;
     output = [];
     break_at = first_break image.pages;
-    pages = length image.pages + 64;
+    pages = length image.pages + stack_page_count;
     live = true ∷ [];
   };
   memory = from_entries (opening_pages image.pages);

@@ -1,7 +1,9 @@
 ghost use Rattle.std.specs.Prelude.{◌≡◌, ◌++◌, map, IfOk, OnOk};
 ghost use Rattle.std.specs.List.{range_with_len};
 ghost use Rattle.std.specs.FinMap.{from_entries};
+ghost use Rattle.page_memory.specs.MemoryMap.{first_stack_pointer};
 ghost use Rattle.rv_exec.specs.Registers.{cleared, with_register};
+ghost use Rattle.env_calls.specs.Calls.{sp};
 ghost use Rattle.elf_image.specs.Image.{ArePages};
 ghost use Rattle.flat_machine.specs.Process.{opening, first_break, opening_pages, image_entry, stack_entry};
 
@@ -53,7 +55,7 @@ impl FlatProcess {
 
 /// What the first hart of an image begins with.
 pub fn first_registers(entry: u32) -> Regs
-    ensures { result ≡ with_register (cleared entry) 2 2147483632 }
+    ensures { result ≡ with_register (cleared entry) sp first_stack_pointer }
 {
     let mut regs = Regs::new(entry);
     let stack_pointer = Reg::from_index(2);

@@ -1,4 +1,5 @@
 pub mod Words
+pub mod MemoryMap
 pub mod Rights
 pub mod PageIndex
 pub mod Memory

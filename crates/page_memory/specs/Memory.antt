@@ -12,7 +12,7 @@ use Rattle.page_memory.specs.declared.words.Access.{Access}
 use Rattle.page_memory.specs.declared.words.Access.TheVariants.{Fetch, Load, Store}
 use Rattle.page_memory.specs.declared.words.Width.{Width}
 use Rattle.page_memory.specs.Words.{page_number, page_offset, bytes_in}
-use Rattle.page_memory.specs.Rights.{may}
+use Rattle.page_memory.specs.Rights.{read_write, may}
 
 -- a page's rights and its 4096 bytes
 pub record Page : Type 0 where
@@ -95,7 +95,7 @@ byte_at memory address = option_map (λ page. slice_index page.bytes (page_offse
 
 -- a page of zeros that may be read and written
 abbrev pub zero_page : Page
-zero_page = record { rights = record { 0 = 3 }; bytes = replicate 4096 0 }
+zero_page = record { rights = read_write; bytes = replicate 4096 0 }
 
 abbrev pub zeroed_unless : Option Page → Memory → ℕ → Memory
 zeroed_unless None memory number = insert memory number zero_page

@@ -5,6 +5,13 @@ use Rattle.page_memory.specs.declared.rights.Rights.{Rights}
 use Rattle.page_memory.specs.declared.words.Access.{Access}
 use Rattle.page_memory.specs.declared.words.Access.TheVariants.{Fetch, Load, Store}
 
+-- the rights of data and of a stack, and those of code
+abbrev pub read_write : Rights
+read_write = record { 0 = 3 }
+
+abbrev pub read_execute : Rights
+read_execute = record { 0 = 5 }
+
 -- whether a set of rights holds a bit: READ is 1, WRITE is 2, EXECUTE is 4
 abbrev pub has : Rights → ℕ → Bool
 has rights right = bit_and rights.0 right == right

@@ -24,7 +24,8 @@ use Rattle.asm_lines.specs.Forms.{Line}
 use Rattle.asm_statements.specs.Effects.{Effect, Enter, Text as TextEffect, Data as DataEffect}
 use Rattle.asm_lines.specs.Lines.{line_form}
 use Rattle.text_lines.specs.Text.{lines_of}
-use Rattle.rv_asm.specs.Program.{size, section_start}
+use Rattle.page_memory.specs.MemoryMap.{text_start}
+use Rattle.rv_asm.specs.Program.{size, section_start, most_text, most_data}
 use Rattle.rv_asm.specs.LineEffects.{effect_of}
 use Rattle.rv_asm.specs.Listing.{ListingContent, Lists}
 
@@ -86,10 +87,10 @@ pub record HasAddress (items : List Item) (name : List ℕ) (address : ℕ) : Ty
 
 -- ---- programs
 
--- at most 65536 words of text and 1048576 bytes of data
+-- a program is not too long
 pub record Fits (items : List Item) : Type 0 where
-  pub text : size Text items ≤ 262144
-  pub bytes : size Data items ≤ 1048576
+  pub text : size Text items ≤ most_text
+  pub bytes : size Data items ≤ most_data
 
 -- lines have a program
 pub record HasProgram (lines : List (List ℕ)) (section : Section) (items : List Item) : Type 0 where
@@ -130,7 +131,7 @@ pub record TextAt (items front : List Item) (code : Code) (text : List TextWord)
   pub after : List TextWord
   pub stand : text ≡ before ++ (words ++ after)
   pub place : 4 * length before ≡ size Text front
-  pub put : PutsWords items (0x10000 + size Text front) code words
+  pub put : PutsWords items (text_start + size Text front) code words
 
 -- the bytes of a part, behind as many as the parts before it take
 pub record DataAt (items front : List Item) (datum : Datum) (data_bytes : List ℕ) : Type 0 where
@@ -150,8 +151,8 @@ pub record Holds (items : List Item) (text : List TextWord) (bytes : List ℕ) :
 
 -- the entry is where the label `_start` stands, if it stands in the text before its end; else it is where the text begins
 pub record EntersAt (items : List Item) (entry : ℕ) : Type 0 where
-  pub labelled : (front back : List Item) → items ≡ front ++ Label Text (codes "_start") ∷ back → size Text front < size Text items → entry ≡ 0x10000 + size Text front
-  pub unlabelled : ((front back : List Item) → items ≡ front ++ Label Text (codes "_start") ∷ back → size Text front < size Text items → ⊥) → entry ≡ 0x10000
+  pub labelled : (front back : List Item) → items ≡ front ++ Label Text (codes "_start") ∷ back → size Text front < size Text items → entry ≡ text_start + size Text front
+  pub unlabelled : ((front back : List Item) → items ≡ front ++ Label Text (codes "_start") ∷ back → size Text front < size Text items → ⊥) → entry ≡ text_start
 
 -- a source assembles to a listing
 pub record Assembles (source : List ℕ) (listing : ListingContent) : Type 0 where
@@ -178,7 +179,7 @@ pub data LineFault (number : ℕ) (section : Section) (items : List Item) (text 
 -- a part has what it puts
 unfoldable pub HasPut : List Item → List Item → Item → Type 0
 HasPut items front (Label section name) = ⊤
-HasPut items front (InText line code) = (words : List TextWord) × PutsWords items (0x10000 + size Text front) code words
+HasPut items front (InText line code) = (words : List TextWord) × PutsWords items (text_start + size Text front) code words
 HasPut items front (InData line datum) = (bytes : List ℕ) × PutsBytes items datum bytes
 
 -- the label that a part of the text, or of the data, names
@@ -217,7 +218,7 @@ pub data PartFault (items : List Item) (here : ℕ) (item : Item) (line : ℕ) (
 pub data FirstFault (source : List ℕ) (line : ℕ) (kind : FaultKind) : Type 0 where
   in_line : (good : List (List ℕ)) (bad : List ℕ) (below : List (List ℕ)) (section : Section) (items : List Item) → lines_of source ≡ good ++ bad ∷ below → HasProgram good section items → line ≡ length good + 1 → LineFault line section items bad kind → FirstFault source line kind
   no_text : (section : Section) (items : List Item) → HasProgram (lines_of source) section items → size Text items ≡ 0 → line ≡ 0 → kind ≡ Empty → FirstFault source line kind
-  in_part : (section : Section) (items front back : List Item) (item : Item) → HasProgram (lines_of source) section items → 0 < size Text items → items ≡ front ++ item ∷ back → ((above between : List Item) (one : Item) → front ≡ above ++ one ∷ between → HasPut items above one) → PartFault items (0x10000 + size Text front) item line kind → FirstFault source line kind
+  in_part : (section : Section) (items front back : List Item) (item : Item) → HasProgram (lines_of source) section items → 0 < size Text items → items ≡ front ++ item ∷ back → ((above between : List Item) (one : Item) → front ≡ above ++ one ∷ between → HasPut items above one) → PartFault items (text_start + size Text front) item line kind → FirstFault source line kind
 
 -- an error is the first fault of a source, or want of memory
 abbrev pub IsFirstFault : List ℕ → AsmError → Type 0

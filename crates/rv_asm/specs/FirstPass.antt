@@ -12,7 +12,7 @@ use Rattle.asm_lines.specs.Lines.{line_form}
 use Rattle.rv_asm.specs.LineEffects.{effect_of}
 use Rattle.text_lines.specs.Text.{lines_of}
 use Rattle.rv_asm.specs.Steps.{FaultAt, chained, on_line}
-use Rattle.rv_asm.specs.Program.{size, place_of}
+use Rattle.rv_asm.specs.Program.{size, place_of, most_text, most_data}
 
 -- a program so far, and the section to which the next line belongs
 pub record Progress : Type 0 where
@@ -37,7 +37,7 @@ with_labels progress (name ∷ names) = chained (λ more. with_labels more names
 
 -- the most bytes that the text and the data may have
 abbrev pub fits : List Item → Bool
-fits items = nat_le (size Text items) 262144 && nat_le (size Data items) 1048576
+fits items = nat_le (size Text items) most_text && nat_le (size Data items) most_data
 
 -- an item is added for which there must be room
 abbrev pub if_fits : Bool → Progress → Item → Result Progress FaultKind

@@ -1,6 +1,8 @@
 -- What an assembled program is: its entry, its pages, its words and the bytes of its data.
 use Rattle.std.specs.Prelude.{◌≡◌, ℕ, ◌+◌, ◌/◌, ◌==◌, nat_lt, List, ◌++◌, length, map, codes, Option, Some, None, Result, Ok, Err, Bool, true, false}
 use Rattle.page_memory.specs.declared.rights.Rights.{Rights}
+use Rattle.page_memory.specs.Rights.{read_write, read_execute}
+use Rattle.page_memory.specs.MemoryMap.{text_start, text_first_page}
 use Rattle.elf_image.specs.Image.{ImageContent, bytes_of}
 use Rattle.elf_image.specs.BytePages.{pages_of}
 use Rattle.rv_isa.specs.declared.instruction.Insn.{Insn}
@@ -17,22 +19,22 @@ use Rattle.rv_asm.specs.Words.{Spell, instruction_of}
 
 -- the rights of the text's pages: to read and to execute; and of the data's: to read and to write
 abbrev pub text_rights : Rights
-text_rights = record { 0 = 5 }
+text_rights = read_execute
 
 abbrev pub data_rights : Rights
-data_rights = record { 0 = 3 }
+data_rights = read_write
 
 -- the entry: the label `_start`, where it stands in the text before its end; else where the text begins
 abbrev pub entry_if : Bool → ℕ → ℕ
-entry_if true offset = 0x10000 + offset
-entry_if false offset = 0x10000
+entry_if true offset = text_start + offset
+entry_if false offset = text_start
 
 abbrev pub entry_in : ℕ → Section → ℕ → ℕ
 entry_in end Text offset = entry_if (nat_lt offset end) offset
-entry_in end Data offset = 0x10000
+entry_in end Data offset = text_start
 
 abbrev pub entry_at : ℕ → Option Place → ℕ
-entry_at end None = 0x10000
+entry_at end None = text_start
 entry_at end (Some place) = entry_in end place.section place.offset
 
 unfoldable pub entry_of : List Item → ℕ
@@ -55,7 +57,7 @@ unfoldable pub image_of : List Item → List ℕ → List ℕ → ImageContent
 image_of items words bytes =
     record {
       entry = entry_of items;
-      pages = pages_of 16 text_rights (bytes_of words) ++ pages_of (section_start items Data / 4096) data_rights bytes;
+      pages = pages_of text_first_page text_rights (bytes_of words) ++ pages_of (section_start items Data / 4096) data_rights bytes;
     }
 
 -- a listing of an assembly

@@ -1,6 +1,7 @@
 -- A program: labels and what is put into the two sections, in the order of the source; and its addresses.
 use Rattle.std.specs.Prelude.{ℕ, ◌+◌, ◌*◌, ◌/◌, List, [], ◌∷◌, Option, Some, None, option_map, if◌then◌else◌}
 use Rattle.std.specs.Str.{bytes_eq}
+use Rattle.page_memory.specs.MemoryMap.{text_start}
 use Rattle.asm_statements.specs.declared.section.Section.{Section}
 use Rattle.asm_statements.specs.declared.section.Section.TheVariants.{Text, Data}
 use Rattle.asm_statements.specs.Parts.{code_length, datum_length}
@@ -37,10 +38,17 @@ unfoldable pub place_of : List Item → List ℕ → Option Place
 place_of [] name = None
 place_of (item ∷ items) name = place_from item (labelled name item) (place_of items name)
 
--- the address at which a section begins: the text at 0x00010000, the data at the next multiple of 4096 after it
+-- the most bytes that the text may have, 65536 words, and that the data may have
+abbrev pub most_text : ℕ
+most_text = 262144
+
+abbrev pub most_data : ℕ
+most_data = 1048576
+
+-- the address at which a section begins: the text where text begins, the data at the next multiple of 4096 after it
 abbrev pub section_start : List Item → Section → ℕ
-section_start items Text = 0x10000
-section_start items Data = (0x10000 + size Text items + 4095) / 4096 * 4096
+section_start items Text = text_start
+section_start items Data = (text_start + size Text items + 4095) / 4096 * 4096
 
 -- the address of the label of a name
 unfoldable pub address_of : List Item → List ℕ → Option ℕ

@@ -18,6 +18,7 @@ use Rattle.rv_asm.specs.declared.word.TextWord.TheVariants.{Instruction, Plain}
 use Rattle.rv_asm.specs.declared.word.Words.{Words}
 use Rattle.rv_asm.specs.declared.word.Words.TheVariants.{One, Two}
 use Rattle.rv_asm.specs.Steps.{FaultAt, chained, mapped, on_line}
+use Rattle.page_memory.specs.MemoryMap.{text_start}
 use Rattle.rv_asm.specs.Program.{address_of}
 use Rattle.rv_isa.specs.Split.{upper_part, low_part}
 
@@ -75,7 +76,7 @@ datum_bytes address (Zeros count) = Ok (replicate count 0)
 
 -- where the next word of text stands
 abbrev pub next_address : Sections → ℕ
-next_address sections = 0x10000 + 4 * length sections.text
+next_address sections = text_start + 4 * length sections.text
 
 -- the sections with what one more item puts there
 unfoldable pub put : List Item → Sections → Item → Result Sections FaultAt

@@ -1,6 +1,7 @@
 ghost use Rattle.std.specs.Prelude.{◌≡◌, ◌<◌, ◌≤◌, ◌+◌, ◌^◌, ◌==◌, IfOk, IfErr, IfSome, option_map, ℕ, List};
 ghost use Rattle.asm_lines.specs.Faults.{Refuses};
-ghost use Rattle.rv_asm.specs.Program.{place_of, size, address_of, section_start, labelled};
+ghost use Rattle.page_memory.specs.MemoryMap.{text_start};
+ghost use Rattle.rv_asm.specs.Program.{place_of, size, address_of, section_start, labelled, most_text, most_data};
 ghost use Rattle.rv_asm.specs.Listing.{entry_of};
 ghost use Rattle.rv_asm.specs.FirstPass.{no_lines, with_label, with_item};
 ghost use Rattle.asm_statements.specs.declared.section.Section.TheVariants.{Text, Data};
@@ -72,8 +73,8 @@ impl<'a> Program<'a> {
     /// The items, in the order of the source.
     pub(crate) fn items(&self) -> &[Item<'a>]
         ensures items { result.now ≡ self.now.items }
-        ensures text_fits { size Text self.now.items ≤ 262144 }
-        ensures data_fits { size Data self.now.items ≤ 1048576 }
+        ensures text_fits { size Text self.now.items ≤ most_text }
+        ensures data_fits { size Data self.now.items ≤ most_data }
     {
         self.items.as_slice()
     }
@@ -100,7 +101,7 @@ impl<'a> Program<'a> {
     /// The place of a name.
     fn place(&self, name: &[u8]) -> Option<Place>
         ensures place { result ≡ place_of self.now.items name.now }
-        ensures low { IfSome result (λ place. place.offset ≤ 1048576) }
+        ensures low { IfSome result (λ place. place.offset ≤ most_data) }
     {
         self.places.get(name).copied()
     }
@@ -108,7 +109,7 @@ impl<'a> Program<'a> {
     /// The address at which a section begins: the text at 0x00010000, the data at the next multiple of 4096 after it.
     pub(crate) fn start(&self, section: Section) -> u32
         ensures start { result ≡ section_start self.now.items section }
-        ensures below { result ≤ 0x10000 + 262144 + 4096 }
+        ensures below { result ≤ text_start + most_text + 4096 }
     {
         match section {
             Section::Text => TEXT_START,

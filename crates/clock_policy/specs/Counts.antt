@@ -1,8 +1,10 @@
 -- Counting and looking up, in std's words.
 use Rattle.std.specs.Prelude.{◌≡◌, ℕ, suc, ◌+◌, length, Bool, true, false, cond, ◌||◌, Option, Some, None, find, List, [], ◌∷◌, ◌++◌, take, drop, count_by, refl}
 use Rattle.std.specs.List.{list_any}
+use Rattle.std.specs.Option.{option_or}
 use Rattle.std.proofs.Common.{arith, ◌∙◌, add-zero}
 use Rattle.std.proofs.lemmas.List.Recursion.{is_sum_by}
+use Rattle.std.proofs.lemmas.List.Folds.{find-append}
 use Rattle.clock_policy.specs.declared.key.Key.{Key}
 use Rattle.clock_policy.specs.declared.entry.Entry.{Entry}
 use Rattle.clock_policy.specs.declared.entry.EntryKind.TheVariants.{Hot, Test, Cold, Shadow}
@@ -11,34 +13,21 @@ use Rattle.clock_policy.specs.ClockPro.{number, key_of, place_of, round, stays_i
 pub number_is : (p : Entry → Bool) (l : List Entry) → number p l ≡ count_by p l
 number_is p l = is_sum_by (number p) (λ e. cond (p e) 1 0) refl (λ _ _. refl) l
 
--- the first of two values, or else the second
-abbrev pub or_else : {T : Type 0} → Option T → Option T → Option T
-or_else None second = second
-or_else (Some x) second = Some x
-
-pub key_of-find-append : (p : Entry → Bool) (a b : List Entry) → key_of (find p (a ++ b)) ≡ or_else (key_of (find p a)) (key_of (find p b))
+pub key_of-find-append : (p : Entry → Bool) (a b : List Entry) → key_of (find p (a ++ b)) ≡ option_or (key_of (find p a)) (key_of (find p b))
 key_of-find-append p [] b = refl
 key_of-find-append p (e ∷ es) b =
-    elim (p e) as (λ t. key_of (cond t (Some e) (find p (es ++ b))) ≡ or_else (key_of (cond t (Some e) (find p es))) (key_of (find p b))) [
+    elim (p e) as (λ t. key_of (cond t (Some e) (find p (es ++ b))) ≡ option_or (key_of (cond t (Some e) (find p es))) (key_of (find p b))) [
       | true ↦ refl
       | false ↦ key_of-find-append p es b
     ]
 
-pub find-append : (p : Entry → Bool) (a b : List Entry) → find p (a ++ b) ≡ or_else (find p a) (find p b)
-find-append p [] b = refl
-find-append p (e ∷ es) b =
-    elim (p e) as (λ t. cond t (Some e) (find p (es ++ b)) ≡ or_else (cond t (Some e) (find p es)) (find p b)) [
-      | true ↦ refl
-      | false ↦ find-append p es b
-    ]
-
 pub settled_halves : (old new : List Entry) (hand : Option Key) → settled old new hand
-    ≡ or_else (key_of (find (stays_in new) (drop (place_of hand old) old))) (key_of (find (stays_in new) (take (place_of hand old) old)))
+    ≡ option_or (key_of (find (stays_in new) (drop (place_of hand old) old))) (key_of (find (stays_in new) (take (place_of hand old) old)))
 unfolding settled
 settled_halves old new hand = key_of-find-append (stays_in new) (drop (place_of hand old) old) (take (place_of hand old) old)
 
 pub cold_halves : (hand : Option Key) (l : List Entry) → find (λ e. is_cold e.kind) (round (place_of hand l) l)
-    ≡ or_else (find (λ e. is_cold e.kind) (drop (place_of hand l) l)) (find (λ e. is_cold e.kind) (take (place_of hand l) l))
+    ≡ option_or (find (λ e. is_cold e.kind) (drop (place_of hand l) l)) (find (λ e. is_cold e.kind) (take (place_of hand l) l))
 cold_halves hand l = find-append (λ e. is_cold e.kind) (drop (place_of hand l) l) (take (place_of hand l) l)
 
 abbrev pub any_shadow : List Entry → Bool
@@ -65,11 +54,11 @@ pub trimmed_list_else : (i : ℕ) (l : List Entry) → any_shadow (drop i l) ≡
 trimmed_list_else i l h = rw h refl
 
 pub shadow_halves : (i : ℕ) (l : List Entry) → key_of (find (λ e. is_shadow e.kind) (round i l))
-    ≡ or_else (key_of (find (λ e. is_shadow e.kind) (drop i l))) (key_of (find (λ e. is_shadow e.kind) (take i l)))
+    ≡ option_or (key_of (find (λ e. is_shadow e.kind) (drop i l))) (key_of (find (λ e. is_shadow e.kind) (take i l)))
 shadow_halves i l = key_of-find-append (λ e. is_shadow e.kind) (drop i l) (take i l)
 
 pub any_halves : (i : ℕ) (l : List Entry) → key_of (find (λ _. true) (round i l))
-    ≡ or_else (key_of (find (λ _. true) (drop i l))) (key_of (find (λ _. true) (take i l)))
+    ≡ option_or (key_of (find (λ _. true) (drop i l))) (key_of (find (λ _. true) (take i l)))
 any_halves i l = key_of-find-append (λ _. true) (drop i l) (take i l)
 
 -- each entry is hot, cold or a shadow

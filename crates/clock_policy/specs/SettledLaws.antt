@@ -2,12 +2,13 @@
 -- move with the same outcome leaves them.
 use Rattle.std.specs.Prelude.{◌≡◌, suc, Bool, true, false, ◌||◌, cond, Option, Some, None, find, filter, List, [], ◌∷◌, ◌++◌, take, drop, refl}
 use Rattle.std.specs.List.{list_any}
+use Rattle.std.specs.Option.{option_or}
 use Rattle.std.proofs.Common.{arith, sym, ap, ◌∙◌, append_assoc}
+use Rattle.std.proofs.lemmas.List.Folds.{find-append}
 use Rattle.clock_policy.specs.declared.key.Key.{Key}
 use Rattle.clock_policy.specs.declared.entry.Entry.{Entry}
 use Rattle.clock_policy.specs.ClockPro.{has_key, place, round, key_of, settled}
 use Rattle.clock_policy.specs.Residents.{is_key}
-use Rattle.clock_policy.specs.Counts.{or_else}
 use Rattle.clock_policy.specs.AdmitLaws.{one_key}
 
 -- Lists of keys.
@@ -54,16 +55,11 @@ no_of p q less k fails =
       | false ↦ λ is. refl
     ] refl
 
-find-append : (p : Key → Bool) (a b : List Key) → find p (a ++ b) ≡ or_else (find p a) (find p b)
-find-append p [] b = refl
-find-append p (k ∷ ks) b =
-    elim (p k) as (λ t. cond t (Some k) (find p (ks ++ b)) ≡ or_else (cond t (Some k) (find p ks)) (find p b)) [ true ↦ refl | false ↦ find-append p ks b ]
-
-or_none : (a : Option Key) → or_else a None ≡ a
+or_none : (a : Option Key) → option_or a None ≡ a
 or_none None = refl
 or_none (Some k) = refl
 
-or_assoc : (a b c : Option Key) → or_else (or_else a b) c ≡ or_else a (or_else b c)
+or_assoc : (a b c : Option Key) → option_or (option_or a b) c ≡ option_or a (option_or b c)
 or_assoc None b c = refl
 or_assoc (Some k) b c = refl
 
@@ -195,19 +191,19 @@ rest_turned q u v y apart there =
 -- one hand after another
 pub rest_again : (p q : Key → Bool) → Within q p → (u v : List Key) (y : Key) → Apart (u ++ v) → find p (v ++ u) ≡ Some y → rest q (u ++ v) (Some y) ≡ find q (v ++ u)
 rest_again p q less u v y apart h =
-    elim (find p v) as (λ t. find p v ≡ t → or_else t (find p u) ≡ Some y → rest q (u ++ v) (Some y) ≡ find q (v ++ u)) [
+    elim (find p v) as (λ t. find p v ≡ t → option_or t (find p u) ≡ Some y → rest q (u ++ v) (Some y) ≡ find q (v ++ u)) [
       | None ↦ λ is g.
           let here : among u y ≡ true = found_among p u y g in
           let nothing : find q v ≡ None = find_none p q less v is in
           rw (from_left y u v here, before_left y u v here, find-append q (from_key y u ++ v) (before_key y u), find-append q (from_key y u) v, before_found p q less u y g, from_found p q less u y g, find-append q v u, nothing)
-          (or_none (or_else (find q u) None) ∙ or_none (find q u))
+          (or_none (option_or (find q u) None) ∙ or_none (find q u))
       | Some x ↦ λ is g.
           let same : x ≡ y = cc in
           let found : find p v ≡ Some y = rw (← same) is in
           let there : among v y ≡ true = found_among p v y found in
           let other : among u y ≡ false = apart_left y u v apart there in
           rw (from_right y u v other, before_right y u v other, find-append q (from_key y v) (u ++ before_key y v), find-append q u (before_key y v), before_found p q less v y found, from_found p q less v y found, find-append q v u)
-          (ap (or_else (find q v)) (or_none (find q u)))
+          (ap (option_or (find q v)) (or_none (find q u)))
     ] refl (sym (find-append p v u) ∙ h)
 
 -- the list without what fails a test
@@ -293,7 +289,7 @@ split_key k (q ∷ qs) =
 none_swapped : (p : Key → Bool) (a b : List Key) → find p (a ++ b) ≡ None → find p (b ++ a) ≡ None
 none_swapped p a b h = find-append p b a ∙ swap (find p a) (find p b) (sym (find-append p a b) ∙ h)
   where
-    swap : (x y : Option Key) → or_else x y ≡ None → or_else y x ≡ None
+    swap : (x y : Option Key) → option_or x y ≡ None → option_or y x ≡ None
     swap None None h = refl
     swap None (Some k) h = cc
     swap (Some k) y h = cc

@@ -1,10 +1,11 @@
 -- A walk along the links, from a node on.
 use Rattle.std.specs.Prelude.{◌≡◌, ℕ, zero, suc, ◌+◌, ◌≤◌, ◌<◌, Bool, true, false, ◌==◌, ◌||◌, ◌-◌, nat_lt, cond, find, slice_get, Option, Some, None, List, [], ◌∷◌, ◌++◌, take, drop, length, refl}
+use Rattle.std.specs.Option.{option_or}
 use Rattle.std.proofs.Common.{arith, sym, ap, ◌∙◌, subst, append_assoc, add-one}
+use Rattle.std.proofs.lemmas.List.Folds.{find-append}
 use Rattle.clock_policy.specs.declared.key.Key.{Key}
 use Rattle.clock_policy.specs.declared.entry.Entry.{Entry}
 use Rattle.clock_policy.specs.ClockPro.{number, key_of, place_of, round, asks_hot, asked_entry, is_hot, is_cold, hot_count, cold_count, ClockState}
-use Rattle.clock_policy.specs.Counts.{find-append, or_else}
 use Rattle.page_ring.specs.declared.links.Node.{Node}
 use Rattle.page_ring.specs.Linked.{Cell, Apart, is_at, first_at, last_at}
 use Rattle.page_ring.specs.LinkLaws.{at_self}
@@ -126,7 +127,7 @@ scan_goes_on p cells at node apart there told some fails =
           (subst (λ (n : ℕ). steps_to p (entries_of r) < n) (sym (ap (steps_to p) here ∙ stepped c (entries_of r) not)) (omega arith));
     }
   where
-    or_none : (o : Option Entry) → or_else o None ≡ o
+    or_none : (o : Option Entry) → option_or o None ≡ o
     or_none None = refl
     or_none (Some e) = refl
 

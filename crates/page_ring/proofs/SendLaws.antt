@@ -4,8 +4,8 @@ use Rattle.std.proofs.Common.{sym, ap, ◌∙◌, subst}
 use Rattle.slab.specs.Slab.{Slab, get, slab_len, ContainsKey}
 use Rattle.clock_policy.specs.declared.entry.EntryKind.{EntryKind}
 use Rattle.page_ring.specs.declared.links.Node.{Node}
-use Rattle.page_ring.specs.Linked.{Cell, Circle, is_at, first_at, last_at}
-use Rattle.page_ring.specs.LinkLaws.{Changes, same_at, at_self, or_true, not_same, is_at-append, turned}
+use Rattle.page_ring.specs.Linked.{Changes, Cell, Circle, is_at, first_at, last_at}
+use Rattle.page_ring.specs.LinkLaws.{same_at, at_self, or_true, not_same, is_at-append, turned}
 use Rattle.page_ring.specs.Chain.{Held, KindSet, of_kind, mark_step, turn_step, length_with}
 
 -- what had a node has one after a change

@@ -1,10 +1,10 @@
 -- What a slot that is filled or emptied, and a map beside the slots, tell of pages.
 use Rattle.std.specs.Prelude.{◌≡◌, ◌≢◌, ℕ, ◌<◌, ◌==◌, ◌⊎◌, Bool, true, false, cond, List, length, Option, Some, None, refl}
+use Rattle.std.specs.Option.{option_or}
 use Rattle.std.proofs.Common.{arith, sym, ap, ◌∙◌, inl, inr, length-set, get_or, set}
 use Rattle.std.proofs.lemmas.List.{get_or-set_same, get_or-set_other}
 use Rattle.std.proofs.lemmas.Bool.Decides.{nat_tests}
 use Rattle.clock_policy.specs.declared.key.Key.{Key}
-use Rattle.clock_policy.specs.Counts.{or_else}
 use Rattle.clock_policy.specs.AdmitLaws.{one_key}
 use Rattle.page_ring.specs.declared.places.Place.{Place}
 use Rattle.page_ring.specs.Slots.{same_key, slot_of, held, in_slot}
@@ -27,36 +27,36 @@ Puts f h key w = (k : Key) → h k ≡ cond (same_key key k) w (f k)
 abbrev pub Alone : (Key → Option ℕ) → (Key → Option ℕ) → Type 0
 Alone f g = (k : Key) → f k ≡ None ⊎ g k ≡ None
 
-first_none : (a b : Option ℕ) → or_else a b ≡ None → a ≡ None
+first_none : (a b : Option ℕ) → option_or a b ≡ None → a ≡ None
 first_none None b h = refl
 first_none (Some n) b h = cc
 
-second_none : (a b : Option ℕ) → or_else a b ≡ None → b ≡ None
+second_none : (a b : Option ℕ) → option_or a b ≡ None → b ≡ None
 second_none None b h = h
 second_none (Some n) b h = cc
 
-pub put_first : (f h g : Key → Option ℕ) (key : Key) (n : ℕ) → Puts f h key (Some n) → (k : Key) → or_else (h k) (g k) ≡ cond (same_key key k) (Some n) (or_else (f k) (g k))
+pub put_first : (f h g : Key → Option ℕ) (key : Key) (n : ℕ) → Puts f h key (Some n) → (k : Key) → option_or (h k) (g k) ≡ cond (same_key key k) (Some n) (option_or (f k) (g k))
 put_first f h g key n put k =
-    ap (λ (o : Option ℕ). or_else o (g k)) (put k)
-    ∙ elim (same_key key k) as (λ t. or_else (cond t (Some n) (f k)) (g k) ≡ cond t (Some n) (or_else (f k) (g k))) [ true ↦ refl | false ↦ refl ]
+    ap (λ (o : Option ℕ). option_or o (g k)) (put k)
+    ∙ elim (same_key key k) as (λ t. option_or (cond t (Some n) (f k)) (g k) ≡ cond t (Some n) (option_or (f k) (g k))) [ true ↦ refl | false ↦ refl ]
 
-pub put_first_alone : (f h g : Key → Option ℕ) (key : Key) (n : ℕ) → Puts f h key (Some n) → or_else (f key) (g key) ≡ None → Alone f g → Alone h g
+pub put_first_alone : (f h g : Key → Option ℕ) (key : Key) (n : ℕ) → Puts f h key (Some n) → option_or (f key) (g key) ≡ None → Alone f g → Alone h g
 put_first_alone f h g key n put none alone k =
     elim (same_key key k) as (λ t. same_key key k ≡ t → h k ≡ None ⊎ g k ≡ None) [
       | true ↦ λ is. inr (ap g (sym (keys_same key k is)) ∙ second_none (f key) (g key) none)
       | false ↦ λ is. elim (alone k) as (λ _. h k ≡ None ⊎ g k ≡ None) [ inl e ↦ inl (put k ∙ ap (λ (t : Bool). cond t (Some n) (f k)) is ∙ e) | inr e ↦ inr e ]
     ] refl
 
-pub put_second : (f g h : Key → Option ℕ) (key : Key) (n : ℕ) → Puts g h key (Some n) → or_else (f key) (g key) ≡ None → (k : Key) → or_else (f k) (h k) ≡ cond (same_key key k) (Some n) (or_else (f k) (g k))
+pub put_second : (f g h : Key → Option ℕ) (key : Key) (n : ℕ) → Puts g h key (Some n) → option_or (f key) (g key) ≡ None → (k : Key) → option_or (f k) (h k) ≡ cond (same_key key k) (Some n) (option_or (f k) (g k))
 put_second f g h key n put none k =
-    elim (same_key key k) as (λ t. same_key key k ≡ t → or_else (f k) (h k) ≡ cond t (Some n) (or_else (f k) (g k))) [
+    elim (same_key key k) as (λ t. same_key key k ≡ t → option_or (f k) (h k) ≡ cond t (Some n) (option_or (f k) (g k))) [
       | true ↦ λ is.
           let gone : f k ≡ None = ap f (sym (keys_same key k is)) ∙ first_none (f key) (g key) none in
-          ap (λ (o : Option ℕ). or_else o (h k)) gone ∙ put k ∙ ap (λ (t : Bool). cond t (Some n) (g k)) is
-      | false ↦ λ is. ap (or_else (f k)) (put k ∙ ap (λ (t : Bool). cond t (Some n) (g k)) is)
+          ap (λ (o : Option ℕ). option_or o (h k)) gone ∙ put k ∙ ap (λ (t : Bool). cond t (Some n) (g k)) is
+      | false ↦ λ is. ap (option_or (f k)) (put k ∙ ap (λ (t : Bool). cond t (Some n) (g k)) is)
     ] refl
 
-pub put_second_alone : (f g h : Key → Option ℕ) (key : Key) (n : ℕ) → Puts g h key (Some n) → or_else (f key) (g key) ≡ None → Alone f g → Alone f h
+pub put_second_alone : (f g h : Key → Option ℕ) (key : Key) (n : ℕ) → Puts g h key (Some n) → option_or (f key) (g key) ≡ None → Alone f g → Alone f h
 put_second_alone f g h key n put none alone k =
     elim (same_key key k) as (λ t. same_key key k ≡ t → f k ≡ None ⊎ h k ≡ None) [
       | true ↦ λ is. inl (ap f (sym (keys_same key k is)) ∙ first_none (f key) (g key) none)
@@ -67,18 +67,18 @@ cut : (t : Bool) (a : Option ℕ) → a ≡ None → cond t None a ≡ None
 cut true a h = refl
 cut false a h = h
 
-pub take_first : (f h g : Key → Option ℕ) (key : Key) → Puts f h key None → g key ≡ None → (k : Key) → or_else (h k) (g k) ≡ cond (same_key key k) None (or_else (f k) (g k))
+pub take_first : (f h g : Key → Option ℕ) (key : Key) → Puts f h key None → g key ≡ None → (k : Key) → option_or (h k) (g k) ≡ cond (same_key key k) None (option_or (f k) (g k))
 take_first f h g key put none k =
-    elim (same_key key k) as (λ t. same_key key k ≡ t → or_else (h k) (g k) ≡ cond t None (or_else (f k) (g k))) [
-      | true ↦ λ is. ap (λ (o : Option ℕ). or_else o (g k)) (put k ∙ ap (λ (t : Bool). cond t None (f k)) is) ∙ ap g (sym (keys_same key k is)) ∙ none
-      | false ↦ λ is. ap (λ (o : Option ℕ). or_else o (g k)) (put k ∙ ap (λ (t : Bool). cond t None (f k)) is)
+    elim (same_key key k) as (λ t. same_key key k ≡ t → option_or (h k) (g k) ≡ cond t None (option_or (f k) (g k))) [
+      | true ↦ λ is. ap (λ (o : Option ℕ). option_or o (g k)) (put k ∙ ap (λ (t : Bool). cond t None (f k)) is) ∙ ap g (sym (keys_same key k is)) ∙ none
+      | false ↦ λ is. ap (λ (o : Option ℕ). option_or o (g k)) (put k ∙ ap (λ (t : Bool). cond t None (f k)) is)
     ] refl
 
-pub take_second : (f g h : Key → Option ℕ) (key : Key) → Puts g h key None → f key ≡ None → (k : Key) → or_else (f k) (h k) ≡ cond (same_key key k) None (or_else (f k) (g k))
+pub take_second : (f g h : Key → Option ℕ) (key : Key) → Puts g h key None → f key ≡ None → (k : Key) → option_or (f k) (h k) ≡ cond (same_key key k) None (option_or (f k) (g k))
 take_second f g h key put none k =
-    elim (same_key key k) as (λ t. same_key key k ≡ t → or_else (f k) (h k) ≡ cond t None (or_else (f k) (g k))) [
-      | true ↦ λ is. ap (λ (o : Option ℕ). or_else o (h k)) (ap f (sym (keys_same key k is)) ∙ none) ∙ put k ∙ ap (λ (t : Bool). cond t None (g k)) is
-      | false ↦ λ is. ap (or_else (f k)) (put k ∙ ap (λ (t : Bool). cond t None (g k)) is)
+    elim (same_key key k) as (λ t. same_key key k ≡ t → option_or (f k) (h k) ≡ cond t None (option_or (f k) (g k))) [
+      | true ↦ λ is. ap (λ (o : Option ℕ). option_or o (h k)) (ap f (sym (keys_same key k is)) ∙ none) ∙ put k ∙ ap (λ (t : Bool). cond t None (g k)) is
+      | false ↦ λ is. ap (option_or (f k)) (put k ∙ ap (λ (t : Bool). cond t None (g k)) is)
     ] refl
 
 pub take_first_alone : (f h g : Key → Option ℕ) (key : Key) → Puts f h key None → Alone f g → Alone h g

@@ -1,5 +1,6 @@
 -- An index from a page to its node.
 use Rattle.std.specs.Prelude.{◌≡◌, ◌≤◌, ◌+◌, ◌==◌, ◌&&◌, ◌⊎◌, ℕ, Bool, true, false, cond, List, [], ◌∷◌, ◌++◌, Option, Some, None, refl}
+use Rattle.std.specs.Option.{option_or}
 use Rattle.std.proofs.Common.{arith, sym, ap, ◌∙◌, subst}
 use Rattle.std.proofs.lemmas.Bool.Decides.{nat_tests}
 use Rattle.std.specs.HashMap.{get_by}
@@ -7,7 +8,6 @@ use Rattle.clock_policy.specs.declared.key.Key.{Key}
 use Rattle.clock_policy.specs.declared.entry.Entry.{Entry}
 use Rattle.clock_policy.specs.declared.entry.EntryKind.{EntryKind}
 use Rattle.clock_policy.specs.ClockPro.{has_key, number}
-use Rattle.clock_policy.specs.Counts.{or_else}
 use Rattle.clock_policy.specs.CountLaws.{number-append}
 use Rattle.clock_policy.specs.AdmitLaws.{one_key}
 use Rattle.page_ring.specs.Linked.{Cell}
@@ -30,7 +30,7 @@ Distinct cs = (k : Key) → number (has_key k) (entries_of cs) ≤ 1
 
 -- the node of a page by the index: in its slot, or else in the map
 abbrev pub node_of : Key → Places → Option ℕ
-node_of k p = or_else (in_slot p.slots.items k) (get_by (same_key k) p.others)
+node_of k p = option_or (in_slot p.slots.items k) (get_by (same_key k) p.others)
 
 -- no page is in its slot and in the map
 abbrev pub Parted : Places → Type 0
@@ -57,16 +57,16 @@ number-cells p a b = ap (number p) (entries-append a b) ∙ number-append p (ent
 
 -- Look-ups.
 
-at_of-append : (k : Key) (a b : List Cell) → at_of k (a ++ b) ≡ or_else (at_of k a) (at_of k b)
+at_of-append : (k : Key) (a b : List Cell) → at_of k (a ++ b) ≡ option_or (at_of k a) (at_of k b)
 at_of-append k [] b = refl
 at_of-append k (c ∷ cs) b =
-    elim (has_key k c.entry) as (λ t. cond t (Some c.at) (at_of k (cs ++ b)) ≡ or_else (cond t (Some c.at) (at_of k cs)) (at_of k b)) [ true ↦ refl | false ↦ at_of-append k cs b ]
+    elim (has_key k c.entry) as (λ t. cond t (Some c.at) (at_of k (cs ++ b)) ≡ option_or (cond t (Some c.at) (at_of k cs)) (at_of k b)) [ true ↦ refl | false ↦ at_of-append k cs b ]
 
-or_none : (a : Option ℕ) → or_else a None ≡ a
+or_none : (a : Option ℕ) → option_or a None ≡ a
 or_none None = refl
 or_none (Some n) = refl
 
-or_assoc : (a b c : Option ℕ) → or_else (or_else a b) c ≡ or_else a (or_else b c)
+or_assoc : (a b c : Option ℕ) → option_or (option_or a b) c ≡ option_or a (option_or b c)
 or_assoc None b c = refl
 or_assoc (Some n) b c = refl
 
@@ -86,9 +86,9 @@ at_none k (c ∷ cs) h =
       | false ↦ λ g. let none : number (has_key k) (entries_of cs) ≡ 0 = at_none k cs g in omega (arith, none)
     ] h
 
-swapped : (k : Key) (a b : List Cell) → number (has_key k) (entries_of a) + number (has_key k) (entries_of b) ≤ 1 → or_else (at_of k a) (at_of k b) ≡ or_else (at_of k b) (at_of k a)
+swapped : (k : Key) (a b : List Cell) → number (has_key k) (entries_of a) + number (has_key k) (entries_of b) ≤ 1 → option_or (at_of k a) (at_of k b) ≡ option_or (at_of k b) (at_of k a)
 swapped k a b h =
-    elim (at_of k a) as (λ o. at_of k a ≡ o → or_else o (at_of k b) ≡ or_else (at_of k b) o) [
+    elim (at_of k a) as (λ o. at_of k a ≡ o → option_or o (at_of k b) ≡ option_or (at_of k b) o) [
       | None ↦ λ is. sym (or_none (at_of k b))
       | Some n ↦ λ is. rw (none_at k b (other is)) refl
     ] refl
@@ -129,13 +129,13 @@ remove_at k u v c one =
       | true ↦ λ is.
           let gone : number (has_key k) (entries_of (u ++ v)) + cond (has_key k c.entry) 1 0 ≡ number (has_key k) (entries_of (u ++ c ∷ v)) = remove_number (has_key k) u v c in
           none_at k (u ++ v) (omega (arith, rw is at gone, one))
-      | false ↦ λ is. at_of-append k u v ∙ sym (at_of-append k u (c ∷ v) ∙ ap (λ (t : Bool). or_else (at_of k u) (cond t (Some c.at) (at_of k v))) is)
+      | false ↦ λ is. at_of-append k u v ∙ sym (at_of-append k u (c ∷ v) ∙ ap (λ (t : Bool). option_or (at_of k u) (cond t (Some c.at) (at_of k v))) is)
     ] refl
 
 append_at : (k : Key) (cs : List Cell) (c : Cell) → at_of c.entry.key cs ≡ None → at_of k (cs ++ c ∷ []) ≡ cond (has_key k c.entry) (Some c.at) (at_of k cs)
 append_at k cs c free =
     at_of-append k cs (c ∷ [])
-    ∙ elim (has_key k c.entry) as (λ t. has_key k c.entry ≡ t → or_else (at_of k cs) (cond t (Some c.at) None) ≡ cond t (Some c.at) (at_of k cs)) [
+    ∙ elim (has_key k c.entry) as (λ t. has_key k c.entry ≡ t → option_or (at_of k cs) (cond t (Some c.at) None) ≡ cond t (Some c.at) (at_of k cs)) [
       | true ↦ λ is. rw (none is) refl
       | false ↦ λ is. or_none (at_of k cs)
     ] refl
@@ -212,7 +212,7 @@ index_send look kind u v c h =
     by_halves k u v few =
         let old : number (has_key k) (entries_of (u ++ c ∷ v)) ≡ number (has_key k) (entries_of u) + (cond (has_key k c.entry) 1 0 + number (has_key k) (entries_of v)) = number-cells (has_key k) u (c ∷ v) in
         at_of-append k u (c ∷ v)
-        ∙ ap (or_else (at_of k u)) (at_of-append k (c ∷ []) v ∙ swapped k (c ∷ []) v (omega (arith, old, few)) ∙ sym (at_of-append k v (c ∷ [])))
+        ∙ ap (option_or (at_of k u)) (at_of-append k (c ∷ []) v ∙ swapped k (c ∷ []) v (omega (arith, old, few)) ∙ sym (at_of-append k v (c ∷ [])))
         ∙ sym (at_of-append k u (v ++ c ∷ []))
 
     moved : (u v : List Cell) → Indexes (u ++ c ∷ v) look → Indexes (u ++ (v ++ c ∷ [])) look

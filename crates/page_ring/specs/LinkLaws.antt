@@ -5,7 +5,7 @@ use Rattle.std.proofs.lemmas.Bool.Decides.{nat_tests}
 use Rattle.slab.specs.Slab.{Slab, get}
 use Rattle.clock_policy.specs.declared.entry.Entry.{Entry}
 use Rattle.page_ring.specs.declared.links.Node.{Node}
-use Rattle.page_ring.specs.Linked.{Cell, first_at, last_at, is_at, Apart, Linked, Circle}
+use Rattle.page_ring.specs.Linked.{Cell, first_at, last_at, is_at, Apart, Linked, Circle, Changes, with_next, with_previous}
 
 -- Ways one behind the other.
 
@@ -112,16 +112,6 @@ pub not_same : (cs : List Cell) (m k : ℕ) → is_at cs m ≡ false → is_at c
 not_same cs m k alone there = λ same. let holds : is_at cs m ≡ true = ap (is_at cs) (sym same) ∙ there in cc
 
 -- One node is changed, and every other keeps what it has.
-
-pub record Changes (s t : Slab Node) (at : ℕ) (f : Node → Node) : Type 0 where
-  pub set : (node : Node) → get s at ≡ Some node → get t at ≡ Some (f node)
-  pub others : (k : ℕ) → k ≢ at → get t k ≡ get s k
-
-abbrev pub with_next : ℕ → Node → Node
-with_next n node = record node { next = n }
-
-abbrev pub with_previous : ℕ → Node → Node
-with_previous n node = record node { previous = n }
 
 -- the way's end leads elsewhere
 led_to : (s t : Slab Node) (p : ℕ) (d : Cell) (ds : List Cell) (m n : ℕ) → Apart (d ∷ ds) → Changes s t (last_at p (d ∷ ds)) (with_next n) → Linked s p (d ∷ ds) m → Linked t p (d ∷ ds) n

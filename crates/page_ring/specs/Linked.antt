@@ -1,5 +1,5 @@
 -- A circle by links: cells, each the key of a node with its entry, whose nodes name their neighbours.
-use Rattle.std.specs.Prelude.{◌≡◌, ℕ, Bool, false, ◌==◌, ◌||◌, List, [], ◌∷◌, Some}
+use Rattle.std.specs.Prelude.{◌≡◌, ◌≢◌, ℕ, Bool, false, ◌==◌, ◌||◌, List, [], ◌∷◌, Some}
 use Rattle.slab.specs.Slab.{Slab, get}
 use Rattle.clock_policy.specs.declared.entry.Entry.{Entry}
 use Rattle.page_ring.specs.declared.links.Node.{Node}
@@ -34,3 +34,15 @@ Linked s p (c ∷ cs) n = (get s c.at ≡ Some (record { entry = c.entry; next =
 pub record Circle (s : Slab Node) (cs : List Cell) : Type 0 where
   pub linked : Linked s (last_at 0 cs) cs (first_at cs 0)
   pub apart : Apart cs
+
+-- a node has become this by f, and every other is what it was
+pub record Changes (s t : Slab Node) (at : ℕ) (f : Node → Node) : Type 0 where
+  pub set : (node : Node) → get s at ≡ Some node → get t at ≡ Some (f node)
+  pub others : (k : ℕ) → k ≢ at → get t k ≡ get s k
+
+-- a node with other neighbours
+abbrev pub with_next : ℕ → Node → Node
+with_next n node = record node { next = n }
+
+abbrev pub with_previous : ℕ → Node → Node
+with_previous n node = record node { previous = n }

@@ -3,8 +3,7 @@
 ghost use Rattle.std.specs.Prelude.{◌≡◌, ◌≢◌, ◌+◌, ◌<◌, ◌++◌, ℕ, List, [], ◌∷◌, Some, None, true, false, length, IfOk, ◌≤◌, ◌==◌, cond};
 ghost use Rattle.slab.specs.Slab.{get, slab_len, ContainsKey, HasRoomFor};
 ghost use Rattle.page_ring.specs.declared.links.Node.{Node};
-ghost use Rattle.page_ring.specs.Linked.{Cell, Circle, first_at, last_at, is_at};
-ghost use Rattle.page_ring.specs.LinkLaws.{Changes, with_next, with_previous};
+ghost use Rattle.page_ring.specs.Linked.{Cell, Circle, first_at, last_at, is_at, Changes, with_next, with_previous};
 
 use clock_policy::{Entry, EntryKind};
 use slab::Slab;

@@ -11,7 +11,7 @@ use Rattle.rv_exec.specs.Line.{computed}
 use Rattle.rv_exec.specs.Uses.{page_of_access}
 use Rattle.env_calls.specs.declared.calls.Call.{Call}
 use Rattle.env_calls.specs.declared.calls.Call.TheVariants.{Read, Write, EndHart, EndProcess, Yield, Break, Spawn, HartNumber}
-use Rattle.env_calls.specs.Environment.{Environment, any_live}
+use Rattle.env_calls.specs.Environment.{Environment, most_harts, any_live}
 use Rattle.env_calls.specs.Effect.{Effect, Runs, Yields, Spawns, Finishes, Exits}
 
 -- ---- registers by their names in the calling convention
@@ -156,9 +156,9 @@ spawned regs env memory true =
     Spawns (new_hart regs) (computed regs a0 (length env.live)) (record env { live = env.live ++ true ∷ [] }) memory
 spawned regs env memory false = answers regs env memory no_more_harts
 
--- at most 8 harts are ever started
+-- there is a limit to the harts that are ever started
 unfoldable pub spawn : Registers → Environment → Memory → Effect
-spawn regs env memory = spawned regs env memory (nat_lt (length env.live) 8)
+spawn regs env memory = spawned regs env memory (nat_lt (length env.live) most_harts)
 
 -- ---- the calls
 

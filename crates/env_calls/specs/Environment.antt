@@ -15,6 +15,10 @@ pub record Environment : Type 0 where
   -- of each hart that was started, by its number, whether it is live
   pub live : List Bool
 
+-- how many harts are ever started
+abbrev pub most_harts : ℕ
+most_harts = 8
+
 -- ---- which harts are live, by their marks
 
 abbrev pub is_marked : Bool → Bool

@@ -1,7 +1,7 @@
 ghost use Rattle.std.specs.Prelude.{◌≡◌, ◌≤◌, ◌<◌, ◌+◌, ◌*◌, ◌^◌, true, false, [], ◌∷◌, ◌++◌, OnOk, OnErr, length, drop, slice_index_or};
 ghost use Rattle.std.specs.Bool.{OnTrue, OnFalse};
 ghost use Rattle.page_memory.specs.MemoryMap.{image_end_page, most_pages};
-ghost use Rattle.env_calls.specs.Environment.{next_live, any_live};
+ghost use Rattle.env_calls.specs.Environment.{most_harts, next_live, any_live};
 ghost use Rattle.env_calls.specs.Calls.{without, is_granted, pages_up_to, pages_to_add};
 
 use crate::live_harts::{LiveHarts, is_live, next_live};
@@ -103,7 +103,7 @@ impl Env {
     /// Of each hart that was started, by its number, whether it is live.
     pub fn marks(&self) -> &[bool]
         ensures marks { result.now ≡ self.now.live }
-        ensures few { length self.now.live ≤ 8 }
+        ensures few { length self.now.live ≤ most_harts }
     {
         self.harts.marks()
     }
@@ -182,7 +182,7 @@ impl Env {
 
     /// Starts a hart.
     pub(crate) fn start_hart(&mut self)
-        requires { length self.old.live < 8 }
+        requires { length self.old.live < most_harts }
         ensures { self.new ≡ record self.old { live = self.old.live ++ true ∷ [] } }
     {
         self.harts.start();

@@ -1,7 +1,7 @@
 ghost use Rattle.std.specs.Prelude.{◌≡◌, ◌<◌, ◌≤◌, ◌+◌, ◌∷◌, ◌++◌, [], true, false, length, slice_index_or};
 ghost use Rattle.std.specs.Bool.{OnTrue, OnFalse};
 ghost use Rattle.env_calls.specs.Calls.{without};
-ghost use Rattle.env_calls.specs.Environment.{any_live, least_live_from, next_live};
+ghost use Rattle.env_calls.specs.Environment.{most_harts, any_live, least_live_from, next_live};
 
 use std::marker::Model;
 
@@ -40,14 +40,14 @@ impl LiveHarts {
     /// The marks of the harts that were started.
     pub fn marks(&self) -> &[bool]
         ensures marks { result.now ≡ self.now }
-        ensures few { length self.now ≤ 8 }
+        ensures few { length self.now ≤ most_harts }
     {
         &self.marks[..self.started]
     }
 
     /// Starts a hart.
     pub fn start(&mut self)
-        requires { length self.old < 8 }
+        requires { length self.old < most_harts }
         ensures { self.new ≡ self.old ++ true ∷ [] }
     {
         self.marks[self.started] = true;
@@ -97,7 +97,7 @@ pub fn is_live(marks: &[bool], hart: u32) -> bool
 /// Whose turn it is after a hart: the least live one above it, else the least live one.
 #[tactic(auto, unfolding(crate::specs::Environment::next_live))]
 pub fn next_live(marks: &[bool], hart: u32) -> Option<u32>
-    requires few { length marks.now ≤ 8 }
+    requires few { length marks.now ≤ most_harts }
     ensures turn { result ≡ next_live hart marks.now }
 {
     match least_live_from(marks, hart as usize + 1) {
@@ -109,7 +109,7 @@ pub fn next_live(marks: &[bool], hart: u32) -> Option<u32>
 /// The least live hart from a number on.
 #[tactic(auto, using(crate::proofs::Marks::looking_on))]
 fn least_live_from(marks: &[bool], number: usize) -> Option<u32>
-    requires few { length marks.now ≤ 8 }
+    requires few { length marks.now ≤ most_harts }
     ensures least { result ≡ least_live_from number marks.now }
 {
     for hart in number..marks.len() {
@@ -123,7 +123,7 @@ fn least_live_from(marks: &[bool], number: usize) -> Option<u32>
 /// Whether some hart is live.
 #[tactic(auto, using(crate::proofs::Marks::some_live))]
 fn any_live(marks: &[bool]) -> bool
-    requires few { length marks.now ≤ 8 }
+    requires few { length marks.now ≤ most_harts }
     ensures { result ≡ any_live marks.now }
 {
     least_live_from(marks, 0).is_some()

@@ -8,7 +8,7 @@ use Rattle.rv_exec.specs.Registers.{Registers, cleared, with_register}
 use Rattle.elf_image.specs.declared.image.ImagePage.{ImagePage}
 use Rattle.elf_image.specs.Image.{ImageContent}
 use Rattle.env_calls.specs.Calls.{sp}
-use Rattle.env_calls.specs.Environment.{Environment, any_live}
+use Rattle.env_calls.specs.Environment.{Environment, most_harts, any_live}
 use Rattle.env_calls.specs.Effect.{Effect, Runs, Yields, Spawns, Finishes, Exits, Traps}
 use Rattle.env_calls.specs.Step.{effect}
 use Rattle.flat_machine.specs.declared.end.End.{End}
@@ -33,7 +33,7 @@ is_live hart process = slice_index_or process.environment.live hart false
 -- what every process keeps: each hart that was started has its registers and its mark, and some hart is live
 pub record IsWhole (process : Process) : Type 0 where
   pub marked : length process.harts ≡ length process.environment.live
-  pub few : length process.environment.live ≤ 8
+  pub few : length process.environment.live ≤ most_harts
   pub some : any_live process.environment.live ≡ true
 
 -- ---- the opening

@@ -20,6 +20,7 @@ pub struct FlatProcess {
 
 impl Model for FlatProcess {
     ghost use Rattle.std.specs.Prelude.{◌≤◌, vec_capacity};
+    ghost use Rattle.env_calls.specs.Environment.{most_harts};
     ghost use Rattle.flat_machine.specs.Process.{Process, IsWhole};
     ghost use Rattle.flat_machine.specs.ProcessCode.{process_code};
 
@@ -36,7 +37,7 @@ impl Model for FlatProcess {
 
     ghost invariant = { λ process. record {
       whole : IsWhole (record { harts = process.harts.items; environment = process.env; memory = process.memory; ending = process.end });
-      roomy : 8 ≤ vec_capacity process.harts;
+      roomy : most_harts ≤ vec_capacity process.harts;
     } };
 }
 

@@ -1,5 +1,5 @@
 ghost use Rattle.std.specs.Prelude.{◌≡◌, ◌<◌, ◌≤◌, ◌+◌, ◌*◌, ◌^◌, ◌-◌, [], ◌++◌, ◌∷◌, length, replicate, is_ok, IfOk, OnOk, OnErr};
-ghost use Rattle.flat_machine.specs.Schedule.{written_out, rest_in_last, room, fits, IsJoined};
+ghost use Rattle.flat_machine.specs.Schedule.{written_out, rest_in_last, room, fits, most_turns, IsJoined};
 
 use std::alloc::{AllocError, Global};
 use std::marker::Model;
@@ -32,7 +32,7 @@ pub struct Schedule {
 impl Model for Schedule {
     ghost use Rattle.std.specs.Prelude.{◌≤◌, List, vec_capacity};
     ghost use Rattle.flat_machine.specs.declared.schedule.Turn.{Turn};
-    ghost use Rattle.flat_machine.specs.Schedule.{IsJoined};
+    ghost use Rattle.flat_machine.specs.Schedule.{most_turns, IsJoined};
 
     ghost Value = { List Turn };
 
@@ -40,7 +40,7 @@ impl Model for Schedule {
 
     ghost invariant = { λ schedule. record {
       joined : IsJoined schedule.turns.items;
-      roomy : 1000000 ≤ vec_capacity schedule.turns;
+      roomy : most_turns ≤ vec_capacity schedule.turns;
     } };
 }
 
@@ -94,7 +94,7 @@ impl Schedule {
     pub fn push(&mut self, hart: u32) -> Result<(), ScheduleFull>
         ensures exact { is_ok result ≡ fits self.old hart }
         ensures ok { OnOk result (written_out self.new ≡ written_out self.old ++ hart ∷ []) }
-        ensures full { OnErr result ((length self.old ≡ 1000000) × (rest_in_last self.old hart ≡ 0)) }
+        ensures full { OnErr result ((length self.old ≡ most_turns) × (rest_in_last self.old hart ≡ 0)) }
         ensures err { OnErr result (self.new ≡ self.old) }
     {
         let _ = &self.turns;
@@ -130,7 +130,7 @@ impl Schedule {
     fn begin(&mut self, hart: u32, count: u32)
         requires some { 0 < count }
         requires none { rest_in_last self.old hart ≡ 0 }
-        requires few { length self.old < 1000000 }
+        requires few { length self.old < most_turns }
         ensures recorded { written_out self.new ≡ written_out self.old ++ replicate count hart }
         ensures rest { rest_in_last self.new hart + count ≡ 2 ^ 32 - 1 }
         ensures entries { length self.new ≡ length self.old + 1 }

@@ -12,6 +12,13 @@ use Rattle.sv32_table.specs.declared.fault.WalkFault.TheVariants.{PageFault, Acc
 use Rattle.sv32_table.specs.declared.walk.Place.{Place}
 use Rattle.sv32_table.specs.declared.walk.Leaf.{Leaf as Translation}
 
+-- the number of the physical page in which the root stands, and the other tables behind it; and how many there may be
+abbrev pub root_page : ℕ
+root_page = 0x200000
+
+abbrev pub most_tables : ℕ
+most_tables = 0x200000
+
 -- the word of an index in a table, and 0 where there is none
 unfoldable pub word_in : List (List ℕ) → ℕ → ℕ → ℕ
 word_in tables table index = slice_index (slice_index_or tables table []) index
@@ -22,7 +29,7 @@ with_word tables table index word = slice_set tables table (slice_set (slice_ind
 
 -- the table in the physical page of this number, where there are `count`
 unfoldable pub table_of : ℕ → ℕ → Option ℕ
-table_of count ppn = if nat_le 0x200000 ppn && nat_lt (ppn - 0x200000) count then Some (ppn - 0x200000) else None
+table_of count ppn = if nat_le root_page ppn && nat_lt (ppn - root_page) count then Some (ppn - root_page) else None
 
 -- where a walk ends that went on to a table
 unfoldable pub last_step : ℕ → ℕ → Shape → Result Place WalkFault
@@ -90,7 +97,7 @@ zero_table = replicate 1024 0
 
 -- the tables with a new one behind them, to which this root entry points
 unfoldable pub with_table : List (List ℕ) → ℕ → List (List ℕ)
-with_table tables index = with_word (tables ++ zero_table ∷ []) 0 index (word_of (pointer_entry (0x200000 + length tables)))
+with_table tables index = with_word (tables ++ zero_table ∷ []) 0 index (word_of (pointer_entry (root_page + length tables)))
 
 -- the tables with this page's word written, in a new table where the page has none
 unfoldable pub mapped_from : List (List ℕ) → ℕ → ℕ → Option ℕ → List (List ℕ)
@@ -126,5 +133,5 @@ marked tables vpn change = marked_from tables vpn change (table_for tables vpn)
 -- each table has 1024 words, and there are as many as have a number, the root among them
 pub record IsSized (tables : List (List ℕ)) : Type 0 where
   pub rooted : 1 ≤ length tables
-  pub few : length tables ≤ 0x200000
+  pub few : length tables ≤ most_tables
   pub sized : (table : ℕ) → table < length tables → length (slice_index_or tables table []) ≡ 1024

@@ -4,6 +4,8 @@ use Rattle.std.specs.Prelude.{◌≡◌, ℕ, ◌+◌, ◌*◌, ◌/◌, ◌%◌
 use Rattle.std.specs.Ordering.{nat_cmp}
 use Rattle.std.specs.FinMap.{FinMap, get, insert, from_entries}
 use Rattle.page_memory.specs.declared.words.Access.{Access}
+use Rattle.page_memory.specs.Words.{page_offset}
+use Rattle.sv32_table.specs.Tables.{root_page}
 use Rattle.sv32_table.specs.Entry.{Entry, entry_of, word_of, shape_of, has_reserved, allows, is_aligned, touched}
 use Rattle.sv32_table.specs.declared.pte.Shape.{Shape}
 use Rattle.sv32_table.specs.declared.pte.Shape.TheVariants.{Invalid, Pointer, Leaf}
@@ -21,9 +23,6 @@ vpn_1 address = address / 0x400000
 
 abbrev pub vpn_0 : ℕ → ℕ
 vpn_0 address = address / 0x1000 % 1024
-
-abbrev pub page_offset : ℕ → ℕ
-page_offset address = address % 0x1000
 
 -- what a successful walk comes to: the physical address, the leaf as it is then, and the address of its word, which
 -- alone changes
@@ -101,8 +100,8 @@ rows ppn (table ∷ tables) = row (ppn * 0x1000) table ++ rows (ppn + 1) tables
 
 -- the physical memory that the tables of a process stand for
 unfoldable pub words_of : List (List ℕ) → Words
-words_of tables = from_entries (rows 0x200000 tables)
+words_of tables = from_entries (rows root_page tables)
 
 -- what a call of `walk` gave is what the process comes to, over those words
 unfoldable pub IsTranslation : List (List ℕ) → ℕ → Access → Result Translation WalkFault → List (List ℕ) → Type 0
-IsTranslation old address access result new = Follows (translate (words_of old) 0x200000 address access) (words_of old) result (words_of new)
+IsTranslation old address access result new = Follows (translate (words_of old) root_page address access) (words_of old) result (words_of new)

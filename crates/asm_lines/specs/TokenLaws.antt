@@ -1,11 +1,10 @@
 -- Laws on the tokens of a line, in the language's own terms.
-use Rattle.std.specs.Prelude.{◌≡◌, ◌≢◌, ℕ, List, [], ◌∷◌, ◌++◌, true, false, ◌==◌, Some, ⊤, refl}
-use Rattle.std.specs.List.{AllByRecursion}
+use Rattle.std.specs.Prelude.{◌≡◌, ◌≢◌, ℕ, List, [], ◌∷◌, ◌++◌, true, false, ◌==◌, Some, refl}
 use Rattle.std.proofs.Common.{◌∙◌, ap, append_assoc, rules}
 use Rattle.asm_lines.specs.declared.bytes.ByteClass.TheVariants.{Word}
 use Rattle.asm_lines.specs.declared.bytes.TextStep.TheVariants.{Closes, Belongs}
 use Rattle.asm_lines.specs.declared.token.Token.TheVariants as token
-use Rattle.asm_lines.specs.Bytes.{class_of, is_name_byte, is_text_byte, is_escape, text_step}
+use Rattle.asm_lines.specs.Bytes.{class_of, is_text_byte, is_escape, text_step}
 use Rattle.asm_lines.specs.Spellings.{AllOfNames, EndsNames, IsText, empty, plain, escape}
 use Rattle.asm_lines.specs.Tokens.{InWord, InText, tokens_of, tokens_from, followed, word_token}
 

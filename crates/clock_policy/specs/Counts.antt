@@ -1,5 +1,5 @@
 -- Counting and looking up, in std's words.
-use Rattle.std.specs.Prelude.{◌≡◌, ℕ, suc, ◌+◌, length, Bool, true, false, cond, ◌||◌, Option, Some, None, find, List, [], ◌∷◌, ◌++◌, take, drop, count_by, refl}
+use Rattle.std.specs.Prelude.{◌≡◌, ℕ, suc, ◌+◌, length, Bool, true, false, cond, ◌||◌, Option, Some, find, List, [], ◌∷◌, ◌++◌, take, drop, count_by, refl}
 use Rattle.std.specs.List.{list_any}
 use Rattle.std.specs.Option.{option_or}
 use Rattle.std.proofs.Common.{arith, ◌∙◌, add-zero}

@@ -1,10 +1,8 @@
 -- Images from parts: an entry and pages that come in a list.
-use Rattle.std.specs.Prelude.{ℕ, ◌==◌, nat_lt, nat_le, Bool, true, not, ◌&&◌, cond, List, [], ◌∷◌, length, map, Option, Some, None}
+use Rattle.std.specs.Prelude.{ℕ, nat_lt, nat_le, Bool, true, not, ◌&&◌, cond, List, [], ◌∷◌, length, map, Option, Some, None}
 use Rattle.std.specs.List.{list_any}
-use Rattle.page_memory.specs.Words.{page_number}
 use Rattle.page_memory.specs.MemoryMap.{image_end_page, most_image_pages, most_image_regions}
-use Rattle.page_memory.specs.Rights.{may, readable}
-use Rattle.page_memory.specs.declared.words.Access.TheVariants.{Fetch}
+use Rattle.page_memory.specs.Rights.{readable}
 use Rattle.elf_image.specs.declared.image.ImagePage.{ImagePage}
 use Rattle.elf_image.specs.declared.fault.ElfFault.{ElfFault}
 use Rattle.elf_image.specs.declared.fault.ElfFault.TheVariants.{Range, Overlap, TooLarge, TooSparse, EntryNotExecutable}

@@ -1,6 +1,6 @@
 -- The environment calls, this project's profile: the number is in a7, the answer goes to a0, and pc goes on.
 -- Negative answers are two's complement.
-use Rattle.std.specs.Prelude.{ℕ, ◌+◌, ◌-◌, ◌*◌, ◌/◌, ◌^◌, ◌==◌, ◌&&◌, nat_lt, nat_le, min, Bool, true, false, List, [], ◌∷◌, ◌++◌, length, take, drop, slice_set, Option, Some, None, Result, Ok, Err, if◌then◌else◌}
+use Rattle.std.specs.Prelude.{ℕ, ◌+◌, ◌-◌, ◌/◌, ◌^◌, ◌==◌, ◌&&◌, nat_lt, nat_le, min, Bool, true, false, List, [], ◌∷◌, ◌++◌, length, take, drop, slice_set, Option, Some, None, Result, Ok, Err, if◌then◌else◌}
 use Rattle.page_memory.specs.declared.fault.MemoryFault.{MemoryFault}
 use Rattle.page_memory.specs.declared.words.Access.TheVariants.{Store}
 use Rattle.page_memory.specs.Words.{page_offset}

@@ -11,6 +11,44 @@ use Rattle.command_line.specs.declared.request.RunRequest.{RunRequest}
 use Rattle.command_line.specs.declared.request.Request.{Request}
 use Rattle.command_line.specs.declared.request.Request.TheVariants.{Asm, Flat, Clock, Drive, Run}
 
+-- what numbers are where no option tells them, and their bounds: frames and slots of a machine, instructions of a slice and of a
+-- whole run, threads, images
+abbrev pub usual_frames : ℕ
+usual_frames = 64
+
+abbrev pub least_frames : ℕ
+least_frames = 4
+
+abbrev pub most_frames : ℕ
+most_frames = 4096
+
+abbrev pub usual_slots : ℕ
+usual_slots = 4096
+
+abbrev pub most_slots : ℕ
+most_slots = 65536
+
+abbrev pub usual_slice : ℕ
+usual_slice = 1000
+
+abbrev pub longest_slice : ℕ
+longest_slice = 100000
+
+abbrev pub usual_limit : ℕ
+usual_limit = 100000000
+
+abbrev pub highest_limit : ℕ
+highest_limit = 1000000000
+
+abbrev pub usual_workers : ℕ
+usual_workers = 4
+
+abbrev pub most_workers : ℕ
+most_workers = 64
+
+abbrev pub most_images : ℕ
+most_images = 16
+
 -- a decimal number from `least` to `most`, and nothing else
 abbrev pub IsBetween : ℕ → ℕ → Text → Type 0
 IsBetween least most text = IsUpTo most 10 text × (least ≤ digits_value 10 text)
@@ -26,37 +64,37 @@ IsOption default least most number (Some text) = IsNumberFrom least most number 
 
 -- the files of the images, in their order
 abbrev pub AreImages : List Row → List Text → Type 0
-AreImages rows names = (all_of (codes "image") rows ≡ Some names) × (length names ≤ 16)
+AreImages rows names = (all_of (codes "image") rows ≡ Some names) × (length names ≤ most_images)
 
 -- one thread is asked for; a number of workers may stand beside it, and has to lie in its range
 abbrev pub IsSerial : List Row → Type 0
 IsSerial rows = (first_of (codes "serial") rows ≡ Some (codes "true"))
-    × ((workers : ℕ) × IsOption 4 1 64 workers (first_of (codes "workers") rows))
+    × ((workers : ℕ) × IsOption usual_workers 1 most_workers workers (first_of (codes "workers") rows))
 
 abbrev pub AsksAsm : List Row → AsmRequest → Type 0
 AsksAsm rows request = (first_of (codes "source") rows ≡ Some request.source.now)
     × (first_of (codes "target") rows ≡ Some request.target.now)
 
 abbrev pub AsksFlat : List Row → FlatRequest → Type 0
-AsksFlat rows request = IsOption 100000000 1 1000000000 request.limit (first_of (codes "limit") rows)
+AsksFlat rows request = IsOption usual_limit 1 highest_limit request.limit (first_of (codes "limit") rows)
     × (first_of (codes "input") rows ≡ option_map (λ s. s.now) request.input)
     × (first_of (codes "image") rows ≡ Some request.image.now)
 
 abbrev pub AsksClock : List Row → ClockRequest → Type 0
-AsksClock rows request = IsSomeAnd (first_of (codes "frames") rows) (IsNumberFrom 4 4096 request.frames)
+AsksClock rows request = IsSomeAnd (first_of (codes "frames") rows) (IsNumberFrom least_frames most_frames request.frames)
     × (first_of (codes "script") rows ≡ Some request.script.now)
 
 pub record AsksDrive (rows : List Row) (request : DriveRequest) : Type 0 where
-  pub frames_are : IsOption 64 4 4096 request.frames (first_of (codes "frames") rows)
-  pub slots_are : IsOption 4096 0 65536 request.slots (first_of (codes "slots") rows)
+  pub frames_are : IsOption usual_frames least_frames most_frames request.frames (first_of (codes "frames") rows)
+  pub slots_are : IsOption usual_slots 0 most_slots request.slots (first_of (codes "slots") rows)
   pub script_is : first_of (codes "script") rows ≡ Some request.script.now
   pub images_are : AreImages rows (map (λ s. s.now) request.images.items)
 
 pub record AsksRun (rows : List Row) (request : RunRequest) : Type 0 where
-  pub frames_are : IsOption 64 4 4096 request.frames (first_of (codes "frames") rows)
-  pub slots_are : IsOption 4096 0 65536 request.slots (first_of (codes "slots") rows)
-  pub slice_is : IsOption 1000 1 100000 request.slice (first_of (codes "slice") rows)
-  pub limit_is : IsOption 100000000 1 1000000000 request.limit (first_of (codes "limit") rows)
+  pub frames_are : IsOption usual_frames least_frames most_frames request.frames (first_of (codes "frames") rows)
+  pub slots_are : IsOption usual_slots 0 most_slots request.slots (first_of (codes "slots") rows)
+  pub slice_is : IsOption usual_slice 1 longest_slice request.slice (first_of (codes "slice") rows)
+  pub limit_is : IsOption usual_limit 1 highest_limit request.limit (first_of (codes "limit") rows)
   pub input_is : first_of (codes "input") rows ≡ option_map (λ s. s.now) request.input
   pub serial : IsSerial rows
   pub images_are : AreImages rows (map (λ s. s.now) request.images.items)
@@ -78,17 +116,17 @@ abbrev pub IsFrom : ℕ → ℕ → ℕ → Type 0
 IsFrom least most number = (least ≤ number) × (number ≤ most)
 
 abbrev pub IsFlatInRange : FlatRequest → Type 0
-IsFlatInRange request = IsFrom 1 1000000000 request.limit
+IsFlatInRange request = IsFrom 1 highest_limit request.limit
 
 abbrev pub IsClockInRange : ClockRequest → Type 0
-IsClockInRange request = IsFrom 4 4096 request.frames
+IsClockInRange request = IsFrom least_frames most_frames request.frames
 
 abbrev pub IsDriveInRange : DriveRequest → Type 0
-IsDriveInRange request = IsFrom 4 4096 request.frames × (request.slots ≤ 65536) × (length request.images.items ≤ 16)
+IsDriveInRange request = IsFrom least_frames most_frames request.frames × (request.slots ≤ most_slots) × (length request.images.items ≤ most_images)
 
 abbrev pub IsRunInRange : RunRequest → Type 0
-IsRunInRange request = IsFrom 4 4096 request.frames × (request.slots ≤ 65536) × IsFrom 1 100000 request.slice
-    × IsFrom 1 1000000000 request.limit × (length request.images.items ≤ 16)
+IsRunInRange request = IsFrom least_frames most_frames request.frames × (request.slots ≤ most_slots) × IsFrom 1 longest_slice request.slice
+    × IsFrom 1 highest_limit request.limit × (length request.images.items ≤ most_images)
 
 abbrev pub IsInRange : Request → Type 0
 IsInRange (Asm request) = ⊤

@@ -4,7 +4,7 @@ ghost use Rattle.std.specs.Prelude.{ℕ, ◌≡◌, ◌≤◌, ◌↔◌, IfOk, 
 ghost use Rattle.std.specs.Str.Parse.{digits_value};
 ghost use Rattle.clap.specs.Matches.{found_of};
 ghost use Rattle.clap.specs.Walk.{all_of, first_of, rows_of};
-ghost use Rattle.command_line.specs.Requests.{AreImages, IsBetween, IsOption};
+ghost use Rattle.command_line.specs.Requests.{AreImages, IsBetween, IsOption, usual_limit, highest_limit};
 
 use crate::request::UsageError;
 use clap::ArgMatches;
@@ -68,9 +68,9 @@ pub fn is_given(matches: &ArgMatches<'_>, name: &str) -> bool
 
 /// The most instructions or events that are run.
 pub fn limit(matches: &ArgMatches<'_>) -> Result<u32, UsageError>
-    ensures number { IfOk result (λ number. IsOption 100000000 1 1000000000 number (first_of (codes "limit") (rows_of (found_of matches.now)))) }
-    ensures bad { IsErr result → (number : ℕ) → ¬ IsOption 100000000 1 1000000000 number (first_of (codes "limit") (rows_of (found_of matches.now))) }
-    ensures within { IfOk result (λ number. (1 ≤ number) × (number ≤ 1000000000)) }
+    ensures number { IfOk result (λ number. IsOption usual_limit 1 highest_limit number (first_of (codes "limit") (rows_of (found_of matches.now)))) }
+    ensures bad { IsErr result → (number : ℕ) → ¬ IsOption usual_limit 1 highest_limit number (first_of (codes "limit") (rows_of (found_of matches.now))) }
+    ensures within { IfOk result (λ number. (1 ≤ number) × (number ≤ highest_limit)) }
     ensures refused { IfErr result (λ error. error ≡ UsageError.BadUsage) }
 {
     number_or(matches, "limit", 100_000_000, 1, 1_000_000_000)

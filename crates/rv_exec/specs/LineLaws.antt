@@ -1,11 +1,10 @@
 -- What a hart's next line and the pages that it uses are, by what memory answers to the fetch.
-use Rattle.std.specs.Prelude.{◌≡◌, ℕ, zero, suc, false, List, [], ◌∷◌, Some, None, Result, Ok, Err, All, Contains, IsOk, refl}
+use Rattle.std.specs.Prelude.{◌≡◌, ℕ, zero, suc, List, [], ◌∷◌, Some, None, Result, Ok, Err, All, Contains, IsOk, refl}
 use Rattle.std.proofs.Common.{arith, ap, sym, subst, ◌∙◌}
 use Rattle.page_memory.specs.declared.fault.MemoryFault.{MemoryFault}
 use Rattle.page_memory.specs.Words.{page_number}
 use Rattle.page_memory.specs.Memory.{Memory, fetched}
 use Rattle.rv_isa.specs.declared.instruction.Insn.{Insn}
-use Rattle.rv_isa.specs.declared.instruction.Insn.TheVariants as insn
 use Rattle.rv_isa.specs.Table.{insn_of}
 use Rattle.rv_exec.specs.declared.cause.Cause.TheVariants.{IllegalInstruction}
 use Rattle.rv_exec.specs.Causes.{fetch_cause}
@@ -13,7 +12,7 @@ use Rattle.rv_exec.specs.declared.outcome.Outcome.{Outcome}
 use Rattle.rv_exec.specs.declared.outcome.Outcome.TheVariants.{Done, Ecall, Trap, Absent}
 use Rattle.rv_exec.specs.Registers.{Registers}
 use Rattle.rv_exec.specs.Line.{Traps, insn_line, decoded_line, fetched_line, line}
-use Rattle.rv_exec.specs.Uses.{uses_data, data_pages, decoded_pages, fetched_pages, pages_used}
+use Rattle.rv_exec.specs.Uses.{data_pages, decoded_pages, fetched_pages, pages_used}
 use Rattle.rv_exec.specs.Outcomes.{Used, UsesPages}
 
 -- ---- the line
@@ -55,14 +54,6 @@ all_none P k d h = absurd (omega arith)
 
 contains_behind : (page other : ℕ) (pages : List ℕ) → Contains pages page → Contains (other ∷ pages) page
 contains_behind page other pages h = (suc h.0, omega arith, h.2)
-
--- an instruction that neither loads nor stores uses no page but that of its fetch
-pub no_data_pages : (regs : Registers) (memory : Memory) (insn : Insn) → uses_data insn ≡ false → data_pages regs memory insn ≡ []
-unfolding uses_data data_pages
-no_data_pages regs memory (insn.Load kind rd rs1 offset) h = absurd (cc)
-no_data_pages regs memory (insn.Store kind rs1 rs2 offset) h = absurd (cc)
-no_data_pages regs memory (insn.Amo kind acquire release rd rs1 rs2) h = absurd (cc)
-no_data_pages regs memory _ h = refl
 
 -- the pages of an instruction are that of its fetch and those of its data
 pub uses_insn : (has marks lacks has' marks' lacks' : ℕ → Type 0) (regs : Registers) (memory memory' : Memory) (word : ℕ) (insn : Insn) (outcome : Outcome)

@@ -1,5 +1,5 @@
 -- The pages that an instruction uses, each where its access is aligned and the page has the right.
-use Rattle.std.specs.Prelude.{ℕ, Bool, true, false, List, [], ◌∷◌, Option, Some, None, Result, Ok, Err}
+use Rattle.std.specs.Prelude.{ℕ, List, [], ◌∷◌, Option, Some, None, Result, Ok, Err}
 use Rattle.page_memory.specs.declared.fault.MemoryFault.{MemoryFault}
 use Rattle.page_memory.specs.Words.{page_number}
 use Rattle.page_memory.specs.Memory.{Memory, fetched, loaded, stored, replaced}
@@ -28,13 +28,6 @@ store_pages memory kind address word = page_of_access address (stored memory (st
 unfoldable pub amo_pages : Memory → AmoKind → ℕ → ℕ → List ℕ
 amo_pages memory kind address operand =
     page_of_access address (replaced memory (λ old. amo_result kind old operand) address)
-
--- whether an instruction loads or stores
-unfoldable pub uses_data : Insn → Bool
-uses_data (Load kind rd rs1 offset) = true
-uses_data (Store kind rs1 rs2 offset) = true
-uses_data (Amo kind acquire release rd rs1 rs2) = true
-uses_data _ = false
 
 -- the page of what an instruction loads or stores
 unfoldable pub data_pages : Registers → Memory → Insn → List ℕ

@@ -2,27 +2,45 @@
 //! Instructions" and "Zaamo").
 ghost use Rattle.std.specs.Prelude.{◌≡◌};
 ghost use Rattle.rv_exec.specs.Access.{load_width, store_width, extended};
-ghost use Rattle.rv_exec.specs.Line.{load_line, store_line, amo_line};
+ghost use Rattle.rv_exec.specs.Registers.{register};
+ghost use Rattle.rv_exec.specs.Line.{address_at, load_line, store_line, amo_line};
 ghost use Rattle.rv_exec.specs.Uses.{load_pages, store_pages, amo_pages};
 ghost use Rattle.rv_exec.specs.Outcomes.{Follows, UnlessDone, UsesPages};
 
 use crate::advance::{advance, compute};
+use crate::arithmetic::add;
 use crate::bus::{Bus, BusError};
 use crate::cause::Cause;
 use crate::outcome::Outcome;
 use crate::regs::Regs;
 use page_memory::Width;
-use rv_isa::{AmoKind, LoadKind, Reg, StoreKind};
+use rv_isa::{AmoKind, Immediate, LoadKind, Reg, StoreKind};
 
-/// Loads from an address into rd.
+/// Loads from an offset past what rs1 holds into rd.
 #[inline(always)]
 pub fn perform_load<B: Bus>(
     regs: &mut Regs,
     bus: &mut B,
     kind: LoadKind,
     rd: Reg,
-    address: u32,
+    rs1: Reg,
+    offset: Immediate,
 ) -> Outcome
+    ensures line { let line = load_line regs.old (B.memory bus.old) kind rd (address_at regs.old rs1 offset) in
+        Follows line result regs.new (B.memory bus.new) }
+    ensures registers_stay { UnlessDone result (regs.new ≡ regs.old) }
+    ensures memory_stays { UnlessDone result (B.memory bus.new ≡ B.memory bus.old) }
+    ensures pages { let used = load_pages (B.memory bus.old) kind (address_at regs.old rs1 offset) in
+        UsesPages (B.has bus.old) (B.marks bus.new) (B.lacks bus.old) used result }
+    ensures kept { B.keeps bus.old bus.new }
+{
+    let address = add(regs.read(rs1), offset.word());
+    load_from(regs, bus, kind, rd, address)
+}
+
+/// Loads from an address into rd.
+#[inline(always)]
+fn load_from<B: Bus>(regs: &mut Regs, bus: &mut B, kind: LoadKind, rd: Reg, address: u32) -> Outcome
     ensures line { let line = load_line regs.old (B.memory bus.old) kind rd address in
         Follows line result regs.new (B.memory bus.new) }
     ensures registers_stay { UnlessDone result (regs.new ≡ regs.old) }
@@ -65,9 +83,32 @@ fn load_of_kind<B: Bus>(
     }
 }
 
-/// Stores the low bytes of a word at an address.
+/// Stores the low bytes of what rs2 holds at an offset past what rs1 holds.
 #[inline(always)]
 pub fn perform_store<B: Bus>(
+    regs: &mut Regs,
+    bus: &mut B,
+    kind: StoreKind,
+    rs1: Reg,
+    rs2: Reg,
+    offset: Immediate,
+) -> Outcome
+    ensures line { let line = store_line regs.old (B.memory bus.old) kind (address_at regs.old rs1 offset) (register regs.old rs2) in
+        Follows line result regs.new (B.memory bus.new) }
+    ensures registers_stay { UnlessDone result (regs.new ≡ regs.old) }
+    ensures memory_stays { UnlessDone result (B.memory bus.new ≡ B.memory bus.old) }
+    ensures pages { let used = store_pages (B.memory bus.old) kind (address_at regs.old rs1 offset) (register regs.old rs2) in
+        UsesPages (B.has bus.old) (B.marks bus.new) (B.lacks bus.old) used result }
+    ensures kept { B.keeps bus.old bus.new }
+{
+    let address = add(regs.read(rs1), offset.word());
+    let word = regs.read(rs2);
+    store_to(regs, bus, kind, address, word)
+}
+
+/// Stores the low bytes of a word at an address.
+#[inline(always)]
+fn store_to<B: Bus>(
     regs: &mut Regs,
     bus: &mut B,
     kind: StoreKind,

@@ -1,7 +1,9 @@
-ghost use Rattle.std.specs.Prelude.{◌≡◌, ◌<◌, false};
+ghost use Rattle.std.specs.Prelude.{◌≡◌, ◌<◌};
 ghost use Rattle.page_memory.specs.Memory.{Memory};
-ghost use Rattle.rv_exec.specs.Line.{line, insn_line, jumped, branched};
-ghost use Rattle.rv_exec.specs.Uses.{pages_used, data_pages, uses_data};
+ghost use Rattle.rv_exec.specs.Registers.{register};
+ghost use Rattle.rv_exec.specs.Arithmetic.{even, immediate_operation, is_taken, result_of, shift_operation, word_of, word_sum};
+ghost use Rattle.rv_exec.specs.Line.{address_at, branched, computed, insn_line, jumped, line};
+ghost use Rattle.rv_exec.specs.Uses.{pages_used, data_pages};
 ghost use Rattle.rv_exec.specs.Outcomes.{Follows, UnlessDone, UsesPages, IsPresent};
 
 use crate::accesses::{perform_amo, perform_load, perform_store};
@@ -11,7 +13,10 @@ use crate::bus::{Bus, BusError};
 use crate::cause::Cause;
 use crate::outcome::Outcome;
 use crate::regs::Regs;
-use rv_isa::{Insn, decode};
+use rv_isa::{
+    BranchKind, BranchOffset, Immediate, ImmediateKind, Insn, JumpOffset, OpKind, Reg, ShiftAmount,
+    ShiftKind, decode,
+};
 
 /// Runs a hart's next instruction: fetches the word at pc and does what the instruction table says of it.
 ///
@@ -38,9 +43,10 @@ pub fn execute<B: Bus>(regs: &mut Regs, bus: &mut B) -> Outcome
     }
 }
 
-/// Does what the table says of an instruction that was fetched at pc.
+/// Does what the table says of an instruction that was fetched at pc. Execution is sequentially consistent: there is nothing
+/// left for a fence to order.
 #[inline(always)]
-#[tactic(auto, using(crate::specs::LineLaws::no_data_pages), unfolding(crate::specs::Line::insn_line, crate::specs::Uses::data_pages, crate::specs::Uses::uses_data))]
+#[tactic(auto, unfolding(crate::specs::Line::insn_line, crate::specs::Uses::data_pages))]
 fn perform<B: Bus>(regs: &mut Regs, bus: &mut B, insn: &Insn) -> Outcome
     ensures line { let line = insn_line regs.old (B.memory bus.old) insn.now in
         Follows line result regs.new (B.memory bus.new) }
@@ -51,100 +57,54 @@ fn perform<B: Bus>(regs: &mut Regs, bus: &mut B, insn: &Insn) -> Outcome
     ensures kept { B.keeps bus.old bus.new }
 {
     match *insn {
+        Insn::Lui { rd, immediate } => compute(regs, rd, immediate.value() << 12),
+        Insn::Auipc { rd, immediate } => {
+            let sum = add(regs.pc(), immediate.value() << 12);
+            compute(regs, rd, sum)
+        }
+        Insn::Jal { rd, offset } => perform_jal(regs, rd, offset),
+        Insn::Jalr { rd, rs1, offset } => perform_jalr(regs, rd, rs1, offset),
+        Insn::Branch {
+            kind,
+            rs1,
+            rs2,
+            offset,
+        } => perform_branch(regs, kind, rs1, rs2, offset),
         Insn::Load {
             kind,
             rd,
             rs1,
             offset,
-        } => {
-            let address = add(regs.read(rs1), offset.word());
-            perform_load(regs, bus, kind, rd, address)
-        }
+        } => perform_load(regs, bus, kind, rd, rs1, offset),
         Insn::Store {
             kind,
             rs1,
             rs2,
             offset,
-        } => {
-            let address = add(regs.read(rs1), offset.word());
-            let word = regs.read(rs2);
-            perform_store(regs, bus, kind, address, word)
-        }
+        } => perform_store(regs, bus, kind, rs1, rs2, offset),
+        Insn::OpImmediate {
+            kind,
+            rd,
+            rs1,
+            immediate,
+        } => perform_immediate(regs, kind, rd, rs1, immediate),
+        Insn::Shift {
+            kind,
+            rd,
+            rs1,
+            amount,
+        } => perform_shift(regs, kind, rd, rs1, amount),
+        Insn::Op { kind, rd, rs1, rs2 } => perform_op(regs, kind, rd, rs1, rs2),
+        Insn::Fence { .. } => advance(regs),
         Insn::Amo {
             kind,
             rd,
             rs1,
             rs2,
             ..
-        } => {
-            let address = regs.read(rs1);
-            let operand = regs.read(rs2);
-            perform_amo(regs, bus, kind, rd, address, operand)
-        }
-        _ => perform_on_registers(regs, insn),
-    }
-}
-
-/// Does what the table says of an instruction that uses no memory, where it was fetched at pc.
-#[inline(always)]
-#[tactic(auto, unfolding(crate::specs::Line::insn_line, crate::specs::Uses::uses_data))]
-fn perform_on_registers(regs: &mut Regs, insn: &Insn) -> Outcome
-    requires { uses_data insn.now ≡ false }
-    ensures line { (memory : Memory) → Follows (insn_line regs.old memory insn.now) result regs.new memory }
-    ensures registers_stay { UnlessDone result (regs.new ≡ regs.old) }
-    ensures present { IsPresent result }
-{
-    match *insn {
-        Insn::Lui { rd, immediate } => compute(regs, rd, immediate.value() << 12),
-        Insn::Auipc { rd, immediate } => {
-            let sum = add(regs.pc(), immediate.value() << 12);
-            compute(regs, rd, sum)
-        }
-        Insn::Jal { rd, offset } => {
-            let target = add(regs.pc(), offset.word());
-            jump(regs, rd.index(), target)
-        }
-        Insn::Jalr { rd, rs1, offset } => {
-            let target = without_lowest_bit(add(regs.read(rs1), offset.word()));
-            jump(regs, rd.index(), target)
-        }
-        Insn::Branch {
-            kind,
-            rs1,
-            rs2,
-            offset,
-        } => {
-            let target = add(regs.pc(), offset.word());
-            let taken = branches(kind, regs.read(rs1), regs.read(rs2));
-            branch(regs, target, taken)
-        }
-        Insn::OpImmediate {
-            kind,
-            rd,
-            rs1,
-            immediate,
-        } => {
-            let value = operate_immediate(kind, regs.read(rs1), immediate.word());
-            compute(regs, rd, value)
-        }
-        Insn::Shift {
-            kind,
-            rd,
-            rs1,
-            amount,
-        } => {
-            let value = shift(kind, regs.read(rs1), u32::from(amount.value()));
-            compute(regs, rd, value)
-        }
-        Insn::Op { kind, rd, rs1, rs2 } => {
-            let value = operate(kind, regs.read(rs1), regs.read(rs2));
-            compute(regs, rd, value)
-        }
-        // Execution is sequentially consistent: there is nothing left to order.
-        Insn::Fence { .. } => advance(regs),
+        } => perform_amo(regs, bus, kind, rd, regs.read(rs1), regs.read(rs2)),
         Insn::Ecall => Outcome::Ecall,
         Insn::Ebreak => Outcome::Trap(Cause::Breakpoint, regs.pc()),
-        Insn::Load { .. } | Insn::Store { .. } | Insn::Amo { .. } => unreachable!(),
     }
 }
 
@@ -179,4 +139,89 @@ fn branch(regs: &mut Regs, target: u32, taken: bool) -> Outcome
     } else {
         advance(regs)
     }
+}
+
+/// Jumps to an offset past what rs1 holds, and keeps the address of the next instruction in rd.
+#[inline(always)]
+fn perform_jalr(regs: &mut Regs, rd: Reg, rs1: Reg, offset: Immediate) -> Outcome
+    ensures line { let target = even (address_at regs.old rs1 offset) in
+        (memory : Memory) → Follows (jumped regs.old memory rd target) result regs.new memory }
+    ensures registers_stay { UnlessDone result (regs.new ≡ regs.old) }
+    ensures present { IsPresent result }
+{
+    let target = without_lowest_bit(add(regs.read(rs1), offset.word()));
+    jump(regs, rd.index(), target)
+}
+
+/// Branches by an offset where what rs1 and rs2 hold compares so.
+#[inline(always)]
+fn perform_branch(
+    regs: &mut Regs,
+    kind: BranchKind,
+    rs1: Reg,
+    rs2: Reg,
+    offset: BranchOffset,
+) -> Outcome
+    ensures line { let taken = is_taken kind (register regs.old rs1) (register regs.old rs2) in
+        (memory : Memory) → Follows (branched regs.old memory (word_sum regs.old.pc (word_of offset)) taken) result regs.new memory }
+    ensures registers_stay { UnlessDone result (regs.new ≡ regs.old) }
+    ensures present { IsPresent result }
+{
+    let target = add(regs.pc(), offset.word());
+    let taken = branches(kind, regs.read(rs1), regs.read(rs2));
+    branch(regs, target, taken)
+}
+
+/// Jumps by an offset, and keeps the address of the next instruction in rd.
+#[inline(always)]
+fn perform_jal(regs: &mut Regs, rd: Reg, offset: JumpOffset) -> Outcome
+    ensures line { let target = word_sum regs.old.pc (word_of offset) in
+        (memory : Memory) → Follows (jumped regs.old memory rd target) result regs.new memory }
+    ensures registers_stay { UnlessDone result (regs.new ≡ regs.old) }
+    ensures present { IsPresent result }
+{
+    let target = add(regs.pc(), offset.word());
+    jump(regs, rd.index(), target)
+}
+
+/// Writes the result of an operation on what rs1 and rs2 hold to rd.
+#[inline(always)]
+fn perform_op(regs: &mut Regs, kind: OpKind, rd: Reg, rs1: Reg, rs2: Reg) -> Outcome
+    ensures done { result ≡ Outcome.Done }
+    ensures written { regs.new ≡ computed regs.old rd (result_of kind (register regs.old rs1) (register regs.old rs2)) }
+{
+    let value = operate(kind, regs.read(rs1), regs.read(rs2));
+    compute(regs, rd, value)
+}
+
+/// Writes the result of an operation on what rs1 holds and an immediate to rd.
+#[inline(always)]
+fn perform_immediate(
+    regs: &mut Regs,
+    kind: ImmediateKind,
+    rd: Reg,
+    rs1: Reg,
+    immediate: Immediate,
+) -> Outcome
+    ensures done { result ≡ Outcome.Done }
+    ensures written { regs.new ≡ computed regs.old rd (result_of (immediate_operation kind) (register regs.old rs1) (word_of immediate)) }
+{
+    let value = operate_immediate(kind, regs.read(rs1), immediate.word());
+    compute(regs, rd, value)
+}
+
+/// Writes what rs1 holds, shifted, to rd.
+#[inline(always)]
+fn perform_shift(
+    regs: &mut Regs,
+    kind: ShiftKind,
+    rd: Reg,
+    rs1: Reg,
+    amount: ShiftAmount,
+) -> Outcome
+    ensures done { result ≡ Outcome.Done }
+    ensures written { regs.new ≡ computed regs.old rd (result_of (shift_operation kind) (register regs.old rs1) amount) }
+{
+    let value = shift(kind, regs.read(rs1), u32::from(amount.value()));
+    compute(regs, rd, value)
 }

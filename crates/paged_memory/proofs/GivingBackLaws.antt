@@ -59,13 +59,14 @@ module _ {S : Type 0} {held : S → List ℕ} {honest : Type 0} {pages : List (�
           }
 
 -- what holds of the page at each place, and of none, holds of the page of every number
-pub every_page : {S : Type 0} (P : Option (PageValue S) → Type 0) (pages : List (ℕ × PageValue S)) → P None → ((k : ℕ) → k < length pages → P (page_at pages (slice_index (pages_of pages) k))) → (q : ℕ) → P (page_at pages q)
+pub every_page : {S : Type 0} (P : ℕ → Option (PageValue S) → Type 0) (pages : List (ℕ × PageValue S)) → ((q : ℕ) → P q None)
+    → ((k : ℕ) → k < length pages → P (slice_index (pages_of pages) k) (page_at pages (slice_index (pages_of pages) k))) → (q : ℕ) → P q (page_at pages q)
 every_page {S} P pages none each q =
-    elim (place_of q pages) as (λ (o : Option ℕ). place_of q pages ≡ o → P (page_at pages q)) [
-      | None ↦ λ absent. subst P (sym (page_at-nowhere pages q absent)) none
+    elim (place_of q pages) as (λ (o : Option ℕ). place_of q pages ≡ o → P q (page_at pages q)) [
+      | None ↦ λ absent. subst (P q) (sym (page_at-nowhere pages q absent)) (none q)
       | Some k ↦ λ at.
           let found = position-Some (λ listed. listed == q) (pages_of pages) k 0 at in
           let within = found.0 in
           let many = length-map pages (λ (e : ℕ × PageValue S). e.0) in
-          subst (λ n. P (page_at pages n)) (eqb-true _ _ found.1) (each k (omega arith))
+          subst (λ n. P n (page_at pages n)) (eqb-true _ _ found.1) (each k (omega arith))
     ] refl

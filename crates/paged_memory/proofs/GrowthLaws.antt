@@ -1,5 +1,5 @@
 -- Pages of zeros are mapped where none is.
-use Rattle.std.specs.Prelude.{Result, Ok, Err, OnOk, OnErr, IfOk, ◌≡◌, ℕ, zero, suc, ◌+◌, ◌^◌, ◌<◌, ◌≤◌, ◌==◌, Bool, true, false, cond, if◌then◌else◌, Option, Some, None, option_map, is_some, List, [], ◌∷◌, ◌++◌, refl}
+use Rattle.std.specs.Prelude.{Result, Ok, Err, OnOk, OnErr, IfOk, ◌≡◌, ℕ, zero, suc, ◌+◌, ◌-◌, ◌^◌, ◌<◌, ◌≤◌, ◌==◌, Bool, true, false, cond, if◌then◌else◌, Option, Some, None, option_map, is_some, List, [], ◌∷◌, ◌++◌, refl}
 use Rattle.std.proofs.Common.{sym, ap, ◌∙◌, subst, arith, eqb-true}
 use Rattle.std.specs.Cmp.{nat_cmp_total}
 use Rattle.std.specs.FinMap.{get, from_entries, get-insert}
@@ -17,7 +17,7 @@ use Rattle.sv32_table.specs.Entry.{blank}
 use Rattle.sv32_table.specs.EntryAt.{entry_at}
 use Rattle.tlb_core.specs.declared.translation.Translation.{Translation}
 use Rattle.paged_memory.specs.Seen.{entry_seen, frame_seen}
-use Rattle.paged_memory.specs.Growth.{zero_page}
+use Rattle.paged_memory.specs.Growth.{zero_page, LacksOne}
 use Rattle.paged_memory.specs.Paged.{PagedValue, seen_of, page_at, seen_at, flat_page, memory_of, Holds, ChangesPage}
 use Rattle.page_store.specs.Lending.{with_bytes}
 use Rattle.paged_memory.specs.HartMemory.{KeepsPages}
@@ -73,6 +73,30 @@ module _ {S : Type 0} where
   pub memory_zeroed : (held : S → List ℕ) (pages : List (ℕ × PageValue S)) (first count : ℕ) → memory_of held (with_added first count zero_page pages) ≡ with_zeroed first count (memory_of held pages)
   unfolding memory_of zero_bytes
   memory_zeroed held pages first count = map_by-added (flat_page held) pages first count zero_page refl
+
+-- a page that is missing once others were added was missing before
+module _ {S : Type 0} where
+  absent_one : (pages : List (ℕ × PageValue S)) (number q : ℕ) (page : PageValue S) → place_of q (added number page pages) ≡ None → place_of q pages ≡ None
+  unfolding added
+  absent_one pages number q page none = by_place (place_of number pages) none
+    where
+      by_end : (o : Option ℕ) → place_of q pages ≡ o → place_of q (pages ++ (number, page) ∷ []) ≡ None → o ≡ None
+      by_end None at gone = refl
+      by_end (Some k) at gone = absurd (none-some _ (sym gone ∙ place_stays pages (number, page) q k at))
+
+      by_place : (o : Option ℕ) → place_of q (added_unless o number page pages) ≡ None → place_of q pages ≡ None
+      by_place (Some place) gone = gone
+      by_place None gone = by_end (place_of q pages) refl gone
+
+  absent_before : (pages : List (ℕ × PageValue S)) (first count q : ℕ) (page : PageValue S) → place_of q (with_added first count page pages) ≡ None → place_of q pages ≡ None
+  unfolding with_added
+  absent_before pages first zero q page none = none
+  absent_before pages first (suc count) q page none = absent_before pages first count q page (absent_one (with_added first count page pages) (first + count) q page none)
+
+  pub lacks_one : (old now : List (ℕ × PageValue S)) (first count number : ℕ) → first ≤ number → number < first + count → now ≡ with_added first (number - first) zero_page old → place_of number now ≡ None
+      → LacksOne first count old
+  lacks_one old now first count number above below is none =
+      record { number = number; above = above; below = below; absent = absent_before old first (number - first) number zero_page (ap (place_of number) (sym is) ∙ none) }
 
 -- the pages that were there stay, and the others are pages of zeros
 module _ {S : Type 0} where

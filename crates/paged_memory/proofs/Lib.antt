@@ -17,5 +17,6 @@ pub mod SavingLaws
 pub mod ReturningLaws
 pub mod FillingLaws
 pub mod GivingBackLaws
+pub mod FirstGiving
 pub mod PeekingLaws
 pub mod CoherenceLaws

@@ -1,10 +1,11 @@
-ghost use Rattle.std.specs.Prelude.{◌≡◌, ◌≤◌, ◌<◌, ◌^◌, ℕ, [], All, IfSome, IfNone};
+ghost use Rattle.std.specs.Prelude.{◌≡◌, ◌<◌, ◌+◌, ◌^◌, ℕ, [], All, IfSome, IfNone, slice_index};
 ghost use Rattle.std.specs.Bool.{OnTrue, OnFalse};
 ghost use Rattle.sv32_table.specs.Entry.{blank};
 ghost use Rattle.sv32_table.specs.EntryAt.{ChangesEntry};
 ghost use Rattle.paged_memory.specs.Paged.{Holds, page_at};
 ghost use Rattle.paged_memory.specs.Calls.{ChangesBy};
-ghost use Rattle.paged_memory.specs.GivingBack.{GivesBack, GivesOne, GivesNothing};
+ghost use Rattle.page_memory.specs.Entries.{pages_of};
+ghost use Rattle.paged_memory.specs.GivingBack.{GivesBack, GivesOne, GivesNothing, IsFirst, IsFirstOf};
 
 use crate::caches::Caches;
 use crate::eviction::state_in;
@@ -16,14 +17,9 @@ use std::sync::ledger::Ledger;
 use sv32_table::PageTables;
 use swap_slots::SwapSlot;
 
-/// How many page numbers there are.
-const PAGE_NUMBERS: u32 = 0x10_0000;
-
 impl<L: Ledger, S: SwapSlot> PagedMemory<L, S> {
-    /// Takes the frame and the slot of a page that has either and is not being saved, once no hart has a translation any
-    /// more. The page is unmapped, and given up for good. `None` where there is no such page.
-    ///
-    /// The calls go by rising page numbers, and begin again where no page is left above.
+    /// Takes the frame and the slot of the first page, by number, that has either and is not being saved, once no hart has
+    /// a translation any more. The page is unmapped, and given up for good. `None` where there is no such page.
     pub fn take_one(&mut self) -> Option<(Option<Frame<L>>, Option<S>)>
         requires quiet { All (λ cache. cache ≡ []) self.old.caches }
         ensures given { IfSome result (λ given. GivesOne given self.old.pages self.new.pages self.old.tables self.new.tables) }
@@ -32,40 +28,43 @@ impl<L: Ledger, S: SwapSlot> PagedMemory<L, S> {
         ensures process { self.new.process ≡ self.old.process }
         ensures caches { self.new.caches ≡ self.old.caches }
     {
-        let vpn = next_around(&self.pages, self.passed)?;
-        self.passed = vpn;
+        let vpn = first_with_something(&self.pages)?;
         Some(give_back(&mut self.pages, &mut self.tables, &self.caches, vpn))
     }
 }
 
-/// The first page, from a page number on and then from the least on, that has a frame or a slot and is not being saved.
-fn next_around<L: Ledger, S: SwapSlot>(pages: &PageMap<StoredPage<L, S>>, from: u32) -> Option<u32>
-    ensures small { IfSome result (λ vpn. vpn < 2 ^ 20) }
-    ensures found { IfSome result (λ vpn. ¬ GivesNothing (page_at pages.now vpn)) }
-    ensures none { IfNone result ((q : ℕ) → q < 2 ^ 20 → GivesNothing (page_at pages.now q)) }
+/// The first page, by number, that has a frame or a slot and is not being saved.
+#[tactic(auto, using(crate::proofs::FirstGiving::first_of_all))]
+fn first_with_something<L: Ledger, S: SwapSlot>(pages: &PageMap<StoredPage<L, S>>) -> Option<u32>
+    ensures { IsFirst pages.now result }
 {
-    if let Some(vpn) = next_with_something(pages, from) {
-        return Some(vpn);
+    let mut first = None;
+    for place in 0..pages.len() {
+        first = lesser(pages, first, pages.page(place));
     }
-    next_with_something(pages, 0)
+    first
 }
 
-/// The first page, from a page number on, that has a frame or a slot and is not being saved.
-fn next_with_something<L: Ledger, S: SwapSlot>(
+/// The first page so far, or one that comes before it and has a frame or a slot and is not being saved.
+#[tactic(auto, using(crate::proofs::FirstGiving::one_more))]
+fn lesser<L: Ledger, S: SwapSlot>(
     pages: &PageMap<StoredPage<L, S>>,
-    from: u32,
+    first: Option<u32>,
+    vpn: u32,
 ) -> Option<u32>
-    ensures number { IfSome result (λ vpn. (from ≤ vpn) × (vpn < 2 ^ 20)) }
-    ensures found { IfSome result (λ vpn. ¬ GivesNothing (page_at pages.now vpn)) }
-    ensures first { IfSome result (λ vpn. (q : ℕ) → from ≤ q → q < vpn → GivesNothing (page_at pages.now q)) }
-    ensures none { IfNone result ((q : ℕ) → from ≤ q → q < 2 ^ 20 → GivesNothing (page_at pages.now q)) }
+    requires { vpn < 2 ^ 20 }
+    ensures { (count : ℕ) → slice_index (pages_of pages.now) count ≡ vpn → IsFirstOf pages.now count first → IsFirstOf pages.now (count + 1) result }
 {
-    for vpn in from..PAGE_NUMBERS {
-        if has_something(pages, vpn) {
-            return Some(vpn);
+    match first {
+        Some(before) if before <= vpn => first,
+        _ => {
+            if has_something(pages, vpn) {
+                Some(vpn)
+            } else {
+                first
+            }
         }
     }
-    None
 }
 
 /// Whether a page has a frame or a slot, and is not being saved.

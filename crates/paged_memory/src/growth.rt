@@ -5,7 +5,7 @@ ghost use Rattle.page_memory.specs.declared.words.Access.{Access};
 ghost use Rattle.page_store.specs.PageValue.{Fresh};
 ghost use Rattle.page_memory.specs.Entries.{place_of, added, with_added};
 ghost use Rattle.paged_memory.specs.Paged.{memory_of};
-ghost use Rattle.paged_memory.specs.Growth.{zero_page};
+ghost use Rattle.paged_memory.specs.Growth.{zero_page, LacksOne};
 
 use crate::memory::PagedMemory;
 use page_memory::{Page, PageMap, Rights};
@@ -33,13 +33,15 @@ impl<L: Ledger, S: SwapSlot> PagedMemory<L, S> {
     }
 
     /// Maps pages of zeros that may be read and written at so many page numbers from the first on, wherever none is
-    /// mapped: all of them, or none where memory is wanting. They are fresh, and take no frame yet.
+    /// mapped: all of them, or none where memory is wanting, as it can be only where one is missing. They are fresh, and
+    /// take no frame yet.
     pub fn map_zeroed(&mut self, first: u32, count: u32) -> Result<(), AllocError>
         requires { first + count ≤ 2 ^ 20 }
         ensures ok { OnOk result (self.new.pages ≡ with_added first count zero_page self.old.pages) }
         ensures memory { OnOk result (memory_of S.content self.new.pages ≡ with_zeroed first count (memory_of S.content self.old.pages)) }
         ensures err { OnErr result (self.new ≡ self.old) }
         ensures some { IsErr result → 0 < count }
+        ensures missing { IsErr result → LacksOne first count self.old.pages }
         ensures process { self.new.process ≡ self.old.process }
         ensures tables { self.new.tables ≡ self.old.tables }
         ensures caches { self.new.caches ≡ self.old.caches }
@@ -49,7 +51,7 @@ impl<L: Ledger, S: SwapSlot> PagedMemory<L, S> {
 }
 
 /// Adds a page of zeros at each of so many page numbers from the first on that has none, or at none.
-#[tactic(auto, using(page_memory::specs::EntriesLaws::front_stays), unfolding(page_memory::specs::Entries::with_added))]
+#[tactic(auto, using(page_memory::specs::EntriesLaws::front_stays, crate::proofs::GrowthLaws::lacks_one), unfolding(page_memory::specs::Entries::with_added))]
 fn add_all_zeroed<L: Ledger, S: SwapSlot>(
     pages: &mut PageMap<StoredPage<L, S>>,
     alloc: Global,
@@ -60,6 +62,7 @@ fn add_all_zeroed<L: Ledger, S: SwapSlot>(
     ensures ok { OnOk result (pages.new ≡ with_added first count zero_page pages.old) }
     ensures err { OnErr result (pages.new ≡ pages.old) }
     ensures some { IsErr result → 0 < count }
+    ensures missing { IsErr result → LacksOne first count pages.old }
 {
     let before = pages.len();
     for number in first..first + count {

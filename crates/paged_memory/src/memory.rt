@@ -20,8 +20,6 @@ pub struct PagedMemory<L: Ledger, S: SwapSlot> {
     pub(crate) pages: PageMap<StoredPage<L, S>>,
     pub(crate) tables: PageTables,
     pub(crate) caches: Caches,
-    /// The page that gave its frame or slot back last, where the search for the next one begins.
-    pub(crate) passed: u32,
 }
 
 impl<L: Ledger, S: SwapSlot> Model for PagedMemory<L, S> {
@@ -49,7 +47,6 @@ impl<L: Ledger, S: SwapSlot> PagedMemory<L, S> {
             pages: PageMap::new(alloc)?,
             tables: PageTables::new(alloc)?,
             caches: Caches::new(alloc)?,
-            passed: 0,
         })
     }
 

@@ -1,3 +1,4 @@
 pub mod Counted
+pub mod Endings
 pub mod Reached
 pub mod Told

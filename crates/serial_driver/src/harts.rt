@@ -1,5 +1,8 @@
 //! Which hart is next.
 
+ghost use Rattle.std.specs.Bool.{OnFalse};
+ghost use Rattle.serial_driver.specs.Endings.{HasEnded};
+
 use clock_policy::Clock;
 use flat_machine::MOST_HARTS;
 use machine_core::Core;
@@ -14,11 +17,18 @@ pub(crate) struct HartOf {
 }
 
 /// Whether a process is there and has not ended.
+#[tactic(auto, using(crate::proofs::Endings::not_running))]
 pub(crate) fn is_running<L: Ledger, S: SwapSlot, C: Clock>(
     core: &Core<L, S, C>,
     process: u32,
-) -> bool {
-    matches!(core.end(process), Some(None))
+) -> bool
+    ensures { OnFalse result (HasEnded core.now process) }
+{
+    match core.end(process) {
+        Some(None) => true,
+        Some(Some(_)) => false,
+        None => false,
+    }
 }
 
 /// The least live hart, from this one on, of a process that has not ended.

@@ -1,5 +1,6 @@
-ghost use Rattle.std.specs.Prelude.{IfOk};
+ghost use Rattle.std.specs.Prelude.{ℕ, IfOk};
 ghost use Rattle.machine_core.specs.Applying.{Reaches};
+ghost use Rattle.serial_driver.specs.Endings.{HasEnded};
 ghost use Rattle.serial_driver.specs.Reporting.{Reports};
 
 use crate::harts::is_running;
@@ -29,6 +30,7 @@ pub fn run_serial<L: Ledger, S: SwapSlot, C: Clock>(
     limit: u64,
 ) -> Result<Report, AllocError>
     ensures reached { Reaches S.content S.honest S.failures core.old core.new }
+    ensures ended { IfOk result (λ _. (number : ℕ) → HasEnded core.new number) }
     ensures report { IfOk result (λ report. Reports core.new report) }
 {
     let room = Vec::with_capacity(alloc, core.processes())?;
@@ -39,7 +41,8 @@ pub fn run_serial<L: Ledger, S: SwapSlot, C: Clock>(
 /// Plays a machine to its end.
 #[tactic(auto, using(crate::proofs::Reached::reaches_last))]
 fn play<L: Ledger, S: SwapSlot, C: Clock>(core: &mut Core<L, S, C>, slice: u32, limit: u64)
-    ensures { Reaches S.content S.honest S.failures core.old core.new }
+    ensures reached { Reaches S.content S.honest S.failures core.old core.new }
+    ensures ended { (number : ℕ) → HasEnded core.new number }
 {
     let mut turns = Turns::new(core.size(), slice);
     play_events(core, &mut turns, limit);
@@ -128,7 +131,8 @@ fn save<L: Ledger, S: SwapSlot, C: Clock>(core: &mut Core<L, S, C>, unsaved: Opt
 /// Ends each process that goes on, and takes back what the processes have.
 #[tactic(auto, using(machine_core::specs::ApplyingLaws::reaches_same))]
 fn end_all<L: Ledger, S: SwapSlot, C: Clock>(core: &mut Core<L, S, C>)
-    ensures { Reaches S.content S.honest S.failures core.old core.new }
+    ensures reached { Reaches S.content S.honest S.failures core.old core.new }
+    ensures ended { (number : ℕ) → HasEnded core.new number }
 {
     'processes: for process in 0..core.processes() as u32 {
         end(core, process);
@@ -139,7 +143,9 @@ fn end_all<L: Ledger, S: SwapSlot, C: Clock>(core: &mut Core<L, S, C>)
 /// Ends a process that goes on.
 #[tactic(auto, using(machine_core::specs::ApplyingLaws::reaches_same))]
 fn end<L: Ledger, S: SwapSlot, C: Clock>(core: &mut Core<L, S, C>, process: u32)
-    ensures { Reaches S.content S.honest S.failures core.old core.new }
+    ensures reached { Reaches S.content S.honest S.failures core.old core.new }
+    ensures ended { HasEnded core.new process }
+    ensures kept { (number : ℕ) → HasEnded core.old number → HasEnded core.new number }
 {
     if !is_running(core, process) {
         return;

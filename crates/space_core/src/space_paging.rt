@@ -68,10 +68,8 @@ impl<L: Ledger, S: SwapSlot> Space<L, S> {
         self.memory.is_saving()
     }
 
-    /// Once the process has ended, takes the frame and the slot of a page that has either and is not being saved. The page
-    /// is unmapped, and given up for good. `None` where there is no such page, and before the end.
-    ///
-    /// The calls go by rising page numbers, and begin again where no page is left above.
+    /// Once the process has ended, takes the frame and the slot of the first page, by number, that has either and is not
+    /// being saved. The page is unmapped, and given up for good. `None` where there is no such page, and before the end.
     pub fn take_one(&mut self) -> Option<(Option<Frame<L>>, Option<S>)>
         ensures given { IfSome result (λ given. GivesOne given self.old.memory.pages self.new.memory.pages self.old.memory.tables self.new.memory.tables) }
         ensures ended { IfSome result (λ _. IsSome self.old.running.ending) }

@@ -64,6 +64,7 @@ impl SwapSlot for FuseSlot {
         ensures succeeds { IsOk result ↔ (0 < self.old.left) }
         ensures left { self.new.left ≡ self.old.left - 1 }
         ensures saved { OnOk result (self.new.content ≡ page.now) }
+        ensures unsaved { OnErr result (self.new.content ≡ self.old.content) }
         ensures passed { OnOk result (self.new.failures ≡ self.old.failures) }
         ensures failed { OnErr result (self.new.failures ≡ min (self.old.failures + 1) (2 ^ 64 - 1)) }
         ensures fault { OnErr result (Rose self.old.failures self.new.failures) }
@@ -77,6 +78,7 @@ impl SwapSlot for FuseSlot {
         ensures succeeds { IsOk result ↔ (0 < self.old.left) }
         ensures left { self.new.left ≡ self.old.left - 1 }
         ensures loaded { OnOk result (page.new ≡ self.old.content) }
+        ensures unloaded { OnErr result (page.new ≡ page.old) }
         ensures kept { self.new.content ≡ self.old.content }
         ensures passed { OnOk result (self.new.failures ≡ self.old.failures) }
         ensures failed { OnErr result (self.new.failures ≡ min (self.old.failures + 1) (2 ^ 64 - 1)) }

@@ -16,6 +16,6 @@ fault_number TooLong = 7
 fault_number Empty = 8
 
 -- a refusal is the fault that the definition tells, or want of memory
-abbrev pub Refuses : {A : Type 0} → Result A FaultKind → Refusal → Type 0
-Refuses told (Fault kind) = told ≡ Err kind
-Refuses told NoMemory = ⊤
+abbrev pub RefusesLine : {A : Type 0} → Result A FaultKind → Refusal → Type 0
+RefusesLine told (Fault kind) = told ≡ Err kind
+RefusesLine told NoMemory = ⊤

@@ -35,10 +35,10 @@ abbrev pub unlabelled : Option (List ℕ) → List Operand → Line
 unlabelled name operands = record { labels = []; name = name; operands = operands }
 
 -- a statement's name and its operands, or nothing
-abbrev pub statement_of : List Token → Option Line
-statement_of [] = Some (unlabelled None [])
-statement_of (Name name ∷ tokens) = option_map (unlabelled (Some name)) (arguments_of tokens)
-statement_of tokens = None
+abbrev pub statement_form : List Token → Option Line
+statement_form [] = Some (unlabelled None [])
+statement_form (Name name ∷ tokens) = option_map (unlabelled (Some name)) (arguments_of tokens)
+statement_form tokens = None
 
 -- a line with these labels in front of its own
 abbrev pub labelled : List (List ℕ) → Line → Line
@@ -47,7 +47,7 @@ labelled labels line = record { labels = labels ++ line.labels; name = line.name
 -- labels, each with a colon behind it, and a statement
 abbrev pub line_of : List Token → Option Line
 line_of (Name label ∷ Colon ∷ tokens) = option_map (labelled (label ∷ [])) (line_of tokens)
-line_of tokens = statement_of tokens
+line_of tokens = statement_form tokens
 
 unfoldable pub line_form : List ℕ → Result Line FaultKind
 line_form text = ok_or (option_and_then line_of (tokens_of text)) BadLine

@@ -5,7 +5,7 @@ use Rattle.asm_lines.specs.declared.token.Token.{Token}
 use Rattle.asm_lines.specs.declared.token.Token.TheVariants.{Name, Colon, Close}
 use Rattle.asm_lines.specs.Forms.{Line}
 use Rattle.asm_lines.specs.Tokens.{tokens_of}
-use Rattle.asm_lines.specs.Lines.{Turn, Due, operands_from, arguments_of, statement_of, line_of}
+use Rattle.asm_lines.specs.Lines.{Turn, Due, operands_from, arguments_of, statement_form, line_of}
 
 abbrev pub operands_on : Turn → List ℕ → Option (List Operand)
 operands_on turn text = option_and_then (operands_from turn) (tokens_of text)
@@ -18,7 +18,7 @@ abbrev pub arguments_on : List ℕ → Option (List Operand)
 arguments_on text = option_and_then arguments_of (tokens_of text)
 
 abbrev pub statement_on : List ℕ → Option Line
-statement_on text = option_and_then statement_of (tokens_of text)
+statement_on text = option_and_then statement_form (tokens_of text)
 
 abbrev pub line_on : List ℕ → Option Line
 line_on text = option_and_then line_of (tokens_of text)

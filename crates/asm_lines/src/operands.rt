@@ -1,7 +1,7 @@
 //! The operands of a statement.
 
 ghost use Rattle.std.specs.Prelude.{◌≡◌, ◌∷◌, ◌<◌, ◌≤◌, [], None, Some, IfOk, IfErr, IfSome, MatchOption, length, ok_or};
-ghost use Rattle.asm_lines.specs.Faults.{Refuses};
+ghost use Rattle.asm_lines.specs.Faults.{RefusesLine};
 ghost use Rattle.asm_lines.specs.Lines.{Due, After};
 ghost use Rattle.asm_lines.specs.Tokens.{tokens_of, followed};
 ghost use Rattle.asm_lines.specs.Readings.{operands_on, operands_behind, base_on};
@@ -19,7 +19,7 @@ use std::alloc::Global;
 #[tactic(auto, using(crate::proofs::OperandSteps::one_more))]
 pub fn operands<'a>(alloc: Global, text: &'a [u8]) -> Result<Vec<Operand<'a>>, Refusal>
     ensures operands { IfOk result (λ operands. operands_on Due text.now ≡ Some operands.items) }
-    ensures refusal { IfErr result (Refuses (ok_or (operands_on Due text.now) FaultKind.BadLine)) }
+    ensures refusal { IfErr result (RefusesLine (ok_or (operands_on Due text.now) FaultKind.BadLine)) }
 {
     let mut operands = Vec::new(alloc);
     let mut rest = text;

@@ -1,7 +1,7 @@
 //! From the text of a line to its form.
 
 ghost use Rattle.std.specs.Prelude.{◌≡◌, ◌<◌, length, Some, None, Ok, IfOk, IfErr, IfSome, MatchOption};
-ghost use Rattle.asm_lines.specs.Faults.{Refuses};
+ghost use Rattle.asm_lines.specs.Faults.{RefusesLine};
 ghost use Rattle.asm_lines.specs.Forms.{line_value};
 ghost use Rattle.asm_lines.specs.Lines.{line_form};
 ghost use Rattle.asm_lines.specs.Tokens.{tokens_of, followed};
@@ -22,7 +22,7 @@ use std::alloc::Global;
 #[tactic(auto, unfolding(crate::specs::Lines::line_form))]
 pub fn scan_line<'a>(alloc: Global, text: &'a [u8]) -> Result<Line<'a>, Refusal>
     ensures line { IfOk result (λ line. line_form text.now ≡ Ok (line_value line)) }
-    ensures refusal { IfErr result (Refuses (line_form text.now)) }
+    ensures refusal { IfErr result (RefusesLine (line_form text.now)) }
 {
     let mut labels = Vec::new(alloc);
     let mut rest = text;

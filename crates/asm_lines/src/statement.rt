@@ -1,7 +1,7 @@
 //! The statement of a line.
 
 ghost use Rattle.std.specs.Prelude.{◌≡◌, Some, IfOk, IfErr, ok_or};
-ghost use Rattle.asm_lines.specs.Faults.{Refuses};
+ghost use Rattle.asm_lines.specs.Faults.{RefusesLine};
 ghost use Rattle.asm_lines.specs.Forms.{Line};
 ghost use Rattle.asm_lines.specs.Lines.{unlabelled};
 ghost use Rattle.asm_lines.specs.Readings.{statement_on, arguments_on};
@@ -21,7 +21,7 @@ pub fn statement<'a>(
     text: &'a [u8],
 ) -> Result<(Option<Span<'a>>, Vec<Operand<'a>>), Refusal>
     ensures statement { IfOk result (λ read. statement_on text.now ≡ Some (unlabelled read.0 read.1.items)) }
-    ensures refusal { IfErr result (Refuses (ok_or (statement_on text.now) FaultKind.BadLine)) }
+    ensures refusal { IfErr result (RefusesLine (ok_or (statement_on text.now) FaultKind.BadLine)) }
 {
     match next_token(text) {
         Front::End => Ok((None, Vec::new(alloc))),
@@ -39,7 +39,7 @@ pub fn statement<'a>(
 /// What stands behind a statement's name: nothing, or operands.
 fn arguments<'a>(alloc: Global, text: &'a [u8]) -> Result<Vec<Operand<'a>>, Refusal>
     ensures operands { IfOk result (λ operands. arguments_on text.now ≡ Some operands.items) }
-    ensures refusal { IfErr result (Refuses (ok_or (arguments_on text.now) FaultKind.BadLine)) }
+    ensures refusal { IfErr result (RefusesLine (ok_or (arguments_on text.now) FaultKind.BadLine)) }
 {
     if let Front::End = next_token(text) {
         return Ok(Vec::new(alloc));

@@ -1,12 +1,12 @@
 -- A text is read to the bytes for which it stands.
 use Rattle.std.proofs.Common.{◌≡◌, ◌≢◌, ℕ, false, List, ◌∷◌, ◌==◌, arith, refl, ap}
 use Rattle.asm_statements.specs.Directives.{unescaped, unescaped_after, escape}
-use Rattle.asm_statements.specs.Escapes.{StandsFor, nothing, plain, line_feed, tab, zero_byte, backslash, quote}
+use Rattle.asm_statements.specs.Escapes.{ReadsEscapes, nothing, plain, line_feed, tab, zero_byte, backslash, quote}
 
 not_equal : (character value : ℕ) → character ≢ value → (character == value) ≡ false
 not_equal character value h = grind arith
 
-reads_on : (text bytes : List ℕ) → StandsFor text bytes → unescaped_after false text ≡ bytes
+reads_on : (text bytes : List ℕ) → ReadsEscapes text bytes → unescaped_after false text ≡ bytes
 unfolding unescaped_after escape
 reads_on _ _ nothing = refl
 reads_on _ _ (plain character text bytes other more) = rw (not_equal character 92 other) (ap (λ l. character ∷ l) (reads_on text bytes more))
@@ -16,6 +16,6 @@ reads_on _ _ (zero_byte text bytes more) = ap (λ l. 0 ∷ l) (reads_on text byt
 reads_on _ _ (backslash text bytes more) = ap (λ l. 92 ∷ l) (reads_on text bytes more)
 reads_on _ _ (quote text bytes more) = ap (λ l. 34 ∷ l) (reads_on text bytes more)
 
-pub text_reads : (text bytes : List ℕ) → StandsFor text bytes → unescaped text ≡ bytes
+pub text_reads : (text bytes : List ℕ) → ReadsEscapes text bytes → unescaped text ≡ bytes
 unfolding unescaped
 text_reads text bytes stands = reads_on text bytes stands

@@ -10,10 +10,10 @@ use Rattle.asm_lines.specs.declared.fault.FaultKind.{FaultKind}
 use Rattle.asm_statements.specs.declared.part.Code.{Code}
 use Rattle.asm_statements.specs.declared.part.Code.TheVariants as code
 use Rattle.asm_statements.specs.declared.section.Section.TheVariants.{Text, Data}
-use Rattle.asm_statements.specs.Effects.{Effect, Text as TextEffect}
+use Rattle.asm_statements.specs.Effects.{StatementEffect, Text as TextEffect}
 use Rattle.asm_statements.specs.Names.{named}
 use Rattle.asm_statements.specs.Registers.{register_of}
-use Rattle.asm_statements.specs.Shapes.{register, number, label, indexed, zip_three, one_register, two_registers, two_registers_number, register_indexed, one_label, register_label, two_registers_label}
+use Rattle.asm_statements.specs.Shapes.{register_operand, number_operand, label, indexed, zip_three, one_register, two_registers, two_registers_number, register_indexed, one_label, register_label, two_registers_label}
 use Rattle.asm_statements.specs.Ranges.{within}
 use Rattle.asm_statements.specs.Mnemonics.{mnemonic_of}
 use Rattle.asm_statements.specs.Instructions.{given, map_ok, code_of, alone, op_immediate, copied, jalr, jal, jump, jump_register, branch, branch_zero}
@@ -21,16 +21,16 @@ use Rattle.asm_statements.specs.Statements.{statement_effect, statement_of, mean
 use Rattle.asm_statements.specs.SameStatements.{DoesTheSame}
 
 -- what a part puts into the text
-abbrev one_part : Result Code FaultKind → Result Effect FaultKind
+abbrev one_part : Result Code FaultKind → Result StatementEffect FaultKind
 one_part part = map_ok (λ one. TextEffect (one ∷ [])) part
 
 pub no_operation : DoesTheSame (codes "nop") [] (codes "addi") (Name (codes "zero") ∷ Name (codes "zero") ∷ Number (pos 0) ∷ [])
-unfolding statement_effect statement_of mnemonic_of named meaning in_text in_data code_of alone op_immediate two_registers_number register number register_of within
+unfolding statement_effect statement_of mnemonic_of named meaning in_text in_data code_of alone op_immediate two_registers_number register_operand number_operand register_of within
 no_operation Text = refl
 no_operation Data = refl
 
 pub register_copy : (rd rs1 : List ℕ) → DoesTheSame (codes "mv") (Name rd ∷ Name rs1 ∷ []) (codes "addi") (Name rd ∷ Name rs1 ∷ Number (pos 0) ∷ [])
-unfolding statement_effect statement_of mnemonic_of named meaning in_text in_data code_of copied op_immediate two_registers two_registers_number register number within
+unfolding statement_effect statement_of mnemonic_of named meaning in_text in_data code_of copied op_immediate two_registers two_registers_number register_operand number_operand within
 register_copy rd rs1 Data = refl
 register_copy rd rs1 Text = for_registers (register_of rd) (register_of rs1)
   where
@@ -42,17 +42,17 @@ register_copy rd rs1 Text = for_registers (register_of rd) (register_of rs1)
     for_registers None None = refl
 
 pub plain_jump : (target : List ℕ) → DoesTheSame (codes "j") (Name target ∷ []) (codes "jal") (Name (codes "zero") ∷ Name target ∷ [])
-unfolding statement_effect statement_of mnemonic_of named meaning in_text in_data code_of jump jal one_label register_label register label register_of
+unfolding statement_effect statement_of mnemonic_of named meaning in_text in_data code_of jump jal one_label register_label register_operand label register_of
 plain_jump target Text = refl
 plain_jump target Data = refl
 
 pub plain_call : (target : List ℕ) → DoesTheSame (codes "call") (Name target ∷ []) (codes "jal") (Name (codes "ra") ∷ Name target ∷ [])
-unfolding statement_effect statement_of mnemonic_of named meaning in_text in_data code_of jump jal one_label register_label register label register_of
+unfolding statement_effect statement_of mnemonic_of named meaning in_text in_data code_of jump jal one_label register_label register_operand label register_of
 plain_call target Text = refl
 plain_call target Data = refl
 
 pub register_jump : (rs1 : List ℕ) → DoesTheSame (codes "jr") (Name rs1 ∷ []) (codes "jalr") (Name (codes "zero") ∷ Indexed (pos 0) rs1 ∷ [])
-unfolding statement_effect statement_of mnemonic_of named meaning in_text in_data code_of jump_register jalr one_register register_indexed register indexed register_of within
+unfolding statement_effect statement_of mnemonic_of named meaning in_text in_data code_of jump_register jalr one_register register_indexed register_operand indexed register_of within
 register_jump rs1 Data = refl
 register_jump rs1 Text = for_register (register_of rs1)
   where
@@ -62,7 +62,7 @@ register_jump rs1 Text = for_register (register_of rs1)
     for_register None = refl
 
 pub plain_return : DoesTheSame (codes "ret") [] (codes "jalr") (Name (codes "zero") ∷ Indexed (pos 0) (codes "ra") ∷ [])
-unfolding statement_effect statement_of mnemonic_of named meaning in_text in_data code_of alone jalr register_indexed register indexed register_of within
+unfolding statement_effect statement_of mnemonic_of named meaning in_text in_data code_of alone jalr register_indexed register_operand indexed register_of within
 plain_return Text = refl
 plain_return Data = refl
 
@@ -73,11 +73,11 @@ zero_branch kind target (Some a) = refl
 zero_branch kind target None = refl
 
 pub branch_if_zero : (rs1 target : List ℕ) → DoesTheSame (codes "beqz") (Name rs1 ∷ Name target ∷ []) (codes "beq") (Name rs1 ∷ Name (codes "zero") ∷ Name target ∷ [])
-unfolding statement_effect statement_of mnemonic_of named meaning in_text in_data code_of branch branch_zero register_label two_registers_label register label register_of
+unfolding statement_effect statement_of mnemonic_of named meaning in_text in_data code_of branch branch_zero register_label two_registers_label register_operand label register_of
 branch_if_zero rs1 target Data = refl
 branch_if_zero rs1 target Text = zero_branch Beq target (register_of rs1)
 
 pub branch_if_not_zero : (rs1 target : List ℕ) → DoesTheSame (codes "bnez") (Name rs1 ∷ Name target ∷ []) (codes "bne") (Name rs1 ∷ Name (codes "zero") ∷ Name target ∷ [])
-unfolding statement_effect statement_of mnemonic_of named meaning in_text in_data code_of branch branch_zero register_label two_registers_label register label register_of
+unfolding statement_effect statement_of mnemonic_of named meaning in_text in_data code_of branch branch_zero register_label two_registers_label register_operand label register_of
 branch_if_not_zero rs1 target Data = refl
 branch_if_not_zero rs1 target Text = zero_branch Bne target (register_of rs1)

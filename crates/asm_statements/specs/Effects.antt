@@ -7,12 +7,12 @@ use Rattle.asm_statements.specs.declared.part.Effect.TheVariants.{Enter as Enter
 use Rattle.asm_statements.specs.declared.section.Section.{Section}
 
 -- what a statement does: it enters a section, or puts something into the text or the data
-pub data Effect : Type 0 where
-  Enter : Section → Effect
-  Text : List Code → Effect
-  Data : List Datum → Effect
+pub data StatementEffect : Type 0 where
+  Enter : Section → StatementEffect
+  Text : List Code → StatementEffect
+  Data : List Datum → StatementEffect
 
-abbrev pub effect_value : EffectCode → Effect
+abbrev pub effect_value : EffectCode → StatementEffect
 effect_value (EnterCode section) = Enter section
 effect_value (TextCode parts) = Text parts.items
 effect_value (DataCode parts) = Data parts.items

@@ -40,8 +40,8 @@ mnemonics =
     ∷ []
 
 -- atomic memory operations, up to the point in their names
-abbrev pub amo_kinds : List (List ℕ × AmoKind)
-amo_kinds =
+abbrev pub amo_names : List (List ℕ × AmoKind)
+amo_names =
     (codes "amoadd", Amoadd) ∷ (codes "amoswap", Amoswap) ∷ (codes "amoxor", Amoxor) ∷ (codes "amoor", Amoor)
     ∷ (codes "amoand", Amoand) ∷ (codes "amomin", Amomin) ∷ (codes "amomax", Amomax) ∷ (codes "amominu", Amominu)
     ∷ (codes "amomaxu", Amomaxu)
@@ -57,11 +57,11 @@ abbrev pub is_point : ℕ → Bool
 is_point byte = byte == 46
 
 -- an atomic memory operation
-unfoldable pub amo_of : List ℕ → Option Mnemonic
-amo_of name =
+unfoldable pub amo_mnemonic : List ℕ → Option Mnemonic
+amo_mnemonic name =
     option_map (λ found. Amo found.0 found.1.0 found.1.1)
-    (option_zip (named amo_kinds (before_first is_point name)) (named orderings (after_first is_point name)))
+    (option_zip (named amo_names (before_first is_point name)) (named orderings (after_first is_point name)))
 
 -- an instruction or a pseudo-instruction
 unfoldable pub mnemonic_of : List ℕ → Option Mnemonic
-mnemonic_of name = option_or (named mnemonics name) (amo_of name)
+mnemonic_of name = option_or (named mnemonics name) (amo_mnemonic name)

@@ -8,13 +8,13 @@ use Rattle.asm_lines.specs.declared.operand.Operand.TheVariants.{Number, Name, T
 
 -- ---- one operand
 
-unfoldable pub register : Operand → Option ℕ
-register (Name name) = register_of name
-register _ = None
+unfoldable pub register_operand : Operand → Option ℕ
+register_operand (Name name) = register_of name
+register_operand _ = None
 
-unfoldable pub number : Operand → Option ℤ
-number (Number n) = Some n
-number _ = None
+unfoldable pub number_operand : Operand → Option ℤ
+number_operand (Number n) = Some n
+number_operand _ = None
 
 unfoldable pub label : Operand → Option (List ℕ)
 label (Name name) = Some name
@@ -42,47 +42,47 @@ zip_three _ _ _ = None
 
 -- `rs1`
 unfoldable pub one_register : List Operand → Option ℕ
-one_register (a ∷ []) = register a
+one_register (a ∷ []) = register_operand a
 one_register _ = None
 
 -- `rd, rs1`
 unfoldable pub two_registers : List Operand → Option (ℕ × ℕ)
-two_registers (a ∷ b ∷ []) = option_zip (register a) (register b)
+two_registers (a ∷ b ∷ []) = option_zip (register_operand a) (register_operand b)
 two_registers _ = None
 
 -- `rd, rs1, rs2`
 unfoldable pub three_registers : List Operand → Option (ℕ × ℕ × ℕ)
-three_registers (a ∷ b ∷ c ∷ []) = zip_three (register a) (register b) (register c)
+three_registers (a ∷ b ∷ c ∷ []) = zip_three (register_operand a) (register_operand b) (register_operand c)
 three_registers _ = None
 
 -- `rd, rs1, n`
 unfoldable pub two_registers_number : List Operand → Option (ℕ × ℕ × ℤ)
-two_registers_number (a ∷ b ∷ c ∷ []) = zip_three (register a) (register b) (number c)
+two_registers_number (a ∷ b ∷ c ∷ []) = zip_three (register_operand a) (register_operand b) (number_operand c)
 two_registers_number _ = None
 
 -- `rd, n`
 unfoldable pub register_number : List Operand → Option (ℕ × ℤ)
-register_number (a ∷ b ∷ []) = option_zip (register a) (number b)
+register_number (a ∷ b ∷ []) = option_zip (register_operand a) (number_operand b)
 register_number _ = None
 
 -- `n, rd, rs1`
 unfoldable pub number_two_registers : List Operand → Option (ℤ × ℕ × ℕ)
-number_two_registers (a ∷ b ∷ c ∷ []) = zip_three (number a) (register b) (register c)
+number_two_registers (a ∷ b ∷ c ∷ []) = zip_three (number_operand a) (register_operand b) (register_operand c)
 number_two_registers _ = None
 
 -- `rd, n(rs1)`
 unfoldable pub register_indexed : List Operand → Option (ℕ × (ℤ × ℕ))
-register_indexed (a ∷ b ∷ []) = option_zip (register a) (indexed b)
+register_indexed (a ∷ b ∷ []) = option_zip (register_operand a) (indexed b)
 register_indexed _ = None
 
 -- `rd, rs2, (rs1)`
 unfoldable pub two_registers_indirect : List Operand → Option (ℕ × ℕ × ℕ)
-two_registers_indirect (a ∷ b ∷ c ∷ []) = zip_three (register a) (register b) (indirect c)
+two_registers_indirect (a ∷ b ∷ c ∷ []) = zip_three (register_operand a) (register_operand b) (indirect c)
 two_registers_indirect _ = None
 
 -- `n`
 unfoldable pub one_number : List Operand → Option ℤ
-one_number (a ∷ []) = number a
+one_number (a ∷ []) = number_operand a
 one_number _ = None
 
 -- `"text"`, with its escapes
@@ -97,10 +97,10 @@ one_label _ = None
 
 -- `rd, label`
 unfoldable pub register_label : List Operand → Option (ℕ × List ℕ)
-register_label (a ∷ b ∷ []) = option_zip (register a) (label b)
+register_label (a ∷ b ∷ []) = option_zip (register_operand a) (label b)
 register_label _ = None
 
 -- `rs1, rs2, label`
 unfoldable pub two_registers_label : List Operand → Option (ℕ × ℕ × List ℕ)
-two_registers_label (a ∷ b ∷ c ∷ []) = zip_three (register a) (register b) (label c)
+two_registers_label (a ∷ b ∷ c ∷ []) = zip_three (register_operand a) (register_operand b) (label c)
 two_registers_label _ = None

@@ -1,5 +1,5 @@
 ghost use Rattle.std.specs.Prelude.{◌≡◌, IfOk, IfErr};
-ghost use Rattle.asm_lines.specs.Faults.{Refuses};
+ghost use Rattle.asm_lines.specs.Faults.{RefusesLine};
 ghost use Rattle.asm_statements.specs.Instructions.{constant, load_immediate};
 
 use crate::instructions::add_immediate;
@@ -34,7 +34,7 @@ pub(crate) fn read_constant<'a>(
     operands: &[Operand],
 ) -> Result<Vec<Code<'a>>, Refusal>
     ensures parts { IfOk result (λ parts. load_immediate operands.now ≡ Ok parts.items) }
-    ensures refusal { IfErr result (Refuses (load_immediate operands.now)) }
+    ensures refusal { IfErr result (RefusesLine (load_immediate operands.now)) }
 {
     let (rd, number) = register_number(operands).ok_or(Refusal::Fault(FaultKind::Operand))?;
     let word = word(number).map_err(Refusal::Fault)?;

@@ -1,6 +1,6 @@
 ghost use Rattle.std.specs.Prelude.{◌≡◌, IfOk, IfErr};
 ghost use Rattle.std.specs.List.{list_all};
-ghost use Rattle.asm_lines.specs.Faults.{Refuses};
+ghost use Rattle.asm_lines.specs.Faults.{RefusesLine};
 ghost use Rattle.asm_statements.specs.Directives as form;
 
 use crate::part::{Code, Datum};
@@ -75,7 +75,7 @@ fn is_list(size: Size, operands: &[Operand]) -> bool
 /// Each word of a list, for the text.
 fn each_text_word<'a>(alloc: Global, operands: &[Operand<'a>]) -> Result<Vec<Code<'a>>, Refusal>
     ensures words { IfOk result (λ words. form.each_of form.text_word operands.now ≡ Ok words.items) }
-    ensures refusal { IfErr result (Refuses (form.each_of form.text_word operands.now)) }
+    ensures refusal { IfErr result (RefusesLine (form.each_of form.text_word operands.now)) }
 {
     let mut words = Vec::new(alloc);
     for operand in operands {
@@ -92,7 +92,7 @@ fn each_data_value<'a>(
     operands: &[Operand<'a>],
 ) -> Result<Vec<Datum<'a>>, Refusal>
     ensures values { IfOk result (λ values. form.each_of (form.data_value size) operands.now ≡ Ok values.items) }
-    ensures refusal { IfErr result (Refuses (form.each_of (form.data_value size) operands.now)) }
+    ensures refusal { IfErr result (RefusesLine (form.each_of (form.data_value size) operands.now)) }
 {
     let mut values = Vec::new(alloc);
     for operand in operands {
@@ -109,7 +109,7 @@ pub(crate) fn text_values<'a>(
     operands: &[Operand<'a>],
 ) -> Result<Vec<Code<'a>>, Refusal>
     ensures words { IfOk result (λ words. form.values Size.Word form.text_word operands.now ≡ Ok words.items) }
-    ensures refusal { IfErr result (Refuses (form.values Size.Word form.text_word operands.now)) }
+    ensures refusal { IfErr result (RefusesLine (form.values Size.Word form.text_word operands.now)) }
 {
     if is_list(Size::Word, operands) {
         each_text_word(alloc, operands)
@@ -126,7 +126,7 @@ pub(crate) fn data_values<'a>(
     operands: &[Operand<'a>],
 ) -> Result<Vec<Datum<'a>>, Refusal>
     ensures values { IfOk result (λ values. form.values size (form.data_value size) operands.now ≡ Ok values.items) }
-    ensures refusal { IfErr result (Refuses (form.values size (form.data_value size) operands.now)) }
+    ensures refusal { IfErr result (RefusesLine (form.values size (form.data_value size) operands.now)) }
 {
     if is_list(size, operands) {
         each_data_value(alloc, size, operands)

@@ -7,7 +7,7 @@ ghost use Rattle.rv_isa.specs.Split.{low_part, high_part};
 ghost use Rattle.asm_statements.specs.Ranges.{bits_within};
 ghost use Rattle.asm_lines.specs.declared.operand.Operand.TheVariants.{Number, Name, Indexed};
 ghost use Rattle.asm_statements.specs.SameStatements.{DoesTheSame};
-ghost use Rattle.asm_statements.specs.Escapes.{StandsFor};
+ghost use Rattle.asm_statements.specs.Escapes.{ReadsEscapes};
 ghost use Rattle.asm_statements.specs.Directives.{unescaped};
 
 /// What `li` and `la` load: `lui` of the high part and `addi` of the low part, which fits, leave the word, and the word of
@@ -37,5 +37,5 @@ pub fn pseudo_instructions_are_instructions()
 /// What stands between quotes is read to the bytes for which it stands.
 #[tactic(auto, using(crate::proofs::EscapeLaws::text_reads))]
 pub fn escapes_stand_for_their_bytes()
-    ensures { (text bytes : List ℕ) → StandsFor text bytes → unescaped text ≡ bytes }
+    ensures { (text bytes : List ℕ) → ReadsEscapes text bytes → unescaped text ≡ bytes }
 {}

@@ -1,7 +1,7 @@
 ghost use Rattle.std.specs.Prelude.{◌≡◌, ◌<◌, length, IfSome};
 ghost use Rattle.std.specs.List.{position, before_first, after_first};
 ghost use Rattle.asm_statements.specs.Names.{named};
-ghost use Rattle.asm_statements.specs.Mnemonics.{mnemonics, amo_kinds, orderings, is_point, amo_of, mnemonic_of};
+ghost use Rattle.asm_statements.specs.Mnemonics.{mnemonics, amo_names, orderings, is_point, amo_mnemonic, mnemonic_of};
 
 use crate::names::look_up;
 use rv_isa::{AmoKind, BranchKind, ImmediateKind, LoadKind, OpKind, ShiftKind, StoreKind};
@@ -150,7 +150,7 @@ fn plain(name: &[u8]) -> Option<Mnemonic>
 
 /// The kind of an atomic memory operation.
 fn amo_kind(stem: &[u8]) -> Option<AmoKind>
-    ensures { result ≡ named amo_kinds stem.now }
+    ensures { result ≡ named amo_names stem.now }
 {
     look_up(&AMO_KINDS, stem)
 }
@@ -183,9 +183,9 @@ fn at_point(name: &[u8]) -> (&[u8], &[u8])
 }
 
 /// An atomic memory operation.
-#[tactic(auto, unfolding(crate::specs::Mnemonics::amo_of))]
+#[tactic(auto, unfolding(crate::specs::Mnemonics::amo_mnemonic))]
 fn amo(name: &[u8]) -> Option<Mnemonic>
-    ensures { result ≡ amo_of name.now }
+    ensures { result ≡ amo_mnemonic name.now }
 {
     let (stem, suffix) = at_point(name);
     let kind = amo_kind(stem)?;

@@ -1,5 +1,5 @@
 //! The operands of statements, by their shapes.
-#![tactic(auto, unfolding(crate::specs::Shapes::register, crate::specs::Shapes::number, crate::specs::Shapes::label, crate::specs::Shapes::text, crate::specs::Shapes::indexed, crate::specs::Shapes::indirect))]
+#![tactic(auto, unfolding(crate::specs::Shapes::register_operand, crate::specs::Shapes::number_operand, crate::specs::Shapes::label, crate::specs::Shapes::text, crate::specs::Shapes::indexed, crate::specs::Shapes::indirect))]
 
 ghost use Rattle.std.specs.Prelude.{◌≡◌};
 ghost use Rattle.asm_statements.specs.Shapes as shape;
@@ -9,7 +9,7 @@ use asm_lines::{Operand, Span};
 use rv_isa::Reg;
 
 fn register(operand: &Operand) -> Option<Reg>
-    ensures { result ≡ shape.register operand.now }
+    ensures { result ≡ shape.register_operand operand.now }
 {
     match operand {
         Operand::Name(name) => read_register(name.bytes()),
@@ -18,7 +18,7 @@ fn register(operand: &Operand) -> Option<Reg>
 }
 
 fn number(operand: &Operand) -> Option<i64>
-    ensures { result ≡ shape.number operand.now }
+    ensures { result ≡ shape.number_operand operand.now }
 {
     match operand {
         Operand::Number(number) => Some(*number),

@@ -1,5 +1,5 @@
 ghost use Rattle.std.specs.Prelude.{◌≡◌, IfOk, IfErr};
-ghost use Rattle.asm_lines.specs.Faults.{Refuses};
+ghost use Rattle.asm_lines.specs.Faults.{RefusesLine};
 ghost use Rattle.asm_statements.specs.Effects.{effect_value};
 ghost use Rattle.asm_statements.specs.Statements as spec;
 
@@ -26,7 +26,7 @@ pub fn read_statement<'a>(
 ) -> Result<Effect<'a>, Refusal>
     ensures effect { IfOk result (λ effect.
         spec.statement_effect section name.now operands.now ≡ Ok (effect_value effect)) }
-    ensures refusal { IfErr result (Refuses (spec.statement_effect section name.now operands.now)) }
+    ensures refusal { IfErr result (RefusesLine (spec.statement_effect section name.now operands.now)) }
 {
     let statement = read_name(name).ok_or(Refusal::Fault(FaultKind::UnknownName))?;
     match section {
@@ -43,7 +43,7 @@ fn in_text<'a>(
     operands: &[Operand<'a>],
 ) -> Result<Effect<'a>, Refusal>
     ensures effect { IfOk result (λ effect. spec.in_text statement operands.now ≡ Ok (effect_value effect)) }
-    ensures refusal { IfErr result (Refuses (spec.in_text statement operands.now)) }
+    ensures refusal { IfErr result (RefusesLine (spec.in_text statement operands.now)) }
 {
     match statement {
         Statement::Enter(into) => enter(into, operands),
@@ -65,7 +65,7 @@ fn in_data<'a>(
     operands: &[Operand<'a>],
 ) -> Result<Effect<'a>, Refusal>
     ensures effect { IfOk result (λ effect. spec.in_data statement operands.now ≡ Ok (effect_value effect)) }
-    ensures refusal { IfErr result (Refuses (spec.in_data statement operands.now)) }
+    ensures refusal { IfErr result (RefusesLine (spec.in_data statement operands.now)) }
 {
     match statement {
         Statement::Enter(into) => enter(into, operands),
@@ -83,7 +83,7 @@ fn in_data<'a>(
 #[tactic(auto, unfolding(crate::specs::Statements::enter))]
 fn enter<'a>(into: Section, operands: &[Operand]) -> Result<Effect<'a>, Refusal>
     ensures effect { IfOk result (λ effect. spec.enter into operands.now ≡ Ok (effect_value effect)) }
-    ensures refusal { IfErr result (Refuses (spec.enter into operands.now)) }
+    ensures refusal { IfErr result (RefusesLine (spec.enter into operands.now)) }
 {
     if operands.is_empty() {
         Ok(Effect::Enter(into))

@@ -1,5 +1,5 @@
 ghost use Rattle.std.specs.Prelude.{◌≡◌, IfOk, IfErr, map};
-ghost use Rattle.asm_lines.specs.Faults.{Refuses};
+ghost use Rattle.asm_lines.specs.Faults.{RefusesLine};
 ghost use Rattle.asm_statements.specs.Directives as form;
 ghost use Rattle.asm_statements.specs.declared.part.Datum.TheVariants.{Byte};
 
@@ -45,7 +45,7 @@ fn characters<'a>(alloc: Global, text: &[u8]) -> Result<Vec<Datum<'a>>, AllocErr
 #[tactic(auto, unfolding(crate::specs::Directives::ascii))]
 pub(crate) fn ascii<'a>(alloc: Global, operands: &[Operand]) -> Result<Vec<Datum<'a>>, Refusal>
     ensures bytes { IfOk result (λ bytes. form.ascii operands.now ≡ Ok bytes.items) }
-    ensures refusal { IfErr result (Refuses (form.ascii operands.now)) }
+    ensures refusal { IfErr result (RefusesLine (form.ascii operands.now)) }
 {
     let text = one_text(operands).ok_or(Refusal::Fault(FaultKind::Operand))?;
     Ok(characters(alloc, text.bytes())?)

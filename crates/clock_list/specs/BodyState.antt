@@ -15,5 +15,5 @@ state_of b = record {
 }
 
 -- the list has an entry of the key
-abbrev pub Lists : Body → Key → Type 0
-Lists b k = place k b.entries.items < length b.entries.items
+abbrev pub HasEntry : Body → Key → Type 0
+HasEntry b k = place k b.entries.items < length b.entries.items

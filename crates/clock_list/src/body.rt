@@ -1,7 +1,7 @@
 //! The list with its hands, and the policy's moves on it.
 
 ghost use Rattle.std.specs.Prelude.{◌≡◌, ◌≤◌, ◌<◌, ◌+◌, ◌-◌, ◌*◌, ℕ, vec_len, vec_capacity, IfOk, OnErr, Ok, Err, ◌≢◌};
-ghost use Rattle.clock_policy.specs.ClockPro.{place, relisted, removed, appended, marked, sent_to_end, grown, fallen, turned_to, cold_hand_on, shadowed, trimmed_once, trimmed, asked_entry, asks_hot, opening, question_of, purged, gone_on, gives_up, heeded, test_answered, cold_answered, answered, is_full, new_admitted, shadow_admitted, admitted, new_restored, shadow_restored, restored, withdrawn};
+ghost use Rattle.clock_policy.specs.ClockPro.{place, relisted, removed, appended, marked, sent_to_end, grown, fallen, turned_to, cold_hand_on, shadowed, trimmed_once, trimmed, asked_entry, asks_hot, opening_state, question_of, purged, gone_on, gives_up, heeded, test_answered, cold_answered, answered, is_full, new_admitted, shadow_admitted, admitted, new_restored, shadow_restored, restored, withdrawn};
 ghost use Rattle.clock_policy.specs.Lawful.{HasFewEntries};
 
 use crate::rebuild::{rebuild_trimmed, rebuild_turned, rebuild_without, rebuild_without_process};
@@ -33,14 +33,14 @@ pub(crate) struct Body {
 }
 
 impl Body {
-    ghost use Rattle.clock_list.specs.BodyState.{state_of, Lists};
+    ghost use Rattle.clock_list.specs.BodyState.{state_of, HasEntry};
 
     /// An empty list, with room for two entries a frame.
-    #[tactic(auto, unfolding(clock_policy::specs::ClockPro::opening))]
+    #[tactic(auto, unfolding(clock_policy::specs::ClockPro::opening_state))]
     pub(crate) fn new(alloc: Global, frames: usize) -> Result<Self, AllocError>
         requires least { 4 ≤ frames }
         requires most { frames ≤ 4096 }
-        ensures { IfOk result (λ body. state_of body ≡ opening frames) }
+        ensures { IfOk result (λ body. state_of body ≡ opening_state frames) }
     {
         let entries = Vec::with_capacity(alloc, 2 * frames)?;
         let spare = Vec::with_capacity(alloc, 2 * frames)?;
@@ -70,7 +70,7 @@ impl Body {
 
     #[tactic(auto, unfolding(clock_policy::specs::ClockPro::removed))]
     pub(crate) fn remove(&mut self, key: Key)
-        requires { Lists self.old key }
+        requires { HasEntry self.old key }
         ensures moved { state_of self.new ≡ removed key (state_of self.old) }
         ensures len { vec_len self.new.entries + 1 ≡ vec_len self.old.entries }
         ensures frames { self.new.frames ≡ self.old.frames }
@@ -92,7 +92,7 @@ impl Body {
 
     #[tactic(auto, unfolding(clock_policy::specs::ClockPro::sent_to_end))]
     pub(crate) fn send_to_end(&mut self, key: Key, kind: EntryKind)
-        requires { Lists self.old key }
+        requires { HasEntry self.old key }
         ensures moved { state_of self.new ≡ sent_to_end key kind (state_of self.old) }
     {
         self.remove(key);
@@ -101,7 +101,7 @@ impl Body {
 
     #[tactic(auto, unfolding(clock_policy::specs::ClockPro::marked))]
     pub(crate) fn mark(&mut self, key: Key, kind: EntryKind)
-        requires { Lists self.old key }
+        requires { HasEntry self.old key }
         ensures moved { state_of self.new ≡ marked key kind (state_of self.old) }
         ensures len { vec_len self.new.entries ≡ vec_len self.old.entries }
     {
@@ -126,7 +126,7 @@ impl Body {
     /// The hot hand goes to the hot entry, which is answered.
     #[tactic(auto, unfolding(clock_policy::specs::ClockPro::turned_to))]
     pub(crate) fn turn_to(&mut self, bit: Bit, hot: Entry)
-        requires { Lists self.old hot.key }
+        requires { HasEntry self.old hot.key }
         ensures moved { state_of self.new ≡ turned_to bit hot (state_of self.old) }
     {
         let i = place(&self.entries, hot.key);
@@ -148,7 +148,7 @@ impl Body {
     /// The entry becomes a shadow where it stands, and the cold hand goes to its next.
     #[tactic(auto, unfolding(clock_policy::specs::ClockPro::shadowed))]
     pub(crate) fn shadow(&mut self, key: Key)
-        requires { Lists self.old key }
+        requires { HasEntry self.old key }
         ensures moved { state_of self.new ≡ shadowed key (state_of self.old) }
     {
         let i = place(&self.entries, key);
@@ -238,7 +238,7 @@ impl Body {
     }
 
     fn answer_test(&mut self, bit: Bit, x: Entry) -> Verdict
-        requires { Lists self.old x.key }
+        requires { HasEntry self.old x.key }
         ensures moved { state_of self.new ≡ (test_answered bit x (state_of self.old)).0 }
         ensures answer { Ok result ≡ (test_answered bit x (state_of self.old)).1 }
     {
@@ -262,7 +262,7 @@ impl Body {
     }
 
     fn answer_cold(&mut self, bit: Bit, x: Entry) -> Verdict
-        requires { Lists self.old x.key }
+        requires { HasEntry self.old x.key }
         ensures moved { state_of self.new ≡ (cold_answered bit x (state_of self.old)).0 }
         ensures answer { Ok result ≡ (cold_answered bit x (state_of self.old)).1 }
     {
@@ -304,14 +304,14 @@ impl Body {
         }
     }
 
-    #[tactic(auto, using(clock_policy::specs::Counts::length_is))]
+    #[tactic(auto, using(clock_policy::specs::LookupLaws::length_is))]
     fn is_full(&self) -> bool
         ensures { result ≡ is_full (state_of self.now) }
     {
         hot_count(&self.entries) + cold_count(&self.entries) == self.frames
     }
 
-    #[tactic(auto, using(clock_policy::specs::Counts::length_is))]
+    #[tactic(auto, using(clock_policy::specs::LookupLaws::length_is))]
     fn admit_new(&mut self, key: Key) -> Result<Kind, Refusal>
         requires { HasFewEntries (state_of self.old) }
         ensures moved { state_of self.new ≡ (new_admitted key (state_of self.old)).0 }
@@ -330,7 +330,7 @@ impl Body {
     }
 
     fn admit_shadow(&mut self, key: Key) -> Result<Kind, Refusal>
-        requires { Lists self.old key }
+        requires { HasEntry self.old key }
         ensures moved { state_of self.new ≡ (shadow_admitted key (state_of self.old)).0 }
         ensures answer { result ≡ (shadow_admitted key (state_of self.old)).1 }
         ensures err { OnErr result (state_of self.new ≡ state_of self.old) }
@@ -344,7 +344,7 @@ impl Body {
         Ok(Kind::Hot)
     }
 
-    #[tactic(auto, using(clock_policy::specs::Listed::kind_listed), unfolding(clock_policy::specs::ClockPro::admitted))]
+    #[tactic(auto, using(clock_policy::specs::ListedLaws::kind_listed), unfolding(clock_policy::specs::ClockPro::admitted))]
     pub(crate) fn admit(&mut self, key: Key) -> Result<Kind, Refusal>
         requires { HasFewEntries (state_of self.old) }
         ensures moved { state_of self.new ≡ (admitted key (state_of self.old)).0 }
@@ -361,7 +361,7 @@ impl Body {
         }
     }
 
-    #[tactic(auto, using(clock_policy::specs::Counts::length_is))]
+    #[tactic(auto, using(clock_policy::specs::LookupLaws::length_is))]
     fn restore_new(&mut self, key: Key) -> Result<(), Refusal>
         requires { HasFewEntries (state_of self.old) }
         ensures moved { state_of self.new ≡ (new_restored key (state_of self.old)).0 }
@@ -380,7 +380,7 @@ impl Body {
     }
 
     fn restore_shadow(&mut self, key: Key) -> Result<(), Refusal>
-        requires { Lists self.old key }
+        requires { HasEntry self.old key }
         ensures moved { state_of self.new ≡ (shadow_restored key (state_of self.old)).0 }
         ensures answer { result ≡ (shadow_restored key (state_of self.old)).1 }
         ensures err { OnErr result (state_of self.new ≡ state_of self.old) }
@@ -393,7 +393,7 @@ impl Body {
         Ok(())
     }
 
-    #[tactic(auto, using(clock_policy::specs::Listed::kind_listed), unfolding(clock_policy::specs::ClockPro::restored))]
+    #[tactic(auto, using(clock_policy::specs::ListedLaws::kind_listed), unfolding(clock_policy::specs::ClockPro::restored))]
     pub(crate) fn restore(&mut self, key: Key) -> Result<(), Refusal>
         requires { HasFewEntries (state_of self.old) }
         ensures moved { state_of self.new ≡ (restored key (state_of self.old)).0 }
@@ -410,7 +410,7 @@ impl Body {
         }
     }
 
-    #[tactic(auto, using(clock_policy::specs::Listed::kind_listed), unfolding(clock_policy::specs::ClockPro::withdrawn))]
+    #[tactic(auto, using(clock_policy::specs::ListedLaws::kind_listed), unfolding(clock_policy::specs::ClockPro::withdrawn))]
     pub(crate) fn withdraw(&mut self, key: Key) -> Result<(), Refusal>
         ensures moved { state_of self.new ≡ (withdrawn key (state_of self.old)).0 }
         ensures answer { result ≡ (withdrawn key (state_of self.old)).1 }

@@ -1,9 +1,9 @@
 //! The list as a vector.
 
 ghost use Rattle.std.specs.Prelude.{◌≡◌, ◌≢◌, ◌≤◌, ◌<◌, ◌*◌, ◌↔◌, ◌⊎◌, ℕ, IfOk, IfErr, OnOk, OnErr, IsOk, Ok, Err, slice_get, option_map};
-ghost use Rattle.clock_policy.specs.ClockPro.{opening, question_of, answered, admitted, restored, withdrawn, purged, purge_count};
+ghost use Rattle.clock_policy.specs.ClockPro.{opening_state, question_of, answered, admitted, restored, withdrawn, purged, purge_count};
 ghost use Rattle.clock_policy.specs.Lawful.{Lawful};
-ghost use Rattle.clock_policy.specs.Bound.{left, NothingResident};
+ghost use Rattle.clock_policy.specs.Bound.{answers_left, NothingResident};
 
 use crate::body::Body;
 use crate::scan::{kind_of, process_count};

@@ -2,7 +2,7 @@
 
 ghost use Rattle.std.specs.Prelude.{◌≡◌, ◌≤◌, ◌<◌, ◌+◌, ◌*◌, ℕ, length, take, drop, ◌++◌, ◌∷◌, [], not, filter, vec_len, vec_capacity};
 ghost use Rattle.std.specs.List.{list_any};
-ghost use Rattle.clock_policy.specs.ClockPro.{test_ended, tests_ended, trimmed_part, trimmed_tests, trimmed_list, round, hot_left, is_shadow, is_of};
+ghost use Rattle.clock_policy.specs.ClockPro.{test_ended, tests_ended, trimmed_part, trimmed_tests, trimmed_list, round, hot_left, is_shadow, is_of_process};
 
 use crate::scan::has_shadow;
 use clock_policy::{Bit, Entry, EntryKind};
@@ -85,7 +85,7 @@ pub(crate) fn rebuild_without(to: &mut Vec<Entry>, entries: &[Entry], i: usize)
 /// The entries but those of the process.
 pub(crate) fn rebuild_without_process(to: &mut Vec<Entry>, entries: &[Entry], process: u32)
     requires { length entries.now ≤ vec_capacity to.old }
-    ensures items { to.new.items ≡ filter (λ e. not (is_of process e)) entries.now }
+    ensures items { to.new.items ≡ filter (λ e. not (is_of_process process e)) entries.now }
     ensures len { vec_len to.new ≤ length entries.now }
     ensures capacity { vec_capacity to.old ≤ vec_capacity to.new }
 {
@@ -120,7 +120,7 @@ pub(crate) fn rebuild_turned(to: &mut Vec<Entry>, entries: &[Entry], i: usize, b
     }
 }
 
-#[tactic(auto, using(clock_policy::specs::Counts::round_tests_then, clock_policy::specs::Counts::round_tests_else, clock_policy::specs::Counts::trimmed_list_then, clock_policy::specs::Counts::trimmed_list_else))]
+#[tactic(auto, using(clock_policy::specs::LookupLaws::round_tests_then, clock_policy::specs::LookupLaws::round_tests_else, clock_policy::specs::LookupLaws::trimmed_list_then, clock_policy::specs::LookupLaws::trimmed_list_else))]
 /// The entries once trimmed from the place on, and how many tests that ended.
 pub(crate) fn rebuild_trimmed(to: &mut Vec<Entry>, entries: &[Entry], i: usize) -> usize
     requires listed { i ≤ length entries.now }

@@ -2,41 +2,41 @@
 
 ghost use Rattle.std.specs.Prelude.{◌≡◌, ◌≤◌, ◌<◌, ℕ, length, find, true};
 ghost use Rattle.std.specs.List.{list_any};
-ghost use Rattle.clock_policy.specs.ClockPro.{hot_count, cold_count, shadow_count, test_count, place, place_of, round, key_of, stays_in, settled, is_hot, is_cold, is_shadow, kind_of, number, is_of};
+ghost use Rattle.clock_policy.specs.ClockPro.{hot_count, cold_count, shadow_count, test_count, place, place_of, round, found_key, stays_in, settled, is_hot, is_cold, is_shadow, kind_of, number, is_of_process};
 
 use clock_policy::{Entry, EntryKind, Key};
 
-#[tactic(auto, using(clock_policy::specs::Counts::number_is))]
+#[tactic(auto, using(clock_policy::specs::LookupLaws::number_is))]
 pub(crate) fn hot_count(entries: &[Entry]) -> usize
     ensures { result ≡ hot_count entries.now }
 {
     entries.iter().filter(|e| e.kind.is_hot()).count()
 }
 
-#[tactic(auto, using(clock_policy::specs::Counts::number_is))]
+#[tactic(auto, using(clock_policy::specs::LookupLaws::number_is))]
 pub(crate) fn cold_count(entries: &[Entry]) -> usize
     ensures { result ≡ cold_count entries.now }
 {
     entries.iter().filter(|e| e.kind.is_cold()).count()
 }
 
-#[tactic(auto, using(clock_policy::specs::Counts::number_is))]
+#[tactic(auto, using(clock_policy::specs::LookupLaws::number_is))]
 pub(crate) fn shadow_count(entries: &[Entry]) -> usize
     ensures { result ≡ shadow_count entries.now }
 {
     entries.iter().filter(|e| e.kind.is_shadow()).count()
 }
 
-#[tactic(auto, using(clock_policy::specs::Counts::number_is))]
+#[tactic(auto, using(clock_policy::specs::LookupLaws::number_is))]
 pub(crate) fn test_count(entries: &[Entry]) -> usize
     ensures { result ≡ test_count entries.now }
 {
     entries.iter().filter(|e| e.kind.is_in_test()).count()
 }
 
-#[tactic(auto, using(clock_policy::specs::Counts::number_is))]
+#[tactic(auto, using(clock_policy::specs::LookupLaws::number_is))]
 pub(crate) fn process_count(entries: &[Entry], process: u32) -> usize
-    ensures count { result ≡ number (is_of process) entries.now }
+    ensures count { result ≡ number (is_of_process process) entries.now }
     ensures within { result ≤ length entries.now }
 {
     entries.iter().filter(|e| e.key.process == process).count()
@@ -94,7 +94,7 @@ pub(crate) fn first_cold(entries: &[Entry]) -> Option<Entry>
 }
 
 fn first_shadow(entries: &[Entry]) -> Option<Key>
-    ensures { result ≡ key_of (find (λ e. is_shadow e.kind) entries.now) }
+    ensures { result ≡ found_key (find (λ e. is_shadow e.kind) entries.now) }
 {
     entries.iter().find(|e| e.kind.is_shadow()).map(|e| e.key)
 }
@@ -112,13 +112,13 @@ fn stays_in(list: &[Entry], entry: &Entry) -> bool
 }
 
 fn first_staying(part: &[Entry], list: &[Entry]) -> Option<Key>
-    ensures { result ≡ key_of (find (stays_in list.now) part.now) }
+    ensures { result ≡ found_key (find (stays_in list.now) part.now) }
 {
     part.iter().find(|e| stays_in(list, e)).map(|e| e.key)
 }
 
 /// Where a hand of the old list rests when the list is the new one.
-#[tactic(auto, using(clock_policy::specs::Counts::settled_halves))]
+#[tactic(auto, using(clock_policy::specs::LookupLaws::settled_halves))]
 pub(crate) fn settled(old: &[Entry], new: &[Entry], hand: Option<Key>) -> Option<Key>
     ensures { result ≡ settled old.now new.now hand }
 {
@@ -130,7 +130,7 @@ pub(crate) fn settled(old: &[Entry], new: &[Entry], hand: Option<Key>) -> Option
 }
 
 /// The first cold entry from the cold hand on, once round.
-#[tactic(auto, using(clock_policy::specs::Counts::cold_halves))]
+#[tactic(auto, using(clock_policy::specs::LookupLaws::cold_halves))]
 pub(crate) fn first_cold_from(entries: &[Entry], hand: Option<Key>) -> Option<Entry>
     ensures { result ≡ find (λ e. is_cold e.kind) (round (place_of hand entries.now) entries.now) }
 {
@@ -142,10 +142,10 @@ pub(crate) fn first_cold_from(entries: &[Entry], hand: Option<Key>) -> Option<En
 }
 
 /// The key of the first shadow from the place on, once round.
-#[tactic(auto, using(clock_policy::specs::Counts::shadow_halves))]
+#[tactic(auto, using(clock_policy::specs::LookupLaws::shadow_halves))]
 pub(crate) fn first_shadow_from(entries: &[Entry], i: usize) -> Option<Key>
     requires { i ≤ length entries.now }
-    ensures { result ≡ key_of (find (λ e. is_shadow e.kind) (round i entries.now)) }
+    ensures { result ≡ found_key (find (λ e. is_shadow e.kind) (round i entries.now)) }
 {
     let (before, ahead) = entries.split_at(i);
     match first_shadow(ahead) {
@@ -155,10 +155,10 @@ pub(crate) fn first_shadow_from(entries: &[Entry], i: usize) -> Option<Key>
 }
 
 /// The key of the entry at the place, or of the front where that is past the last.
-#[tactic(auto, using(clock_policy::specs::Counts::any_halves))]
+#[tactic(auto, using(clock_policy::specs::LookupLaws::any_halves))]
 pub(crate) fn first_key_from(entries: &[Entry], i: usize) -> Option<Key>
     requires { i ≤ length entries.now }
-    ensures { result ≡ key_of (find (λ _. true) (round i entries.now)) }
+    ensures { result ≡ found_key (find (λ _. true) (round i entries.now)) }
 {
     let (before, ahead) = entries.split_at(i);
     match ahead.first().or(before.first()) {

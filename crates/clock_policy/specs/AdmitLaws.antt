@@ -9,8 +9,8 @@ use Rattle.clock_policy.specs.declared.entry.EntryKind.TheVariants.{Hot, Test, C
 use Rattle.clock_policy.specs.declared.answer.Kind.TheVariants as kind
 use Rattle.clock_policy.specs.declared.refusal.Refusal.{Refusal}
 use Rattle.clock_policy.specs.declared.refusal.Refusal.TheVariants.{AlreadyResident, Full}
-use Rattle.clock_policy.specs.ClockPro.{ClockState, number, has_key, place, key_of, is_hot, is_cold, hot_count, cold_count, relisted, removed, appended, marked, sent_to_end, grown, asked_entry, question_of, is_full, kind_of, kind_admitted, admitted, kind_restored, restored, kind_withdrawn, withdrawn, is_of, purged}
-use Rattle.clock_policy.specs.Residents.{in_frame, is_resident, residents, is_key, found_in_frame, has_resident}
+use Rattle.clock_policy.specs.ClockPro.{ClockState, number, has_key, place, found_key, is_hot, is_cold, hot_count, cold_count, relisted, removed, appended, marked, sent_to_end, grown, asked_entry, question_of, is_full, kind_of, kind_admitted, admitted, kind_restored, restored, kind_withdrawn, withdrawn, is_of_process, purged}
+use Rattle.clock_policy.specs.Residents.{in_frame, is_resident_that, residents, is_key, found_in_frame, has_resident}
 use Rattle.clock_policy.specs.Lawful.{Lawful}
 use Rattle.clock_policy.specs.CountLaws.{number-append, number-without, number-set, IsIn}
 use Rattle.clock_policy.specs.ClockLaws.{asked_in}
@@ -30,19 +30,19 @@ keyed k e h = one_key e.key k (parts k e h).0 (parts k e h).1
     parts : (k : Key) (e : Entry) → has_key k e ≡ true → (e.key.process ≡ k.process) × (e.key.vpn ≡ k.vpn)
     parts k e h = grind arith
 
-pub holds : (k : Key) (l : List Entry) (kind : EntryKind) → kind_of k l ≡ Some kind → (x : Entry) × (slice_get l (place k l) ≡ Some x) × (x.key ≡ k) × (x.kind ≡ kind)
-holds k [] kind h = cc
-holds k (e ∷ es) kind h =
+pub entry_of_kind : (k : Key) (l : List Entry) (kind : EntryKind) → kind_of k l ≡ Some kind → (x : Entry) × (slice_get l (place k l) ≡ Some x) × (x.key ≡ k) × (x.kind ≡ kind)
+entry_of_kind k [] kind h = cc
+entry_of_kind k (e ∷ es) kind h =
     elim (has_key k e) as (λ t. has_key k e ≡ t → option_map (λ (x : Entry). x.kind) (cond t (Some e) (find (has_key k) es)) ≡ Some kind → (x : Entry) × (slice_get (e ∷ es) (cond t 0 (suc (place k es))) ≡ Some x) × (x.key ≡ k) × (x.kind ≡ kind)) [
       | true ↦ λ is g. let same : e.kind ≡ kind = cc in (e, refl, keyed k e is, same)
-      | false ↦ λ is g. holds k es kind g
+      | false ↦ λ is g. entry_of_kind k es kind g
     ] refl h
 
 -- Moves.
 
 appended_residents : (r : Key → Bool) (k : Key) (s : ClockState) → residents (appended (record { key = k; kind = Test }) s) r ≡ residents s r + cond (r k) 1 0
 unfolding residents appended
-appended_residents r k s = omega (arith, number-append (is_resident r) s.entries (record { key = k; kind = Test } ∷ []))
+appended_residents r k s = omega (arith, number-append (is_resident_that r) s.entries (record { key = k; kind = Test } ∷ []))
 
 -- a shadow that comes back
 sent_residents : (r : Key → Bool) (k : Key) (s : ClockState) → kind_of k s.entries ≡ Some Shadow → residents (grown (sent_to_end k Hot s)) r ≡ residents s r + cond (r k) 1 0
@@ -51,11 +51,11 @@ sent_residents r k s is =
     let l : List Entry = s.entries in
     let i : ℕ = place k l in
     let y : Entry = record { key = k; kind = Hot } in
-    let f : (x : Entry) × (slice_get l (place k l) ≡ Some x) × (x.key ≡ k) × (x.kind ≡ Shadow) = holds k l Shadow is in
+    let f : (x : Entry) × (slice_get l (place k l) ≡ Some x) × (x.key ≡ k) × (x.kind ≡ Shadow) = entry_of_kind k l Shadow is in
     omega (
       arith,
-      number-append (is_resident r) (take i l ++ drop (i + 1) l) (y ∷ []),
-      number-without (is_resident r) f.0 l i f.1,
+      number-append (is_resident_that r) (take i l ++ drop (i + 1) l) (y ∷ []),
+      number-without (is_resident_that r) f.0 l i f.1,
       ap {B = ℕ} (λ (t : EntryKind). cond (in_frame t && r f.0.key) 1 0) f.3,
     )
 
@@ -64,10 +64,10 @@ unfolding residents marked
 marked_residents r k s is =
     let l : List Entry = s.entries in
     let y : Entry = record { key = k; kind = Test } in
-    let f : (x : Entry) × (slice_get l (place k l) ≡ Some x) × (x.key ≡ k) × (x.kind ≡ Shadow) = holds k l Shadow is in
+    let f : (x : Entry) × (slice_get l (place k l) ≡ Some x) × (x.key ≡ k) × (x.kind ≡ Shadow) = entry_of_kind k l Shadow is in
     omega (
       arith,
-      number-set (is_resident r) f.0 y l (place k l) f.1,
+      number-set (is_resident_that r) f.0 y l (place k l) f.1,
       ap {B = ℕ} (λ (t : EntryKind). cond (in_frame t && r f.0.key) 1 0) f.3,
     )
 
@@ -105,10 +105,10 @@ removed_residents : (kind : EntryKind) (r : Key → Bool) (k : Key) (s : ClockSt
 unfolding residents removed relisted
 removed_residents kind r k s is =
     let l : List Entry = s.entries in
-    let f : (x : Entry) × (slice_get l (place k l) ≡ Some x) × (x.key ≡ k) × (x.kind ≡ kind) = holds k l kind is in
+    let f : (x : Entry) × (slice_get l (place k l) ≡ Some x) × (x.key ≡ k) × (x.kind ≡ kind) = entry_of_kind k l kind is in
     omega (
       arith,
-      number-without (is_resident r) f.0 l (place k l) f.1,
+      number-without (is_resident_that r) f.0 l (place k l) f.1,
       ap {B = ℕ} (λ (t : EntryKind). cond (in_frame t && r f.0.key) 1 0) f.3,
       ap {B = ℕ} (λ (q : Key). cond (in_frame kind && r q) 1 0) f.2,
     )
@@ -137,11 +137,11 @@ purged_residents r process s = filtered r process s.entries
     both false true c n m h = rw h (omega arith)
     both false false c n m h = rw h (omega arith)
 
-    filtered : (r : Key → Bool) (process : ℕ) (l : List Entry) → number (is_resident r) (filter (λ e. not (is_of process e)) l) ≡ number (is_resident (λ q. not (q.process == process) && r q)) l
+    filtered : (r : Key → Bool) (process : ℕ) (l : List Entry) → number (is_resident_that r) (filter (λ e. not (is_of_process process e)) l) ≡ number (is_resident_that (λ q. not (q.process == process) && r q)) l
     filtered r process [] = refl
     filtered r process (e ∷ es) =
-        number_of_cond (not (is_of process e)) (is_resident r) e (filter (λ e. not (is_of process e)) es)
-        ∙ both (not (is_of process e)) (in_frame e.kind) (r e.key) _ _ (filtered r process es)
+        number_of_cond (not (is_of_process process e)) (is_resident_that r) e (filter (λ e. not (is_of_process process e)) es)
+        ∙ both (not (is_of_process process e)) (in_frame e.kind) (r e.key) _ _ (filtered r process es)
 
 -- One key.
 
@@ -161,7 +161,7 @@ and_second false b h = cc
 pub residents_once : (k : Key) (s : ClockState) → Lawful s → residents s (is_key k) ≤ 1
 unfolding residents
 residents_once k s h =
-    omega (arith, any_key (is_resident (is_key k)) (has_key k) s.entries (λ e yes. and_second (in_frame e.kind) (has_key k e) yes), h.distinct k)
+    omega (arith, any_key (is_resident_that (is_key k)) (has_key k) s.entries (λ e yes. and_second (in_frame e.kind) (has_key k e) yes), h.distinct k)
 
 in_list_number : (p : Entry → Bool) (x : Entry) (l : List Entry) → IsIn x l → p x ≡ true → 1 ≤ number p l
 in_list_number p x [] h is = absurd h
@@ -182,13 +182,13 @@ is_key_self k = grind arith
 
 entry_counts : (x : Entry) (s : ClockState) → IsIn x s.entries → in_frame x.kind ≡ true → 1 ≤ residents s (is_key x.key)
 unfolding residents
-entry_counts x s in_list frame = in_list_number (is_resident (is_key x.key)) x s.entries in_list (rw frame (is_key_self x.key))
+entry_counts x s in_list frame = in_list_number (is_resident_that (is_key x.key)) x s.entries in_list (rw frame (is_key_self x.key))
 
 -- the page of the question is resident, and stands in the list once
 pub asked_once : (q : Key) (s : ClockState) → Lawful s → question_of s ≡ Some q → residents s (is_key q) ≡ 1
 unfolding question_of
 asked_once q s h asks =
-    elim (asked_entry s) as (λ found. asked_entry s ≡ found → key_of found ≡ Some q → residents s (is_key q) ≡ 1) [
+    elim (asked_entry s) as (λ found. asked_entry s ≡ found → found_key found ≡ Some q → residents s (is_key q) ≡ 1) [
       | None ↦ λ is g. cc
       | Some x ↦ λ is g.
           let same : x.key ≡ q = cc in
@@ -203,8 +203,8 @@ pub key_residents : (k : Key) (s : ClockState) → Lawful s → residents s (is_
 unfolding residents
 key_residents k s h = counted k s.entries (h.distinct k)
   where
-    none_left : (k : Key) (l : List Entry) → number (has_key k) l ≡ 0 → number (is_resident (is_key k)) l ≡ 0
-    none_left k l h = omega (arith, any_key (is_resident (is_key k)) (has_key k) l (λ e yes. and_second (in_frame e.kind) (has_key k e) yes))
+    none_left : (k : Key) (l : List Entry) → number (has_key k) l ≡ 0 → number (is_resident_that (is_key k)) l ≡ 0
+    none_left k l h = omega (arith, any_key (is_resident_that (is_key k)) (has_key k) l (λ e yes. and_second (in_frame e.kind) (has_key k e) yes))
 
     head_counts : (f : Bool) (n : ℕ) → n ≡ 0 → cond (f && true) 1 0 + n ≡ cond f 1 0
     head_counts true n h = omega arith
@@ -214,20 +214,20 @@ key_residents k s h = counted k s.entries (h.distinct k)
     tail_counts true n m h = omega arith
     tail_counts false n m h = omega arith
 
-    counted : (k : Key) (l : List Entry) → number (has_key k) l ≤ 1 → number (is_resident (is_key k)) l ≡ cond (found_in_frame (kind_of k l)) 1 0
+    counted : (k : Key) (l : List Entry) → number (has_key k) l ≤ 1 → number (is_resident_that (is_key k)) l ≡ cond (found_in_frame (kind_of k l)) 1 0
     counted k [] one = refl
     counted k (e ∷ es) one =
-        elim (has_key k e) as (λ t. cond t 1 0 + number (has_key k) es ≤ 1 → cond (in_frame e.kind && t) 1 0 + number (is_resident (is_key k)) es ≡ cond (found_in_frame (option_map (λ (x : Entry). x.kind) (cond t (Some e) (find (has_key k) es)))) 1 0) [
+        elim (has_key k e) as (λ t. cond t 1 0 + number (has_key k) es ≤ 1 → cond (in_frame e.kind && t) 1 0 + number (is_resident_that (is_key k)) es ≡ cond (found_in_frame (option_map (λ (x : Entry). x.kind) (cond t (Some e) (find (has_key k) es)))) 1 0) [
           | true ↦ λ few. head_counts (in_frame e.kind) _ (none_left k es (omega (arith, few)))
           | false ↦ λ few. tail_counts (in_frame e.kind) _ _ (counted k es (omega (arith, few)))
         ] one
 
 -- The list is full where each frame has its page.
 
-all_residents : (l : List Entry) → number (is_resident (λ _. true)) l ≡ hot_count l + cold_count l
+all_residents : (l : List Entry) → number (is_resident_that (λ _. true)) l ≡ hot_count l + cold_count l
 all_residents [] = refl
 all_residents (e ∷ es) =
-    elim e.kind as (λ t. cond (in_frame t && true) 1 0 + number (is_resident (λ _. true)) es ≡ cond (is_hot t) 1 0 + hot_count es + (cond (is_cold t) 1 0 + cold_count es)) [
+    elim e.kind as (λ t. cond (in_frame t && true) 1 0 + number (is_resident_that (λ _. true)) es ≡ cond (is_hot t) 1 0 + hot_count es + (cond (is_cold t) 1 0 + cold_count es)) [
       | Hot ↦ omega (arith, all_residents es)
       | Test ↦ omega (arith, all_residents es)
       | Cold ↦ omega (arith, all_residents es)

@@ -10,8 +10,8 @@ use Rattle.clock_policy.specs.ClockPro.{ClockState, hot_count, cold_count, answe
 -- At most so many answers are left before one names a victim or nothing is resident: while fewer than three answers a frame came since
 -- the last victim, what is missing to five a frame. Then each use counts for nothing, so that a hot page is answered twice and a cold
 -- one once.
-abbrev pub left : ClockState → ℕ
-left s = cond (nat_lt s.asked (3 * s.frames)) (5 * s.frames - s.asked) (2 * hot_count s.entries + cold_count s.entries)
+abbrev pub answers_left : ClockState → ℕ
+answers_left s = cond (nat_lt s.asked (3 * s.frames)) (5 * s.frames - s.asked) (2 * hot_count s.entries + cold_count s.entries)
 
 abbrev pub NothingResident : ClockState → Type 0
 NothingResident s = hot_count s.entries + cold_count s.entries ≡ 0

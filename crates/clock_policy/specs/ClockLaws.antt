@@ -13,13 +13,13 @@ use Rattle.clock_policy.specs.declared.answer.Verdict.TheVariants.{GoOn, Victim}
 use Rattle.clock_policy.specs.declared.refusal.Refusal.{Refusal}
 use Rattle.clock_policy.specs.declared.answer.Kind.TheVariants as kind
 use Rattle.clock_policy.specs.declared.refusal.Refusal.TheVariants.{NoQuestion, Full}
-use Rattle.clock_policy.specs.ClockPro.{ClockState, Answer, number, has_key, place, place_of, round, is_hot, is_cold, is_shadow, hot_count, cold_count, shadow_count, tests_ended, hot_left, relisted, removed, appended, marked, sent_to_end, grown, fallen, turned_to, cold_hand_on, shadowed, trimmed, trimmed_once, asks_hot, asked_entry, opening, gone_on, gives_up, heeded, kind_answered, entry_answered, answered, is_full, kind_of, kind_admitted, admitted, kind_restored, restored, kind_withdrawn, withdrawn, is_of, purged}
+use Rattle.clock_policy.specs.ClockPro.{ClockState, Answer, number, has_key, place, place_of, round, is_hot, is_cold, is_shadow, hot_count, cold_count, shadow_count, tests_ended, hot_left, relisted, removed, appended, marked, sent_to_end, grown, fallen, turned_to, cold_hand_on, shadowed, trimmed, trimmed_once, asks_hot, asked_entry, opening_state, gone_on, gives_up, heeded, kind_answered, entry_answered, answered, is_full, kind_of, kind_admitted, admitted, kind_restored, restored, kind_withdrawn, withdrawn, is_of_process, purged}
 use Rattle.clock_policy.specs.Lawful.{Lawful}
-use Rattle.clock_policy.specs.Bound.{left, NothingResident}
-use Rattle.clock_policy.specs.Counts.{length_is}
-use Rattle.clock_policy.specs.Listed.{kind_listed, place_within}
+use Rattle.clock_policy.specs.Bound.{answers_left, NothingResident}
+use Rattle.clock_policy.specs.LookupLaws.{length_is}
+use Rattle.clock_policy.specs.ListedLaws.{kind_listed, place_within}
 use Rattle.clock_policy.specs.CountLaws.{number-append, number-without, number-without_le, number-set, number-filter, IsIn, found_in, in_round, in_number, number_any, place_holds, place_has, hot_count-tests_ended, cold_count-tests_ended, shadow_count-tests_ended, hot_count-trimmed_list, cold_count-trimmed_list, shadow_count-trimmed_list}
-use Rattle.clock_policy.specs.Steady.{Based, Steady, relisted_steady, removed_steady, appended_steady, sent_to_end_steady, marked_steady, grown_steady, turned_to_steady, shadowed_steady, trimmed_steady, cold_hand_on_steady}
+use Rattle.clock_policy.specs.SteadyLaws.{Based, Steady, relisted_steady, removed_steady, appended_steady, sent_to_end_steady, marked_steady, grown_steady, turned_to_steady, shadowed_steady, trimmed_steady, cold_hand_on_steady}
 
 pub steady_of : (s : ClockState) → Lawful s → Steady s
 steady_of s h = record {
@@ -49,8 +49,8 @@ lawful_of s h resident shadows = record {
   test_hand_rests = h.test_hand_rests;
 }
 
-pub opening_lawful : (frames : ℕ) → 4 ≤ frames → frames ≤ 4096 → Lawful (opening frames)
-unfolding opening
+pub opening_lawful : (frames : ℕ) → 4 ≤ frames → frames ≤ 4096 → Lawful (opening_state frames)
+unfolding opening_state
 opening_lawful frames least most = record {
   least = least;
   most = most;
@@ -457,7 +457,7 @@ withdrawn_lawful k s h =
 pub purged_lawful : (process : ℕ) (s : ClockState) → Lawful s → Lawful (purged process s)
 unfolding purged relisted
 purged_lawful process s h =
-    let q : Entry → Bool = λ e. not (is_of process e) in
+    let q : Entry → Bool = λ e. not (is_of_process process e) in
     lawful_of (purged process s)
     (relisted_steady (filter q s.entries) s (steady_of s h).based (λ k. number-filter (has_key k) q s.entries))
     (omega (arith, h.few, number-filter (λ e. is_hot e.kind) q s.entries, number-filter (λ e. is_cold e.kind) q s.entries))
@@ -465,14 +465,14 @@ purged_lawful process s h =
 
 -- The bound.
 
-pub left_within : (s : ClockState) → Lawful s → left s ≤ 5 * s.frames
+pub left_within : (s : ClockState) → Lawful s → answers_left s ≤ 5 * s.frames
 left_within s h = within s.frames s.asked (hot_count s.entries) (cold_count s.entries) h.few.resident
   where
     within : (m a h c : ℕ) → h + c ≤ m → cond (nat_lt a (3 * m)) (5 * m - a) (2 * h + c) ≤ 5 * m
     within m a h c few =
         elim (nat_lt a (3 * m)) as (λ t. cond t (5 * m - a) (2 * h + c) ≤ 5 * m) [ true ↦ omega arith | false ↦ omega arith ]
 
-pub left_none : (s : ClockState) → Lawful s → left s ≡ 0 → NothingResident s
+pub left_none : (s : ClockState) → Lawful s → answers_left s ≡ 0 → NothingResident s
 left_none s h z = none s.frames s.asked (hot_count s.entries) (cold_count s.entries) h.least h.few_asked z
   where
     none : (m a h c : ℕ) → 4 ≤ m → a ≤ 3 * m → cond (nat_lt a (3 * m)) (5 * m - a) (2 * h + c) ≡ 0 → h + c ≡ 0
@@ -513,7 +513,7 @@ heeded_unused s One h g =
     cc
 heeded_unused s Gone h g = cc
 
-gone_on_lowers : (bit : Bit) (s new : ClockState) → Lawful s → GoesOn (heeded s bit) s new → left (gone_on new).0 < left s
+gone_on_lowers : (bit : Bit) (s new : ClockState) → Lawful s → GoesOn (heeded s bit) s new → answers_left (gone_on new).0 < answers_left s
 unfolding gone_on
 gone_on_lowers bit s new h g =
     rw (g.frames, g.asked) (lower s.frames s.asked (hot_count s.entries) (cold_count s.entries) (hot_count new.entries) (cold_count new.entries)
@@ -523,7 +523,7 @@ gives_up_names : (k : Key) (new : ClockState) → (gives_up k new).1 ≡ Ok (Vic
 unfolding gives_up
 gives_up_names k new = refl
 
-pub left_lowers : (bit : Bit) (s : ClockState) → Lawful s → (answered bit s).1 ≡ Ok GoOn → left (answered bit s).0 < left s
+pub left_lowers : (bit : Bit) (s : ClockState) → Lawful s → (answered bit s).1 ≡ Ok GoOn → answers_left (answered bit s).0 < answers_left s
 left_lowers bit s h g =
     elim (outcome bit s (steady_of s h)) [
       | inl on ↦ rw (on.1) (gone_on_lowers bit s on.0 h on.2)
@@ -534,5 +534,5 @@ left_lowers bit s h g =
     ]
 
 -- the same of a state and an answer that are the definition's
-pub lowers_at : (bit : Bit) (old new : ClockState) (r : Result Verdict Refusal) → Lawful old → new ≡ (answered bit old).0 → r ≡ (answered bit old).1 → r ≡ Ok GoOn → left new < left old
+pub lowers_at : (bit : Bit) (old new : ClockState) (r : Result Verdict Refusal) → Lawful old → new ≡ (answered bit old).0 → r ≡ (answered bit old).1 → r ≡ Ok GoOn → answers_left new < answers_left old
 lowers_at bit old new r h moved exact on = rw moved (left_lowers bit old h (sym exact ∙ on))

@@ -90,8 +90,8 @@ place_of (Some k) l = place k l
 abbrev pub round : ℕ → List Entry → List Entry
 round i l = drop i l ++ take i l
 
-abbrev pub key_of : Option Entry → Option Key
-key_of found = option_map (λ e. e.key) found
+abbrev pub found_key : Option Entry → Option Key
+found_key found = option_map (λ e. e.key) found
 
 -- whether the entry is still in the list
 abbrev pub stays_in : List Entry → Entry → Bool
@@ -100,7 +100,7 @@ stays_in l e = list_any (has_key e.key) l
 -- Where a hand of the old list rests when the list is the new one: where it stands, or else, clockwise in the old list, on the next
 -- entry that stays.
 unfoldable pub settled : List Entry → List Entry → Option Key → Option Key
-settled old new hand = key_of (find (stays_in new) (round (place_of hand old) old))
+settled old new hand = found_key (find (stays_in new) (round (place_of hand old) old))
 
 -- the list is the new one, and both hands rest
 unfoldable pub relisted : List Entry → ClockState → ClockState
@@ -186,7 +186,7 @@ cold_hand_on k s = record s { cold_hand = Some k }
 unfoldable pub shadowed : Key → ClockState → ClockState
 shadowed k s =
     let s' = marked k Shadow s in
-    let next = key_of (find (λ _. true) (round (place k s.entries + 1) s'.entries)) in
+    let next = found_key (find (λ _. true) (round (place k s.entries + 1) s'.entries)) in
     record s' { cold_hand = next }
 
 -- Trimming, where there are more shadows than frames.
@@ -213,7 +213,7 @@ unfoldable pub trimmed_once : ClockState → ClockState
 trimmed_once s =
     let i = place_of s.test_hand s.entries in
     let ring = round i s.entries in
-    let at_shadow : ClockState = record s { test_hand = key_of (find (λ e. is_shadow e.kind) ring) } in
+    let at_shadow : ClockState = record s { test_hand = found_key (find (λ e. is_shadow e.kind) ring) } in
     fallen (trimmed_tests ring) (relisted (trimmed_list i s.entries) at_shadow)
 
 unfoldable pub trimmed : ClockState → ClockState
@@ -225,11 +225,11 @@ abbrev pub Answer : Type 0 → Type 0
 Answer T = ClockState × Result T Refusal
 
 -- no entry, 1 for the least share
-unfoldable pub opening : ℕ → ClockState
-opening frames = record { frames = frames; share = 1; asked = 0; entries = []; cold_hand = None; test_hand = None }
+unfoldable pub opening_state : ℕ → ClockState
+opening_state frames = record { frames = frames; share = 1; asked = 0; entries = []; cold_hand = None; test_hand = None }
 
 unfoldable pub question_of : ClockState → Option Key
-question_of s = key_of (asked_entry s)
+question_of s = found_key (asked_entry s)
 
 unfoldable pub gone_on : ClockState → Answer Verdict
 gone_on s = (record s { asked = min (s.asked + 1) (3 * s.frames) }, Ok GoOn)
@@ -315,12 +315,12 @@ kind_withdrawn (Some _) k s = (removed k s, Ok tt)
 unfoldable pub withdrawn : Key → ClockState → Answer Unit
 withdrawn k s = kind_withdrawn (kind_of k s.entries) k s
 
-abbrev pub is_of : ℕ → Entry → Bool
-is_of process e = e.key.process == process
+abbrev pub is_of_process : ℕ → Entry → Bool
+is_of_process process e = e.key.process == process
 
 -- every entry of the process goes
 unfoldable pub purged : ℕ → ClockState → ClockState
-purged process s = relisted (filter (λ e. not (is_of process e)) s.entries) s
+purged process s = relisted (filter (λ e. not (is_of_process process e)) s.entries) s
 
 abbrev pub purge_count : ℕ → ClockState → ℕ
-purge_count process s = number (is_of process) s.entries
+purge_count process s = number (is_of_process process) s.entries

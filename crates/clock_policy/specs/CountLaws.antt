@@ -7,16 +7,16 @@ use Rattle.clock_policy.specs.declared.key.Key.{Key}
 use Rattle.clock_policy.specs.declared.entry.Entry.{Entry}
 use Rattle.clock_policy.specs.declared.entry.EntryKind.TheVariants.{Hot, Test, Cold, Shadow}
 use Rattle.clock_policy.specs.ClockPro.{number, has_key, place, round, is_hot, is_cold, is_shadow, hot_count, cold_count, shadow_count, test_ended, tests_ended, trimmed_part, trimmed_list}
-use Rattle.clock_policy.specs.Counts.{any_shadow}
-use Rattle.clock_policy.specs.Listed.{has_key_refl}
+use Rattle.clock_policy.specs.LookupLaws.{any_shadow}
+use Rattle.clock_policy.specs.ListedLaws.{has_key_refl}
 
 -- Keys.
 
-pub same_key : (k : Key) (e : Entry) → has_key k e ≡ true → (e.key.process ≡ k.process) × (e.key.vpn ≡ k.vpn)
-same_key k e h = grind arith
+pub has_key_same : (k : Key) (e : Entry) → has_key k e ≡ true → (e.key.process ≡ k.process) × (e.key.vpn ≡ k.vpn)
+has_key_same k e h = grind arith
 
 pub has_key_sym : (n e : Entry) → has_key n.key e ≡ true → has_key e.key n ≡ true
-has_key_sym n e h = grind (arith, same_key n.key e h)
+has_key_sym n e h = grind (arith, has_key_same n.key e h)
 
 -- Lists put together.
 
@@ -147,8 +147,8 @@ place_has k (e ∷ es) h =
 
 -- Tests that end.
 
-pub ended : (k : Key) (e : Entry) → number (has_key k) (test_ended e.kind e) ≤ cond (has_key k e) 1 0
-ended k e =
+pub ended_count : (k : Key) (e : Entry) → number (has_key k) (test_ended e.kind e) ≤ cond (has_key k e) 1 0
+ended_count k e =
     elim e.kind as (λ t. number (has_key k) (test_ended t e) ≤ cond (has_key k e) 1 0) [
       | Hot ↦ omega arith
       | Test ↦ omega arith
@@ -158,7 +158,7 @@ ended k e =
 
 pub keys-tests_ended : (k : Key) (l : List Entry) → number (has_key k) (tests_ended l) ≤ number (has_key k) l
 keys-tests_ended k [] = omega arith
-keys-tests_ended k (e ∷ es) = omega (arith, number-append (has_key k) (test_ended e.kind e) (tests_ended es), keys-tests_ended k es, ended k e)
+keys-tests_ended k (e ∷ es) = omega (arith, number-append (has_key k) (test_ended e.kind e) (tests_ended es), keys-tests_ended k es, ended_count k e)
 
 pub hot_count-tests_ended : (l : List Entry) → hot_count (tests_ended l) ≡ hot_count l
 hot_count-tests_ended [] = refl
@@ -197,7 +197,7 @@ keys-trimmed_part k [] = omega arith
 keys-trimmed_part k (e ∷ es) =
     elim (is_shadow e.kind) as (λ t. number (has_key k) (cond t es (test_ended e.kind e ++ trimmed_part es)) ≤ cond (has_key k e) 1 0 + number (has_key k) es) [
       | true ↦ omega arith
-      | false ↦ omega (arith, number-append (has_key k) (test_ended e.kind e) (trimmed_part es), keys-trimmed_part k es, ended k e)
+      | false ↦ omega (arith, number-append (has_key k) (test_ended e.kind e) (trimmed_part es), keys-trimmed_part k es, ended_count k e)
     ]
 
 pub hot_count-trimmed_part : (l : List Entry) → hot_count (trimmed_part l) ≡ hot_count l

@@ -9,10 +9,10 @@ use Rattle.clock_policy.specs.declared.answer.Bit.{Bit}
 use Rattle.clock_policy.specs.declared.answer.Bit.TheVariants.{Zero, One, Gone}
 use Rattle.clock_policy.specs.ClockPro.{ClockState, place, is_shadow, is_in_test, of_kind, settled, relisted, removed, marked, fallen, turned_to, test_ended, tests_ended, test_count, hot_left}
 use Rattle.clock_policy.specs.Lawful.{Lawful}
-use Rattle.clock_policy.specs.Listed.{has_key_refl}
+use Rattle.clock_policy.specs.ListedLaws.{has_key_refl}
 use Rattle.clock_policy.specs.CountLaws.{IsIn, place_holds, number-append}
 use Rattle.clock_policy.specs.Residents.{is_key}
-use Rattle.clock_policy.specs.SettledLaws.{keys, among, Apart, Clockwise, rest, settled_rest, among-append, find_same, keys-append, from_key, before_key}
+use Rattle.clock_policy.specs.SettledLaws.{keys, among, DistinctKeys, Clockwise, rest, settled_rest, among-append, find_same, keys-append, from_key, before_key}
 use Rattle.clock_policy.specs.SingleMoves.{front_turned, kind_passed, front_passed, fronts_passed, front_answered}
 use Rattle.clock_policy.specs.SingleMoveLaws.{apart_of, or_comm, clockwise_behind, relisted_same, removed_at}
 
@@ -103,23 +103,23 @@ front_of : (n : ℕ) (e : Entry) (r : List Entry) (s : ClockState) → front_pas
 unfolding fallen relisted
 front_of n e r s = refl
 
-stage_order : (u v : List Entry) (e : Entry) (s : ClockState) → s.entries ≡ u ++ e ∷ v → Apart (keys s.entries) → Clockwise s.entries (e ∷ (v ++ tests_ended u))
+stage_order : (u v : List Entry) (e : Entry) (s : ClockState) → s.entries ≡ u ++ e ∷ v → DistinctKeys (keys s.entries) → Clockwise s.entries (e ∷ (v ++ tests_ended u))
 stage_order u v e s is apart =
-    let there : Apart (keys (u ++ e ∷ v)) = rw is at apart in
+    let there : DistinctKeys (keys (u ++ e ∷ v)) = rw is at apart in
     rw is (clockwise_behind (λ e. not (is_shadow e.kind)) u (e ∷ v) (tests_ended u) (ended_keys u) (rw (keys-append u (e ∷ v)) at there))
 
 -- the front of a list goes
-front_removed : (n : ℕ) (e : Entry) (r : List Entry) (s : ClockState) → Apart (keys s.entries) → Clockwise s.entries (e ∷ r) → removed e.key (fallen n (relisted (e ∷ r) s)) ≡ fallen n (relisted (r ++ []) s)
+front_removed : (n : ℕ) (e : Entry) (r : List Entry) (s : ClockState) → DistinctKeys (keys s.entries) → Clockwise s.entries (e ∷ r) → removed e.key (fallen n (relisted (e ∷ r) s)) ≡ fallen n (relisted (r ++ []) s)
 front_removed n e r s apart order =
     front_gone n e.key (relisted (e ∷ r) s)
     ∙ ap (fallen n) (removed_at e [] r s refl apart order)
     ∙ ap (λ (l : List Entry). fallen n (relisted l s)) (sym (append_nil r))
 
-stage_step : (u v : List Entry) (e : Entry) (s : ClockState) → s.entries ≡ u ++ e ∷ v → Apart (keys s.entries) → front_passed (stage u (e ∷ v) s) ≡ stage (u ++ e ∷ []) v s
+stage_step : (u v : List Entry) (e : Entry) (s : ClockState) → s.entries ≡ u ++ e ∷ v → DistinctKeys (keys s.entries) → front_passed (stage u (e ∷ v) s) ≡ stage (u ++ e ∷ []) v s
 stage_step u v e s is apart =
     front_of (test_count u) e (v ++ tests_ended u) s ∙ by_kind e.kind u v e s refl (stage_order u v e s is apart) apart
   where
-    by_kind : (t : EntryKind) (u v : List Entry) (e : Entry) (s : ClockState) → e.kind ≡ t → Clockwise s.entries (e ∷ (v ++ tests_ended u)) → Apart (keys s.entries) →
+    by_kind : (t : EntryKind) (u v : List Entry) (e : Entry) (s : ClockState) → e.kind ≡ t → Clockwise s.entries (e ∷ (v ++ tests_ended u)) → DistinctKeys (keys s.entries) →
         kind_passed t e.key (fallen (test_count u) (relisted (e ∷ (v ++ tests_ended u)) s)) ≡ stage (u ++ e ∷ []) v s
     by_kind Hot u v e s is order apart =
         front_kept (test_count u) e (v ++ tests_ended u) s ∙ front_at (test_count u) e e (v ++ tests_ended u) s refl
@@ -138,7 +138,7 @@ stage_step u v e s is apart =
         ∙ fallen_again 1 (test_count u) (relisted ((v ++ tests_ended u) ++ []) s)
         ∙ next_stage u v e s [] 1 (ap (λ (k : EntryKind). test_ended k e) is) (ap {B = ℕ} (λ (k : EntryKind). cond (is_in_test k) 1 0) is)
 
-stages : (w u v : List Entry) (s : ClockState) → s.entries ≡ u ++ (w ++ v) → Apart (keys s.entries) → fronts_passed (length w) (stage u (w ++ v) s) ≡ stage (u ++ w) v s
+stages : (w u v : List Entry) (s : ClockState) → s.entries ≡ u ++ (w ++ v) → DistinctKeys (keys s.entries) → fronts_passed (length w) (stage u (w ++ v) s) ≡ stage (u ++ w) v s
 stages [] u v s is apart = ap (λ (l : List Entry). stage l v s) (sym (append_nil u))
 stages (e ∷ es) u v s is apart =
     ap (fronts_passed (length es)) (stage_step u (es ++ v) e s is apart)
@@ -159,7 +159,7 @@ first_stage s h = ap (λ (l : List Entry). fallen 0 (relisted l s)) (append_nil 
     none_fallen : (s : ClockState) → Lawful s → fallen 0 s ≡ s
     none_fallen s h = fallen_is s (same_share s.share h.share_low)
 
-last_stage : (bit : Bit) (x : Entry) (w z : List Entry) (s : ClockState) → s.entries ≡ w ++ x ∷ z → Apart (keys s.entries) →
+last_stage : (bit : Bit) (x : Entry) (w z : List Entry) (s : ClockState) → s.entries ≡ w ++ x ∷ z → DistinctKeys (keys s.entries) →
     front_answered bit x.key (stage w (x ∷ z) s) ≡ fallen (test_count w) (relisted (z ++ tests_ended w ++ hot_left bit x) s)
 last_stage Zero x w z s is apart = front_cold (test_count w) x (z ++ tests_ended w) s ∙ front_at (test_count w) x (of_kind Cold x) (z ++ tests_ended w) s refl
 last_stage One x w z s is apart = front_kept (test_count w) x (z ++ tests_ended w) s ∙ front_at (test_count w) x x (z ++ tests_ended w) s refl

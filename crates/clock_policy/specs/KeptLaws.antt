@@ -8,8 +8,8 @@ use Rattle.clock_policy.specs.declared.entry.EntryKind.TheVariants.{Hot, Test, C
 use Rattle.clock_policy.specs.declared.answer.Bit.{Bit}
 use Rattle.clock_policy.specs.declared.answer.Bit.TheVariants.{Zero, One, Gone}
 use Rattle.clock_policy.specs.declared.refusal.Refusal.{Refusal}
-use Rattle.clock_policy.specs.ClockPro.{ClockState, place, is_hot, is_cold, shadow_count, relisted, removed, appended, marked, sent_to_end, grown, fallen, turned_to, cold_hand_on, shadowed, trimmed, trimmed_once, asked_entry, gone_on, gives_up, heeded, kind_answered, entry_answered, answered, is_full, kind_of, kind_admitted, admitted, kind_restored, restored, kind_withdrawn, withdrawn, is_of, purged}
-use Rattle.clock_policy.specs.Bound.{left}
+use Rattle.clock_policy.specs.ClockPro.{ClockState, place, is_hot, is_cold, shadow_count, relisted, removed, appended, marked, sent_to_end, grown, fallen, turned_to, cold_hand_on, shadowed, trimmed, trimmed_once, asked_entry, gone_on, gives_up, heeded, kind_answered, entry_answered, answered, is_full, kind_of, kind_admitted, admitted, kind_restored, restored, kind_withdrawn, withdrawn, is_of_process, purged}
+use Rattle.clock_policy.specs.Bound.{answers_left}
 use Rattle.clock_policy.specs.CountLaws.{number-without_le, number-filter}
 
 -- The frames.
@@ -84,26 +84,26 @@ left_under : (m a h c h' c' : ℕ) → h' ≤ h → c' ≤ c → cond (nat_lt a 
 left_under m a h c h' c' hots colds =
     elim (nat_lt a (3 * m)) as (λ t. cond t (5 * m - a) (2 * h' + c') ≤ cond t (5 * m - a) (2 * h + c)) [ true ↦ omega arith | false ↦ omega arith ]
 
-removed_left : (k : Key) (s : ClockState) → left (removed k s) ≤ left s
+removed_left : (k : Key) (s : ClockState) → answers_left (removed k s) ≤ answers_left s
 unfolding removed relisted
 removed_left k s =
     left_under s.frames s.asked _ _ _ _ (number-without_le (λ e. is_hot e.kind) s.entries (place k s.entries)) (number-without_le (λ e. is_cold e.kind) s.entries (place k s.entries))
 
-pub withdrawn_left : (k : Key) (s : ClockState) → left (withdrawn k s).0 ≤ left s
+pub withdrawn_left : (k : Key) (s : ClockState) → answers_left (withdrawn k s).0 ≤ answers_left s
 unfolding withdrawn
 withdrawn_left k s =
-    elim (kind_of k s.entries) as (λ f. left (kind_withdrawn f k s).0 ≤ left s) [ None ↦ omega arith | Some t ↦ removed_left k s ]
+    elim (kind_of k s.entries) as (λ f. answers_left (kind_withdrawn f k s).0 ≤ answers_left s) [ None ↦ omega arith | Some t ↦ removed_left k s ]
 
-pub purged_left : (process : ℕ) (s : ClockState) → left (purged process s) ≤ left s
+pub purged_left : (process : ℕ) (s : ClockState) → answers_left (purged process s) ≤ answers_left s
 unfolding purged relisted
 purged_left process s =
-    let q : Entry → Bool = λ e. not (is_of process e) in
+    let q : Entry → Bool = λ e. not (is_of_process process e) in
     left_under s.frames s.asked _ _ _ _ (number-filter (λ e. is_hot e.kind) q s.entries) (number-filter (λ e. is_cold e.kind) q s.entries)
 
 -- the same of a state that is the definition's
 
-pub withdrawn_left_at : (k : Key) (old new : ClockState) → new ≡ (withdrawn k old).0 → left new ≤ left old
+pub withdrawn_left_at : (k : Key) (old new : ClockState) → new ≡ (withdrawn k old).0 → answers_left new ≤ answers_left old
 withdrawn_left_at k old new moved = rw moved (withdrawn_left k old)
 
-pub purged_left_at : (process : ℕ) (old new : ClockState) → new ≡ purged process old → left new ≤ left old
+pub purged_left_at : (process : ℕ) (old new : ClockState) → new ≡ purged process old → answers_left new ≤ answers_left old
 purged_left_at process old new moved = rw moved (purged_left process old)

@@ -3,11 +3,11 @@ pub mod Bound
 pub mod ClockLaws
 pub mod ClockPro
 pub mod CountLaws
-pub mod Counts
+pub mod LookupLaws
 pub mod HotMoveLaws
 pub mod KeptLaws
 pub mod Lawful
-pub mod Listed
+pub mod ListedLaws
 pub mod QuestionLaws
 pub mod RefusalNumber
 pub mod ResidentLaws
@@ -15,6 +15,6 @@ pub mod Residents
 pub mod SettledLaws
 pub mod SingleMoveLaws
 pub mod SingleMoves
-pub mod Steady
+pub mod SteadyLaws
 pub mod Text
 pub mod TrimMoveLaws

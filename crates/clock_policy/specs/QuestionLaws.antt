@@ -11,7 +11,7 @@ use Rattle.clock_policy.specs.declared.answer.Bit.TheVariants.{Zero, One, Gone}
 use Rattle.clock_policy.specs.declared.answer.Verdict.{Verdict}
 use Rattle.clock_policy.specs.declared.refusal.Refusal.{Refusal}
 use Rattle.clock_policy.specs.declared.refusal.Refusal.TheVariants.{NoQuestion}
-use Rattle.clock_policy.specs.ClockPro.{ClockState, number, place_of, round, key_of, is_hot, is_cold, hot_count, cold_count, asks_hot, asked_entry, question_of, gone_on, gives_up, heeded, kind_answered, entry_answered, answered}
+use Rattle.clock_policy.specs.ClockPro.{ClockState, number, place_of, round, found_key, is_hot, is_cold, hot_count, cold_count, asks_hot, asked_entry, question_of, gone_on, gives_up, heeded, kind_answered, entry_answered, answered}
 use Rattle.clock_policy.specs.Bound.{NothingResident}
 use Rattle.clock_policy.specs.CountLaws.{number-round}
 
@@ -60,7 +60,7 @@ none_asked s h =
 pub no_question : (s : ClockState) → question_of s ≡ None → NothingResident s
 unfolding question_of
 no_question s h =
-    elim (asked_entry s) as (λ f. asked_entry s ≡ f → key_of f ≡ None → NothingResident s) [
+    elim (asked_entry s) as (λ f. asked_entry s ≡ f → found_key f ≡ None → NothingResident s) [
       | None ↦ λ is g. asked_none s is
       | Some x ↦ λ is g. cc
     ] refl h

@@ -18,11 +18,11 @@ in_frame Cold = true
 in_frame Shadow = false
 
 -- a resident entry whose key passes the test
-abbrev pub is_resident : (Key → Bool) → Entry → Bool
-is_resident r e = in_frame e.kind && r e.key
+abbrev pub is_resident_that : (Key → Bool) → Entry → Bool
+is_resident_that r e = in_frame e.kind && r e.key
 
 unfoldable pub residents : ClockState → (Key → Bool) → ℕ
-residents s r = number (is_resident r) s.entries
+residents s r = number (is_resident_that r) s.entries
 
 -- the test that one key alone passes
 abbrev pub is_key : Key → Key → Bool

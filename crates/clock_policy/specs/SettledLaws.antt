@@ -7,7 +7,7 @@ use Rattle.std.proofs.Common.{arith, sym, ap, ◌∙◌, append_assoc}
 use Rattle.std.proofs.lemmas.List.Folds.{find-append}
 use Rattle.clock_policy.specs.declared.key.Key.{Key}
 use Rattle.clock_policy.specs.declared.entry.Entry.{Entry}
-use Rattle.clock_policy.specs.ClockPro.{has_key, place, round, key_of, settled}
+use Rattle.clock_policy.specs.ClockPro.{has_key, place, round, found_key, settled}
 use Rattle.clock_policy.specs.Residents.{is_key}
 use Rattle.clock_policy.specs.AdmitLaws.{one_key}
 
@@ -31,9 +31,9 @@ among [] k = false
 among (q ∷ qs) k = is_key k q || among qs k
 
 -- no key stands twice
-abbrev pub Apart : List Key → Type 0
-Apart [] = Unit {0}
-Apart (k ∷ ks) = (among ks k ≡ false) × Apart ks
+abbrev pub DistinctKeys : List Key → Type 0
+DistinctKeys [] = Unit {0}
+DistinctKeys (k ∷ ks) = (among ks k ≡ false) × DistinctKeys ks
 
 -- the keys from the one on, and those before it
 abbrev pub from_key : Key → List Key → List Key
@@ -145,7 +145,7 @@ among-append y (k ∷ ks) v =
     elim (is_key y k) as (λ t. t || among (ks ++ v) y ≡ (t || among ks y) || among v y) [ true ↦ refl | false ↦ among-append y ks v ]
 
 -- a key of one part stands not in the other
-pub apart_left : (y : Key) (u v : List Key) → Apart (u ++ v) → among v y ≡ true → among u y ≡ false
+pub apart_left : (y : Key) (u v : List Key) → DistinctKeys (u ++ v) → among v y ≡ true → among u y ≡ false
 apart_left y [] v apart h = refl
 apart_left y (k ∷ ks) v apart h =
     elim (is_key y k) as (λ t. is_key y k ≡ t → t || among ks y ≡ false) [
@@ -159,7 +159,7 @@ apart_left y (k ∷ ks) v apart h =
       | false ↦ λ is. apart_left y ks v apart.1 h
     ] refl
 
-apart_right : (y : Key) (u v : List Key) → Apart (u ++ v) → among u y ≡ true → among v y ≡ false
+apart_right : (y : Key) (u v : List Key) → DistinctKeys (u ++ v) → among u y ≡ true → among v y ≡ false
 apart_right y u v apart h =
     elim (among v y) as (λ t. among v y ≡ t → t ≡ false) [
       | true ↦ λ is. let other : among u y ≡ false = apart_left y u v apart is in cc
@@ -173,7 +173,7 @@ rest q ks None = find q ks
 rest q ks (Some k) = find q (from_key k ks ++ before_key k ks)
 
 -- one list turned
-pub rest_turned : (q : Key → Bool) (u v : List Key) (y : Key) → Apart (u ++ v) → among (u ++ v) y ≡ true → rest q (v ++ u) (Some y) ≡ rest q (u ++ v) (Some y)
+pub rest_turned : (q : Key → Bool) (u v : List Key) (y : Key) → DistinctKeys (u ++ v) → among (u ++ v) y ≡ true → rest q (v ++ u) (Some y) ≡ rest q (u ++ v) (Some y)
 rest_turned q u v y apart there =
     elim (among v y) as (λ t. among v y ≡ t → rest q (v ++ u) (Some y) ≡ rest q (u ++ v) (Some y)) [
       | true ↦ λ is.
@@ -189,7 +189,7 @@ rest_turned q u v y apart there =
     first false b gone h = cc
 
 -- one hand after another
-pub rest_again : (p q : Key → Bool) → Within q p → (u v : List Key) (y : Key) → Apart (u ++ v) → find p (v ++ u) ≡ Some y → rest q (u ++ v) (Some y) ≡ find q (v ++ u)
+pub rest_again : (p q : Key → Bool) → Within q p → (u v : List Key) (y : Key) → DistinctKeys (u ++ v) → find p (v ++ u) ≡ Some y → rest q (u ++ v) (Some y) ≡ find q (v ++ u)
 rest_again p q less u v y apart h =
     elim (find p v) as (λ t. find p v ≡ t → option_or t (find p u) ≡ Some y → rest q (u ++ v) (Some y) ≡ find q (v ++ u)) [
       | None ↦ λ is g.
@@ -241,10 +241,10 @@ pub keys-append : (a b : List Entry) → keys (a ++ b) ≡ keys a ++ keys b
 keys-append [] b = refl
 keys-append (e ∷ es) b = ap (λ (l : List Key). e.key ∷ l) (keys-append es b)
 
-find_keys : (q : Key → Bool) (l : List Entry) → key_of (find (λ e. q e.key) l) ≡ find q (keys l)
+find_keys : (q : Key → Bool) (l : List Entry) → found_key (find (λ e. q e.key) l) ≡ find q (keys l)
 find_keys q [] = refl
 find_keys q (e ∷ es) =
-    elim (q e.key) as (λ t. key_of (cond t (Some e) (find (λ e. q e.key) es)) ≡ cond t (Some e.key) (find q (keys es))) [ true ↦ refl | false ↦ find_keys q es ]
+    elim (q e.key) as (λ t. found_key (cond t (Some e) (find (λ e. q e.key) es)) ≡ cond t (Some e.key) (find q (keys es))) [ true ↦ refl | false ↦ find_keys q es ]
 
 pub stays_among : (l : List Entry) (k : Key) → list_any (has_key k) l ≡ among (keys l) k
 stays_among [] k = refl
@@ -294,7 +294,7 @@ none_swapped p a b h = find-append p b a ∙ swap (find p a) (find p b) (sym (fi
     swap None (Some k) h = cc
     swap (Some k) y h = cc
 
-rest_composes : (p q : Key → Bool) → Within q p → (u v m a b : List Key) → a ++ b ≡ u ++ v → m ≡ filter p (v ++ u) → Apart (u ++ v) → rest q m (find p (b ++ a)) ≡ find q (b ++ a)
+rest_composes : (p q : Key → Bool) → Within q p → (u v m a b : List Key) → a ++ b ≡ u ++ v → m ≡ filter p (v ++ u) → DistinctKeys (u ++ v) → rest q m (find p (b ++ a)) ≡ find q (b ++ a)
 rest_composes p q less u v m a b parts is apart =
     elim (find p (b ++ a)) as (λ t. find p (b ++ a) ≡ t → rest q m t ≡ find q (b ++ a)) [
       | None ↦ λ h.
@@ -323,7 +323,7 @@ pub record Clockwise (old mid : List Entry) : Type 0 where
   pub kept : keys mid ≡ filter (among (keys mid)) (ahead ++ passed)
 
 -- A hand that was settled once, and once more, rests where it is settled at once.
-pub settled_composes : (old mid new : List Entry) (hand : Option Key) → Apart (keys old) → Clockwise old mid → Within (among (keys new)) (among (keys mid)) →
+pub settled_composes : (old mid new : List Entry) (hand : Option Key) → DistinctKeys (keys old) → Clockwise old mid → Within (among (keys new)) (among (keys mid)) →
     settled mid new (settled old mid hand) ≡ settled old new hand
 settled_composes old mid new hand apart order less =
     ap (settled mid new) (settled_rest old mid hand)

@@ -3,17 +3,17 @@ use Rattle.std.specs.Prelude.{◌≡◌, ℕ, suc, ◌+◌, ◌≤◌, Bool, tru
 use Rattle.std.proofs.Common.{arith, sym, ap, ◌∙◌, append_assoc, add-one}
 use Rattle.clock_policy.specs.declared.key.Key.{Key}
 use Rattle.clock_policy.specs.declared.entry.Entry.{Entry}
-use Rattle.clock_policy.specs.ClockPro.{ClockState, number, has_key, place, settled, relisted, removed, is_of, purged}
+use Rattle.clock_policy.specs.ClockPro.{ClockState, number, has_key, place, settled, relisted, removed, is_of_process, purged}
 use Rattle.clock_policy.specs.Lawful.{Lawful, RestsIn}
-use Rattle.clock_policy.specs.Listed.{has_key_refl}
+use Rattle.clock_policy.specs.ListedLaws.{has_key_refl}
 use Rattle.clock_policy.specs.CountLaws.{any_number, number_any}
 use Rattle.clock_policy.specs.Residents.{is_key}
-use Rattle.clock_policy.specs.SettledLaws.{keys, among, Apart, Within, Clockwise, rest, settled_rest, settled_composes, is_key_self, is_one_key, from_key, or_true, among-append, keys-append, stays_among, append_none, apart_left}
+use Rattle.clock_policy.specs.SettledLaws.{keys, among, DistinctKeys, Within, Clockwise, rest, settled_rest, settled_composes, is_key_self, is_one_key, from_key, or_true, among-append, keys-append, stays_among, append_none, apart_left}
 use Rattle.clock_policy.specs.SingleMoves.{removed_of, each_removed}
 
 -- Keys that stay.
 
-pub apart_of : (l : List Entry) → ((k : Key) → number (has_key k) l ≤ 1) → Apart (keys l)
+pub apart_of : (l : List Entry) → ((k : Key) → number (has_key k) l ≤ 1) → DistinctKeys (keys l)
 apart_of [] h = tt
 apart_of (e ∷ es) h = (alone e es (h e.key), apart_of es (λ k. omega (arith, h k)))
   where
@@ -68,7 +68,7 @@ kept_among g (e ∷ es) a x h =
       | false ↦ kept_among g es a x (parts.1)
     ]
 
-kept_keys : (g : Entry → Bool) (u : List Entry) (a : List Key) → Apart (keys u ++ a) → filter (among (keys (filter g u) ++ a)) (keys u) ≡ keys (filter g u)
+kept_keys : (g : Entry → Bool) (u : List Entry) (a : List Key) → DistinctKeys (keys u ++ a) → filter (among (keys (filter g u) ++ a)) (keys u) ≡ keys (filter g u)
 kept_keys g [] a apart = refl
 kept_keys g (e ∷ es) a apart =
     elim (g e) as (λ t. filter (among (keys (cond t (e ∷ filter g es) (filter g es)) ++ a)) (e.key ∷ keys es) ≡ keys (cond t (e ∷ filter g es) (filter g es))) [
@@ -87,13 +87,13 @@ among_either : (t v : List Entry) (k : Key) → among (keys (v ++ t)) k ≡ amon
 among_either t v k =
     ap (λ (l : List Key). among l k) (keys-append v t) ∙ among-append k (keys v) (keys t) ∙ or_comm (among (keys v) k) (among (keys t) k) ∙ sym (among-append k (keys t) (keys v))
 
-kept_parts : (g : Entry → Bool) (u v t : List Entry) (p : Key → Bool) → keys t ≡ keys (filter g u) → Apart (keys u ++ keys v) → ((k : Key) → p k ≡ among (keys t ++ keys v) k) → (filter p (keys u) ≡ keys t) × (filter p (keys v) ≡ keys v)
+kept_parts : (g : Entry → Bool) (u v t : List Entry) (p : Key → Bool) → keys t ≡ keys (filter g u) → DistinctKeys (keys u ++ keys v) → ((k : Key) → p k ≡ among (keys t ++ keys v) k) → (filter p (keys u) ≡ keys t) × (filter p (keys v) ≡ keys v)
 kept_parts g u v t p same apart is = (
   filter_same p (among (keys t ++ keys v)) is (keys u) ∙ ap (λ (l : List Key). filter (among (l ++ keys v)) (keys u)) same ∙ kept_keys g u (keys v) apart ∙ sym same,
   filter_all p (keys v) (λ k h. is k ∙ among-append k (keys t) (keys v) ∙ rw h (or_true (among (keys t) k))),
 )
 
-pub clockwise_behind : (g : Entry → Bool) (u v t : List Entry) → keys t ≡ keys (filter g u) → Apart (keys u ++ keys v) → Clockwise (u ++ v) (v ++ t)
+pub clockwise_behind : (g : Entry → Bool) (u v t : List Entry) → keys t ≡ keys (filter g u) → DistinctKeys (keys u ++ keys v) → Clockwise (u ++ v) (v ++ t)
 clockwise_behind g u v t same apart =
     let p : Key → Bool = among (keys (v ++ t)) in
     let parts : (filter p (keys u) ≡ keys t) × (filter p (keys v) ≡ keys v) = kept_parts g u v t p same apart (among_either t v) in
@@ -104,7 +104,7 @@ clockwise_behind g u v t same apart =
       kept = keys-append v t ∙ sym (filter_keys-append p (keys v) (keys u) ∙ rw (parts.0, parts.1) refl);
     }
 
-pub clockwise_kept : (g : Entry → Bool) (u v t : List Entry) → keys t ≡ keys (filter g u) → Apart (keys u ++ keys v) → Clockwise (u ++ v) (t ++ v)
+pub clockwise_kept : (g : Entry → Bool) (u v t : List Entry) → keys t ≡ keys (filter g u) → DistinctKeys (keys u ++ keys v) → Clockwise (u ++ v) (t ++ v)
 clockwise_kept g u v t same apart =
     let p : Key → Bool = among (keys (t ++ v)) in
     let parts : (filter p (keys u) ≡ keys t) × (filter p (keys v) ≡ keys v) = kept_parts g u v t p same apart (λ k. ap (λ (l : List Key). among l k) (keys-append t v)) in
@@ -117,7 +117,7 @@ clockwise_kept g u v t same apart =
 
 -- Lists put in place of the old one.
 
-pub relisted_composes : (mid new : List Entry) (s : ClockState) → Apart (keys s.entries) → Clockwise s.entries mid → Within (among (keys new)) (among (keys mid)) → relisted new (relisted mid s) ≡ relisted new s
+pub relisted_composes : (mid new : List Entry) (s : ClockState) → DistinctKeys (keys s.entries) → Clockwise s.entries mid → Within (among (keys new)) (among (keys mid)) → relisted new (relisted mid s) ≡ relisted new s
 unfolding relisted
 relisted_composes mid new s apart order less =
     ap (λ (c : Option Key). record s { entries = new; cold_hand = c; test_hand = settled mid new (settled s.entries mid s.test_hand) }) (settled_composes s.entries mid new s.cold_hand apart order less)
@@ -178,35 +178,35 @@ one_less e t v k h =
     wider false true c h = refl
     wider false false c h = h
 
-pub removed_at : (e : Entry) (t v : List Entry) (s : ClockState) → among (keys t) e.key ≡ false → Apart (keys s.entries) → Clockwise s.entries (t ++ e ∷ v) → removed e.key (relisted (t ++ e ∷ v) s) ≡ relisted (t ++ v) s
+pub removed_at : (e : Entry) (t v : List Entry) (s : ClockState) → among (keys t) e.key ≡ false → DistinctKeys (keys s.entries) → Clockwise s.entries (t ++ e ∷ v) → removed e.key (relisted (t ++ e ∷ v) s) ≡ relisted (t ++ v) s
 removed_at e t v s alone apart order =
     removed_from e.key (t ++ e ∷ v) s
     ∙ ap (λ (l : List Entry). relisted l (relisted (t ++ e ∷ v) s)) (without_at e t v alone)
     ∙ relisted_composes (t ++ e ∷ v) (t ++ v) s apart order (one_less e t v)
 
 abbrev stays : ℕ → Entry → Bool
-stays process e = not (is_of process e)
+stays process e = not (is_of_process process e)
 
 filter-append : (g : Entry → Bool) (a b : List Entry) → filter g (a ++ b) ≡ filter g a ++ filter g b
 filter-append g [] b = refl
 filter-append g (e ∷ es) b =
     elim (g e) as (λ t. cond t (e ∷ filter g (es ++ b)) (filter g (es ++ b)) ≡ cond t (e ∷ filter g es) (filter g es) ++ filter g b) [ true ↦ ap (λ (l : List Entry). e ∷ l) (filter-append g es b) | false ↦ filter-append g es b ]
 
-pub none_before : (e : Entry) (u v : List Entry) → Apart (keys (u ++ e ∷ v)) → among (keys u) e.key ≡ false
+pub none_before : (e : Entry) (u v : List Entry) → DistinctKeys (keys (u ++ e ∷ v)) → among (keys u) e.key ≡ false
 none_before e u v apart = apart_left e.key (keys u) (keys (e ∷ v)) (rw (keys-append u (e ∷ v)) at apart) (rw (is_key_self e.key) refl)
 
 none_kept : (g : Entry → Bool) (e : Entry) (u : List Entry) → among (keys u) e.key ≡ false → among (keys (filter g u)) e.key ≡ false
 none_kept g e u h =
     ap (λ (l : List Key). among l e.key) (sym (append_none (keys (filter g u)))) ∙ kept_among g u [] e.key (ap (λ (l : List Key). among l e.key) (append_none (keys u)) ∙ h)
 
-step_removed : (process : ℕ) (e : Entry) (u v : List Entry) (s : ClockState) → s.entries ≡ u ++ e ∷ v → Apart (keys s.entries) →
+step_removed : (process : ℕ) (e : Entry) (u v : List Entry) (s : ClockState) → s.entries ≡ u ++ e ∷ v → DistinctKeys (keys s.entries) →
     removed_of process e (relisted (filter (stays process) u ++ e ∷ v) s) ≡ relisted (filter (stays process) (u ++ e ∷ []) ++ v) s
 step_removed process e u v s is apart =
     let g : Entry → Bool = stays process in
-    let there : Apart (keys (u ++ e ∷ v)) = rw is at apart in
-    let parts : Apart (keys u ++ keys (e ∷ v)) = rw (keys-append u (e ∷ v)) at there in
+    let there : DistinctKeys (keys (u ++ e ∷ v)) = rw is at apart in
+    let parts : DistinctKeys (keys u ++ keys (e ∷ v)) = rw (keys-append u (e ∷ v)) at there in
     let order : Clockwise s.entries (filter g u ++ e ∷ v) = rw is (clockwise_kept g u (e ∷ v) (filter g u) refl parts) in
-    elim (is_of process e) as (λ t. is_of process e ≡ t → cond t (removed e.key (relisted (filter g u ++ e ∷ v) s)) (relisted (filter g u ++ e ∷ v) s) ≡ relisted (filter g (u ++ e ∷ []) ++ v) s) [
+    elim (is_of_process process e) as (λ t. is_of_process process e ≡ t → cond t (removed e.key (relisted (filter g u ++ e ∷ v) s)) (relisted (filter g u ++ e ∷ v) s) ≡ relisted (filter g (u ++ e ∷ []) ++ v) s) [
       | true ↦ λ gone.
           removed_at e (filter g u) v s (none_kept g e u (none_before e u v there)) apart order
           ∙ ap (λ (l : List Entry). relisted (l ++ v) s) (sym (filter-append g u (e ∷ []) ∙ rw gone (append_nil (filter g u))))
@@ -218,7 +218,7 @@ step_removed process e u v s is apart =
     append_nil [] = refl
     append_nil (e ∷ es) = ap (λ (l : List Entry). e ∷ l) (append_nil es)
 
-each_from : (process : ℕ) (v u : List Entry) (s : ClockState) → s.entries ≡ u ++ v → Apart (keys s.entries) → each_removed process v (relisted (filter (stays process) u ++ v) s) ≡ relisted (filter (stays process) (u ++ v) ++ []) s
+each_from : (process : ℕ) (v u : List Entry) (s : ClockState) → s.entries ≡ u ++ v → DistinctKeys (keys s.entries) → each_removed process v (relisted (filter (stays process) u ++ v) s) ≡ relisted (filter (stays process) (u ++ v) ++ []) s
 each_from process [] u s is apart = ap (λ (l : List Entry). relisted (filter (stays process) l ++ []) s) (sym (append_end u))
   where
     append_end : (l : List Entry) → l ++ [] ≡ l

@@ -7,7 +7,7 @@ use Rattle.clock_policy.specs.declared.entry.EntryKind.{EntryKind}
 use Rattle.clock_policy.specs.declared.entry.EntryKind.TheVariants.{Hot, Test, Cold, Shadow}
 use Rattle.clock_policy.specs.declared.answer.Bit.{Bit}
 use Rattle.clock_policy.specs.declared.answer.Bit.TheVariants.{Zero, One, Gone}
-use Rattle.clock_policy.specs.ClockPro.{ClockState, removed, marked, fallen, is_of}
+use Rattle.clock_policy.specs.ClockPro.{ClockState, removed, marked, fallen, is_of_process}
 
 -- the front becomes the last, and hands on it stay on it
 unfoldable pub front_turned : ClockState → ClockState
@@ -39,7 +39,7 @@ front_answered Gone k s = removed k s
 
 -- the entries of a process go one after another, in the order of a list
 abbrev pub removed_of : ℕ → Entry → ClockState → ClockState
-removed_of process e s = cond (is_of process e) (removed e.key s) s
+removed_of process e s = cond (is_of_process process e) (removed e.key s) s
 
 abbrev pub each_removed : ℕ → List Entry → ClockState → ClockState
 each_removed process [] s = s

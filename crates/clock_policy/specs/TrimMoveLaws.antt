@@ -7,11 +7,11 @@ use Rattle.clock_policy.specs.declared.key.Key.{Key}
 use Rattle.clock_policy.specs.declared.entry.Entry.{Entry}
 use Rattle.clock_policy.specs.declared.entry.EntryKind.{EntryKind}
 use Rattle.clock_policy.specs.declared.entry.EntryKind.TheVariants.{Hot, Test, Cold, Shadow}
-use Rattle.clock_policy.specs.ClockPro.{ClockState, has_key, place, place_of, round, key_of, is_shadow, is_in_test, of_kind, settled, relisted, removed, marked, fallen, test_ended, trimmed_part, trimmed_tests, trimmed_list, trimmed_once}
-use Rattle.clock_policy.specs.Steady.{Based}
-use Rattle.clock_policy.specs.Listed.{has_key_refl}
-use Rattle.clock_policy.specs.Counts.{any_shadow, round_tests_then, round_tests_else, trimmed_list_then, trimmed_list_else}
-use Rattle.clock_policy.specs.SettledLaws.{keys, among, Apart, rest, settled_rest, keys-append}
+use Rattle.clock_policy.specs.ClockPro.{ClockState, has_key, place, place_of, round, found_key, is_shadow, is_in_test, of_kind, settled, relisted, removed, marked, fallen, test_ended, trimmed_part, trimmed_tests, trimmed_list, trimmed_once}
+use Rattle.clock_policy.specs.SteadyLaws.{Based}
+use Rattle.clock_policy.specs.ListedLaws.{has_key_refl}
+use Rattle.clock_policy.specs.LookupLaws.{any_shadow, round_tests_then, round_tests_else, trimmed_list_then, trimmed_list_else}
+use Rattle.clock_policy.specs.SettledLaws.{keys, among, DistinctKeys, rest, settled_rest, keys-append}
 use Rattle.clock_policy.specs.SingleMoves.{test_hand_on, kind_ended, each_ended}
 use Rattle.clock_policy.specs.SingleMoveLaws.{apart_of, without_at, none_before}
 
@@ -71,7 +71,7 @@ passed_one y es more t v n m s count h =
     ∙ ap (λ (c : ℕ). each_ended more (trimming c (t ++ y ∷ (trimmed_part es ++ v)) s)) (sym count)
 
 -- so many entries, none a shadow, are passed with these before and behind them
-passes : (w more t v : List Entry) (n : ℕ) (s : ClockState) → any_shadow w ≡ false → Apart (keys (t ++ (w ++ v))) →
+passes : (w more t v : List Entry) (n : ℕ) (s : ClockState) → any_shadow w ≡ false → DistinctKeys (keys (t ++ (w ++ v))) →
     each_ended (w ++ more) (trimming n (t ++ (w ++ v)) s) ≡ each_ended more (trimming (n + trimmed_tests w) (t ++ (trimmed_part w ++ v)) s)
 passes [] more t v n s none apart = ap (λ (c : ℕ). each_ended more (trimming c (t ++ v) s)) (omega arith)
 passes (e ∷ es) more t v n s none apart =
@@ -177,14 +177,14 @@ keys_ended u p v none =
     ∙ sym (keys-append u (p ++ v))
 
 -- the shadow stands from the hand on
-moves_ahead : (u v : List Entry) (s : ClockState) (f : Shadowed v) → s.entries ≡ u ++ v → Apart (keys s.entries) →
+moves_ahead : (u v : List Entry) (s : ClockState) (f : Shadowed v) → s.entries ≡ u ++ v → DistinctKeys (keys s.entries) →
     each_ended (v ++ u) (trimming 0 s.entries s) ≡ fallen (trimmed_tests v) (relisted (u ++ trimmed_part v) (on_shadow (Some f.shadow.key) s))
 moves_ahead u v s f is apart =
     let p : List Entry = f.front in
     let e : Entry = f.shadow in
     let r : List Entry = f.behind in
     let whole : s.entries ≡ u ++ (p ++ e ∷ r) = is ∙ ap (λ (l : List Entry). u ++ l) f.parts in
-    let there : Apart (keys (u ++ (p ++ e ∷ r))) = rw whole at apart in
+    let there : DistinctKeys (keys (u ++ (p ++ e ∷ r))) = rw whole at apart in
     let same : keys ((u ++ trimmed_part p) ++ e ∷ r) ≡ keys s.entries =
     ap keys (append_assoc u (trimmed_part p) (e ∷ r)) ∙ keys_ended u p (e ∷ r) f.none ∙ ap keys (sym whole) in
     ap (λ (l : List Entry). each_ended (v ++ u) (trimming 0 l s)) whole
@@ -198,7 +198,7 @@ moves_ahead u v s f is apart =
     ∙ ap (λ (c : ℕ). fallen c (relisted (u ++ trimmed_part v) (on_shadow (Some e.key) s))) (omega (arith, f.tests))
 
 -- the shadow stands before the hand
-moves_behind : (u v : List Entry) (s : ClockState) (f : Shadowed u) → any_shadow v ≡ false → s.entries ≡ u ++ v → Apart (keys s.entries) →
+moves_behind : (u v : List Entry) (s : ClockState) (f : Shadowed u) → any_shadow v ≡ false → s.entries ≡ u ++ v → DistinctKeys (keys s.entries) →
     each_ended (v ++ u) (trimming 0 s.entries s) ≡ fallen (trimmed_tests u + trimmed_tests v) (relisted (trimmed_part u ++ trimmed_part v) (on_shadow (Some f.shadow.key) s))
 moves_behind u v s f clear is apart =
     let p : List Entry = f.front in
@@ -232,9 +232,9 @@ trimmed_by_moves s h some =
     let u : List Entry = take i l in
     let v : List Entry = drop i l in
     let parts : l ≡ u ++ v = sym (take-append-drop i l) in
-    let apart : Apart (keys l) = apart_of l h.distinct in
+    let apart : DistinctKeys (keys l) = apart_of l h.distinct in
     ap (each_ended (v ++ u)) (sym (trimming_starts s h))
-    ∙ elim (any_shadow v) as (λ b. any_shadow v ≡ b → each_ended (v ++ u) (trimming 0 l s) ≡ fallen (trimmed_tests (v ++ u)) (relisted (trimmed_list i l) (on_shadow (key_of (find (λ e. is_shadow e.kind) (v ++ u))) s))) [
+    ∙ elim (any_shadow v) as (λ b. any_shadow v ≡ b → each_ended (v ++ u) (trimming 0 l s) ≡ fallen (trimmed_tests (v ++ u)) (relisted (trimmed_list i l) (on_shadow (found_key (find (λ e. is_shadow e.kind) (v ++ u))) s))) [
       | true ↦ λ is.
           let f : Shadowed v = shadowed_in v is in
           moves_ahead u v s f parts apart
@@ -259,12 +259,12 @@ trimmed_by_moves s h some =
     both_clear : (a b : List Entry) → any_shadow a ≡ false → any_shadow b ≡ false → any_shadow (a ++ b) ≡ false
     both_clear a b x y = list_any-append (λ (e : Entry). is_shadow e.kind) a b ∙ rw (x, y) refl
 
-    found_ahead : (v u : List Entry) (f : Shadowed v) → key_of (find (λ e. is_shadow e.kind) (v ++ u)) ≡ Some f.shadow.key
+    found_ahead : (v u : List Entry) (f : Shadowed v) → found_key (find (λ e. is_shadow e.kind) (v ++ u)) ≡ Some f.shadow.key
     found_ahead v u f =
-        ap (λ (m : List Entry). key_of (find (λ e. is_shadow e.kind) m)) (ap (λ (w : List Entry). w ++ u) f.parts ∙ append_assoc f.front (f.shadow ∷ f.behind) u)
-        ∙ ap key_of (first_shadow f.shadow f.front (f.behind ++ u) f.none f.is)
+        ap (λ (m : List Entry). found_key (find (λ e. is_shadow e.kind) m)) (ap (λ (w : List Entry). w ++ u) f.parts ∙ append_assoc f.front (f.shadow ∷ f.behind) u)
+        ∙ ap found_key (first_shadow f.shadow f.front (f.behind ++ u) f.none f.is)
 
-    found_behind : (v u : List Entry) → any_shadow v ≡ false → (f : Shadowed u) → key_of (find (λ e. is_shadow e.kind) (v ++ u)) ≡ Some f.shadow.key
+    found_behind : (v u : List Entry) → any_shadow v ≡ false → (f : Shadowed u) → found_key (find (λ e. is_shadow e.kind) (v ++ u)) ≡ Some f.shadow.key
     found_behind v u clear f =
-        ap (λ (m : List Entry). key_of (find (λ e. is_shadow e.kind) m)) (ap (λ (w : List Entry). v ++ w) f.parts ∙ sym (append_assoc v f.front (f.shadow ∷ f.behind)))
-        ∙ ap key_of (first_shadow f.shadow (v ++ f.front) f.behind (both_clear v f.front clear f.none) f.is)
+        ap (λ (m : List Entry). found_key (find (λ e. is_shadow e.kind) m)) (ap (λ (w : List Entry). v ++ w) f.parts ∙ sym (append_assoc v f.front (f.shadow ∷ f.behind)))
+        ∙ ap found_key (first_shadow f.shadow (v ++ f.front) f.behind (both_clear v f.front clear f.none) f.is)

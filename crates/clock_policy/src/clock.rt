@@ -1,9 +1,9 @@
 //! The policy, as every representation of its list owes it.
 
 ghost use Rattle.std.specs.Prelude.{◌≡◌, ◌≢◌, ◌≤◌, ◌<◌, ◌+◌, ◌*◌, ◌++◌, ◌⊎◌, ℕ, IfOk, OnOk, OnErr, IsOk, IsErr, IsNone, ◌↔◌, Ok, Err, length, slice_get, option_map, vec_len, vec_capacity};
-ghost use Rattle.clock_policy.specs.ClockPro.{ClockState, opening, kind_of, question_of, answered, admitted, restored, withdrawn, purged, purge_count};
+ghost use Rattle.clock_policy.specs.ClockPro.{ClockState, opening_state, kind_of, question_of, answered, admitted, restored, withdrawn, purged, purge_count};
 ghost use Rattle.clock_policy.specs.Lawful.{Lawful};
-ghost use Rattle.clock_policy.specs.Bound.{left, NothingResident};
+ghost use Rattle.clock_policy.specs.Bound.{answers_left, NothingResident};
 
 use crate::answer::{Bit, Kind, Verdict};
 use crate::entry::{Entry, EntryKind};
@@ -21,7 +21,7 @@ pub trait Clock: Drop {
 
     /// An empty list for 4 to 4096 frames.
     fn new(alloc: Global, frames: usize) -> Result<Self, NewRefusal>
-        ensures ok { IfOk result (λ clock. state clock ≡ opening frames) }
+        ensures ok { IfOk result (λ clock. state clock ≡ opening_state frames) }
         ensures bad_size { (result ≡ Err NewRefusal.BadSize) ↔ ((frames < 4) ⊎ (4096 < frames)) }
         ensures lawful { IfOk result (λ clock. Lawful (state clock)) };
 
@@ -36,8 +36,8 @@ pub trait Clock: Drop {
         ensures lawful { Lawful (state self.now) }
 
         // The answers that are left are bounded, and end where nothing is resident.
-        ensures bound { left (state self.now) ≤ 5 * (state self.now).frames }
-        ensures end { left (state self.now) ≡ 0 → NothingResident (state self.now) };
+        ensures bound { answers_left (state self.now) ≤ 5 * (state self.now).frames }
+        ensures end { answers_left (state self.now) ≡ 0 → NothingResident (state self.now) };
 
     /// Answers the question of this moment.
     fn answer(&mut self, bit: Bit) -> Result<Verdict, Refusal>
@@ -49,7 +49,7 @@ pub trait Clock: Drop {
         ensures lawful { Lawful (state self.new) }
 
         // An answer without a victim lowers the number of answers that are left.
-        ensures lowers { result ≡ Ok Verdict.GoOn → left (state self.new) < left (state self.old) };
+        ensures lowers { result ≡ Ok Verdict.GoOn → answers_left (state self.new) < answers_left (state self.old) };
 
     /// Adds a page that was brought into a frame, as a hot one where it is still in its test.
     fn admit(&mut self, key: Key) -> Result<Kind, Refusal>
@@ -73,7 +73,7 @@ pub trait Clock: Drop {
     fn withdraw(&mut self, key: Key) -> Result<(), Refusal>
         ensures moved { state self.new ≡ (withdrawn key (state self.old)).0 }
         ensures exact { result ≡ (withdrawn key (state self.old)).1 }
-        ensures no_more_left { left (state self.new) ≤ left (state self.old) }
+        ensures no_more_left { answers_left (state self.new) ≤ answers_left (state self.old) }
         ensures err { OnErr result (state self.new ≡ state self.old) }
         ensures frames { (state self.new).frames ≡ (state self.old).frames }
         ensures lawful { Lawful (state self.new) };
@@ -82,7 +82,7 @@ pub trait Clock: Drop {
     fn purge(&mut self, process: u32) -> u32
         ensures moved { state self.new ≡ purged process (state self.old) }
         ensures count { result ≡ purge_count process (state self.old) }
-        ensures no_more_left { left (state self.new) ≤ left (state self.old) }
+        ensures no_more_left { answers_left (state self.new) ≤ answers_left (state self.old) }
         ensures frames { (state self.new).frames ≡ (state self.old).frames }
         ensures lawful { Lawful (state self.new) };
 

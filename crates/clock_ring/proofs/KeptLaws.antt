@@ -3,7 +3,7 @@ use Rattle.std.specs.Prelude.{◌≡◌, ℕ, suc, ◌+◌, true, false, not, co
 use Rattle.std.proofs.Common.{arith, ap, ◌∙◌, subst, sym}
 use Rattle.clock_policy.specs.declared.entry.Entry.{Entry}
 use Rattle.clock_policy.specs.declared.refusal.Refusal.{Refusal}
-use Rattle.clock_policy.specs.ClockPro.{ClockState, number, is_of, purged, purge_count, relisted}
+use Rattle.clock_policy.specs.ClockPro.{ClockState, number, is_of_process, purged, purge_count, relisted}
 use Rattle.clock_policy.specs.Lawful.{Lawful}
 
 pub kept_lawful : {T : Type 0} (r : Result T Refusal) (old next new : ClockState) → OnOk r (new ≡ next) → OnErr r (new ≡ old) → Lawful old → Lawful next → Lawful new
@@ -19,10 +19,10 @@ pub purge_length : (process : ℕ) (s : ClockState) → length (purged process s
 unfolding purged relisted
 purge_length process s = left process s.entries
   where
-    left : (process : ℕ) (l : List Entry) → length (filter (λ e. not (is_of process e)) l) + number (is_of process) l ≡ length l
+    left : (process : ℕ) (l : List Entry) → length (filter (λ e. not (is_of_process process e)) l) + number (is_of_process process) l ≡ length l
     left process [] = refl
     left process (e ∷ es) =
-        elim (is_of process e) as (λ t. length (cond (not t) (e ∷ filter (λ e. not (is_of process e)) es) (filter (λ e. not (is_of process e)) es)) + (cond t 1 0 + number (is_of process) es) ≡ suc (length es)) [
+        elim (is_of_process process e) as (λ t. length (cond (not t) (e ∷ filter (λ e. not (is_of_process process e)) es) (filter (λ e. not (is_of_process process e)) es)) + (cond t 1 0 + number (is_of_process process) es) ≡ suc (length es)) [
           | true ↦ omega (arith, left process es)
           | false ↦ omega (arith, left process es)
         ]

@@ -5,18 +5,18 @@ use Rattle.clock_policy.specs.declared.key.Key.{Key}
 use Rattle.clock_policy.specs.declared.entry.Entry.{Entry}
 use Rattle.clock_policy.specs.declared.entry.EntryKind.{EntryKind}
 use Rattle.clock_policy.specs.declared.entry.EntryKind.TheVariants.{Shadow}
-use Rattle.clock_policy.specs.ClockPro.{ClockState, number, has_key, place, round, key_of, settled, relisted, removed, appended, marked, sent_to_end, cold_hand_on, shadowed}
-use Rattle.clock_policy.specs.Listed.{has_key_refl}
+use Rattle.clock_policy.specs.ClockPro.{ClockState, number, has_key, place, round, found_key, settled, relisted, removed, appended, marked, sent_to_end, cold_hand_on, shadowed}
+use Rattle.clock_policy.specs.ListedLaws.{has_key_refl}
 use Rattle.clock_policy.specs.Residents.{is_key}
 use Rattle.clock_policy.specs.SettledLaws.{keys, among, rest, settled_rest, from_key, before_key, is_key_self, among-append, keys-append}
 use Rattle.clock_policy.specs.SingleMoves.{front_turned, test_hand_on}
 use Rattle.clock_policy.specs.SingleMoveLaws.{rest_stays, without_at}
 use Rattle.clock_policy.specs.TrimMoveLaws.{set_at}
-use Rattle.page_ring.specs.Linked.{Cell, Apart, is_at, first_at}
+use Rattle.page_ring.specs.Linked.{Cell, DistinctNodes, is_at, first_at}
 use Rattle.page_ring.specs.LinkLaws.{same_at, at_self, or_true, is_at-append}
 use Rattle.page_ring.specs.Chain.{of_kind}
-use Rattle.page_ring.specs.Index.{entries_of, entries-append, number-cells, mark_number, remove_number, Distinct}
-use Rattle.clock_ring.specs.RingState.{entry_at, hand_at, Rests, Whole}
+use Rattle.page_ring.specs.Index.{entries_of, entries-append, number-cells, mark_number, remove_number, DistinctPages}
+use Rattle.clock_ring.specs.RingState.{entry_at_node, hand_at, Rests, Whole}
 
 -- the state with these cells and hands
 abbrev pub on : List Cell → ℕ → ℕ → ClockState → ClockState
@@ -28,36 +28,36 @@ or_false : (a b : Bool) → a || b ≡ false → (a ≡ false) × (b ≡ false)
 or_false true b h = cc
 or_false false b h = (refl, h)
 
-pub nothing_at : (cs : List Cell) (n : ℕ) → is_at cs n ≡ false → entry_at cs n ≡ None
+pub nothing_at : (cs : List Cell) (n : ℕ) → is_at cs n ≡ false → entry_at_node cs n ≡ None
 nothing_at [] n h = refl
 nothing_at (c ∷ cs) n h =
     let parts : ((c.at == n) ≡ false) × (is_at cs n ≡ false) = or_false (c.at == n) (is_at cs n) h in
     rw (parts.0) (nothing_at cs n (parts.1))
 
-pub found_at : (cs : List Cell) (n : ℕ) (e : Entry) → entry_at cs n ≡ Some e → is_at cs n ≡ true
+pub found_at : (cs : List Cell) (n : ℕ) (e : Entry) → entry_at_node cs n ≡ Some e → is_at cs n ≡ true
 found_at [] n e h = cc
 found_at (c ∷ cs) n e h =
-    elim (c.at == n) as (λ t. cond t (Some c.entry) (entry_at cs n) ≡ Some e → t || is_at cs n ≡ true) [
+    elim (c.at == n) as (λ t. cond t (Some c.entry) (entry_at_node cs n) ≡ Some e → t || is_at cs n ≡ true) [
       | true ↦ λ g. refl
       | false ↦ λ g. found_at cs n e g
     ] h
 
 -- what stands behind entries of other nodes
-pub entry_behind : (u v : List Cell) (n : ℕ) → is_at u n ≡ false → entry_at (u ++ v) n ≡ entry_at v n
+pub entry_behind : (u v : List Cell) (n : ℕ) → is_at u n ≡ false → entry_at_node (u ++ v) n ≡ entry_at_node v n
 entry_behind [] v n h = refl
 entry_behind (c ∷ cs) v n h =
     let parts : ((c.at == n) ≡ false) × (is_at cs n ≡ false) = or_false (c.at == n) (is_at cs n) h in
     rw (parts.0) (entry_behind cs v n (parts.1))
 
-pub entry_before : (u v : List Cell) (n : ℕ) (e : Entry) → entry_at u n ≡ Some e → entry_at (u ++ v) n ≡ Some e
+pub entry_before : (u v : List Cell) (n : ℕ) (e : Entry) → entry_at_node u n ≡ Some e → entry_at_node (u ++ v) n ≡ Some e
 entry_before [] v n e h = cc
 entry_before (c ∷ cs) v n e h =
-    elim (c.at == n) as (λ t. cond t (Some c.entry) (entry_at cs n) ≡ Some e → cond t (Some c.entry) (entry_at (cs ++ v) n) ≡ Some e) [
+    elim (c.at == n) as (λ t. cond t (Some c.entry) (entry_at_node cs n) ≡ Some e → cond t (Some c.entry) (entry_at_node (cs ++ v) n) ≡ Some e) [
       | true ↦ λ g. g
       | false ↦ λ g. entry_before cs v n e g
     ] h
 
-pub alone_at : (u v : List Cell) (c : Cell) → Apart (u ++ c ∷ v) → is_at u c.at ≡ false
+pub alone_at : (u v : List Cell) (c : Cell) → DistinctNodes (u ++ c ∷ v) → is_at u c.at ≡ false
 alone_at [] v c apart = refl
 alone_at (d ∷ ds) v c apart =
     elim (d.at == c.at) as (λ t. (d.at == c.at) ≡ t → t || is_at ds c.at ≡ false) [
@@ -68,13 +68,13 @@ alone_at (d ∷ ds) v c apart =
       | false ↦ λ is. alone_at ds v c (apart.1)
     ] refl
 
-pub entry_here : (u v : List Cell) (c : Cell) → Apart (u ++ c ∷ v) → entry_at (u ++ c ∷ v) c.at ≡ Some c.entry
+pub entry_here : (u v : List Cell) (c : Cell) → DistinctNodes (u ++ c ∷ v) → entry_at_node (u ++ c ∷ v) c.at ≡ Some c.entry
 entry_here u v c apart = entry_behind u (c ∷ v) c.at (alone_at u v c apart) ∙ rw (at_self c.at) refl
 
-entry_skipped : (u v : List Cell) (c : Cell) (n : ℕ) → (c.at == n) ≡ false → entry_at (u ++ c ∷ v) n ≡ entry_at (u ++ v) n
+entry_skipped : (u v : List Cell) (c : Cell) (n : ℕ) → (c.at == n) ≡ false → entry_at_node (u ++ c ∷ v) n ≡ entry_at_node (u ++ v) n
 entry_skipped [] v c n h = rw h refl
 entry_skipped (d ∷ ds) v c n h =
-    elim (d.at == n) as (λ t. cond t (Some d.entry) (entry_at (ds ++ c ∷ v) n) ≡ cond t (Some d.entry) (entry_at (ds ++ v) n)) [ true ↦ refl | false ↦ entry_skipped ds v c n h ]
+    elim (d.at == n) as (λ t. cond t (Some d.entry) (entry_at_node (ds ++ c ∷ v) n) ≡ cond t (Some d.entry) (entry_at_node (ds ++ v) n)) [ true ↦ refl | false ↦ entry_skipped ds v c n h ]
 
 at_skipped : (u v : List Cell) (c : Cell) (n : ℕ) → (c.at == n) ≡ false → is_at (u ++ c ∷ v) n ≡ is_at (u ++ v) n
 at_skipped [] v c n h = rw h refl
@@ -84,7 +84,7 @@ at_skipped (d ∷ ds) v c n h =
 -- a node has an entry, whose page is one of the circle's
 record Entered (cs : List Cell) (n : ℕ) : Type 0 where
   entry : Entry
-  is : entry_at cs n ≡ Some entry
+  is : entry_at_node cs n ≡ Some entry
   among : among (keys (entries_of cs)) entry.key ≡ true
 
 entered : (cs : List Cell) (n : ℕ) → is_at cs n ≡ true → Entered cs n
@@ -103,10 +103,10 @@ pub record Between (cs : List Cell) (at : ℕ) (e : Entry) : Type 0 where
   pub behind : List Cell
   pub parts : cs ≡ before ++ record { at = at; entry = e } ∷ behind
 
-pub between : (cs : List Cell) (at : ℕ) (e : Entry) → entry_at cs at ≡ Some e → Between cs at e
+pub between : (cs : List Cell) (at : ℕ) (e : Entry) → entry_at_node cs at ≡ Some e → Between cs at e
 between [] at e h = cc
 between (c ∷ cs) at e h =
-    elim (c.at == at) as (λ t. (c.at == at) ≡ t → cond t (Some c.entry) (entry_at cs at) ≡ Some e → Between (c ∷ cs) at e) [
+    elim (c.at == at) as (λ t. (c.at == at) ≡ t → cond t (Some c.entry) (entry_at_node cs at) ≡ Some e → Between (c ∷ cs) at e) [
       | true ↦ λ is g. record { before = []; behind = cs; parts = ap (λ (d : Cell). d ∷ cs) (one c at e (same_at c.at at is) g) }
       | false ↦ λ is g. let b : Between cs at e = between cs at e g in record { before = c ∷ b.before; behind = b.behind; parts = ap (λ (l : List Cell). c ∷ l) b.parts }
     ] refl h
@@ -133,7 +133,7 @@ none_among k (e ∷ es) h =
       | false ↦ λ g. none_among k es (omega (arith, g))
     ] h
 
-pub gone : (u v : List Cell) (c : Cell) → Distinct (u ++ c ∷ v) → among (keys (entries_of (u ++ v))) c.entry.key ≡ false
+pub gone : (u v : List Cell) (c : Cell) → DistinctPages (u ++ c ∷ v) → among (keys (entries_of (u ++ v))) c.entry.key ≡ false
 gone u v c distinct =
     let count : number (has_key c.entry.key) (entries_of (u ++ v)) + cond (has_key c.entry.key c.entry) 1 0 ≡ number (has_key c.entry.key) (entries_of (u ++ c ∷ v)) = remove_number (has_key c.entry.key) u v c in
     none_among c.entry.key (entries_of (u ++ v)) (omega (arith, rw (has_key_refl c.entry) at count, distinct c.entry.key))
@@ -144,7 +144,7 @@ among-cells u v k =
     ∙ ap (λ (l : List Key). among l k) (keys-append (entries_of u) (entries_of v))
     ∙ among-append k (keys (entries_of u)) (keys (entries_of v))
 
-pub gone_before : (u v : List Cell) (c : Cell) → Distinct (u ++ c ∷ v) → among (keys (entries_of u)) c.entry.key ≡ false
+pub gone_before : (u v : List Cell) (c : Cell) → DistinctPages (u ++ c ∷ v) → among (keys (entries_of u)) c.entry.key ≡ false
 gone_before u v c distinct = (or_false (among (keys (entries_of u)) c.entry.key) (among (keys (entries_of v)) c.entry.key) (sym (among-cells u v c.entry.key) ∙ gone u v c distinct)).0
 
 from_here : (k : Key) (a b : List Key) → among a k ≡ false → from_key k (a ++ k ∷ b) ≡ k ∷ b
@@ -168,8 +168,8 @@ first_key : (q : Key → Bool) (l : List Cell) → ((k : Key) → among (keys (e
 first_key q [] all = refl
 first_key q (c ∷ cs) all = rw (all c.entry.key (rw (is_key_self c.entry.key) refl)) refl
 
-hand_first : (u v : List Cell) (n : ℕ) → Apart (u ++ v) → hand_at (u ++ v) (first_at (v ++ u) n) ≡ head_key (v ++ u)
-hand_first u (d ∷ ds) n apart = ap key_of (entry_here u ds d apart)
+hand_first : (u v : List Cell) (n : ℕ) → DistinctNodes (u ++ v) → hand_at (u ++ v) (first_at (v ++ u) n) ≡ head_key (v ++ u)
+hand_first u (d ∷ ds) n apart = ap found_key (entry_here u ds d apart)
 hand_first [] [] n apart = refl
 hand_first (d ∷ ds) [] n apart = rw (at_self d.at) refl
 
@@ -179,7 +179,7 @@ or_comm false true = refl
 or_comm false false = refl
 
 -- the next of a cell that goes
-settled_next : (u v : List Cell) (c : Cell) → Apart (u ++ v) → Distinct (u ++ c ∷ v) →
+settled_next : (u v : List Cell) (c : Cell) → DistinctNodes (u ++ v) → DistinctPages (u ++ c ∷ v) →
     settled (entries_of (u ++ c ∷ v)) (entries_of (u ++ v)) (Some c.entry.key) ≡ hand_at (u ++ v) (first_at (v ++ u) c.at)
 settled_next u v c apart distinct =
     let k : Key = c.entry.key in
@@ -207,21 +207,21 @@ back m n h = elim (n == m) as (λ t. (n == m) ≡ t → t ≡ false) [ true ↦ 
 abbrev pub left_at : ℕ → ℕ → ℕ → ℕ
 left_at hand at next = cond (hand == at) next hand
 
-settled_hand : (u v : List Cell) (c : Cell) (hand : ℕ) → Apart (u ++ c ∷ v) → Apart (u ++ v) → Distinct (u ++ c ∷ v) → Rests (u ++ c ∷ v) hand →
+settled_hand : (u v : List Cell) (c : Cell) (hand : ℕ) → DistinctNodes (u ++ c ∷ v) → DistinctNodes (u ++ v) → DistinctPages (u ++ c ∷ v) → Rests (u ++ c ∷ v) hand →
     settled (entries_of (u ++ c ∷ v)) (entries_of (u ++ v)) (hand_at (u ++ c ∷ v) hand) ≡ hand_at (u ++ v) (left_at hand c.at (first_at (v ++ u) c.at))
 settled_hand u v c hand apart left distinct rests =
     elim (hand == c.at) as (λ t. (hand == c.at) ≡ t → settled (entries_of (u ++ c ∷ v)) (entries_of (u ++ v)) (hand_at (u ++ c ∷ v) hand) ≡ hand_at (u ++ v) (cond t (first_at (v ++ u) c.at) hand)) [
       | true ↦ λ is.
-          ap (settled (entries_of (u ++ c ∷ v)) (entries_of (u ++ v))) (ap (hand_at (u ++ c ∷ v)) (same_at hand c.at is) ∙ ap key_of (entry_here u v c apart))
+          ap (settled (entries_of (u ++ c ∷ v)) (entries_of (u ++ v))) (ap (hand_at (u ++ c ∷ v)) (same_at hand c.at is) ∙ ap found_key (entry_here u v c apart))
           ∙ settled_next u v c left distinct
       | false ↦ λ is.
           let other : (c.at == hand) ≡ false = back hand c.at is in
           let e : Entered (u ++ v) hand = entered (u ++ v) hand (sym (at_skipped u v c hand other) ∙ rests_at u v c hand rests) in
-          let old : hand_at (u ++ c ∷ v) hand ≡ Some e.entry.key = ap key_of (entry_skipped u v c hand other ∙ e.is) in
+          let old : hand_at (u ++ c ∷ v) hand ≡ Some e.entry.key = ap found_key (entry_skipped u v c hand other ∙ e.is) in
           ap (settled (entries_of (u ++ c ∷ v)) (entries_of (u ++ v))) old
           ∙ settled_rest (entries_of (u ++ c ∷ v)) (entries_of (u ++ v)) (Some e.entry.key)
           ∙ rest_stays (among (keys (entries_of (u ++ v)))) (keys (entries_of (u ++ c ∷ v))) e.entry.key e.among (more u v c e.entry.key e.among)
-          ∙ sym (ap key_of e.is)
+          ∙ sym (ap found_key e.is)
     ] refl
   where
     more : (u v : List Cell) (c : Cell) (k : Key) → among (keys (entries_of (u ++ v))) k ≡ true → among (keys (entries_of (u ++ c ∷ v))) k ≡ true
@@ -234,7 +234,7 @@ settled_hand u v c hand apart left distinct rests =
 
 -- Moves.
 
-pub removed_on : (u v : List Cell) (c : Cell) (cold test : ℕ) (s : ClockState) → Whole (u ++ c ∷ v) cold test → Apart (u ++ v) →
+pub removed_on : (u v : List Cell) (c : Cell) (cold test : ℕ) (s : ClockState) → Whole (u ++ c ∷ v) cold test → DistinctNodes (u ++ v) →
     on (u ++ v) (left_at cold c.at (first_at (v ++ u) c.at)) (left_at test c.at (first_at (v ++ u) c.at)) s ≡ removed c.entry.key (on (u ++ c ∷ v) cold test s)
 unfolding removed relisted
 removed_on u v c cold test s w left =
@@ -274,15 +274,15 @@ left_rests u v c hand rests =
 
 -- What stays whole.
 
-marked_distinct : (kind : EntryKind) (u v : List Cell) (c : Cell) → Distinct (u ++ c ∷ v) → Distinct (u ++ of_kind kind c ∷ v)
+marked_distinct : (kind : EntryKind) (u v : List Cell) (c : Cell) → DistinctPages (u ++ c ∷ v) → DistinctPages (u ++ of_kind kind c ∷ v)
 marked_distinct kind u v c h k =
     let e : number (has_key k) (entries_of (u ++ of_kind kind c ∷ v)) + cond (has_key k c.entry) 1 0 ≡ number (has_key k) (entries_of (u ++ c ∷ v)) + cond (has_key k c.entry) 1 0 = mark_number (has_key k) kind u v c in
     omega (arith, e, h k)
 
-removed_distinct : (u v : List Cell) (c : Cell) → Distinct (u ++ c ∷ v) → Distinct (u ++ v)
+removed_distinct : (u v : List Cell) (c : Cell) → DistinctPages (u ++ c ∷ v) → DistinctPages (u ++ v)
 removed_distinct u v c h k = omega (arith, remove_number (has_key k) u v c, h k)
 
-turned_distinct : (a b : List Cell) → Distinct (a ++ b) → Distinct (b ++ a)
+turned_distinct : (a b : List Cell) → DistinctPages (a ++ b) → DistinctPages (b ++ a)
 turned_distinct a b h k = omega (arith, number-cells (has_key k) a b, number-cells (has_key k) b a, h k)
 
 marked_at : (kind : EntryKind) (u v : List Cell) (c : Cell) (n : ℕ) → is_at (u ++ of_kind kind c ∷ v) n ≡ is_at (u ++ c ∷ v) n
@@ -298,7 +298,7 @@ length_marked : (kind : EntryKind) (u v : List Cell) (c : Cell) → length (u ++
 length_marked kind [] v c = refl
 length_marked kind (d ∷ ds) v c = ap (λ (n : ℕ). suc n) (length_marked kind ds v c)
 
-pub marked_whole : (kind : EntryKind) (u v : List Cell) (c : Cell) (cold test : ℕ) → Whole (u ++ c ∷ v) cold test → Apart (u ++ of_kind kind c ∷ v) → Whole (u ++ of_kind kind c ∷ v) cold test
+pub marked_whole : (kind : EntryKind) (u v : List Cell) (c : Cell) (cold test : ℕ) → Whole (u ++ c ∷ v) cold test → DistinctNodes (u ++ of_kind kind c ∷ v) → Whole (u ++ of_kind kind c ∷ v) cold test
 marked_whole kind u v c cold test w apart = record {
   apart = apart;
   distinct = marked_distinct kind u v c w.distinct;
@@ -306,7 +306,7 @@ marked_whole kind u v c cold test w apart = record {
   test_rests = filled_rests (u ++ c ∷ v) (u ++ of_kind kind c ∷ v) test (marked_at kind u v c) (length_marked kind u v c) w.test_rests;
 }
 
-pub removed_whole : (u v : List Cell) (c : Cell) (cold test : ℕ) → Whole (u ++ c ∷ v) cold test → Apart (u ++ v) →
+pub removed_whole : (u v : List Cell) (c : Cell) (cold test : ℕ) → Whole (u ++ c ∷ v) cold test → DistinctNodes (u ++ v) →
     Whole (u ++ v) (left_at cold c.at (first_at (v ++ u) c.at)) (left_at test c.at (first_at (v ++ u) c.at))
 removed_whole u v c cold test w apart = record {
   apart = apart;
@@ -315,7 +315,7 @@ removed_whole u v c cold test w apart = record {
   test_rests = left_rests u v c test w.test_rests;
 }
 
-pub turned_whole : (c : Cell) (cs : List Cell) (cold test : ℕ) → Whole (c ∷ cs) cold test → Apart (cs ++ c ∷ []) → Whole (cs ++ c ∷ []) cold test
+pub turned_whole : (c : Cell) (cs : List Cell) (cold test : ℕ) → Whole (c ∷ cs) cold test → DistinctNodes (cs ++ c ∷ []) → Whole (cs ++ c ∷ []) cold test
 turned_whole c cs cold test w apart = record {
   apart = apart;
   distinct = turned_distinct (c ∷ []) cs w.distinct;
@@ -327,11 +327,11 @@ turned_whole c cs cold test w apart = record {
 
 hand_marked : (kind : EntryKind) (u v : List Cell) (c : Cell) (n : ℕ) → hand_at (u ++ of_kind kind c ∷ v) n ≡ hand_at (u ++ c ∷ v) n
 hand_marked kind [] v c n =
-    elim (c.at == n) as (λ t. key_of (cond t (Some (of_kind kind c).entry) (entry_at v n)) ≡ key_of (cond t (Some c.entry) (entry_at v n))) [ true ↦ refl | false ↦ refl ]
+    elim (c.at == n) as (λ t. found_key (cond t (Some (of_kind kind c).entry) (entry_at_node v n)) ≡ found_key (cond t (Some c.entry) (entry_at_node v n))) [ true ↦ refl | false ↦ refl ]
 hand_marked kind (d ∷ ds) v c n =
-    elim (d.at == n) as (λ t. key_of (cond t (Some d.entry) (entry_at (ds ++ of_kind kind c ∷ v) n)) ≡ key_of (cond t (Some d.entry) (entry_at (ds ++ c ∷ v) n))) [ true ↦ refl | false ↦ hand_marked kind ds v c n ]
+    elim (d.at == n) as (λ t. found_key (cond t (Some d.entry) (entry_at_node (ds ++ of_kind kind c ∷ v) n)) ≡ found_key (cond t (Some d.entry) (entry_at_node (ds ++ c ∷ v) n))) [ true ↦ refl | false ↦ hand_marked kind ds v c n ]
 
-pub marked_on : (kind : EntryKind) (u v : List Cell) (c : Cell) (cold test : ℕ) (s : ClockState) → Distinct (u ++ c ∷ v) →
+pub marked_on : (kind : EntryKind) (u v : List Cell) (c : Cell) (cold test : ℕ) (s : ClockState) → DistinctPages (u ++ c ∷ v) →
     on (u ++ of_kind kind c ∷ v) cold test s ≡ marked c.entry.key kind (on (u ++ c ∷ v) cold test s)
 unfolding marked
 marked_on kind u v c cold test s distinct =
@@ -346,25 +346,25 @@ marked_on kind u v c cold test s distinct =
 
 -- The front becomes the last.
 
-entry_turned : (c : Cell) (cs : List Cell) (n : ℕ) → Apart (c ∷ cs) → entry_at (cs ++ c ∷ []) n ≡ entry_at (c ∷ cs) n
+entry_turned : (c : Cell) (cs : List Cell) (n : ℕ) → DistinctNodes (c ∷ cs) → entry_at_node (cs ++ c ∷ []) n ≡ entry_at_node (c ∷ cs) n
 entry_turned c cs n apart =
-    elim (c.at == n) as (λ t. (c.at == n) ≡ t → entry_at (cs ++ c ∷ []) n ≡ cond t (Some c.entry) (entry_at cs n)) [
+    elim (c.at == n) as (λ t. (c.at == n) ≡ t → entry_at_node (cs ++ c ∷ []) n ≡ cond t (Some c.entry) (entry_at_node cs n)) [
       | true ↦ λ is.
           let alone : is_at cs n ≡ false = ap (is_at cs) (sym (same_at c.at n is)) ∙ apart.0 in
           entry_behind cs (c ∷ []) n alone ∙ rw is refl
-      | false ↦ λ is. entry_skipped cs [] c n is ∙ ap (λ (l : List Cell). entry_at l n) (append_nil cs)
+      | false ↦ λ is. entry_skipped cs [] c n is ∙ ap (λ (l : List Cell). entry_at_node l n) (append_nil cs)
     ] refl
   where
     append_nil : (l : List Cell) → l ++ [] ≡ l
     append_nil [] = refl
     append_nil (d ∷ ds) = ap (λ (l : List Cell). d ∷ l) (append_nil ds)
 
-pub turned_on : (c : Cell) (cs : List Cell) (cold test : ℕ) (s : ClockState) → Apart (c ∷ cs) → on (cs ++ c ∷ []) cold test s ≡ front_turned (on (c ∷ cs) cold test s)
+pub turned_on : (c : Cell) (cs : List Cell) (cold test : ℕ) (s : ClockState) → DistinctNodes (c ∷ cs) → on (cs ++ c ∷ []) cold test s ≡ front_turned (on (c ∷ cs) cold test s)
 unfolding front_turned
 turned_on c cs cold test s apart =
     ap (λ (l : List Entry). record s { entries = l; cold_hand = hand_at (cs ++ c ∷ []) cold; test_hand = hand_at (cs ++ c ∷ []) test }) (entries-append cs (c ∷ []))
-    ∙ ap (λ (h : Option Entry). record s { entries = entries_of cs ++ c.entry ∷ []; cold_hand = key_of h; test_hand = hand_at (cs ++ c ∷ []) test }) (entry_turned c cs cold apart)
-    ∙ ap (λ (h : Option Entry). record s { entries = entries_of cs ++ c.entry ∷ []; cold_hand = hand_at (c ∷ cs) cold; test_hand = key_of h }) (entry_turned c cs test apart)
+    ∙ ap (λ (h : Option Entry). record s { entries = entries_of cs ++ c.entry ∷ []; cold_hand = found_key h; test_hand = hand_at (cs ++ c ∷ []) test }) (entry_turned c cs cold apart)
+    ∙ ap (λ (h : Option Entry). record s { entries = entries_of cs ++ c.entry ∷ []; cold_hand = hand_at (c ∷ cs) cold; test_hand = found_key h }) (entry_turned c cs test apart)
 
 -- A new last.
 
@@ -377,7 +377,7 @@ pub appended_rests : (cs : List Cell) (c : Cell) (hand : ℕ) → Rests cs hand 
 appended_rests [] c hand h = rw (at_self c.at) refl
 appended_rests (d ∷ ds) c hand h = is_at-append (d ∷ ds) (c ∷ []) hand ∙ rw h refl
 
-pub appended_whole : (cs : List Cell) (c : Cell) (cold test : ℕ) → Whole cs cold test → Apart (cs ++ c ∷ []) → Distinct (cs ++ c ∷ []) → Whole (cs ++ c ∷ []) (taken_up cs c.at cold) (taken_up cs c.at test)
+pub appended_whole : (cs : List Cell) (c : Cell) (cold test : ℕ) → Whole cs cold test → DistinctNodes (cs ++ c ∷ []) → DistinctPages (cs ++ c ∷ []) → Whole (cs ++ c ∷ []) (taken_up cs c.at cold) (taken_up cs c.at test)
 appended_whole cs c cold test w apart distinct = record {
   apart = apart;
   distinct = distinct;
@@ -389,7 +389,7 @@ hand_appended : (cs : List Cell) (c : Cell) (hand : ℕ) → Rests cs hand → h
 hand_appended [] c hand h = rw (at_self c.at) refl
 hand_appended (d ∷ ds) c hand h =
     let e : Entered (d ∷ ds) hand = entered (d ∷ ds) hand h in
-    ap key_of (entry_before (d ∷ ds) (c ∷ []) hand e.entry e.is) ∙ sym (ap (λ (o : Option Entry). Some (unwrap_or (key_of o) c.entry.key)) e.is)
+    ap found_key (entry_before (d ∷ ds) (c ∷ []) hand e.entry e.is) ∙ sym (ap (λ (o : Option Entry). Some (unwrap_or (found_key o) c.entry.key)) e.is)
 
 pub appended_on : (cs : List Cell) (c : Cell) (cold test : ℕ) (s : ClockState) → Rests cs cold → Rests cs test →
     on (cs ++ c ∷ []) (taken_up cs c.at cold) (taken_up cs c.at test) s ≡ appended c.entry (on cs cold test s)
@@ -416,7 +416,7 @@ left_taken [] [] c hand rests =
 left_taken [] (d ∷ ds) c hand rests = refl
 left_taken (d ∷ ds) v c hand rests = refl
 
-pub sent_whole : (kind : EntryKind) (u v : List Cell) (c : Cell) (cold test : ℕ) → Whole (u ++ c ∷ v) cold test → Apart (u ++ v) → Apart ((u ++ v) ++ of_kind kind c ∷ []) →
+pub sent_whole : (kind : EntryKind) (u v : List Cell) (c : Cell) (cold test : ℕ) → Whole (u ++ c ∷ v) cold test → DistinctNodes (u ++ v) → DistinctNodes ((u ++ v) ++ of_kind kind c ∷ []) →
     Whole ((u ++ v) ++ of_kind kind c ∷ []) (left_at cold c.at (first_at (v ++ u) c.at)) (left_at test c.at (first_at (v ++ u) c.at))
 sent_whole kind u v c cold test w left apart =
     let next : ℕ = first_at (v ++ u) c.at in
@@ -430,7 +430,7 @@ sent_whole kind u v c cold test w left apart =
       test_rests = subst (Rests ((u ++ v) ++ of_kind kind c ∷ [])) (left_taken u v c test w.test_rests) (appended_rests (u ++ v) (of_kind kind c) (left_at test c.at next) out.test_rests);
     }
 
-pub sent_on : (kind : EntryKind) (u v : List Cell) (c : Cell) (cold test : ℕ) (s : ClockState) → Whole (u ++ c ∷ v) cold test → Apart (u ++ v) →
+pub sent_on : (kind : EntryKind) (u v : List Cell) (c : Cell) (cold test : ℕ) (s : ClockState) → Whole (u ++ c ∷ v) cold test → DistinctNodes (u ++ v) →
     on ((u ++ v) ++ of_kind kind c ∷ []) (left_at cold c.at (first_at (v ++ u) c.at)) (left_at test c.at (first_at (v ++ u) c.at)) s ≡ sent_to_end c.entry.key kind (on (u ++ c ∷ v) cold test s)
 unfolding sent_to_end
 sent_on kind u v c cold test s w left =
@@ -444,17 +444,17 @@ sent_on kind u v c cold test s w left =
 
 -- Hands are set.
 
-pub cold_set_on : (cs : List Cell) (at cold test : ℕ) (e : Entry) (s : ClockState) → entry_at cs at ≡ Some e → on cs at test s ≡ cold_hand_on e.key (on cs cold test s)
+pub cold_set_on : (cs : List Cell) (at cold test : ℕ) (e : Entry) (s : ClockState) → entry_at_node cs at ≡ Some e → on cs at test s ≡ cold_hand_on e.key (on cs cold test s)
 unfolding cold_hand_on
-cold_set_on cs at cold test e s h = ap (λ (o : Option Entry). record s { entries = entries_of cs; cold_hand = key_of o; test_hand = hand_at cs test }) h
+cold_set_on cs at cold test e s h = ap (λ (o : Option Entry). record s { entries = entries_of cs; cold_hand = found_key o; test_hand = hand_at cs test }) h
 
-pub test_set_on : (cs : List Cell) (at cold test : ℕ) (e : Entry) (s : ClockState) → entry_at cs at ≡ Some e → on cs cold at s ≡ test_hand_on e.key (on cs cold test s)
+pub test_set_on : (cs : List Cell) (at cold test : ℕ) (e : Entry) (s : ClockState) → entry_at_node cs at ≡ Some e → on cs cold at s ≡ test_hand_on e.key (on cs cold test s)
 unfolding test_hand_on
-test_set_on cs at cold test e s h = ap (λ (o : Option Entry). record s { entries = entries_of cs; cold_hand = hand_at cs cold; test_hand = key_of o }) h
+test_set_on cs at cold test e s h = ap (λ (o : Option Entry). record s { entries = entries_of cs; cold_hand = hand_at cs cold; test_hand = found_key o }) h
 
 -- A shadow, with the cold hand on its next.
 
-pub placed : (u v : List Cell) (c : Cell) → Distinct (u ++ c ∷ v) → place c.entry.key (entries_of (u ++ c ∷ v)) ≡ length u
+pub placed : (u v : List Cell) (c : Cell) → DistinctPages (u ++ c ∷ v) → place c.entry.key (entries_of (u ++ c ∷ v)) ≡ length u
 placed u v c distinct = ap (place c.entry.key) (entries-append u (c ∷ v)) ∙ after u v c (gone_before u v c distinct)
   where
     after : (u v : List Cell) (c : Cell) → among (keys (entries_of u)) c.entry.key ≡ false → place c.entry.key (entries_of u ++ c.entry ∷ entries_of v) ≡ length u
@@ -464,8 +464,8 @@ placed u v c distinct = ap (place c.entry.key) (entries-append u (c ∷ v)) ∙ 
         let other : has_key c.entry.key d.entry ≡ false = parts.0 in
         rw other (ap (λ (n : ℕ). suc n) (after ds v c (parts.1)))
 
-next_round : (u v : List Cell) (c : Cell) (n : ℕ) → n ≡ length u → key_of (find (λ _. true) (round (n + 1) (entries_of (u ++ c ∷ v)))) ≡ head_key (v ++ (u ++ c ∷ []))
-next_round u v c n h = rw (add-one, h) (ap (λ (l : List Entry). key_of (find (λ _. true) l)) (turned u v c) ∙ first (v ++ (u ++ c ∷ [])))
+next_round : (u v : List Cell) (c : Cell) (n : ℕ) → n ≡ length u → found_key (find (λ _. true) (round (n + 1) (entries_of (u ++ c ∷ v)))) ≡ head_key (v ++ (u ++ c ∷ []))
+next_round u v c n h = rw (add-one, h) (ap (λ (l : List Entry). found_key (find (λ _. true) l)) (turned u v c) ∙ first (v ++ (u ++ c ∷ [])))
   where
     dropped : (u v : List Cell) (c : Cell) → drop (suc (length u)) (entries_of (u ++ c ∷ v)) ≡ entries_of v
     dropped [] v c = refl
@@ -478,14 +478,14 @@ next_round u v c n h = rw (add-one, h) (ap (λ (l : List Entry). key_of (find (�
     turned : (u v : List Cell) (c : Cell) → round (suc (length u)) (entries_of (u ++ c ∷ v)) ≡ entries_of (v ++ (u ++ c ∷ []))
     turned u v c = ap (λ (l : List Entry). l ++ take (suc (length u)) (entries_of (u ++ c ∷ v))) (dropped u v c) ∙ ap (λ (l : List Entry). entries_of v ++ l) (kept u v c) ∙ sym (entries-append v (u ++ c ∷ []))
 
-    first : (l : List Cell) → key_of (find (λ _. true) (entries_of l)) ≡ head_key l
+    first : (l : List Cell) → found_key (find (λ _. true) (entries_of l)) ≡ head_key l
     first [] = refl
     first (d ∷ ds) = refl
 
-pub next_hand : (u v : List Cell) (c : Cell) → Apart (u ++ c ∷ v) → hand_at (u ++ c ∷ v) (first_at (v ++ u) c.at) ≡ head_key (v ++ (u ++ c ∷ []))
+pub next_hand : (u v : List Cell) (c : Cell) → DistinctNodes (u ++ c ∷ v) → hand_at (u ++ c ∷ v) (first_at (v ++ u) c.at) ≡ head_key (v ++ (u ++ c ∷ []))
 next_hand u (d ∷ ds) c apart =
     ap (λ (l : List Cell). hand_at l d.at) (sym (append_assoc u (c ∷ []) (d ∷ ds)))
-    ∙ ap key_of (entry_here (u ++ c ∷ []) ds d (subst Apart (sym (append_assoc u (c ∷ []) (d ∷ ds))) apart))
+    ∙ ap found_key (entry_here (u ++ c ∷ []) ds d (subst DistinctNodes (sym (append_assoc u (c ∷ []) (d ∷ ds))) apart))
 next_hand [] [] c apart = rw (at_self c.at) refl
 next_hand (d ∷ ds) [] c apart = rw (at_self d.at) refl
 
@@ -497,11 +497,11 @@ next_rests u v c = at_rests (u ++ c ∷ v) (first_at (v ++ u) c.at) (is_at-appen
     there [] [] c = rw (at_self c.at) refl
     there (d ∷ ds) [] c = rw (at_self d.at) refl
 
-pub shadowed_on : (u v : List Cell) (c : Cell) (cold test : ℕ) (s : ClockState) → Distinct (u ++ c ∷ v) → Apart (u ++ of_kind Shadow c ∷ v) →
+pub shadowed_on : (u v : List Cell) (c : Cell) (cold test : ℕ) (s : ClockState) → DistinctPages (u ++ c ∷ v) → DistinctNodes (u ++ of_kind Shadow c ∷ v) →
     on (u ++ of_kind Shadow c ∷ v) (first_at (v ++ u) c.at) test s ≡ shadowed c.entry.key (on (u ++ c ∷ v) cold test s)
 unfolding shadowed
 shadowed_on u v c cold test s distinct apart =
     let new : List Cell = u ++ of_kind Shadow c ∷ v in
     let at : place c.entry.key (entries_of (u ++ c ∷ v)) ≡ length u = placed u v c distinct in
     ap (λ (h : Option Key). record s { entries = entries_of new; cold_hand = h; test_hand = hand_at new test }) (next_hand u v (of_kind Shadow c) apart ∙ sym (next_round u v (of_kind Shadow c) (place c.entry.key (entries_of (u ++ c ∷ v))) at))
-    ∙ ap (λ (m : ClockState). record m { cold_hand = key_of (find (λ _. true) (round (place c.entry.key (entries_of (u ++ c ∷ v)) + 1) m.entries)) }) (marked_on Shadow u v c cold test s distinct)
+    ∙ ap (λ (m : ClockState). record m { cold_hand = found_key (find (λ _. true) (round (place c.entry.key (entries_of (u ++ c ∷ v)) + 1) m.entries)) }) (marked_on Shadow u v c cold test s distinct)

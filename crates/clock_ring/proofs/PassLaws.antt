@@ -5,15 +5,15 @@ use Rattle.clock_policy.specs.declared.key.Key.{Key}
 use Rattle.clock_policy.specs.declared.entry.Entry.{Entry}
 use Rattle.clock_policy.specs.declared.entry.EntryKind.{EntryKind}
 use Rattle.clock_policy.specs.ClockPro.{ClockState, has_key, number, place}
-use Rattle.clock_policy.specs.Listed.{has_key_refl}
+use Rattle.clock_policy.specs.ListedLaws.{has_key_refl}
 use Rattle.clock_policy.specs.CountLaws.{IsIn}
 use Rattle.clock_policy.specs.SingleMoves.{kind_passed, front_passed, fronts_passed}
 use Rattle.page_ring.specs.declared.links.Node.{Node}
 use Rattle.page_ring.specs.Linked.{Cell}
 use Rattle.page_ring.specs.LinkLaws.{at_self, same_at}
 use Rattle.page_ring.specs.Chain.{same, of_kind}
-use Rattle.page_ring.specs.Index.{entries_of, entries-append, Distinct}
-use Rattle.clock_ring.specs.RingState.{entry_at, passed_as, passed_list}
+use Rattle.page_ring.specs.Index.{entries_of, entries-append, DistinctPages}
+use Rattle.clock_ring.specs.RingState.{entry_at_node, passed_as, passed_list}
 use Rattle.clock_ring.proofs.MoveLaws.{Between, between, entry_before}
 use Rattle.clock_ring.proofs.StepLaws.{NodeAt, Made}
 
@@ -21,7 +21,7 @@ use Rattle.clock_ring.proofs.StepLaws.{NodeAt, Made}
 pub record Front (cells : List Cell) (at : ℕ) (e : Entry) : Type 0 where
   pub rest : List Cell
   pub parts : cells ≡ record { at = at; entry = e } ∷ rest
-  pub holds : entry_at cells at ≡ Some e
+  pub holds : entry_at_node cells at ≡ Some e
 
 pub front_is : (cells : List Cell) (at : ℕ) (node : Node) → 1 ≤ length cells → ((c : Cell) → (cs : List Cell) → cells ≡ c ∷ cs → at ≡ c.at) → NodeAt cells at node → Front cells at node.entry
 front_is [] at node some first told = absurd (omega (arith, some))
@@ -44,11 +44,11 @@ pub passed_cells : (cells new : List Cell) (at : ℕ) (e : Entry) (kind : EntryK
 passed_cells cells new at e kind f k h =
     h ∙ ap (λ (t : EntryKind). f.rest ++ passed_as t (record { at = at; entry = e })) (sym k) ∙ ap passed_list (sym f.parts)
 
-pub some_at : (cells : List Cell) (at : ℕ) (e : Entry) → entry_at cells at ≡ Some e → 1 ≤ length cells
+pub some_at : (cells : List Cell) (at : ℕ) (e : Entry) → entry_at_node cells at ≡ Some e → 1 ≤ length cells
 some_at [] at e h = cc
 some_at (c ∷ cs) at e h = omega arith
 
-pub marked_some : (cells new : List Cell) (at : ℕ) (e : Entry) (kind : EntryKind) → entry_at cells at ≡ Some e → Made cells at new (λ u c v. u ++ of_kind kind c ∷ v) → 1 ≤ length new
+pub marked_some : (cells new : List Cell) (at : ℕ) (e : Entry) (kind : EntryKind) → entry_at_node cells at ≡ Some e → Made cells at new (λ u c v. u ++ of_kind kind c ∷ v) → 1 ≤ length new
 marked_some cells new at e kind holds made =
     let b : Between cells at e = between cells at e holds in
     let c : Cell = record { at = at; entry = e } in
@@ -59,18 +59,18 @@ marked_some cells new at e kind holds made =
     some_with (d ∷ ds) v c = omega arith
 
 -- a key of an entry of these cells
-pub listed_at : (cells : List Cell) (at : ℕ) (e : Entry) → entry_at cells at ≡ Some e → 1 ≤ number (has_key e.key) (entries_of cells)
+pub listed_at : (cells : List Cell) (at : ℕ) (e : Entry) → entry_at_node cells at ≡ Some e → 1 ≤ number (has_key e.key) (entries_of cells)
 listed_at [] at e h = cc
 listed_at (c ∷ cs) at e h =
-    elim (c.at == at) as (λ t. cond t (Some c.entry) (entry_at cs at) ≡ Some e → 1 ≤ number (has_key e.key) (entries_of (c ∷ cs))) [
+    elim (c.at == at) as (λ t. cond t (Some c.entry) (entry_at_node cs at) ≡ Some e → 1 ≤ number (has_key e.key) (entries_of (c ∷ cs))) [
       | true ↦ λ g. let one : c.entry ≡ e = cc in rw one (rw (has_key_refl e) (omega arith))
       | false ↦ λ g. omega (arith, listed_at cs at e g)
     ] h
 
-pub held_in : (cells : List Cell) (at : ℕ) (e : Entry) → entry_at cells at ≡ Some e → IsIn e (entries_of cells)
+pub held_in : (cells : List Cell) (at : ℕ) (e : Entry) → entry_at_node cells at ≡ Some e → IsIn e (entries_of cells)
 held_in [] at e h = cc
 held_in (c ∷ cs) at e h =
-    elim (c.at == at) as (λ t. cond t (Some c.entry) (entry_at cs at) ≡ Some e → (c.entry ≡ e) ⊎ IsIn e (entries_of cs)) [
+    elim (c.at == at) as (λ t. cond t (Some c.entry) (entry_at_node cs at) ≡ Some e → (c.entry ≡ e) ⊎ IsIn e (entries_of cs)) [
       | true ↦ λ g. let one : c.entry ≡ e = cc in inl one
       | false ↦ λ g. inr (held_in cs at e g)
     ] h
@@ -85,23 +85,23 @@ place-append k (e ∷ es) b h =
 
 -- what is left of the way after a front was passed
 pub record Passed (cells new : List Cell) (at : ℕ) (e : Entry) (s t : ClockState) : Type 0 where
-  pub holds : entry_at new at ≡ Some e
+  pub holds : entry_at_node new at ≡ Some e
   pub rest : fronts_passed (place e.key (entries_of new)) t ≡ fronts_passed (place e.key (entries_of cells)) s
   pub nearer : place e.key (entries_of new) < place e.key (entries_of cells)
 
-pub front_goes_by : (cells new : List Cell) (at front : ℕ) (e : Entry) (s t : ClockState) → Distinct cells → entry_at cells at ≡ Some e → ((c : Cell) → (cs : List Cell) → cells ≡ c ∷ cs → front ≡ c.at) → front ≢ at →
+pub front_goes_by : (cells new : List Cell) (at front : ℕ) (e : Entry) (s t : ClockState) → DistinctPages cells → entry_at_node cells at ≡ Some e → ((c : Cell) → (cs : List Cell) → cells ≡ c ∷ cs → front ≡ c.at) → front ≢ at →
     new ≡ passed_list cells → t ≡ front_passed s → Passed cells new at e s t
 front_goes_by [] new at front e s t distinct holds first away is moved = cc
 front_goes_by (c ∷ cs) new at front e s t distinct holds first away is moved =
     let other : (c.at == at) ≡ false = differs c.at at (λ (q : c.at ≡ at). away (first c cs refl ∙ q)) in
-    let behind : entry_at cs at ≡ Some e = skipped c cs at e other holds in
+    let behind : entry_at_node cs at ≡ Some e = skipped c cs at e other holds in
     let listed : 1 ≤ number (has_key e.key) (entries_of cs) = listed_at cs at e behind in
     let fails : has_key e.key c.entry ≡ false = only (has_key e.key c.entry) (number (has_key e.key) (entries_of cs)) (distinct e.key) listed in
     let here : place e.key (entries_of (c ∷ cs)) ≡ suc (place e.key (entries_of cs)) = counted (has_key e.key c.entry) (place e.key (entries_of cs)) fails in
     let there : place e.key (entries_of new) ≡ place e.key (entries_of cs) =
     ap (λ (l : List Cell). place e.key (entries_of l)) is ∙ ap (place e.key) (entries-append cs (passed_as c.entry.kind c)) ∙ place-append e.key (entries_of cs) (entries_of (passed_as c.entry.kind c)) listed in
     record {
-      holds = ap (λ (l : List Cell). entry_at l at) is ∙ entry_before cs (passed_as c.entry.kind c) at e behind;
+      holds = ap (λ (l : List Cell). entry_at_node l at) is ∙ entry_before cs (passed_as c.entry.kind c) at e behind;
       rest = ap (λ (n : ℕ). fronts_passed n t) there ∙ ap (fronts_passed (place e.key (entries_of cs))) moved ∙ sym (ap (λ (n : ℕ). fronts_passed n s) here);
       nearer = omega (arith, here, there);
     }
@@ -109,7 +109,7 @@ front_goes_by (c ∷ cs) new at front e s t distinct holds first away is moved =
     differs : (m n : ℕ) → m ≢ n → (m == n) ≡ false
     differs m n h = elim (m == n) as (λ t. (m == n) ≡ t → t ≡ false) [ true ↦ λ q. absurd (h (same_at m n q)) | false ↦ λ q. refl ] refl
 
-    skipped : (c : Cell) (cs : List Cell) (at : ℕ) (e : Entry) → (c.at == at) ≡ false → entry_at (c ∷ cs) at ≡ Some e → entry_at cs at ≡ Some e
+    skipped : (c : Cell) (cs : List Cell) (at : ℕ) (e : Entry) → (c.at == at) ≡ false → entry_at_node (c ∷ cs) at ≡ Some e → entry_at_node cs at ≡ Some e
     skipped c cs at e h g = rw h at g
 
     only : (b : Bool) (n : ℕ) → cond b 1 0 + n ≤ 1 → 1 ≤ n → b ≡ false
@@ -121,10 +121,10 @@ front_goes_by (c ∷ cs) new at front e s t distinct holds first away is moved =
     counted false n h = refl
 
 -- the way ends where the entry stands at the front
-pub front_reached : (cells : List Cell) (at front : ℕ) (e : Entry) → entry_at cells at ≡ Some e → ((c : Cell) → (cs : List Cell) → cells ≡ c ∷ cs → front ≡ c.at) → front ≡ at → place e.key (entries_of cells) ≡ 0
+pub front_reached : (cells : List Cell) (at front : ℕ) (e : Entry) → entry_at_node cells at ≡ Some e → ((c : Cell) → (cs : List Cell) → cells ≡ c ∷ cs → front ≡ c.at) → front ≡ at → place e.key (entries_of cells) ≡ 0
 front_reached [] at front e holds first is = cc
 front_reached (c ∷ cs) at front e holds first is =
     let here : (c.at == at) ≡ true = rw (sym (first c cs refl) ∙ is) (at_self at) in
-    let found : cond true (Some c.entry) (entry_at cs at) ≡ Some e = rw here at holds in
+    let found : cond true (Some c.entry) (entry_at_node cs at) ≡ Some e = rw here at holds in
     let one : c.entry ≡ e = cc in
     rw one (rw (has_key_refl e) refl)

@@ -3,7 +3,7 @@ use Rattle.std.specs.Prelude.{◌≡◌, ℕ, ◌+◌, ◌≤◌, ◌<◌, Bool,
 use Rattle.std.proofs.Common.{sym, ap, ◌∙◌, append_assoc}
 use Rattle.std.proofs.lemmas.List.{drop_all}
 use Rattle.clock_policy.specs.declared.entry.Entry.{Entry}
-use Rattle.clock_policy.specs.ClockPro.{ClockState, is_of, removed}
+use Rattle.clock_policy.specs.ClockPro.{ClockState, is_of_process, removed}
 use Rattle.clock_policy.specs.SingleMoves.{removed_of, each_removed}
 use Rattle.page_ring.specs.declared.links.Node.{Node}
 use Rattle.page_ring.specs.Linked.{Cell, is_at, first_at, last_at}
@@ -16,12 +16,12 @@ use Rattle.clock_ring.proofs.ScanLaws.{Middle, middle}
 -- the cells that are not the process's
 abbrev pub left_of : ℕ → List Cell → List Cell
 left_of process [] = []
-left_of process (c ∷ cs) = cond (is_of process c.entry) (left_of process cs) (c ∷ left_of process cs)
+left_of process (c ∷ cs) = cond (is_of_process process c.entry) (left_of process cs) (c ∷ left_of process cs)
 
 left-append : (process : ℕ) (a b : List Cell) → left_of process (a ++ b) ≡ left_of process a ++ left_of process b
 left-append process [] b = refl
 left-append process (c ∷ cs) b =
-    elim (is_of process c.entry) as (λ t. cond t (left_of process (cs ++ b)) (c ∷ left_of process (cs ++ b)) ≡ cond t (left_of process cs) (c ∷ left_of process cs) ++ left_of process b) [
+    elim (is_of_process process c.entry) as (λ t. cond t (left_of process (cs ++ b)) (c ∷ left_of process (cs ++ b)) ≡ cond t (left_of process cs) (c ∷ left_of process cs) ++ left_of process b) [
       | true ↦ left-append process cs b
       | false ↦ ap (λ (l : List Cell). c ∷ l) (left-append process cs b)
     ]
@@ -45,7 +45,7 @@ pub record Passing (process : ℕ) (first now : List Cell) (i at : ℕ) (node : 
   pub from : drop i first ≡ cell ∷ behind
   pub after : drop (i + 1) first ≡ behind
   pub kept_is : kept ≡ left_of process (take i first)
-  pub upto : left_of process (take (i + 1) first) ≡ kept ++ cond (is_of process cell.entry) [] (cell ∷ [])
+  pub upto : left_of process (take (i + 1) first) ≡ kept ++ cond (is_of_process process cell.entry) [] (cell ∷ [])
   pub is : cell.at ≡ at
   pub entry : node.entry ≡ cell.entry
   pub next : first_at behind node.next ≡ node.next
@@ -83,13 +83,13 @@ passing process first now i at node s whole within h told =
     by_behind [] u at next h = refl
     by_behind (d ∷ ds) u at next h = sym h
 
-pub purge_removes : (process : ℕ) (first now new : List Cell) (i at : ℕ) (node : Node) (s t whole : ClockState) → i < length first → Purging process first now i at s whole → NodeAt now at node → is_of process node.entry ≡ true →
+pub purge_removes : (process : ℕ) (first now new : List Cell) (i at : ℕ) (node : Node) (s t whole : ClockState) → i < length first → Purging process first now i at s whole → NodeAt now at node → is_of_process process node.entry ≡ true →
     Made now at new (λ u c v. u ++ v) → t ≡ removed node.entry.key s → Purging process first new (i + 1) node.next t whole
 purge_removes process first now new i at node s t whole within h told gone made moved =
     let p : Passing process first now i at node = passing process first now i at node s whole within h told in
-    let it : is_of process p.cell.entry ≡ true = ap (is_of process) (sym p.entry) ∙ gone in
+    let it : is_of_process process p.cell.entry ≡ true = ap (is_of_process process) (sym p.entry) ∙ gone in
     record {
-      cells = made p.kept p.behind p.cell p.parts p.is ∙ sym (ap (λ (l : List Cell). l ++ drop (i + 1) first) (p.upto ∙ dropped p.kept (p.cell ∷ []) (is_of process p.cell.entry) it) ∙ ap (λ (l : List Cell). p.kept ++ l) p.after);
+      cells = made p.kept p.behind p.cell p.parts p.is ∙ sym (ap (λ (l : List Cell). l ++ drop (i + 1) first) (p.upto ∙ dropped p.kept (p.cell ∷ []) (is_of_process process p.cell.entry) it) ∙ ap (λ (l : List Cell). p.kept ++ l) p.after);
       next = ap (λ (l : List Cell). first_at l node.next) p.after ∙ p.next;
       rest =
           ap (λ (l : List Cell). each_removed process (entries_of l) t) p.after
@@ -103,16 +103,16 @@ purge_removes process first now new i at node s t whole within h told gone made 
     dropped (c ∷ cs) b true h = ap (λ (l : List Cell). c ∷ l) (dropped cs b true h)
     dropped a b false h = cc
 
-    goes : (e : Entry) (s : ClockState) → is_of process e ≡ true → removed_of process e s ≡ removed e.key s
+    goes : (e : Entry) (s : ClockState) → is_of_process process e ≡ true → removed_of process e s ≡ removed e.key s
     goes e s h = rw h refl
 
-pub purge_keeps : (process : ℕ) (first now : List Cell) (i at : ℕ) (node : Node) (s whole : ClockState) → i < length first → Purging process first now i at s whole → NodeAt now at node → is_of process node.entry ≡ false →
+pub purge_keeps : (process : ℕ) (first now : List Cell) (i at : ℕ) (node : Node) (s whole : ClockState) → i < length first → Purging process first now i at s whole → NodeAt now at node → is_of_process process node.entry ≡ false →
     Purging process first now (i + 1) node.next s whole
 purge_keeps process first now i at node s whole within h told stays =
     let p : Passing process first now i at node = passing process first now i at node s whole within h told in
-    let it : is_of process p.cell.entry ≡ false = ap (is_of process) (sym p.entry) ∙ stays in
+    let it : is_of_process process p.cell.entry ≡ false = ap (is_of_process process) (sym p.entry) ∙ stays in
     record {
-      cells = p.parts ∙ sym (append_assoc p.kept (p.cell ∷ []) p.behind) ∙ sym (ap (λ (l : List Cell). l ++ drop (i + 1) first) (p.upto ∙ kept p.kept (p.cell ∷ []) (is_of process p.cell.entry) it) ∙ ap (λ (l : List Cell). (p.kept ++ p.cell ∷ []) ++ l) p.after);
+      cells = p.parts ∙ sym (append_assoc p.kept (p.cell ∷ []) p.behind) ∙ sym (ap (λ (l : List Cell). l ++ drop (i + 1) first) (p.upto ∙ kept p.kept (p.cell ∷ []) (is_of_process process p.cell.entry) it) ∙ ap (λ (l : List Cell). (p.kept ++ p.cell ∷ []) ++ l) p.after);
       next = ap (λ (l : List Cell). first_at l node.next) p.after ∙ p.next;
       rest =
           ap (λ (l : List Cell). each_removed process (entries_of l) s) p.after
@@ -125,7 +125,7 @@ purge_keeps process first now i at node s whole within h told stays =
     kept a b true h = cc
     kept a b false h = refl
 
-    stands : (e : Entry) (s : ClockState) → is_of process e ≡ false → removed_of process e s ≡ s
+    stands : (e : Entry) (s : ClockState) → is_of_process process e ≡ false → removed_of process e s ≡ s
     stands e s h = rw h refl
 
 -- nothing is left

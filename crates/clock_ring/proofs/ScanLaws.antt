@@ -5,13 +5,13 @@ use Rattle.std.proofs.Common.{arith, sym, ap, ◌∙◌, subst, append_assoc, ad
 use Rattle.std.proofs.lemmas.List.Folds.{find-append}
 use Rattle.clock_policy.specs.declared.key.Key.{Key}
 use Rattle.clock_policy.specs.declared.entry.Entry.{Entry}
-use Rattle.clock_policy.specs.ClockPro.{number, key_of, place_of, round, asks_hot, asked_entry, is_hot, is_cold, hot_count, cold_count, ClockState}
+use Rattle.clock_policy.specs.ClockPro.{number, found_key, place_of, round, asks_hot, asked_entry, is_hot, is_cold, hot_count, cold_count, ClockState}
 use Rattle.page_ring.specs.declared.links.Node.{Node}
-use Rattle.page_ring.specs.Linked.{Cell, Apart, is_at, first_at, last_at}
+use Rattle.page_ring.specs.Linked.{Cell, DistinctNodes, is_at, first_at, last_at}
 use Rattle.page_ring.specs.LinkLaws.{at_self}
 use Rattle.page_ring.specs.Chain.{Split, split, rotates_split}
-use Rattle.page_ring.specs.Index.{entries_of, entries-append, number-cells, remove_number, Distinct}
-use Rattle.clock_ring.specs.RingState.{entry_at, hand_at, from_at, before_at, around, Rests}
+use Rattle.page_ring.specs.Index.{entries_of, entries-append, number-cells, remove_number, DistinctPages}
+use Rattle.clock_ring.specs.RingState.{entry_at_node, hand_at, from_at, before_at, around, Rests}
 use Rattle.clock_ring.proofs.MoveLaws.{alone_at, entry_here, next_rests, placed}
 use Rattle.clock_ring.proofs.StepLaws.{NodeAt}
 
@@ -35,16 +35,16 @@ before_here (d ∷ ds) v c h =
     let parts : ((d.at == c.at) ≡ false) × (is_at ds c.at ≡ false) = or_false (d.at == c.at) (is_at ds c.at) h in
     rw (parts.0) (ap (λ (l : List Cell). d ∷ l) (before_here ds v c (parts.1)))
 
-pub around_here : (u v : List Cell) (c : Cell) → Apart (u ++ c ∷ v) → around (u ++ c ∷ v) c.at ≡ c ∷ (v ++ u)
+pub around_here : (u v : List Cell) (c : Cell) → DistinctNodes (u ++ c ∷ v) → around (u ++ c ∷ v) c.at ≡ c ∷ (v ++ u)
 around_here u v c apart =
     let alone : is_at u c.at ≡ false = alone_at u v c apart in
     ap (λ (l : List Cell). l ++ before_at (u ++ c ∷ v) c.at) (from_here u v c alone) ∙ ap (λ (l : List Cell). (c ∷ v) ++ l) (before_here u v c alone)
 
 -- from the next on
-pub around_next : (u v : List Cell) (c : Cell) → Apart (u ++ c ∷ v) → around (u ++ c ∷ v) (first_at (v ++ u) c.at) ≡ (v ++ u) ++ c ∷ []
+pub around_next : (u v : List Cell) (c : Cell) → DistinctNodes (u ++ c ∷ v) → around (u ++ c ∷ v) (first_at (v ++ u) c.at) ≡ (v ++ u) ++ c ∷ []
 around_next u (d ∷ ds) c apart =
     ap (λ (l : List Cell). around l d.at) (sym (append_assoc u (c ∷ []) (d ∷ ds)))
-    ∙ around_here (u ++ c ∷ []) ds d (subst Apart (sym (append_assoc u (c ∷ []) (d ∷ ds))) apart)
+    ∙ around_here (u ++ c ∷ []) ds d (subst DistinctNodes (sym (append_assoc u (c ∷ []) (d ∷ ds))) apart)
     ∙ ap (λ (l : List Cell). d ∷ l) (sym (append_assoc ds u (c ∷ [])))
 around_next [] [] c apart = rw (at_self c.at) refl
 around_next (d ∷ ds) [] c apart = around_here [] (ds ++ c ∷ []) d apart ∙ append_nil (d ∷ (ds ++ c ∷ []))
@@ -62,12 +62,12 @@ pub record Stands (cells : List Cell) (at : ℕ) (node : Node) : Type 0 where
   pub is : cell.at ≡ at
   pub entry : node.entry ≡ cell.entry
   pub next : node.next ≡ first_at (behind ++ before) cell.at
-  pub holds : entry_at cells at ≡ Some node.entry
+  pub holds : entry_at_node cells at ≡ Some node.entry
   pub here : around cells at ≡ cell ∷ (behind ++ before)
   pub ahead : around cells node.next ≡ (behind ++ before) ++ cell ∷ []
   pub there : is_at cells node.next ≡ true
 
-pub stands : (cells : List Cell) (at : ℕ) (node : Node) → Apart cells → is_at cells at ≡ true → NodeAt cells at node → Stands cells at node
+pub stands : (cells : List Cell) (at : ℕ) (node : Node) → DistinctNodes cells → is_at cells at ≡ true → NodeAt cells at node → Stands cells at node
 stands cells at node apart there told = at_split (split cells at there)
   where
     at_split : Split cells at → Stands cells at node
@@ -78,7 +78,7 @@ stands cells at node apart there told = at_split (split cells at there)
         let same : node ≡ record { entry = c.entry; next = first_at (v ++ u) at; previous = last_at at (v ++ u) } = told c (v ++ u) (rotates_split cells u v c e.parts) e.is in
         let entry : node.entry ≡ c.entry = ap (λ (m : Node). m.entry) same in
         let next : node.next ≡ first_at (v ++ u) c.at = ap (λ (m : Node). m.next) same ∙ ap (first_at (v ++ u)) (sym e.is) in
-        let whole : Apart (u ++ c ∷ v) = subst Apart e.parts apart in
+        let whole : DistinctNodes (u ++ c ∷ v) = subst DistinctNodes e.parts apart in
         record {
           before = u;
           cell = c;
@@ -87,7 +87,7 @@ stands cells at node apart there told = at_split (split cells at there)
           is = e.is;
           entry = entry;
           next = next;
-          holds = ap (λ (l : List Cell). entry_at l at) e.parts ∙ ap (entry_at (u ++ c ∷ v)) (sym e.is) ∙ entry_here u v c whole ∙ ap (λ (x : Entry). Some x) (sym entry);
+          holds = ap (λ (l : List Cell). entry_at_node l at) e.parts ∙ ap (entry_at_node (u ++ c ∷ v)) (sym e.is) ∙ entry_here u v c whole ∙ ap (λ (x : Entry). Some x) (sym entry);
           here = ap (λ (l : List Cell). around l at) e.parts ∙ ap (around (u ++ c ∷ v)) (sym e.is) ∙ around_here u v c whole;
           ahead = ap (λ (l : List Cell). around l node.next) e.parts ∙ ap (around (u ++ c ∷ v)) next ∙ around_next u v c whole;
           there = ap (λ (l : List Cell). is_at l node.next) e.parts ∙ ap (is_at (u ++ c ∷ v)) next ∙ rests_is u v c (next_rests u v c);
@@ -111,7 +111,7 @@ pub record Scanned (p : Entry → Bool) (cells : List Cell) (at next : ℕ) : Ty
   pub same : find p (entries_of (around cells next)) ≡ find p (entries_of (around cells at))
   pub nearer : steps_to p (entries_of (around cells next)) < steps_to p (entries_of (around cells at))
 
-pub scan_goes_on : (p : Entry → Bool) (cells : List Cell) (at : ℕ) (node : Node) → Apart cells → is_at cells at ≡ true → NodeAt cells at node → 1 ≤ number p (entries_of cells) → p node.entry ≡ false → Scanned p cells at node.next
+pub scan_goes_on : (p : Entry → Bool) (cells : List Cell) (at : ℕ) (node : Node) → DistinctNodes cells → is_at cells at ≡ true → NodeAt cells at node → 1 ≤ number p (entries_of cells) → p node.entry ≡ false → Scanned p cells at node.next
 scan_goes_on p cells at node apart there told some fails =
     let w : Stands cells at node = stands cells at node apart there told in
     let c : Cell = w.cell in
@@ -143,10 +143,10 @@ scan_goes_on p cells at node apart there told some fails =
         omega (arith, rw h at count, number-cells p u v, number-cells p v u, some)
 
 pub record Sighted (p : Entry → Bool) (cells : List Cell) (at : ℕ) (e : Entry) : Type 0 where
-  pub holds : entry_at cells at ≡ Some e
+  pub holds : entry_at_node cells at ≡ Some e
   pub first : find p (entries_of (around cells at)) ≡ Some e
 
-pub scan_ends : (p : Entry → Bool) (cells : List Cell) (at : ℕ) (node : Node) → Apart cells → is_at cells at ≡ true → NodeAt cells at node → p node.entry ≡ true → Sighted p cells at node.entry
+pub scan_ends : (p : Entry → Bool) (cells : List Cell) (at : ℕ) (node : Node) → DistinctNodes cells → is_at cells at ≡ true → NodeAt cells at node → p node.entry ≡ true → Sighted p cells at node.entry
 scan_ends p cells at node apart there told passes =
     let w : Stands cells at node = stands cells at node apart there told in
     record {
@@ -183,7 +183,7 @@ none_found p (e ∷ es) h =
       | false ↦ λ g. none_found p es (omega (arith, g))
     ] h
 
-pub round_hand : (cells : List Cell) (hand : ℕ) → Apart cells → Distinct cells → is_at cells hand ≡ true → round (place_of (hand_at cells hand) (entries_of cells)) (entries_of cells) ≡ entries_of (around cells hand)
+pub round_hand : (cells : List Cell) (hand : ℕ) → DistinctNodes cells → DistinctPages cells → is_at cells hand ≡ true → round (place_of (hand_at cells hand) (entries_of cells)) (entries_of cells) ≡ entries_of (around cells hand)
 round_hand cells hand apart distinct there = at_split (split cells hand there)
   where
     dropped : (u v : List Cell) (c : Cell) → drop (length u) (entries_of (u ++ c ∷ v)) ≡ entries_of (c ∷ v)
@@ -199,9 +199,9 @@ round_hand cells hand apart distinct there = at_split (split cells hand there)
         let u : List Cell = e.before in
         let v : List Cell = e.behind in
         let c : Cell = e.cell in
-        let whole : Apart (u ++ c ∷ v) = subst Apart e.parts apart in
-        let at : hand_at (u ++ c ∷ v) hand ≡ Some c.entry.key = ap (hand_at (u ++ c ∷ v)) (sym e.is) ∙ ap key_of (entry_here u v c whole) in
-        let n : place_of (hand_at (u ++ c ∷ v) hand) (entries_of (u ++ c ∷ v)) ≡ length u = ap (λ (k : Option Key). place_of k (entries_of (u ++ c ∷ v))) at ∙ placed u v c (subst Distinct e.parts distinct) in
+        let whole : DistinctNodes (u ++ c ∷ v) = subst DistinctNodes e.parts apart in
+        let at : hand_at (u ++ c ∷ v) hand ≡ Some c.entry.key = ap (hand_at (u ++ c ∷ v)) (sym e.is) ∙ ap found_key (entry_here u v c whole) in
+        let n : place_of (hand_at (u ++ c ∷ v) hand) (entries_of (u ++ c ∷ v)) ≡ length u = ap (λ (k : Option Key). place_of k (entries_of (u ++ c ∷ v))) at ∙ placed u v c (subst DistinctPages e.parts distinct) in
         ap (λ (l : List Cell). round (place_of (hand_at l hand) (entries_of l)) (entries_of l)) e.parts
         ∙ ap (λ (i : ℕ). round i (entries_of (u ++ c ∷ v))) n
         ∙ ap (λ (l : List Entry). l ++ take (length u) (entries_of (u ++ c ∷ v))) (dropped u v c)
@@ -243,7 +243,7 @@ pub record Middle (l : List Cell) (k : ℕ) : Type 0 where
 pub middle : (l : List Cell) (k : ℕ) → k < length l → Middle l k
 middle l k h = let m : Middle' l k = middle' l k h in record { cell = m.cell; behind = m.behind; from = m.from; after = rw add-one m.after; upto = rw add-one m.upto; entry = m.entry }
 
-pub walk_goes_on : (cells : List Cell) (at k : ℕ) (node : Node) → Apart cells → Rests cells at → around cells at ≡ drop k cells ++ take k cells → k < length cells → NodeAt cells at node → Walked cells k node.next node.entry
+pub walk_goes_on : (cells : List Cell) (at k : ℕ) (node : Node) → DistinctNodes cells → Rests cells at → around cells at ≡ drop k cells ++ take k cells → k < length cells → NodeAt cells at node → Walked cells k node.next node.entry
 walk_goes_on cells at k node apart rests here within told =
     let w : Stands cells at node = stands cells at node apart (rests_there cells at (omega arith) rests) told in
     let r : List Cell = w.behind ++ w.before in
@@ -279,7 +279,7 @@ unfolding asked_entry
 asked_hot s cells front e is hot at found =
     rw hot (ap (find (λ x. is_hot x.kind)) is ∙ ap (λ (l : List Cell). find (λ x. is_hot x.kind) (entries_of l)) (sym (around_front cells front at)) ∙ found)
 
-pub asked_cold : (s : ClockState) (cells : List Cell) (hand : ℕ) (e : Entry) → s.entries ≡ entries_of cells → s.cold_hand ≡ hand_at cells hand → asks_hot s ≡ false → Apart cells → Distinct cells → is_at cells hand ≡ true →
+pub asked_cold : (s : ClockState) (cells : List Cell) (hand : ℕ) (e : Entry) → s.entries ≡ entries_of cells → s.cold_hand ≡ hand_at cells hand → asks_hot s ≡ false → DistinctNodes cells → DistinctPages cells → is_at cells hand ≡ true →
     find (λ x. is_cold x.kind) (entries_of (around cells hand)) ≡ Some e → asked_entry s ≡ Some e
 unfolding asked_entry
 asked_cold s cells hand e is at cold apart distinct there found =

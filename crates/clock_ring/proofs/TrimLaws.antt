@@ -7,14 +7,14 @@ use Rattle.clock_policy.specs.declared.entry.EntryKind.{EntryKind}
 use Rattle.clock_policy.specs.declared.entry.EntryKind.TheVariants.{Hot, Test, Cold, Shadow}
 use Rattle.clock_policy.specs.ClockPro.{ClockState, number, is_shadow, is_in_test, shadow_count, place_of, round, removed, marked, fallen, trimmed_once}
 use Rattle.clock_policy.specs.CountLaws.{number_any}
-use Rattle.clock_policy.specs.Steady.{Based}
+use Rattle.clock_policy.specs.SteadyLaws.{Based}
 use Rattle.clock_policy.specs.SingleMoves.{test_hand_on, kind_ended, each_ended}
 use Rattle.clock_policy.specs.TrimMoveLaws.{trimmed_by_moves}
 use Rattle.page_ring.specs.declared.links.Node.{Node}
-use Rattle.page_ring.specs.Linked.{Cell, Apart, is_at}
+use Rattle.page_ring.specs.Linked.{Cell, DistinctNodes, is_at}
 use Rattle.page_ring.specs.Chain.{of_kind}
-use Rattle.page_ring.specs.Index.{entries_of, entries-append, number-cells, Distinct}
-use Rattle.clock_ring.specs.RingState.{entry_at, hand_at, around, ended_kind}
+use Rattle.page_ring.specs.Index.{entries_of, entries-append, number-cells, DistinctPages}
+use Rattle.clock_ring.specs.RingState.{entry_at_node, hand_at, around, ended_kind}
 use Rattle.clock_ring.proofs.MoveLaws.{next_rests, entry_here}
 use Rattle.clock_ring.proofs.StepLaws.{NodeAt, Made}
 use Rattle.clock_ring.proofs.ScanLaws.{Stands, stands, around_next, steps_to, steps-append, rests_is, round_hand}
@@ -34,10 +34,10 @@ ended_test Test h g = refl
 ended_test Cold h g = cc
 ended_test Shadow h g = cc
 
-pub cell_entry : (cells u v : List Cell) (c : Cell) (at : ℕ) (e : Entry) → Apart cells → entry_at cells at ≡ Some e → cells ≡ u ++ c ∷ v → c.at ≡ at → c.entry ≡ e
+pub cell_entry : (cells u v : List Cell) (c : Cell) (at : ℕ) (e : Entry) → DistinctNodes cells → entry_at_node cells at ≡ Some e → cells ≡ u ++ c ∷ v → c.at ≡ at → c.entry ≡ e
 cell_entry cells u v c at e apart holds parts is =
-    let here : entry_at (u ++ c ∷ v) c.at ≡ Some c.entry = entry_here u v c (subst Apart parts apart) in
-    let there : entry_at (u ++ c ∷ v) c.at ≡ Some e = ap (λ (l : List Cell). entry_at l c.at) (sym parts) ∙ ap (entry_at cells) is ∙ holds in
+    let here : entry_at_node (u ++ c ∷ v) c.at ≡ Some c.entry = entry_here u v c (subst DistinctNodes parts apart) in
+    let there : entry_at_node (u ++ c ∷ v) c.at ≡ Some e = ap (λ (l : List Cell). entry_at_node l c.at) (sym parts) ∙ ap (entry_at_node cells) is ∙ holds in
     cc
 
 -- The way.
@@ -64,7 +64,7 @@ pub record Trimming (cells new : List Cell) (at next : ℕ) (s t : ClockState) :
   pub some : 1 ≤ shadow_count (entries_of new)
   pub nearer : steps_to (λ e. is_shadow e.kind) (entries_of (around new next)) < steps_to (λ e. is_shadow e.kind) (entries_of (around cells at))
 
-pub trim_goes_on : (cells new : List Cell) (at : ℕ) (node : Node) (s t : ClockState) → Apart cells → Apart new → is_at cells at ≡ true → NodeAt cells at node → 1 ≤ shadow_count (entries_of cells) → is_shadow node.entry.kind ≡ false →
+pub trim_goes_on : (cells new : List Cell) (at : ℕ) (node : Node) (s t : ClockState) → DistinctNodes cells → DistinctNodes new → is_at cells at ≡ true → NodeAt cells at node → 1 ≤ shadow_count (entries_of cells) → is_shadow node.entry.kind ≡ false →
     Made cells at new (λ u c v. u ++ of_kind (ended_kind c.entry.kind) c ∷ v) → ((more : ClockState → ClockState) → kind_ended node.entry.kind node.entry.key more s ≡ more t) → Trimming cells new at node.next s t
 trim_goes_on cells new at node s t apart apart' there told some none made moved =
     let w : Stands cells at node = stands cells at node apart there told in
@@ -75,7 +75,7 @@ trim_goes_on cells new at node s t apart apart' there told some none made moved 
     let r : List Cell = v ++ u in
     let p : Entry → Bool = λ e. is_shadow e.kind in
     let is : new ≡ u ++ d ∷ v = made u v c w.parts w.is in
-    let whole : Apart (u ++ d ∷ v) = subst Apart is apart' in
+    let whole : DistinctNodes (u ++ d ∷ v) = subst DistinctNodes is apart' in
     let not : is_shadow c.entry.kind ≡ false = ap (λ (e : Entry). is_shadow e.kind) (sym w.entry) ∙ none in
     let after : around new node.next ≡ r ++ d ∷ [] = ap (λ (l : List Cell). around l node.next) is ∙ ap (around (u ++ d ∷ v)) w.next ∙ around_next u v d whole in
     let ahead : entries_of (around new node.next) ≡ entries_of r ++ d.entry ∷ [] = ap entries_of after ∙ entries-append r (d ∷ []) in
@@ -104,7 +104,7 @@ trim_goes_on cells new at node s t apart apart' there told some none made moved 
         omega (arith, rw h at count, number-cells p v u, some)
 
 -- the first shadow
-pub trim_ends : (cells : List Cell) (at : ℕ) (node : Node) (s : ClockState) → Apart cells → is_at cells at ≡ true → NodeAt cells at node → is_shadow node.entry.kind ≡ true →
+pub trim_ends : (cells : List Cell) (at : ℕ) (node : Node) (s : ClockState) → DistinctNodes cells → is_at cells at ≡ true → NodeAt cells at node → is_shadow node.entry.kind ≡ true →
     fallen 1 (removed node.entry.key (test_hand_on node.entry.key s)) ≡ each_ended (entries_of (around cells at)) s
 trim_ends cells at node s apart there told is =
     let w : Stands cells at node = stands cells at node apart there told in
@@ -122,7 +122,7 @@ trim_ends cells at node s apart there told is =
     shadow_kind Shadow h = refl
 
 -- all of it
-pub trim_whole : (s : ClockState) (cells : List Cell) (hand : ℕ) → s.entries ≡ entries_of cells → s.test_hand ≡ hand_at cells hand → Based s → Apart cells → Distinct cells → is_at cells hand ≡ true → 1 ≤ shadow_count (entries_of cells) →
+pub trim_whole : (s : ClockState) (cells : List Cell) (hand : ℕ) → s.entries ≡ entries_of cells → s.test_hand ≡ hand_at cells hand → Based s → DistinctNodes cells → DistinctPages cells → is_at cells hand ≡ true → 1 ≤ shadow_count (entries_of cells) →
     each_ended (entries_of (around cells hand)) s ≡ trimmed_once s
 trim_whole s cells hand is at based apart distinct there some =
     ap (λ (l : List Entry). each_ended l s) (sym (

@@ -4,7 +4,7 @@ use Rattle.clock_policy.specs.ClockPro.{ClockState}
 use Rattle.page_ring.specs.Index.{entries_of}
 use Rattle.clock_ring.specs.declared.body.Body.{Body}
 use Rattle.clock_ring.specs.declared.body.Found.{Found}
-use Rattle.clock_ring.specs.RingState.{entry_at, hand_at}
+use Rattle.clock_ring.specs.RingState.{entry_at_node, hand_at}
 
 abbrev pub state_of : Body → ClockState
 state_of b = record {
@@ -17,5 +17,5 @@ state_of b = record {
 }
 
 -- the node holds the entry
-abbrev pub Holds : Body → Found → Type 0
-Holds b f = entry_at b.ring.cells f.at ≡ Some f.entry
+abbrev pub HoldsEntry : Body → Found → Type 0
+HoldsEntry b f = entry_at_node b.ring.cells f.at ≡ Some f.entry

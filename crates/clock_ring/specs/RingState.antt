@@ -4,22 +4,22 @@ use Rattle.std.specs.Coded.{×_prop, Unit-prop}
 use Rattle.std.proofs.Props.{props}
 use Rattle.clock_policy.specs.declared.key.Key.{Key}
 use Rattle.clock_policy.specs.declared.entry.Entry.{Entry}
-use Rattle.clock_policy.specs.ClockPro.{key_of, is_hot, is_cold, is_shadow, hot_count, cold_count, shadow_count}
+use Rattle.clock_policy.specs.ClockPro.{found_key, is_hot, is_cold, is_shadow, hot_count, cold_count, shadow_count}
 use Rattle.clock_policy.specs.declared.entry.EntryKind.{EntryKind}
 use Rattle.clock_policy.specs.declared.entry.EntryKind.TheVariants.{Hot, Test, Cold, Shadow}
 use Rattle.page_ring.specs.Chain.{of_kind}
-use Rattle.page_ring.specs.Linked.{Cell, Apart, is_at}
-use Rattle.page_ring.specs.Index.{entries_of, Distinct}
+use Rattle.page_ring.specs.Linked.{Cell, DistinctNodes, is_at}
+use Rattle.page_ring.specs.Index.{entries_of, DistinctPages}
 use Rattle.clock_ring.specs.declared.counts.Counts.{Counts}
 
 -- the entry of a node
-abbrev pub entry_at : List Cell → ℕ → Option Entry
-entry_at [] n = None
-entry_at (c ∷ cs) n = cond (c.at == n) (Some c.entry) (entry_at cs n)
+abbrev pub entry_at_node : List Cell → ℕ → Option Entry
+entry_at_node [] n = None
+entry_at_node (c ∷ cs) n = cond (c.at == n) (Some c.entry) (entry_at_node cs n)
 
 -- the page that a hand on a node stands on
 abbrev pub hand_at : List Cell → ℕ → Option Key
-hand_at cs n = key_of (entry_at cs n)
+hand_at cs n = found_key (entry_at_node cs n)
 
 -- the cells from a node on, once round
 abbrev pub from_at : List Cell → ℕ → List Cell
@@ -40,12 +40,12 @@ Rests (c ∷ cs) n = is_at (c ∷ cs) n ≡ true
 
 -- no node and no page has two cells, and the hands rest
 pub record Whole (cs : List Cell) (cold test : ℕ) : Type 0 where
-  pub apart : Apart cs
-  pub distinct : Distinct cs
+  pub apart : DistinctNodes cs
+  pub distinct : DistinctPages cs
   pub cold_rests : Rests cs cold
   pub test_rests : Rests cs test
 
-Apart-prop : (cs : List Cell) → IsProp (Apart cs)
+Apart-prop : (cs : List Cell) → IsProp (DistinctNodes cs)
 Apart-prop [] = Unit-prop
 Apart-prop (c ∷ cs) = ×_prop (Prim.hlevel props) (Apart-prop cs)
 

@@ -1,7 +1,7 @@
 //! The circle with its other two hands, and the policy's single moves on it.
 
 ghost use Rattle.std.specs.Prelude.{◌≡◌, ◌≤◌, ◌<◌, ◌*◌, ◌++◌, List, [], ◌∷◌, None, cond, ◌==◌, length, IfOk, OnOk, OnErr, IfSome, option_map};
-ghost use Rattle.clock_policy.specs.ClockPro.{opening, kind_of, removed, appended, marked, sent_to_end, grown, fallen, cold_hand_on, shadowed};
+ghost use Rattle.clock_policy.specs.ClockPro.{opening_state, kind_of, removed, appended, marked, sent_to_end, grown, fallen, cold_hand_on, shadowed};
 ghost use Rattle.clock_policy.specs.SingleMoves.{front_turned, test_hand_on};
 ghost use Rattle.page_ring.specs.Linked.{Cell};
 ghost use Rattle.page_ring.specs.Chain.{of_kind};
@@ -47,14 +47,14 @@ fn after(hand: usize, at: usize, next: usize) -> usize
 }
 
 impl Body {
-    ghost use Rattle.clock_ring.specs.BodyState.{state_of, Holds};
+    ghost use Rattle.clock_ring.specs.BodyState.{state_of, HoldsEntry};
 
     /// An empty circle, with room for two entries a frame.
-    #[tactic(auto, unfolding(clock_policy::specs::ClockPro::opening))]
+    #[tactic(auto, unfolding(clock_policy::specs::ClockPro::opening_state))]
     pub(crate) fn new(alloc: Global, frames: usize) -> Result<Self, AllocError>
         requires least { 4 ≤ frames }
         requires most { frames ≤ 4096 }
-        ensures { IfOk result (λ body. state_of body ≡ opening frames) }
+        ensures { IfOk result (λ body. state_of body ≡ opening_state frames) }
     {
         let ring = IndexedRing::new(alloc, 2 * frames)?;
         Ok(Body {
@@ -82,7 +82,7 @@ impl Body {
     }
 
     pub(crate) fn mark(&mut self, found: Found, kind: EntryKind)
-        requires { Holds self.old found }
+        requires { HoldsEntry self.old found }
         ensures moved { state_of self.new ≡ marked found.entry.key kind (state_of self.old) }
         ensures cells { (u v : List Cell) → (c : Cell) → self.old.ring.cells ≡ u ++ c ∷ v → c.at ≡ found.at → self.new.ring.cells ≡ u ++ of_kind kind c ∷ v }
     {
@@ -93,7 +93,7 @@ impl Body {
 
     /// Takes an entry out. A hand on it goes on to its next.
     pub(crate) fn remove(&mut self, found: Found)
-        requires { Holds self.old found }
+        requires { HoldsEntry self.old found }
         ensures moved { state_of self.new ≡ removed found.entry.key (state_of self.old) }
         ensures cells { (u v : List Cell) → (c : Cell) → self.old.ring.cells ≡ u ++ c ∷ v → c.at ≡ found.at → self.new.ring.cells ≡ u ++ v }
     {
@@ -125,7 +125,7 @@ impl Body {
 
     /// An entry becomes the last, of this kind. A hand on it goes on to its next.
     pub(crate) fn send_to_end(&mut self, found: Found, kind: EntryKind)
-        requires { Holds self.old found }
+        requires { HoldsEntry self.old found }
         ensures moved { state_of self.new ≡ sent_to_end found.entry.key kind (state_of self.old) }
     {
         let next = self.ring.node(found.at).next;
@@ -153,7 +153,7 @@ impl Body {
     }
 
     pub(crate) fn set_cold_hand(&mut self, found: Found)
-        requires { Holds self.old found }
+        requires { HoldsEntry self.old found }
         ensures moved { state_of self.new ≡ cold_hand_on found.entry.key (state_of self.old) }
         ensures same { self.new.ring ≡ self.old.ring }
     {
@@ -161,7 +161,7 @@ impl Body {
     }
 
     pub(crate) fn set_test_hand(&mut self, found: Found)
-        requires { Holds self.old found }
+        requires { HoldsEntry self.old found }
         ensures moved { state_of self.new ≡ test_hand_on found.entry.key (state_of self.old) }
         ensures same { self.new.ring ≡ self.old.ring }
     {
@@ -170,7 +170,7 @@ impl Body {
 
     /// An entry becomes a shadow where it stands, and the cold hand goes to its next.
     pub(crate) fn shadow(&mut self, found: Found)
-        requires { Holds self.old found }
+        requires { HoldsEntry self.old found }
         ensures moved { state_of self.new ≡ shadowed found.entry.key (state_of self.old) }
     {
         let next = self.ring.node(found.at).next;
@@ -206,7 +206,7 @@ impl Body {
     /// The entry of a page.
     #[inline(always)]
     pub(crate) fn find(&self, key: Key) -> Option<Found>
-        ensures holds { IfSome result (λ found. Holds self.now found) }
+        ensures holds { IfSome result (λ found. HoldsEntry self.now found) }
         ensures key { IfSome result (λ found. found.entry.key ≡ key) }
         ensures kind { kind_of key (state_of self.now).entries ≡ option_map (λ found. found.entry.kind) result }
         ensures none { result ≡ None → at_of key self.now.ring.cells ≡ None }

@@ -9,7 +9,7 @@ use crate::body::{Body, Found};
 use clock_policy::{Bit, Entry, EntryKind, Key, Kind, Refusal, Verdict};
 
 impl Body {
-    ghost use Rattle.clock_ring.specs.BodyState.{state_of, Holds};
+    ghost use Rattle.clock_ring.specs.BodyState.{state_of, HoldsEntry};
 
     #[tactic(auto, unfolding(clock_policy::specs::ClockPro::gone_on))]
     fn go_on(&mut self) -> Verdict
@@ -40,7 +40,7 @@ impl Body {
     }
 
     fn answer_test(&mut self, bit: Bit, x: Found) -> Verdict
-        requires { Holds self.old x }
+        requires { HoldsEntry self.old x }
         ensures moved { state_of self.new ≡ (test_answered bit x.entry (state_of self.old)).0 }
         ensures answer { Ok result ≡ (test_answered bit x.entry (state_of self.old)).1 }
     {
@@ -64,7 +64,7 @@ impl Body {
     }
 
     fn answer_cold(&mut self, bit: Bit, x: Found) -> Verdict
-        requires { Holds self.old x }
+        requires { HoldsEntry self.old x }
         ensures moved { state_of self.new ≡ (cold_answered bit x.entry (state_of self.old)).0 }
         ensures answer { Ok result ≡ (cold_answered bit x.entry (state_of self.old)).1 }
     {
@@ -137,7 +137,7 @@ impl Body {
 
     #[inline(always)]
     fn admit_shadow(&mut self, shadow: Found) -> Result<Kind, Refusal>
-        requires { Holds self.old shadow }
+        requires { HoldsEntry self.old shadow }
         ensures moved { state_of self.new ≡ (shadow_admitted shadow.entry.key (state_of self.old)).0 }
         ensures exact { result ≡ (shadow_admitted shadow.entry.key (state_of self.old)).1 }
         ensures err { OnErr result (state_of self.new ≡ state_of self.old) }
@@ -191,7 +191,7 @@ impl Body {
     }
 
     fn restore_shadow(&mut self, shadow: Found) -> Result<(), Refusal>
-        requires { Holds self.old shadow }
+        requires { HoldsEntry self.old shadow }
         ensures moved { state_of self.new ≡ (shadow_restored shadow.entry.key (state_of self.old)).0 }
         ensures exact { result ≡ (shadow_restored shadow.entry.key (state_of self.old)).1 }
         ensures err { OnErr result (state_of self.new ≡ state_of self.old) }

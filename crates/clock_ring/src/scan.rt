@@ -4,7 +4,7 @@ ghost use Rattle.std.specs.Prelude.{◌≡◌, ◌≤◌, ◌+◌, ◌++◌, Som
 ghost use Rattle.clock_policy.specs.ClockPro.{asked_entry, question_of, asks_hot, is_hot, is_cold, hot_count, cold_count};
 ghost use Rattle.page_ring.specs.Linked.{is_at};
 ghost use Rattle.page_ring.specs.Index.{entries_of};
-ghost use Rattle.clock_ring.specs.RingState.{entry_at, around};
+ghost use Rattle.clock_ring.specs.RingState.{entry_at_node, around};
 
 use crate::body::{Body, Found};
 use clock_policy::{Entry, Key};
@@ -15,7 +15,7 @@ use std::alloc::AllocError;
 fn first_hot(ring: &IndexedRing, start: usize) -> Found
     requires there { is_at ring.now.cells start ≡ true }
     requires some { 1 ≤ hot_count (entries_of ring.now.cells) }
-    ensures holds { entry_at ring.now.cells result.at ≡ Some result.entry }
+    ensures holds { entry_at_node ring.now.cells result.at ≡ Some result.entry }
     ensures first { find (λ e. is_hot e.kind) (entries_of (around ring.now.cells start)) ≡ Some result.entry }
 {
     let _ = ring.len();
@@ -36,7 +36,7 @@ fn first_hot(ring: &IndexedRing, start: usize) -> Found
 fn first_cold(ring: &IndexedRing, start: usize) -> Found
     requires there { is_at ring.now.cells start ≡ true }
     requires some { 1 ≤ cold_count (entries_of ring.now.cells) }
-    ensures holds { entry_at ring.now.cells result.at ≡ Some result.entry }
+    ensures holds { entry_at_node ring.now.cells result.at ≡ Some result.entry }
     ensures first { find (λ e. is_cold e.kind) (entries_of (around ring.now.cells start)) ≡ Some result.entry }
 {
     let _ = ring.len();
@@ -54,7 +54,7 @@ fn first_cold(ring: &IndexedRing, start: usize) -> Found
 }
 
 impl Body {
-    ghost use Rattle.clock_ring.specs.BodyState.{state_of, Holds};
+    ghost use Rattle.clock_ring.specs.BodyState.{state_of, HoldsEntry};
 
     fn asks_hot(&self) -> bool
         ensures { result ≡ asks_hot (state_of self.now) }
@@ -65,7 +65,7 @@ impl Body {
     /// The entry that the question names.
     pub(crate) fn asked_entry(&self) -> Option<Found>
         ensures exact { asked_entry (state_of self.now) ≡ option_map (λ x. x.entry) result }
-        ensures holds { IfSome result (Holds self.now) }
+        ensures holds { IfSome result (HoldsEntry self.now) }
     {
         if self.asks_hot() {
             if self.counts.hot == 0 {

@@ -12,7 +12,7 @@ use crate::body::{Body, Found};
 use clock_policy::{Bit, EntryKind};
 
 impl Body {
-    ghost use Rattle.clock_ring.specs.BodyState.{state_of, Holds};
+    ghost use Rattle.clock_ring.specs.BodyState.{state_of, HoldsEntry};
 
     /// The hot hand passes the front, whose test ends.
     fn pass_front(&mut self)
@@ -42,9 +42,9 @@ impl Body {
 
     /// The hot hand goes to an entry.
     fn pass_fronts(&mut self, found: Found)
-        requires { Holds self.old found }
+        requires { HoldsEntry self.old found }
         ensures moved { state_of self.new ≡ fronts_passed (place found.entry.key (state_of self.old).entries) (state_of self.old) }
-        ensures holds { Holds self.new found }
+        ensures holds { HoldsEntry self.new found }
     {
         'to_front: loop {
             let front = self.ring.front();
@@ -58,7 +58,7 @@ impl Body {
     /// The hot hand goes to the hot entry, which is answered.
     pub(crate) fn turn_to(&mut self, bit: Bit, hot: Found)
         requires lawful { Lawful (state_of self.old) }
-        requires holds { Holds self.old hot }
+        requires holds { HoldsEntry self.old hot }
         ensures moved { state_of self.new ≡ turned_to bit hot.entry (state_of self.old) }
     {
         self.pass_fronts(hot);
@@ -74,7 +74,7 @@ impl Body {
 
     /// Ends the test of an entry that the test hand passes.
     fn end_test(&mut self, passed: Found)
-        requires holds { Holds self.old passed }
+        requires holds { HoldsEntry self.old passed }
         requires resident { is_shadow passed.entry.kind ≡ false }
         ensures moved { (more : ClockState → ClockState) → kind_ended passed.entry.kind passed.entry.key more (state_of self.old) ≡ more (state_of self.new) }
         ensures cells { (u v : List Cell) → (c : Cell) → self.old.ring.cells ≡ u ++ c ∷ v → c.at ≡ passed.at → self.new.ring.cells ≡ u ++ of_kind (ended_kind c.entry.kind) c ∷ v }

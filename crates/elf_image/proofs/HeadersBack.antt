@@ -15,7 +15,7 @@ use Rattle.elf_image.specs.declared.fault.ElfFault.{ElfFault}
 use Rattle.elf_image.specs.declared.fault.ElfFault.TheVariants.{Short, Headers}
 use Rattle.elf_image.specs.declared.runs.Run.{Run}
 use Rattle.elf_image.specs.declared.program_header.ProgramHeader.{ProgramHeader}
-use Rattle.elf_image.specs.ElfFiles.{half_at, word_at, entry_of, headers_offset, headers_count, header_at, program_headers, header_fault}
+use Rattle.elf_image.specs.ElfFiles.{half_at, word_at, file_entry, headers_offset, headers_count, header_at, program_headers, header_fault}
 use Rattle.elf_image.specs.WrittenFiles.{file_header, segment_header, flags_of, HasRoom}
 use Rattle.elf_image.proofs.WrittenBytes.{length-file_header, length-segment_header}
 
@@ -26,7 +26,7 @@ word_back x rest h = little_number-reads_back 4 x rest h
 half_back : (x : ℕ) (rest : List ℕ) → x < 2 ^ 16 → little_number 2 (little_bytes 2 x ++ rest) ≡ x
 half_back x rest h = little_number-reads_back 2 x rest h
 
-pub entry_back : (entry count : ℕ) (rest : List ℕ) → entry < 2 ^ 32 → entry_of (file_header entry count ++ rest) ≡ entry
+pub entry_back : (entry count : ℕ) (rest : List ℕ) → entry < 2 ^ 32 → file_entry (file_header entry count ++ rest) ≡ entry
 unfolding word_at file_header
 entry_back entry count rest h = word_back entry [] h
 

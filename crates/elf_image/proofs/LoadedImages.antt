@@ -16,8 +16,8 @@ use Rattle.elf_image.specs.declared.image.ImagePage.{ImagePage}
 use Rattle.elf_image.specs.declared.program_header.ProgramHeader.{ProgramHeader}
 use Rattle.elf_image.specs.declared.fault.ElfFault.{ElfFault}
 use Rattle.elf_image.specs.declared.fault.ElfFault.TheVariants.{Overlap, Range, TooLarge, TooSparse, EntryNotExecutable, NoMemory}
-use Rattle.elf_image.specs.ElfFiles.{end_of, touches, loaded_page, loaded_pages, touched_pages, page_count, overlap, share_address, segments, header_fault, program_fault, loading_fault, file_fault, file_pages, file_image, entry_of, loading_tests}
-use Rattle.elf_image.specs.Segments.{IsSound}
+use Rattle.elf_image.specs.ElfFiles.{end_of, touches, loaded_page, loaded_pages, touched_pages, image_page_limit, overlap, share_address, segments, header_fault, program_fault, loading_fault, file_fault, file_pages, file_image, file_entry, loading_tests}
+use Rattle.elf_image.specs.Segments.{IsSoundSegment}
 use Rattle.elf_image.specs.Parts.{first_fault, too_high, rising, entered, parts_fault, image_of_parts}
 use Rattle.elf_image.specs.Regions.{regions}
 use Rattle.elf_image.specs.RisingLaws.{rises}
@@ -28,14 +28,14 @@ use Rattle.elf_image.proofs.Reading.{sound_segments, pages_moved}
 -- touched pages lie below 0x70000000 and rise
 pub touched_low : (loaded : List ProgramHeader) → All (λ page. page < 458752) (touched_pages loaded)
 unfolding touched_pages
-touched_low loaded = All-filter (λ page. list_any (touches page) loaded) (λ page. page < 458752) (range_with_len 0 page_count) (λ k d within. let below : k < page_count = subst (λ n. k < n) (length-range_with_len 0 page_count) within in let at = get_or-range_with_len 0 page_count k d below in omega (arith, pages_below))
+touched_low loaded = All-filter (λ page. list_any (touches page) loaded) (λ page. page < 458752) (range_with_len 0 image_page_limit) (λ k d within. let below : k < image_page_limit = subst (λ n. k < n) (length-range_with_len 0 image_page_limit) within in let at = get_or-range_with_len 0 image_page_limit k d below in omega (arith, pages_below))
 
 touched_rise : (loaded : List ProgramHeader) → IsStrictlyIncreasing (touched_pages loaded)
 unfolding touched_pages
-touched_rise loaded = IsStrictlyIncreasing-filter (λ page. list_any (touches page) loaded) (range_with_len 0 page_count) (λ k within.
-    let below : k + 1 < page_count = subst (λ n. k + 1 < n) (length-range_with_len 0 page_count) within in
-    let one = get_or-range_with_len 0 page_count k 0 (omega arith) in
-    let next = get_or-range_with_len 0 page_count (k + 1) 0 below in
+touched_rise loaded = IsStrictlyIncreasing-filter (λ page. list_any (touches page) loaded) (range_with_len 0 image_page_limit) (λ k within.
+    let below : k + 1 < image_page_limit = subst (λ n. k + 1 < n) (length-range_with_len 0 image_page_limit) within in
+    let one = get_or-range_with_len 0 image_page_limit k 0 (omega arith) in
+    let next = get_or-range_with_len 0 image_page_limit (k + 1) 0 below in
     omega arith)
 
 count_loaded : (file : List ℕ) (loaded : List ProgramHeader) → length (loaded_pages file loaded) ≡ length (touched_pages loaded)
@@ -66,21 +66,21 @@ loaded_rise file loaded = rises (loaded_pages file loaded) (λ k m d next within
     omega arith)
 
 -- pages of segments that don't overlap are refused as parts are
-pub loading_by_parts : (file : List ℕ) → overlap (segments file) ≡ false → parts_fault (entry_of file) (file_pages file) ≡ loading_fault file
+pub loading_by_parts : (file : List ℕ) → overlap (segments file) ≡ false → parts_fault (file_entry file) (file_pages file) ≡ loading_fault file
 unfolding parts_fault loading_fault
 loading_by_parts file apart =
     (λ i. cond (loaded_low file (segments file) i) (Some Range) (cond (not (loaded_rise file (segments file) i)) (Some Overlap) last))
     ∙ sym (λ i. cond (apart i) (Some Overlap) last)
   where
     last : Option ElfFault
-    last = first_fault ((ltb 4032 (length (file_pages file)), TooLarge) ∷ (ltb 56 (length (regions (file_pages file))), TooSparse) ∷ (not (entered (entry_of file) (file_pages file)), EntryNotExecutable) ∷ [])
+    last = first_fault ((ltb 4032 (length (file_pages file)), TooLarge) ∷ (ltb 56 (length (regions (file_pages file))), TooSparse) ∷ (not (entered (file_entry file) (file_pages file)), EntryNotExecutable) ∷ [])
 
-large_parts : (file : List ℕ) → ltb 4032 (length (file_pages file)) ≡ true → parts_fault (entry_of file) (file_pages file) ≡ Some TooLarge
+large_parts : (file : List ℕ) → ltb 4032 (length (file_pages file)) ≡ true → parts_fault (file_entry file) (file_pages file) ≡ Some TooLarge
 unfolding parts_fault
 large_parts file large = λ i. cond (loaded_low file (segments file) i) (Some Range) (cond (not (loaded_rise file (segments file) i)) (Some Overlap) (cond (large i) (Some TooLarge) last))
   where
     last : Option ElfFault
-    last = first_fault ((ltb 56 (length (regions (file_pages file))), TooSparse) ∷ (not (entered (entry_of file) (file_pages file)), EntryNotExecutable) ∷ [])
+    last = first_fault ((ltb 56 (length (regions (file_pages file))), TooSparse) ∷ (not (entered (file_entry file) (file_pages file)), EntryNotExecutable) ∷ [])
 
 pub overlap_refused : (file : List ℕ) (loaded : List ProgramHeader) → IsPermutation (segments file) loaded → overlap loaded ≡ true → loading_fault file ≡ Some Overlap
 unfolding loading_fault
@@ -91,14 +91,14 @@ overlap_refused file loaded moved e = ap (λ b. cond b (Some Overlap) (first_fau
     tail (test ∷ tests) = tests
 
 module _ (file : List ℕ) (loaded : List ProgramHeader) (program : program_fault file ≡ None) (moved : IsPermutation (segments file) loaded) where
-  pub sound_loaded : All (IsSound (length file)) loaded
-  sound_loaded = All-permutation (IsSound (length file)) (segments file) loaded moved (sound_segments file program)
+  pub sound_loaded : All (IsSoundSegment (length file)) loaded
+  sound_loaded = All-permutation (IsSoundSegment (length file)) (segments file) loaded moved (sound_segments file program)
 
   pub full_loaded : All (λ segment. 0 < segment.memory_size) loaded
-  full_loaded = All-weaker (IsSound (length file)) (λ segment. 0 < segment.memory_size) (λ segment sound. sound.full) loaded sound_loaded
+  full_loaded = All-weaker (IsSoundSegment (length file)) (λ segment. 0 < segment.memory_size) (λ segment sound. sound.full) loaded sound_loaded
 
   pub low_loaded : All (λ segment. end_of segment ≤ 0x7000_0000) loaded
-  low_loaded = All-weaker (IsSound (length file)) (λ segment. end_of segment ≤ 0x7000_0000) (λ segment sound. sound.low) loaded sound_loaded
+  low_loaded = All-weaker (IsSoundSegment (length file)) (λ segment. end_of segment ≤ 0x7000_0000) (λ segment sound. sound.low) loaded sound_loaded
 
   module _ (sorted : IsNonDecreasingBy (λ segment. segment.address) loaded) (none : overlap loaded ≡ false) where
     pub apart_loaded : AllPairs (λ one other. end_of one ≤ other.address) loaded
@@ -129,10 +129,10 @@ module _ (file : List ℕ) (loaded : List ProgramHeader) (program : program_faul
         over : (n m : ℕ) → n ≡ m → 4032 < m → ltb 4032 n ≡ true
         over n m e h = grind (arith, nat_tests)
 
-    pub fault_of_parts : (entry : ℕ) (pages : List ImagePage) → entry ≡ entry_of file → pages ≡ file_pages file → parts_fault entry pages ≡ loading_fault file
+    pub fault_of_parts : (entry : ℕ) (pages : List ImagePage) → entry ≡ file_entry file → pages ≡ file_pages file → parts_fault entry pages ≡ loading_fault file
     fault_of_parts entry pages start made = (λ i. parts_fault (start i) (made i)) ∙ loading_by_parts file not_overlapping
 
-    pub image_made : (entry : ℕ) (pages : List ImagePage) → entry ≡ entry_of file → pages ≡ file_pages file → image_of_parts entry pages ≡ file_image file
+    pub image_made : (entry : ℕ) (pages : List ImagePage) → entry ≡ file_entry file → pages ≡ file_pages file → image_of_parts entry pages ≡ file_image file
     unfolding file_image
     image_made entry pages start made = λ i. image_of_parts (start i) (made i)
 

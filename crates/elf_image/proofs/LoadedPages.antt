@@ -8,7 +8,7 @@ use Rattle.page_memory.specs.Rights.{may, readable}
 use Rattle.page_memory.specs.declared.words.Access.TheVariants.{Load, Store}
 use Rattle.elf_image.specs.declared.image.ImagePage.{ImagePage}
 use Rattle.elf_image.specs.declared.runs.Run.{Run}
-use Rattle.elf_image.specs.ElfFiles.{touches, touched_pages, page_count, page_rights, bytes_between, loaded_byte, loaded_page, loaded_pages}
+use Rattle.elf_image.specs.ElfFiles.{touches, touched_pages, image_page_limit, page_rights, bytes_between, loaded_byte, loaded_page, loaded_pages}
 use Rattle.elf_image.specs.Parts.{rising, readable_page}
 use Rattle.elf_image.specs.RisingLaws.{rising_rest, rising_far}
 use Rattle.elf_image.specs.WrittenFiles.{flags_of, page_bytes}
@@ -72,14 +72,14 @@ filter_pages test (suc n) a (one ∷ rest) up range passes only =
     above e (suc k) l = let least = (range 0 (omega arith)).0 in let more = later k (omega arith) in omega arith
 
 -- how many pages there are
-page_count_is : page_count ≡ 458752
-unfolding page_count
+page_count_is : image_page_limit ≡ 458752
+unfolding image_page_limit
 page_count_is = refl
 
 pub touched_are : (pages : List ImagePage) (start : ℕ) (segments : List Run) → rising pages ≡ true → ((i : ℕ) → i < length pages → (page_at pages i).number < 458752) → Tile pages 0 segments → touched_pages (map (header_of start) segments) ≡ map (λ (p : ImagePage). p.number) pages
 unfolding touched_pages
 touched_are pages start segments up low tile =
-    filter_pages (λ page. list_any (touches page) (map (header_of start) segments)) page_count 0 pages up
+    filter_pages (λ page. list_any (touches page) (map (header_of start) segments)) image_page_limit 0 pages up
     (λ k l. let below = low k l in let all = page_count_is in (omega arith, omega arith))
     (λ k l. touched pages start 0 segments k tile (omega arith) l)
     (λ x l e. touched_only pages start 0 segments x tile e)

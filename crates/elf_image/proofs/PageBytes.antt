@@ -8,7 +8,7 @@ use Rattle.std.proofs.lemmas.List.FromFn.{fill_by_all, get_or-map-range_with_len
 use Rattle.page_memory.specs.Memory.{overwritten}
 use Rattle.elf_image.specs.declared.program_header.ProgramHeader.{ProgramHeader}
 use Rattle.elf_image.specs.ElfFiles.{touches, fills, filled_byte, loaded_byte, bytes_between, page_rights}
-use Rattle.elf_image.specs.Segments.{IsSound, has_flag, given_rights}
+use Rattle.elf_image.specs.Segments.{IsSoundSegment, has_flag, given_rights}
 use Rattle.elf_image.proofs.Headers.{any-filter}
 
 -- bytes that are those of a function
@@ -125,19 +125,19 @@ rights_of_run loaded page = λ i. record {
 }
 
 -- and they fill its bytes
-byte_of_run : (file : List ℕ) (size : ℕ) (loaded : List ProgramHeader) (page address : ℕ) → All (IsSound size) loaded → 4096 * page ≤ address → address < 4096 * page + 4096 → loaded_byte file (filter (touches page) loaded) address ≡ loaded_byte file loaded address
+byte_of_run : (file : List ℕ) (size : ℕ) (loaded : List ProgramHeader) (page address : ℕ) → All (IsSoundSegment size) loaded → 4096 * page ≤ address → address < 4096 * page + 4096 → loaded_byte file (filter (touches page) loaded) address ≡ loaded_byte file loaded address
 byte_of_run file size [] page address sound a b = refl
 byte_of_run file size (one ∷ rest) page address sound a b =
-    cases (touches page one) refl (byte_of_run file size rest page address (All-tail (IsSound size) one rest sound) a b)
+    cases (touches page one) refl (byte_of_run file size rest page address (All-tail (IsSoundSegment size) one rest sound) a b)
   where
     cases : (t : Bool) → t ≡ touches page one → loaded_byte file (filter (touches page) rest) address ≡ loaded_byte file rest address → loaded_byte file (cond t (one ∷ filter (touches page) rest) (filter (touches page) rest)) address ≡ cond (fills address one) (filled_byte file address one) (loaded_byte file rest address)
     cases true e same = ap (λ n. cond (fills address one) (filled_byte file address one) n) same
     cases false e same = same ∙ ap (λ b. cond b (filled_byte file address one) (loaded_byte file rest address)) (sym (not_filled address one outside))
       where
         outside : one.address ≤ address → one.address + one.file_size ≤ address
-        outside h = let shorter = (All-head (IsSound size) one rest sound).shorter in grind (arith, nat_tests)
+        outside h = let shorter = (All-head (IsSoundSegment size) one rest sound).shorter in grind (arith, nat_tests)
 
-pub bytes_of_run : (file : List ℕ) (size : ℕ) (loaded : List ProgramHeader) (page : ℕ) → All (IsSound size) loaded → bytes_between (loaded_byte file (filter (touches page) loaded)) (4096 * page) 4096 ≡ bytes_between (loaded_byte file loaded) (4096 * page) 4096
+pub bytes_of_run : (file : List ℕ) (size : ℕ) (loaded : List ProgramHeader) (page : ℕ) → All (IsSoundSegment size) loaded → bytes_between (loaded_byte file (filter (touches page) loaded)) (4096 * page) 4096 ≡ bytes_between (loaded_byte file loaded) (4096 * page) 4096
 bytes_of_run file size loaded page sound = bytes_like (loaded_byte file (filter (touches page) loaded)) (loaded_byte file loaded) (4096 * page) 4096 (λ a from below. byte_of_run file size loaded page a sound from below)
 
 -- the same from the numbers that the code computes

@@ -2,7 +2,7 @@
 use Rattle.std.proofs.Common.{◌≡◌, ℕ, ◌+◌, ◌-◌, ◌*◌, ◌<◌, min, List, ◌++◌, length, take, drop, replicate, arith, ap, ◌∙◌, length-drop, zero-add}
 use Rattle.std.proofs.lemmas.List.{take_min, drop-replicate}
 use Rattle.page_memory.specs.Memory.{overwritten}
-use Rattle.elf_image.specs.Image.{filled}
+use Rattle.elf_image.specs.Image.{padded}
 
 -- the bytes of a page, cut at the end of all bytes
 pub page_cut : (bytes : List ℕ) (place : ℕ) → 4096 * place < length bytes → take (min (place * 4096 + 4096) (length bytes) - place * 4096) (drop (place * 4096) bytes) ≡ take 4096 (drop (4096 * place) bytes)
@@ -15,6 +15,6 @@ page_cut bytes place h =
     ∙ take_min 4096 (drop (4096 * place) bytes)
 
 -- bytes written at the start of a page of zeros
-pub written_first : (bytes : List ℕ) → overwritten (replicate 4096 0) 0 bytes ≡ filled bytes
+pub written_first : (bytes : List ℕ) → overwritten (replicate 4096 0) 0 bytes ≡ padded bytes
 written_first bytes =
     ap (λ n. bytes ++ drop n (replicate 4096 0)) (zero-add (length bytes)) ∙ ap (λ l. bytes ++ l) (drop-replicate (length bytes) 4096 0)

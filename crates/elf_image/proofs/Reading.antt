@@ -11,8 +11,8 @@ use Rattle.std.proofs.lemmas.List.Folds.{list_any_at}
 use Rattle.elf_image.specs.declared.program_header.ProgramHeader.{ProgramHeader}
 use Rattle.elf_image.specs.declared.fault.ElfFault.{ElfFault}
 use Rattle.elf_image.specs.declared.fault.ElfFault.TheVariants.{Short}
-use Rattle.elf_image.specs.ElfFiles.{touches, gives, fills, filled_byte, loaded_byte, bytes_between, loaded_page, loaded_pages, page_rights, touched_pages, page_count, overlap, share_address, segments, load_headers, header_fault, header_tests, program_tests, half_at, headers_count, headers_offset, program_fault, is_out_of_file, is_larger_in_file, is_out_of_range}
-use Rattle.elf_image.specs.Segments.{IsSound}
+use Rattle.elf_image.specs.ElfFiles.{touches, gives, fills, filled_byte, loaded_byte, bytes_between, loaded_page, loaded_pages, page_rights, touched_pages, image_page_limit, overlap, share_address, segments, load_headers, header_fault, header_tests, program_tests, half_at, headers_count, headers_offset, program_fault, is_out_of_file, is_larger_in_file, is_out_of_range}
+use Rattle.elf_image.specs.Segments.{IsSoundSegment}
 use Rattle.elf_image.specs.Parts.{first_fault}
 use Rattle.elf_image.proofs.Overlaps.{overlap_moved}
 
@@ -58,7 +58,7 @@ headers_within file none some =
     ends n e l true some h = grind (arith, nat_tests)
     ends n e l false some h = grind (arith, nat_tests)
 
-pub sound_segments : (file : List ℕ) → program_fault file ≡ None → All (IsSound (length file)) (segments file)
+pub sound_segments : (file : List ℕ) → program_fault file ≡ None → All (IsSoundSegment (length file)) (segments file)
 unfolding program_fault segments
 sound_segments file none k d within =
     let takes : ProgramHeader → Bool = λ header. ltb 0 header.memory_size in
@@ -69,7 +69,7 @@ sound_segments file none k d within =
     (All-filter takes (λ header. is_larger_in_file header ≡ false) (load_headers file) (none_from_any is_larger_in_file (load_headers file) (pass 2 (lit< tt))) k d within)
     (All-filter takes (λ header. is_out_of_range header ≡ false) (load_headers file) (none_from_any is_out_of_range (load_headers file) (pass 3 (lit< tt))) k d within)
   where
-    each : (header : ProgramHeader) → ltb 0 header.memory_size ≡ true → is_out_of_file (length file) header ≡ false → is_larger_in_file header ≡ false → is_out_of_range header ≡ false → IsSound (length file) header
+    each : (header : ProgramHeader) → ltb 0 header.memory_size ≡ true → is_out_of_file (length file) header ≡ false → is_larger_in_file header ≡ false → is_out_of_range header ≡ false → IsSoundSegment (length file) header
     each header full outside larger range = record {
       full = grind (arith, nat_tests);
       low = grind (arith, nat_tests);
@@ -89,31 +89,31 @@ sum_by-none {X} f (x ∷ xs) none =
     let here = All-head (λ y. f y ≡ 0) x xs none in
     omega (arith, sum_by-cons f x xs)
 
-both_fill : (size address : ℕ) (one other : ProgramHeader) → IsSound size one → IsSound size other → fills address one ≡ true → fills address other ≡ true → share_address one other ≡ true
+both_fill : (size address : ℕ) (one other : ProgramHeader) → IsSoundSegment size one → IsSoundSegment size other → fills address one ≡ true → fills address other ≡ true → share_address one other ≡ true
 both_fill size address one other s t a b = let u = s.shorter in let v = t.shorter in grind (arith, nat_tests)
 
 -- where no segments overlap, at most one gives a byte
-byte_summed : (file : List ℕ) (size address : ℕ) (loaded : List ProgramHeader) → All (IsSound size) loaded → overlap loaded ≡ false → loaded_byte file loaded address ≡ sum_by (byte_from file address) loaded
+byte_summed : (file : List ℕ) (size address : ℕ) (loaded : List ProgramHeader) → All (IsSoundSegment size) loaded → overlap loaded ≡ false → loaded_byte file loaded address ≡ sum_by (byte_from file address) loaded
 byte_summed file size address [] sound apart = refl
 byte_summed file size address (one ∷ rest) sound apart =
-    cases (fills address one) refl (byte_summed file size address rest (All-tail (IsSound size) one rest sound) (both_fail _ _ apart).1)
+    cases (fills address one) refl (byte_summed file size address rest (All-tail (IsSoundSegment size) one rest sound) (both_fail _ _ apart).1)
     ∙ sym (sum_by-cons (byte_from file address) one rest)
   where
     alone : fills address one ≡ true → All (λ other. byte_from file address other ≡ 0) rest
     alone fill k d within = blank (fills address (get_or rest k d)) refl
       where
         blank : (b : Bool) → b ≡ fills address (get_or rest k d) → cond b (filled_byte file address (get_or rest k d)) 0 ≡ 0
-        blank true e = absurd (false≢true (sym (none_from_any (share_address one) rest (both_fail _ _ apart).0 k d within) ∙ both_fill size address one (get_or rest k d) (All-head (IsSound size) one rest sound) (All-tail (IsSound size) one rest sound k d within) fill (sym e)))
+        blank true e = absurd (false≢true (sym (none_from_any (share_address one) rest (both_fail _ _ apart).0 k d within) ∙ both_fill size address one (get_or rest k d) (All-head (IsSoundSegment size) one rest sound) (All-tail (IsSoundSegment size) one rest sound k d within) fill (sym e)))
         blank false e = refl
 
     cases : (b : Bool) → b ≡ fills address one → loaded_byte file rest address ≡ sum_by (byte_from file address) rest → cond b (filled_byte file address one) (loaded_byte file rest address) ≡ cond b (filled_byte file address one) 0 + sum_by (byte_from file address) rest
     cases true e same = let none = sum_by-none (byte_from file address) rest (alone (sym e)) in omega arith
     cases false e same = omega arith
 
-module _ (file : List ℕ) (size : ℕ) (xs ys : List ProgramHeader) (moved : IsPermutation xs ys) (sound : All (IsSound size) xs) (apart : overlap xs ≡ false) where
+module _ (file : List ℕ) (size : ℕ) (xs ys : List ProgramHeader) (moved : IsPermutation xs ys) (sound : All (IsSoundSegment size) xs) (apart : overlap xs ≡ false) where
   byte_moved : (address : ℕ) → loaded_byte file ys address ≡ loaded_byte file xs address
   byte_moved address =
-      byte_summed file size address ys (All-permutation (IsSound size) xs ys moved sound) (overlap_moved xs ys moved ∙ apart)
+      byte_summed file size address ys (All-permutation (IsSoundSegment size) xs ys moved sound) (overlap_moved xs ys moved ∙ apart)
       ∙ sum_by-IsPermutation (byte_from file address) xs ys moved
       ∙ sym (byte_summed file size address xs sound apart)
 
@@ -127,7 +127,7 @@ module _ (file : List ℕ) (size : ℕ) (xs ys : List ProgramHeader) (moved : Is
 
   touched_moved : touched_pages ys ≡ touched_pages xs
   unfolding touched_pages
-  touched_moved = λ i. filter (λ page. sym (list_any-IsPermutation (touches page) xs ys moved) i) (range_with_len 0 page_count)
+  touched_moved = λ i. filter (λ page. sym (list_any-IsPermutation (touches page) xs ys moved) i) (range_with_len 0 image_page_limit)
 
   page_moved : (page : ℕ) → loaded_page file ys page ≡ loaded_page file xs page
   unfolding loaded_page

@@ -8,7 +8,7 @@ use Rattle.std.proofs.lemmas.List.Elements.{filter-append, All-head, All-tail}
 use Rattle.std.proofs.lemmas.List.Folds.{list_any_none, list_any_at}
 use Rattle.std.proofs.lemmas.List.FromFn.{get_or-range_with_len, length-range_with_len}
 use Rattle.elf_image.specs.declared.program_header.ProgramHeader.{ProgramHeader}
-use Rattle.elf_image.specs.ElfFiles.{end_of, touches, touched_pages, page_count}
+use Rattle.elf_image.specs.ElfFiles.{end_of, touches, touched_pages, image_page_limit}
 
 filter_none : {X : Type 0} (p : X → Bool) (xs : List X) → All (λ x. p x ≡ false) xs → filter p xs ≡ []
 filter_none p [] none = refl
@@ -86,8 +86,8 @@ untouched_behind page segment h = grind (arith, nat_tests)
 pub touched_within : (page : ℕ) (segment : ProgramHeader) → 0 < segment.memory_size → segment.address < 4096 * page + 4096 → 4096 * page < end_of segment → touches page segment ≡ true
 touched_within page segment some low high = grind (arith, nat_tests)
 
-pub pages_below : page_count ≡ 458752
-unfolding page_count
+pub pages_below : image_page_limit ≡ 458752
+unfolding image_page_limit
 pages_below = refl
 
 -- what is known when the first segments are done: all that they touch lies below `next`, and the others lie behind
@@ -167,21 +167,21 @@ module _ (loaded : List ProgramHeader) (full : All (λ segment. 0 < segment.memo
           omega arith
 
   -- up to a page, and from it on
-  whole : (next : ℕ) → next ≤ 458752 → touched_pages loaded ≡ filter (is_touched loaded) (range_with_len 0 next) ++ filter (is_touched loaded) (range_with_len next (page_count - next))
+  whole : (next : ℕ) → next ≤ 458752 → touched_pages loaded ≡ filter (is_touched loaded) (range_with_len 0 next) ++ filter (is_touched loaded) (range_with_len next (image_page_limit - next))
   unfolding touched_pages
   whole next h =
       let count = pages_below in
-      let parts : page_count ≡ next + (page_count - next) = omega arith in
+      let parts : image_page_limit ≡ next + (image_page_limit - next) = omega arith in
       let at : 0 + next ≡ next = omega arith in
       ap (λ n. filter (is_touched loaded) (range_with_len 0 n)) parts
-      ∙ ap (filter (is_touched loaded)) (range_parts 0 next (page_count - next))
-      ∙ filter-append (is_touched loaded) (range_with_len 0 next) (range_with_len (0 + next) (page_count - next))
-      ∙ ap (λ n. filter (is_touched loaded) (range_with_len 0 next) ++ filter (is_touched loaded) (range_with_len n (page_count - next))) at
+      ∙ ap (filter (is_touched loaded)) (range_parts 0 next (image_page_limit - next))
+      ∙ filter-append (is_touched loaded) (range_with_len 0 next) (range_with_len (0 + next) (image_page_limit - next))
+      ∙ ap (λ n. filter (is_touched loaded) (range_with_len 0 next) ++ filter (is_touched loaded) (range_with_len n (image_page_limit - next))) at
 
   pub listed_too_many : (i next first end : ℕ) (pages : List ℕ) (d : ProgramHeader) → Listed loaded i next pages → i < length loaded → first ≡ max ((get_or loaded i d).address / 4096) next → end ≡ (end_of (get_or loaded i d) + 4095) / 4096 → 4032 < length pages + (end - first) → 4032 < length (touched_pages loaded)
   listed_too_many i next first end pages d so_far within is ends many =
       let top = low i d within in
-      let all = ap length (whole end (omega arith)) ∙ length-append (filter (is_touched loaded) (range_with_len 0 end)) (filter (is_touched loaded) (range_with_len end (page_count - end))) in
+      let all = ap length (whole end (omega arith)) ∙ length-append (filter (is_touched loaded) (range_with_len 0 end)) (filter (is_touched loaded) (range_with_len end (image_page_limit - end))) in
       let front = ap length (next_pages i next first end pages d so_far within is ends) ∙ length-append pages (range_with_len first (end - first)) in
       omega (arith, all, front, length-range_with_len first (end - first))
 
@@ -189,7 +189,7 @@ module _ (loaded : List ProgramHeader) (full : All (λ segment. 0 < segment.memo
   listed_all i next pages so_far past =
       so_far.listed
       ∙ sym (append-nil (filter (is_touched loaded) (range_with_len 0 next)))
-      ∙ ap (λ l. filter (is_touched loaded) (range_with_len 0 next) ++ l) (sym (none_in_range (is_touched loaded) next (page_count - next) (λ page from below. list_any_none (touches page) loaded (λ k e within. let ended = so_far.done k e (omega arith) in untouched_before page (get_or loaded k e) (omega arith)))))
+      ∙ ap (λ l. filter (is_touched loaded) (range_with_len 0 next) ++ l) (sym (none_in_range (is_touched loaded) next (image_page_limit - next) (λ page from below. list_any_none (touches page) loaded (λ k e within. let ended = so_far.done k e (omega arith) in untouched_before page (get_or loaded k e) (omega arith)))))
       ∙ sym (whole next so_far.low)
 
 -- where the segments that touch a page stand, in a list by address

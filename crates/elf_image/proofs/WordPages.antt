@@ -12,7 +12,7 @@ use Rattle.page_memory.specs.declared.words.Access.TheVariants.{Fetch, Load}
 use Rattle.std.proofs.lemmas.List.Folds.{list_any_at}
 use Rattle.page_memory.specs.Words.{page_offset}
 use Rattle.elf_image.specs.declared.image.ImagePage.{ImagePage}
-use Rattle.elf_image.specs.Image.{IsLawful, bytes_of, filled, word_page, word_pages, most_words}
+use Rattle.elf_image.specs.Image.{IsLawful, bytes_of, padded, word_page, word_pages, most_words}
 use Rattle.elf_image.specs.PartsLaws.{neighbours}
 
 length-bytes_of : (words : List ℕ) → length (bytes_of words) ≡ 4 * length words
@@ -45,7 +45,7 @@ word_written words bytes address i at h few is =
     ∙ ap (λ n. bytes_of (take (i + 1) words) ++ replicate n 0) left
 
 -- when all words are written
-pub words_written : (words bytes : List ℕ) (i : ℕ) → length words ≤ i → i ≤ length words → bytes ≡ bytes_of (take i words) ++ replicate (4096 - 4 * i) 0 → bytes ≡ filled (bytes_of words)
+pub words_written : (words bytes : List ℕ) (i : ℕ) → length words ≤ i → i ≤ length words → bytes ≡ bytes_of (take i words) ++ replicate (4096 - 4 * i) 0 → bytes ≡ padded (bytes_of words)
 words_written words bytes i past within is =
     let size = length-bytes_of words in
     let left : 4096 - 4 * i ≡ 4096 - length (bytes_of words) = omega arith in

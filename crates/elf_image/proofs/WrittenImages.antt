@@ -11,7 +11,7 @@ use Rattle.elf_image.specs.Image.{ImageContent, IsLawful}
 use Rattle.elf_image.specs.Parts.{rising, entered, image_of_parts, readable_page}
 use Rattle.elf_image.specs.RisingLaws.{rises}
 use Rattle.elf_image.specs.Regions.{regions}
-use Rattle.elf_image.specs.ElfFiles.{entry_of, program_headers, load_headers, segments, is_load, is_dynamic, is_out_of_file, is_larger_in_file, is_out_of_range, overlap, loaded_pages, file_pages, header_fault, program_fault, loading_fault, file_fault, file_image}
+use Rattle.elf_image.specs.ElfFiles.{file_entry, program_headers, load_headers, segments, is_load, is_dynamic, is_out_of_file, is_larger_in_file, is_out_of_range, overlap, loaded_pages, file_pages, header_fault, program_fault, loading_fault, file_fault, file_image}
 use Rattle.elf_image.specs.WrittenFiles.{runs, file_header, segment_header, padding, pages_offset, page_bytes, file_front, elf_file, IsHeld}
 use Rattle.elf_image.proofs.HeadersBack.{header_of, headers_back, header_passes, entry_back, not_less}
 use Rattle.elf_image.proofs.LoadedPages.{pages_loaded, still_readable}
@@ -100,9 +100,9 @@ file_pages_are image held =
     (λ k l. held.lawful.pages.plain k blank l)
     (runs_tile image.pages)
 
-entry_is : (image : ImageContent) → IsHeld image → entry_of (elf_file image) ≡ image.entry
+entry_is : (image : ImageContent) → IsHeld image → file_entry (elf_file image) ≡ image.entry
 entry_is image held =
-    ap entry_of (in_parts image)
+    ap file_entry (in_parts image)
     ∙ entry_back image.entry (count_of image) (flat_map (segment_header (start_of image)) (runs image.pages) ++ (padding (count_of image) ++ page_bytes image.pages)) held.entry
 
 is_entered : (image : ImageContent) → IsLawful image → entered image.entry image.pages ≡ true
@@ -152,7 +152,7 @@ no_loading_fault image held =
     skips (overlap (segments file)) Overlap _ (ap overlap (segments_are image held) ∙ no_overlap image.pages (start_of image) 0 (runs image.pages) (λ i j below within. held.lawful.pages.rising i j blank below within) (runs_tile image.pages))
     (skips (nat_lt 4032 (length (file_pages file))) TooLarge _ (ap (λ p. nat_lt 4032 (length p)) pages ∙ not_less 4032 (length image.pages) held.lawful.pages.few)
     (skips (nat_lt 56 (length (regions (file_pages file)))) TooSparse _ (ap (λ p. nat_lt 56 (length (regions p))) pages ∙ not_less 56 (length (regions image.pages)) held.lawful.pages.compact)
-    (skips (not (entered (entry_of file) (file_pages file))) EntryNotExecutable None ((λ i. not (entered (entry i) (pages i))) ∙ ap not (is_entered image held.lawful)) refl)))
+    (skips (not (entered (file_entry file) (file_pages file))) EntryNotExecutable None ((λ i. not (entered (entry i) (pages i))) ∙ ap not (is_entered image held.lawful)) refl)))
 
 pub no_fault : (image : ImageContent) → IsHeld image → file_fault (elf_file image) ≡ None
 unfolding file_fault

@@ -16,8 +16,8 @@ use Rattle.elf_image.specs.Regions.{regions}
 use Rattle.elf_image.specs.Parts.{first_fault, entered, image_of_parts}
 
 -- the byte at an offset
-abbrev pub byte_at : ℕ → List ℕ → ℕ
-byte_at offset file = slice_index file offset
+abbrev pub file_byte : ℕ → List ℕ → ℕ
+file_byte offset file = slice_index file offset
 
 -- the 16-bit number at an offset
 unfoldable pub half_at : ℕ → List ℕ → ℕ
@@ -28,8 +28,8 @@ unfoldable pub word_at : ℕ → List ℕ → ℕ
 word_at offset file = little_number 4 (drop offset file)
 
 -- e_entry: where the program begins
-abbrev pub entry_of : List ℕ → ℕ
-entry_of file = word_at 24 file
+abbrev pub file_entry : List ℕ → ℕ
+file_entry file = word_at 24 file
 
 -- e_phoff: where the program headers stand in the file
 abbrev pub headers_offset : List ℕ → ℕ
@@ -93,12 +93,12 @@ abbrev pub touches : ℕ → ProgramHeader → Bool
 touches page segment = meet segment.address (end_of segment) (4096 * page) (4096 * page + 4096)
 
 -- how many pages lie below the end of images
-unfoldable pub page_count : ℕ
-page_count = image_end_page
+unfoldable pub image_page_limit : ℕ
+image_page_limit = image_end_page
 
 -- the numbers of the pages that segments touch, rising
 unfoldable pub touched_pages : List ProgramHeader → List ℕ
-touched_pages loaded = filter (λ page. list_any (touches page) loaded) (range_with_len 0 page_count)
+touched_pages loaded = filter (λ page. list_any (touches page) loaded) (range_with_len 0 image_page_limit)
 
 -- whether a segment gives a page a right: a bit of p_flags, PF_X 1, PF_W 2 and PF_R 4
 abbrev pub gives : ℕ → ℕ → ProgramHeader → Bool
@@ -156,7 +156,7 @@ is_not_elf file = not (word_at 0 file == 0x464C_457F)
 
 -- 3: EI_CLASS is not ELFCLASS32, EI_DATA not ELFDATA2LSB or EI_VERSION not EV_CURRENT
 abbrev pub is_wrong_class : List ℕ → Bool
-is_wrong_class file = not ((byte_at 4 file == 1) && (byte_at 5 file == 1) && (byte_at 6 file == 1))
+is_wrong_class file = not ((file_byte 4 file == 1) && (file_byte 5 file == 1) && (file_byte 6 file == 1))
 
 -- 4: e_type is not ET_EXEC or e_version not EV_CURRENT
 abbrev pub is_wrong_type : List ℕ → Bool
@@ -220,7 +220,7 @@ loading_tests file =
     (overlap (segments file), Overlap)
     ∷ (nat_lt most_image_pages (length (file_pages file)), TooLarge)
     ∷ (nat_lt most_image_regions (length (regions (file_pages file))), TooSparse)
-    ∷ (not (entered (entry_of file) (file_pages file)), EntryNotExecutable)
+    ∷ (not (entered (file_entry file) (file_pages file)), EntryNotExecutable)
     ∷ []
 
 unfoldable pub loading_fault : List ℕ → Option ElfFault
@@ -236,4 +236,4 @@ file_fault file = option_or (early_fault file) (loading_fault file)
 
 -- the image of a file that has no fault; what may be written may be read
 unfoldable pub file_image : List ℕ → ImageContent
-file_image file = image_of_parts (entry_of file) (file_pages file)
+file_image file = image_of_parts (file_entry file) (file_pages file)

@@ -46,8 +46,8 @@ abbrev pub bytes_of : List ℕ → List ℕ
 bytes_of words = flat_map (little_bytes 4) words
 
 -- bytes with zeros up to a page's end
-abbrev pub filled : List ℕ → List ℕ
-filled bytes = bytes ++ replicate (4096 - length bytes) 0
+abbrev pub padded : List ℕ → List ℕ
+padded bytes = bytes ++ replicate (4096 - length bytes) 0
 
 -- the rights to read and to execute
 abbrev pub readable_code : Rights
@@ -55,7 +55,7 @@ readable_code = read_execute
 
 -- the k-th page of words: it may be read and executed, and has the 1024 words from word 1024 k on
 abbrev pub word_page : List ℕ → ℕ → ImagePage
-word_page words k = record { number = text_first_page + k; page = record { rights = readable_code; bytes = filled (bytes_of (take 1024 (drop (1024 * k) words))) } }
+word_page words k = record { number = text_first_page + k; page = record { rights = readable_code; bytes = padded (bytes_of (take 1024 (drop (1024 * k) words))) } }
 
 -- how many pages words need
 abbrev pub word_pages : List ℕ → ℕ

@@ -152,9 +152,9 @@ last_region [] = None
 last_region (one ∷ []) = Some (region_of one)
 last_region (one ∷ next ∷ rest) = last_region (next ∷ rest)
 
-abbrev pub is_at : ℕ → Option ℕ → Bool
-is_at region None = false
-is_at region (Some last) = last == region
+abbrev pub is_region : ℕ → Option ℕ → Bool
+is_region region None = false
+is_region region (Some last) = last == region
 
 last_region_push : (front : List ImagePage) (one : ImagePage) → last_region (front ++ one ∷ []) ≡ Some (region_of one)
 last_region_push [] one = refl
@@ -166,7 +166,7 @@ pushed_above next [] one e = rising_first next one [] e
 pushed_above next (a ∷ rest) one e = let here = rising_first next a (rest ++ one ∷ []) e in let there = pushed_above a rest one (rising_rest next (a ∷ (rest ++ one ∷ [])) e) in omega arith
 
 -- a page behind rising pages lies in one of their regions just where it lies in the last page's
-held_last : (front : List ImagePage) (one : ImagePage) → rising (front ++ one ∷ []) ≡ true → holds (region_of one) (map region_of front) ≡ is_at (region_of one) (last_region front)
+held_last : (front : List ImagePage) (one : ImagePage) → rising (front ++ one ∷ []) ≡ true → holds (region_of one) (map region_of front) ≡ is_region (region_of one) (last_region front)
 held_last [] one e = refl
 held_last (a ∷ []) one e = or_false (region_of a == region_of one)
   where
@@ -195,7 +195,7 @@ held_last (a ∷ b ∷ front) one e =
     absorbed false y h f = refl
 
 -- what a step of the count does
-pub regions_more : (pages : List ImagePage) (i : ℕ) (one : ImagePage) → rising pages ≡ true → i < length pages → one ≡ slice_index_or pages i one → length (regions (take (i + 1) pages)) ≡ length (regions (take i pages)) + new_one (is_at (region_of one) (last_region (take i pages)))
+pub regions_more : (pages : List ImagePage) (i : ℕ) (one : ImagePage) → rising pages ≡ true → i < length pages → one ≡ slice_index_or pages i one → length (regions (take (i + 1) pages)) ≡ length (regions (take i pages)) + new_one (is_region (region_of one) (last_region (take i pages)))
 regions_more pages i one e l at =
     let more : take (i + 1) pages ≡ take i pages ++ one ∷ [] = take_more pages i one l ∙ ap (λ p. take i pages ++ p ∷ []) (sym at) in
     let front : rising (take i pages ++ one ∷ []) ≡ true = subst (λ p. rising p ≡ true) more (rising_take (i + 1) pages e) in
@@ -215,10 +215,10 @@ distinct_none = refl
 pub count_new : (pages : List ImagePage) (i count : ℕ) (one : ImagePage) (last : Option ℕ) → rising pages ≡ true → i < length pages → one ≡ slice_index_or pages i one → count ≡ length (regions (take i pages)) → last ≡ last_region (take i pages) → not (option_eq eqb last (Some (region_of one))) ≡ true → count + 1 ≡ length (regions (take (i + 1) pages))
 count_new pages i count one last e l at counted before apart =
     let more = regions_more pages i one e l at in
-    let new = ap new_one (ap (is_at (region_of one)) (sym before) ∙ off last (region_of one) apart) in
+    let new = ap new_one (ap (is_region (region_of one)) (sym before) ∙ off last (region_of one) apart) in
     omega (arith, more, new)
   where
-    off : (last : Option ℕ) (r : ℕ) → not (option_eq eqb last (Some r)) ≡ true → is_at r last ≡ false
+    off : (last : Option ℕ) (r : ℕ) → not (option_eq eqb last (Some r)) ≡ true → is_region r last ≡ false
     off None r h = refl
     off (Some x) r h = negated (x == r) h
       where
@@ -231,10 +231,10 @@ pub count_old : (pages : List ImagePage) (i count : ℕ) (one : ImagePage) (last
 count_old pages i count one last e l at counted before same =
     let more = regions_more pages i one e l at in
     let on_it = on last (region_of one) same in
-    let new = ap new_one (ap (is_at (region_of one)) (sym before) ∙ on_it.0) in
+    let new = ap new_one (ap (is_region (region_of one)) (sym before) ∙ on_it.0) in
     (omega (arith, more, new), on_it.1)
   where
-    on : (last : Option ℕ) (r : ℕ) → not (option_eq eqb last (Some r)) ≡ false → (is_at r last ≡ true) × (last ≡ Some r)
+    on : (last : Option ℕ) (r : ℕ) → not (option_eq eqb last (Some r)) ≡ false → (is_region r last ≡ true) × (last ≡ Some r)
     on None r h = absurd (false≢true (sym h))
     on (Some x) r h = elim (eqb_tells x r) [
       | inl equal ↦ (equal.0, ap (λ v. Some v) equal.1)

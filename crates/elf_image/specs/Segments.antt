@@ -9,7 +9,7 @@ use Rattle.elf_image.specs.declared.fault.ElfFault.TheVariants.{TooLarge, NoMemo
 use Rattle.elf_image.specs.ElfFiles.{end_of, is_load, touched_pages}
 
 -- a segment that passed them, in a file of so many bytes
-pub record IsSound (size : ℕ) (segment : ProgramHeader) : Type 0 where
+pub record IsSoundSegment (size : ℕ) (segment : ProgramHeader) : Type 0 where
   pub full : 0 < segment.memory_size
   pub low : end_of segment ≤ image_end
   pub shorter : segment.file_size ≤ segment.memory_size

@@ -1,8 +1,8 @@
 //! Whole pages from bytes.
 
 ghost use Rattle.std.specs.Prelude.{◌≡◌, ◌<◌, ◌≤◌, ◌+◌, ◌*◌, ◌++◌, ◌^◌, IfOk, length, flat_map};
-ghost use Rattle.elf_image.specs.Image.{bytes_of, filled};
-ghost use Rattle.elf_image.specs.BytePages.{page_at, page_count, pages_of};
+ghost use Rattle.elf_image.specs.Image.{bytes_of, padded};
+ghost use Rattle.elf_image.specs.BytePages.{nth_page, page_count, byte_pages};
 
 use crate::image::ImagePage;
 use page_memory::{PAGE_SIZE, Page, Rights};
@@ -20,7 +20,7 @@ pub fn bytes_of_words(alloc: Global, words: &[u32]) -> Result<Vec<u8>, AllocErro
 }
 
 /// The pages, and behind them those of more bytes, which begin with the page of this number. Zeros stand behind the last byte.
-#[tactic(auto, unfolding(crate::specs::BytePages::pages_of))]
+#[tactic(auto, unfolding(crate::specs::BytePages::byte_pages))]
 pub fn with_pages(
     alloc: Global,
     mut pages: Vec<ImagePage>,
@@ -30,7 +30,7 @@ pub fn with_pages(
 ) -> Result<Vec<ImagePage>, AllocError>
     requires few { length bytes.now ≤ 1048576 }
     requires low { first < 2 ^ 16 }
-    ensures { IfOk result (λ all. all.items ≡ pages.items ++ pages_of first rights bytes.now) }
+    ensures { IfOk result (λ all. all.items ≡ pages.items ++ byte_pages first rights bytes.now) }
 {
     for place in 0..bytes.len().div_ceil(PAGE_SIZE) {
         pages.push(page_of_bytes(alloc, first, rights, bytes, place)?)?;
@@ -49,7 +49,7 @@ fn page_of_bytes(
     requires there { 4096 * place < length bytes.now }
     requires few { length bytes.now ≤ 1048576 }
     requires low { first < 2 ^ 16 }
-    ensures { IfOk result (λ page. page ≡ page_at first rights bytes.now place) }
+    ensures { IfOk result (λ page. page ≡ nth_page first rights bytes.now place) }
 {
     let start = place * PAGE_SIZE;
     let end = (start + PAGE_SIZE).min(bytes.len());
@@ -63,7 +63,7 @@ fn page_of_bytes(
 /// A page that begins with these bytes.
 fn page_with_bytes(alloc: Global, rights: Rights, bytes: &[u8]) -> Result<Page, AllocError>
     requires { length bytes.now ≤ 4096 }
-    ensures { IfOk result (λ page. page ≡ record { rights = rights; bytes = filled bytes.now }) }
+    ensures { IfOk result (λ page. page ≡ record { rights = rights; bytes = padded bytes.now }) }
 {
     let mut page = Page::zeroed(alloc, rights)?;
     page.put_bytes(0, bytes);

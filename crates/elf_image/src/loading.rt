@@ -2,7 +2,7 @@ ghost use Rattle.std.specs.Prelude.{◌≡◌, ℕ, ◌+◌, ◌*◌, ◌<◌, �
 ghost use Rattle.std.specs.List.{All, AllPairs, list_any};
 ghost use Rattle.page_memory.specs.MemoryMap.{image_end_page};
 ghost use Rattle.elf_image.specs.ElfFiles.{end_of, touches, fills, filled_byte, loaded_byte, bytes_between, loaded_page};
-ghost use Rattle.elf_image.specs.Segments.{IsSound, has_flag, given_rights};
+ghost use Rattle.elf_image.specs.Segments.{IsSoundSegment, has_flag, given_rights};
 
 use crate::format::{EXECUTABLE, READABLE, WRITABLE};
 use crate::image::ImagePage;
@@ -19,7 +19,7 @@ pub(crate) fn load_pages(
     loaded: &[ProgramHeader],
     numbers: &[u32],
 ) -> Result<Vec<ImagePage>, AllocError>
-    requires sound { All (IsSound (length file.now)) loaded.now }
+    requires sound { All (IsSoundSegment (length file.now)) loaded.now }
     requires apart { AllPairs (λ one other. end_of one ≤ other.address) loaded.now }
     requires low { All (λ number. number < image_end_page) numbers.now }
     ensures { IfOk result (λ pages. pages.items ≡ map (loaded_page file.now loaded.now) numbers.now) }
@@ -38,7 +38,7 @@ fn load_page(
     loaded: &[ProgramHeader],
     number: u32,
 ) -> Result<ImagePage, AllocError>
-    requires sound { All (IsSound (length file.now)) loaded.now }
+    requires sound { All (IsSoundSegment (length file.now)) loaded.now }
     requires apart { AllPairs (λ one other. end_of one ≤ other.address) loaded.now }
     requires low { number < image_end_page }
     ensures { IfOk result (λ page. page ≡ loaded_page file.now loaded.now number) }
@@ -69,7 +69,7 @@ fn any_has(run: &[ProgramHeader], flag: u32) -> bool
 
 /// Writes the bytes of segments to a page of zeros.
 fn fill(file: &[u8], run: &[ProgramHeader], number: u32, page: &mut Page)
-    requires sound { All (IsSound (length file.now)) run.now }
+    requires sound { All (IsSoundSegment (length file.now)) run.now }
     requires low { number < image_end_page }
     requires blank { page.old.bytes ≡ replicate 4096 0 }
     ensures rights { page.new.rights ≡ page.old.rights }
@@ -84,7 +84,7 @@ fn fill(file: &[u8], run: &[ProgramHeader], number: u32, page: &mut Page)
 
 /// Writes what a segment takes from the file and what lies in a page to that page.
 fn copy(file: &[u8], segment: &ProgramHeader, number: u32, page: &mut Page)
-    requires sound { IsSound (length file.now) segment.now }
+    requires sound { IsSoundSegment (length file.now) segment.now }
     requires low { number < image_end_page }
     ensures rights { page.new.rights ≡ page.old.rights }
     ensures bytes { (f : ℕ → ℕ) → page.old.bytes ≡ bytes_between f (4096 * number) 4096 → page.new.bytes ≡ bytes_between (λ address. cond (fills address segment.now) (filled_byte file.now address segment.now) (f address)) (4096 * number) 4096 }

@@ -1,6 +1,6 @@
 ghost use Rattle.std.specs.Prelude.{◌≡◌, ◌≢◌, ◌≤◌, ◌<◌, ◌*◌, ◌↔◌, [], length, map, IfOk, IfErr};
 ghost use Rattle.std.specs.List.{range_with_len};
-ghost use Rattle.elf_image.specs.Image.{image_of_words, word_page, word_pages, filled, bytes_of, most_words, readable_code};
+ghost use Rattle.elf_image.specs.Image.{image_of_words, word_page, word_pages, padded, bytes_of, most_words, readable_code};
 ghost use Rattle.elf_image.specs.declared.fault.ElfFault.{ElfFault};
 
 use crate::bounds::MOST_PAGES;
@@ -68,7 +68,7 @@ fn page_of_words(alloc: Global, words: &[u32], place: usize) -> Result<ImagePage
 /// A page that begins with these words.
 fn page_with_words(alloc: Global, words: &[u32]) -> Result<Page, AllocError>
     requires { length words.now ≤ 1024 }
-    ensures { IfOk result (λ page. page ≡ record { rights = readable_code; bytes = filled (bytes_of words.now) }) }
+    ensures { IfOk result (λ page. page ≡ record { rights = readable_code; bytes = padded (bytes_of words.now) }) }
 {
     let mut page = Page::zeroed(alloc, Rights::READ_EXECUTE)?;
     let mut address = 0;

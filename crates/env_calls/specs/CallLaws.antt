@@ -4,14 +4,14 @@ use Rattle.std.proofs.Common.{subst}
 use Rattle.page_memory.specs.declared.fault.MemoryFault.{MemoryFault}
 use Rattle.page_memory.specs.declared.words.Access.TheVariants.{Store}
 use Rattle.page_memory.specs.Words.{page_number}
-use Rattle.page_memory.specs.Memory.{Memory, answered, memory_with, usable, copied_in, copied_out}
+use Rattle.page_memory.specs.Memory.{Memory, answer_by, memory_with, usable, copied_in, copied_out}
 use Rattle.rv_exec.specs.Outcomes.{Used}
 use Rattle.rv_exec.specs.Uses.{page_of_access}
 use Rattle.rv_exec.specs.AccessLaws.{used_allowed, used_refused, contains_page}
 
 -- ---- reads
 
-same_page : {A B : Type 0} (f : A → B) (address : ℕ) (found : Result A MemoryFault) → page_of_access address (answered f found) ≡ page_of_access address found
+same_page : {A B : Type 0} (f : A → B) (address : ℕ) (found : Result A MemoryFault) → page_of_access address (answer_by f found) ≡ page_of_access address found
 same_page f address (Ok answer) = refl
 same_page f address (Err fault) = refl
 

@@ -8,7 +8,7 @@ use Rattle.flat_machine.specs.declared.stepping.StepRefusal.{StepRefusal}
 use Rattle.flat_machine.specs.Schedule.{written_out}
 use Rattle.flat_machine.specs.Process.{Process, flat_run}
 use Rattle.flat_machine.specs.RunLaws.{flat_run_append}
-use Rattle.flat_machine.specs.Refusals.{Refuses, StopsAt}
+use Rattle.flat_machine.specs.Refusals.{RefusesStep, StopsAt}
 
 written_more : (turns : List Turn) (i : ℕ) (t : Turn) → i < length turns → t ≡ slice_index_or turns i t → written_out (take (i + 1) turns) ≡ written_out (take i turns) ++ replicate t.count t.hart
 written_more turns i t within at =
@@ -31,7 +31,7 @@ one_more_turn turns i t before between after within at ran more =
 
 -- a run stops within a turn
 pub stops_within : (xs zs : List ℕ) (hart n k before_steps : ℕ) (refusal : StepRefusal) (before between after : Process) → k < n → before_steps ≡ length xs
-    → flat_run xs before ≡ Some between → flat_run (replicate k hart) between ≡ Some after → Refuses refusal hart after
+    → flat_run xs before ≡ Some between → flat_run (replicate k hart) between ≡ Some after → RefusesStep refusal hart after
     → StopsAt (xs ++ (replicate n hart ++ zs)) before refusal (before_steps + k) after
 stops_within xs zs hart n k before_steps refusal before between after h count ran more refused =
     let front : length (replicate n hart) ≡ n = length-replicate n hart in
@@ -47,7 +47,7 @@ stops_within xs zs hart n k before_steps refusal before between after h count ra
     record {
       there = omega (arith, length-append xs (replicate n hart ++ zs), length-append (replicate n hart) zs);
       ran = ap (λ l. flat_run l before) cut ∙ flat_run_append xs (replicate k hart) before between ran ∙ more;
-      refused = subst (λ x. Refuses refusal x after) (sym at) refused;
+      refused = subst (λ x. RefusesStep refusal x after) (sym at) refused;
     }
 
 -- the turns before one, that one, and those behind it

@@ -31,8 +31,8 @@ pub unmapped : (n q : ℕ) (entries : List (ℕ × Page)) → KeysBelow n entrie
 unmapped n q entries below h = get-from_entries nat_cmp_total entries q ∙ not_found n q entries below h
 
 -- and to map it is one more entry
-pub mapped : (n q : ℕ) (page : Page) (entries : List (ℕ × Page)) → KeysBelow n entries → n ≤ q → insert (from_entries {R = nat_cmp} entries) q page ≡ from_entries (entries ++ (q, page) ∷ [])
-mapped n q page entries below h = sym (from_entries_push nat_cmp_total nat_cmp-IsAntisymmetric entries q page (not_found n q entries below h))
+pub one_more_page : (n q : ℕ) (page : Page) (entries : List (ℕ × Page)) → KeysBelow n entries → n ≤ q → insert (from_entries {R = nat_cmp} entries) q page ≡ from_entries (entries ++ (q, page) ∷ [])
+one_more_page n q page entries below h = sym (from_entries_push nat_cmp_total nat_cmp-IsAntisymmetric entries q page (not_found n q entries below h))
 
 KeysBelow-append : (n : ℕ) (xs ys : List (ℕ × Page)) → KeysBelow n xs → KeysBelow n ys → KeysBelow n (xs ++ ys)
 KeysBelow-append n [] ys a b = b

@@ -16,16 +16,16 @@ pub record WantsMemory (hart : ℕ) (process : Process) : Type 0 where
   pub takes : TakesMemory process.environment (effect hart registers process.environment process.memory)
 
 -- the process has ended; else the hart is not live; else memory for its step was refused
-abbrev pub Refuses : StepRefusal → ℕ → Process → Type 0
-Refuses Ended hart process = IsSome process.ending
-Refuses NoHart hart process = (process.ending ≡ None) × (is_live hart process ≡ false)
-Refuses NoMemory hart process = WantsMemory hart process
+abbrev pub RefusesStep : StepRefusal → ℕ → Process → Type 0
+RefusesStep Ended hart process = IsSome process.ending
+RefusesStep NoHart hart process = (process.ending ≡ None) × (is_live hart process ≡ false)
+RefusesStep NoMemory hart process = WantsMemory hart process
 
 -- a run stops at a step that is refused, after so many steps that were done
 pub record StopsAt (harts : List ℕ) (before : Process) (refusal : StepRefusal) (done : ℕ) (after : Process) : Type 0 where
   pub there : done < length harts
   pub ran : flat_run (take done harts) before ≡ Some after
-  pub refused : Refuses refusal (slice_index harts done) after
+  pub refused : RefusesStep refusal (slice_index harts done) after
 
 -- a run by turns, from a hart's turn on, wants memory for its next step after so many that were done
 pub record WantsAt (hart : ℕ) (before : Process) (done : ℕ) (after : Process) : Type 0 where

@@ -25,23 +25,23 @@ marked_within (mark ∷ live) zero e = omega arith
 marked_within (mark ∷ live) (suc hart) e = let rest = marked_within live hart e in omega arith
 
 -- its process has not ended
-pub goes_on : (hart : ℕ) (process : Process) → may_step hart process ≡ true → process.ending ≡ None
-goes_on hart process may = no_ending process.ending (both (is_none process.ending) (is_live hart process) may).0
+pub has_no_ending : (hart : ℕ) (process : Process) → may_step hart process ≡ true → process.ending ≡ None
+has_no_ending hart process may_step_when_live = no_ending process.ending (both (is_none process.ending) (is_live hart process) may_step_when_live).0
 
 -- it was started
 pub started : (hart : ℕ) (process : Process) → IsWhole process → may_step hart process ≡ true → hart < length process.harts
-started hart process whole may =
-    let within = marked_within process.environment.live hart (both (is_none process.ending) (is_live hart process) may).1 in
+started hart process whole may_step_when_live =
+    let within = marked_within process.environment.live hart (both (is_none process.ending) (is_live hart process) may_step_when_live).1 in
     let marked = whole.marked in omega arith
 
 -- a hart may step where the process has not ended and the hart is live
-pub may : (hart : ℕ) (process : Process) → process.ending ≡ None → is_live hart process ≡ true → may_step hart process ≡ true
-may hart process goes live = ap (λ o. is_none o && is_live hart process) goes ∙ live
+pub may_step_when_live : (hart : ℕ) (process : Process) → process.ending ≡ None → is_live hart process ≡ true → may_step hart process ≡ true
+may_step_when_live hart process goes live = ap (λ o. is_none o && is_live hart process) goes ∙ live
 
 -- it may step again where the process goes on and the same harts are live
 pub goes_on_alike : (hart : ℕ) (old new : Process) → may_step hart old ≡ true → new.ending ≡ None → new.environment.live ≡ old.environment.live → may_step hart new ≡ true
 goes_on_alike hart old new now goes same =
-    may hart new goes (ap (λ live. slice_index_or live hart false) same ∙ (both (is_none old.ending) (is_live hart old) now).1)
+    may_step_when_live hart new goes (ap (λ live. slice_index_or live hart false) same ∙ (both (is_none old.ending) (is_live hart old) now).1)
 
 -- one hart alone
 pub whole_alone : (process : Process) → length process.harts ≡ 1 → process.environment.live ≡ true ∷ [] → IsWhole process
@@ -61,8 +61,8 @@ not_ended (Some x) e = absurd (true≢false e)
 pub step_is : (hart : ℕ) (process : Process) (registers : Registers) (e : Effect) → may_step hart process ≡ true → hart_registers hart process ≡ Some registers
     → effect hart registers process.environment process.memory ≡ e → flat_step hart process ≡ Some (after hart process registers e)
 unfolding flat_step
-step_is hart process registers e may are is =
-    ap (λ b. cond b (option_map (stepped hart process) (hart_registers hart process)) None) may
+step_is hart process registers e may_step_when_live are is =
+    ap (λ b. cond b (option_map (stepped hart process) (hart_registers hart process)) None) may_step_when_live
     ∙ ap (option_map (stepped hart process)) are
     ∙ ap (λ x. Some (after hart process registers x)) is
 
@@ -99,8 +99,8 @@ pub record Taken (hart : ℕ) (now left : Process) : Type 0 where
 
 pub taken : (hart : ℕ) (process now : Process) (registers : Registers) (e : Effect) → IsWhole process → process ≡ now → may_step hart now ≡ true
     → registers ≡ slice_index_or process.harts hart registers → effect hart registers process.environment process.memory ≡ e → Taken hart now (after hart process registers e)
-taken hart process now registers e whole same may are is =
-    let here : may_step hart process ≡ true = ap (may_step hart) same ∙ may in
+taken hart process now registers e whole same may_step_when_live are is =
+    let here : may_step hart process ≡ true = ap (may_step hart) same ∙ may_step_when_live in
     let there : hart_registers hart process ≡ Some registers = slice_get-get_or process.harts hart registers (started hart process whole here) ∙ ap Some (sym are) in
     record {
       step = ap (flat_step hart) (sym same) ∙ step_is hart process registers e here there is;

@@ -50,9 +50,9 @@ last_turn turns hart d some =
     ]
 
 -- the last turn by its place
-pub last_at : (turns : List Turn) (last hart n : ℕ) (t : Turn) → last + 1 ≡ length turns → t ≡ slice_index_or turns last t → n ≤ rest_in_last turns hart → 0 < n
+pub last_turn_at : (turns : List Turn) (last hart n : ℕ) (t : Turn) → last + 1 ≡ length turns → t ≡ slice_index_or turns last t → n ≤ rest_in_last turns hart → 0 < n
     → (t.hart ≡ hart) × (t.count + n ≤ 2 ^ 32 - 1)
-last_at turns last hart n t there at fit some =
+last_turn_at turns last hart n t there at fit some =
     let facts = last_turn turns hart t (omega arith) in
     let index : length turns - 1 ≡ last = omega arith in
     let same : slice_index_or turns (length turns - 1) t ≡ t = ap (λ k. slice_index_or turns k t) index ∙ sym at in
@@ -245,7 +245,7 @@ one_more turns hart some =
           let last : length turns - 1 + 1 ≡ length turns = let there = facts.0 in omega arith in
           let t : Turn = slice_index_or turns (length turns - 1) d in
           let at : t ≡ slice_index_or turns (length turns - 1) t = let there = facts.0 in get_or_default turns (length turns - 1) d t (omega arith) in
-          let fits = last_at turns (length turns - 1) hart 1 t last at takes (omega arith) in
+          let fits = last_turn_at turns (length turns - 1) hart 1 t last at takes (omega arith) in
           let after : List Turn = slice_set turns (length turns - 1) (record { hart = t.hart; count = t.count + 1 }) in
           record {
             after = after;

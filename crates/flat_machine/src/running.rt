@@ -1,6 +1,6 @@
 ghost use Rattle.std.specs.Prelude.{◌≡◌, ◌<◌, ◌≤◌, Some, IfErr, OnOk, replicate};
 ghost use Rattle.flat_machine.specs.Process.{flat_run};
-ghost use Rattle.flat_machine.specs.Refusals.{Refuses, StopsAt};
+ghost use Rattle.flat_machine.specs.Refusals.{RefusesStep, StopsAt};
 ghost use Rattle.flat_machine.specs.Schedule.{written_out};
 
 use crate::process::FlatProcess;
@@ -27,7 +27,7 @@ impl FlatProcess {
     /// Steps one hart so many times.
     fn repeat(&mut self, hart: u32, count: u32) -> Result<(), (StepRefusal, u32)>
         ensures ok { OnOk result (flat_run (replicate count hart) self.old ≡ Some self.new) }
-        ensures refused { IfErr result (λ stop. (stop.1 < count) × (flat_run (replicate stop.1 hart) self.old ≡ Some self.new) × Refuses stop.0 hart self.new) }
+        ensures refused { IfErr result (λ stop. (stop.1 < count) × (flat_run (replicate stop.1 hart) self.old ≡ Some self.new) × RefusesStep stop.0 hart self.new) }
     {
         for done in 0..count {
             if let Err(refusal) = self.step(hart) {

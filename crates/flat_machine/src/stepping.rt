@@ -1,7 +1,7 @@
 ghost use Rattle.std.specs.Prelude.{◌≡◌, ◌≤◌, Some, None, true, OnOk, OnErr, IfOk, IfErr};
 ghost use Rattle.flat_machine.specs.Process.{may_step, flat_step};
 ghost use Rattle.flat_machine.specs.ByTurns.{by_turns, turn_after};
-ghost use Rattle.flat_machine.specs.Refusals.{Refuses, WantsMemory};
+ghost use Rattle.flat_machine.specs.Refusals.{RefusesStep, WantsMemory};
 
 use crate::end::End;
 use crate::plain_run::run_plainly;
@@ -25,7 +25,7 @@ impl FlatProcess {
     /// Runs one instruction of a hart. A trap ends the process, and is a step; a refusal changes nothing.
     pub fn step(&mut self, hart: u32) -> Result<(), StepRefusal>
         ensures ok { OnOk result (flat_step hart self.old ≡ Some self.new) }
-        ensures refused { IfErr result (λ refusal. Refuses refusal hart self.old) }
+        ensures refused { IfErr result (λ refusal. RefusesStep refusal hart self.old) }
         ensures err { OnErr result (self.new ≡ self.old) }
     {
         if self.end.is_some() {

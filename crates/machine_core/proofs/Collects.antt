@@ -10,7 +10,7 @@ use Rattle.clock_policy.specs.declared.refusal.Refusal.TheVariants as list
 use Rattle.clock_policy.specs.AdmitLaws.{one_key}
 use Rattle.clock_policy.specs.Lawful.{Lawful}
 use Rattle.page_store.specs.JobValue.{JobValue}
-use Rattle.page_store.specs.PageValue.{PageValue, Place, Fresh, Resident, Leaving, Saving, Away, Purged, state_of, frame_of}
+use Rattle.page_store.specs.PageValue.{PageValue, Place, Fresh, Resident, Leaving, Saving, Away, Purged, page_state_of, frame_of}
 use Rattle.paged_memory.specs.Counting.{is_resident_place, is_saving_place, frame_passes}
 use Rattle.paged_memory.specs.Paged.{page_at}
 use Rattle.space_core.specs.StandsFor.{SpaceValue}
@@ -23,7 +23,7 @@ use Rattle.machine_sides.specs.Collecting.{is_leaving, is_leaving_stage, IsLeavi
 use Rattle.machine_core.specs.CollectEvent.{leaving_reason, collect_refusal, CollectsTo, not_yet, freed, dirty, no_slot, no_memory, CollectsOnce, LooksAt, IsOwn, jobs_after, looked_reply}
 use Rattle.machine_sides.specs.CollectLaws.{dropped_together, dropped_rest, copied_together, copied_savings, copied_slots, copied_stays, copied_now, copied_place}
 use Rattle.machine_sides.specs.LookLaws.{same_sides}
-use Rattle.machine_core.specs.Machine.{CoreValue, IsMachine, IsOut, jobs_where, total}
+use Rattle.machine_core.specs.Machine.{CoreValue, IsMachine, IsSaveOut, jobs_where, total}
 use Rattle.machine_core.specs.MachineRun.{of_process}
 use Rattle.machine_sides.specs.ReturnLaws.{returned_rest, listed_frames, back_together}
 use Rattle.machine_sides.specs.Sides.{PagerSideValue, ProcessSideValue}
@@ -47,12 +47,12 @@ module _ {S : Type 0} where
 
   pub leaving_found : (space : SpaceValue S) (vpn : ℕ) → is_leaving space vpn ≡ true → IsLeaving vpn space
   leaving_found space vpn h =
-      elim (nat_lt vpn (2 ^ 20)) as (λ t. nat_lt vpn (2 ^ 20) ≡ t → is_leaving_stage (if t then option_map (λ page. state_of page.place) (page_at space.memory.pages vpn) else None) ≡ true → IsLeaving vpn space) [
+      elim (nat_lt vpn (2 ^ 20)) as (λ t. nat_lt vpn (2 ^ 20) ≡ t → is_leaving_stage (if t then option_map (λ page. page_state_of page.place) (page_at space.memory.pages vpn) else None) ≡ true → IsLeaving vpn space) [
         | true ↦ λ small is. by_page (ltb-true vpn (2 ^ 20) small) (page_at space.memory.pages vpn) refl is
         | false ↦ λ large is. cc
       ] refl h
     where
-      by_place : vpn < 2 ^ 20 → (page : PageValue S) → page_at space.memory.pages vpn ≡ Some page → (place : Place S) → page.place ≡ place → is_leaving_stage (Some (state_of place)) ≡ true → IsLeaving vpn space
+      by_place : vpn < 2 ^ 20 → (page : PageValue S) → page_at space.memory.pages vpn ≡ Some page → (place : Place S) → page.place ≡ place → is_leaving_stage (Some (page_state_of place)) ≡ true → IsLeaving vpn space
       by_place small page found Fresh at is = cc
       by_place small page found (Resident frame slot) at is = cc
       by_place small page found (Leaving frame slot mark) at is = record { small = small; page = page; frame = frame; slot = slot; mark = mark; found = found; leaving = at }
@@ -60,7 +60,7 @@ module _ {S : Type 0} where
       by_place small page found (Away slot) at is = cc
       by_place small page found Purged at is = cc
 
-      by_page : vpn < 2 ^ 20 → (o : Option (PageValue S)) → page_at space.memory.pages vpn ≡ o → is_leaving_stage (option_map (λ page. state_of page.place) o) ≡ true → IsLeaving vpn space
+      by_page : vpn < 2 ^ 20 → (o : Option (PageValue S)) → page_at space.memory.pages vpn ≡ o → is_leaving_stage (option_map (λ page. page_state_of page.place) o) ≡ true → IsLeaving vpn space
       by_page small None found is = cc
       by_page small (Some page) found is = by_place small page found page.place refl is
 
@@ -102,7 +102,7 @@ module _ {S : Type 0} where
           let a = rest.slots in
           omega (arith, free, same, a);
       slots = ap (λ (s : PoolValue S). s.size) slots;
-      out = subst (λ l. All (IsOut l) core'.jobs) (sym processes) (subst (All (IsOut (slice_set core.processes p q'))) (sym jobs) (out_stays core.processes p q q' core.jobs found (λ v page frame small at saving. rest.stay v page frame at saving) machine.out));
+      out = subst (λ l. All (IsSaveOut l) core'.jobs) (sym processes) (subst (All (IsSaveOut (slice_set core.processes p q'))) (sym jobs) (out_stays core.processes p q q' core.jobs found (λ v page frame small at saving. rest.stay v page frame at saving) machine.out));
     }
 
     same_rest : q' ≡ q → LeavesRest q.space q'.space
@@ -138,7 +138,7 @@ module _ {S : Type 0} where
       copied_moves job copied jobs =
           let saving = copied.saving in
           let number : job.process ≡ p = saving.process ∙ machine.numbered p q found in
-          let out : IsOut core'.processes job = record {
+          let out : IsSaveOut core'.processes job = record {
             process = q';
             page = saving.page.page';
             frame = saving.page.how.frame;
@@ -148,7 +148,7 @@ module _ {S : Type 0} where
             saving = copied_place vpn job q q' core.slots core'.slots saving;
             same = sym saving.page.how.copy;
           } in
-          let others : All (IsOut core'.processes) core.jobs = subst (λ l. All (IsOut l) core.jobs) (sym processes) (out_stays core.processes p q q' core.jobs found (λ v page frame small at is. copied_stays vpn job q q' core.slots core'.slots saving v page frame at is) machine.out) in
+          let others : All (IsSaveOut core'.processes) core.jobs = subst (λ l. All (IsSaveOut l) core.jobs) (sym processes) (out_stays core.processes p q q' core.jobs found (λ v page frame small at is. copied_stays vpn job q q' core.slots core'.slots saving v page frame at is) machine.out) in
           record {
             found = found;
             processes = processes;
@@ -165,7 +165,7 @@ module _ {S : Type 0} where
                 let one = copied_slots vpn job q q' core.slots core'.slots saving in
                 omega (arith, more, one);
             slots = saving.size;
-            out = subst (All (IsOut core'.processes)) (sym jobs) (All-append (IsOut core'.processes) core.jobs (job ∷ []) others (All-cons (IsOut core'.processes) job [] out (All-nil _)));
+            out = subst (All (IsSaveOut core'.processes)) (sym jobs) (All-append (IsSaveOut core'.processes) core.jobs (job ∷ []) others (All-cons (IsSaveOut core'.processes) job [] out (All-nil _)));
           }
 
       -- the machine stays one, whatever its own look comes to

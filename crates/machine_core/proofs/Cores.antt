@@ -27,10 +27,10 @@ use Rattle.machine_core.specs.declared.event.Reply.{Reply}
 use Rattle.machine_core.specs.declared.event.Reply.TheVariants.{Asked as AskedReply, Victim}
 use Rattle.machine_sides.specs.declared.sweeping.Swept.{Swept}
 use Rattle.machine_sides.specs.declared.sweeping.Swept.TheVariants as swept
-use Rattle.machine_core.specs.MachineRun.{ChangesOne, of_process, is_used, SweepsAt, SweepsOnce, sweep_reply, swept_reply}
+use Rattle.machine_core.specs.MachineRun.{ChangesOne, of_process, used_bit, SweepsAt, SweepsOnce, sweep_reply, swept_reply}
 use Rattle.machine_sides.specs.ProcessCalls.{StepsOnce, TakesNotices, IsKilled}
 use Rattle.machine_sides.specs.Sides.{PagerSideValue, ProcessSideValue}
-use Rattle.machine_sides.specs.Sweeping.{Answers, Sweeps}
+use Rattle.machine_sides.specs.Sweeping.{AnswersQuestion, Sweeps}
 use Rattle.machine_sides.specs.SweepLaws.{answers_together, answers_rest}
 use Rattle.machine_core.specs.declared.error.EventRefusal.{EventRefusal}
 use Rattle.machine_core.proofs.Finding.{Asked, HasResident, asked_process, bit_there}
@@ -104,7 +104,7 @@ module _ {S : Type 0} where
 
   -- the same of a sweep, whose page is resident
   pub swept_machine : (core : CoreValue S) (pager' : PagerSideValue) (q q' : ProcessSideValue S) (key : Key) (bit : Bit) (verdict : Verdict) → IsMachine core → slice_get core.processes key.process ≡ Some q
-      → HasResident q.space key → Answers core.pager pager' q q' key bit verdict → IsMachine (record core { pager = pager'; processes = slice_set core.processes key.process q' })
+      → HasResident q.space key → AnswersQuestion core.pager pager' q q' key bit verdict → IsMachine (record core { pager = pager'; processes = slice_set core.processes key.process q' })
   unfolding pager_answered SavingsStay
   swept_machine core pager' q q' key bit verdict machine found there answers =
       let not_gone : is_gone bit ≡ false = ap is_gone (sym answers.bit_is) ∙ bit_there q.space key there in
@@ -124,14 +124,14 @@ module _ {S : Type 0} where
 
   -- the sweep that was made for the page of the question
   answers_of : (core : CoreValue S) (pager' : PagerSideValue) (key : Key) (q q' : ProcessSideValue S) (result : Swept) → question_of core.pager.pager.list ≡ Some key → Sweeps core.pager pager' q q' result
-      → (bit : Bit) × ((verdict : Verdict) × (Answers core.pager pager' q q' key bit verdict × (swept_reply result ≡ sweep_reply key bit verdict)))
+      → (bit : Bit) × ((verdict : Verdict) × (AnswersQuestion core.pager pager' q q' key bit verdict × (swept_reply result ≡ sweep_reply key bit verdict)))
   answers_of core pager' key q q' swept.NothingResident asks how = let none = how.0 in cc
   answers_of core pager' key q q' (swept.Asked k bit) asks how =
       let same : k ≡ key = let e = how.question in cc in
-      (bit, (GoOn, (subst (λ x. Answers core.pager pager' q q' x bit GoOn) same how, ap (λ x. AskedReply x (is_used bit)) same)))
+      (bit, (GoOn, (subst (λ x. AnswersQuestion core.pager pager' q q' x bit GoOn) same how, ap (λ x. AskedReply x (used_bit bit)) same)))
   answers_of core pager' key q q' (swept.Victim k) asks how =
       let same : k ≡ key = let e = how.1.question in cc in
-      (how.0, (verdict.Victim k, (subst (λ x. Answers core.pager pager' q q' x how.0 (verdict.Victim k)) same how.1, ap (λ x. Victim x) same)))
+      (how.0, (verdict.Victim k, (subst (λ x. AnswersQuestion core.pager pager' q q' x how.0 (verdict.Victim k)) same how.1, ap (λ x. Victim x) same)))
 
   module _ (pager pager' : PagerSideValue) (slots : PoolValue S) (jobs : List (JobValue S)) (items lent new : List (ProcessSideValue S)) (n : ℕ) (key : Key) (result : Swept)
       (machine : IsMachine (record { pager = pager; slots = slots; processes = items; jobs = jobs })) (asks : question_of pager.pager.list ≡ Some key)

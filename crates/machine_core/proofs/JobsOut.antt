@@ -11,7 +11,7 @@ use Rattle.clock_policy.specs.declared.key.Key.{Key}
 use Rattle.clock_policy.specs.Residents.{is_key}
 use Rattle.page_store.specs.JobValue.{JobValue}
 use Rattle.machine_core.specs.Machine.{total, jobs_where}
-use Rattle.machine_core.specs.SavingOut.{is_of_page}
+use Rattle.machine_core.specs.SavingOut.{is_save_of}
 use Rattle.machine_sides.specs.Together.{key_of}
 
 pub both_true : (a b : Bool) → a && b ≡ true → (a ≡ true) × (b ≡ true)
@@ -45,10 +45,10 @@ module _ {S : Type 0} where
     pub process : job.process ≡ key.process
     pub page : job.vpn ≡ key.vpn
 
-  pub taken_at : (key : Key) (jobs jobs' : List (JobValue S)) (place : ℕ) (job : JobValue S) → position (is_of_page key) jobs ≡ Some place → job ≡ slice_index_or jobs place job → jobs' ≡ swap_remove jobs place job → Taken key jobs jobs' job
+  pub taken_at : (key : Key) (jobs jobs' : List (JobValue S)) (place : ℕ) (job : JobValue S) → position (is_save_of key) jobs ≡ Some place → job ≡ slice_index_or jobs place job → jobs' ≡ swap_remove jobs place job → Taken key jobs jobs' job
   taken_at key jobs jobs' place job at value items =
-      let found = position-Some (is_of_page key) jobs place job at in
-      let is : is_of_page key job ≡ true = ap (is_of_page key) value ∙ found.1 in
+      let found = position-Some (is_save_of key) jobs place job at in
+      let is : is_save_of key job ≡ true = ap (is_save_of key) value ∙ found.1 in
       let parts = both_true (job.process == key.process) (job.vpn == key.vpn) is in
       record {
         permuted = subst (λ l. IsPermutation jobs (job ∷ l)) (sym items) (IsPermutation-swap_remove jobs place job found.0 value);
@@ -56,21 +56,21 @@ module _ {S : Type 0} where
         page = eqb-true job.vpn key.vpn parts.1;
       }
 
-  none_passes : (key : Key) (jobs : List (JobValue S)) → length jobs ≤ position_or_len (is_of_page key) jobs → jobs_where (is_key key) jobs ≡ 0
+  none_passes : (key : Key) (jobs : List (JobValue S)) → length jobs ≤ position_or_len (is_save_of key) jobs → jobs_where (is_key key) jobs ≡ 0
   unfolding jobs_where total
   none_passes key [] long = refl
-  none_passes key (job ∷ jobs) long = by_test (is_of_page key job) (none_passes key jobs) long
+  none_passes key (job ∷ jobs) long = by_test (is_save_of key job) (none_passes key jobs) long
     where
-      by_test : (b : Bool) → (length jobs ≤ position_or_len (is_of_page key) jobs → jobs_where (is_key key) jobs ≡ 0) → suc (length jobs) ≤ cond (not b) (1 + position_or_len (is_of_page key) jobs) 0 → cond b 1 0 + jobs_where (is_key key) jobs ≡ 0
+      by_test : (b : Bool) → (length jobs ≤ position_or_len (is_save_of key) jobs → jobs_where (is_key key) jobs ≡ 0) → suc (length jobs) ≤ cond (not b) (1 + position_or_len (is_save_of key) jobs) 0 → cond b 1 0 + jobs_where (is_key key) jobs ≡ 0
       by_test true rest long = absurd (omega arith)
       by_test false rest long = let less = rest (omega arith) in omega (arith, less)
 
-  pub none_found : (key : Key) (jobs : List (JobValue S)) → position (is_of_page key) jobs ≡ None → jobs_where (is_key key) jobs ≡ 0
-  none_found key jobs none = none_passes key jobs (by_test (nat_lt (position_or_len (is_of_page key) jobs) (length jobs)) refl none)
+  pub none_found : (key : Key) (jobs : List (JobValue S)) → position (is_save_of key) jobs ≡ None → jobs_where (is_key key) jobs ≡ 0
+  none_found key jobs none = none_passes key jobs (by_test (nat_lt (position_or_len (is_save_of key) jobs) (length jobs)) refl none)
     where
       at_least : (m n : ℕ) → nat_lt m n ≡ false → n ≤ m
       at_least m n is = grind (arith, is)
 
-      by_test : (b : Bool) → nat_lt (position_or_len (is_of_page key) jobs) (length jobs) ≡ b → cond b (Some (position_or_len (is_of_page key) jobs)) None ≡ None → length jobs ≤ position_or_len (is_of_page key) jobs
+      by_test : (b : Bool) → nat_lt (position_or_len (is_save_of key) jobs) (length jobs) ≡ b → cond b (Some (position_or_len (is_save_of key) jobs)) None ≡ None → length jobs ≤ position_or_len (is_save_of key) jobs
       by_test true is h = cc
-      by_test false is h = at_least (position_or_len (is_of_page key) jobs) (length jobs) is
+      by_test false is h = at_least (position_or_len (is_save_of key) jobs) (length jobs) is

@@ -12,7 +12,7 @@ use Rattle.paged_memory.specs.Counting.{slots_of}
 use Rattle.paged_memory.specs.Paged.{page_at}
 use Rattle.machine_sides.specs.Sides.{ProcessSideValue}
 use Rattle.machine_sides.specs.Together.{Together, residents_in, savings_in, frames_in}
-use Rattle.machine_core.specs.Machine.{CoreValue, IsMachine, IsOut, total, jobs_where, numbers_below}
+use Rattle.machine_core.specs.Machine.{CoreValue, IsMachine, IsSaveOut, total, jobs_where, numbers_below}
 use Rattle.machine_core.specs.TotalLaws.{total_set, got_set, get_set_same, get_set_other, All_map}
 
 module _ {S : Type 0} where
@@ -30,7 +30,7 @@ module _ {S : Type 0} where
     pub saved : (test : Key → Bool) → jobs_where test core'.jobs + savings_in process.space test ≡ jobs_where test core.jobs + savings_in process'.space test
     pub slotted : length core'.slots.free + (slots_of process'.space.memory.pages + length core'.jobs) ≡ length core.slots.free + (slots_of process.space.memory.pages + length core.jobs)
     pub slots : core'.slots.size ≡ core.slots.size
-    pub out : All (IsOut core'.processes) core'.jobs
+    pub out : All (IsSaveOut core'.processes) core'.jobs
 
   pub moved_machine : (core core' : CoreValue S) (p : ℕ) (process process' : ProcessSideValue S) → IsMachine core → Moves core core' p process process' → IsMachine core'
   moved_machine core core' p process process' machine moves = record {
@@ -78,11 +78,11 @@ module _ {S : Type 0} where
 
   -- saves that are out stay so where the pages that are being saved stay
   pub out_stays : (processes : List (ProcessSideValue S)) (p : ℕ) (process process' : ProcessSideValue S) (jobs : List (JobValue S)) → slice_get processes p ≡ Some process
-      → SavingsStay process.space.memory.pages process'.space.memory.pages → All (IsOut processes) jobs → All (IsOut (slice_set processes p process')) jobs
+      → SavingsStay process.space.memory.pages process'.space.memory.pages → All (IsSaveOut processes) jobs → All (IsSaveOut (slice_set processes p process')) jobs
   unfolding SavingsStay
-  out_stays processes p process process' jobs found stay all = All_map (IsOut processes) (IsOut (slice_set processes p process')) one jobs all
+  out_stays processes p process process' jobs found stay all = All_map (IsSaveOut processes) (IsSaveOut (slice_set processes p process')) one jobs all
     where
-      one : (job : JobValue S) → IsOut processes job → IsOut (slice_set processes p process') job
+      one : (job : JobValue S) → IsSaveOut processes job → IsSaveOut (slice_set processes p process') job
       one job out =
           elim (eqb_tells job.process p) [
             | inl same ↦

@@ -5,7 +5,7 @@ use Rattle.page_store.specs.Lending.{with_bytes, rewritten}
 use Rattle.page_store.specs.PageValue.{PageValue, Place, Fresh, Resident, Leaving, Saving, Away, Purged, frame_of, slot_of}
 use Rattle.paged_memory.specs.Counting.{page_passes, pages_where, is_resident_place, is_saving_place, frame_passes, is_kept, residents_of, savings_of, frames_of, slots_of}
 use Rattle.paged_memory.specs.CountingLaws.{same_where_pass}
-use Rattle.paged_memory.specs.Growth.{zero_page}
+use Rattle.paged_memory.specs.Growth.{fresh_zero_page}
 use Rattle.paged_memory.specs.HartMemory.{KeepsPages}
 use Rattle.paged_memory.specs.Paged.{page_at}
 use Rattle.space_core.specs.StandsFor.{SpaceValue}
@@ -13,7 +13,7 @@ use Rattle.machine_sides.specs.Together.{residents_in, savings_in, frames_in, ke
 use Rattle.machine_core.proofs.Kept.{SavingsStay}
 
 module _ {S : Type 0} where
-  module _ (test : ℕ → PageValue S → Bool) (blind : (number : ℕ) (page : PageValue S) → test number (with_bytes page []) ≡ test number page) (bare : (number : ℕ) → test number zero_page ≡ false) (old new : List (ℕ × PageValue S)) (keeps : KeepsPages old new) where
+  module _ (test : ℕ → PageValue S → Bool) (blind : (number : ℕ) (page : PageValue S) → test number (with_bytes page []) ≡ test number page) (bare : (number : ℕ) → test number fresh_zero_page ≡ false) (old new : List (ℕ × PageValue S)) (keeps : KeepsPages old new) where
     pub kept_where : pages_where test new ≡ pages_where test old
     kept_where = same_where_pass test old new (λ number small. passes number (page_at old number) (page_at new number) refl refl)
       where

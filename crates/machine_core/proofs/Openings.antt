@@ -9,7 +9,7 @@ use Rattle.std.proofs.lemmas.List.Elements.{All-nil}
 use Rattle.std.proofs.lemmas.Option.{slice_get_within}
 use Rattle.clock_policy.specs.declared.key.Key.{Key}
 use Rattle.clock_policy.specs.ClockLaws.{opening_lawful}
-use Rattle.clock_policy.specs.ClockPro.{opening}
+use Rattle.clock_policy.specs.ClockPro.{opening_state}
 use Rattle.clock_policy.specs.Lawful.{Lawful}
 use Rattle.clock_policy.specs.Residents.{residents}
 use Rattle.flat_machine.specs.Process.{opening_pages}
@@ -24,7 +24,7 @@ use Rattle.paged_memory.specs.Paged.{page_at}
 use Rattle.pager_core.specs.Pager.{full_pager}
 use Rattle.space_core.specs.Fresh.{fresh, all_fresh}
 use Rattle.swap_slots.specs.PoolValue.{PoolValue}
-use Rattle.machine_core.specs.Machine.{CoreValue, IsMachine, IsOut, total, jobs_where, numbers_below}
+use Rattle.machine_core.specs.Machine.{CoreValue, IsMachine, IsSaveOut, total, jobs_where, numbers_below}
 use Rattle.machine_sides.specs.Starting.{Start, Begins}
 use Rattle.machine_core.specs.Opening.{BeginsAt, AllBegin, MachineBegins}
 use Rattle.machine_sides.specs.Sides.{PagerSideValue, ProcessSideValue}
@@ -163,7 +163,7 @@ module _ {S : Type 0} where
   begun f frames free xs pager slots processes jobs full is size all none = record { pager = full; slots = pool_of slots free is size; processes = all; jobs = none }
 
   pub machine_begins : (frames : ℕ) (free : List S) (starts : List Start) (core : CoreValue S) → 4 ≤ frames → frames ≤ 4096 → length starts ≤ 16 → MachineBegins frames free starts core → IsMachine core
-  unfolding opening residents frames_where jobs_where total numbers_below
+  unfolding opening_state residents frames_where jobs_where total numbers_below
   machine_begins frames free starts core least most few begins = record {
     lawful = subst (λ (p : PagerSideValue). Lawful p.pager.list) (sym begins.pager) (opening_lawful frames least most);
     frames = ap (λ (p : PagerSideValue). p.pager.list.frames) begins.pager ∙ sym (ap (λ (p : PagerSideValue). p.pager.size) begins.pager);
@@ -183,7 +183,7 @@ module _ {S : Type 0} where
     saved = λ test.
         ap (jobs_where test) begins.jobs
         ∙ sym (none_counts starts core.processes begins.processes (λ (process : ProcessSideValue S). savings_in process.space test) (λ number start process b. no_savings number start process b test));
-    out = subst (All (IsOut core.processes)) (sym begins.jobs) (All-nil _);
+    out = subst (All (IsSaveOut core.processes)) (sym begins.jobs) (All-nil _);
     slotted =
         let none = none_counts starts core.processes begins.processes (λ (process : ProcessSideValue S). slots_of process.space.memory.pages) (λ number start process b. no_slots number start process b) in
         let jobs : length core.jobs ≡ 0 = ap length begins.jobs in

@@ -9,7 +9,7 @@ use Rattle.clock_policy.specs.declared.key.Key.{Key}
 use Rattle.frame_pool.specs.FrameValue.{FrameValue}
 use Rattle.page_store.specs.JobValue.{JobValue}
 use Rattle.page_store.specs.Moves.{IfAbsent, IfAway}
-use Rattle.page_store.specs.PageValue.{PageValue, Place, Fresh, Resident, Leaving, Saving, Away, Purged, state_of}
+use Rattle.page_store.specs.PageValue.{PageValue, Place, Fresh, Resident, Leaving, Saving, Away, Purged, page_state_of}
 use Rattle.page_store.specs.declared.state.PageState.{PageState}
 use Rattle.pager_core.specs.Pager.{none_free}
 use Rattle.paged_memory.specs.Calls.{ChangesBy}
@@ -28,7 +28,7 @@ use Rattle.machine_core.specs.declared.error.EventRefusal.TheVariants as refusal
 use Rattle.machine_core.specs.declared.event.Reply.{Reply}
 use Rattle.machine_core.specs.declared.event.Reply.TheVariants.{Refused}
 use Rattle.machine_core.specs.Machine.{CoreValue, IsMachine}
-use Rattle.machine_core.specs.MachineRun.{of_process, Refuses}
+use Rattle.machine_core.specs.MachineRun.{of_process, RefusesEvent}
 use Rattle.machine_core.specs.PagingIn.{admit_reason, ComesIn, IsTakenBack, GoesBack, PagesIn, PagesInAt, PagesInOnce, page_in_reason, page_in_refusal}
 use Rattle.machine_sides.specs.Sides.{PagerSideValue, ProcessSideValue}
 use Rattle.machine_core.proofs.Counted.{all_frames, all_numbers}
@@ -63,11 +63,11 @@ module _ {S : Type 0} where
       omega (arith, framed, all_frames core.pager.pager.free, all_numbers core.pager.pager.size)
 
   -- a page that is absent still is not resident
-  still_away : (held : S → List ℕ) (honest : Type 0) (page page' : PageValue S) → StaysAbsent held honest page page' → is_resident_stage (Some (state_of page'.place)) ≡ false
+  still_away : (held : S → List ℕ) (honest : Type 0) (page page' : PageValue S) → StaysAbsent held honest page page' → is_resident_stage (Some (page_state_of page'.place)) ≡ false
   still_away held honest page page' stays = by_place page.place page'.place stays.place
     where
-      by_place : (old new : Place S) → IfAbsent old (new ≡ Fresh) (λ _. IfAway new (λ _. Unit {0})) → is_resident_stage (Some (state_of new)) ≡ false
-      by_place Fresh new how = ap (λ (p : Place S). is_resident_stage (Some (state_of p))) how
+      by_place : (old new : Place S) → IfAbsent old (new ≡ Fresh) (λ _. IfAway new (λ _. Unit {0})) → is_resident_stage (Some (page_state_of new)) ≡ false
+      by_place Fresh new how = ap (λ (p : Place S). is_resident_stage (Some (page_state_of p))) how
       by_place (Resident f s) new how = absurd how
       by_place (Leaving f s m) new how = absurd how
       by_place (Saving f) new how = absurd how
@@ -81,7 +81,7 @@ module _ {S : Type 0} where
 
   away_still : (held : S → List ℕ) (honest : Type 0) (old new : SpaceValue S) (v : ℕ) → v < 2 ^ 20 → ChangesBy (StaysAbsent held honest) old.memory.pages new.memory.pages v → is_resident new v ≡ false
   away_still held honest old new v small stays =
-      let staged : Option (PageValue S) → Option PageState = λ o. option_map (λ (page : PageValue S). state_of page.place) o in
+      let staged : Option (PageValue S) → Option PageState = λ o. option_map (λ (page : PageValue S). page_state_of page.place) o in
       let self : v == v ≡ true = grind (arith, nat_tests) in
       ap (λ b. is_resident_stage (if b then staged (page_at new.memory.pages v) else None)) (lt-ltb v (2 ^ 20) small)
       ∙ ap (λ o. is_resident_stage (staged o)) (stays.changes.pages v)
@@ -135,7 +135,7 @@ module _ {S : Type 0} where
 
     -- what comes of the event
     pub record Outcome : Type 0 where
-      pub served : Refuses (page_in_refusal key core) core after reply ⊎ PagesInOnce held honest failures key core after reply
+      pub served : RefusesEvent (page_in_refusal key core) core after reply ⊎ PagesInOnce held honest failures key core after reply
       pub is_machine : IsMachine after
       pub size : pager'.pager.size ≡ core.pager.pager.size
 
@@ -247,7 +247,7 @@ module _ {S : Type 0} where
     pub page_in_size : pager'.pager.size ≡ pager.pager.size
     page_in_size = out.size
 
-    pub page_in_served : (old : CoreValue S) → lent_core ≡ old → Refuses (page_in_refusal key old) old core_back reply ⊎ PagesInOnce held honest failures key old core_back reply
+    pub page_in_served : (old : CoreValue S) → lent_core ≡ old → RefusesEvent (page_in_refusal key old) old core_back reply ⊎ PagesInOnce held honest failures key old core_back reply
     page_in_served old e =
-        subst (λ c. Refuses (page_in_refusal key c) c core_back reply ⊎ PagesInOnce held honest failures key c core_back reply) e
-        (subst (λ c. Refuses (page_in_refusal key lent_core) lent_core c reply ⊎ PagesInOnce held honest failures key lent_core c reply) is_back out.served)
+        subst (λ c. RefusesEvent (page_in_refusal key c) c core_back reply ⊎ PagesInOnce held honest failures key c core_back reply) e
+        (subst (λ c. RefusesEvent (page_in_refusal key lent_core) lent_core c reply ⊎ PagesInOnce held honest failures key lent_core c reply) is_back out.served)

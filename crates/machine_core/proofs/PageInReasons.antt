@@ -13,11 +13,11 @@ use Rattle.clock_policy.specs.AdmitLaws.{admitted_barred, key_residents, full_is
 use Rattle.clock_policy.specs.ClockPro.{ClockState, is_full, kind_of, admitted}
 use Rattle.clock_policy.specs.Residents.{residents, is_key, has_resident, found_in_frame}
 use Rattle.frame_pool.specs.FrameValue.{FrameValue}
-use Rattle.page_store.specs.PageValue.{PageValue, Place, Fresh, Resident, Leaving, Saving, Away, Purged, state_of}
+use Rattle.page_store.specs.PageValue.{PageValue, Place, Fresh, Resident, Leaving, Saving, Away, Purged, page_state_of}
 use Rattle.page_store.specs.declared.state.PageState.{PageState}
 use Rattle.pager_core.specs.declared.refusal.AdmitRefusal.{AdmitRefusal}
 use Rattle.pager_core.specs.declared.refusal.AdmitRefusal.TheVariants as pager_refused
-use Rattle.pager_core.specs.Pager.{PagerState, resident_kind, is_resident, none_free, has_no_frame, admission_refused}
+use Rattle.pager_core.specs.Pager.{PagerState, resident_kind, is_listed_resident, none_free, has_no_frame, admission_refused}
 use Rattle.paged_memory.specs.Counting.{is_resident_place}
 use Rattle.paged_memory.specs.Filling.{IsAbsent}
 use Rattle.paged_memory.specs.Paged.{page_at}
@@ -46,7 +46,7 @@ in_frames (Some Test) = refl
 in_frames (Some Cold) = refl
 in_frames (Some Shadow) = refl
 
-pub listed_alike : (key : Key) (list : ClockState) → is_resident key list ≡ has_resident key list
+pub listed_alike : (key : Key) (list : ClockState) → is_listed_resident key list ≡ has_resident key list
 listed_alike key list = in_frames (kind_of key list.entries)
 
 or_same : (a b : Bool) → (a ≡ false → b ≡ false) → a || b ≡ a
@@ -63,7 +63,7 @@ event_told false false none = refl
 module _ {S : Type 0} where
   -- ---- an absent page
 
-  resident_stage : (place : Place S) → is_resident_place place ≡ true → is_absent_stage (Some (state_of place)) ≡ false
+  resident_stage : (place : Place S) → is_resident_place place ≡ true → is_absent_stage (Some (page_state_of place)) ≡ false
   resident_stage Fresh h = cc
   resident_stage (Resident frame slot) h = refl
   resident_stage (Leaving frame slot mark) h = cc
@@ -74,7 +74,7 @@ module _ {S : Type 0} where
   -- a resident page is not absent
   resident_there : (space : SpaceValue S) (key : Key) → HasResident space key → is_absent space key.vpn ≡ false
   resident_there space key there =
-      let staged : Option (PageValue S) → Option PageState = λ o. option_map (λ (page : PageValue S). state_of page.place) o in
+      let staged : Option (PageValue S) → Option PageState = λ o. option_map (λ (page : PageValue S). page_state_of page.place) o in
       ap (λ b. is_absent_stage (if b then staged (page_at space.memory.pages key.vpn) else None)) (lt-ltb key.vpn (2 ^ 20) there.small)
       ∙ ap (λ o. is_absent_stage (staged o)) there.at
       ∙ resident_stage there.page.place there.resident
@@ -84,11 +84,11 @@ module _ {S : Type 0} where
     pub small : vpn < 2 ^ 20
     pub absent : IsAbsent (page_at space.memory.pages vpn)
 
-  absent_page : (o : Option (PageValue S)) → is_absent_stage (option_map (λ (page : PageValue S). state_of page.place) o) ≡ true → IsAbsent o
+  absent_page : (o : Option (PageValue S)) → is_absent_stage (option_map (λ (page : PageValue S). page_state_of page.place) o) ≡ true → IsAbsent o
   absent_page None h = cc
   absent_page (Some page) h = by_place page.place h
     where
-      by_place : (place : Place S) → is_absent_stage (Some (state_of place)) ≡ true → IsAbsent (Some (record { origin = page.origin; place = place }))
+      by_place : (place : Place S) → is_absent_stage (Some (page_state_of place)) ≡ true → IsAbsent (Some (record { origin = page.origin; place = place }))
       by_place Fresh h = tt
       by_place (Resident frame slot) h = cc
       by_place (Leaving frame slot mark) h = cc
@@ -98,7 +98,7 @@ module _ {S : Type 0} where
 
   pub absent_there : (space : SpaceValue S) (vpn : ℕ) → is_absent space vpn ≡ true → IsThere space vpn
   absent_there space vpn h =
-      elim (nat_lt vpn (2 ^ 20)) as (λ t. nat_lt vpn (2 ^ 20) ≡ t → is_absent_stage (if t then option_map (λ (page : PageValue S). state_of page.place) (page_at space.memory.pages vpn) else None) ≡ true → IsThere space vpn) [
+      elim (nat_lt vpn (2 ^ 20)) as (λ t. nat_lt vpn (2 ^ 20) ≡ t → is_absent_stage (if t then option_map (λ (page : PageValue S). page_state_of page.place) (page_at space.memory.pages vpn) else None) ≡ true → IsThere space vpn) [
         | true ↦ λ small is. record { small = ltb-true vpn (2 ^ 20) small; absent = absent_page (page_at space.memory.pages vpn) is }
         | false ↦ λ large is. cc
       ] refl h
@@ -183,8 +183,8 @@ pub lists : (key : Key) (state : PagerState) → admission_refused key state ≡
 unfolding admission_refused
 lists key state none = by_answer (admitted key state.list).1 refl
   where
-    free : (is_resident key state.list ≡ false) × (has_no_frame state ≡ false)
-    free = none_refused (is_resident key state.list) (has_no_frame state) none
+    free : (is_listed_resident key state.list ≡ false) × (has_no_frame state ≡ false)
+    free = none_refused (is_listed_resident key state.list) (has_no_frame state) none
 
     by_answer : (r : Result Kind Refusal) → (admitted key state.list).1 ≡ r → is_ok (admitted key state.list).1 ≡ true
     by_answer (Ok kind) is = ap is_ok is

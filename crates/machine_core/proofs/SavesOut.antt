@@ -23,11 +23,11 @@ use Rattle.machine_sides.specs.declared.saving_back.SaveFailure.{SaveFailure}
 use Rattle.machine_sides.specs.declared.saving_back.SaveFailure.TheVariants.{Mismatch, Device}
 use Rattle.machine_sides.specs.declared.saving_back.SaveOutcome.{SaveOutcome}
 use Rattle.machine_sides.specs.declared.saving_back.SaveOutcome.TheVariants.{Freed, HandedBack, WrongPage, ResidentAgain, NotRestored}
-use Rattle.machine_core.specs.Machine.{CoreValue, IsMachine, IsOut, total, jobs_where}
+use Rattle.machine_core.specs.Machine.{CoreValue, IsMachine, IsSaveOut, total, jobs_where}
 use Rattle.machine_sides.specs.Returning.{DoesNotList}
 use Rattle.machine_sides.specs.SavingBack.{EndsSave, Settles, LeavesAgain, FailsAndReturns, FailsAndLeaves}
 use Rattle.machine_sides.specs.SavingLaws.{SaveEnds, freed_ends, returned_ends, left_ends}
-use Rattle.machine_core.specs.SavingOut.{saved_refusal, is_of_page, MakesSave, EndsWith, SavesOnce, SavedAt, IsOwn, RepliesTo}
+use Rattle.machine_core.specs.SavingOut.{saved_refusal, is_save_of, MakesSave, EndsSaving, SavesOnce, SavedAt, IsOwn, RepliesTo}
 use Rattle.machine_sides.specs.Sides.{PagerSideValue, ProcessSideValue}
 use Rattle.machine_sides.specs.Together.{savings_in, key_of}
 use Rattle.swap_slots.specs.PoolValue.{PoolValue}
@@ -45,11 +45,11 @@ module _ {S : Type 0} where
 
   module _ (held : S → List ℕ) (honest : Type 0) (failures : S → ℕ) (core : CoreValue S) (key : Key) (q : ProcessSideValue S) (jobs' : List (JobValue S)) (saved : SavedValue S)
       (machine : IsMachine core) (found : slice_get core.processes key.process ≡ Some q) (makes : MakesSave held honest failures key core.jobs jobs' saved) where
-    outs : All (IsOut core.processes) (makes.job ∷ jobs')
-    outs = All-permutation (IsOut core.processes) core.jobs (makes.job ∷ jobs') makes.taken machine.out
+    outs : All (IsSaveOut core.processes) (makes.job ∷ jobs')
+    outs = All-permutation (IsSaveOut core.processes) core.jobs (makes.job ∷ jobs') makes.taken machine.out
 
-    out : IsOut core.processes makes.job
-    out = All-head (IsOut core.processes) makes.job jobs' outs
+    out : IsSaveOut core.processes makes.job
+    out = All-head (IsSaveOut core.processes) makes.job jobs' outs
 
     here : out.process ≡ q
     here = let a = out.found in let b = found in let c = makes.job_process in cc
@@ -104,7 +104,7 @@ module _ {S : Type 0} where
     own (ResidentAgain failure) pager' q' ends = device_failed failure ends.between ends.settles
     own (NotRestored failure why) pager' q' ends = (device_failed failure q' ends.settles, only_memory why pager' ends.unlisted)
 
-    pub ends_with : {L : Type 0} (outcome : SaveOutcome L S) (pager' : PagerSideValue) (q' : ProcessSideValue S) (answer : Reply) → EndsSave saved core.pager pager' q q' outcome → RepliesTo outcome answer → EndsWith saved core.pager pager' q q' answer
+    pub ends_with : {L : Type 0} (outcome : SaveOutcome L S) (pager' : PagerSideValue) (q' : ProcessSideValue S) (answer : Reply) → EndsSave saved core.pager pager' q q' outcome → RepliesTo outcome answer → EndsSaving saved core.pager pager' q q' answer
     ends_with Freed pager' q' answer ends told = inl (ends, told)
     ends_with (HandedBack frame) pager' q' answer ends told = absurd told
     ends_with (WrongPage back) pager' q' answer ends told = absurd told
@@ -112,7 +112,7 @@ module _ {S : Type 0} where
     ends_with (NotRestored failure why) pager' q' answer ends told =
         inr (inr (subst (λ w. FailsAndLeaves saved core.pager pager' q q' Device w) (only_memory why pager' ends.unlisted) (subst (λ f. FailsAndLeaves saved core.pager pager' q q' f why) (device_failed failure q' ends.settles) ends), told))
 
-    ended : (pager' : PagerSideValue) (q' : ProcessSideValue S) (answer : Reply) → EndsWith saved core.pager pager' q q' answer → SaveEnds saved.vpn core.pager.pager pager'.pager q.space q'.space
+    ended : (pager' : PagerSideValue) (q' : ProcessSideValue S) (answer : Reply) → EndsSaving saved core.pager pager' q q' answer → SaveEnds saved.vpn core.pager.pager pager'.pager q.space q'.space
     ended pager' q' answer ends =
         elim ends [
           | inl freed ↦ freed_ends saved core.pager pager' q q' freed.0
@@ -180,7 +180,7 @@ module _ {S : Type 0} where
               let one = total_some (λ (r : ProcessSideValue S). savings_in r.space (is_key key)) now (omega (arith, is, saved_now)) in
               absurd (none_saving one.place one.item one.found one.some)
 
-      out_still : (job : JobValue S) → is_of_page key job ≡ false → IsOut core.processes job → IsOut now job
+      out_still : (job : JobValue S) → is_save_of key job ≡ false → IsSaveOut core.processes job → IsSaveOut now job
       out_still job apart_of out_job =
           elim (eqb_tells job.process key.process) [
             | inl same ↦
@@ -208,17 +208,17 @@ module _ {S : Type 0} where
             }
           ]
 
-      outs_still : (jobs : List (JobValue S)) → jobs_where (is_key key) jobs ≡ 0 → All (IsOut core.processes) jobs → All (IsOut now) jobs
+      outs_still : (jobs : List (JobValue S)) → jobs_where (is_key key) jobs ≡ 0 → All (IsSaveOut core.processes) jobs → All (IsSaveOut now) jobs
       unfolding jobs_where total
       outs_still [] none all = All-nil _
       outs_still (job ∷ jobs) none all =
-          All-cons (IsOut now) job jobs
-          (out_still job (apart (is_of_page key job) refl) (All-head (IsOut core.processes) job jobs all))
-          (outs_still jobs (omega (arith, none)) (All-tail (IsOut core.processes) job jobs all))
+          All-cons (IsSaveOut now) job jobs
+          (out_still job (apart (is_save_of key job) refl) (All-head (IsSaveOut core.processes) job jobs all))
+          (outs_still jobs (omega (arith, none)) (All-tail (IsSaveOut core.processes) job jobs all))
         where
-          apart : (b : Bool) → is_of_page key job ≡ b → is_of_page key job ≡ false
+          apart : (b : Bool) → is_save_of key job ≡ b → is_save_of key job ≡ false
           apart false is = is
-          apart true is = let one : cond {A = ℕ} (is_of_page key job) 1 0 ≡ 1 = ap (λ t. cond {A = ℕ} t 1 0) is in absurd (omega (arith, one, none))
+          apart true is = let one : cond {A = ℕ} (is_save_of key job) 1 0 ≡ 1 = ap (λ t. cond {A = ℕ} t 1 0) is in absurd (omega (arith, one, none))
 
       pub saved_machine : IsMachine (record core { pager = pager'; processes = now; jobs = jobs' })
       saved_machine =
@@ -234,7 +234,7 @@ module _ {S : Type 0} where
                 let slots = ends.slots in
                 omega (arith, long, slots);
             slots = refl;
-            out = outs_still jobs' none_left (All-tail (IsOut core.processes) makes.job jobs' outs);
+            out = outs_still jobs' none_left (All-tail (IsSaveOut core.processes) makes.job jobs' outs);
           })
 
   -- the processes that were lent as a slice, to one of which a save comes back
@@ -259,7 +259,7 @@ module _ {S : Type 0} where
     is_own = own held honest failures core key at.process jobs' saved machine found_lent makes outcome pager' at.process' at.ends
 
     module _ (answer : Reply) (told : RepliesTo outcome answer) where
-      ends_told : EndsWith saved pager pager' at.process at.process' answer
+      ends_told : EndsSaving saved pager pager' at.process at.process' answer
       ends_told = ends_with held honest failures core key at.process jobs' saved machine found_lent makes outcome pager' at.process' answer at.ends told
 
       counts : SaveEnds saved.vpn pager.pager pager'.pager at.process.space at.process'.space

@@ -4,7 +4,7 @@ use Rattle.std.specs.Prelude.{if◌then◌else◌}
 use borrow.Author.Tests.{eqb-true, ltb-true}
 use Rattle.clock_policy.specs.declared.key.Key.{Key}
 use Rattle.clock_policy.specs.Residents.{is_key}
-use Rattle.page_store.specs.PageValue.{PageValue, Place, Fresh, Resident, Leaving, Saving, Away, Purged, state_of}
+use Rattle.page_store.specs.PageValue.{PageValue, Place, Fresh, Resident, Leaving, Saving, Away, Purged, page_state_of}
 use Rattle.paged_memory.specs.Counting.{is_saving_place}
 use Rattle.paged_memory.specs.Paged.{page_at}
 use Rattle.space_core.specs.StandsFor.{SpaceValue}
@@ -12,7 +12,7 @@ use Rattle.machine_core.specs.declared.error.EventRefusal.TheVariants as refusal
 use Rattle.machine_core.specs.Machine.{CoreValue, IsMachine}
 use Rattle.machine_core.specs.MachineRun.{of_process}
 use Rattle.machine_sides.specs.SavingBack.{is_saving, is_saving_stage}
-use Rattle.machine_core.specs.SavingOut.{saving_reason, saved_refusal, is_of_page}
+use Rattle.machine_core.specs.SavingOut.{saving_reason, saved_refusal, is_save_of}
 use Rattle.machine_sides.specs.Sides.{ProcessSideValue}
 use Rattle.machine_sides.specs.Together.{savings_in, key_of}
 use Rattle.machine_core.proofs.Counted.{one_fewer_where}
@@ -27,7 +27,7 @@ module _ {S : Type 0} where
     pub at : page_at space.memory.pages vpn ≡ Some page
     pub saving : is_saving_place page.place ≡ true
 
-  saving_place : (place : Place S) → is_saving_stage (Some (state_of place)) ≡ true → is_saving_place place ≡ true
+  saving_place : (place : Place S) → is_saving_stage (Some (page_state_of place)) ≡ true → is_saving_place place ≡ true
   saving_place Fresh h = cc
   saving_place (Resident frame slot) h = cc
   saving_place (Leaving frame slot mark) h = cc
@@ -38,11 +38,11 @@ module _ {S : Type 0} where
   pub saving_at : (space : SpaceValue S) (vpn : ℕ) → is_saving space vpn ≡ true → IsSavingAt space vpn
   saving_at space vpn h = by_test (nat_lt vpn (2 ^ 20)) refl h
     where
-      by_page : (o : Option (PageValue S)) → vpn < 2 ^ 20 → page_at space.memory.pages vpn ≡ o → is_saving_stage (option_map (λ (page : PageValue S). state_of page.place) o) ≡ true → IsSavingAt space vpn
+      by_page : (o : Option (PageValue S)) → vpn < 2 ^ 20 → page_at space.memory.pages vpn ≡ o → is_saving_stage (option_map (λ (page : PageValue S). page_state_of page.place) o) ≡ true → IsSavingAt space vpn
       by_page None small at is = cc
       by_page (Some page) small at is = record { small = small; page = page; at = at; saving = saving_place page.place is }
 
-      by_test : (b : Bool) → nat_lt vpn (2 ^ 20) ≡ b → is_saving_stage (if b then option_map (λ (page : PageValue S). state_of page.place) (page_at space.memory.pages vpn) else None) ≡ true → IsSavingAt space vpn
+      by_test : (b : Bool) → nat_lt vpn (2 ^ 20) ≡ b → is_saving_stage (if b then option_map (λ (page : PageValue S). page_state_of page.place) (page_at space.memory.pages vpn) else None) ≡ true → IsSavingAt space vpn
       by_test true small is = by_page (page_at space.memory.pages vpn) (ltb-true vpn (2 ^ 20) small) refl is
       by_test false large is = cc
 
@@ -72,7 +72,7 @@ module _ {S : Type 0} where
       omega (arith, one)
 
   -- the save of a page that is being saved is out
-  pub is_out : (core : CoreValue S) (key : Key) → IsMachine core → saved_refusal key core.processes ≡ None → position (is_of_page key) core.jobs ≡ None → ⊥
+  pub is_out : (core : CoreValue S) (key : Key) → IsMachine core → saved_refusal key core.processes ≡ None → position (is_save_of key) core.jobs ≡ None → ⊥
   is_out core key machine allowed none =
       let page = not_refused core.processes key allowed in
       let one = counted_at page.process key (machine.numbered key.process page.process page.found) page.saving in

@@ -10,23 +10,23 @@ use Rattle.machine_core.specs.SavingOut.{saved_refusal, SavesOnce}
 use Rattle.machine_core.specs.Faithful.{IsFaithful}
 use Rattle.machine_core.specs.Machine.{CoreValue}
 use Rattle.machine_core.specs.PagingIn.{page_in_refusal, PagesInOnce}
-use Rattle.machine_core.specs.MachineRun.{hart_refusal, kill_refusal, sweep_refusal, Refuses, Steps, Notices, Kills, SweepsOnce}
+use Rattle.machine_core.specs.MachineRun.{hart_refusal, kill_refusal, sweep_refusal, RefusesEvent, Steps, Notices, Kills, SweepsOnce}
 
 module _ {S : Type 0} (held : S → List ℕ) (honest : Type 0) (failures : S → ℕ) where
   -- what an event does: it is refused for the first reason that holds, or it is served
-  abbrev pub Serves : Event → CoreValue S → CoreValue S → Reply → Type 0
-  Serves (Step process hart) old new reply = Refuses (hart_refusal process hart old.processes) old new reply ⊎ Steps held honest process hart old new reply
-  Serves (Notice process hart) old new reply = Refuses (hart_refusal process hart old.processes) old new reply ⊎ Notices process hart old new reply
-  Serves Sweep old new reply = Refuses (sweep_refusal (question_of old.pager.pager.list)) old new reply ⊎ SweepsOnce old new reply
-  Serves (Collect key) old new reply = Refuses (collect_refusal key old.processes) old new reply ⊎ CollectsOnce held honest key old new reply
-  Serves (Saved key) old new reply = Refuses (saved_refusal key old.processes) old new reply ⊎ SavesOnce held honest failures key old new reply
-  Serves (PageIn key) old new reply = Refuses (page_in_refusal key old) old new reply ⊎ PagesInOnce held honest failures key old new reply
-  Serves (Kill process cause) old new reply = Refuses (kill_refusal process old.processes) old new reply ⊎ Kills process cause old new reply
-  Serves (Purge process) old new reply = Refuses (purge_refusal process old.processes) old new reply ⊎ PurgesOnce process old new reply
+  abbrev pub ServesEvent : Event → CoreValue S → CoreValue S → Reply → Type 0
+  ServesEvent (Step process hart) old new reply = RefusesEvent (hart_refusal process hart old.processes) old new reply ⊎ Steps held honest process hart old new reply
+  ServesEvent (Notice process hart) old new reply = RefusesEvent (hart_refusal process hart old.processes) old new reply ⊎ Notices process hart old new reply
+  ServesEvent Sweep old new reply = RefusesEvent (sweep_refusal (question_of old.pager.pager.list)) old new reply ⊎ SweepsOnce old new reply
+  ServesEvent (Collect key) old new reply = RefusesEvent (collect_refusal key old.processes) old new reply ⊎ CollectsOnce held honest key old new reply
+  ServesEvent (Saved key) old new reply = RefusesEvent (saved_refusal key old.processes) old new reply ⊎ SavesOnce held honest failures key old new reply
+  ServesEvent (PageIn key) old new reply = RefusesEvent (page_in_refusal key old) old new reply ⊎ PagesInOnce held honest failures key old new reply
+  ServesEvent (Kill process cause) old new reply = RefusesEvent (kill_refusal process old.processes) old new reply ⊎ Kills process cause old new reply
+  ServesEvent (Purge process) old new reply = RefusesEvent (purge_refusal process old.processes) old new reply ⊎ PurgesOnce process old new reply
 
   -- an event and its reply, and the machine that it leaves, which is a faithful one
   pub record Applies (event : Event) (old new : CoreValue S) (reply : Reply) : Type 0 where
-    pub served : Serves event old new reply
+    pub served : ServesEvent event old new reply
     pub faithful : IsFaithful held honest new
 
   -- events one after another, each with its reply
@@ -37,7 +37,7 @@ module _ {S : Type 0} (held : S → List ℕ) (honest : Type 0) (failures : S �
   Runs (event ∷ events) (reply ∷ replies) old new = (between : CoreValue S) × (Applies event old between reply × Runs events replies between new)
 
   -- some events, whatever their replies, lead from one machine to the other
-  pub record Reaches (old new : CoreValue S) : Type 0 where
+  pub record LeadsTo (old new : CoreValue S) : Type 0 where
     pub events : List Event
     pub replies : List Reply
     pub runs : Runs events replies old new

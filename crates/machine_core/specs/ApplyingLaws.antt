@@ -3,7 +3,7 @@ use Rattle.std.proofs.Common.{◌≡◌, ℕ, ◌+◌, ◌<◌, List, [], ◌∷
 use Rattle.std.proofs.lemmas.List.{take_more}
 use Rattle.machine_core.specs.declared.event.Event.{Event}
 use Rattle.machine_core.specs.declared.event.Reply.{Reply}
-use Rattle.machine_core.specs.Applying.{Applies, Runs, Reaches}
+use Rattle.machine_core.specs.Applying.{Applies, Runs, LeadsTo}
 use Rattle.machine_core.specs.Machine.{CoreValue}
 
 module _ {S : Type 0} (held : S → List ℕ) (honest : Type 0) (failures : S → ℕ) where
@@ -66,12 +66,12 @@ module _ {S : Type 0} (held : S → List ℕ) (honest : Type 0) (failures : S �
       }
 
   -- a machine is reached from itself
-  pub reaches_same : (core : CoreValue S) → Reaches held honest failures core core
+  pub reaches_same : (core : CoreValue S) → LeadsTo held honest failures core core
   reaches_same core = record { events = []; replies = []; runs = runs_none core }
 
   -- one more event reaches
-  pub reaches_more : (old between new : CoreValue S) (event : Event) (reply : Reply) → Reaches held honest failures old between → Applies held honest failures event between new reply
-      → Reaches held honest failures old new
+  pub reaches_more : (old between new : CoreValue S) (event : Event) (reply : Reply) → LeadsTo held honest failures old between → Applies held honest failures event between new reply
+      → LeadsTo held honest failures old new
   reaches_more old between new event reply reached applies = record {
     events = reached.events ++ event ∷ [];
     replies = reached.replies ++ reply ∷ [];
@@ -79,7 +79,7 @@ module _ {S : Type 0} (held : S → List ℕ) (honest : Type 0) (failures : S �
   }
 
   -- what is reached from what is reached is reached
-  pub reaches_on : (old between new : CoreValue S) → Reaches held honest failures old between → Reaches held honest failures between new → Reaches held honest failures old new
+  pub reaches_on : (old between new : CoreValue S) → LeadsTo held honest failures old between → LeadsTo held honest failures between new → LeadsTo held honest failures old new
   reaches_on old between new first second = record {
     events = first.events ++ second.events;
     replies = first.replies ++ second.replies;
@@ -87,6 +87,6 @@ module _ {S : Type 0} (held : S → List ℕ) (honest : Type 0) (failures : S �
   }
 
   -- so is what a run leaves
-  pub reaches_run : (events : List Event) (replies : List Reply) (old between new : CoreValue S) → Reaches held honest failures old between → Runs held honest failures events replies between new
-      → Reaches held honest failures old new
+  pub reaches_run : (events : List Event) (replies : List Reply) (old between new : CoreValue S) → LeadsTo held honest failures old between → Runs held honest failures events replies between new
+      → LeadsTo held honest failures old new
   reaches_run events replies old between new reached run = reaches_on old between new reached (record { events = events; replies = replies; runs = run })

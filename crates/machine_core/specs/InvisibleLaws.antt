@@ -1,7 +1,7 @@
 -- Each event of a run leaves paging invisible, and so does the run.
 use Rattle.std.proofs.Common.{◌≡◌, ℕ, List, [], ◌∷◌, ◌++◌, Some, slice_get, inl, inr, refl, sym, ap, ◌∙◌, subst}
 use Rattle.flat_machine.specs.Schedule.{written_out}
-use Rattle.machine_core.specs.Applying.{Serves, Applies, Runs}
+use Rattle.machine_core.specs.Applying.{ServesEvent, Applies, Runs}
 use Rattle.machine_core.specs.Faithful.{EachStands, IsFaithful}
 use Rattle.machine_core.specs.Headline.{adds, order_of, Remains, ShowsFlatRun, ShowsRun, IsInvisible, AfterEach, PagingIsInvisible}
 use Rattle.machine_core.specs.Machine.{CoreValue}
@@ -21,7 +21,7 @@ use Rattle.machine_core.specs.EventOrderLaws.{page_in_tells, step_tells, notice_
 
 module _ {S : Type 0} where
   module _ (held : S → List ℕ) (honest : Type 0) (failures : S → ℕ) where
-    serves_tells : (event : Event) (old new : CoreValue S) (answer : Reply) → Serves held honest failures event old new answer → Tells event answer old new
+    serves_tells : (event : Event) (old new : CoreValue S) (answer : Reply) → ServesEvent held honest failures event old new answer → Tells event answer old new
     serves_tells (Step p hart) old new answer serves = elim serves [ inl refuses ↦ refused_tells _ _ old new answer refuses | inr steps ↦ step_tells held honest p hart old new answer steps ]
     serves_tells (Notice p hart) old new answer serves = elim serves [ inl refuses ↦ refused_tells _ _ old new answer refuses | inr notices ↦ notice_tells p hart old new answer notices ]
     serves_tells Sweep old new answer serves = elim serves [ inl refuses ↦ refused_tells _ _ old new answer refuses | inr sweeps ↦ sweep_tells old new answer sweeps ]

@@ -34,7 +34,7 @@ module _ {S : Type 0} where
   jobs_where test jobs = total (λ job. cond (test (key_of job.process job.vpn)) 1 0) jobs
 
   -- a save's page is being saved, in a frame that holds what was copied
-  pub record IsOut (processes : List (ProcessSideValue S)) (job : JobValue S) : Type 0 where
+  pub record IsSaveOut (processes : List (ProcessSideValue S)) (job : JobValue S) : Type 0 where
     pub process : ProcessSideValue S
     pub page : PageValue S
     pub frame : FrameValue
@@ -54,5 +54,5 @@ module _ {S : Type 0} where
     pub listed : (test : Key → Bool) → residents core.pager.pager.list test ≡ total (λ (process : ProcessSideValue S). residents_in process.space test) core.processes
     pub framed : (test : ℕ → Bool) → frames_where test core.pager.pager.free + total (λ (process : ProcessSideValue S). frames_in process.space test) core.processes ≡ numbers_below core.pager.pager.size test
     pub saved : (test : Key → Bool) → jobs_where test core.jobs ≡ total (λ (process : ProcessSideValue S). savings_in process.space test) core.processes
-    pub out : All (IsOut core.processes) core.jobs
+    pub out : All (IsSaveOut core.processes) core.jobs
     pub slotted : length core.slots.free + (total (λ (process : ProcessSideValue S). slots_of process.space.memory.pages) core.processes + length core.jobs) ≡ core.slots.size

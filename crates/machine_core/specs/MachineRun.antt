@@ -13,7 +13,7 @@ use Rattle.clock_policy.specs.Residents.{is_gone}
 use Rattle.machine_core.specs.Machine.{CoreValue}
 use Rattle.machine_sides.specs.ProcessCalls.{StepsOnce, TakesNotices, IsKilled}
 use Rattle.machine_sides.specs.Sides.{PagerSideValue, ProcessSideValue}
-use Rattle.machine_sides.specs.Sweeping.{Answers, Sweeps}
+use Rattle.machine_sides.specs.Sweeping.{AnswersQuestion, Sweeps}
 use Rattle.machine_core.specs.declared.error.EventRefusal.{EventRefusal}
 use Rattle.machine_core.specs.declared.error.EventRefusal.TheVariants as refusal
 use Rattle.machine_sides.specs.declared.sweeping.Swept.{Swept}
@@ -32,14 +32,14 @@ step_reply stop.NoHart = Refused refusal.NoHart
 step_reply stop.ScheduleFull = ScheduleFull
 step_reply stop.NoMemory = Refused refusal.NoMemory
 
-abbrev pub is_used : Bit → Bool
-is_used Zero = false
-is_used One = true
-is_used Gone = false
+abbrev pub used_bit : Bit → Bool
+used_bit Zero = false
+used_bit One = true
+used_bit Gone = false
 
 -- what a question's answer is replied with
 abbrev pub sweep_reply : Key → Bit → Verdict → Reply
-sweep_reply key bit GoOn = Asked key (is_used bit)
+sweep_reply key bit GoOn = Asked key (used_bit bit)
 sweep_reply key bit (verdict.Victim victim) = Victim key
 
 -- why a question is refused
@@ -50,7 +50,7 @@ sweep_refusal (Some key) = None
 -- what a sweep is replied with
 abbrev pub swept_reply : Swept → Reply
 swept_reply swept.NothingResident = Refused refusal.NothingResident
-swept_reply (swept.Asked key bit) = Asked key (is_used bit)
+swept_reply (swept.Asked key bit) = Asked key (used_bit bit)
 swept_reply (swept.Victim key) = Victim key
 
 module _ {S : Type 0} where
@@ -74,7 +74,7 @@ module _ {S : Type 0} where
   kill_refusal process processes = of_process end_reason (slice_get processes process)
 
   -- an event is refused, and nothing has changed
-  pub record Refuses (reason : Option EventRefusal) (old new : CoreValue S) (reply : Reply) : Type 0 where
+  pub record RefusesEvent (reason : Option EventRefusal) (old new : CoreValue S) (reply : Reply) : Type 0 where
     pub refusal : EventRefusal
     pub reason_is : reason ≡ Some refusal
     pub reply_is : reply ≡ Refused refusal
@@ -126,7 +126,7 @@ module _ {S : Type 0} where
     pub process : ProcessSideValue S
     pub process' : ProcessSideValue S
     pub found : slice_get old.processes key.process ≡ Some process
-    pub answers : Answers old.pager new.pager process process' key bit verdict
+    pub answers : AnswersQuestion old.pager new.pager process process' key bit verdict
     pub there : is_gone bit ≡ false
     pub processes : new.processes ≡ slice_set old.processes key.process process'
     pub stays : new ≡ record old { pager = new.pager; processes = new.processes }

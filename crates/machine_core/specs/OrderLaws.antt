@@ -8,7 +8,7 @@ use Rattle.flat_machine.specs.Schedule.{written_out}
 use Rattle.machine_core.specs.TotalLaws.{get_set_same, get_set_other}
 use Rattle.machine_core.specs.Headline.{adds, GoesOn, Remains, IsNamed}
 use Rattle.machine_core.specs.Machine.{CoreValue}
-use Rattle.machine_core.specs.MachineRun.{Refuses}
+use Rattle.machine_core.specs.MachineRun.{RefusesEvent}
 use Rattle.machine_sides.specs.Sides.{ProcessSideValue}
 use Rattle.machine_core.specs.declared.error.EventRefusal.{EventRefusal}
 use Rattle.machine_core.specs.declared.event.Event.{Event}
@@ -97,7 +97,7 @@ module _ {S : Type 0} where
     pub recorded : (number : ℕ) (process : ProcessSideValue S) → slice_get old.processes number ≡ Some process → Remains number (adds number event answer) new.processes process
     pub victim : (key : Key) → answer ≡ reply.Victim key → IsNamed old new key
 
-  pub refused_tells : (event : Event) (reason : Option EventRefusal) (old new : CoreValue S) (answer : Reply) → Refuses reason old new answer → Tells event answer old new
+  pub refused_tells : (event : Event) (reason : Option EventRefusal) (old new : CoreValue S) (answer : Reply) → RefusesEvent reason old new answer → Tells event answer old new
   refused_tells event reason old new answer refuses = record {
     recorded = λ number process at.
         subst (λ l. Remains number l new.processes process) (sym (ap (adds number event) refuses.reply_is ∙ refused_adds event number refuses.refusal))

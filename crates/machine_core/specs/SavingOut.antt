@@ -28,8 +28,8 @@ module _ {S : Type 0} where
   saved_refusal key processes = of_process (saving_reason key.vpn) (slice_get processes key.process)
 
   -- whether a save is of a page
-  abbrev pub is_of_page : Key → JobValue S → Bool
-  is_of_page key job = is_key key (key_of job.process job.vpn)
+  abbrev pub is_save_of : Key → JobValue S → Bool
+  is_save_of key job = is_key key (key_of job.process job.vpn)
 
   -- the save of a page is taken from those that are out, and made: its slot holds the copy where the device passed it and
   -- slots are honest, and where it was not passed the device failed
@@ -47,8 +47,8 @@ module _ {S : Type 0} where
 
   -- what a save that comes back is replied with: its page's frame is free, or the device failed and the page is resident
   -- again, or leaving, where memory is wanting to list it
-  abbrev pub EndsWith : SavedValue S → PagerSideValue → PagerSideValue → ProcessSideValue S → ProcessSideValue S → Reply → Type 0
-  EndsWith saved pager pager' process process' answer =
+  abbrev pub EndsSaving : SavedValue S → PagerSideValue → PagerSideValue → ProcessSideValue S → ProcessSideValue S → Reply → Type 0
+  EndsSaving saved pager pager' process process' answer =
       (IsFreed saved pager pager' process process' × (answer ≡ reply.Freed))
       ⊎ ((FailsAndReturns saved pager pager' process process' Device × (answer ≡ reply.Device))
       ⊎ (FailsAndLeaves saved pager pager' process process' Device list.NoMemory × (answer ≡ reply.Refused refusal.NoMemory)))
@@ -61,7 +61,7 @@ module _ {S : Type 0} where
     pub found : slice_get old.processes key.process ≡ Some process
     pub saved : SavedValue S
     pub makes : MakesSave held honest failures key old.jobs new.jobs saved
-    pub ends : EndsWith saved old.pager new.pager process process' answer
+    pub ends : EndsSaving saved old.pager new.pager process process' answer
     pub memory : honest → memory_of held process'.space.memory.pages ≡ memory_of held process.space.memory.pages
     pub processes : new.processes ≡ slice_set old.processes key.process process'
     pub stays : new ≡ record old { pager = new.pager; processes = new.processes; jobs = new.jobs }

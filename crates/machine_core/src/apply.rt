@@ -1,7 +1,7 @@
 //! Events, one at a time and one after another.
 
 ghost use Rattle.std.specs.Prelude.{◌≡◌};
-ghost use Rattle.machine_core.specs.Applying.{Serves, Applies};
+ghost use Rattle.machine_core.specs.Applying.{ServesEvent, Applies};
 ghost use Rattle.machine_core.specs.Faithful.{EachStands, IsFaithful};
 
 use crate::event::{Event, Reply};
@@ -39,7 +39,7 @@ impl<L: Ledger, S: SwapSlot, C: Clock> Core<L, S, C> {
     }
 
     fn serve(&mut self, event: Event) -> Reply
-        ensures { Serves S.content S.honest S.failures event self.old self.new result }
+        ensures { ServesEvent S.content S.honest S.failures event self.old self.new result }
     {
         match event {
             Event::Step { process, hart } => self.step(process, hart),

@@ -2,7 +2,7 @@
 
 ghost use Rattle.std.specs.Prelude.{◌≡◌, ◌⊎◌, ◌<◌, length, vec_len, vec_capacity};
 ghost use Rattle.machine_core.specs.CollectEvent.{collect_refusal, CollectsOnce, LooksAt, IsOwn, jobs_after, looked_reply};
-ghost use Rattle.machine_core.specs.MachineRun.{Refuses};
+ghost use Rattle.machine_core.specs.MachineRun.{RefusesEvent};
 
 use crate::error::EventRefusal;
 use crate::event::Reply;
@@ -16,7 +16,7 @@ use swap_slots::{SlotPool, SwapSlot};
 impl<L: Ledger, S: SwapSlot, C: Clock> Core<L, S, C> {
     /// A page that is to leave its frame is looked at: whether a cache holds it still, whether it is to be saved.
     pub(crate) fn collect(&mut self, key: Key) -> Reply
-        ensures { Refuses (collect_refusal key self.old.processes) self.old self.new result ⊎ CollectsOnce S.content S.honest key self.old self.new result }
+        ensures { RefusesEvent (collect_refusal key self.old.processes) self.old self.new result ⊎ CollectsOnce S.content S.honest key self.old self.new result }
     {
         let refusal = collect_refusal(self.processes.as_slice(), key);
         if let Some(refusal) = refusal {

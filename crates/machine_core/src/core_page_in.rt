@@ -1,7 +1,7 @@
 //! The event of a page that comes in.
 
 ghost use Rattle.std.specs.Prelude.{◌≡◌, ◌⊎◌, ◌<◌, ◌≤◌, length};
-ghost use Rattle.machine_core.specs.MachineRun.{Refuses};
+ghost use Rattle.machine_core.specs.MachineRun.{RefusesEvent};
 ghost use Rattle.machine_core.specs.PagingIn.{page_in_refusal, PagesInAt, PagesInOnce};
 
 use crate::error::EventRefusal;
@@ -16,7 +16,7 @@ use swap_slots::SwapSlot;
 impl<L: Ledger, S: SwapSlot, C: Clock> Core<L, S, C> {
     /// A page of a process is brought in.
     pub(crate) fn page_in(&mut self, key: Key) -> Reply
-        ensures { Refuses (page_in_refusal key self.old) self.old self.new result ⊎ PagesInOnce S.content S.honest S.failures key self.old self.new result }
+        ensures { RefusesEvent (page_in_refusal key self.old) self.old self.new result ⊎ PagesInOnce S.content S.honest S.failures key self.old self.new result }
     {
         if key.process as usize >= self.processes.len() {
             return Reply::Refused(EventRefusal::NoProcess);

@@ -1,7 +1,7 @@
 //! The event of a process that gives everything back.
 
 ghost use Rattle.std.specs.Prelude.{◌≡◌, ◌⊎◌, ◌<◌, length};
-ghost use Rattle.machine_core.specs.MachineRun.{Refuses};
+ghost use Rattle.machine_core.specs.MachineRun.{RefusesEvent};
 ghost use Rattle.machine_core.specs.PurgeEvent.{purge_reason, purge_refusal, PurgesAt, PurgesOnce, IsDone};
 
 use crate::error::EventRefusal;
@@ -15,7 +15,7 @@ use swap_slots::{SlotPool, SwapSlot};
 impl<L: Ledger, S: SwapSlot, C: Clock> Core<L, S, C> {
     /// An ended process gives its frames and slots back.
     pub(crate) fn purge(&mut self, process: u32) -> Reply
-        ensures { Refuses (purge_refusal process self.old.processes) self.old self.new result ⊎ PurgesOnce process self.old self.new result }
+        ensures { RefusesEvent (purge_refusal process self.old.processes) self.old self.new result ⊎ PurgesOnce process self.old self.new result }
     {
         let refusal = purge_refusal(self.processes.as_slice(), process);
         if let Some(refusal) = refusal {

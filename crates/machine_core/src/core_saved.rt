@@ -1,8 +1,8 @@
 //! The event of a save that is made and comes back.
 
 ghost use Rattle.std.specs.Prelude.{◌≡◌, ◌⊎◌, ◌<◌, length, position, vec_capacity, IfSome, IfNone};
-ghost use Rattle.machine_core.specs.MachineRun.{Refuses};
-ghost use Rattle.machine_core.specs.SavingOut.{saved_refusal, is_of_page, MakesSave, SavesOnce, SavedAt, IsOwn, RepliesTo};
+ghost use Rattle.machine_core.specs.MachineRun.{RefusesEvent};
+ghost use Rattle.machine_core.specs.SavingOut.{saved_refusal, is_save_of, MakesSave, SavesOnce, SavedAt, IsOwn, RepliesTo};
 
 use crate::error::EventRefusal;
 use crate::event::Reply;
@@ -16,7 +16,7 @@ use swap_slots::SwapSlot;
 impl<L: Ledger, S: SwapSlot, C: Clock> Core<L, S, C> {
     /// A page's save is made and comes back.
     pub(crate) fn saved(&mut self, key: Key) -> Reply
-        ensures { Refuses (saved_refusal key self.old.processes) self.old self.new result ⊎ SavesOnce S.content S.honest S.failures key self.old self.new result }
+        ensures { RefusesEvent (saved_refusal key self.old.processes) self.old self.new result ⊎ SavesOnce S.content S.honest S.failures key self.old self.new result }
     {
         let refusal = saved_refusal(self.processes.as_slice(), key);
         if let Some(refusal) = refusal {
@@ -54,7 +54,7 @@ fn saved_refusal<L: Ledger, S: SwapSlot>(
 /// Takes the save of a page from those that are out, and makes it.
 fn make_save<S: SwapSlot>(jobs: &mut Vec<SaveJob<S>>, key: Key) -> Option<SavedJob<S>>
     ensures makes { IfSome result (MakesSave S.content S.honest S.failures key jobs.old.items jobs.new.items) }
-    ensures none { IfNone result (position (is_of_page key) jobs.old.items ≡ None) }
+    ensures none { IfNone result (position (is_save_of key) jobs.old.items ≡ None) }
     ensures capacity { vec_capacity jobs.new ≡ vec_capacity jobs.old }
 {
     let place = place_of(jobs.as_slice(), key)?;
@@ -63,14 +63,14 @@ fn make_save<S: SwapSlot>(jobs: &mut Vec<SaveJob<S>>, key: Key) -> Option<SavedJ
 
 /// Where the save of a page stands among those that are out.
 fn place_of<S: SwapSlot>(jobs: &[SaveJob<S>], key: Key) -> Option<usize>
-    ensures { result ≡ position (is_of_page key) jobs.now }
+    ensures { result ≡ position (is_save_of key) jobs.now }
 {
     jobs.iter().position(|job| is_of_page(job, key))
 }
 
 /// Whether a save is of a page.
 fn is_of_page<S: SwapSlot>(job: &SaveJob<S>, key: Key) -> bool
-    ensures { result ≡ is_of_page key job.now }
+    ensures { result ≡ is_save_of key job.now }
 {
     job.process() == key.process && job.vpn() == key.vpn
 }

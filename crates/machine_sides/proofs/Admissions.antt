@@ -7,7 +7,7 @@ use Rattle.frame_pool.specs.FrameValue.{FrameValue}
 use Rattle.pager_core.specs.declared.refusal.AdmitRefusal.{AdmitRefusal}
 use Rattle.pager_core.specs.declared.refusal.AdmitRefusal.TheVariants as pager
 use Rattle.pager_core.specs.Pager.{PagerState, admission_refused, admitted_with}
-use Rattle.pager_core.specs.Refusals.{Refuses}
+use Rattle.pager_core.specs.Refusals.{RefusesAdmission}
 use Rattle.space_core.specs.StandsFor.{SpaceValue}
 use Rattle.machine_sides.specs.Sides.{PagerSideValue}
 use Rattle.machine_sides.specs.declared.admission.NotAdmitted.{NotAdmitted}
@@ -19,7 +19,7 @@ page_told true absent reason h = let e : reason ≡ Ended = cc in ap (λ r. Some
 page_told false true reason h = cc
 page_told false false reason h = let e : reason ≡ NotAbsent = cc in ap (λ r. Some r) e ∙ sym (ap told_by e)
 
-as_told : (key : Key) (state : PagerState) (r : AdmitRefusal) → Refuses r key state → option_map pager_refusal (admission_refused key state) ≡ told_by (pager_refusal r)
+as_told : (key : Key) (state : PagerState) (r : AdmitRefusal) → RefusesAdmission r key state → option_map pager_refusal (admission_refused key state) ≡ told_by (pager_refusal r)
 as_told key state pager.AlreadyResident h = ap (option_map pager_refusal) h
 as_told key state pager.NoFrame h = ap (option_map pager_refusal) h
 as_told key state pager.NoMemory h = ap (option_map pager_refusal) h
@@ -32,7 +32,7 @@ module _ {S : Type 0} where
     stays = refl;
   }
 
-  pub refused : (key : Key) (old new : PagerSideValue) (space : SpaceValue S) (r : AdmitRefusal) (reason : NotAdmitted) → reason ≡ pager_refusal r → None ≡ page_bars space key.vpn → Refuses r key old.pager → new ≡ old → DoesNotAdmit key old new space reason
+  pub refused : (key : Key) (old new : PagerSideValue) (space : SpaceValue S) (r : AdmitRefusal) (reason : NotAdmitted) → reason ≡ pager_refusal r → None ≡ page_bars space key.vpn → RefusesAdmission r key old.pager → new ≡ old → DoesNotAdmit key old new space reason
   unfolding bars
   refused key old new space r reason is none h same = record {
     why = ap (λ o. bars_from o (admission_refused key old.pager)) (sym none) ∙ as_told key old.pager r h ∙ sym (ap told_by is);

@@ -15,7 +15,7 @@ use Rattle.paged_memory.specs.CountingLaws.{pages_changed}
 use Rattle.paged_memory.specs.GivingBack.{GivesOne, GivesNothing}
 use Rattle.paged_memory.specs.Paged.{page_at}
 use Rattle.space_core.specs.StandsFor.{SpaceValue}
-use Rattle.machine_sides.specs.Purging.{gives, place_given, page_given, IsGiven, IsLeft}
+use Rattle.machine_sides.specs.Purging.{has_to_give, place_given, page_given, IsGiven, IsLeft}
 
 module _ {S : Type 0} where
   -- a place that gives this back
@@ -93,7 +93,7 @@ module _ {S : Type 0} where
           let at = gives_at given one.pages.page.place one.pages.how.0 in
           let is : one.pages.page' ≡ page_given one.pages.page = one.pages.how.1 ∙ ap {B = PageValue S} (λ p. record one.pages.page { place = p }) (sym at.given_up) in
           inl (record {
-            had = ap gives found ∙ ap is_some one.pages.how.0;
+            had = ap has_to_give found ∙ ap is_some one.pages.how.0;
             page = one.pages.changes.pages number ∙ ap (λ b. if b then Some one.pages.page' else page_at old.memory.pages number) same.0 ∙ ap {B = Option (PageValue S)} (λ p. Some p) is ∙ sym (ap (option_map page_given) found);
             entry = one.entries number small ∙ ap (λ b. if b then blank else entry_at old.memory.tables number) same.0;
           })
@@ -124,7 +124,7 @@ module _ {S : Type 0} where
   })
   then_given old mid new number (inl first) (inr second) = inl (record { had = first.had; page = second.page ∙ first.page; entry = second.entry ∙ first.entry })
   then_given old mid new number (inr first) (inl second) = inl (record {
-    had = ap gives (sym first.page) ∙ second.had;
+    had = ap has_to_give (sym first.page) ∙ second.had;
     page = second.page ∙ ap (option_map page_given) first.page;
     entry = second.entry;
   })
@@ -133,7 +133,7 @@ module _ {S : Type 0} where
   abbrev at_place : PageValue S → Place S → PageValue S
   at_place page place = record page { place = place }
 
-  stays_given : (o : Option (PageValue S)) → gives o ≡ false → option_map page_given o ≡ o
+  stays_given : (o : Option (PageValue S)) → has_to_give o ≡ false → option_map page_given o ≡ o
   stays_given None h = refl
   stays_given (Some page) h = by_place page.place h
     where
@@ -145,18 +145,18 @@ module _ {S : Type 0} where
       by_place (Away slot) h = cc
       by_place Purged h = refl
 
-  nothing_gives : (o : Option (PageValue S)) → GivesNothing o → gives o ≡ false
+  nothing_gives : (o : Option (PageValue S)) → GivesNothing o → has_to_give o ≡ false
   nothing_gives None h = refl
   nothing_gives (Some page) h = ap is_some h
 
   -- where a page that is as it was has nothing, it has given what it had
   pub given_page : (old new : SpaceValue S) (number : ℕ) → GivesNothing (page_at new.memory.pages number) → IsGiven old new number ⊎ IsLeft old new number → page_at new.memory.pages number ≡ option_map page_given (page_at old.memory.pages number)
   given_page old new number none (inl given) = given.page
-  given_page old new number none (inr left) = left.page ∙ sym (stays_given (page_at old.memory.pages number) (ap gives (sym left.page) ∙ nothing_gives (page_at new.memory.pages number) none))
+  given_page old new number none (inr left) = left.page ∙ sym (stays_given (page_at old.memory.pages number) (ap has_to_give (sym left.page) ∙ nothing_gives (page_at new.memory.pages number) none))
 
   pub given_entry : (old new : SpaceValue S) (number : ℕ) → GivesNothing (page_at new.memory.pages number) → IsGiven old new number ⊎ IsLeft old new number
-      → entry_at new.memory.tables number ≡ (if gives (page_at old.memory.pages number) then blank else entry_at old.memory.tables number)
+      → entry_at new.memory.tables number ≡ (if has_to_give (page_at old.memory.pages number) then blank else entry_at old.memory.tables number)
   given_entry old new number none (inl given) = given.entry ∙ sym (ap (λ b. if b then blank else entry_at old.memory.tables number) given.had)
   given_entry old new number none (inr left) =
-      let nothing : gives (page_at old.memory.pages number) ≡ false = ap gives (sym left.page) ∙ nothing_gives (page_at new.memory.pages number) none in
+      let nothing : has_to_give (page_at old.memory.pages number) ≡ false = ap has_to_give (sym left.page) ∙ nothing_gives (page_at new.memory.pages number) none in
       left.entry ∙ sym (ap (λ b. if b then blank else entry_at old.memory.tables number) nothing)

@@ -9,7 +9,7 @@ use Rattle.page_store.specs.declared.state.Keeping.{Keeping}
 use Rattle.page_store.specs.declared.state.Keeping.TheVariants.{NoSlot, Unsaved, Saved}
 use Rattle.page_store.specs.Kept.{kept}
 use Rattle.page_store.specs.Moves.{CollectedPage, collected, collect_leaving, let_go, with_spare, job_of}
-use Rattle.page_store.specs.PageValue.{PageValue, Place, Fresh, Resident, Leaving, Saving, Away, Purged, state_of, is_unsaved}
+use Rattle.page_store.specs.PageValue.{PageValue, Place, Fresh, Resident, Leaving, Saving, Away, Purged, page_state_of, is_unsaved}
 use Rattle.paged_memory.specs.Leaving.{CollectsAt, lets_go}
 use Rattle.paged_memory.specs.Paged.{page_at, ChangesPage}
 use Rattle.paged_memory.specs.Soundness.{is_held}
@@ -19,10 +19,10 @@ use Rattle.machine_sides.specs.Collecting.{is_leaving_stage, is_leaving, counts_
 use Rattle.machine_sides.specs.Sides.{ProcessSideValue}
 
 module _ {S : Type 0} where
-  pub leaving_at : (space : SpaceValue S) (vpn : ℕ) (o : Option (PageValue S)) → vpn < 2 ^ 20 → page_at space.memory.pages vpn ≡ o → is_leaving space vpn ≡ is_leaving_stage (option_map (λ page. state_of page.place) o)
+  pub leaving_at : (space : SpaceValue S) (vpn : ℕ) (o : Option (PageValue S)) → vpn < 2 ^ 20 → page_at space.memory.pages vpn ≡ o → is_leaving space vpn ≡ is_leaving_stage (option_map (λ page. page_state_of page.place) o)
   leaving_at space vpn o small at =
-      ap (λ b. is_leaving_stage (if b then option_map (λ page. state_of page.place) (page_at space.memory.pages vpn) else None)) (lt-ltb vpn (2 ^ 20) small)
-      ∙ ap (λ o. is_leaving_stage (option_map (λ page. state_of page.place) o)) at
+      ap (λ b. is_leaving_stage (if b then option_map (λ page. page_state_of page.place) (page_at space.memory.pages vpn) else None)) (lt-ltb vpn (2 ^ 20) small)
+      ∙ ap (λ o. is_leaving_stage (option_map (λ page. page_state_of page.place) o)) at
 
   -- a page that is leaving, held by no cache, that counts as changed and has no slot
   pub record IsSlotless (vpn : ℕ) (space : SpaceValue S) : Type 0 where
@@ -53,8 +53,8 @@ module _ (L S : Type 0) (vpn : ℕ) (old new : ProcessSideValue S) (slots slots'
     moved : (place : Place S) → page'.place ≡ place → page' ≡ record page { place = place }
     moved place at = ap (λ o. record { origin = o; place = page'.place }) origin ∙ ap (λ p. record { origin = page.origin; place = p }) at
 
-    not_leaving : (place : Place S) → page.place ≡ place → is_leaving_stage (Some (state_of place)) ≡ false → is_leaving old.space vpn ≡ false
-    not_leaving place at apart = leaving_at old.space vpn (Some page) small found ∙ ap (λ p. is_leaving_stage (Some (state_of p))) at ∙ apart
+    not_leaving : (place : Place S) → page.place ≡ place → is_leaving_stage (Some (page_state_of place)) ≡ false → is_leaving old.space vpn ≡ false
+    not_leaving place at apart = leaving_at old.space vpn (Some page) small found ∙ ap (λ p. is_leaving_stage (Some (page_state_of p))) at ∙ apart
 
     leaving : (frame : FrameValue) (slot : Keeping S) (mark : Bool) → page.place ≡ Leaving frame slot mark → IsLeaving vpn old.space
     leaving frame slot mark at = record { small = small; page = page; frame = frame; slot = slot; mark = mark; found = found; leaving = at }

@@ -13,7 +13,7 @@ use Rattle.space_core.specs.Caches.{if_ended, emptied}
 use Rattle.space_core.specs.StandsFor.{SpaceValue}
 use Rattle.machine_sides.specs.Together.{frames_where, frames_in}
 use Rattle.machine_sides.specs.PurgeLaws.{frames_where-append}
-use Rattle.machine_sides.specs.Purging.{as_list, Frees, Pools, GivesSome, StopsGiving, GivesToPools}
+use Rattle.machine_sides.specs.Purging.{as_list, FreesAnyFrame, Pools, GivesSome, StopsGiving, GivesToPools}
 use Rattle.machine_sides.proofs.GivenPages.{given_frames, given_slots, one_given, then_given, given_page, given_entry}
 
 frames_where-as_list : (test : ℕ → Bool) (o : Option FrameValue) → frames_where test (as_list o) ≡ cond (frame_passes test o) 1 0
@@ -31,7 +31,7 @@ record FreesMore (pager pager' : PagerState) (frames : List FrameValue) (given f
   pub is : pager' ≡ record pager { free = pager.free ++ more }
   pub counts : (test : ℕ → Bool) → frames_where test more + cond (frame_passes test frame) 1 0 ≡ frames_where test frames + cond (frame_passes test given) 1 0
 
-frees_more : (pager between pager' : PagerState) (frames : List FrameValue) (given frame : Option FrameValue) → between ≡ record pager { free = pager.free ++ frames } → Frees given frame between pager' → FreesMore pager pager' frames given frame
+frees_more : (pager between pager' : PagerState) (frames : List FrameValue) (given frame : Option FrameValue) → between ≡ record pager { free = pager.free ++ frames } → FreesAnyFrame given frame between pager' → FreesMore pager pager' frames given frame
 frees_more pager between pager' frames given None was frees = record {
   more = frames ++ as_list given;
   is = frees ∙ ap (λ (p : PagerState). record p { free = p.free ++ as_list given }) was ∙ ap (λ l. record pager { free = l }) (append_assoc pager.free frames (as_list given));
@@ -47,7 +47,7 @@ pub emptied_twice : (caches : List (List Translation)) → map {B = List Transla
 emptied_twice [] = refl
 emptied_twice (cache ∷ caches) = ap (λ l. [] ∷ l) (emptied_twice caches)
 
-frame_stays : (given frame : Option FrameValue) (old new : PagerState) → Frees given frame old new → is_some frame ≡ true → length new.free ≡ new.size
+frame_stays : (given frame : Option FrameValue) (old new : PagerState) → FreesAnyFrame given frame old new → is_some frame ≡ true → length new.free ≡ new.size
 frame_stays given None old new frees h = cc
 frame_stays given (Some back) old new frees h = ap (λ (p : PagerState). length p.free) frees.1.1 ∙ frees.1.0 ∙ sym (ap (λ (p : PagerState). p.size) frees.1.1)
 
@@ -103,7 +103,7 @@ module _ {S : Type 0} where
   pub one_more_gave : (given : Option FrameValue × Option S) (frame : Option FrameValue) (slot : Option S) (pager between pager' : PagerState) (pool amid pool' : PoolValue S) (old mid new : SpaceValue S)
       → GivesSome None None pager between pool amid old mid
       → GivesOne given mid.memory.pages new.memory.pages mid.memory.tables new.memory.tables → new ≡ record mid { memory = new.memory } → new.memory.process ≡ mid.memory.process
-      → Frees given.0 frame between pager' → Pools given.1 slot amid pool'
+      → FreesAnyFrame given.0 frame between pager' → Pools given.1 slot amid pool'
       → GivesSome frame slot pager pager' pool pool' old new
   unfolding frames_in
   one_more_gave given frame slot pager between pager' pool amid pool' old mid new gave one stays process frees pools =
@@ -174,7 +174,7 @@ module _ {S : Type 0} where
   pub stopped : (given : Option FrameValue × Option S) (frame : Option FrameValue) (slot : Option S) (pager between pager' : PagerState) (pool amid pool' : PoolValue S) (old mid new : SpaceValue S)
       → GivesSome None None pager between pool amid old mid
       → GivesOne given mid.memory.pages new.memory.pages mid.memory.tables new.memory.tables → new ≡ record mid { memory = new.memory } → new.memory.process ≡ mid.memory.process
-      → Frees given.0 frame between pager' → Pools given.1 slot amid pool'
+      → FreesAnyFrame given.0 frame between pager' → Pools given.1 slot amid pool'
       → new.memory.caches ≡ map {B = List Translation} (λ _. []) old.memory.caches → is_some frame || is_some slot ≡ true
       → StopsGiving frame slot pager pager' pool pool' old new
   stopped given frame slot pager between pager' pool amid pool' old mid new gave one stays process frees pools caches some = record {
@@ -194,8 +194,8 @@ module _ {S : Type 0} where
   pub went_on : (given : Option FrameValue × Option S) (frame : Option FrameValue) (slot : Option S) (pager between pager' : PagerState) (pool amid pool' : PoolValue S) (old mid new : SpaceValue S)
       → GivesSome None None pager between pool amid old mid
       → GivesOne given mid.memory.pages new.memory.pages mid.memory.tables new.memory.tables → new ≡ record mid { memory = new.memory } → new.memory.process ≡ mid.memory.process
-      → Frees given.0 frame between pager' → Pools given.1 slot amid pool' → is_some frame ≡ false → is_some slot ≡ false
+      → FreesAnyFrame given.0 frame between pager' → Pools given.1 slot amid pool' → is_some frame ≡ false → is_some slot ≡ false
       → GivesSome None None pager pager' pool pool' old new
   went_on given frame slot pager between pager' pool amid pool' old mid new gave one stays process frees pools no_frame no_slot =
       one_more_gave given None None pager between pager' pool amid pool' old mid new gave one stays process
-      (subst (λ o. Frees given.0 o between pager') (is_none_of frame no_frame) frees) (subst (λ o. Pools given.1 o amid pool') (is_none_of slot no_slot) pools)
+      (subst (λ o. FreesAnyFrame given.0 o between pager') (is_none_of frame no_frame) frees) (subst (λ o. Pools given.1 o amid pool') (is_none_of slot no_slot) pools)

@@ -25,7 +25,7 @@ use Rattle.sv32_table.specs.EntryAt.{entry_at}
 use Rattle.space_core.specs.StandsFor.{SpaceValue}
 use Rattle.pager_core.specs.Pager.{pager_answered}
 use Rattle.machine_sides.specs.Sides.{PagerSideValue, ProcessSideValue}
-use Rattle.machine_sides.specs.Sweeping.{bit_of, bit_at, ReadsBit, Evicts, Answers}
+use Rattle.machine_sides.specs.Sweeping.{bit_of, bit_at, ReadsBit, Evicts, AnswersQuestion}
 
 -- a page that is gone is no victim
 kind_gone : (kind : EntryKind) (x : Entry) (s : ClockState) (k : Key) → (kind_answered kind Gone x s).1 ≡ Ok (Victim k) → ⊥
@@ -95,7 +95,7 @@ module _ {S : Type 0} where
   pub victim_answers : (pager pager' : PagerSideValue) (process process' : ProcessSideValue S) (between : SpaceValue S) (key k : Key) (bit : Bit)
       → question_of pager.pager.list ≡ Some key → (answered bit pager.pager.list).1 ≡ Ok (Victim k) → pager' ≡ record pager { pager = pager_answered bit pager.pager }
       → bit ≡ bit_at process.space key.vpn → ReadsBit bit key.vpn process.space between → Evicts key.vpn between process'.space → process'.purged ≡ process.purged
-      → Answers pager pager' process process' key bit (Victim key)
+      → AnswersQuestion pager pager' process process' key bit (Victim key)
   victim_answers pager pager' process process' between key k bit asks told moved is read evicts purged =
       let same : k ≡ key = let e = victim_asked bit pager.pager.list k told in cc in
       record {

@@ -6,7 +6,7 @@ use Rattle.clock_policy.specs.Lawful.{Lawful}
 use Rattle.frame_pool.specs.FrameValue.{FrameValue}
 use Rattle.page_store.specs.declared.state.PageState.{PageState}
 use Rattle.page_store.specs.declared.state.PageState.TheVariants as stage
-use Rattle.page_store.specs.PageValue.{state_of}
+use Rattle.page_store.specs.PageValue.{page_state_of}
 use Rattle.paged_memory.specs.Paged.{page_at}
 use Rattle.pager_core.specs.declared.refusal.AdmitRefusal.{AdmitRefusal}
 use Rattle.pager_core.specs.declared.refusal.AdmitRefusal.TheVariants as pager
@@ -61,7 +61,7 @@ told_by NoMemory = None
 module _ {S : Type 0} where
   -- where the page of a number is, whatever the number
   abbrev pub stage_at : SpaceValue S → ℕ → Option PageState
-  stage_at space vpn = if nat_lt vpn (2 ^ 20) then option_map (λ page. state_of page.place) (page_at space.memory.pages vpn) else None
+  stage_at space vpn = if nat_lt vpn (2 ^ 20) then option_map (λ page. page_state_of page.place) (page_at space.memory.pages vpn) else None
 
   abbrev pub is_absent : SpaceValue S → ℕ → Bool
   is_absent space vpn = is_absent_stage (stage_at space vpn)

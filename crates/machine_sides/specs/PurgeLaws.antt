@@ -7,7 +7,7 @@ use Rattle.clock_policy.specs.declared.entry.Entry.{Entry}
 use Rattle.clock_policy.specs.declared.key.Key.{Key}
 use Rattle.clock_policy.specs.AdmitLaws.{purged_residents}
 use Rattle.clock_policy.specs.ClockPro.{ClockState, number, purged}
-use Rattle.clock_policy.specs.Residents.{in_frame, is_resident, residents}
+use Rattle.clock_policy.specs.Residents.{in_frame, is_resident_that, residents}
 use Rattle.flat_machine.specs.declared.end.End.{End}
 use Rattle.frame_pool.specs.FrameValue.{FrameValue}
 use Rattle.page_store.specs.Moves.{IfSaving}
@@ -37,7 +37,7 @@ parted_one true false true = refl
 parted_one true false false = refl
 parted_one false mine passes = refl
 
-parted_entries : (mine test : Key → Bool) (l : List Entry) → number (is_resident test) l ≡ number (is_resident (λ q. not (mine q) && test q)) l + number (is_resident (λ q. mine q && test q)) l
+parted_entries : (mine test : Key → Bool) (l : List Entry) → number (is_resident_that test) l ≡ number (is_resident_that (λ q. not (mine q) && test q)) l + number (is_resident_that (λ q. mine q && test q)) l
 parted_entries mine test [] = refl
 parted_entries mine test (e ∷ l) = omega (arith, parted_one (in_frame e.kind) (mine e.key) (test e.key), parted_entries mine test l)
 
@@ -51,7 +51,7 @@ neither_one true true passes = refl
 neither_one true false passes = refl
 neither_one false mine passes = refl
 
-neither_entry : (mine test : Key → Bool) (l : List Entry) → number (is_resident (λ q. not (mine q) && (mine q && test q))) l ≡ 0
+neither_entry : (mine test : Key → Bool) (l : List Entry) → number (is_resident_that (λ q. not (mine q) && (mine q && test q))) l ≡ 0
 neither_entry mine test [] = refl
 neither_entry mine test (e ∷ l) = omega (arith, neither_one (in_frame e.kind) (mine e.key) (test e.key), neither_entry mine test l)
 

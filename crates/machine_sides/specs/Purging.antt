@@ -24,9 +24,9 @@ as_list None = []
 as_list (Some a) = a ∷ []
 
 -- a frame comes free, if there is one, or is handed back where all of the pager's are free
-abbrev pub Frees : Option FrameValue → Option FrameValue → PagerState → PagerState → Type 0
-Frees frame None old new = new ≡ record old { free = old.free ++ as_list frame }
-Frees frame (Some back) old new = (frame ≡ Some back) × ((length old.free ≡ old.size) × (new ≡ old))
+abbrev pub FreesAnyFrame : Option FrameValue → Option FrameValue → PagerState → PagerState → Type 0
+FreesAnyFrame frame None old new = new ≡ record old { free = old.free ++ as_list frame }
+FreesAnyFrame frame (Some back) old new = (frame ≡ Some back) × ((length old.free ≡ old.size) × (new ≡ old))
 
 module _ {S : Type 0} where
   -- the same of a slot and its pool
@@ -46,9 +46,9 @@ module _ {S : Type 0} where
       else Some NotEnded
 
   -- whether a page has a frame or a slot to give back
-  abbrev pub gives : Option (PageValue S) → Bool
-  gives None = false
-  gives (Some page) = is_some (given_back page.place)
+  abbrev pub has_to_give : Option (PageValue S) → Bool
+  has_to_give None = false
+  has_to_give (Some page) = is_some (given_back page.place)
 
   -- a page that has is given up for good, and any other stays where it is
   abbrev pub place_given : Place S → Place S
@@ -64,7 +64,7 @@ module _ {S : Type 0} where
 
   -- a page gave back what it had, and is unmapped
   pub record IsGiven (old new : SpaceValue S) (number : ℕ) : Type 0 where
-    pub had : gives (page_at old.memory.pages number) ≡ true
+    pub had : has_to_give (page_at old.memory.pages number) ≡ true
     pub page : page_at new.memory.pages number ≡ option_map page_given (page_at old.memory.pages number)
     pub entry : entry_at new.memory.tables number ≡ blank
 
@@ -91,7 +91,7 @@ module _ {S : Type 0} where
     pub stays : new ≡ record old { memory = new.memory }
     pub process : new.memory.process ≡ old.memory.process
     pub pages : (number : ℕ) → number < 2 ^ 20 → page_at new.memory.pages number ≡ option_map page_given (page_at old.memory.pages number)
-    pub entries : (number : ℕ) → number < 2 ^ 20 → entry_at new.memory.tables number ≡ (if gives (page_at old.memory.pages number) then blank else entry_at old.memory.tables number)
+    pub entries : (number : ℕ) → number < 2 ^ 20 → entry_at new.memory.tables number ≡ (if has_to_give (page_at old.memory.pages number) then blank else entry_at old.memory.tables number)
     pub caches : new.memory.caches ≡ map (λ _. []) old.memory.caches
 
   -- a frame or a slot was handed back: the frame since all of the pager's are free, the slot since all of its pool's are there
@@ -113,9 +113,9 @@ module _ {S : Type 0} where
     pub space : GivesAll old new
 
   -- all pages are asked for what they have
-  abbrev pub GivesBack : Option (Option FrameValue × Option S) → PagerState → PagerState → PoolValue S → PoolValue S → SpaceValue S → SpaceValue S → Type 0
-  GivesBack None pager pager' pool pool' old new = GivesToPools pager pager' pool pool' old new
-  GivesBack (Some left) pager pager' pool pool' old new = StopsGiving left.0 left.1 pager pager' pool pool' old new
+  abbrev pub GivesAllBack : Option (Option FrameValue × Option S) → PagerState → PagerState → PoolValue S → PoolValue S → SpaceValue S → SpaceValue S → Type 0
+  GivesAllBack None pager pager' pool pool' old new = GivesToPools pager pager' pool pool' old new
+  GivesAllBack (Some left) pager pager' pool pool' old new = StopsGiving left.0 left.1 pager pager' pool pool' old new
 
   -- the process has given everything back, and the list has none of its pages
   pub record PurgesAll (pager pager' : PagerSideValue) (process process' : ProcessSideValue S) (pool pool' : PoolValue S) : Type 0 where

@@ -13,7 +13,7 @@ use Rattle.clock_policy.specs.ResidentLaws.{answered_residents}
 use Rattle.pager_core.specs.Pager.{PagerState, pager_answered}
 use Rattle.space_core.specs.StandsFor.{SpaceValue}
 use Rattle.machine_sides.specs.Sides.{PagerSideValue, ProcessSideValue}
-use Rattle.machine_sides.specs.Sweeping.{ReadsBit, HeedsVerdict, Evicts, Answers}
+use Rattle.machine_sides.specs.Sweeping.{ReadsBit, HeedsVerdict, Evicts, AnswersQuestion}
 use Rattle.frame_pool.specs.FrameValue.{FrameValue}
 use Rattle.page_store.specs.PageValue.{PageValue, Saving}
 use Rattle.paged_memory.specs.Counting.{residents_of, savings_of, frames_of, slots_of}
@@ -75,7 +75,7 @@ module _ {S : Type 0} where
 
   -- an answer for a page that is resident keeps list and pages together
   pub answers_together : (pager pager' : PagerSideValue) (process process' : ProcessSideValue S) (key : Key) (bit : Bit) (verdict : Verdict) → Lawful pager.pager.list
-      → key.vpn < 2 ^ 20 → key.process ≡ process.space.memory.process → is_gone bit ≡ false → Answers pager pager' process process' key bit verdict
+      → key.vpn < 2 ^ 20 → key.process ≡ process.space.memory.process → is_gone bit ≡ false → AnswersQuestion pager pager' process process' key bit verdict
       → Together pager.pager pager'.pager process.space process'.space
   unfolding pager_answered
   answers_together pager pager' process process' key bit verdict lawful small of_process there answers =
@@ -128,7 +128,7 @@ module _ {S : Type 0} where
   heeded_rest (Victim k) vpn old new small h = evicted_rest vpn old new small h
 
   pub answers_rest : (pager pager' : PagerSideValue) (process process' : ProcessSideValue S) (key : Key) (bit : Bit) (verdict : Verdict) → key.vpn < 2 ^ 20
-      → Answers pager pager' process process' key bit verdict → LeavesRest process.space process'.space
+      → AnswersQuestion pager pager' process process' key bit verdict → LeavesRest process.space process'.space
   answers_rest pager pager' process process' key bit verdict small answers =
       let first = same_rest process.space answers.between (read_same bit key.vpn process.space answers.between answers.read) in
       let second = heeded_rest verdict key.vpn answers.between process'.space small answers.heeded in

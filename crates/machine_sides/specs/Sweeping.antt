@@ -56,7 +56,7 @@ module _ {S : Type 0} where
   HeedsVerdict (verdict.Victim key) vpn old new = Evicts vpn old new
 
   -- the question names a page, whose accessed bit is read and cleared and is the answer; at a victim the page leaves
-  pub record Answers (pager pager' : PagerSideValue) (process process' : ProcessSideValue S) (key : Key) (bit : Bit) (verdict : Verdict) : Type 0 where
+  pub record AnswersQuestion (pager pager' : PagerSideValue) (process process' : ProcessSideValue S) (key : Key) (bit : Bit) (verdict : Verdict) : Type 0 where
     pub question : question_of pager.pager.list ≡ Some key
     pub told : (answered bit pager.pager.list).1 ≡ Ok verdict
     pub pager_is : pager' ≡ record pager { pager = pager_answered bit pager.pager }
@@ -68,5 +68,5 @@ module _ {S : Type 0} where
 
   abbrev pub Sweeps : PagerSideValue → PagerSideValue → ProcessSideValue S → ProcessSideValue S → Swept → Type 0
   Sweeps pager pager' process process' NothingResident = (question_of pager.pager.list ≡ None) × ((pager' ≡ pager) × (process' ≡ process))
-  Sweeps pager pager' process process' (Asked key bit) = Answers pager pager' process process' key bit verdict.GoOn
-  Sweeps pager pager' process process' (Victim key) = (bit : Bit) × Answers pager pager' process process' key bit (verdict.Victim key)
+  Sweeps pager pager' process process' (Asked key bit) = AnswersQuestion pager pager' process process' key bit verdict.GoOn
+  Sweeps pager pager' process process' (Victim key) = (bit : Bit) × AnswersQuestion pager pager' process process' key bit (verdict.Victim key)

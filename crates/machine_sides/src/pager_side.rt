@@ -1,7 +1,7 @@
 ghost use Rattle.std.specs.Prelude.{◌≡◌, ◌⊎◌, ◌+◌, ◌↔◌, ◌*◌, ◌≤◌, ◌<◌, IsNone, IfOk, IsErrOf, option_map, slice_get, length};
 ghost use Rattle.clock_policy.specs.ClockPro.{question_of};
 ghost use Rattle.clock_policy.specs.Lawful.{Lawful};
-ghost use Rattle.clock_policy.specs.Bound.{left, NothingResident};
+ghost use Rattle.clock_policy.specs.Bound.{answers_left, NothingResident};
 ghost use Rattle.pager_core.specs.Pager.{full_pager, tallied};
 
 use clock_policy::{Clock, EntryKind, Key};
@@ -59,8 +59,8 @@ impl<L: Ledger, C: Clock> PagerSide<L, C> {
         ensures exact { result ≡ question_of self.now.pager.list }
         ensures none { IsNone result ↔ NothingResident self.now.pager.list }
         ensures lawful { Lawful self.now.pager.list }
-        ensures bound { left self.now.pager.list ≤ 5 * self.now.pager.list.frames }
-        ensures end { left self.now.pager.list ≡ 0 → NothingResident self.now.pager.list }
+        ensures bound { answers_left self.now.pager.list ≤ 5 * self.now.pager.list.frames }
+        ensures end { answers_left self.now.pager.list ≡ 0 → NothingResident self.now.pager.list }
         ensures size { self.now.pager.list.frames ≡ self.now.pager.size }
     {
         self.pager.question()

@@ -1,5 +1,5 @@
 ghost use Rattle.std.specs.Prelude.{◌≡◌, IsSome};
-ghost use Rattle.machine_sides.specs.Purging.{Purges, GivesBack, Frees, Pools, is_saving_any, purge_bars};
+ghost use Rattle.machine_sides.specs.Purging.{Purges, GivesAllBack, FreesAnyFrame, Pools, is_saving_any, purge_bars};
 
 use crate::pager_side::PagerSide;
 use crate::process_side::ProcessSide;
@@ -89,7 +89,7 @@ fn give_all_back<L: Ledger, S: SwapSlot, C: Clock>(
     slots: &mut SlotPool<S>,
 ) -> Option<(Option<Frame<L>>, Option<S>)>
     requires { IsSome space.old.running.ending }
-    ensures { GivesBack result pager.old pager.new slots.old slots.new space.old space.new }
+    ensures { GivesAllBack result pager.old pager.new slots.old slots.new space.old space.new }
 {
     while let Some((frame, slot)) = space.take_one() {
         let frame = free_frame(pager, frame);
@@ -106,7 +106,7 @@ fn free_frame<L: Ledger, C: Clock>(
     pager: &mut Pager<L, C>,
     frame: Option<Frame<L>>,
 ) -> Option<Frame<L>>
-    ensures { Frees frame result pager.old pager.new }
+    ensures { FreesAnyFrame frame result pager.old pager.new }
 {
     match frame {
         Some(frame) => pager.free(frame).err(),

@@ -11,7 +11,7 @@ use Rattle.std.proofs.lemmas.List.{get_or_default, get_or_append_left, length_pu
 use Rattle.std.proofs.lemmas.Option.{none-some}
 use Rattle.std.proofs.Math.Seq.{get_or-append_seam}
 use Rattle.std.proofs.lemmas.Grind.{common_steps}
-use Rattle.page_memory.specs.PageIndex.{kept, number_at, Indexes, Keeps}
+use Rattle.page_memory.specs.PageIndex.{leaf_number, kept_number, Indexes, Keeps}
 
 -- a list's first place of an element is the one place where it stands
 first_place : (pages : List ℕ) (page i : ℕ) → i ≤ length pages → ((k : ℕ) → k < i → slice_index pages k ≢ page) → (i < length pages → slice_index pages i ≡ page) → position_or_len (λ listed. listed == page) pages ≡ i
@@ -25,15 +25,15 @@ place_past : (pages : List ℕ) (page : ℕ) → position_or_len (λ listed. lis
 place_past pages page e = rw e (rw (le-ltb (length pages) (length pages) (omega arith)) refl)
 
 -- a page whose number is 0 is not listed
-pub unlisted : (directory : List (Option (Box (List ℕ)))) (pages : List ℕ) (page : ℕ) → Indexes directory pages → number_at directory page ≡ 0 → position (λ listed. listed == page) pages ≡ None
+pub unlisted : (directory : List (Option (Box (List ℕ)))) (pages : List ℕ) (page : ℕ) → Indexes directory pages → kept_number directory page ≡ 0 → position (λ listed. listed == page) pages ≡ None
 unlisted directory pages page is none =
-    place_past pages page (first_place pages page (length pages) (omega arith) (λ k h e. let at : number_at directory page ≡ k + 1 = subst (λ p. number_at directory p ≡ k + 1) e (is.listed k h) in omega arith) (λ h. absurd (omega arith)))
+    place_past pages page (first_place pages page (length pages) (omega arith) (λ k h e. let at : kept_number directory page ≡ k + 1 = subst (λ p. kept_number directory p ≡ k + 1) e (is.listed k h) in omega arith) (λ h. absurd (omega arith)))
 
 -- a page whose number is not 0 is listed at the place before
-pub listed : (directory : List (Option (Box (List ℕ)))) (pages : List ℕ) (page : ℕ) → Indexes directory pages → 0 < number_at directory page → position (λ listed. listed == page) pages ≡ Some (number_at directory page - 1)
+pub listed : (directory : List (Option (Box (List ℕ)))) (pages : List ℕ) (page : ℕ) → Indexes directory pages → 0 < kept_number directory page → position (λ listed. listed == page) pages ≡ Some (kept_number directory page - 1)
 listed directory pages page is some =
     let within = is.within page in
-    place_within pages page (number_at directory page - 1) (omega arith) (first_place pages page _ (omega arith) (λ k h e. let at : number_at directory page ≡ k + 1 = subst (λ p. number_at directory p ≡ k + 1) e (is.listed k (omega arith)) in omega arith) (λ h. is.found page some))
+    place_within pages page (kept_number directory page - 1) (omega arith) (first_place pages page _ (omega arith) (λ k h e. let at : kept_number directory page ≡ k + 1 = subst (λ p. kept_number directory p ≡ k + 1) e (is.listed k (omega arith)) in omega arith) (λ h. is.found page some))
 
 -- a listed page is small
 member_small : (pages : List ℕ) → ((k : ℕ) → k < length pages → slice_index pages k < 2 ^ 20) → (page : ℕ) → list_any (eqb page) pages ≡ true → page < 2 ^ 20
@@ -48,9 +48,9 @@ member_small (x ∷ xs) small page among =
 apart : (directory : List (Option (Box (List ℕ)))) (pages : List ℕ) → Indexes directory pages → (i j d : ℕ) → i < j → j < length pages → get_or pages i d ≡ get_or pages j d → ⊥
 apart directory pages is i j d below within e =
     let same : slice_index pages i ≡ slice_index pages j = get_or_default pages i 0 d (omega arith) ∙ e ∙ get_or_default pages j d 0 within in
-    let first : number_at directory (slice_index pages i) ≡ i + 1 = is.listed i (omega arith) in
-    let second : number_at directory (slice_index pages j) ≡ j + 1 = is.listed j within in
-    let one = ap (number_at directory) same in
+    let first : kept_number directory (slice_index pages i) ≡ i + 1 = is.listed i (omega arith) in
+    let second : kept_number directory (slice_index pages j) ≡ j + 1 = is.listed j within in
+    let one = ap (kept_number directory) same in
     omega arith
 
 -- different pages below 2^20 are at most 2^20
@@ -60,16 +60,16 @@ few directory pages is =
     (IsDistinct-from_apart eqb pages (λ i j d below within. ne_eqb _ _ (apart directory pages is i j d below within)))
     (member_small pages is.small)
 
-kept_here : (old new : List (Option (Box (List ℕ)))) (page number : ℕ) → Keeps old new page number → number_at new page ≡ number
+kept_here : (old new : List (Option (Box (List ℕ)))) (page number : ℕ) → Keeps old new page number → kept_number new page ≡ number
 kept_here old new page number keeps = keeps.numbers page ∙ rw (eq-eqb page page refl) refl
 
-kept_elsewhere : (old new : List (Option (Box (List ℕ)))) (page number other : ℕ) → Keeps old new page number → other ≢ page → number_at new other ≡ number_at old other
+kept_elsewhere : (old new : List (Option (Box (List ℕ)))) (page number other : ℕ) → Keeps old new page number → other ≢ page → kept_number new other ≡ kept_number old other
 kept_elsewhere old new page number other keeps apart = keeps.numbers other ∙ rw (ne_eqb other page apart) refl
 
 -- a page that is not listed has the number 0
-number_of_absent : (directory : List (Option (Box (List ℕ)))) (pages : List ℕ) (page : ℕ) → Indexes directory pages → position (λ listed. listed == page) pages ≡ None → number_at directory page ≡ 0
+number_of_absent : (directory : List (Option (Box (List ℕ)))) (pages : List ℕ) (page : ℕ) → Indexes directory pages → position (λ listed. listed == page) pages ≡ None → kept_number directory page ≡ 0
 number_of_absent directory pages page is absent =
-    elim (eq-zero-or-pos (number_at directory page)) [
+    elim (eq-zero-or-pos (kept_number directory page)) [
       | inl none ↦ none
       | inr some ↦ absurd (none-some _ (sym absent ∙ listed directory pages page is some))
     ]
@@ -77,43 +77,43 @@ number_of_absent directory pages page is absent =
 -- one more page
 pub one_more : (old new : List (Option (Box (List ℕ)))) (pages : List ℕ) (page : ℕ) → Indexes old pages → page < 2 ^ 20 → position (λ listed. listed == page) pages ≡ None → Keeps old new page (length pages + 1) → Indexes new (pages ++ page ∷ [])
 one_more old new pages page is below absent keeps =
-    let zero_there : number_at old page ≡ 0 = number_of_absent old pages page is absent in
-    let here : number_at new page ≡ length pages + 1 = kept_here old new page _ keeps in
+    let zero_there : kept_number old page ≡ 0 = number_of_absent old pages page is absent in
+    let here : kept_number new page ≡ length pages + 1 = kept_here old new page _ keeps in
     let longer : length (pages ++ page ∷ []) ≡ length pages + 1 = length_push pages page in
     let last : slice_index (pages ++ page ∷ []) (length pages) ≡ page = get_or-append_seam pages page [] 0 in
-    let not_page : (k : ℕ) → k < length pages → slice_index pages k ≢ page = λ k h e. let at : number_at old page ≡ k + 1 = subst (λ p. number_at old p ≡ k + 1) e (is.listed k h) in omega arith in
+    let not_page : (k : ℕ) → k < length pages → slice_index pages k ≢ page = λ k h e. let at : kept_number old page ≡ k + 1 = subst (λ p. kept_number old p ≡ k + 1) e (is.listed k h) in omega arith in
     record {
       wide = keeps.wide ∙ is.wide;
       small = λ k h. below_more (λ i. slice_index (pages ++ page ∷ []) i < 2 ^ 20) (length pages) (λ i l. rw (get_or_append_left pages (page ∷ []) 0 i l) (is.small i l)) (rw last below) k (omega arith);
-      listed = λ k h. below_more (λ i. number_at new (slice_index (pages ++ page ∷ []) i) ≡ i + 1) (length pages) (λ i l. rw (get_or_append_left pages (page ∷ []) 0 i l) (kept_elsewhere old new page _ _ keeps (not_page i l) ∙ is.listed i l)) (rw last here) k (omega arith);
+      listed = λ k h. below_more (λ i. kept_number new (slice_index (pages ++ page ∷ []) i) ≡ i + 1) (length pages) (λ i l. rw (get_or_append_left pages (page ∷ []) 0 i l) (kept_elsewhere old new page _ _ keeps (not_page i l) ∙ is.listed i l)) (rw last here) k (omega arith);
       within = λ other. within_more other zero_there here longer;
       found = λ other some. found_more other zero_there here longer some;
     }
   where
-    within_more : (other : ℕ) → number_at old page ≡ 0 → number_at new page ≡ length pages + 1 → length (pages ++ page ∷ []) ≡ length pages + 1 → number_at new other ≤ length (pages ++ page ∷ [])
+    within_more : (other : ℕ) → kept_number old page ≡ 0 → kept_number new page ≡ length pages + 1 → length (pages ++ page ∷ []) ≡ length pages + 1 → kept_number new other ≤ length (pages ++ page ∷ [])
     within_more other zero_there here longer =
         elim (eqb_tells other page) [
-          | inl same ↦ let e = ap (number_at new) same.1 in omega arith
+          | inl same ↦ let e = ap (kept_number new) same.1 in omega arith
           | inr apart ↦ let e = kept_elsewhere old new page _ other keeps apart.1 in let w = is.within other in omega arith
         ]
 
-    found_more : (other : ℕ) → number_at old page ≡ 0 → number_at new page ≡ length pages + 1 → length (pages ++ page ∷ []) ≡ length pages + 1 → 0 < number_at new other → slice_index (pages ++ page ∷ []) (number_at new other - 1) ≡ other
+    found_more : (other : ℕ) → kept_number old page ≡ 0 → kept_number new page ≡ length pages + 1 → length (pages ++ page ∷ []) ≡ length pages + 1 → 0 < kept_number new other → slice_index (pages ++ page ∷ []) (kept_number new other - 1) ≡ other
     found_more other zero_there here longer some =
         elim (eqb_tells other page) [
-          | inl same ↦ let e : number_at new other - 1 ≡ length pages = let f = ap (number_at new) same.1 in omega arith in rw e (get_or-append_seam pages page [] 0 ∙ sym same.1)
+          | inl same ↦ let e : kept_number new other - 1 ≡ length pages = let f = ap (kept_number new) same.1 in omega arith in rw e (get_or-append_seam pages page [] 0 ∙ sym same.1)
           | inr apart ↦
               let e = kept_elsewhere old new page _ other keeps apart.1 in
               let w = is.within other in
-              let l : number_at old other - 1 < length pages = omega arith in
+              let l : kept_number old other - 1 < length pages = omega arith in
               rw e (get_or_append_left pages (page ∷ []) 0 _ l ∙ is.found other (omega arith))
         ]
 
 -- a directory with one leaf put in place
-put_leaf : (directory : List (Option (Box (List ℕ)))) (page other : ℕ) (leaf : Box (List ℕ)) → page / 1024 < length directory → number_at (slice_set directory (page / 1024) (Some leaf)) other ≡ (if other / 1024 == page / 1024 then slice_index leaf.value (other % 1024) else number_at directory other)
+put_leaf : (directory : List (Option (Box (List ℕ)))) (page other : ℕ) (leaf : Box (List ℕ)) → page / 1024 < length directory → kept_number (slice_set directory (page / 1024) (Some leaf)) other ≡ (if other / 1024 == page / 1024 then slice_index leaf.value (other % 1024) else kept_number directory other)
 put_leaf directory page other leaf within =
     elim (eqb_tells (other / 1024) (page / 1024)) [
-      | inl same ↦ rw same.0 (ap (λ i. kept (get_or (slice_set directory (page / 1024) (Some leaf)) i None) (other % 1024)) same.1 ∙ ap (λ o. kept o (other % 1024)) (get_or-set_same directory (page / 1024) (Some leaf) None within))
-      | inr apart ↦ rw apart.0 (ap (λ o. kept o (other % 1024)) (get_or-set_other directory (page / 1024) (other / 1024) (Some leaf) None apart.1))
+      | inl same ↦ rw same.0 (ap (λ i. leaf_number (get_or (slice_set directory (page / 1024) (Some leaf)) i None) (other % 1024)) same.1 ∙ ap (λ o. leaf_number o (other % 1024)) (get_or-set_same directory (page / 1024) (Some leaf) None within))
+      | inr apart ↦ rw apart.0 (ap (λ o. leaf_number o (other % 1024)) (get_or-set_other directory (page / 1024) (other / 1024) (Some leaf) None apart.1))
     ]
 
 -- a row of zeros with one number put in
@@ -137,10 +137,10 @@ pub new_leaf : (directory : List (Option (Box (List ℕ)))) (page number : ℕ) 
 new_leaf directory page number leaf within empty filled =
     record { wide = length-set directory (page / 1024) (Some leaf); numbers = λ other. put_leaf directory page other leaf within ∙ at other }
   where
-    at : (other : ℕ) → (if other / 1024 == page / 1024 then slice_index leaf.value (other % 1024) else number_at directory other) ≡ (if other == page then number else number_at directory other)
+    at : (other : ℕ) → (if other / 1024 == page / 1024 then slice_index leaf.value (other % 1024) else kept_number directory other) ≡ (if other == page then number else kept_number directory other)
     at other =
         elim (eqb_tells (other / 1024) (page / 1024)) [
-          | inl same ↦ rw same.0 (ap (λ l. get_or l (other % 1024) 0) filled ∙ in_filled 1024 (other % 1024) (page % 1024) number (omega arith) (omega arith) ∙ in_page page other number (number_at directory other) same.1 (ap (λ o. kept o (other % 1024)) (ap (λ i. get_or directory i None) same.1 ∙ empty)))
+          | inl same ↦ rw same.0 (ap (λ l. get_or l (other % 1024) 0) filled ∙ in_filled 1024 (other % 1024) (page % 1024) number (omega arith) (omega arith) ∙ in_page page other number (kept_number directory other) same.1 (ap (λ o. leaf_number o (other % 1024)) (ap (λ i. get_or directory i None) same.1 ∙ empty)))
           | inr apart ↦ rw apart.0 (rw (ne_eqb other page (λ e. apart.1 (ap (λ p. p / 1024) e))) refl)
         ]
 
@@ -154,8 +154,8 @@ all_none (suc n) zero = refl
 all_none (suc n) (suc k) = all_none n k
 
 -- a directory of no leaf
-pub no_leaf : (n page : ℕ) → number_at (replicate n None) page ≡ 0
-no_leaf n page = ap (λ o. kept o (page % 1024)) (all_none n (page / 1024))
+pub no_leaf : (n page : ℕ) → kept_number (replicate n None) page ≡ 0
+no_leaf n page = ap (λ o. leaf_number o (page % 1024)) (all_none n (page / 1024))
 
 pub empty_index : (directory : List (Option (Box (List ℕ)))) → directory ≡ replicate 1024 None → Indexes directory []
 empty_index directory e =
@@ -163,8 +163,8 @@ empty_index directory e =
       wide = ap length e ∙ length-replicate {A = Option (Box (List ℕ))} 1024 None;
       small = λ k h. absurd (omega arith);
       listed = λ k h. absurd (omega arith);
-      within = λ page. let zeroed : number_at directory page ≡ 0 = ap (λ d. number_at d page) e ∙ no_leaf 1024 page in omega arith;
-      found = λ page some. let zeroed : number_at directory page ≡ 0 = ap (λ d. number_at d page) e ∙ no_leaf 1024 page in absurd (omega arith);
+      within = λ page. let zeroed : kept_number directory page ≡ 0 = ap (λ d. kept_number d page) e ∙ no_leaf 1024 page in omega arith;
+      found = λ page some. let zeroed : kept_number directory page ≡ 0 = ap (λ d. kept_number d page) e ∙ no_leaf 1024 page in absurd (omega arith);
     }
 
 -- one page fewer
@@ -172,10 +172,10 @@ pub one_less : (old new : List (Option (Box (List ℕ)))) (pages : List ℕ) (pa
 one_less old new pages page is keeps =
     let longer : length (pages ++ page ∷ []) ≡ length pages + 1 = length_push pages page in
     let last : slice_index (pages ++ page ∷ []) (length pages) ≡ page = get_or-append_seam pages page [] 0 in
-    let at_last : number_at old page ≡ length pages + 1 = subst (λ p. number_at old p ≡ length pages + 1) last (is.listed (length pages) (omega arith)) in
-    let gone : number_at new page ≡ 0 = kept_here old new page 0 keeps in
-    let number : (k : ℕ) → k < length pages → number_at old (slice_index pages k) ≡ k + 1 = λ k h. subst (λ p. number_at old p ≡ k + 1) (get_or_append_left pages (page ∷ []) 0 k h) (is.listed k (omega arith)) in
-    let not_page : (k : ℕ) → k < length pages → slice_index pages k ≢ page = λ k h e. let at : number_at old page ≡ k + 1 = subst (λ p. number_at old p ≡ k + 1) e (number k h) in omega arith in
+    let at_last : kept_number old page ≡ length pages + 1 = subst (λ p. kept_number old p ≡ length pages + 1) last (is.listed (length pages) (omega arith)) in
+    let gone : kept_number new page ≡ 0 = kept_here old new page 0 keeps in
+    let number : (k : ℕ) → k < length pages → kept_number old (slice_index pages k) ≡ k + 1 = λ k h. subst (λ p. kept_number old p ≡ k + 1) (get_or_append_left pages (page ∷ []) 0 k h) (is.listed k (omega arith)) in
+    let not_page : (k : ℕ) → k < length pages → slice_index pages k ≢ page = λ k h e. let at : kept_number old page ≡ k + 1 = subst (λ p. kept_number old p ≡ k + 1) e (number k h) in omega arith in
     record {
       wide = keeps.wide ∙ is.wide;
       small = λ k h. subst (λ p. p < 2 ^ 20) (get_or_append_left pages (page ∷ []) 0 k h) (is.small k (omega arith));
@@ -184,28 +184,28 @@ one_less old new pages page is keeps =
       found = λ other some. found_less other gone longer last some;
     }
   where
-    below_last : (other : ℕ) → other ≢ page → length (pages ++ page ∷ []) ≡ length pages + 1 → slice_index (pages ++ page ∷ []) (length pages) ≡ page → number_at old other ≤ length pages
+    below_last : (other : ℕ) → other ≢ page → length (pages ++ page ∷ []) ≡ length pages + 1 → slice_index (pages ++ page ∷ []) (length pages) ≡ page → kept_number old other ≤ length pages
     below_last other apart longer last =
-        elim (leb_tells (number_at old other) (length pages)) [
+        elim (leb_tells (kept_number old other) (length pages)) [
           | inl low ↦ low.1
-          | inr high ↦ let above = high.1 in let w = is.within other in let e : number_at old other - 1 ≡ length pages = omega arith in absurd (apart (sym (is.found other (omega arith)) ∙ ap (λ i. slice_index (pages ++ page ∷ []) i) e ∙ last))
+          | inr high ↦ let above = high.1 in let w = is.within other in let e : kept_number old other - 1 ≡ length pages = omega arith in absurd (apart (sym (is.found other (omega arith)) ∙ ap (λ i. slice_index (pages ++ page ∷ []) i) e ∙ last))
         ]
 
-    within_less : (other : ℕ) → number_at new page ≡ 0 → length (pages ++ page ∷ []) ≡ length pages + 1 → slice_index (pages ++ page ∷ []) (length pages) ≡ page → number_at new other ≤ length pages
+    within_less : (other : ℕ) → kept_number new page ≡ 0 → length (pages ++ page ∷ []) ≡ length pages + 1 → slice_index (pages ++ page ∷ []) (length pages) ≡ page → kept_number new other ≤ length pages
     within_less other gone longer last =
         elim (eqb_tells other page) [
-          | inl same ↦ let e = ap (number_at new) same.1 in omega arith
+          | inl same ↦ let e = ap (kept_number new) same.1 in omega arith
           | inr apart ↦ let e = kept_elsewhere old new page 0 other keeps apart.1 in let b = below_last other apart.1 longer last in omega arith
         ]
 
-    found_less : (other : ℕ) → number_at new page ≡ 0 → length (pages ++ page ∷ []) ≡ length pages + 1 → slice_index (pages ++ page ∷ []) (length pages) ≡ page → 0 < number_at new other → slice_index pages (number_at new other - 1) ≡ other
+    found_less : (other : ℕ) → kept_number new page ≡ 0 → length (pages ++ page ∷ []) ≡ length pages + 1 → slice_index (pages ++ page ∷ []) (length pages) ≡ page → 0 < kept_number new other → slice_index pages (kept_number new other - 1) ≡ other
     found_less other gone longer last some =
         elim (eqb_tells other page) [
-          | inl same ↦ let e = ap (number_at new) same.1 in absurd (omega arith)
+          | inl same ↦ let e = ap (kept_number new) same.1 in absurd (omega arith)
           | inr apart ↦
               let e = kept_elsewhere old new page 0 other keeps apart.1 in
               let b = below_last other apart.1 longer last in
-              let l : number_at old other - 1 < length pages = omega arith in
+              let l : kept_number old other - 1 < length pages = omega arith in
               rw e (sym (get_or_append_left pages (page ∷ []) 0 _ l) ∙ is.found other (omega arith))
         ]
 

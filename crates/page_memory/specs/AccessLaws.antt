@@ -12,7 +12,7 @@ use Rattle.page_memory.specs.declared.fault.MemoryFault.{MemoryFault}
 use Rattle.page_memory.specs.declared.fault.MemoryFault.TheVariants.{Misaligned, PageFault}
 use Rattle.page_memory.specs.Words.{page_number, page_offset, bytes_in}
 use Rattle.page_memory.specs.Rights.{may}
-use Rattle.page_memory.specs.Memory.{Page, Memory, usable, aligned_page, stored, copied_in, memory_with, overwritten, with_right, page_if, if_aligned, answered}
+use Rattle.page_memory.specs.Memory.{Page, Memory, usable, aligned_page, stored, copied_in, memory_with, overwritten, with_right, page_if, if_aligned, answer_by}
 
 pub usable_found : (memory : Memory) (access : Access) (address : ℕ) (page : Page) → get memory (page_number address) ≡ Some page → may access page.rights ≡ true → usable memory access address ≡ Ok page
 unfolding usable
@@ -32,31 +32,31 @@ aligned_usable memory access width address answer aligned is = ap (λ b. if_alig
 
 pub stored_misaligned : (memory : Memory) (width : Width) (address word : ℕ) → address % bytes_in width ≢ 0 → stored memory width address word ≡ Err Misaligned
 unfolding stored aligned_page
-stored_misaligned memory width address word odd = ap (λ b. answered (memory_with memory address (little_bytes (bytes_in width) word)) (if_aligned b (usable memory Store address))) (ne_eqb (address % bytes_in width) 0 odd)
+stored_misaligned memory width address word odd = ap (λ b. answer_by (memory_with memory address (little_bytes (bytes_in width) word)) (if_aligned b (usable memory Store address))) (ne_eqb (address % bytes_in width) 0 odd)
 
 pub stored_unmapped : (memory : Memory) (width : Width) (address word : ℕ) → address % bytes_in width ≡ 0 → get memory (page_number address) ≡ None → stored memory width address word ≡ Err PageFault
 unfolding stored
-stored_unmapped memory width address word aligned none = ap (answered (memory_with memory address (little_bytes (bytes_in width) word))) (aligned_usable memory Store (bytes_in width) address _ aligned (usable_unmapped memory Store address none))
+stored_unmapped memory width address word aligned none = ap (answer_by (memory_with memory address (little_bytes (bytes_in width) word))) (aligned_usable memory Store (bytes_in width) address _ aligned (usable_unmapped memory Store address none))
 
 pub stored_forbidden : (memory : Memory) (width : Width) (address word : ℕ) (page : Page) → address % bytes_in width ≡ 0 → get memory (page_number address) ≡ Some page → may Store page.rights ≡ false → stored memory width address word ≡ Err PageFault
 unfolding stored
-stored_forbidden memory width address word page aligned found refused = ap (answered (memory_with memory address (little_bytes (bytes_in width) word))) (aligned_usable memory Store (bytes_in width) address _ aligned (usable_forbidden memory Store address page found refused))
+stored_forbidden memory width address word page aligned found refused = ap (answer_by (memory_with memory address (little_bytes (bytes_in width) word))) (aligned_usable memory Store (bytes_in width) address _ aligned (usable_forbidden memory Store address page found refused))
 
 pub stored_done : (memory : Memory) (width : Width) (address word : ℕ) (page : Page) → address % bytes_in width ≡ 0 → get memory (page_number address) ≡ Some page → may Store page.rights ≡ true → stored memory width address word ≡ Ok (memory_with memory address (little_bytes (bytes_in width) word) page)
 unfolding stored
-stored_done memory width address word page aligned found allowed = ap (answered (memory_with memory address (little_bytes (bytes_in width) word))) (aligned_usable memory Store (bytes_in width) address _ aligned (usable_found memory Store address page found allowed))
+stored_done memory width address word page aligned found allowed = ap (answer_by (memory_with memory address (little_bytes (bytes_in width) word))) (aligned_usable memory Store (bytes_in width) address _ aligned (usable_found memory Store address page found allowed))
 
 pub copied_unmapped : (memory : Memory) (address : ℕ) (bytes : List ℕ) → get memory (page_number address) ≡ None → copied_in memory address bytes ≡ Err PageFault
 unfolding copied_in
-copied_unmapped memory address bytes none = ap (answered (memory_with memory address bytes)) (usable_unmapped memory Store address none)
+copied_unmapped memory address bytes none = ap (answer_by (memory_with memory address bytes)) (usable_unmapped memory Store address none)
 
 pub copied_forbidden : (memory : Memory) (address : ℕ) (bytes : List ℕ) (page : Page) → get memory (page_number address) ≡ Some page → may Store page.rights ≡ false → copied_in memory address bytes ≡ Err PageFault
 unfolding copied_in
-copied_forbidden memory address bytes page found refused = ap (answered (memory_with memory address bytes)) (usable_forbidden memory Store address page found refused)
+copied_forbidden memory address bytes page found refused = ap (answer_by (memory_with memory address bytes)) (usable_forbidden memory Store address page found refused)
 
 pub copied_done : (memory : Memory) (address : ℕ) (bytes : List ℕ) (page : Page) → get memory (page_number address) ≡ Some page → may Store page.rights ≡ true → copied_in memory address bytes ≡ Ok (memory_with memory address bytes page)
 unfolding copied_in
-copied_done memory address bytes page found allowed = ap (answered (memory_with memory address bytes)) (usable_found memory Store address page found allowed)
+copied_done memory address bytes page found allowed = ap (answer_by (memory_with memory address bytes)) (usable_found memory Store address page found allowed)
 
 pub usable_by_place : (entries : List (ℕ × Page)) (access : Access) (address : ℕ) → usable (from_entries {R = nat_cmp} entries) access address ≡ with_right access (option_and_then (λ k. value_at k entries) (place_of (page_number address) entries))
 unfolding usable
@@ -79,10 +79,10 @@ copied_at entries address bytes place page at is allowed =
 -- a fault in the answer of an access to its page
 pub not_stored_at : (memory : Memory) (width : Width) (address word : ℕ) (fault : MemoryFault) → address % bytes_in width ≡ 0 → with_right Store (get memory (page_number address)) ≡ Err fault → stored memory width address word ≡ Err fault
 unfolding stored usable
-not_stored_at memory width address word fault aligned is = ap (answered (memory_with memory address (little_bytes (bytes_in width) word))) (aligned_usable memory Store (bytes_in width) address _ aligned is)
+not_stored_at memory width address word fault aligned is = ap (answer_by (memory_with memory address (little_bytes (bytes_in width) word))) (aligned_usable memory Store (bytes_in width) address _ aligned is)
 
 pub not_copied : (memory : Memory) (address : ℕ) (bytes : List ℕ) (fault : MemoryFault) → with_right Store (get memory (page_number address)) ≡ Err fault → copied_in memory address bytes ≡ Err fault
 unfolding copied_in usable
-not_copied memory address bytes fault is = ap (answered (memory_with memory address bytes)) is
+not_copied memory address bytes fault is = ap (answer_by (memory_with memory address bytes)) is
 
 pub ruleset not_stored = (stored_misaligned, not_stored_at)

@@ -12,8 +12,8 @@ use Rattle.std.proofs.Math.Seq.{take-append_seam}
 use Rattle.page_memory.specs.Entries.{pages_of, values_of, place_of, value_at, with_value, added_unless, added, with_added}
 
 -- the order of numbers finds just the equal ones
-pub same_key : (q page : ℕ) → eq_by_cmp nat_cmp q page ≡ (page == q)
-same_key q page = grind (arith, nat_tests)
+pub equal_by_order : (q page : ℕ) → eq_by_cmp nat_cmp q page ≡ (page == q)
+equal_by_order q page = grind (arith, nat_tests)
 
 first_place : (n : ℕ) → cond {A = Option ℕ} (nat_lt 0 (suc n)) (Some 0) None ≡ Some 0
 first_place n = rw (lt-ltb 0 (suc n) (omega arith)) refl
@@ -65,8 +65,8 @@ put_back m key value found = same_map nat_cmp_total nat_cmp-IsAntisymmetric _ _ 
     same : (q : ℕ) → cond (eq_by_cmp nat_cmp q key) (Some value) (get m q) ≡ get m q
     same q =
         elim (eqb_tells key q) [
-          | inl at ↦ ap (λ b. cond b (Some value) (get m q)) (same_key q key ∙ at.0) ∙ sym found ∙ ap (get m) at.1
-          | inr apart ↦ ap (λ b. cond b (Some value) (get m q)) (same_key q key ∙ apart.0)
+          | inl at ↦ ap (λ b. cond b (Some value) (get m q)) (equal_by_order q key ∙ at.0) ∙ sym found ∙ ap (get m) at.1
+          | inr apart ↦ ap (λ b. cond b (Some value) (get m q)) (equal_by_order q key ∙ apart.0)
         ]
 
 module _ {T : Type 0} where
@@ -78,8 +78,8 @@ module _ {T : Type 0} where
   found [] q = refl
   found (e ∷ es) q =
       elim (e.0 == q) as (λ b. (e.0 == q) ≡ b → cond (eq_by_cmp nat_cmp q e.0) (Some e.1) (find nat_cmp q es) ≡ option_and_then (λ k. slice_get (e.1 ∷ values_of es) k) (position (λ p. p == q) (e.0 ∷ pages_of es))) [
-        | true ↦ λ h. ap (λ b. cond b (Some e.1) (find nat_cmp q es)) (same_key q e.0 ∙ h) ∙ ap (option_and_then (λ k. slice_get (e.1 ∷ values_of es) k)) (sym (position_here e.0 (pages_of es) q h))
-        | false ↦ λ h. ap (λ b. cond b (Some e.1) (find nat_cmp q es)) (same_key q e.0 ∙ h) ∙ (found es q ∙ sym (later_value e.1 (values_of es) (place_of q es)) ∙ ap (option_and_then (λ k. slice_get (e.1 ∷ values_of es) k)) (sym (position_later e.0 (pages_of es) q h)))
+        | true ↦ λ h. ap (λ b. cond b (Some e.1) (find nat_cmp q es)) (equal_by_order q e.0 ∙ h) ∙ ap (option_and_then (λ k. slice_get (e.1 ∷ values_of es) k)) (sym (position_here e.0 (pages_of es) q h))
+        | false ↦ λ h. ap (λ b. cond b (Some e.1) (find nat_cmp q es)) (equal_by_order q e.0 ∙ h) ∙ (found es q ∙ sym (later_value e.1 (values_of es) (place_of q es)) ∙ ap (option_and_then (λ k. slice_get (e.1 ∷ values_of es) k)) (sym (position_later e.0 (pages_of es) q h)))
       ] refl
 
   -- a page's value is the one at its place
@@ -104,10 +104,10 @@ module _ {T : Type 0} where
   missing [] page none = refl
   missing (e ∷ es) page none =
       elim (e.0 == page) as (λ b. (e.0 == page) ≡ b → position (λ p. p == page) (e.0 ∷ pages_of es) ≡ None) [
-        | true ↦ λ h. absurd (none-some e.1 (sym none ∙ ap (λ b. cond b (Some e.1) (find nat_cmp page es)) (same_key page e.0 ∙ h)))
+        | true ↦ λ h. absurd (none-some e.1 (sym none ∙ ap (λ b. cond b (Some e.1) (find nat_cmp page es)) (equal_by_order page e.0 ∙ h)))
         | false ↦ λ h.
             position_later e.0 (pages_of es) page h
-            ∙ ap (option_map (λ i. suc i)) (missing es page (ap (λ b. cond b (Some e.1) (find nat_cmp page es)) (sym (same_key page e.0 ∙ h)) ∙ none))
+            ∙ ap (option_map (λ i. suc i)) (missing es page (ap (λ b. cond b (Some e.1) (find nat_cmp page es)) (sym (equal_by_order page e.0 ∙ h)) ∙ none))
       ] refl
 
   -- a page without a value has no place
@@ -136,7 +136,7 @@ module _ {T : Type 0} where
         | true ↦ λ h. let z : 0 ≡ suc i = same_Some _ _ (sym (position_here e.0 (pages_of es) page h) ∙ at) in absurd (omega arith)
         | false ↦ λ h.
             rw (replaced_at es page i w q (place_before _ i (sym (position_later e.0 (pages_of es) page h) ∙ at)))
-            (sym (swapped (eq_by_cmp nat_cmp q page) (eq_by_cmp nat_cmp q e.0) (Some w) (Some e.1) (find nat_cmp q es) (λ a b. apart h (sym (same_key q page) ∙ a) (sym (same_key q e.0) ∙ b))))
+            (sym (swapped (eq_by_cmp nat_cmp q page) (eq_by_cmp nat_cmp q e.0) (Some w) (Some e.1) (find nat_cmp q es) (λ a b. apart h (sym (equal_by_order q page) ∙ a) (sym (equal_by_order q e.0) ∙ b))))
       ] refl
     where
       apart : (e.0 == page) ≡ false → (page == q) ≡ true → (e.0 == q) ≡ true → ⊥

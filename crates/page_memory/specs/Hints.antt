@@ -13,7 +13,7 @@ abbrev pub may_at : Access → ℕ → List (ℕ × Page) → Option Bool
 may_at access place pages = option_map (λ page. may access page.rights) (value_at place pages)
 
 -- a page stands at a place and may be used so
-pub record Stands (access : Access) (pages : List (ℕ × Page)) (number place : ℕ) : Type 0 where
+pub record StandsAt (access : Access) (pages : List (ℕ × Page)) (number place : ℕ) : Type 0 where
   pub within : place < length pages
   pub there : place_of number pages ≡ Some place
   pub allowed : may_at access place pages ≡ Some true
@@ -21,7 +21,7 @@ pub record Stands (access : Access) (pages : List (ℕ × Page)) (number place :
 -- an address whose offset past its page's start is below 4 is such a start only where the page stands at the place
 pub record Leads (access : Access) (pages : List (ℕ × Page)) (start place : ℕ) : Type 0 where
   pub aligned : (number past : ℕ) → past < 4 → number * 4096 + past ≡ start → past ≡ 0
-  pub stands : (number past : ℕ) → past < 4 → number * 4096 + past ≡ start → Stands access pages number place
+  pub stands : (number past : ℕ) → past < 4 → number * 4096 + past ≡ start → StandsAt access pages number place
 
 -- each of these pages, where it is one
 abbrev pub LeadAll : Access → List (ℕ × Page) → List Hint → Type 0

@@ -13,13 +13,13 @@ use Rattle.page_memory.specs.declared.words.Width.{Width}
 use Rattle.page_memory.specs.declared.words.Width.TheVariants.{Byte, Half, Word}
 use Rattle.page_memory.specs.Words.{page_number, page_offset, bytes_in}
 use Rattle.page_memory.specs.Rights.{may}
-use Rattle.page_memory.specs.Memory.{Page, Memory, with_right, answered, stored, memory_with, overwritten, loaded, number_at, aligned_page, usable, fetched, if_aligned}
+use Rattle.page_memory.specs.Memory.{Page, Memory, with_right, answer_by, stored, memory_with, overwritten, loaded, number_at, aligned_page, usable, fetched, if_aligned}
 use Rattle.page_memory.specs.Entries.{place_of, value_at, with_value}
 use Rattle.page_memory.specs.EntriesLaws.{value_by_place, replaced_value, place_of-with_value, length-with_value}
 use Rattle.page_memory.specs.AccessLaws.{usable_found, aligned_usable, stored_at, stored_misaligned, not_stored_at}
 use Rattle.page_memory.specs.declared.hint.Hint.{Hint}
 use Rattle.page_memory.specs.declared.hint.Hints.{Hints}
-use Rattle.page_memory.specs.Hints.{may_at, Stands, Leads, LeadAll, Remembers}
+use Rattle.page_memory.specs.Hints.{may_at, StandsAt, Leads, LeadAll, Remembers}
 use Rattle.std.proofs.lemmas.List.Elements.{All-replicate, All-set, All-weaker, All-contains}
 
 -- 4 is past the start of every page
@@ -27,7 +27,7 @@ pub leads_nowhere : (access : Access) (pages : List (ℕ × Page)) (place : ℕ)
 leads_nowhere access pages place = record { aligned = λ number past below e. absurd (omega arith); stands = λ number past below e. absurd (omega arith) }
 
 -- the start of a page that stands there
-pub leads_there : (access : Access) (pages : List (ℕ × Page)) (address start place : ℕ) → start ≡ address / 4096 * 4096 → Stands access pages (page_number address) place → Leads access pages start place
+pub leads_there : (access : Access) (pages : List (ℕ × Page)) (address start place : ℕ) → start ≡ address / 4096 * 4096 → StandsAt access pages (page_number address) place → Leads access pages start place
 leads_there access pages address start place is stands =
     record {
       aligned = λ number past below e. omega arith;
@@ -35,9 +35,9 @@ leads_there access pages address start place is stands =
     }
 
 -- the page at the place, where an address leads there
-pub led : (access : Access) (pages : List (ℕ × Page)) (width address start place : ℕ) (page : Page) → Leads access pages start place
+pub page_led_to : (access : Access) (pages : List (ℕ × Page)) (width address start place : ℕ) (page : Page) → Leads access pages start place
     → address % width < 4 → address / 4096 * 4096 + address % width ≡ start → value_at place pages ≡ Some page → aligned_page (from_entries pages) access width address ≡ Ok page
-led access pages width address start place page leads below e is =
+page_led_to access pages width address start place page leads below e is =
     let stands = leads.stands (page_number address) (address % width) below e in
     let found : get (from_entries {R = nat_cmp} pages) (page_number address) ≡ Some page = value_by_place pages (page_number address) ∙ ap (option_and_then (λ k. value_at k pages)) stands.there ∙ is in
     aligned_usable (from_entries pages) access width address (Ok page) (leads.aligned (page_number address) (address % width) below e)
@@ -67,28 +67,28 @@ still_leads access pages start place changed old new was same leads =
 
 pub fetched_led : (pages : List (ℕ × Page)) (address start place : ℕ) (page : Page) → Leads Fetch pages start place → address / 4096 * 4096 + address % 4 ≡ start → value_at place pages ≡ Some page → fetched (from_entries pages) address ≡ Ok (number_at 4 address page)
 unfolding fetched
-fetched_led pages address start place page leads e is = ap (answered (number_at 4 address)) (led Fetch pages 4 address start place page leads (omega arith) e is)
+fetched_led pages address start place page leads e is = ap (answer_by (number_at 4 address)) (page_led_to Fetch pages 4 address start place page leads (omega arith) e is)
 
 allowed_of : (access : Access) (found : Option Page) → IsSomeAnd found (λ page. IsTrue (may access page.rights)) → option_map (λ (page : Page). may access page.rights) found ≡ Some true
 allowed_of access None never = absurd never
 allowed_of access (Some page) is = ap Some is
 
 -- a page that was found stands at its place
-pub stands_of : (access : Access) (pages : List (ℕ × Page)) (number place : ℕ) → place < length pages → place_of number pages ≡ Some place → IsSomeAnd (value_at place pages) (λ page. IsTrue (may access page.rights)) → Stands access pages number place
+pub stands_of : (access : Access) (pages : List (ℕ × Page)) (number place : ℕ) → place < length pages → place_of number pages ≡ Some place → IsSomeAnd (value_at place pages) (λ page. IsTrue (may access page.rights)) → StandsAt access pages number place
 stands_of access pages number place within there allowed = record { within = within; there = there; allowed = allowed_of access (value_at place pages) allowed }
 
 -- what is fetched from it
-pub fetched_there : (pages : List (ℕ × Page)) (address place : ℕ) (page : Page) → address % 4 ≡ 0 → Stands Fetch pages (page_number address) place → value_at place pages ≡ Some page → fetched (from_entries pages) address ≡ Ok (number_at 4 address page)
+pub fetched_there : (pages : List (ℕ × Page)) (address place : ℕ) (page : Page) → address % 4 ≡ 0 → StandsAt Fetch pages (page_number address) place → value_at place pages ≡ Some page → fetched (from_entries pages) address ≡ Ok (number_at 4 address page)
 fetched_there pages address place page aligned stands is =
     fetched_led pages address (address / 4096 * 4096) place page (leads_there Fetch pages address (address / 4096 * 4096) place refl stands) (omega arith) is
 
 pub fetched_misaligned : (memory : Memory) (address : ℕ) → address % 4 ≢ 0 → fetched memory address ≡ Err Misaligned
 unfolding fetched aligned_page
-fetched_misaligned memory address odd = ap (λ b. answered (number_at 4 address) (if_aligned b (usable memory Fetch address))) (ne_eqb (address % 4) 0 odd)
+fetched_misaligned memory address odd = ap (λ b. answer_by (number_at 4 address) (if_aligned b (usable memory Fetch address))) (ne_eqb (address % 4) 0 odd)
 
 pub not_fetched_there : (memory : Memory) (address : ℕ) (fault : MemoryFault) → address % 4 ≡ 0 → with_right Fetch (get memory (page_number address)) ≡ Err fault → fetched memory address ≡ Err fault
 unfolding fetched usable
-not_fetched_there memory address fault aligned is = ap (answered (number_at 4 address)) (aligned_usable memory Fetch 4 address _ aligned is)
+not_fetched_there memory address fault aligned is = ap (answer_by (number_at 4 address)) (aligned_usable memory Fetch 4 address _ aligned is)
 
 pub ruleset not_fetched = (fetched_misaligned, not_fetched_there)
 
@@ -103,19 +103,19 @@ one_of access pages hints hint all among = All-contains (λ (h : Hint). Leads ac
 
 pub loaded_led : (pages : List (ℕ × Page)) (width : Width) (address start place : ℕ) (page : Page) → Leads Load pages start place → address / 4096 * 4096 + address % bytes_in width ≡ start → value_at place pages ≡ Some page → loaded (from_entries pages) width address ≡ Ok (number_at (bytes_in width) address page)
 unfolding loaded
-loaded_led pages width address start place page leads e is = ap (answered (number_at (bytes_in width) address)) (led Load pages (bytes_in width) address start place page leads (below_four width address) e is)
+loaded_led pages width address start place page leads e is = ap (answer_by (number_at (bytes_in width) address)) (page_led_to Load pages (bytes_in width) address start place page leads (below_four width address) e is)
 
-pub loaded_there : (pages : List (ℕ × Page)) (width : Width) (address place : ℕ) (page : Page) → address % bytes_in width ≡ 0 → Stands Load pages (page_number address) place → value_at place pages ≡ Some page → loaded (from_entries pages) width address ≡ Ok (number_at (bytes_in width) address page)
+pub loaded_there : (pages : List (ℕ × Page)) (width : Width) (address place : ℕ) (page : Page) → address % bytes_in width ≡ 0 → StandsAt Load pages (page_number address) place → value_at place pages ≡ Some page → loaded (from_entries pages) width address ≡ Ok (number_at (bytes_in width) address page)
 loaded_there pages width address place page aligned stands is =
     loaded_led pages width address (address / 4096 * 4096) place page (leads_there Load pages address (address / 4096 * 4096) place refl stands) (omega arith) is
 
 pub loaded_misaligned : (memory : Memory) (width : Width) (address : ℕ) → address % bytes_in width ≢ 0 → loaded memory width address ≡ Err Misaligned
 unfolding loaded aligned_page
-loaded_misaligned memory width address odd = ap (λ b. answered (number_at (bytes_in width) address) (if_aligned b (usable memory Load address))) (ne_eqb (address % bytes_in width) 0 odd)
+loaded_misaligned memory width address odd = ap (λ b. answer_by (number_at (bytes_in width) address) (if_aligned b (usable memory Load address))) (ne_eqb (address % bytes_in width) 0 odd)
 
 pub not_loaded_there : (memory : Memory) (width : Width) (address : ℕ) (fault : MemoryFault) → address % bytes_in width ≡ 0 → with_right Load (get memory (page_number address)) ≡ Err fault → loaded memory width address ≡ Err fault
 unfolding loaded usable
-not_loaded_there memory width address fault aligned is = ap (answered (number_at (bytes_in width) address)) (aligned_usable memory Load (bytes_in width) address _ aligned is)
+not_loaded_there memory width address fault aligned is = ap (answer_by (number_at (bytes_in width) address)) (aligned_usable memory Load (bytes_in width) address _ aligned is)
 
 pub ruleset not_loaded = (loaded_misaligned, not_loaded_there)
 

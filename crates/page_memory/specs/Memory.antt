@@ -23,9 +23,9 @@ abbrev pub Memory : Type 0
 Memory = FinMap nat_cmp Page
 
 -- what an answer of memory becomes by a function of its value; a fault stays
-abbrev pub answered : {A B : Type 0} → (A → B) → Result A MemoryFault → Result B MemoryFault
-answered f (Ok x) = Ok (f x)
-answered f (Err fault) = Err fault
+abbrev pub answer_by : {A B : Type 0} → (A → B) → Result A MemoryFault → Result B MemoryFault
+answer_by f (Ok x) = Ok (f x)
+answer_by f (Err fault) = Err fault
 
 abbrev pub page_if : Bool → Page → Result Page MemoryFault
 page_if true page = Ok page
@@ -62,16 +62,16 @@ memory_with memory address bytes page = insert memory (page_number address) (rec
 
 -- the word fetched at an address
 unfoldable pub fetched : Memory → ℕ → Result ℕ MemoryFault
-fetched memory address = answered (number_at 4 address) (aligned_page memory Fetch 4 address)
+fetched memory address = answer_by (number_at 4 address) (aligned_page memory Fetch 4 address)
 
 -- the number loaded at an address, not yet extended to a word
 unfoldable pub loaded : Memory → Width → ℕ → Result ℕ MemoryFault
-loaded memory width address = answered (number_at (bytes_in width) address) (aligned_page memory Load (bytes_in width) address)
+loaded memory width address = answer_by (number_at (bytes_in width) address) (aligned_page memory Load (bytes_in width) address)
 
 -- the memory after the low bytes of a word were stored at an address
 unfoldable pub stored : Memory → Width → ℕ → ℕ → Result Memory MemoryFault
 stored memory width address word =
-    answered (memory_with memory address (little_bytes (bytes_in width) word)) (aligned_page memory Store (bytes_in width) address)
+    answer_by (memory_with memory address (little_bytes (bytes_in width) word)) (aligned_page memory Store (bytes_in width) address)
 
 abbrev pub exchanged : Memory → (ℕ → ℕ) → ℕ → Page → ℕ × Memory
 exchanged memory update address page =
@@ -79,15 +79,15 @@ exchanged memory update address page =
 
 -- the old word at an address, and the memory in which it was replaced in the same step
 unfoldable pub replaced : Memory → (ℕ → ℕ) → ℕ → Result (ℕ × Memory) MemoryFault
-replaced memory update address = answered (exchanged memory update address) (aligned_page memory Store 4 address)
+replaced memory update address = answer_by (exchanged memory update address) (aligned_page memory Store 4 address)
 
 -- so many bytes from an address on, within its page
 unfoldable pub copied_out : Memory → ℕ → ℕ → Result (List ℕ) MemoryFault
-copied_out memory address count = answered (λ page. take count (drop (page_offset address) page.bytes)) (usable memory Load address)
+copied_out memory address count = answer_by (λ page. take count (drop (page_offset address) page.bytes)) (usable memory Load address)
 
 -- the memory after bytes were copied to an address, within its page
 unfoldable pub copied_in : Memory → ℕ → List ℕ → Result Memory MemoryFault
-copied_in memory address bytes = answered (memory_with memory address bytes) (usable memory Store address)
+copied_in memory address bytes = answer_by (memory_with memory address bytes) (usable memory Store address)
 
 -- the byte at an address, where a page is mapped there
 unfoldable pub byte_at : Memory → ℕ → Option ℕ

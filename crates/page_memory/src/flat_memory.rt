@@ -1,6 +1,6 @@
 ghost use Rattle.std.specs.Prelude.{◌≡◌, ◌+◌, ◌≤◌, ◌^◌, ◌<◌, ◌%◌, Ok, Err, MatchResult, IfOk, IfErr, OnOk, OnErr, length, IsErr, None};
 ghost use Rattle.std.specs.FinMap as map;
-ghost use Rattle.page_memory.specs.Memory.{Memory, usable, aligned_page, fetched, loaded, stored, answered, number_at, copied_out, copied_in, byte_at, with_zeroed};
+ghost use Rattle.page_memory.specs.Memory.{Memory, usable, aligned_page, fetched, loaded, stored, answer_by, number_at, copied_out, copied_in, byte_at, with_zeroed};
 ghost use Rattle.page_memory.specs.declared.words.Access.{Access};
 ghost use Rattle.page_memory.specs.Words.{bytes_in, page_offset};
 
@@ -149,7 +149,7 @@ impl FlatMemory {
     /// Loads the word that an atomic instruction is to replace: its page needs the right to write.
     #[inline]
     pub fn load_to_replace(&self, address: u32) -> Result<u32, MemoryFault>
-        ensures { result ≡ answered (number_at 4 address) (aligned_page self.now Access.Store 4 address) }
+        ensures { result ≡ answer_by (number_at 4 address) (aligned_page self.now Access.Store 4 address) }
     {
         let page = self.page_for(Access::Store, Width::Word, address)?;
         Ok(page.number(Width::Word, address))

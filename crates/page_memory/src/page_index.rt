@@ -1,5 +1,5 @@
 ghost use Rattle.std.specs.Prelude.{◌≡◌, slice_index, ◌==◌, ℕ, ◌+◌, ◌-◌, ◌<◌, ◌^◌, List, [], ◌∷◌, ◌++◌, IfOk, OnOk, OnErr, IfSome, length, take, position, ◌/◌};
-ghost use Rattle.page_memory.specs.PageIndex.{number_at, Keeps};
+ghost use Rattle.page_memory.specs.PageIndex.{kept_number, Keeps};
 ghost use Rattle.page_memory.specs.Entries.{IsLeastFrom};
 
 use crate::words::PAGE_COUNT;
@@ -125,7 +125,7 @@ impl PageIndex {
 #[inline]
 fn number_in(directory: &[Option<Box<[u32; 1024]>>], page: u32) -> u32
     requires { page / 1024 < length directory.now }
-    ensures { result ≡ number_at directory.now page }
+    ensures { result ≡ kept_number directory.now page }
 {
     match &directory[(page / LEAF_PAGES) as usize] {
         Some(leaf) => leaf[(page % LEAF_PAGES) as usize],

@@ -7,7 +7,7 @@ use Rattle.std.proofs.lemmas.Bool.Decides.{nat_tests}
 use Rattle.clock_policy.specs.declared.key.Key.{Key}
 use Rattle.clock_policy.specs.AdmitLaws.{one_key}
 use Rattle.page_ring.specs.declared.places.Place.{Place}
-use Rattle.page_ring.specs.Slots.{same_key, slot_of, held, in_slot}
+use Rattle.page_ring.specs.Slots.{same_key, index_slot, held, in_slot}
 
 pub keys_same : (k q : Key) → same_key k q ≡ true → k ≡ q
 keys_same k q h = one_key k q (parts k q h).0 (parts k q h).1
@@ -90,11 +90,11 @@ take_second_alone f g h key put alone k = elim (alone k) as (λ _. f k ≡ None 
 -- A slot that is filled or emptied.
 
 -- what is in the slots after one was set
-set_slot : (slots : List (Option Place)) (key k : Key) (w : Option Place) → slot_of key (length slots) < length slots →
-    in_slot (set slots (slot_of key (length slots)) w) k ≡ cond (slot_of k (length slots) == slot_of key (length slots)) (held w k) (in_slot slots k)
+set_slot : (slots : List (Option Place)) (key k : Key) (w : Option Place) → index_slot key (length slots) < length slots →
+    in_slot (set slots (index_slot key (length slots)) w) k ≡ cond (index_slot k (length slots) == index_slot key (length slots)) (held w k) (in_slot slots k)
 set_slot slots key k w within =
-    ap (λ (n : ℕ). held (get_or (set slots (slot_of key (length slots)) w) (slot_of k n) None) k) (length-set slots (slot_of key (length slots)) w)
-    ∙ by_slot (slot_of k (length slots)) (slot_of key (length slots)) within
+    ap (λ (n : ℕ). held (get_or (set slots (index_slot key (length slots)) w) (index_slot k n) None) k) (length-set slots (index_slot key (length slots)) w)
+    ∙ by_slot (index_slot k (length slots)) (index_slot key (length slots)) within
   where
     by_slot : (i j : ℕ) → j < length slots → held (get_or (set slots j w) i None) k ≡ cond (i == j) (held w k) (held (get_or slots i None) k)
     by_slot i j inside =
@@ -113,19 +113,19 @@ test_self : (n : ℕ) → (n == n) ≡ true
 test_self n = grind (arith, nat_tests)
 
 -- one slot's change for the page, where it tells nothing of another page
-change_slot : (slots : List (Option Place)) (key : Key) (w : Option Place) (v : Option ℕ) → slot_of key (length slots) < length slots → held w key ≡ v →
-    ((k : Key) → same_key key k ≡ false → held w k ≡ held (get_or slots (slot_of key (length slots)) None) k) →
-    Puts (in_slot slots) (in_slot (set slots (slot_of key (length slots)) w)) key v
+change_slot : (slots : List (Option Place)) (key : Key) (w : Option Place) (v : Option ℕ) → index_slot key (length slots) < length slots → held w key ≡ v →
+    ((k : Key) → same_key key k ≡ false → held w k ≡ held (get_or slots (index_slot key (length slots)) None) k) →
+    Puts (in_slot slots) (in_slot (set slots (index_slot key (length slots)) w)) key v
 change_slot slots key w v within told others k =
     set_slot slots key k w within
-    ∙ elim (same_key key k) as (λ t. same_key key k ≡ t → cond (slot_of k (length slots) == slot_of key (length slots)) (held w k) (in_slot slots k) ≡ cond t v (in_slot slots k)) [
+    ∙ elim (same_key key k) as (λ t. same_key key k ≡ t → cond (index_slot k (length slots) == index_slot key (length slots)) (held w k) (in_slot slots k) ≡ cond t v (in_slot slots k)) [
       | true ↦ λ is.
           let same : key ≡ k = keys_same key k is in
-          let here : (slot_of k (length slots) == slot_of key (length slots)) ≡ true = ap (λ (q : Key). slot_of q (length slots) == slot_of key (length slots)) (sym same) ∙ test_self (slot_of key (length slots)) in
+          let here : (index_slot k (length slots) == index_slot key (length slots)) ≡ true = ap (λ (q : Key). index_slot q (length slots) == index_slot key (length slots)) (sym same) ∙ test_self (index_slot key (length slots)) in
           ap (λ (t : Bool). cond t (held w k) (in_slot slots k)) here ∙ ap (held w) (sym same) ∙ told
       | false ↦ λ is.
-          elim (slot_of k (length slots) == slot_of key (length slots)) as (λ t. (slot_of k (length slots) == slot_of key (length slots)) ≡ t → cond t (held w k) (in_slot slots k) ≡ in_slot slots k) [
-            | true ↦ λ at. others k is ∙ ap (λ (i : ℕ). held (get_or slots i None) k) (sym (same_at (slot_of k (length slots)) (slot_of key (length slots)) at))
+          elim (index_slot k (length slots) == index_slot key (length slots)) as (λ t. (index_slot k (length slots) == index_slot key (length slots)) ≡ t → cond t (held w k) (in_slot slots k) ≡ in_slot slots k) [
+            | true ↦ λ at. others k is ∙ ap (λ (i : ℕ). held (get_or slots i None) k) (sym (same_at (index_slot k (length slots)) (index_slot key (length slots)) at))
             | false ↦ λ at. refl
           ] refl
     ] refl
@@ -136,14 +136,14 @@ change_slot slots key w v within told others k =
 self_key : (key : Key) → same_key key key ≡ true
 self_key key = grind (arith, nat_tests)
 
-pub fill_slot : (slots : List (Option Place)) (key : Key) (at : ℕ) → slot_of key (length slots) < length slots → get_or slots (slot_of key (length slots)) None ≡ None →
-    Puts (in_slot slots) (in_slot (set slots (slot_of key (length slots)) (Some (record { key = key; at = at })))) key (Some at)
+pub fill_slot : (slots : List (Option Place)) (key : Key) (at : ℕ) → index_slot key (length slots) < length slots → get_or slots (index_slot key (length slots)) None ≡ None →
+    Puts (in_slot slots) (in_slot (set slots (index_slot key (length slots)) (Some (record { key = key; at = at })))) key (Some at)
 fill_slot slots key at within free =
     change_slot slots key (Some (record { key = key; at = at })) (Some at) within (ap (λ (t : Bool). cond t (Some at) None) (self_key key))
     (λ k is. ap (λ (t : Bool). cond t (Some at) None) is ∙ sym (ap (λ (o : Option Place). held o k) free))
 
-pub empty_slot : (slots : List (Option Place)) (key : Key) (p : Place) → slot_of key (length slots) < length slots → get_or slots (slot_of key (length slots)) None ≡ Some p → same_key p.key key ≡ true →
-    Puts (in_slot slots) (in_slot (set slots (slot_of key (length slots)) None)) key None
+pub empty_slot : (slots : List (Option Place)) (key : Key) (p : Place) → index_slot key (length slots) < length slots → get_or slots (index_slot key (length slots)) None ≡ Some p → same_key p.key key ≡ true →
+    Puts (in_slot slots) (in_slot (set slots (index_slot key (length slots)) None)) key None
 empty_slot slots key p within full is_of =
     change_slot slots key None None within refl
     (λ k is. sym (ap (λ (o : Option Place). held o k) full ∙ ap (λ (t : Bool). cond t (Some p.at) None) (keys_differ p.key key k is_of is)))

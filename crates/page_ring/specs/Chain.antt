@@ -5,7 +5,7 @@ use Rattle.slab.specs.Slab.{Slab, get, slab_len, ContainsKey}
 use Rattle.clock_policy.specs.declared.entry.Entry.{Entry}
 use Rattle.clock_policy.specs.declared.entry.EntryKind.{EntryKind}
 use Rattle.page_ring.specs.declared.links.Node.{Node}
-use Rattle.page_ring.specs.Linked.{Cell, first_at, last_at, is_at, Apart, Linked, Circle}
+use Rattle.page_ring.specs.Linked.{Cell, first_at, last_at, is_at, DistinctNodes, Linked, Circle}
 use Rattle.page_ring.specs.LinkLaws.{turned, linked_kept, same_at, at_self, or_true, not_same, free_of}
 
 pub record Chain : Type 0 where
@@ -111,9 +111,9 @@ pub record Changed (s t : Slab Node) (f g at : ℕ) (made : List Cell → Cell �
   pub held : Held t g (cells_of t g)
   pub cells : (u v : List Cell) → (c : Cell) → cells_of s f ≡ u ++ c ∷ v → c.at ≡ at → cells_of t g ≡ made u c v
 
-pub changed : (s t : Slab Node) (f g at : ℕ) (made : List Cell → Cell → List Cell → List Cell) → Held s f (cells_of s f) → is_at (cells_of s f) at ≡ true →
+pub changes_at : (s t : Slab Node) (f g at : ℕ) (made : List Cell → Cell → List Cell → List Cell) → Held s f (cells_of s f) → is_at (cells_of s f) at ≡ true →
     ((u v : List Cell) → (c : Cell) → Held s f (u ++ c ∷ v) → c.at ≡ at → Held t g (made u c v)) → Changed s t f g at made
-changed s t f g at made h there step = at_split (split (cells_of s f) at there)
+changes_at s t f g at made h there step = at_split (split (cells_of s f) at there)
   where
     at_split : Split (cells_of s f) at → Changed s t f g at made
     at_split e = record {
@@ -178,7 +178,7 @@ remove_step s t f g at next circle ahead len made u v c h is =
     differs : (m n : ℕ) → m ≢ n → (m == n) ≡ false
     differs m n h = elim (m == n) as (λ t. (m == n) ≡ t → t ≡ false) [ true ↦ λ e. absurd (h (same_at m n e)) | false ↦ λ e. refl ] refl
 
-    by_front : (u : List Cell) → first_at (u ++ c ∷ v) f ≡ f → Apart (u ++ c ∷ v) → next ≡ first_at (v ++ u) at → first_at (u ++ v) g ≡ g
+    by_front : (u : List Cell) → first_at (u ++ c ∷ v) f ≡ f → DistinctNodes (u ++ c ∷ v) → next ≡ first_at (v ++ u) at → first_at (u ++ v) g ≡ g
     by_front [] first apart e =
         let here : f ≡ at = sym first ∙ is in
         at_front v (e ∙ ap (λ (l : List Cell). first_at l at) (nil_behind v)) (made ∙ ap (λ (n : ℕ). cond (n == at) next f) here ∙ ap (λ (t : Bool). cond t next f) (at_self at))

@@ -25,8 +25,8 @@ at_of k [] = None
 at_of k (c ∷ cs) = cond (has_key k c.entry) (Some c.at) (at_of k cs)
 
 -- no page has two cells
-abbrev pub Distinct : List Cell → Type 0
-Distinct cs = (k : Key) → number (has_key k) (entries_of cs) ≤ 1
+abbrev pub DistinctPages : List Cell → Type 0
+DistinctPages cs = (k : Key) → number (has_key k) (entries_of cs) ≤ 1
 
 -- the node of a page by the index: in its slot, or else in the map
 abbrev pub node_of : Key → Places → Option ℕ
@@ -37,13 +37,13 @@ abbrev pub Parted : Places → Type 0
 Parted p = (k : Key) → in_slot p.slots.items k ≡ None ⊎ get_by (same_key k) p.others ≡ None
 
 -- look-ups find each page's node, and nothing else
-pub record Indexes (cs : List Cell) (look : Key → Option ℕ) : Type 0 where
+pub record FindsNodes (cs : List Cell) (look : Key → Option ℕ) : Type 0 where
   pub found : (k : Key) → look k ≡ at_of k cs
-  pub distinct : Distinct cs
+  pub distinct : DistinctPages cs
 
 -- the index finds each page's node
 pub record Indexed (cs : List Cell) (p : Places) : Type 0 where
-  pub indexes : Indexes cs (λ k. node_of k p)
+  pub indexes : FindsNodes cs (λ k. node_of k p)
   pub parted : Parted p
 
 -- Entries of cells.
@@ -156,13 +156,13 @@ turn_at k a b one =
 same_keys : (k q : Key) (e : Entry) → e.key ≡ k → has_key q e ≡ same_key k q
 same_keys k q e h = ap (λ (x : Key). (x.process == q.process) && (x.vpn == q.vpn)) h
 
-pub index_mark : (look : Key → Option ℕ) (kind : EntryKind) (u v : List Cell) (c : Cell) → Indexes (u ++ c ∷ v) look → Indexes (u ++ of_kind kind c ∷ v) look
+pub index_mark : (look : Key → Option ℕ) (kind : EntryKind) (u v : List Cell) (c : Cell) → FindsNodes (u ++ c ∷ v) look → FindsNodes (u ++ of_kind kind c ∷ v) look
 index_mark look kind u v c h = record {
   found = λ k. h.found k ∙ sym (mark_at k kind u v c);
   distinct = λ k. let e : number (has_key k) (entries_of (u ++ of_kind kind c ∷ v)) + cond (has_key k c.entry) 1 0 ≡ number (has_key k) (entries_of (u ++ c ∷ v)) + cond (has_key k c.entry) 1 0 = mark_number (has_key k) kind u v c in omega (arith, e, h.distinct k);
 }
 
-pub index_turn : (look : Key → Option ℕ) (a b : List Cell) → Indexes (a ++ b) look → Indexes (b ++ a) look
+pub index_turn : (look : Key → Option ℕ) (a b : List Cell) → FindsNodes (a ++ b) look → FindsNodes (b ++ a) look
 index_turn look a b h = record {
   found = λ k. h.found k ∙ sym (turn_at k a b (h.distinct k));
   distinct = λ k.
@@ -171,13 +171,13 @@ index_turn look a b h = record {
       omega (arith, old, new, h.distinct k);
 }
 
-pub index_remove : (old new : Key → Option ℕ) (u v : List Cell) (c : Cell) → ((k : Key) → new k ≡ cond (same_key c.entry.key k) None (old k)) → Indexes (u ++ c ∷ v) old → Indexes (u ++ v) new
+pub index_remove : (old new : Key → Option ℕ) (u v : List Cell) (c : Cell) → ((k : Key) → new k ≡ cond (same_key c.entry.key k) None (old k)) → FindsNodes (u ++ c ∷ v) old → FindsNodes (u ++ v) new
 index_remove old new u v c gone h = record {
   found = λ k. gone k ∙ ap (cond (has_key k c.entry) None) (h.found k) ∙ sym (remove_at k u v c (h.distinct k));
   distinct = λ k. let e : number (has_key k) (entries_of (u ++ v)) + cond (has_key k c.entry) 1 0 ≡ number (has_key k) (entries_of (u ++ c ∷ v)) = remove_number (has_key k) u v c in omega (arith, e, h.distinct k);
 }
 
-pub appended_distinct : (cs : List Cell) (c : Cell) → Distinct cs → at_of c.entry.key cs ≡ None → Distinct (cs ++ c ∷ [])
+pub appended_distinct : (cs : List Cell) (c : Cell) → DistinctPages cs → at_of c.entry.key cs ≡ None → DistinctPages (cs ++ c ∷ [])
 appended_distinct cs c distinct free k =
     elim (has_key k c.entry) as (λ t. has_key k c.entry ≡ t → number (has_key k) (entries_of (cs ++ c ∷ [])) ≤ 1) [
       | true ↦ λ is.
@@ -193,16 +193,16 @@ appended_distinct cs c distinct free k =
     parts : (k : Key) (e : Entry) → has_key k e ≡ true → (k.process ≡ e.key.process) × (k.vpn ≡ e.key.vpn)
     parts k e h = grind (arith, nat_tests)
 
-pub index_append : (old new : Key → Option ℕ) (cs : List Cell) (c : Cell) → at_of c.entry.key cs ≡ None → ((k : Key) → new k ≡ cond (same_key c.entry.key k) (Some c.at) (old k)) → Indexes cs old → Indexes (cs ++ c ∷ []) new
+pub index_append : (old new : Key → Option ℕ) (cs : List Cell) (c : Cell) → at_of c.entry.key cs ≡ None → ((k : Key) → new k ≡ cond (same_key c.entry.key k) (Some c.at) (old k)) → FindsNodes cs old → FindsNodes (cs ++ c ∷ []) new
 index_append old new cs c free put h = record {
   found = λ k. put k ∙ ap (cond (has_key k c.entry) (Some c.at)) (h.found k) ∙ sym (append_at k cs c free);
   distinct = appended_distinct cs c h.distinct free;
 }
 
 -- a cell that becomes the last
-pub index_send : (look : Key → Option ℕ) (kind : EntryKind) (u v : List Cell) (c : Cell) → Indexes (u ++ c ∷ v) look → Indexes ((u ++ v) ++ of_kind kind c ∷ []) look
+pub index_send : (look : Key → Option ℕ) (kind : EntryKind) (u v : List Cell) (c : Cell) → FindsNodes (u ++ c ∷ v) look → FindsNodes ((u ++ v) ++ of_kind kind c ∷ []) look
 index_send look kind u v c h =
-    index_mark look kind (u ++ v) [] c (subst (λ (l : List Cell). Indexes l look) (sym (append_again u v (c ∷ []))) (moved u v h))
+    index_mark look kind (u ++ v) [] c (subst (λ (l : List Cell). FindsNodes l look) (sym (append_again u v (c ∷ []))) (moved u v h))
   where
     append_again : (a b d : List Cell) → (a ++ b) ++ d ≡ a ++ (b ++ d)
     append_again [] b d = refl
@@ -215,7 +215,7 @@ index_send look kind u v c h =
         ∙ ap (option_or (at_of k u)) (at_of-append k (c ∷ []) v ∙ swapped k (c ∷ []) v (omega (arith, old, few)) ∙ sym (at_of-append k v (c ∷ [])))
         ∙ sym (at_of-append k u (v ++ c ∷ []))
 
-    moved : (u v : List Cell) → Indexes (u ++ c ∷ v) look → Indexes (u ++ (v ++ c ∷ [])) look
+    moved : (u v : List Cell) → FindsNodes (u ++ c ∷ v) look → FindsNodes (u ++ (v ++ c ∷ [])) look
     moved u v g =
         record {
           found = λ k. g.found k ∙ by_halves k u v (g.distinct k);

@@ -5,7 +5,7 @@ use Rattle.std.proofs.lemmas.Bool.Decides.{nat_tests}
 use Rattle.slab.specs.Slab.{Slab, get}
 use Rattle.clock_policy.specs.declared.entry.Entry.{Entry}
 use Rattle.page_ring.specs.declared.links.Node.{Node}
-use Rattle.page_ring.specs.Linked.{Cell, first_at, last_at, is_at, Apart, Linked, Circle, Changes, with_next, with_previous}
+use Rattle.page_ring.specs.Linked.{Cell, first_at, last_at, is_at, DistinctNodes, Linked, Circle, Changes, with_next, with_previous}
 
 -- Ways one behind the other.
 
@@ -87,17 +87,17 @@ pub record Ended (cs : List Cell) : Type 0 where
   pub last : Cell
   pub parts : cs ≡ front ++ last ∷ []
 
-pub ended : (c : Cell) (cs : List Cell) → Ended (c ∷ cs)
-ended c [] = record { front = []; last = c; parts = refl }
-ended c (d ∷ ds) =
-    let e : Ended (d ∷ ds) = ended d ds in
+pub ended_chain : (c : Cell) (cs : List Cell) → Ended (c ∷ cs)
+ended_chain c [] = record { front = []; last = c; parts = refl }
+ended_chain c (d ∷ ds) =
+    let e : Ended (d ∷ ds) = ended_chain d ds in
     record { front = c ∷ e.front; last = e.last; parts = ap (λ (l : List Cell). c ∷ l) e.parts }
 
 last_ended : (p : ℕ) (a : List Cell) (c : Cell) → last_at p (a ++ c ∷ []) ≡ c.at
 last_ended p [] c = refl
 last_ended p (d ∷ ds) c = last_ended d.at ds c
 
-alone_last : (a : List Cell) (c : Cell) → Apart (a ++ c ∷ []) → is_at a c.at ≡ false
+alone_last : (a : List Cell) (c : Cell) → DistinctNodes (a ++ c ∷ []) → is_at a c.at ≡ false
 alone_last [] c h = refl
 alone_last (d ∷ ds) c h =
     elim (d.at == c.at) as (λ t. (d.at == c.at) ≡ t → t || is_at ds c.at ≡ false) [
@@ -114,8 +114,8 @@ not_same cs m k alone there = λ same. let holds : is_at cs m ≡ true = ap (is_
 -- One node is changed, and every other keeps what it has.
 
 -- the way's end leads elsewhere
-led_to : (s t : Slab Node) (p : ℕ) (d : Cell) (ds : List Cell) (m n : ℕ) → Apart (d ∷ ds) → Changes s t (last_at p (d ∷ ds)) (with_next n) → Linked s p (d ∷ ds) m → Linked t p (d ∷ ds) n
-led_to s t p d ds m n apart change h = at_end (ended d ds)
+led_to : (s t : Slab Node) (p : ℕ) (d : Cell) (ds : List Cell) (m n : ℕ) → DistinctNodes (d ∷ ds) → Changes s t (last_at p (d ∷ ds)) (with_next n) → Linked s p (d ∷ ds) m → Linked t p (d ∷ ds) n
+led_to s t p d ds m n apart change h = at_end (ended_chain d ds)
   where
     at_end : Ended (d ∷ ds) → Linked t p (d ∷ ds) n
     at_end e =
@@ -125,10 +125,10 @@ led_to s t p d ds m n apart change h = at_end (ended d ds)
         let last : last_at p (d ∷ ds) ≡ z.at = ap (last_at p) e.parts ∙ last_ended p i z in
         let moved : Changes s t z.at (with_next n) = rw last at change in
         let held : get s z.at ≡ Some (record { entry = z.entry; next = m; previous = last_at p i }) = (linked_second s p i (z ∷ []) m way).0 in
-        subst (λ (l : List Cell). Linked t p l n) (sym e.parts) (next_set s t p z i m n (alone_last i z (subst Apart e.parts apart)) (moved.set _ held) moved.others way)
+        subst (λ (l : List Cell). Linked t p l n) (sym e.parts) (next_set s t p z i m n (alone_last i z (subst DistinctNodes e.parts apart)) (moved.set _ held) moved.others way)
 
 -- the way's first node names another before it
-led_from : (s t : Slab Node) (p q : ℕ) (d : Cell) (ds : List Cell) (n : ℕ) → Apart (d ∷ ds) → Changes s t d.at (with_previous q) → Linked s p (d ∷ ds) n → Linked t q (d ∷ ds) n
+led_from : (s t : Slab Node) (p q : ℕ) (d : Cell) (ds : List Cell) (n : ℕ) → DistinctNodes (d ∷ ds) → Changes s t d.at (with_previous q) → Linked s p (d ∷ ds) n → Linked t q (d ∷ ds) n
 led_from s t p q d ds n apart change h = previous_set s t p q d ds n (apart.0) (change.set _ (h.0)) change.others h
 
 -- The first cell is taken out: its node goes, and its neighbours name one another.
@@ -136,7 +136,7 @@ pub unlinked : (s t u w : Slab Node) (c : Cell) (cs : List Cell) → Circle s (c
     Changes t u (last_at c.at cs) (with_next (first_at cs c.at)) → Changes u w (first_at cs c.at) (with_previous (last_at c.at cs)) → Circle w cs
 unlinked s t u w c [] h others ahead back = record { linked = tt; apart = tt }
 unlinked s t u w c (d ∷ ds) h others ahead back =
-    let apart : Apart (d ∷ ds) = h.apart.1 in
+    let apart : DistinctNodes (d ∷ ds) = h.apart.1 in
     let kept : Linked t c.at (d ∷ ds) c.at = linked_kept s t c.at (d ∷ ds) c.at (λ k there. others k (not_same (d ∷ ds) c.at k (h.apart.0) there)) (h.linked.1) in
     let led : Linked u c.at (d ∷ ds) d.at = led_to t u c.at d ds c.at d.at apart ahead kept in
     record {
@@ -146,10 +146,10 @@ unlinked s t u w c (d ∷ ds) h others ahead back =
 
 -- A cell is put behind the last, before the first.
 
-apart_behind : (a : List Cell) (c : Cell) → Apart a → is_at a c.at ≡ false → Apart (a ++ c ∷ [])
+apart_behind : (a : List Cell) (c : Cell) → DistinctNodes a → is_at a c.at ≡ false → DistinctNodes (a ++ c ∷ [])
 apart_behind [] c h alone = (refl, tt)
 apart_behind (d ∷ ds) c h alone =
-    elim (d.at == c.at) as (λ t. (d.at == c.at) ≡ t → t || is_at ds c.at ≡ false → Apart (d ∷ (ds ++ c ∷ []))) [
+    elim (d.at == c.at) as (λ t. (d.at == c.at) ≡ t → t || is_at ds c.at ≡ false → DistinctNodes (d ∷ (ds ++ c ∷ []))) [
       | true ↦ λ is g. cc
       | false ↦ λ is g. (is_at-append ds (c ∷ []) d.at ∙ rw (h.0, not_back d.at c.at is) refl, apart_behind ds c (h.1) g)
     ] refl alone
@@ -186,7 +186,7 @@ linked_in s t u w c d ds h alone put others ahead back =
       apart = apart_behind (d ∷ ds) c h.apart alone;
     }
 
-apart_parts : (a b : List Cell) → Apart (a ++ b) → Apart b
+apart_parts : (a b : List Cell) → DistinctNodes (a ++ b) → DistinctNodes b
 apart_parts [] b h = h
 apart_parts (c ∷ cs) b h = apart_parts cs b (h.1)
 
@@ -194,7 +194,7 @@ or_nothing : (a b : Bool) → a || b ≡ false → (a ≡ false) × (b ≡ false
 or_nothing true b h = cc
 or_nothing false b h = (refl, h)
 
-apart_between : (c : Cell) (a b : List Cell) → Apart (a ++ b) → is_at (a ++ b) c.at ≡ false → Apart (a ++ c ∷ b)
+apart_between : (c : Cell) (a b : List Cell) → DistinctNodes (a ++ b) → is_at (a ++ b) c.at ≡ false → DistinctNodes (a ++ c ∷ b)
 apart_between c [] b h alone = (alone, h)
 apart_between c (d ∷ ds) b h alone =
     let parts : ((d.at == c.at) ≡ false) × (is_at (ds ++ b) c.at ≡ false) = or_nothing (d.at == c.at) (is_at (ds ++ b) c.at) alone in
@@ -204,8 +204,8 @@ apart_between c (d ∷ ds) b h alone =
     not_back : (m n : ℕ) → (m == n) ≡ false → (n == m) ≡ false
     not_back m n h = grind (arith, nat_tests)
 
-pub apart_turned : (a b : List Cell) → Apart (a ++ b) → Apart (b ++ a)
-apart_turned [] b h = subst Apart (sym (nil_behind b)) h
+pub apart_turned : (a b : List Cell) → DistinctNodes (a ++ b) → DistinctNodes (b ++ a)
+apart_turned [] b h = subst DistinctNodes (sym (nil_behind b)) h
   where
     nil_behind : (l : List Cell) → l ++ [] ≡ l
     nil_behind [] = refl

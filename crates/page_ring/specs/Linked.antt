@@ -21,9 +21,9 @@ is_at [] n = false
 is_at (c ∷ cs) n = (c.at == n) || is_at cs n
 
 -- no node has two cells
-abbrev pub Apart : List Cell → Type 0
-Apart [] = Unit {0}
-Apart (c ∷ cs) = (is_at cs c.at ≡ false) × Apart cs
+abbrev pub DistinctNodes : List Cell → Type 0
+DistinctNodes [] = Unit {0}
+DistinctNodes (c ∷ cs) = (is_at cs c.at ≡ false) × DistinctNodes cs
 
 -- a way through the cells: before it stands the node p, behind it n
 abbrev pub Linked : Slab Node → ℕ → List Cell → ℕ → Type 0
@@ -33,7 +33,7 @@ Linked s p (c ∷ cs) n = (get s c.at ≡ Some (record { entry = c.entry; next =
 -- the way closes
 pub record Circle (s : Slab Node) (cs : List Cell) : Type 0 where
   pub linked : Linked s (last_at 0 cs) cs (first_at cs 0)
-  pub apart : Apart cs
+  pub apart : DistinctNodes cs
 
 -- a node has become this by f, and every other is what it was
 pub record Changes (s t : Slab Node) (at : ℕ) (f : Node → Node) : Type 0 where

@@ -7,8 +7,8 @@ abbrev pub same_key : Key → Key → Bool
 same_key k q = (k.process == q.process) && (k.vpn == q.vpn)
 
 -- the slot of a page among n, of which the pages of a process take turns
-unfoldable pub slot_of : Key → ℕ → ℕ
-slot_of k n = bit_and ((k.vpn + k.process * 0x9E37_79B9 % 2 ^ 32) % 2 ^ 32) (n - 1)
+unfoldable pub index_slot : Key → ℕ → ℕ
+index_slot k n = bit_and ((k.vpn + k.process * 0x9E37_79B9 % 2 ^ 32) % 2 ^ 32) (n - 1)
 
 -- what a slot tells of a page
 abbrev pub held : Option Place → Key → Option ℕ
@@ -16,4 +16,4 @@ held None k = None
 held (Some p) k = cond (same_key p.key k) (Some p.at) None
 
 abbrev pub in_slot : List (Option Place) → Key → Option ℕ
-in_slot slots k = held (slice_index_or slots (slot_of k (length slots)) None) k
+in_slot slots k = held (slice_index_or slots (index_slot k (length slots)) None) k

@@ -1,9 +1,9 @@
 //! The links with an index from a page to its node.
 
 ghost use Rattle.std.specs.Prelude.{◌≡◌, ◌≤◌, ◌<◌, ◌+◌, ◌++◌, ℕ, List, [], ◌∷◌, Some, None, true, false, length, IfOk, OnErr, OnOk};
-ghost use Rattle.page_ring.specs.Linked.{Cell, Apart, is_at, first_at, last_at};
+ghost use Rattle.page_ring.specs.Linked.{Cell, DistinctNodes, is_at, first_at, last_at};
 ghost use Rattle.page_ring.specs.Chain.{of_kind, Rotates};
-ghost use Rattle.page_ring.specs.Index.{Distinct, at_of};
+ghost use Rattle.page_ring.specs.Index.{DistinctPages, at_of};
 
 use crate::links::{Links, Node};
 use crate::places::Places;
@@ -43,8 +43,8 @@ impl IndexedRing {
     /// How many entries there are.
     pub fn len(&self) -> usize
         ensures len { result ≡ length self.now.cells }
-        ensures apart { Apart self.now.cells }
-        ensures distinct { Distinct self.now.cells }
+        ensures apart { DistinctNodes self.now.cells }
+        ensures distinct { DistinctPages self.now.cells }
     {
         let _ = &self.places;
         self.links.len()
@@ -78,7 +78,7 @@ impl IndexedRing {
     pub fn mark(&mut self, at: usize, kind: EntryKind)
         requires { is_at self.old.cells at ≡ true }
         ensures cells { (u v : List Cell) → (c : Cell) → self.old.cells ≡ u ++ c ∷ v → c.at ≡ at → self.new.cells ≡ u ++ of_kind kind c ∷ v }
-        ensures apart { Apart self.new.cells }
+        ensures apart { DistinctNodes self.new.cells }
         ensures room { self.new.room ≡ self.old.room }
     {
         self.links.mark(at, kind);
@@ -88,7 +88,7 @@ impl IndexedRing {
     pub fn turn(&mut self)
         requires { 1 ≤ length self.old.cells }
         ensures cells { (c : Cell) → (cs : List Cell) → self.old.cells ≡ c ∷ cs → self.new.cells ≡ cs ++ c ∷ [] }
-        ensures apart { Apart self.new.cells }
+        ensures apart { DistinctNodes self.new.cells }
         ensures room { self.new.room ≡ self.old.room }
     {
         self.links.turn();
@@ -101,7 +101,7 @@ impl IndexedRing {
         requires room { length self.old.cells < self.old.room }
         ensures cells { IfOk result (λ at. self.new.cells ≡ self.old.cells ++ record { at = at; entry = entry } ∷ []) }
         ensures fresh { IfOk result (λ at. is_at self.old.cells at ≡ false) }
-        ensures apart { OnOk result (Apart self.new.cells) }
+        ensures apart { OnOk result (DistinctNodes self.new.cells) }
         ensures room { self.new.room ≡ self.old.room }
         ensures err { OnErr result (self.new ≡ self.old) }
     {
@@ -115,7 +115,7 @@ impl IndexedRing {
     pub fn remove(&mut self, at: usize)
         requires { is_at self.old.cells at ≡ true }
         ensures cells { (u v : List Cell) → (c : Cell) → self.old.cells ≡ u ++ c ∷ v → c.at ≡ at → self.new.cells ≡ u ++ v }
-        ensures apart { Apart self.new.cells }
+        ensures apart { DistinctNodes self.new.cells }
         ensures room { self.new.room ≡ self.old.room }
     {
         let key = self.links.node(at).entry.key;
@@ -127,7 +127,7 @@ impl IndexedRing {
     pub fn send_to_end(&mut self, at: usize, kind: EntryKind)
         requires { is_at self.old.cells at ≡ true }
         ensures cells { (u v : List Cell) → (c : Cell) → self.old.cells ≡ u ++ c ∷ v → c.at ≡ at → self.new.cells ≡ (u ++ v) ++ of_kind kind c ∷ [] }
-        ensures apart { Apart self.new.cells }
+        ensures apart { DistinctNodes self.new.cells }
         ensures room { self.new.room ≡ self.old.room }
     {
         self.links.send_to_end(at, kind);

@@ -177,7 +177,7 @@ impl Model for Links {
 
 impl Links {
     ghost use Rattle.page_ring.specs.Chain.{cells_of, of_kind, Rotates};
-    ghost use Rattle.page_ring.specs.Linked.{Apart, is_at};
+    ghost use Rattle.page_ring.specs.Linked.{DistinctNodes, is_at};
 
     /// An empty circle with room for so many entries.
     pub(crate) fn new(alloc: Global, room: usize) -> Result<Self, AllocError>
@@ -192,7 +192,7 @@ impl Links {
 
     pub(crate) fn len(&self) -> usize
         ensures len { result ≡ length self.now.cells }
-        ensures apart { Apart self.now.cells }
+        ensures apart { DistinctNodes self.now.cells }
     {
         self.nodes.len()
     }
@@ -222,7 +222,7 @@ impl Links {
     pub(crate) fn mark(&mut self, at: usize, kind: EntryKind)
         requires { is_at self.old.cells at ≡ true }
         ensures cells { (u v : List Cell) → (c : Cell) → self.old.cells ≡ u ++ c ∷ v → c.at ≡ at → self.new.cells ≡ u ++ of_kind kind c ∷ v }
-        ensures apart { Apart self.new.cells }
+        ensures apart { DistinctNodes self.new.cells }
         ensures room { self.new.room ≡ self.old.room }
     {
         set_kind(&mut self.nodes, at, kind);
@@ -232,7 +232,7 @@ impl Links {
     pub(crate) fn turn(&mut self)
         requires { 1 ≤ length self.old.cells }
         ensures cells { (c : Cell) → (cs : List Cell) → self.old.cells ≡ c ∷ cs → self.new.cells ≡ cs ++ c ∷ [] }
-        ensures apart { Apart self.new.cells }
+        ensures apart { DistinctNodes self.new.cells }
         ensures room { self.new.room ≡ self.old.room }
     {
         self.front = self.nodes[self.front].next;
@@ -245,7 +245,7 @@ impl Links {
         ensures cells { self.new.cells ≡ self.old.cells ++ record { at = result; entry = entry } ∷ [] }
         ensures fresh { is_at self.old.cells result ≡ false }
         ensures vacant { result ≡ self.old.vacant }
-        ensures apart { Apart self.new.cells }
+        ensures apart { DistinctNodes self.new.cells }
         ensures room { self.new.room ≡ self.old.room }
     {
         if self.nodes.is_empty() {
@@ -260,7 +260,7 @@ impl Links {
         requires { is_at self.old.cells at ≡ true }
         ensures cells { (u v : List Cell) → (c : Cell) → self.old.cells ≡ u ++ c ∷ v → c.at ≡ at → self.new.cells ≡ u ++ v }
         ensures vacant { self.new.vacant ≡ at }
-        ensures apart { Apart self.new.cells }
+        ensures apart { DistinctNodes self.new.cells }
         ensures room { self.new.room ≡ self.old.room }
     {
         let next = unlink(&mut self.nodes, at);
@@ -271,7 +271,7 @@ impl Links {
     pub(crate) fn send_to_end(&mut self, at: usize, kind: EntryKind)
         requires { is_at self.old.cells at ≡ true }
         ensures cells { (u v : List Cell) → (c : Cell) → self.old.cells ≡ u ++ c ∷ v → c.at ≡ at → self.new.cells ≡ (u ++ v) ++ of_kind kind c ∷ [] }
-        ensures apart { Apart self.new.cells }
+        ensures apart { DistinctNodes self.new.cells }
         ensures room { self.new.room ≡ self.old.room }
     {
         if at == self.front {

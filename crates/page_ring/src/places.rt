@@ -1,7 +1,7 @@
 //! An index from a page to its node.
 
 ghost use Rattle.std.specs.Prelude.{◌≡◌, ◌≤◌, ◌<◌, length, cond, Some, None, IfOk, OnOk, OnErr, vec_len};
-ghost use Rattle.page_ring.specs.Slots.{same_key, slot_of, in_slot};
+ghost use Rattle.page_ring.specs.Slots.{same_key, index_slot, in_slot};
 
 use clock_policy::Key;
 use std::alloc::{AllocError, Global};
@@ -45,9 +45,9 @@ impl Places {
     }
 
     #[inline(always)]
-    #[tactic(auto, unfolding(crate::specs::Slots::slot_of))]
+    #[tactic(auto, unfolding(crate::specs::Slots::index_slot))]
     fn slot(&self, key: Key) -> usize
-        ensures slot { result ≡ slot_of key (length self.now.slots.items) }
+        ensures slot { result ≡ index_slot key (length self.now.slots.items) }
         ensures within { result < vec_len self.now.slots }
     {
         let mixed = key.vpn.wrapping_add(key.process.wrapping_mul(0x9E37_79B9));

@@ -22,13 +22,13 @@ pub record PageValue (S : Type 0) : Type 0 where
   pub origin : Page
   pub place : Place S
 
-abbrev pub state_of : {S : Type 0} → Place S → PageState
-state_of Fresh = stage.Fresh
-state_of (Resident frame slot) = stage.Resident
-state_of (Leaving frame slot mark) = stage.Leaving
-state_of (Saving frame) = stage.Saving
-state_of (Away slot) = stage.Away
-state_of Purged = stage.Purged
+abbrev pub page_state_of : {S : Type 0} → Place S → PageState
+page_state_of Fresh = stage.Fresh
+page_state_of (Resident frame slot) = stage.Resident
+page_state_of (Leaving frame slot mark) = stage.Leaving
+page_state_of (Saving frame) = stage.Saving
+page_state_of (Away slot) = stage.Away
+page_state_of Purged = stage.Purged
 
 -- the frame that a page holds
 abbrev pub frame_of : {S : Type 0} → Place S → Option FrameValue

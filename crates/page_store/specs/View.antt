@@ -10,10 +10,10 @@ abbrev pub origin_of : Origin → Page
 origin_of (Image page) = page
 origin_of (Zeros rights) = record { rights = rights; bytes = zero_bytes }
 
-abbrev pub place_of : {L : Type 0} {S : Type 0} → State L S → Place S
-place_of state.Fresh = Fresh
-place_of (state.Resident frame slot) = Resident frame slot
-place_of (state.Leaving frame slot mark) = Leaving frame slot mark
-place_of (state.Saving frame) = Saving frame
-place_of (state.Away slot) = Away slot
-place_of state.Purged = Purged
+abbrev pub place_in_state : {L : Type 0} {S : Type 0} → State L S → Place S
+place_in_state state.Fresh = Fresh
+place_in_state (state.Resident frame slot) = Resident frame slot
+place_in_state (state.Leaving frame slot mark) = Leaving frame slot mark
+place_in_state (state.Saving frame) = Saving frame
+place_in_state (state.Away slot) = Away slot
+place_in_state state.Purged = Purged

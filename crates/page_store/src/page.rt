@@ -1,7 +1,7 @@
 ghost use Rattle.std.specs.Prelude.{◌≡◌, ◌≢◌, ◌<◌, ◌↔◌, slice_index, ℕ, List, Ok, Err, Some, None, OnOk, OnErr, IfOk, IfErr, IsErr, IsTrue, false, OnSome, IfNone, option_copied, option_map};
 ghost use Rattle.page_store.specs.Moves.{left, brought_back, given_back, collected, collect_leaving, job_of, RefusesSave, Filled, RefusesFill, RefusesRead, IfAway};
-ghost use Rattle.page_store.specs.PageValue.{Leaving, Saving, Away, Purged, Backed, BackedAt, shown, Known, content, state_of, frame_of, writable};
-ghost use Rattle.page_store.specs.View.{place_of};
+ghost use Rattle.page_store.specs.PageValue.{Leaving, Saving, Away, Purged, Backed, BackedAt, shown, Known, content, page_state_of, frame_of, writable};
+ghost use Rattle.page_store.specs.View.{place_in_state};
 
 use crate::answer::{Collected, SaveRefusal};
 use crate::job::{SaveJob, SavedJob};
@@ -23,11 +23,11 @@ pub struct StoredPage<L: Ledger, S: SwapSlot> {
 
 impl<L: Ledger, S: SwapSlot> Model for StoredPage<L, S> {
     ghost use Rattle.page_store.specs.PageValue.{PageValue};
-    ghost use Rattle.page_store.specs.View.{origin_of, place_of};
+    ghost use Rattle.page_store.specs.View.{origin_of, place_in_state};
 
     ghost Value = { PageValue S };
 
-    ghost view = { λ p. record { origin = origin_of p.origin; place = place_of p.state } };
+    ghost view = { λ p. record { origin = origin_of p.origin; place = place_in_state p.state } };
 }
 
 impl<L: Ledger, S: SwapSlot> StoredPage<L, S> {
@@ -66,7 +66,7 @@ impl<L: Ledger, S: SwapSlot> StoredPage<L, S> {
 
     /// Where the page is.
     pub fn state(&self) -> PageState
-        ensures { result ≡ state_of self.now.place }
+        ensures { result ≡ page_state_of self.now.place }
     {
         match self.state {
             State::Fresh => PageState::Fresh,
@@ -246,7 +246,7 @@ impl<L: Ledger, S: SwapSlot> StoredPage<L, S> {
         ensures byte { Known S.honest self.old.place → IfOk result (λ byte. byte ≡ slice_index (content S.content self.old) offset) }
         ensures mapped { OnOk result (self.old.place ≢ Purged) }
         ensures refused { IfErr result (RefusesRead S.failures self.old.place self.new.place) }
-        ensures state { state_of self.new.place ≡ state_of self.old.place }
+        ensures state { page_state_of self.new.place ≡ page_state_of self.old.place }
         ensures at_hand { (¬ IfAway self.old.place (λ _. Unit {0})) → self.new ≡ self.old }
         ensures content { Known S.honest self.old.place → content S.content self.new ≡ content S.content self.old }
         ensures origin { self.new.origin ≡ self.old.origin }
@@ -306,8 +306,8 @@ fn collect_leaving<L: Ledger, S: SwapSlot>(
     cached: bool,
     spare: &mut Option<S>,
 ) -> (State<L, S>, Collected<L, S>)
-    ensures answer { (place_of result.0, (spare.new, result.1)) ≡ collect_leaving process vpn page.0 page.1 page.2 cached spare.old }
-    ensures shown { (origin : List ℕ) → BackedAt S.content origin false (Leaving page.0 page.1 page.2) → shown S.content origin (place_of result.0) ≡ page.0.bytes }
+    ensures answer { (place_in_state result.0, (spare.new, result.1)) ≡ collect_leaving process vpn page.0 page.1 page.2 cached spare.old }
+    ensures shown { (origin : List ℕ) → BackedAt S.content origin false (Leaving page.0 page.1 page.2) → shown S.content origin (place_in_state result.0) ≡ page.0.bytes }
 {
     let (frame, slot, changed) = page;
     if cached {
@@ -344,7 +344,7 @@ fn start_saving<L: Ledger, S: SwapSlot>(
     frame: Frame<L>,
     slot: S,
 ) -> (State<L, S>, Collected<L, S>)
-    ensures page { place_of result.0 ≡ Saving frame }
+    ensures page { place_in_state result.0 ≡ Saving frame }
     ensures job { result.1 ≡ Collected.Dirty (job_of process vpn frame slot) }
 {
     let job = SaveJob::new(process, vpn, frame.bytes(), slot);

@@ -1,7 +1,7 @@
 -- What the commands that run a machine come to.
 use Rattle.std.specs.Prelude.{ℕ, ⊤, List, Option, replicate}
 use Rattle.swap_slots.specs.Slot.{zero_bytes}
-use Rattle.machine_core.specs.Applying.{Runs, Reaches}
+use Rattle.machine_core.specs.Applying.{Runs, LeadsTo}
 use Rattle.machine_core.specs.Headline.{PagingIsInvisible}
 use Rattle.machine_core.specs.Machine.{CoreValue}
 use Rattle.machine_sides.specs.Starting.{Start}
@@ -41,5 +41,5 @@ pub record ReportsRun (frames slots : ℕ) (starts : List Start) (report : Repor
   pub start : CoreValue Slot
   pub end : CoreValue Slot
   pub new : IsNew frames slots starts start
-  pub reached : Reaches page_of ⊤ never start end
+  pub reached : LeadsTo page_of ⊤ never start end
   pub told : Reports end report

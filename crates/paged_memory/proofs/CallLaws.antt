@@ -8,7 +8,7 @@ use Rattle.page_memory.specs.declared.words.Access.TheVariants.{Load, Store}
 use Rattle.page_memory.specs.Rights.{may}
 use Rattle.page_store.specs.declared.state.Keeping.{Keeping}
 use Rattle.page_store.specs.declared.state.PageState.TheVariants as stage
-use Rattle.page_store.specs.PageValue.{PageValue, Place, Fresh, Resident, Leaving, Saving, Away, Purged, state_of, Backed}
+use Rattle.page_store.specs.PageValue.{PageValue, Place, Fresh, Resident, Leaving, Saving, Away, Purged, page_state_of, Backed}
 use Rattle.sv32_table.specs.Entry.{Entry, page_entry, blank}
 use Rattle.sv32_table.specs.EntryAt.{entry_at, ChangesEntry, SameTables, unaccessed_entry, accessed_of}
 use Rattle.sv32_table.specs.EntryLaws.{unaccessed_entry-page_entry, accessed_of-page_entry, accessed-page_entry, dirty-page_entry}
@@ -41,10 +41,10 @@ module _ {S : Type 0} where
         backed = λ is_honest q p small none. cc;
       }
 
-  pub is_resident : (pages : List (ℕ × PageValue S)) (number : ℕ) → option_map (λ page. state_of page.place) (page_at pages number) ≡ Some stage.Resident → IsResident pages number
+  pub is_resident : (pages : List (ℕ × PageValue S)) (number : ℕ) → option_map (λ page. page_state_of page.place) (page_at pages number) ≡ Some stage.Resident → IsResident pages number
   is_resident pages number is = by_page (page_at pages number) refl is
     where
-      by_place : (origin : Page) (place : Place S) → page_at pages number ≡ Some (record { origin = origin; place = place }) → state_of place ≡ stage.Resident → IsResident pages number
+      by_place : (origin : Page) (place : Place S) → page_at pages number ≡ Some (record { origin = origin; place = place }) → page_state_of place ≡ stage.Resident → IsResident pages number
       by_place origin Fresh found is = cc
       by_place origin (Resident frame slot) found is = record { origin = origin; frame = frame; slot = slot; found = found }
       by_place origin (Leaving frame slot mark) found is = cc
@@ -52,15 +52,15 @@ module _ {S : Type 0} where
       by_place origin (Away slot) found is = cc
       by_place origin Purged found is = cc
 
-      by_page : (o : Option (PageValue S)) → page_at pages number ≡ o → option_map (λ page. state_of page.place) o ≡ Some stage.Resident → IsResident pages number
+      by_page : (o : Option (PageValue S)) → page_at pages number ≡ o → option_map (λ page. page_state_of page.place) o ≡ Some stage.Resident → IsResident pages number
       by_page None found is = cc
       by_page (Some page) found is = by_place page.origin page.place found (cc)
 
   -- a page that is not resident has no A to tell of
-  pub not_resident : (pages : List (ℕ × PageValue S)) (number : ℕ) (e : Entry) → option_map (λ page. state_of page.place) (page_at pages number) ≢ Some stage.Resident → accessed_at (seen_at pages number) e ≡ None
+  pub not_resident : (pages : List (ℕ × PageValue S)) (number : ℕ) (e : Entry) → option_map (λ page. page_state_of page.place) (page_at pages number) ≢ Some stage.Resident → accessed_at (seen_at pages number) e ≡ None
   not_resident pages number e other = by_page (page_at pages number) other
     where
-      by_place : (rights : Rights) (place : Place S) → Some (state_of place) ≢ Some stage.Resident → accessed_standing (standing_of place) e ≡ None
+      by_place : (rights : Rights) (place : Place S) → Some (page_state_of place) ≢ Some stage.Resident → accessed_standing (standing_of place) e ≡ None
       by_place rights Fresh other = refl
       by_place rights (Resident frame slot) other = absurd (other refl)
       by_place rights (Leaving frame slot mark) other = refl
@@ -68,7 +68,7 @@ module _ {S : Type 0} where
       by_place rights (Away slot) other = refl
       by_place rights Purged other = refl
 
-      by_page : (o : Option (PageValue S)) → option_map (λ page. state_of page.place) o ≢ Some stage.Resident → accessed_at (option_map seen_of o) e ≡ None
+      by_page : (o : Option (PageValue S)) → option_map (λ page. page_state_of page.place) o ≢ Some stage.Resident → accessed_at (option_map seen_of o) e ≡ None
       by_page None other = refl
       by_page (Some page) other = by_place page.origin.rights page.place other
 

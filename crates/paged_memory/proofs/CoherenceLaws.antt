@@ -17,7 +17,7 @@ use Rattle.sv32_table.specs.declared.fault.WalkFault.{WalkFault}
 use Rattle.sv32_table.specs.declared.fault.WalkFault.TheVariants.{PageFault}
 use Rattle.sv32_table.specs.declared.walk.Leaf.{Leaf}
 use Rattle.tlb_core.specs.declared.translation.Translation.{Translation}
-use Rattle.tlb_core.specs.Cache.{entry_of}
+use Rattle.tlb_core.specs.Cache.{translation_of}
 use Rattle.tlb_core.specs.CacheLaws.{none-All}
 use Rattle.paged_memory.specs.Seen.{Seen, Standing, Resident, Leaving, Elsewhere, entry_seen, entry_standing, rights_seen, is_used, used_standing}
 use Rattle.paged_memory.specs.Soundness.{IsSound}
@@ -72,8 +72,8 @@ module _ {S : Type 0} {held : S → List ℕ} {honest : Type 0} {pages : List (�
 
   pub holds_framed : HoldsFramed pages caches
   holds_framed number none =
-      list_any_none (λ cache. is_some (entry_of number cache)) caches
-      (All-weaker (λ cache. All (λ (t : Translation). t.page ≢ number) cache) (λ cache. is_some (entry_of number cache) ≡ false) (λ cache unheld. ap is_some (none-All number cache unheld)) caches (unheld_elsewhere caches number holds.agree none))
+      list_any_none (λ cache. is_some (translation_of number cache)) caches
+      (All-weaker (λ cache. All (λ (t : Translation). t.page ≢ number) cache) (λ cache. is_some (translation_of number cache) ≡ false) (λ cache unheld. ap is_some (none-All number cache unheld)) caches (unheld_elsewhere caches number holds.agree none))
 
   pub walks_lead : WalksLead pages tables
   walks_lead address access in_range =

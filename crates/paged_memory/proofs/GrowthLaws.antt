@@ -17,7 +17,7 @@ use Rattle.sv32_table.specs.Entry.{blank}
 use Rattle.sv32_table.specs.EntryAt.{entry_at}
 use Rattle.tlb_core.specs.declared.translation.Translation.{Translation}
 use Rattle.paged_memory.specs.Seen.{entry_seen, frame_seen}
-use Rattle.paged_memory.specs.Growth.{zero_page, LacksOne}
+use Rattle.paged_memory.specs.Growth.{fresh_zero_page, LacksOne}
 use Rattle.paged_memory.specs.Paged.{PagedValue, seen_of, page_at, seen_at, flat_page, memory_of, Holds, ChangesPage}
 use Rattle.page_store.specs.Lending.{with_bytes}
 use Rattle.paged_memory.specs.HartMemory.{KeepsPages}
@@ -42,19 +42,19 @@ module _ {S : Type 0} where
 
   module _ {held : S → List ℕ} {honest : Type 0} {tables : List (List ℕ)} {caches : List (List Translation)} where
     -- one page of zeros
-    holds_one : (pages : List (ℕ × PageValue S)) (number : ℕ) → number < 2 ^ 20 → Holds held honest pages tables caches → Holds held honest (added number zero_page pages) tables caches
+    holds_one : (pages : List (ℕ × PageValue S)) (number : ℕ) → number < 2 ^ 20 → Holds held honest pages tables caches → Holds held honest (added number fresh_zero_page pages) tables caches
     unfolding added
     holds_one pages number small holds = by_place (place_of number pages) refl
       where
-        by_place : (o : Option ℕ) → place_of number pages ≡ o → Holds held honest (added_unless o number zero_page pages) tables caches
+        by_place : (o : Option ℕ) → place_of number pages ≡ o → Holds held honest (added_unless o number fresh_zero_page pages) tables caches
         by_place (Some place) at = holds
         by_place None at =
             let seen_none : seen_at pages number ≡ None = ap (option_map seen_of) (page_at-nowhere pages number at) in
             let e_blank : entry_at tables number ≡ blank = (holds.agree.mapped number small).entry ∙ ap (λ s. entry_seen s (entry_at tables number).accessed (entry_at tables number).dirty) seen_none in
-            let change : Change held honest pages (pages ++ (number, zero_page) ∷ []) tables tables number zero_page (entry_at tables number) =
+            let change : Change held honest pages (pages ++ (number, fresh_zero_page) ∷ []) tables tables number fresh_zero_page (entry_at tables number) =
             record {
               small = small;
-              changes = appended pages number zero_page at;
+              changes = appended pages number fresh_zero_page at;
               entry = changes_no_entry tables number;
               kept = λ q in_range has. has;
               tabled = λ framed. cc;
@@ -64,15 +64,15 @@ module _ {S : Type 0} where
             Holds-unheld change caches holds (unheld_elsewhere caches number holds.agree (ap frame_seen seen_none))
 
     -- pages of zeros in a range
-    pub holds_zeroed : (pages : List (ℕ × PageValue S)) (first count : ℕ) → first + count ≤ 2 ^ 20 → Holds held honest pages tables caches → Holds held honest (with_added first count zero_page pages) tables caches
+    pub holds_zeroed : (pages : List (ℕ × PageValue S)) (first count : ℕ) → first + count ≤ 2 ^ 20 → Holds held honest pages tables caches → Holds held honest (with_added first count fresh_zero_page pages) tables caches
     unfolding with_added
     holds_zeroed pages first zero within holds = holds
-    holds_zeroed pages first (suc count) within holds = holds_one (with_added first count zero_page pages) (first + count) (omega arith) (holds_zeroed pages first count (omega arith) holds)
+    holds_zeroed pages first (suc count) within holds = holds_one (with_added first count fresh_zero_page pages) (first + count) (omega arith) (holds_zeroed pages first count (omega arith) holds)
 
   -- and the memory that they stand for
-  pub memory_zeroed : (held : S → List ℕ) (pages : List (ℕ × PageValue S)) (first count : ℕ) → memory_of held (with_added first count zero_page pages) ≡ with_zeroed first count (memory_of held pages)
+  pub memory_zeroed : (held : S → List ℕ) (pages : List (ℕ × PageValue S)) (first count : ℕ) → memory_of held (with_added first count fresh_zero_page pages) ≡ with_zeroed first count (memory_of held pages)
   unfolding memory_of zero_bytes
-  memory_zeroed held pages first count = map_by-added (flat_page held) pages first count zero_page refl
+  memory_zeroed held pages first count = map_by-added (flat_page held) pages first count fresh_zero_page refl
 
 -- a page that is missing once others were added was missing before
 module _ {S : Type 0} where
@@ -93,21 +93,21 @@ module _ {S : Type 0} where
   absent_before pages first zero q page none = none
   absent_before pages first (suc count) q page none = absent_before pages first count q page (absent_one (with_added first count page pages) (first + count) q page none)
 
-  pub lacks_one : (old now : List (ℕ × PageValue S)) (first count number : ℕ) → first ≤ number → number < first + count → now ≡ with_added first (number - first) zero_page old → place_of number now ≡ None
+  pub lacks_one : (old now : List (ℕ × PageValue S)) (first count number : ℕ) → first ≤ number → number < first + count → now ≡ with_added first (number - first) fresh_zero_page old → place_of number now ≡ None
       → LacksOne first count old
   lacks_one old now first count number above below is none =
-      record { number = number; above = above; below = below; absent = absent_before old first (number - first) number zero_page (ap (place_of number) (sym is) ∙ none) }
+      record { number = number; above = above; below = below; absent = absent_before old first (number - first) number fresh_zero_page (ap (place_of number) (sym is) ∙ none) }
 
 -- the pages that were there stay, and the others are pages of zeros
 module _ {S : Type 0} where
-  kept_one : (pages : List (ℕ × PageValue S)) (number : ℕ) → KeepsPages pages (added number zero_page pages)
+  kept_one : (pages : List (ℕ × PageValue S)) (number : ℕ) → KeepsPages pages (added number fresh_zero_page pages)
   unfolding added
   kept_one pages number = by_place (place_of number pages) refl
     where
-      by_place : (o : Option ℕ) → place_of number pages ≡ o → KeepsPages pages (added_unless o number zero_page pages)
+      by_place : (o : Option ℕ) → place_of number pages ≡ o → KeepsPages pages (added_unless o number fresh_zero_page pages)
       by_place (Some place) at = pages_itself pages
       by_place None at =
-          let changes = appended pages number zero_page at in
+          let changes = appended pages number fresh_zero_page at in
           let none_here : page_at pages number ≡ None = page_at-nowhere pages number at in
           record {
             places = λ q place. changes.places q place;
@@ -115,29 +115,29 @@ module _ {S : Type 0} where
             fresh = λ q value none is. here q value (q == number) (sym (changes.pages q) ∙ is) none;
           }
         where
-          other : (q : ℕ) (b : Bool) → (q == number) ≡ b → page_at pages number ≡ None → is_some (page_at pages q) ≡ true → cond b (Some zero_page) (page_at pages q) ≡ page_at pages q
+          other : (q : ℕ) (b : Bool) → (q == number) ≡ b → page_at pages number ≡ None → is_some (page_at pages q) ≡ true → cond b (Some fresh_zero_page) (page_at pages q) ≡ page_at pages q
           other q true is none there = let clash : true ≡ false = sym there ∙ ap is_some (ap (page_at pages) (eqb-true q number is) ∙ none) in cc
           other q false is none there = refl
 
-          here : (q : ℕ) (value : PageValue S) (b : Bool) → cond b (Some zero_page) (page_at pages q) ≡ Some value → page_at pages q ≡ None → value ≡ zero_page
+          here : (q : ℕ) (value : PageValue S) (b : Bool) → cond b (Some fresh_zero_page) (page_at pages q) ≡ Some value → page_at pages q ≡ None → value ≡ fresh_zero_page
           here q value true is none = sym (same_Some _ _ is)
           here q value false is none = absurd (none-some _ (sym none ∙ is))
 
-  kept_zeroed : (pages : List (ℕ × PageValue S)) (first count : ℕ) → KeepsPages pages (with_added first count zero_page pages)
+  kept_zeroed : (pages : List (ℕ × PageValue S)) (first count : ℕ) → KeepsPages pages (with_added first count fresh_zero_page pages)
   unfolding with_added
   kept_zeroed pages first zero = pages_itself pages
-  kept_zeroed pages first (suc count) = pages_on pages (with_added first count zero_page pages) (added (first + count) zero_page (with_added first count zero_page pages)) (kept_zeroed pages first count) (kept_one (with_added first count zero_page pages) (first + count))
+  kept_zeroed pages first (suc count) = pages_on pages (with_added first count fresh_zero_page pages) (added (first + count) fresh_zero_page (with_added first count fresh_zero_page pages)) (kept_zeroed pages first count) (kept_one (with_added first count fresh_zero_page pages) (first + count))
 
-  pub kept_grown : {U E : Type 0} (result : Result U E) (old new : PagedValue S) (first count : ℕ) → OnOk result (new.pages ≡ with_added first count zero_page old.pages) → OnErr result (new ≡ old) → KeepsPages old.pages new.pages
+  pub kept_grown : {U E : Type 0} (result : Result U E) (old new : PagedValue S) (first count : ℕ) → OnOk result (new.pages ≡ with_added first count fresh_zero_page old.pages) → OnErr result (new ≡ old) → KeepsPages old.pages new.pages
   kept_grown (Ok u) old new first count ok err = subst (λ p. KeepsPages old.pages p) (sym ok) (kept_zeroed old.pages first count)
   kept_grown (Err e) old new first count ok err = subst (λ (m : PagedValue S). KeepsPages old.pages m.pages) (sym err) (pages_itself old.pages)
 
 -- the same by what the growth answered
-pub holds_grown : {S U E : Type 0} {held : S → List ℕ} {honest : Type 0} {tables : List (List ℕ)} {caches : List (List Translation)} (result : Result U E) (old new : List (ℕ × PageValue S)) (first count : ℕ) → first + count ≤ 2 ^ 20 → OnOk result (new ≡ with_added first count zero_page old) → OnErr result (new ≡ old) → Holds held honest old tables caches → Holds held honest new tables caches
+pub holds_grown : {S U E : Type 0} {held : S → List ℕ} {honest : Type 0} {tables : List (List ℕ)} {caches : List (List Translation)} (result : Result U E) (old new : List (ℕ × PageValue S)) (first count : ℕ) → first + count ≤ 2 ^ 20 → OnOk result (new ≡ with_added first count fresh_zero_page old) → OnErr result (new ≡ old) → Holds held honest old tables caches → Holds held honest new tables caches
 holds_grown (Ok u) old new first count within ok err holds = rw ok (holds_zeroed old first count within holds)
 holds_grown (Err e) old new first count within ok err holds = rw err holds
 
-pub memory_grown : {S U E : Type 0} (held : S → List ℕ) (result : Result U E) (old new : List (ℕ × PageValue S)) (first count : ℕ) → OnOk result (new ≡ with_added first count zero_page old) → OnOk result (memory_of held new ≡ with_zeroed first count (memory_of held old))
+pub memory_grown : {S U E : Type 0} (held : S → List ℕ) (result : Result U E) (old new : List (ℕ × PageValue S)) (first count : ℕ) → OnOk result (new ≡ with_added first count fresh_zero_page old) → OnOk result (memory_of held new ≡ with_zeroed first count (memory_of held old))
 memory_grown held (Ok u) old new first count ok = ap (memory_of held) ok ∙ memory_zeroed held old first count
 memory_grown held (Err e) old new first count ok = ok
 

@@ -9,7 +9,7 @@ use Rattle.page_memory.specs.EntriesLaws.{has_value}
 use Rattle.page_store.specs.PageValue.{PageValue, Place, Fresh, Resident, Leaving, Saving, Away, Purged, writable}
 use Rattle.sv32_table.specs.EntryAt.{entry_at}
 use Rattle.tlb_core.specs.declared.translation.Translation.{Translation}
-use Rattle.tlb_core.specs.Cache.{Hits, entry_of, is_of}
+use Rattle.tlb_core.specs.Cache.{Hits, translation_of, is_of_page}
 use Rattle.tlb_core.specs.CacheLaws.{All-entry_of, page-entry_of}
 use Rattle.paged_memory.specs.Seen.{frame_seen, frame_standing, rights_seen, is_changed}
 use Rattle.paged_memory.specs.Soundness.{IsSound}
@@ -27,11 +27,11 @@ writable_framed (Away slot) frame is = cc
 writable_framed Purged frame is = cc
 
 -- an entry that is found and is to be dropped shows that the page has one
-doomed_found : (page : ℕ) (cache : List Translation) (t : Translation) → entry_of page cache ≡ Some t → t.doomed ≡ true → is_doomed page cache ≡ true
+doomed_found : (page : ℕ) (cache : List Translation) (t : Translation) → translation_of page cache ≡ Some t → t.doomed ≡ true → is_doomed page cache ≡ true
 doomed_found page [] t found doomed = cc
-doomed_found page (x ∷ xs) t found doomed = by_first (is_of page x) refl found (doomed_found page xs t)
+doomed_found page (x ∷ xs) t found doomed = by_first (is_of_page page x) refl found (doomed_found page xs t)
   where
-    by_first : (b : Bool) → is_of page x ≡ b → cond b (Some x) (find (is_of page) xs) ≡ Some t → (entry_of page xs ≡ Some t → t.doomed ≡ true → is_doomed page xs ≡ true) → (is_of page x && x.doomed || is_doomed page xs) ≡ true
+    by_first : (b : Bool) → is_of_page page x ≡ b → cond b (Some x) (find (is_of_page page) xs) ≡ Some t → (translation_of page xs ≡ Some t → t.doomed ≡ true → is_doomed page xs ≡ true) → (is_of_page page x && x.doomed || is_doomed page xs) ≡ true
     by_first true is found later = let same : x ≡ t = cc in ap (λ b. b && x.doomed || is_doomed page xs) is ∙ ap (λ (y : Translation). y.doomed || is_doomed page xs) same ∙ ap (λ b. b || is_doomed page xs) doomed
     by_first false is found later = ap (λ b. b && x.doomed || is_doomed page xs) is ∙ later found doomed
 

@@ -5,7 +5,7 @@ use Rattle.frame_pool.specs.FrameValue.{FrameValue}
 use Rattle.page_store.specs.declared.state.Keeping.{Keeping}
 use Rattle.page_store.specs.declared.state.PageState.TheVariants as stage
 use Rattle.page_store.specs.declared.refusal.LeaveRefusal.{LeaveRefusal}
-use Rattle.page_store.specs.PageValue.{PageValue, Place, Fresh, Resident, Leaving, Saving, Away, Purged, state_of, Backed}
+use Rattle.page_store.specs.PageValue.{PageValue, Place, Fresh, Resident, Leaving, Saving, Away, Purged, page_state_of, Backed}
 use Rattle.page_store.specs.Moves.{IfResident, left}
 use Rattle.sv32_table.specs.Entry.{Entry, blank}
 use Rattle.sv32_table.specs.EntryAt.{entry_at, ChangesEntry, SameTables, unmapped_entry, dirty_of}
@@ -21,14 +21,14 @@ use Rattle.paged_memory.proofs.CallLaws.{entry_resident, seen_resident}
 
 module _ {S : Type 0} where
   -- a resident page does not refuse to leave
-  pub leaves : {U : Type 0} (mark : Bool) (page page' : PageValue S) (result : Result U LeaveRefusal) → state_of page.place ≡ stage.Resident → OnOk result (left mark page.place ≡ Ok page'.place) → IfErr result (λ refusal. left mark page.place ≡ Err refusal) → page'.origin ≡ page.origin → Leaves mark page page'
+  pub leaves : {U : Type 0} (mark : Bool) (page page' : PageValue S) (result : Result U LeaveRefusal) → page_state_of page.place ≡ stage.Resident → OnOk result (left mark page.place ≡ Ok page'.place) → IfErr result (λ refusal. left mark page.place ≡ Err refusal) → page'.origin ≡ page.origin → Leaves mark page page'
   leaves {U} mark page page' result is ok err origin = by_place page.place is (told result ok err)
     where
       told : (result : Result U LeaveRefusal) → OnOk result (left mark page.place ≡ Ok page'.place) → IfErr result (λ refusal. left mark page.place ≡ Err refusal) → (left mark page.place ≡ Ok page'.place) ⊎ ((refusal : LeaveRefusal) × (left mark page.place ≡ Err refusal))
       told (Ok u) ok err = inl ok
       told (Err refusal) ok err = inr (refusal, err)
 
-      by_place : (place : Place S) → state_of place ≡ stage.Resident → (left mark place ≡ Ok page'.place) ⊎ ((refusal : LeaveRefusal) × (left mark place ≡ Err refusal)) → IfResident place (λ frame slot. page' ≡ record page { place = Leaving frame slot mark })
+      by_place : (place : Place S) → page_state_of place ≡ stage.Resident → (left mark place ≡ Ok page'.place) ⊎ ((refusal : LeaveRefusal) × (left mark place ≡ Err refusal)) → IfResident place (λ frame slot. page' ≡ record page { place = Leaving frame slot mark })
       by_place Fresh is told = cc
       by_place (Resident frame slot) is (inl ok) =
           let place : Leaving frame slot mark ≡ page'.place = cc in

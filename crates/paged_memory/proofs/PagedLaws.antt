@@ -6,7 +6,7 @@ use Rattle.std.specs.Ordering.{nat_cmp, eq_by_cmp}
 use Rattle.std.specs.Cmp.{nat_cmp_total}
 use Rattle.std.specs.FinMap.{get, from_entries, get-insert}
 use Rattle.page_memory.specs.Entries.{place_of, value_at, with_value}
-use Rattle.page_memory.specs.EntriesLaws.{same_key, value_by_place, replaced_value, put_back, place_of-with_value}
+use Rattle.page_memory.specs.EntriesLaws.{equal_by_order, value_by_place, replaced_value, put_back, place_of-with_value}
 use Rattle.page_memory.specs.StandsForLaws.{value-changes, map_by-same}
 use Rattle.page_store.specs.PageValue.{PageValue, frame_of, Backed}
 use Rattle.sv32_table.specs.Entry.{Entry}
@@ -20,7 +20,7 @@ use Rattle.paged_memory.specs.Calls.{ChangesBy}
 use Rattle.paged_memory.specs.Paged.{seen_of, page_at, seen_at, flat_page, memory_of, ArePlaced, Holds, ChangesPage}
 
 pub swap_key : {A : Type 0} (q number : ℕ) (x y : A) → cond (eq_by_cmp nat_cmp q number) x y ≡ (if q == number then x else y)
-swap_key q number x y = ap (λ b. cond b x y) (same_key q number ∙ turned number q)
+swap_key q number x y = ap (λ b. cond b x y) (equal_by_order q number ∙ turned number q)
   where
     turned : (a b : ℕ) → (a == b) ≡ (b == a)
     turned a b = grind (arith, eq-eqb, eqb-true)

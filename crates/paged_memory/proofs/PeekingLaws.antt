@@ -6,7 +6,7 @@ use Rattle.page_memory.specs.Words.{page_number, page_offset}
 use Rattle.page_memory.specs.Entries.{place_of, value_at, with_value}
 use Rattle.page_memory.specs.StandsForLaws.{get-map_by-place}
 use Rattle.page_store.specs.declared.refusal.ReadFault.TheVariants as read
-use Rattle.page_store.specs.PageValue.{PageValue, Place, Fresh, Resident, Leaving, Saving, Away, Purged, content, state_of, Known}
+use Rattle.page_store.specs.PageValue.{PageValue, Place, Fresh, Resident, Leaving, Saving, Away, Purged, content, page_state_of, Known}
 use Rattle.page_store.specs.Moves.{IfAbsent, IfAway, RefusesRead}
 use Rattle.swap_slots.specs.Slot.{Rose}
 use Rattle.tlb_core.specs.declared.translation.Translation.{Translation}
@@ -31,20 +31,20 @@ module _ {S : Type 0} (held : S → List ℕ) (honest : Type 0) where
     pages_same : page' ≡ page → with_value pages place page' ≡ pages
     pages_same same = ap (with_value pages place) same ∙ same_value pages place page is
 
-    away_still : (was : Place S) → state_of page'.place ≡ state_of was → IfAway was (λ _. Unit {0}) → (new : Place S) → page'.place ≡ new → IfAway new (λ _. Unit {0})
+    away_still : (was : Place S) → page_state_of page'.place ≡ page_state_of was → IfAway was (λ _. Unit {0}) → (new : Place S) → page'.place ≡ new → IfAway new (λ _. Unit {0})
     away_still Fresh state away new at = absurd away
     away_still (Resident frame slot) state away new at = absurd away
     away_still (Leaving frame slot mark) state away new at = absurd away
     away_still (Saving frame) state away new at = absurd away
     away_still Purged state away new at = absurd away
-    away_still (Away slot) state away Fresh at = let clash = ap state_of at in cc
-    away_still (Away slot) state away (Resident frame kept) at = let clash = ap state_of at in cc
-    away_still (Away slot) state away (Leaving frame kept mark) at = let clash = ap state_of at in cc
-    away_still (Away slot) state away (Saving frame) at = let clash = ap state_of at in cc
+    away_still (Away slot) state away Fresh at = let clash = ap page_state_of at in cc
+    away_still (Away slot) state away (Resident frame kept) at = let clash = ap page_state_of at in cc
+    away_still (Away slot) state away (Leaving frame kept mark) at = let clash = ap page_state_of at in cc
+    away_still (Away slot) state away (Saving frame) at = let clash = ap page_state_of at in cc
     away_still (Away slot) state away (Away after) at = tt
-    away_still (Away slot) state away Purged at = let clash = ap state_of at in cc
+    away_still (Away slot) state away Purged at = let clash = ap page_state_of at in cc
 
-    pub page_left : state_of page'.place ≡ state_of page.place → ((¬ IfAway page.place (λ _. Unit {0})) → page' ≡ page) → page'.origin ≡ page.origin → (Known honest page.place → content held page' ≡ content held page)
+    pub page_left : page_state_of page'.place ≡ page_state_of page.place → ((¬ IfAway page.place (λ _. Unit {0})) → page' ≡ page) → page'.origin ≡ page.origin → (Known honest page.place → content held page' ≡ content held page)
         → LeavesPage held honest pages (with_value pages place page') number (page_at pages number)
     page_left state at_hand origin kept = subst (LeavesPage held honest pages (with_value pages place page') number) (sym (page_at-place pages number place page at is)) (by_place page.place refl)
       where
@@ -58,7 +58,7 @@ module _ {S : Type 0} (held : S → List ℕ) (honest : Type 0) where
             changed_by pages number place page page' at is
             (record {
               origin = origin;
-              place = subst (λ p. IfAbsent p (page'.place ≡ Fresh) (λ _. IfAway page'.place (λ _. Unit {0}))) (sym here) (away_still (Away slot) (state ∙ ap state_of here) tt page'.place refl);
+              place = subst (λ p. IfAbsent p (page'.place ≡ Fresh) (λ _. IfAway page'.place (λ _. Unit {0}))) (sym here) (away_still (Away slot) (state ∙ ap page_state_of here) tt page'.place refl);
               content = λ is_honest. kept (subst (Known honest) (sym here) is_honest);
             })
 

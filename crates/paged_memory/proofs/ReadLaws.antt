@@ -12,7 +12,7 @@ use Rattle.page_memory.specs.StandsForLaws.{usable-map_by}
 use Rattle.page_store.specs.PageValue.{PageValue, content}
 use Rattle.rv_exec.specs.declared.bus.BusError.{BusError}
 use Rattle.rv_exec.specs.declared.bus.BusError.TheVariants.{Fault, Absent}
-use Rattle.rv_exec.specs.Answers.{Refuses}
+use Rattle.rv_exec.specs.Answers.{BusRefuses}
 use Rattle.paged_memory.specs.Access.{Reaches, RefusesAccess, LacksPage, UsesBytes, page_with_right}
 use Rattle.paged_memory.specs.Paged.{page_at, flat_page, memory_of}
 
@@ -38,7 +38,7 @@ module _ {S : Type 0} (held : S → List ℕ) (pages : List (ℕ × PageValue S)
       by_right true is = is
       by_right false is = is
 
-  pub refuses : (refusal : BusError) → RefusesAccess pages access (page_number address) refusal → Refuses (LacksPage pages) address (usable (memory_of held pages) access address) refusal
+  pub refuses : (refusal : BusError) → RefusesAccess pages access (page_number address) refusal → BusRefuses (LacksPage pages) address (usable (memory_of held pages) access address) refusal
   refuses (Fault fault) is = usable_at ∙ flat_right (page_at pages (page_number address)) fault is
   refuses (Absent page) is = (is.0, subst (λ n. LacksPage pages n) (sym is.0) is.1.1, subst IsOk (sym usable_at) (flat_allowed (page_at pages (page_number address)) is.1.0))
 

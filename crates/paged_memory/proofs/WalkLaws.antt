@@ -18,7 +18,7 @@ use Rattle.sv32_table.specs.Entry.{Entry, page_entry}
 use Rattle.sv32_table.specs.EntryAt.{entry_at, ChangesEntry, SameTables, walked_entry, dirty_of}
 use Rattle.sv32_table.specs.EntryLaws.{is_store, walked_entry-page_entry, dirty_of-page_entry, dirty-page_entry, accessed-page_entry}
 use Rattle.tlb_core.specs.declared.translation.Translation.{Translation}
-use Rattle.tlb_core.specs.Cache.{filled, entry_of, is_of}
+use Rattle.tlb_core.specs.Cache.{filled, translation_of, is_of_page}
 use Rattle.tlb_core.specs.CacheLaws.{All-filled, All-none, none-All}
 use Rattle.paged_memory.specs.Seen.{Seen, frame_seen, rights_seen, is_changed, is_used}
 use Rattle.paged_memory.specs.Soundness.{IsSound}
@@ -151,10 +151,10 @@ module _ {S : Type 0} {held : S → List ℕ} {honest : Type 0} {pages : List (�
           ] refl
 
       -- a page that the hart's cache holds was held, or is resident
-      held_before : (q : ℕ) → is_some (entry_of q (cache_of cached hart)) ≡ true → HasPage pages (cache_of caches hart) q
-      held_before q holds_now = by_page (q == number) refl (entry_of q (cache_of caches hart)) refl (ap (λ c. is_some (entry_of q c)) (sym cache_now) ∙ holds_now)
+      held_before : (q : ℕ) → is_some (translation_of q (cache_of cached hart)) ≡ true → HasPage pages (cache_of caches hart) q
+      held_before q holds_now = by_page (q == number) refl (translation_of q (cache_of caches hart)) refl (ap (λ c. is_some (translation_of q c)) (sym cache_now) ∙ holds_now)
         where
-          by_page : (b : Bool) → (q == number) ≡ b → (o : Option Translation) → entry_of q (cache_of caches hart) ≡ o → is_some (entry_of q (filled (translation place) (cache_of caches hart))) ≡ true → HasPage pages (cache_of caches hart) q
+          by_page : (b : Bool) → (q == number) ≡ b → (o : Option Translation) → translation_of q (cache_of caches hart) ≡ o → is_some (translation_of q (filled (translation place) (cache_of caches hart))) ≡ true → HasPage pages (cache_of caches hart) q
           by_page true at o was now = inl (ap (λ n. is_resident (seen_at pages n)) (eqb-true q number at) ∙ ap is_resident (seen_resident number small holds resident))
           by_page false other (Some t) was now = inr (ap is_some was)
           by_page false other None was now =
@@ -167,7 +167,7 @@ module _ {S : Type 0} {held : S → List ℕ} {honest : Type 0} {pages : List (�
       doomed_before q now = by_cache (is_doomed q (cache_of caches hart)) refl
         where
           asked : Translation → Bool
-          asked t = is_of q t && t.doomed
+          asked t = is_of_page q t && t.doomed
 
           fresh : (b : Bool) → (b && false) ≡ false
           fresh true = refl
@@ -176,7 +176,7 @@ module _ {S : Type 0} {held : S → List ℕ} {honest : Type 0} {pages : List (�
           by_cache : (b : Bool) → is_doomed q (cache_of caches hart) ≡ b → b ≡ true
           by_cache true was = refl
           by_cache false was =
-              let none = list_any_none (λ t. is_of q t && t.doomed) _ (All-filled (λ t. (is_of q t && t.doomed) ≡ false) (translation place) (cache_of caches hart) (fresh (is_of q (translation place))) (none_passes (λ t. is_of q t && t.doomed) (cache_of caches hart) was)) in
+              let none = list_any_none (λ t. is_of_page q t && t.doomed) _ (All-filled (λ t. (is_of_page q t && t.doomed) ≡ false) (translation place) (cache_of caches hart) (fresh (is_of_page q (translation place))) (none_passes (λ t. is_of_page q t && t.doomed) (cache_of caches hart) was)) in
               absurd (true≢false (sym (ap (is_doomed q) (sym cache_now) ∙ now) ∙ none))
 
       pub keeps_walked : KeepsTranslations pages hart tables tables' caches cached

@@ -2,12 +2,12 @@
 use Rattle.std.specs.Prelude.{◌≡◌, ◌≢◌, ℕ, ◌^◌, ◌<◌, ◌%◌, ◌==◌, Bool, true, false, cond, ◌||◌, Some, option_map, Result, Ok, Err, is_some, List, [], refl}
 use Rattle.std.proofs.Common.{sym, ap, ◌∙◌, subst, eqb-true, eq-eqb, ne_eqb}
 use Rattle.byteorder.specs.Endian.{little_bytes}
-use Rattle.page_memory.specs.Memory.{Page, Memory, overwritten, answered, usable, aligned_page, if_aligned, memory_with, number_at, exchanged, replaced, stored, copied_in}
+use Rattle.page_memory.specs.Memory.{Page, Memory, overwritten, answer_by, usable, aligned_page, if_aligned, memory_with, number_at, exchanged, replaced, stored, copied_in}
 use Rattle.page_memory.specs.declared.fault.MemoryFault.{MemoryFault}
 use Rattle.page_memory.specs.declared.fault.MemoryFault.TheVariants.{Misaligned}
 use Rattle.rv_exec.specs.declared.bus.BusError.{BusError}
 use Rattle.rv_exec.specs.declared.bus.BusError.TheVariants.{Fault, Absent}
-use Rattle.rv_exec.specs.Answers.{Refuses}
+use Rattle.rv_exec.specs.Answers.{BusRefuses}
 use Rattle.page_memory.specs.Words.{page_number, page_offset, bytes_in}
 use Rattle.page_memory.specs.declared.words.Width.{Width}
 use Rattle.page_memory.specs.declared.words.Width.TheVariants.{Word}
@@ -145,8 +145,8 @@ module _ {S : Type 0} where
       (changes_at_place pages (page_number address) place (with_bytes reached.page bytes) reached.at).entries
 
 -- an access that is refused, where what it does is not asked
-answered_refused : {A : Type 0} (lacks : ℕ → Type 0) (address : ℕ) (g : Page → A) (refusal : BusError) (r : Result Page MemoryFault) → Refuses lacks address r refusal → Refuses lacks address (answered g r) refusal
-answered_refused lacks address g (Fault fault) r is = ap (answered g) is
+answered_refused : {A : Type 0} (lacks : ℕ → Type 0) (address : ℕ) (g : Page → A) (refusal : BusError) (r : Result Page MemoryFault) → BusRefuses lacks address r refusal → BusRefuses lacks address (answer_by g r) refusal
+answered_refused lacks address g (Fault fault) r is = ap (answer_by g) is
 answered_refused lacks address g (Absent page) (Ok p) is = (is.0, is.1, refl)
 answered_refused lacks address g (Absent page) (Err fault) is = let clash = is.2 in cc
 
@@ -164,28 +164,28 @@ replaced_written held pages tables update address place aligned reached =
     let memory = memory_of held pages in
     let found = replaced_by held pages tables update address place aligned reached in
     let after = stored_written held pages tables Word address (update n) place aligned reached in
-    let same = ok_same _ _ (sym (ap (answered (memory_with memory address (little_bytes 4 (update n)))) found) ∙ after) in
-    ap (answered (exchanged memory update address)) found ∙ ap (λ m. Ok (n, m)) same
+    let same = ok_same _ _ (sym (ap (answer_by (memory_with memory address (little_bytes 4 (update n)))) found) ∙ after) in
+    ap (answer_by (exchanged memory update address)) found ∙ ap (λ m. Ok (n, m)) same
   where
     ok_same : (x y : Memory) → ◌≡◌ {A = Result Memory MemoryFault} (Ok x) (Ok y) → x ≡ y
     ok_same x y is = cc
 
-pub replaced_refused : (lacks : ℕ → Type 0) (memory : Memory) (update : ℕ → ℕ) (address : ℕ) (refusal : BusError) → address % 4 ≡ 0 → Refuses lacks address (usable memory Store address) refusal → Refuses lacks address (replaced memory update address) refusal
+pub replaced_refused : (lacks : ℕ → Type 0) (memory : Memory) (update : ℕ → ℕ) (address : ℕ) (refusal : BusError) → address % 4 ≡ 0 → BusRefuses lacks address (usable memory Store address) refusal → BusRefuses lacks address (replaced memory update address) refusal
 unfolding replaced aligned_page
 replaced_refused lacks memory update address refusal aligned is =
-    subst (λ b. Refuses lacks address (answered (exchanged memory update address) (if_aligned b (usable memory Store address))) refusal) (sym (eq-eqb (address % 4) 0 aligned))
+    subst (λ b. BusRefuses lacks address (answer_by (exchanged memory update address) (if_aligned b (usable memory Store address))) refusal) (sym (eq-eqb (address % 4) 0 aligned))
     (answered_refused lacks address (exchanged memory update address) refusal (usable memory Store address) is)
 
 pub replaced_misaligned : (memory : Memory) (update : ℕ → ℕ) (address : ℕ) → address % 4 ≢ 0 → replaced memory update address ≡ Err Misaligned
 unfolding replaced aligned_page
-replaced_misaligned memory update address odd = ap (λ b. answered (exchanged memory update address) (if_aligned b (usable memory Store address))) (ne_eqb (address % 4) 0 odd)
+replaced_misaligned memory update address odd = ap (λ b. answer_by (exchanged memory update address) (if_aligned b (usable memory Store address))) (ne_eqb (address % 4) 0 odd)
 
-pub stored_refused : (lacks : ℕ → Type 0) (memory : Memory) (width : Width) (address word : ℕ) (refusal : BusError) → address % bytes_in width ≡ 0 → Refuses lacks address (usable memory Store address) refusal → Refuses lacks address (stored memory width address word) refusal
+pub stored_refused : (lacks : ℕ → Type 0) (memory : Memory) (width : Width) (address word : ℕ) (refusal : BusError) → address % bytes_in width ≡ 0 → BusRefuses lacks address (usable memory Store address) refusal → BusRefuses lacks address (stored memory width address word) refusal
 unfolding stored aligned_page
 stored_refused lacks memory width address word refusal aligned is =
-    subst (λ b. Refuses lacks address (answered (memory_with memory address (little_bytes (bytes_in width) word)) (if_aligned b (usable memory Store address))) refusal) (sym (eq-eqb (address % bytes_in width) 0 aligned))
+    subst (λ b. BusRefuses lacks address (answer_by (memory_with memory address (little_bytes (bytes_in width) word)) (if_aligned b (usable memory Store address))) refusal) (sym (eq-eqb (address % bytes_in width) 0 aligned))
     (answered_refused lacks address (memory_with memory address (little_bytes (bytes_in width) word)) refusal (usable memory Store address) is)
 
-pub copied_refused : (lacks : ℕ → Type 0) (memory : Memory) (address : ℕ) (from : List ℕ) (refusal : BusError) → Refuses lacks address (usable memory Store address) refusal → Refuses lacks address (copied_in memory address from) refusal
+pub copied_refused : (lacks : ℕ → Type 0) (memory : Memory) (address : ℕ) (from : List ℕ) (refusal : BusError) → BusRefuses lacks address (usable memory Store address) refusal → BusRefuses lacks address (copied_in memory address from) refusal
 unfolding copied_in
 copied_refused lacks memory address from refusal is = answered_refused lacks address (memory_with memory address from) refusal (usable memory Store address) is

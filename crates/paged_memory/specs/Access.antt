@@ -17,7 +17,7 @@ use Rattle.page_store.specs.PageValue as place
 use Rattle.page_store.specs.Lending.{with_bytes}
 use Rattle.sv32_table.specs.EntryAt.{entry_at, ChangesEntry, walked_entry}
 use Rattle.tlb_core.specs.declared.translation.Translation.{Translation}
-use Rattle.tlb_core.specs.Cache.{entry_of, is_of}
+use Rattle.tlb_core.specs.Cache.{translation_of, is_of_page}
 use Rattle.paged_memory.specs.Seen.{Seen, Standing, Resident, Leaving, Elsewhere, is_used, is_changed}
 use Rattle.paged_memory.specs.Paged.{seen_of, page_at, seen_at}
 
@@ -47,7 +47,7 @@ module _ {S : Type 0} where
 
   -- the pages that a hart can use without that one is brought in: those that are resident, and those that its cache holds
   abbrev pub HasPage : List (ℕ × PageValue S) → List Translation → ℕ → Type 0
-  HasPage pages cache page = (is_resident (seen_at pages page) ≡ true) ⊎ (is_some (entry_of page cache) ≡ true)
+  HasPage pages cache page = (is_resident (seen_at pages page) ≡ true) ⊎ (is_some (translation_of page cache) ≡ true)
 
   -- the pages that are not resident, mapped or not
   abbrev pub LacksPage : List (ℕ × PageValue S) → ℕ → Type 0
@@ -74,7 +74,7 @@ module _ {S : Type 0} where
 
 -- whether a cache has a translation of the page that is to be dropped
 abbrev pub is_doomed : ℕ → List Translation → Bool
-is_doomed page cache = list_any (λ t. is_of page t && t.doomed) cache
+is_doomed page cache = list_any (λ t. is_of_page page t && t.doomed) cache
 
 -- a page's use is marked: its A is set, or this cache has a translation of it that is to be dropped
 abbrev pub MarksUse : {S : Type 0} → List (ℕ × PageValue S) → List (List ℕ) → List Translation → ℕ → Type 0
@@ -101,7 +101,7 @@ pub record KeepsTranslations {S : Type 0} (pages : List (ℕ × PageValue S)) (h
   pub others : (h : ℕ) → h ≢ hart → cache_of caches' h ≡ cache_of caches h
   pub used : (page : ℕ) → page < 2 ^ 20 → is_used (seen_at pages page) (entry_at tables page) ≡ true → is_used (seen_at pages page) (entry_at tables' page) ≡ true
   pub changed : (page : ℕ) → page < 2 ^ 20 → is_changed (seen_at pages page) (entry_at tables page) ≡ true → is_changed (seen_at pages page) (entry_at tables' page) ≡ true
-  pub held : (page : ℕ) → is_some (entry_of page (cache_of caches' hart)) ≡ true → HasPage pages (cache_of caches hart) page
+  pub held : (page : ℕ) → is_some (translation_of page (cache_of caches' hart)) ≡ true → HasPage pages (cache_of caches hart) page
   pub doomed : (page : ℕ) → is_doomed page (cache_of caches' hart) ≡ true → is_doomed page (cache_of caches hart) ≡ true
 
 -- the number of a resident page's frame

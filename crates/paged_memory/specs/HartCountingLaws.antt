@@ -3,14 +3,14 @@ use Rattle.std.proofs.Common.{◌≡◌, ℕ, Bool, true, false, ◌&&◌, List,
 use Rattle.page_store.specs.PageValue.{PageValue, Place, Fresh, Resident, Leaving, Saving, Away, Purged, frame_of, slot_of}
 use Rattle.page_store.specs.Lending.{with_bytes, rewritten}
 use Rattle.paged_memory.specs.Paged.{page_at}
-use Rattle.paged_memory.specs.Growth.{zero_page}
+use Rattle.paged_memory.specs.Growth.{fresh_zero_page}
 use Rattle.paged_memory.specs.Counting.{page_passes, pages_where, frame_passes, is_resident_place, is_saving_place, is_kept, residents_of, savings_of, frames_of, slots_of}
 use Rattle.paged_memory.specs.CountingLaws.{same_where_pass}
 use Rattle.paged_memory.specs.HartMemory.{KeepsPages}
 
 module _ {S : Type 0} where
   -- of a test that no page of zeros passes, and that does not rest on the bytes in a page's frame
-  pub where_kept : (test : ℕ → PageValue S → Bool) → ((number : ℕ) (page : PageValue S) → test number (with_bytes page []) ≡ test number page) → ((number : ℕ) → test number zero_page ≡ false)
+  pub where_kept : (test : ℕ → PageValue S → Bool) → ((number : ℕ) (page : PageValue S) → test number (with_bytes page []) ≡ test number page) → ((number : ℕ) → test number fresh_zero_page ≡ false)
       → (old new : List (ℕ × PageValue S)) → KeepsPages old new → pages_where test new ≡ pages_where test old
   where_kept test bare zero old new kept = same_where_pass test old new (λ number small. by_page number (page_at old number) refl)
     where

@@ -4,17 +4,17 @@ use Rattle.page_memory.specs.Entries.{place_of}
 use Rattle.page_store.specs.PageValue.{PageValue}
 use Rattle.sv32_table.specs.EntryAt.{entry_at}
 use Rattle.tlb_core.specs.declared.translation.Translation.{Translation}
-use Rattle.tlb_core.specs.Cache.{entry_of}
+use Rattle.tlb_core.specs.Cache.{translation_of}
 use Rattle.paged_memory.specs.Seen.{is_used, is_changed}
 use Rattle.paged_memory.specs.Paged.{PagedValue, page_at, seen_at}
 use Rattle.paged_memory.specs.Access.{HasPage, bare_at, cache_of, is_doomed}
-use Rattle.paged_memory.specs.Growth.{zero_page}
+use Rattle.paged_memory.specs.Growth.{fresh_zero_page}
 
 -- pages that were there stay where they are, but for the bytes in their frames; others are pages of zeros that were mapped
 pub record KeepsPages {S : Type 0} (old new : List (ℕ × PageValue S)) : Type 0 where
   pub places : (page place : ℕ) → place_of page old ≡ Some place → place_of page new ≡ Some place
   pub bare : (page : ℕ) → is_some (page_at old page) ≡ true → bare_at new page ≡ bare_at old page
-  pub fresh : (page : ℕ) (value : PageValue S) → page_at old page ≡ None → page_at new page ≡ Some value → value ≡ zero_page
+  pub fresh : (page : ℕ) (value : PageValue S) → page_at old page ≡ None → page_at new page ≡ Some value → value ≡ fresh_zero_page
 
 -- a hart's accesses: no page's A or D falls; no other hart's cache changes; the hart's own gets translations of resident
 -- pages alone, and none that is to be dropped
@@ -25,7 +25,7 @@ pub record KeepsAccess {S : Type 0} (hart : ℕ) (old new : PagedValue S) : Type
   pub others : (h : ℕ) → h ≢ hart → cache_of new.caches h ≡ cache_of old.caches h
   pub used : (page : ℕ) → page < 2 ^ 20 → is_used (seen_at old.pages page) (entry_at old.tables page) ≡ true → is_used (seen_at new.pages page) (entry_at new.tables page) ≡ true
   pub changed : (page : ℕ) → page < 2 ^ 20 → is_changed (seen_at old.pages page) (entry_at old.tables page) ≡ true → is_changed (seen_at new.pages page) (entry_at new.tables page) ≡ true
-  pub held : (page : ℕ) → is_some (entry_of page (cache_of new.caches hart)) ≡ true → HasPage old.pages (cache_of old.caches hart) page
+  pub held : (page : ℕ) → is_some (translation_of page (cache_of new.caches hart)) ≡ true → HasPage old.pages (cache_of old.caches hart) page
   pub doomed : (page : ℕ) → is_doomed page (cache_of new.caches hart) ≡ true → is_doomed page (cache_of old.caches hart) ≡ true
 
 -- a page's use is marked: its A is set, or the hart had a translation of it that is to be dropped when its turn began

@@ -6,11 +6,11 @@ use Rattle.page_store.specs.PageValue.{PageValue, Place, Fresh, Resident, Leavin
 use Rattle.page_store.specs.Lending.{with_bytes, rewritten}
 use Rattle.sv32_table.specs.EntryAt.{entry_at}
 use Rattle.tlb_core.specs.declared.translation.Translation.{Translation}
-use Rattle.tlb_core.specs.Cache.{entry_of}
+use Rattle.tlb_core.specs.Cache.{translation_of}
 use Rattle.paged_memory.specs.Seen.{Seen, is_used, is_changed}
 use Rattle.paged_memory.specs.Paged.{PagedValue, standing_of, seen_of, page_at, seen_at}
 use Rattle.paged_memory.specs.Access.{HasPage, LacksPage, KeepsBare, KeepsTranslations, is_resident, is_doomed}
-use Rattle.paged_memory.specs.Growth.{zero_page}
+use Rattle.paged_memory.specs.Growth.{fresh_zero_page}
 use Rattle.paged_memory.specs.HartMemory.{KeepsPages, KeepsAccess, MarksSince}
 
 module _ {S : Type 0} where
@@ -36,7 +36,7 @@ module _ {S : Type 0} where
   zero_place (Away slot) is = cc
   zero_place Purged is = cc
 
-  zero_bare : (page : PageValue S) → with_bytes page [] ≡ zero_page → page ≡ zero_page
+  zero_bare : (page : PageValue S) → with_bytes page [] ≡ fresh_zero_page → page ≡ fresh_zero_page
   zero_bare page is =
       let place : page.place ≡ Fresh = zero_place page.place (ap (λ (p : PageValue S). p.place) is) in
       (λ i. record { origin = page.origin; place = place i }) ∙ ap (λ (p : PageValue S). record { origin = p.origin; place = Fresh }) is
@@ -46,16 +46,16 @@ module _ {S : Type 0} where
   seen_kept old new kept page there = sym (seen_bare (page_at new page)) ∙ ap (option_map seen_of) (kept.bare page there) ∙ seen_bare (page_at old page)
 
   -- of one that was not, nothing is seen but that it is nowhere
-  pub seen_fresh : (old new : List (ℕ × PageValue S)) → KeepsPages old new → (page : ℕ) → page_at old page ≡ None → (seen_at new page ≡ None) ⊎ (seen_at new page ≡ Some (seen_of {S = S} zero_page))
+  pub seen_fresh : (old new : List (ℕ × PageValue S)) → KeepsPages old new → (page : ℕ) → page_at old page ≡ None → (seen_at new page ≡ None) ⊎ (seen_at new page ≡ Some (seen_of {S = S} fresh_zero_page))
   seen_fresh old new kept page none = by_page (page_at new page) refl
     where
-      by_page : (o : Option (PageValue S)) → page_at new page ≡ o → (option_map seen_of o ≡ None) ⊎ (option_map seen_of o ≡ Some (seen_of {S = S} zero_page))
+      by_page : (o : Option (PageValue S)) → page_at new page ≡ o → (option_map seen_of o ≡ None) ⊎ (option_map seen_of o ≡ Some (seen_of {S = S} fresh_zero_page))
       by_page None is = inl refl
       by_page (Some value) is = inr (ap (λ v. Some (seen_of v)) (kept.fresh page value none is))
 
   -- what holds of nowhere and of what was there holds after as before
   pub by_seen : (P : Option Seen → Option Seen → Type 0) (old new : List (ℕ × PageValue S)) → KeepsPages old new → (page : ℕ)
-      → ((s : Option Seen) → P s s) → P None (Some (seen_of {S = S} zero_page)) → P (seen_at old page) (seen_at new page)
+      → ((s : Option Seen) → P s s) → P None (Some (seen_of {S = S} fresh_zero_page)) → P (seen_at old page) (seen_at new page)
   by_seen P old new kept page same grown = by_page (page_at old page) refl
     where
       by_page : (o : Option (PageValue S)) → page_at old page ≡ o → P (option_map seen_of o) (seen_at new page)
@@ -85,7 +85,7 @@ module _ {S : Type 0} where
     fresh = λ page value none is. by_page page value none is (page_at between page) refl;
   }
     where
-      by_page : (page : ℕ) (value : PageValue S) → page_at old page ≡ None → page_at new page ≡ Some value → (o : Option (PageValue S)) → page_at between page ≡ o → value ≡ zero_page
+      by_page : (page : ℕ) (value : PageValue S) → page_at old page ≡ None → page_at new page ≡ Some value → (o : Option (PageValue S)) → page_at between page ≡ o → value ≡ fresh_zero_page
       by_page page value none is None at = second.fresh page value at is
       by_page page value none is (Some middle) at =
           let bare : Some (with_bytes value []) ≡ Some (with_bytes middle []) =
@@ -171,6 +171,6 @@ module _ {S : Type 0} where
         ∙ by_seen (λ s s'. is_used s (entry_at old.tables page) ≡ true → is_used s' (entry_at old.tables page) ≡ true) old.pages new.pages pages page (λ s same. same) (λ no. cc) is;
     changed = λ page small is. ap (λ t. is_changed (seen_at new.pages page) (entry_at t page)) tables
         ∙ by_seen (λ s s'. is_changed s (entry_at old.tables page) ≡ true → is_changed s' (entry_at old.tables page) ≡ true) old.pages new.pages pages page (λ s same. same) (λ no. refl) is;
-    held = λ page is. inr (subst (λ c. is_some (entry_of page (slice_index_or c hart [])) ≡ true) caches is);
+    held = λ page is. inr (subst (λ c. is_some (translation_of page (slice_index_or c hart [])) ≡ true) caches is);
     doomed = λ page is. subst (λ c. is_doomed page (slice_index_or c hart []) ≡ true) caches is;
   }

@@ -6,7 +6,7 @@ use Rattle.page_memory.specs.declared.words.Access.TheVariants.{Load, Store}
 use Rattle.page_memory.specs.Rights.{may}
 use Rattle.sv32_table.specs.Entry.{Entry}
 use Rattle.tlb_core.specs.declared.translation.Translation.{Translation}
-use Rattle.tlb_core.specs.Cache.{entry_of}
+use Rattle.tlb_core.specs.Cache.{translation_of}
 use Rattle.paged_memory.specs.Seen.{Seen, entry_seen, frame_seen, rights_seen, is_changed, is_used}
 
 -- a page has the table entry of its frame and rights while it is resident, and none else; and a page that may be written
@@ -32,4 +32,4 @@ pub record Agree (pages : ℕ → Option Seen) (entries : ℕ → Entry) (caches
 
 -- whether a cache holds a translation of the page
 abbrev pub is_held : ℕ → List (List Translation) → Bool
-is_held page caches = list_any (λ cache. is_some (entry_of page cache)) caches
+is_held page caches = list_any (λ cache. is_some (translation_of page cache)) caches

@@ -1,6 +1,6 @@
 ghost use Rattle.std.specs.Prelude.{◌≡◌, ◌<◌, ◌≤◌, ◌%◌, ℕ, [], ◌∷◌, ◌++◌, map, length, is_some, IfOk, IfSome, slice_index_or, slice_set};
 ghost use Rattle.page_memory.specs.Words.{page_number, bytes_in};
-ghost use Rattle.tlb_core.specs.Cache.{Hits, doomed, undoomed, filled, entry_of};
+ghost use Rattle.tlb_core.specs.Cache.{Hits, doomed, undoomed, filled, translation_of};
 ghost use Rattle.paged_memory.specs.Soundness.{is_held};
 
 use page_memory::{Access, Width};
@@ -58,7 +58,7 @@ impl Caches {
     #[inline]
     pub fn look(&self, hart: usize, page: u32) -> Option<Translation>
         requires { hart < length self.now }
-        ensures { result ≡ entry_of page (slice_index_or self.now hart []) }
+        ensures { result ≡ translation_of page (slice_index_or self.now hart []) }
     {
         self.harts[hart].look(page)
     }
@@ -95,7 +95,7 @@ impl Caches {
     {
         self.harts.iter().any(
             |cache: &Tlb| -> bool
-                ensures { result ≡ is_some (entry_of page cache.now) }
+                ensures { result ≡ is_some (translation_of page cache.now) }
             { cache.holds(page) },
         )
     }

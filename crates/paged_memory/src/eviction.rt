@@ -3,7 +3,7 @@ ghost use Rattle.std.specs.Bool.{OnTrue, OnFalse};
 ghost use Rattle.sv32_table.specs.Entry.{blank};
 ghost use Rattle.sv32_table.specs.EntryAt.{entry_at, ChangesEntry, unaccessed_entry, dirty_of};
 ghost use Rattle.tlb_core.specs.Cache.{doomed};
-ghost use Rattle.page_store.specs.PageValue.{state_of};
+ghost use Rattle.page_store.specs.PageValue.{page_state_of};
 ghost use Rattle.paged_memory.specs.Paged.{page_at, seen_at, memory_of, Holds};
 ghost use Rattle.paged_memory.specs.Calls.{accessed_at, ChangesBy, Leaves, RefusesLeave};
 
@@ -19,7 +19,7 @@ impl<L: Ledger, S: SwapSlot> PagedMemory<L, S> {
     /// Where a page is, or `None` where none is mapped.
     pub fn state(&self, vpn: u32) -> Option<PageState>
         requires { vpn < 2 ^ 20 }
-        ensures { result ≡ option_map (λ page. state_of page.place) (page_at self.now.pages vpn) }
+        ensures { result ≡ option_map (λ page. page_state_of page.place) (page_at self.now.pages vpn) }
     {
         state_in(&self.pages, vpn)
     }
@@ -60,7 +60,7 @@ pub(crate) fn state_in<L: Ledger, S: SwapSlot>(
     vpn: u32,
 ) -> Option<PageState>
     requires { vpn < 2 ^ 20 }
-    ensures { result ≡ option_map (λ page. state_of page.place) (page_at pages.now vpn) }
+    ensures { result ≡ option_map (λ page. page_state_of page.place) (page_at pages.now vpn) }
 {
     let place = pages.place(vpn)?;
     Some(pages.at(place).state())
@@ -68,8 +68,8 @@ pub(crate) fn state_in<L: Ledger, S: SwapSlot>(
 
 fn is_resident<L: Ledger, S: SwapSlot>(pages: &PageMap<StoredPage<L, S>>, vpn: u32) -> bool
     requires { vpn < 2 ^ 20 }
-    ensures resident { OnTrue result (option_map (λ page. state_of page.place) (page_at pages.now vpn) ≡ Some PageState.Resident) }
-    ensures other { OnFalse result (option_map (λ page. state_of page.place) (page_at pages.now vpn) ≢ Some PageState.Resident) }
+    ensures resident { OnTrue result (option_map (λ page. page_state_of page.place) (page_at pages.now vpn) ≡ Some PageState.Resident) }
+    ensures other { OnFalse result (option_map (λ page. page_state_of page.place) (page_at pages.now vpn) ≢ Some PageState.Resident) }
 {
     matches!(state_in(pages, vpn), Some(PageState::Resident))
 }
@@ -129,7 +129,7 @@ fn refuse_leave<L: Ledger, S: SwapSlot>(
     vpn: u32,
 ) -> Result<(), LeaveRefusal>
     requires { vpn < 2 ^ 20 }
-    ensures resident { OnOk result (option_map (λ page. state_of page.place) (page_at pages.now vpn) ≡ Some PageState.Resident) }
+    ensures resident { OnOk result (option_map (λ page. page_state_of page.place) (page_at pages.now vpn) ≡ Some PageState.Resident) }
     ensures refused { IfErr result (RefusesLeave (page_at pages.now vpn)) }
 {
     match state_in(pages, vpn) {
@@ -143,7 +143,7 @@ fn refuse_leave<L: Ledger, S: SwapSlot>(
 /// A resident page begins to leave.
 fn leave<L: Ledger, S: SwapSlot>(pages: &mut PageMap<StoredPage<L, S>>, vpn: u32, changed: bool)
     requires vpn { vpn < 2 ^ 20 }
-    requires resident { option_map (λ page. state_of page.place) (page_at pages.old vpn) ≡ Some PageState.Resident }
+    requires resident { option_map (λ page. page_state_of page.place) (page_at pages.old vpn) ≡ Some PageState.Resident }
     ensures { ChangesBy (Leaves changed) pages.old pages.new vpn }
 {
     let Some(place) = pages.place(vpn) else {

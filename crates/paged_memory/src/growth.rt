@@ -5,7 +5,7 @@ ghost use Rattle.page_memory.specs.declared.words.Access.{Access};
 ghost use Rattle.page_store.specs.PageValue.{Fresh};
 ghost use Rattle.page_memory.specs.Entries.{place_of, added, with_added};
 ghost use Rattle.paged_memory.specs.Paged.{memory_of};
-ghost use Rattle.paged_memory.specs.Growth.{zero_page, LacksOne};
+ghost use Rattle.paged_memory.specs.Growth.{fresh_zero_page, LacksOne};
 
 use crate::memory::PagedMemory;
 use page_memory::{Page, PageMap, Rights};
@@ -37,7 +37,7 @@ impl<L: Ledger, S: SwapSlot> PagedMemory<L, S> {
     /// take no frame yet.
     pub fn map_zeroed(&mut self, first: u32, count: u32) -> Result<(), AllocError>
         requires { first + count ≤ 2 ^ 20 }
-        ensures ok { OnOk result (self.new.pages ≡ with_added first count zero_page self.old.pages) }
+        ensures ok { OnOk result (self.new.pages ≡ with_added first count fresh_zero_page self.old.pages) }
         ensures memory { OnOk result (memory_of S.content self.new.pages ≡ with_zeroed first count (memory_of S.content self.old.pages)) }
         ensures err { OnErr result (self.new ≡ self.old) }
         ensures some { IsErr result → 0 < count }
@@ -59,7 +59,7 @@ fn add_all_zeroed<L: Ledger, S: SwapSlot>(
     count: u32,
 ) -> Result<(), AllocError>
     requires { first + count ≤ 2 ^ 20 }
-    ensures ok { OnOk result (pages.new ≡ with_added first count zero_page pages.old) }
+    ensures ok { OnOk result (pages.new ≡ with_added first count fresh_zero_page pages.old) }
     ensures err { OnErr result (pages.new ≡ pages.old) }
     ensures some { IsErr result → 0 < count }
     ensures missing { IsErr result → LacksOne first count pages.old }
@@ -82,7 +82,7 @@ fn add_zeroed<L: Ledger, S: SwapSlot>(
     number: u32,
 ) -> Result<(), AllocError>
     requires { number < 2 ^ 20 }
-    ensures ok { OnOk result (pages.new ≡ added number zero_page pages.old) }
+    ensures ok { OnOk result (pages.new ≡ added number fresh_zero_page pages.old) }
     ensures err { OnErr result (pages.new ≡ pages.old) }
     ensures absent { IsErr result → place_of number pages.old ≡ None }
 {

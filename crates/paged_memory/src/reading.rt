@@ -5,7 +5,7 @@ ghost use Rattle.page_memory.specs.Entries.{value_at};
 ghost use Rattle.page_memory.specs.Memory.{usable, fetched, loaded, copied_out};
 ghost use Rattle.page_memory.specs.declared.words.Access.{Access};
 ghost use Rattle.page_store.specs.PageValue.{content, writable};
-ghost use Rattle.rv_exec.specs.Answers.{Answers, Refuses, with_answer};
+ghost use Rattle.rv_exec.specs.Answers.{Answers, BusRefuses, with_answer};
 ghost use Rattle.paged_memory.specs.Paged.{Holds, memory_of};
 ghost use Rattle.paged_memory.specs.Access.{HasPage, LacksPage, MarksUse, KeepsTranslations, MayWalk, UsesBytes, cache_of};
 
@@ -71,7 +71,7 @@ fn read<'a, L: Ledger, S: SwapSlot>(
     ensures holds { Holds S.content S.honest pages.now tables.new caches.new }
     ensures bytes { IfOk result (λ bytes. UsesBytes (usable (memory_of S.content pages.now) access address) bytes.now) }
     ensures whole { IfOk result (λ bytes. length bytes.now ≡ 4096) }
-    ensures refused { IfErr result (Refuses (LacksPage pages.now) address (usable (memory_of S.content pages.now) access address)) }
+    ensures refused { IfErr result (BusRefuses (LacksPage pages.now) address (usable (memory_of S.content pages.now) access address)) }
     ensures kept { KeepsTranslations pages.now hart tables.old tables.new caches.old caches.new }
     ensures entries { MayWalk access (page_number address) tables.old tables.new }
     ensures has { OnOk result (HasPage pages.now (cache_of caches.old hart) (page_number address)) }

@@ -13,7 +13,7 @@ use Rattle.clock_policy.specs.ClockPro.{ClockState, kind_of, is_full, admitted}
 use Rattle.pager_core.specs.declared.refusal.AdmitRefusal.{AdmitRefusal}
 use Rattle.pager_core.specs.declared.refusal.AdmitRefusal.TheVariants.{AlreadyResident, NoFrame}
 use Rattle.pager_core.specs.Pager.{PagerState, resident_kind, none_free, admission_refused}
-use Rattle.pager_core.specs.Refusals.{Refuses, list_refusal}
+use Rattle.pager_core.specs.Refusals.{RefusesAdmission, list_refusal}
 
 -- why a page is refused where a frame is free, by what the list knows of it and whether the list is full
 abbrev told : Option EntryKind → Bool → Option AdmitRefusal
@@ -72,7 +72,7 @@ told_by_list key p free =
     let reason : admission_refused key p ≡ told found full = told_at key p found full refl refl free in
     subst (λ a. as_told a (admission_refused key p)) (sym answer) (subst (as_told (listed found full)) (sym reason) (told_listed found full))
 
-refuses : (r : Refusal) (key : Key) (p : PagerState) → as_told (Err r) (admission_refused key p) → Refuses (list_refusal r) key p
+refuses : (r : Refusal) (key : Key) (p : PagerState) → as_told (Err r) (admission_refused key p) → RefusesAdmission (list_refusal r) key p
 refuses list.AlreadyResident key p e = e
 refuses list.NoQuestion key p e = absurd e
 refuses list.NotThere key p e = absurd e
@@ -83,7 +83,7 @@ some_free : (l : List FrameValue) → (l ≡ [] → ⊥) → none_free l ≡ fal
 some_free [] h = absurd (h refl)
 some_free (x ∷ xs) h = refl
 
-refuses_page : (key : Key) (p : PagerState) (r : Refusal) → none_free p.free ≡ false → (admitted key p.list).1 ≡ Err r → Refuses (list_refusal r) key p
+refuses_page : (key : Key) (p : PagerState) (r : Refusal) → none_free p.free ≡ false → (admitted key p.list).1 ≡ Err r → RefusesAdmission (list_refusal r) key p
 refuses_page key p r free e = refuses r key p (subst (λ a. as_told a (admission_refused key p)) e (told_by_list key p free))
 
 taken : (key : Key) (p : PagerState) (answer : Result Kind Refusal) → none_free p.free ≡ false → IsOk answer → (admitted key p.list).1 ≡ answer → admission_refused key p ≡ None
@@ -95,14 +95,14 @@ abbrev pub Answered : Key → ClockState → Result Kind Refusal → Type 0
 Answered key s answer =
     ((answer ≡ Err list.NoMemory → ⊥) → answer ≡ (admitted key s).1) × (answer ≡ Err list.NoMemory → IsOk (admitted key s).1)
 
-refused_by : (r : Refusal) (key : Key) (p : PagerState) → none_free p.free ≡ false → Answered key p.list (Err r) → Refuses (list_refusal r) key p
+refused_by : (r : Refusal) (key : Key) (p : PagerState) → none_free p.free ≡ false → Answered key p.list (Err r) → RefusesAdmission (list_refusal r) key p
 refused_by list.AlreadyResident key p free h = refuses_page key p list.AlreadyResident free (sym (h.0 (λ e. cc)))
 refused_by list.NoQuestion key p free h = refuses_page key p list.NoQuestion free (sym (h.0 (λ e. cc)))
 refused_by list.NotThere key p free h = refuses_page key p list.NotThere free (sym (h.0 (λ e. cc)))
 refused_by list.Full key p free h = refuses_page key p list.Full free (sym (h.0 (λ e. cc)))
 refused_by list.NoMemory key p free h = taken key p (admitted key p.list).1 free (h.1 refl) refl
 
-pub refuses_as_listed : (r : Refusal) (key : Key) (p : PagerState) → (p.free ≡ [] → ⊥) → Answered key p.list (Err r) → Refuses (list_refusal r) key p
+pub refuses_as_listed : (r : Refusal) (key : Key) (p : PagerState) → (p.free ≡ [] → ⊥) → Answered key p.list (Err r) → RefusesAdmission (list_refusal r) key p
 refuses_as_listed r key p free h = refused_by r key p (some_free p.free free) h
 
 pub takes_as_listed : (kind : Kind) (key : Key) (p : PagerState) → (p.free ≡ [] → ⊥) → Answered key p.list (Ok kind) → admission_refused key p ≡ None

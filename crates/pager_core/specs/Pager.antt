@@ -8,7 +8,7 @@ use Rattle.clock_policy.specs.declared.answer.Bit.{Bit}
 use Rattle.clock_policy.specs.declared.answer.Verdict.{Verdict}
 use Rattle.clock_policy.specs.declared.answer.Verdict.TheVariants.{GoOn, Victim}
 use Rattle.clock_policy.specs.declared.refusal.Refusal.{Refusal}
-use Rattle.clock_policy.specs.ClockPro.{ClockState, opening, kind_of, is_shadow, is_full, answered, admitted}
+use Rattle.clock_policy.specs.ClockPro.{ClockState, opening_state, kind_of, is_shadow, is_full, answered, admitted}
 use Rattle.pager_core.specs.declared.counts.Tallies.{Tallies}
 use Rattle.pager_core.specs.declared.refusal.AdmitRefusal.{AdmitRefusal}
 use Rattle.pager_core.specs.declared.refusal.AdmitRefusal.TheVariants.{AlreadyResident, NoFrame}
@@ -29,7 +29,7 @@ nothing_tallied = record { page_ins = 0; victims = 0; questions = 0 }
 
 -- every frame is free, and the list has no page
 abbrev pub full_pager : ℕ → PagerState
-full_pager size = record { free = (full_pool size).free; size = size; list = opening size; tallies = nothing_tallied }
+full_pager size = record { free = (full_pool size).free; size = size; list = opening_state size; tallies = nothing_tallied }
 
 -- ---- a page comes in
 
@@ -38,8 +38,8 @@ abbrev pub resident_kind : Option EntryKind → Bool
 resident_kind None = false
 resident_kind (Some kind) = not (is_shadow kind)
 
-abbrev pub is_resident : Key → ClockState → Bool
-is_resident key list = resident_kind (kind_of key list.entries)
+abbrev pub is_listed_resident : Key → ClockState → Bool
+is_listed_resident key list = resident_kind (kind_of key list.entries)
 
 abbrev pub none_free : List FrameValue → Bool
 none_free [] = true
@@ -52,7 +52,7 @@ has_no_frame pager = none_free pager.free || is_full pager.list
 -- why a page is not admitted, want of memory aside
 unfoldable pub admission_refused : Key → PagerState → Option AdmitRefusal
 admission_refused key pager =
-    if is_resident key pager.list then Some AlreadyResident else (if has_no_frame pager then Some NoFrame else None)
+    if is_listed_resident key pager.list then Some AlreadyResident else (if has_no_frame pager then Some NoFrame else None)
 
 -- a page is admitted, with these frames left
 unfoldable pub admitted_with : Key → List FrameValue → PagerState → PagerState

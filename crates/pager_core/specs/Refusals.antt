@@ -8,10 +8,10 @@ use Rattle.pager_core.specs.declared.refusal.AdmitRefusal.TheVariants.{AlreadyRe
 use Rattle.pager_core.specs.Pager.{PagerState, admission_refused}
 
 -- the page is refused for the first reason that holds, or, where none does, for want of memory
-abbrev pub Refuses : AdmitRefusal → Key → PagerState → Type 0
-Refuses AlreadyResident key pager = admission_refused key pager ≡ Some AlreadyResident
-Refuses NoFrame key pager = admission_refused key pager ≡ Some NoFrame
-Refuses NoMemory key pager = admission_refused key pager ≡ None
+abbrev pub RefusesAdmission : AdmitRefusal → Key → PagerState → Type 0
+RefusesAdmission AlreadyResident key pager = admission_refused key pager ≡ Some AlreadyResident
+RefusesAdmission NoFrame key pager = admission_refused key pager ≡ Some NoFrame
+RefusesAdmission NoMemory key pager = admission_refused key pager ≡ None
 
 -- what a refusal of the list is for a page that is to be admitted
 abbrev pub list_refusal : Refusal → AdmitRefusal

@@ -1,9 +1,9 @@
 ghost use Rattle.std.specs.Prelude.{◌≡◌, ◌≢◌, ◌+◌, ◌*◌, ◌<◌, ◌≤◌, ◌↔◌, ◌⊎◌, [], ◌∷◌, ◌++◌, length, IsTrue, IsOk, IsErr, IsNone, IsErrOf, IfOk, IfErr, OnOk, OnErr, Ok, Err, Some, None, true, false, slice_get, option_map, vec_len, vec_capacity};
 ghost use Rattle.clock_policy.specs.ClockPro.{question_of, answered, restored, withdrawn, purged, purge_count, kind_of};
 ghost use Rattle.clock_policy.specs.Lawful.{Lawful};
-ghost use Rattle.clock_policy.specs.Bound.{left, NothingResident};
-ghost use Rattle.pager_core.specs.Pager.{full_pager, is_resident, admission_refused, admitted_with, pager_answered, with_list};
-ghost use Rattle.pager_core.specs.Refusals.{Refuses, list_refusal};
+ghost use Rattle.clock_policy.specs.Bound.{answers_left, NothingResident};
+ghost use Rattle.pager_core.specs.Pager.{full_pager, is_listed_resident, admission_refused, admitted_with, pager_answered, with_list};
+ghost use Rattle.pager_core.specs.Refusals.{RefusesAdmission, list_refusal};
 
 use crate::counts::{Counts, Tallies, tally};
 use crate::refusal::AdmitRefusal;
@@ -35,7 +35,7 @@ impl<L: Ledger, C: Clock> Model for Pager<L, C> {
 impl<L: Ledger, C: Clock> Pager<L, C> {
     /// A pager of 4 to 4096 frames of zero bytes, all free, and an empty list. The ledger has one part for each frame, and one
     /// for the pool itself.
-    #[tactic(auto, unfolding(clock_policy::specs::ClockPro::opening))]
+    #[tactic(auto, unfolding(clock_policy::specs::ClockPro::opening_state))]
     pub fn new(alloc: Global, frames: u32, blank: Blank) -> Result<Self, PoolError>
         requires name { blank.name ≡ L.name }
         requires parts { blank.parts ≡ L.parts }
@@ -68,7 +68,7 @@ impl<L: Ledger, C: Clock> Pager<L, C> {
         ensures ok { OnOk result (admission_refused key self.old ≡ None) }
 
         // Memory is wanting only where nothing else is.
-        ensures refused { IfErr result (λ refusal. Refuses refusal key self.old) }
+        ensures refused { IfErr result (λ refusal. RefusesAdmission refusal key self.old) }
         ensures err { OnErr result (self.new ≡ self.old) }
         ensures lawful { OnOk result (Lawful self.new.list) }
     {
@@ -91,7 +91,7 @@ impl<L: Ledger, C: Clock> Pager<L, C> {
     #[tactic(auto, using(crate::proofs::Admission::no_frames))]
     fn refusal_without_frame(&self, key: Key) -> AdmitRefusal
         requires { self.now.free ≡ [] }
-        ensures { Refuses result key self.now }
+        ensures { RefusesAdmission result key self.now }
     {
         match self.list.kind_of(key) {
             None | Some(EntryKind::Shadow) => AdmitRefusal::NoFrame,
@@ -106,8 +106,8 @@ impl<L: Ledger, C: Clock> Pager<L, C> {
         ensures exact { result ≡ question_of self.now.list }
         ensures none { IsNone result ↔ NothingResident self.now.list }
         ensures lawful { Lawful self.now.list }
-        ensures bound { left self.now.list ≤ 5 * self.now.list.frames }
-        ensures end { left self.now.list ≡ 0 → NothingResident self.now.list }
+        ensures bound { answers_left self.now.list ≤ 5 * self.now.list.frames }
+        ensures end { answers_left self.now.list ≡ 0 → NothingResident self.now.list }
         ensures size { self.now.list.frames ≡ self.now.size }
     {
         self.list.question()
@@ -123,7 +123,7 @@ impl<L: Ledger, C: Clock> Pager<L, C> {
         ensures lawful { Lawful self.new.list }
 
         // An answer without a victim lowers the number of answers that are left.
-        ensures lowers { result ≡ Ok Verdict.GoOn → left self.new.list < left self.old.list }
+        ensures lowers { result ≡ Ok Verdict.GoOn → answers_left self.new.list < answers_left self.old.list }
     {
         let verdict = self.list.answer(bit)?;
         self.tallies.questions = tally(self.tallies.questions);
@@ -149,7 +149,7 @@ impl<L: Ledger, C: Clock> Pager<L, C> {
         ensures moved { self.new ≡ with_list (withdrawn key self.old.list).0 self.old }
         ensures exact { result ≡ (withdrawn key self.old.list).1 }
         ensures err { OnErr result (self.new ≡ self.old) }
-        ensures no_more_left { left self.new.list ≤ left self.old.list }
+        ensures no_more_left { answers_left self.new.list ≤ answers_left self.old.list }
         ensures lawful { Lawful self.new.list }
     {
         self.list.withdraw(key)
@@ -159,7 +159,7 @@ impl<L: Ledger, C: Clock> Pager<L, C> {
     pub fn purge(&mut self, process: u32) -> u32
         ensures moved { self.new ≡ with_list (purged process self.old.list) self.old }
         ensures count { result ≡ purge_count process self.old.list }
-        ensures no_more_left { left self.new.list ≤ left self.old.list }
+        ensures no_more_left { answers_left self.new.list ≤ answers_left self.old.list }
         ensures lawful { Lawful self.new.list }
     {
         self.list.purge(process)

@@ -7,15 +7,15 @@ use Rattle.asm_statements.specs.declared.section.Section.{Section}
 use Rattle.asm_statements.specs.declared.section.Section.TheVariants.{Text, Data}
 use Rattle.rv_asm.specs.declared.item.Item.{Item}
 use Rattle.rv_asm.specs.declared.item.Item.TheVariants.{Label}
-use Rattle.rv_asm.specs.Program.{size, item_length, place_of}
-use Rattle.rv_asm.specs.FirstPass.{Progress, with_label, with_item, if_fits, fits}
+use Rattle.rv_asm.specs.Program.{size, item_length, label_place}
+use Rattle.rv_asm.specs.FirstPass.{Progress, with_label, with_item, if_fits, within_limits}
 use Rattle.rv_asm.proofs.Places.{size_push}
 
-pub label_twice : (progress : Progress) (name : List ℕ) → is_some (place_of progress.items name) ≡ true → with_label progress name ≡ Err LabelTwice
+pub label_twice : (progress : Progress) (name : List ℕ) → is_some (label_place progress.items name) ≡ true → with_label progress name ≡ Err LabelTwice
 unfolding with_label
 label_twice progress name there = rw there refl
 
-pub label_new : (progress : Progress) (name : List ℕ) → is_some (place_of progress.items name) ≡ false → with_label progress name ≡ Ok (record progress { items = progress.items ++ Label progress.section name ∷ [] })
+pub label_new : (progress : Progress) (name : List ℕ) → is_some (label_place progress.items name) ≡ false → with_label progress name ≡ Ok (record progress { items = progress.items ++ Label progress.section name ∷ [] })
 unfolding with_label
 label_new progress name there = rw there refl
 
@@ -37,16 +37,16 @@ item_too_long progress item text bytes is_text is_data (inl long) =
     rw t refl
 item_too_long progress item text bytes is_text is_data (inr long) =
     let d : nat_le (size Data (progress.items ++ item ∷ [])) 1048576 ≡ false = let p = size_push Data progress.items item in grind (arith, nat_tests) in
-    let e : fits (progress.items ++ item ∷ []) ≡ false = rw d (and_false (nat_le (size Text (progress.items ++ item ∷ [])) 262144)) in
+    let e : within_limits (progress.items ++ item ∷ []) ≡ false = rw d (and_false (nat_le (size Text (progress.items ++ item ∷ [])) 262144)) in
     ap (λ b. if_fits b progress item) e
   where
     and_false : (b : Bool) → (b && false) ≡ false
     and_false true = refl
     and_false false = refl
 
-pub label_added : (progress : Progress) (section : Section) (items more : List Item) (name : List ℕ) → record { section = section; items = items } ≡ progress → is_some (place_of progress.items name) ≡ false → more ≡ items ++ Label section name ∷ [] → with_label progress name ≡ Ok (record { section = section; items = more })
+pub label_added : (progress : Progress) (section : Section) (items more : List Item) (name : List ℕ) → record { section = section; items = items } ≡ progress → is_some (label_place progress.items name) ≡ false → more ≡ items ++ Label section name ∷ [] → with_label progress name ≡ Ok (record { section = section; items = more })
 label_added progress section items more name view there is =
-    let same : is_some (place_of items name) ≡ false = ap (λ (p : Progress). is_some (place_of p.items name)) view ∙ there in
+    let same : is_some (label_place items name) ≡ false = ap (λ (p : Progress). is_some (label_place p.items name)) view ∙ there in
     subst (λ p. with_label p name ≡ Ok (record { section = section; items = more })) view
     (label_new (record { section = section; items = items }) name same ∙ ap (λ l. Ok (record { section = section; items = l })) (sym is))
 

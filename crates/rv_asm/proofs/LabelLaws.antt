@@ -8,7 +8,7 @@ use Rattle.asm_statements.specs.declared.section.Section.{Section}
 use Rattle.rv_asm.specs.declared.item.Item.{Item}
 use Rattle.rv_asm.specs.declared.item.Item.TheVariants.{Label, InText, InData}
 use Rattle.rv_asm.specs.declared.place.Place.{Place}
-use Rattle.rv_asm.specs.Program.{size, item_length, labelled, place_from, place_of, section_start, address_of}
+use Rattle.rv_asm.specs.Program.{size, item_length, section_of_label, place_from, label_place, section_start, address_of}
 use Rattle.rv_asm.specs.Assembly.{Lacks, HasAddress}
 
 none_below : (item : Item) (below : Option Place) → place_from item None below ≡ None → below ≡ None
@@ -16,36 +16,36 @@ none_below item None is = refl
 none_below item (Some place) is = cc
 
 -- a look-up that finds nothing
-pub lacks_none : (items : List Item) (name : List ℕ) → place_of items name ≡ None → Lacks items name
-unfolding place_of Lacks
+pub lacks_none : (items : List Item) (name : List ℕ) → label_place items name ≡ None → Lacks items name
+unfolding label_place Lacks
 lacks_none [] name is = tt
-lacks_none (Label section other ∷ items) name is = by_test (bytes_eq other name) refl (place_of items name) (lacks_none items name) is
+lacks_none (Label section other ∷ items) name is = by_test (bytes_eq other name) refl (label_place items name) (lacks_none items name) is
   where
     by_test : (b : Bool) → bytes_eq other name ≡ b → (below : Option Place) → (below ≡ None → Lacks items name) → place_from (Label section other) ((if b then Some section else None)) below ≡ None → (other ≡ name → ⊥) × Lacks items name
     by_test true same below rest is = cc
     by_test false differs None rest is = ((λ e. false≢true (sym differs ∙ (bytes_eq-Decides other name).1 e)), rest refl)
     by_test false differs (Some place) rest is = cc
-lacks_none (InText line code ∷ items) name is = lacks_none items name (none_below (InText line code) (place_of items name) is)
-lacks_none (InData line datum ∷ items) name is = lacks_none items name (none_below (InData line datum) (place_of items name) is)
+lacks_none (InText line code ∷ items) name is = lacks_none items name (none_below (InText line code) (label_place items name) is)
+lacks_none (InData line datum ∷ items) name is = lacks_none items name (none_below (InData line datum) (label_place items name) is)
 
-pub none_from_lacks : (items : List Item) (name : List ℕ) → Lacks items name → place_of items name ≡ None
-unfolding place_of Lacks
+pub none_from_lacks : (items : List Item) (name : List ℕ) → Lacks items name → label_place items name ≡ None
+unfolding label_place Lacks
 none_from_lacks [] name lacks = refl
 none_from_lacks (Label section other ∷ items) name lacks = by_test (bytes_eq other name) refl (none_from_lacks items name lacks.1)
   where
-    by_test : (b : Bool) → bytes_eq other name ≡ b → place_of items name ≡ None → place_from (Label section other) (if b then Some section else None) (place_of items name) ≡ None
+    by_test : (b : Bool) → bytes_eq other name ≡ b → label_place items name ≡ None → place_from (Label section other) (if b then Some section else None) (label_place items name) ≡ None
     by_test true same none = absurd (lacks.0 ((bytes_eq-Decides other name).0 same))
     by_test false differs none = ap (place_from (Label section other) None) none
 none_from_lacks (InText line code ∷ items) name lacks = ap (place_from (InText line code) None) (none_from_lacks items name lacks)
 none_from_lacks (InData line datum ∷ items) name lacks = ap (place_from (InData line datum) None) (none_from_lacks items name lacks)
 
 -- a label that is found has its address
-pub found_at : (items : List Item) (name : List ℕ) (place : Place) → place_of items name ≡ Some place → (front : List Item) × ((back : List Item) × ((items ≡ front ++ Label place.section name ∷ back) × (place.offset ≡ size place.section front)))
-unfolding place_of size
+pub found_at : (items : List Item) (name : List ℕ) (place : Place) → label_place items name ≡ Some place → (front : List Item) × ((back : List Item) × ((items ≡ front ++ Label place.section name ∷ back) × (place.offset ≡ size place.section front)))
+unfolding label_place size
 found_at [] name place is = cc
-found_at (item ∷ items) name place is = by_here (labelled name item) refl (place_of items name) (found_at items name) is
+found_at (item ∷ items) name place is = by_here (section_of_label name item) refl (label_place items name) (found_at items name) is
   where
-    by_item : (item : Item) (section : Section) → labelled name item ≡ Some section → item ≡ Label section name
+    by_item : (item : Item) (section : Section) → section_of_label name item ≡ Some section → item ≡ Label section name
     by_item (Label s other) section e = by_test (bytes_eq other name) refl e
       where
         by_test : (b : Bool) → bytes_eq other name ≡ b → (if b then Some s else None) ≡ Some section → Label s other ≡ Label section name
@@ -54,7 +54,7 @@ found_at (item ∷ items) name place is = by_here (labelled name item) refl (pla
     by_item (InText line code) section e = cc
     by_item (InData line datum) section e = cc
 
-    by_here : (here : Option Section) → labelled name item ≡ here → (below : Option Place) → ((p : Place) → below ≡ Some p → (front : List Item) × ((back : List Item) × ((items ≡ front ++ Label p.section name ∷ back) × (p.offset ≡ size p.section front)))) → place_from item here below ≡ Some place → (front : List Item) × ((back : List Item) × ((item ∷ items ≡ front ++ Label place.section name ∷ back) × (place.offset ≡ size place.section front)))
+    by_here : (here : Option Section) → section_of_label name item ≡ here → (below : Option Place) → ((p : Place) → below ≡ Some p → (front : List Item) × ((back : List Item) × ((items ≡ front ++ Label p.section name ∷ back) × (p.offset ≡ size p.section front)))) → place_from item here below ≡ Some place → (front : List Item) × ((back : List Item) × ((item ∷ items ≡ front ++ Label place.section name ∷ back) × (place.offset ≡ size place.section front)))
     by_here (Some section) e below rest is =
         let at : place ≡ record { section = section; offset = 0 } = cc in
         ([], (items, ((λ i. (by_item item section e ∙ (λ j. Label (sym at j).section name)) i ∷ items), ap (λ (p : Place). p.offset) at)))
@@ -74,9 +74,9 @@ found_at (item ∷ items) name place is = by_here (labelled name item) refl (pla
 
 pub address_found : (items : List Item) (name : List ℕ) (address : ℕ) → address_of items name ≡ Some address → HasAddress items name address
 unfolding address_of
-address_found items name address is = by_place (place_of items name) refl is
+address_found items name address is = by_place (label_place items name) refl is
   where
-    by_place : (found : Option Place) → place_of items name ≡ found → option_map (λ place. section_start items place.section + place.offset) found ≡ Some address → HasAddress items name address
+    by_place : (found : Option Place) → label_place items name ≡ found → option_map (λ place. section_start items place.section + place.offset) found ≡ Some address → HasAddress items name address
     by_place None e is = cc
     by_place (Some place) e is =
         let r = found_at items name place e in
@@ -85,7 +85,7 @@ address_found items name address is = by_place (place_of items name) refl is
 
 pub no_address : (items : List Item) (name : List ℕ) → address_of items name ≡ None → Lacks items name
 unfolding address_of
-no_address items name is = lacks_none items name (by_place (place_of items name) is)
+no_address items name is = lacks_none items name (by_place (label_place items name) is)
   where
     by_place : (found : Option Place) → option_map (λ place. section_start items place.section + place.offset) found ≡ None → found ≡ None
     by_place None is = refl

@@ -12,13 +12,13 @@ use Rattle.asm_statements.specs.declared.part.Datum.{Datum}
 use Rattle.rv_asm.specs.declared.item.Item.{Item}
 use Rattle.rv_asm.specs.declared.item.Item.TheVariants.{Label, InText, InData}
 use Rattle.asm_lines.specs.Forms.{Line}
-use Rattle.asm_statements.specs.Effects.{Effect, Enter, Text as TextEffect, Data as DataEffect}
+use Rattle.asm_statements.specs.Effects.{StatementEffect, Enter, Text as TextEffect, Data as DataEffect}
 use Rattle.asm_lines.specs.Lines.{line_form}
 use Rattle.rv_asm.specs.Steps.{FaultAt, chained, on_line}
-use Rattle.rv_asm.specs.Program.{size, place_of}
-use Rattle.rv_asm.specs.FirstPass.{Progress, no_lines, unless_there, with_label, with_labels, fits, if_fits, with_item, with_items, with_effect, with_reading, with_form, with_line, with_lines}
-use Rattle.rv_asm.specs.LineEffects.{effect_of}
-use Rattle.rv_asm.specs.Assembly.{Says, entered, parts_of, items_of, Tells, Lacks, Distinct, Fits, HasProgram, LineFault, form, statement, twice, long}
+use Rattle.rv_asm.specs.Program.{size, label_place}
+use Rattle.rv_asm.specs.FirstPass.{Progress, no_lines, unless_there, with_label, with_labels, within_limits, if_fits, with_item, with_items, with_effect, with_reading, with_form, with_line, with_lines}
+use Rattle.rv_asm.specs.LineEffects.{line_effect}
+use Rattle.rv_asm.specs.Assembly.{Says, section_after, parts_of, items_of, Tells, Lacks, DistinctLabels, Fits, HasProgram, LineFault, form, statement, twice, long}
 use Rattle.rv_asm.proofs.Places.{size_append}
 use Rattle.rv_asm.proofs.LabelLaws.{lacks_none, none_from_lacks}
 use Rattle.rv_asm.proofs.FirstSteps.{none_there}
@@ -32,8 +32,8 @@ lacks_push (Label s first ∷ items) section name other lacks apart = (lacks.0, 
 lacks_push (InText line code ∷ items) section name other lacks apart = lacks_push items section name other lacks apart
 lacks_push (InData line datum ∷ items) section name other lacks apart = lacks_push items section name other lacks apart
 
-distinct_push : (items : List Item) (section : Section) (name : List ℕ) → Distinct items → Lacks items name → Distinct (items ++ Label section name ∷ [])
-unfolding Distinct Lacks
+distinct_push : (items : List Item) (section : Section) (name : List ℕ) → DistinctLabels items → Lacks items name → DistinctLabels (items ++ Label section name ∷ [])
+unfolding DistinctLabels Lacks
 distinct_push [] section name d lacks = (tt, tt)
 distinct_push (Label s first ∷ items) section name d lacks = (lacks_push items section first name d.0 (λ e. lacks.0 (sym e)), distinct_push items section name d.1 lacks.1)
 distinct_push (InText line code ∷ items) section name d lacks = distinct_push items section name d lacks
@@ -47,30 +47,30 @@ lacks_label (Label s first ∷ items) rest section name lacks = lacks_label item
 lacks_label (InText line code ∷ items) rest section name lacks = lacks_label items rest section name lacks
 lacks_label (InData line datum ∷ items) rest section name lacks = lacks_label items rest section name lacks
 
-lacks_before : (items rest : List Item) (section : Section) (name : List ℕ) → Distinct (items ++ Label section name ∷ rest) → Lacks items name
-unfolding Distinct Lacks
+lacks_before : (items rest : List Item) (section : Section) (name : List ℕ) → DistinctLabels (items ++ Label section name ∷ rest) → Lacks items name
+unfolding DistinctLabels Lacks
 lacks_before [] rest section name d = tt
 lacks_before (Label s first ∷ items) rest section name d = ((λ e. lacks_label items rest section name (subst (λ n. Lacks (items ++ Label section name ∷ rest) n) e d.0)), lacks_before items rest section name d.1)
 lacks_before (InText line code ∷ items) rest section name d = lacks_before items rest section name d
 lacks_before (InData line datum ∷ items) rest section name d = lacks_before items rest section name d
 
 abbrev LabelsSaid : Progress → List (List ℕ) → Result Progress FaultKind → Type 0
-LabelsSaid p names (Ok q) = (q.section ≡ p.section) × (q.items ≡ p.items ++ map (Label p.section) names) × (Distinct p.items → Distinct q.items)
-LabelsSaid p names (Err kind) = (kind ≡ LabelTwice) × (Distinct (p.items ++ map (Label p.section) names) → ⊥)
+LabelsSaid p names (Ok q) = (q.section ≡ p.section) × (q.items ≡ p.items ++ map (Label p.section) names) × (DistinctLabels p.items → DistinctLabels q.items)
+LabelsSaid p names (Err kind) = (kind ≡ LabelTwice) × (DistinctLabels (p.items ++ map (Label p.section) names) → ⊥)
 
 pub labels_said : (p : Progress) (names : List (List ℕ)) → LabelsSaid p names (with_labels p names)
 unfolding with_labels with_label
 labels_said p [] = (refl, sym (append-nil p.items), λ d. d)
-labels_said p (name ∷ names) = by_test (is_some (place_of p.items name)) refl (labels_said (record p { items = p.items ++ Label p.section name ∷ [] }) names)
+labels_said p (name ∷ names) = by_test (is_some (label_place p.items name)) refl (labels_said (record p { items = p.items ++ Label p.section name ∷ [] }) names)
   where
     all : (p.items ++ Label p.section name ∷ []) ++ map (Label p.section) names ≡ p.items ++ (Label p.section name ∷ map (Label p.section) names)
     all = append_assoc p.items (Label p.section name ∷ []) (map (Label p.section) names)
 
-    later : (r : Result Progress FaultKind) → is_some (place_of p.items name) ≡ false → LabelsSaid (record p { items = p.items ++ Label p.section name ∷ [] }) names r → LabelsSaid p (name ∷ names) r
-    later (Ok q) new rest = (rest.0, rest.1 ∙ all, λ d. rest.2 (distinct_push p.items p.section name d (lacks_none p.items name (none_there (place_of p.items name) new))))
-    later (Err kind) new rest = (rest.0, λ d. rest.1 (subst Distinct (sym all) d))
+    later : (r : Result Progress FaultKind) → is_some (label_place p.items name) ≡ false → LabelsSaid (record p { items = p.items ++ Label p.section name ∷ [] }) names r → LabelsSaid p (name ∷ names) r
+    later (Ok q) new rest = (rest.0, rest.1 ∙ all, λ d. rest.2 (distinct_push p.items p.section name d (lacks_none p.items name (none_there (label_place p.items name) new))))
+    later (Err kind) new rest = (rest.0, λ d. rest.1 (subst DistinctLabels (sym all) d))
 
-    by_test : (b : Bool) → is_some (place_of p.items name) ≡ b → LabelsSaid (record p { items = p.items ++ Label p.section name ∷ [] }) names (with_labels (record p { items = p.items ++ Label p.section name ∷ [] }) names) → LabelsSaid p (name ∷ names) (chained (λ more. with_labels more names) (unless_there b p name))
+    by_test : (b : Bool) → is_some (label_place p.items name) ≡ b → LabelsSaid (record p { items = p.items ++ Label p.section name ∷ [] }) names (with_labels (record p { items = p.items ++ Label p.section name ∷ [] }) names) → LabelsSaid p (name ∷ names) (chained (λ more. with_labels more names) (unless_there b p name))
     by_test true there rest = (refl, λ d. false≢true (sym (ap is_some (none_from_lacks p.items name (lacks_before p.items (map (Label p.section) names) p.section name d))) ∙ there))
     by_test false new rest = later (with_labels (record p { items = p.items ++ Label p.section name ∷ [] }) names) new rest
 
@@ -91,8 +91,8 @@ lacks_part (Label s first ∷ items) item name part lacks = (lacks.0, lacks_part
 lacks_part (InText line code ∷ items) item name part lacks = lacks_part items item name part lacks
 lacks_part (InData line datum ∷ items) item name part lacks = lacks_part items item name part lacks
 
-distinct_part : (items : List Item) (item : Item) → Parts (item ∷ []) → Distinct items → Distinct (items ++ item ∷ [])
-unfolding Distinct
+distinct_part : (items : List Item) (item : Item) → Parts (item ∷ []) → DistinctLabels items → DistinctLabels (items ++ item ∷ [])
+unfolding DistinctLabels
 distinct_part [] (Label s n) part d = absurd part
 distinct_part [] (InText line code) part d = tt
 distinct_part [] (InData line datum) part d = tt
@@ -113,7 +113,7 @@ first_part (Label s n) items parts = absurd parts
 first_part (InText line code) items parts = (tt, parts)
 first_part (InData line datum) items parts = (tt, parts)
 
-pub fits_from : (items : List Item) → fits items ≡ true → Fits items
+pub fits_from : (items : List Item) → within_limits items ≡ true → Fits items
 fits_from items e = by_tests (nat_le (size Text items) 262144) (nat_le (size Data items) 1048576) refl refl e
   where
     by_tests : (t d : Bool) → nat_le (size Text items) 262144 ≡ t → nat_le (size Data items) 1048576 ≡ d → (t && d) ≡ true → Fits items
@@ -121,7 +121,7 @@ fits_from items e = by_tests (nat_le (size Text items) 262144) (nat_le (size Dat
     by_tests true false et ed e = cc
     by_tests false d et ed e = cc
 
-pub from_fits : (items : List Item) → Fits items → fits items ≡ true
+pub from_fits : (items : List Item) → Fits items → within_limits items ≡ true
 from_fits items f =
     let t : nat_le (size Text items) 262144 ≡ true = let h = f.text in grind (arith, nat_tests) in
     let d : nat_le (size Data items) 1048576 ≡ true = let h = f.bytes in grind (arith, nat_tests) in
@@ -134,22 +134,22 @@ fits_front items more f =
     record { text = omega (arith, size_append Text items more); bytes = omega (arith, size_append Data items more) }
 
 abbrev ItemsSaid : Progress → List Item → Result Progress FaultKind → Type 0
-ItemsSaid p new (Ok q) = (q.section ≡ p.section) × (q.items ≡ p.items ++ new) × (Distinct p.items → Distinct q.items) × (Fits p.items → Fits q.items)
+ItemsSaid p new (Ok q) = (q.section ≡ p.section) × (q.items ≡ p.items ++ new) × (DistinctLabels p.items → DistinctLabels q.items) × (Fits p.items → Fits q.items)
 ItemsSaid p new (Err kind) = (kind ≡ TooLong) × (Fits (p.items ++ new) → ⊥)
 
 pub items_said : (p : Progress) (new : List Item) → Parts new → ItemsSaid p new (with_items p new)
 unfolding with_items with_item
 items_said p [] parts = (refl, sym (append-nil p.items), (λ d. d), (λ f. f))
-items_said p (item ∷ items) parts = by_test (fits (p.items ++ item ∷ [])) refl (items_said (record p { items = p.items ++ item ∷ [] }) items (first_part item items parts).1)
+items_said p (item ∷ items) parts = by_test (within_limits (p.items ++ item ∷ [])) refl (items_said (record p { items = p.items ++ item ∷ [] }) items (first_part item items parts).1)
   where
     all : (p.items ++ item ∷ []) ++ items ≡ p.items ++ (item ∷ items)
     all = append_assoc p.items (item ∷ []) items
 
-    later : (r : Result Progress FaultKind) → fits (p.items ++ item ∷ []) ≡ true → ItemsSaid (record p { items = p.items ++ item ∷ [] }) items r → ItemsSaid p (item ∷ items) r
+    later : (r : Result Progress FaultKind) → within_limits (p.items ++ item ∷ []) ≡ true → ItemsSaid (record p { items = p.items ++ item ∷ [] }) items r → ItemsSaid p (item ∷ items) r
     later (Ok q) room rest = (rest.0, rest.1 ∙ all, (λ d. rest.2 (distinct_part p.items item (first_part item items parts).0 d)), (λ f. rest.3 (fits_from (p.items ++ item ∷ []) room)))
     later (Err kind) room rest = (rest.0, λ f. rest.1 (subst Fits (sym all) f))
 
-    by_test : (b : Bool) → fits (p.items ++ item ∷ []) ≡ b → ItemsSaid (record p { items = p.items ++ item ∷ [] }) items (with_items (record p { items = p.items ++ item ∷ [] }) items) → ItemsSaid p (item ∷ items) (chained (λ more. with_items more items) (if_fits b p item))
+    by_test : (b : Bool) → within_limits (p.items ++ item ∷ []) ≡ b → ItemsSaid (record p { items = p.items ++ item ∷ [] }) items (with_items (record p { items = p.items ++ item ∷ [] }) items) → ItemsSaid p (item ∷ items) (chained (λ more. with_items more items) (if_fits b p item))
     by_test true room rest = later (with_items (record p { items = p.items ++ item ∷ [] }) items) room rest
     by_test false full rest = (refl, λ f. false≢true (sym full ∙ from_fits (p.items ++ item ∷ []) (fits_front (p.items ++ item ∷ []) items (subst Fits (sym all) f))))
 
@@ -172,23 +172,23 @@ labels_fit items section labels f =
 
 pub record LineRead (number : ℕ) (p : Progress) (text : List ℕ) (q : Progress) : Type 0 where
   pub labels : List (List ℕ)
-  pub effect : Effect
+  pub effect : StatementEffect
   pub says : Says p.section text labels effect
-  pub section : q.section ≡ entered p.section effect
+  pub section : q.section ≡ section_after p.section effect
   pub items : q.items ≡ p.items ++ items_of number p.section labels effect
-  pub distinct : Distinct p.items → Distinct q.items
+  pub distinct : DistinctLabels p.items → DistinctLabels q.items
   pub fits : Fits p.items → Fits q.items
 
 abbrev pub LineSaid : ℕ → Progress → List ℕ → Result Progress FaultKind → Type 0
 LineSaid number p text (Ok q) = LineRead number p text q
-LineSaid number p text (Err kind) = Distinct p.items → LineFault number p.section p.items text kind
+LineSaid number p text (Err kind) = DistinctLabels p.items → LineFault number p.section p.items text kind
 
 -- what a statement does, behind the line's labels
-abbrev EffectSaid : ℕ → Progress → Effect → Result Progress FaultKind → Type 0
-EffectSaid number p effect (Ok q) = (q.section ≡ entered p.section effect) × (q.items ≡ p.items ++ parts_of number effect) × (Distinct p.items → Distinct q.items) × (Fits p.items → Fits q.items)
+abbrev EffectSaid : ℕ → Progress → StatementEffect → Result Progress FaultKind → Type 0
+EffectSaid number p effect (Ok q) = (q.section ≡ section_after p.section effect) × (q.items ≡ p.items ++ parts_of number effect) × (DistinctLabels p.items → DistinctLabels q.items) × (Fits p.items → Fits q.items)
 EffectSaid number p effect (Err kind) = (kind ≡ TooLong) × (Fits (p.items ++ parts_of number effect) → ⊥)
 
-effect_said : (number : ℕ) (p : Progress) (effect : Effect) → EffectSaid number p effect (with_effect number p effect)
+effect_said : (number : ℕ) (p : Progress) (effect : StatementEffect) → EffectSaid number p effect (with_effect number p effect)
 effect_said number p (Enter section) = (refl, sym (append-nil p.items), (λ d. d), (λ f. f))
 effect_said number p (TextEffect parts) = by_result (with_items p (map (InText number) parts)) (items_said p (map (InText number) parts) (text_parts number parts))
   where
@@ -201,7 +201,7 @@ effect_said number p (DataEffect parts) = by_result (with_items p (map (InData n
     by_result (Ok q) s = s
     by_result (Err kind) s = s
 
-reading_said : (number : ℕ) (p : Progress) (text : List ℕ) (labels : List (List ℕ)) (effect : Effect) → Says p.section text labels effect → LineSaid number p text (with_reading number p labels effect)
+reading_said : (number : ℕ) (p : Progress) (text : List ℕ) (labels : List (List ℕ)) (effect : StatementEffect) → Says p.section text labels effect → LineSaid number p text (with_reading number p labels effect)
 reading_said number p text labels effect says = by_labels (with_labels p labels) (labels_said p labels)
   where
     by_effect : (m : Progress) (r : Result Progress FaultKind) → LabelsSaid p labels (Ok m) → EffectSaid number m effect r → LineSaid number p text r
@@ -209,12 +209,12 @@ reading_said number p text labels effect says = by_labels (with_labels p labels)
       labels = labels;
       effect = effect;
       says = says;
-      section = e.0 ∙ ap (λ s. entered s effect) l.0;
+      section = e.0 ∙ ap (λ s. section_after s effect) l.0;
       items = e.1 ∙ ap (λ i. i ++ parts_of number effect) l.1 ∙ append_assoc p.items (map (Label p.section) labels) (parts_of number effect);
       distinct = λ d. e.2 (l.2 d);
       fits = λ f. e.3 (subst Fits (sym l.1) (labels_fit p.items p.section labels f));
     }
-    by_effect m (Err kind) l e = λ d. long labels effect says (subst Distinct l.1 (l.2 d)) (λ f. e.1 (subst Fits (sym (append_assoc p.items (map (Label p.section) labels) (parts_of number effect)) ∙ ap (λ i. i ++ parts_of number effect) (sym l.1)) f)) e.0
+    by_effect m (Err kind) l e = λ d. long labels effect says (subst DistinctLabels l.1 (l.2 d)) (λ f. e.1 (subst Fits (sym (append_assoc p.items (map (Label p.section) labels) (parts_of number effect)) ∙ ap (λ i. i ++ parts_of number effect) (sym l.1)) f)) e.0
 
     by_labels : (r : Result Progress FaultKind) → LabelsSaid p labels r → LineSaid number p text (chained (λ labelled. with_effect number labelled effect) r)
     by_labels (Ok m) l = by_effect m (with_effect number m effect) l (effect_said number m effect)
@@ -224,19 +224,19 @@ pub line_said : (number : ℕ) (p : Progress) (text : List ℕ) → LineSaid num
 unfolding with_line
 line_said number p text = by_form (line_form text) refl
   where
-    by_effect : (line : Line) (e : Result Effect FaultKind) → line_form text ≡ Ok line → effect_of p.section line ≡ e → LineSaid number p text (chained (with_reading number p line.labels) e)
+    by_effect : (line : Line) (e : Result StatementEffect FaultKind) → line_form text ≡ Ok line → line_effect p.section line ≡ e → LineSaid number p text (chained (with_reading number p line.labels) e)
     by_effect line (Ok effect) is does = reading_said number p text line.labels effect (record { line = line; form = is; named = refl; does = does })
     by_effect line (Err kind) is does = λ d. statement line is does
 
     by_form : (r : Result Line FaultKind) → line_form text ≡ r → LineSaid number p text (chained (with_form number p) r)
-    by_form (Ok line) is = by_effect line (effect_of p.section line) is refl
+    by_form (Ok line) is = by_effect line (line_effect p.section line) is refl
     by_form (Err kind) is = λ d. form is
 
 pub record LinesRead (before : ℕ) (p : Progress) (lines : List (List ℕ)) (q : Progress) : Type 0 where
   pub new : List Item
   pub items : q.items ≡ p.items ++ new
   pub told : Tells before p.section lines new q.section
-  pub distinct : Distinct p.items → Distinct q.items
+  pub distinct : DistinctLabels p.items → DistinctLabels q.items
   pub fits : Fits p.items → Fits q.items
 
 pub record LinesStop (before : ℕ) (p : Progress) (lines : List (List ℕ)) (fault : FaultAt) : Type 0 where
@@ -247,7 +247,7 @@ pub record LinesStop (before : ℕ) (p : Progress) (lines : List (List ℕ)) (fa
   pub m : Progress
   pub read : LinesRead before p good m
   pub number : fault.line ≡ before + (length good + 1)
-  pub wrong : Distinct m.items → LineFault fault.line m.section m.items bad fault.kind
+  pub wrong : DistinctLabels m.items → LineFault fault.line m.section m.items bad fault.kind
 
 abbrev pub LinesSaid : ℕ → Progress → List (List ℕ) → Result Progress FaultAt → Type 0
 LinesSaid before p lines (Ok q) = LinesRead before p lines q
@@ -301,7 +301,7 @@ lines_said before p (text ∷ below) = by_line (with_line (before + 1) p text) (
 -- ---- the whole first pass
 
 pub program_read : (lines : List (List ℕ)) (q : Progress) → LinesRead 0 no_lines lines q → HasProgram lines q.section q.items
-unfolding Distinct size
+unfolding DistinctLabels size
 program_read lines q read = record {
   told = subst (λ i. Tells 0 Text lines i q.section) (sym read.items) read.told;
   distinct = read.distinct tt;

@@ -20,38 +20,38 @@ use Rattle.rv_asm.specs.declared.item.Item.{Item}
 use Rattle.rv_asm.specs.declared.item.Item.TheVariants.{Label, InText, InData}
 use Rattle.rv_asm.specs.declared.word.TextWord.{TextWord}
 use Rattle.asm_lines.specs.Forms.{Line}
-use Rattle.asm_statements.specs.Effects.{Effect}
+use Rattle.asm_statements.specs.Effects.{StatementEffect}
 use Rattle.text_lines.specs.Text.{lines_of}
-use Rattle.rv_asm.specs.Steps.{FaultAt, Fails, chained, mapped}
-use Rattle.rv_asm.specs.Program.{size, place_from, place_of, section_start, address_of}
+use Rattle.rv_asm.specs.Steps.{FaultAt, Fails, chained, map_value}
+use Rattle.rv_asm.specs.Program.{size, place_from, label_place, section_start, address_of}
 use Rattle.rv_asm.specs.FirstPass.{Progress, no_lines, with_lines, first_pass}
-use Rattle.rv_asm.specs.LineEffects.{effect_of}
+use Rattle.rv_asm.specs.LineEffects.{line_effect}
 use Rattle.rv_asm.specs.SecondPass.{Sections, second_pass}
 use Rattle.rv_asm.specs.Listing.{Assembly, ListingContent, ListsTold, unless_empty, laid_out, assembled}
-use Rattle.rv_asm.specs.Assembly.{Says, entered, parts_of, items_of, Tells, Lacks, Distinct, HasAddress, Fits, HasProgram, PutsWords, PutsBytes, HasPut, code_label, datum_label, TooFar, PartFault, no_label, no_datum_label, too_far, LineFault, form, statement, twice, long, FirstFault, in_line, no_text, in_part}
+use Rattle.rv_asm.specs.Assembly.{Says, section_after, parts_of, items_of, Tells, Lacks, DistinctLabels, HasAddress, Fits, HasProgram, PutsWords, PutsBytes, HasPut, code_label, datum_label, TooFar, PartFault, no_label, no_datum_label, too_far, LineFault, form, statement, twice, long, FirstFault, in_line, no_text, in_part}
 use Rattle.rv_asm.proofs.LineLaws.{LinesSaid, LinesStop, lines_said, program_read, lacks_label, fits_front}
 use Rattle.rv_asm.proofs.PartLaws.{holds, StopsAt, stops}
 
 -- ---- labels
 
-pub place_label : (front back : List Item) (section : Section) (name : List ℕ) → Distinct (front ++ Label section name ∷ back) → place_of (front ++ Label section name ∷ back) name ≡ Some (record { section = section; offset = size section front })
-unfolding place_of size Distinct
+pub place_label : (front back : List Item) (section : Section) (name : List ℕ) → DistinctLabels (front ++ Label section name ∷ back) → label_place (front ++ Label section name ∷ back) name ≡ Some (record { section = section; offset = size section front })
+unfolding label_place size DistinctLabels
 place_label [] back section name d = rw ((bytes_eq-Decides name name).1 refl) refl
 place_label (Label s other ∷ front) back section name d = by_test (bytes_eq other name) refl (place_label front back section name d.1)
   where
-    by_test : (b : Bool) → bytes_eq other name ≡ b → place_of (front ++ Label section name ∷ back) name ≡ Some (record { section = section; offset = size section front }) → place_from (Label s other) (if b then Some s else None) (place_of (front ++ Label section name ∷ back) name) ≡ Some (record { section = section; offset = 0 + size section front })
+    by_test : (b : Bool) → bytes_eq other name ≡ b → label_place (front ++ Label section name ∷ back) name ≡ Some (record { section = section; offset = size section front }) → place_from (Label s other) (if b then Some s else None) (label_place (front ++ Label section name ∷ back) name) ≡ Some (record { section = section; offset = 0 + size section front })
     by_test true same rest = absurd (lacks_label front back section name (subst (λ n. Lacks (front ++ Label section name ∷ back) n) ((bytes_eq-Decides other name).0 same) d.0))
     by_test false differs rest = ap (place_from (Label s other) None) rest
 place_label (InText line code ∷ front) back section name d = ap (place_from (InText line code) None) (place_label front back section name d)
 place_label (InData line datum ∷ front) back section name d = ap (place_from (InData line datum) None) (place_label front back section name d)
 
-address_is : (items : List Item) (name : List ℕ) (address : ℕ) → Distinct items → HasAddress items name address → address_of items name ≡ Some address
+address_is : (items : List Item) (name : List ℕ) (address : ℕ) → DistinctLabels items → HasAddress items name address → address_of items name ≡ Some address
 unfolding address_of
 address_is items name address d has =
-    let place : place_of items name ≡ Some (record { section = has.section; offset = size has.section has.front }) = ap (λ l. place_of l name) has.stands ∙ place_label has.front has.back has.section name (subst Distinct has.stands d) in
+    let place : label_place items name ≡ Some (record { section = has.section; offset = size has.section has.front }) = ap (λ l. label_place l name) has.stands ∙ place_label has.front has.back has.section name (subst DistinctLabels has.stands d) in
     ap (option_map (λ place. section_start items place.section + place.offset)) place ∙ ap Some (sym has.is)
 
-pub one_address : (items : List Item) (name : List ℕ) (one other : ℕ) → Distinct items → HasAddress items name one → HasAddress items name other → one ≡ other
+pub one_address : (items : List Item) (name : List ℕ) (one other : ℕ) → DistinctLabels items → HasAddress items name one → HasAddress items name other → one ≡ other
 one_address items name one other d a b = some_same (sym (address_is items name one d a) ∙ address_is items name other d b)
   where
     some_same : {x y : ℕ} → Some x ≡ Some y → x ≡ y
@@ -80,7 +80,7 @@ far_address items here (Branch kind rs1 rs2 label) name beyond is = let e : labe
 far_address items here (Number number) name beyond is = absurd beyond
 far_address items here (Address label) name beyond is = absurd beyond
 
-far_or_put : (items : List Item) (here : ℕ) (code : Code) (words : List TextWord) → Distinct items → PutsWords items here code words → TooFar items here code → ⊥
+far_or_put : (items : List Item) (here : ℕ) (code : Code) (words : List TextWord) → DistinctLabels items → PutsWords items here code words → TooFar items here code → ⊥
 unfolding PutsWords TooFar
 far_or_put items here (Fixed insn) words d puts beyond = beyond
 far_or_put items here (LoadAddress rd label) words d puts beyond = beyond
@@ -98,7 +98,7 @@ datum_address items (Byte number) bytes name puts is = cc
 datum_address items (Zeros count) bytes name puts is = cc
 
 -- a part that has what it puts has no fault
-no_part_fault : (items front : List Item) (item : Item) (line : ℕ) (kind : FaultKind) → Distinct items → HasPut items front item → PartFault items (0x10000 + size Text front) item line kind → ⊥
+no_part_fault : (items front : List Item) (item : Item) (line : ℕ) (kind : FaultKind) → DistinctLabels items → HasPut items front item → PartFault items (0x10000 + size Text front) item line kind → ⊥
 unfolding HasPut
 no_part_fault items front item line kind d has (no_label code name is names lacks k) =
     let p : (words : List TextWord) × PutsWords items (0x10000 + size Text front) code words = subst (HasPut items front) is has in
@@ -166,18 +166,18 @@ ok_not_err e = cc
 ok_value : {A : Type 0} {x y : A} → ◌≡◌ {A = Result A FaultKind} (Ok x) (Ok y) → x ≡ y
 ok_value e = cc
 
-one_reading : (section : Section) (text : List ℕ) (labels others : List (List ℕ)) (effect another : Effect) → Says section text labels effect → Says section text others another → (labels ≡ others) × (effect ≡ another)
+one_reading : (section : Section) (text : List ℕ) (labels others : List (List ℕ)) (effect another : StatementEffect) → Says section text labels effect → Says section text others another → (labels ≡ others) × (effect ≡ another)
 one_reading section text labels others effect another a b =
     let lines : a.line ≡ b.line = ok_value (sym a.form ∙ b.form) in
-    (a.named ∙ ap (λ (l : Line). l.labels) lines ∙ sym b.named, ok_value (sym a.does ∙ ap (effect_of section) lines ∙ b.does))
+    (a.named ∙ ap (λ (l : Line). l.labels) lines ∙ sym b.named, ok_value (sym a.does ∙ ap (line_effect section) lines ∙ b.does))
 
 pub one_program : (before : ℕ) (section : Section) (lines : List (List ℕ)) (items others : List Item) (last another : Section) → Tells before section lines items last → Tells before section lines others another → (items ≡ others) × (last ≡ another)
 unfolding Tells
 one_program before section [] items others last another a b = (a.0 ∙ sym b.0, a.1 ∙ sym b.1)
 one_program before section (text ∷ below) items others last another a b =
     let r = one_reading section text a.0 b.0 a.1.0 b.1.0 a.1.1.1.0 b.1.1.1.0 in
-    let told : Tells (before + 1) (entered section a.1.0) below b.1.1.0 another = subst (λ e. Tells (before + 1) (entered section e) below b.1.1.0 another) (sym r.1) b.1.1.1.2 in
-    let rest = one_program (before + 1) (entered section a.1.0) below a.1.1.0 b.1.1.0 last another a.1.1.1.2 told in
+    let told : Tells (before + 1) (section_after section a.1.0) below b.1.1.0 another = subst (λ e. Tells (before + 1) (section_after section e) below b.1.1.0 another) (sym r.1) b.1.1.1.2 in
+    let rest = one_program (before + 1) (section_after section a.1.0) below a.1.1.0 b.1.1.0 last another a.1.1.1.2 told in
     (a.1.1.1.1 ∙ (λ i. items_of (before + 1) section (r.0 i) (r.1 i) ++ rest.0 i) ∙ sym b.1.1.1.1, rest.1)
 
 -- the lines in front of a line, and what that line says
@@ -186,7 +186,7 @@ record Cut (before : ℕ) (section : Section) (good : List (List ℕ)) (bad : Li
   last : Section
   told : Tells before section good front last
   labels : List (List ℕ)
-  effect : Effect
+  effect : StatementEffect
   says : Says last bad labels effect
   rest : List Item
   whole : items ≡ front ++ (items_of (before + (length good + 1)) last labels effect ++ rest)
@@ -204,7 +204,7 @@ cut_told before section [] bad below items last t = record {
   whole = t.1.1.1.1 ∙ ap (λ n. items_of (before + n) section t.0 t.1.0 ++ t.1.1.0) (sym (zero-add 1));
 }
 cut_told before section (text ∷ good) bad below items last t =
-    let c = cut_told (before + 1) (entered section t.1.0) good bad below t.1.1.0 last t.1.1.1.2 in
+    let c = cut_told (before + 1) (section_after section t.1.0) good bad below t.1.1.0 last t.1.1.1.2 in
     let number : (before + 1) + (length good + 1) ≡ before + (length (text ∷ good) + 1) = omega arith in
     let new : List Item = items_of (before + 1) section t.0 t.1.0 in
     record {
@@ -225,25 +225,25 @@ lacks_front (Label section other ∷ front) back name lacks = (lacks.0, lacks_fr
 lacks_front (InText line code ∷ front) back name lacks = lacks_front front back name lacks
 lacks_front (InData line datum ∷ front) back name lacks = lacks_front front back name lacks
 
-distinct_front : (front back : List Item) → Distinct (front ++ back) → Distinct front
-unfolding Distinct Lacks
+distinct_front : (front back : List Item) → DistinctLabels (front ++ back) → DistinctLabels front
+unfolding DistinctLabels Lacks
 distinct_front [] back d = tt
 distinct_front (Label section name ∷ front) back d = (lacks_front front back name d.0, distinct_front front back d.1)
 distinct_front (InText line code ∷ front) back d = distinct_front front back d
 distinct_front (InData line datum ∷ front) back d = distinct_front front back d
 
 -- a line that says something that fits has no fault
-no_line_fault : (number : ℕ) (section : Section) (items : List Item) (text : List ℕ) (kind : FaultKind) (labels : List (List ℕ)) (effect : Effect) (rest : List Item) → Says section text labels effect → Distinct (items ++ (items_of number section labels effect ++ rest)) → Fits (items ++ (items_of number section labels effect ++ rest)) → LineFault number section items text kind → ⊥
+no_line_fault : (number : ℕ) (section : Section) (items : List Item) (text : List ℕ) (kind : FaultKind) (labels : List (List ℕ)) (effect : StatementEffect) (rest : List Item) → Says section text labels effect → DistinctLabels (items ++ (items_of number section labels effect ++ rest)) → Fits (items ++ (items_of number section labels effect ++ rest)) → LineFault number section items text kind → ⊥
 no_line_fault number section items text kind labels effect rest says d f (form is) = ok_not_err (sym says.form ∙ is)
 no_line_fault number section items text kind labels effect rest says d f (statement line is does) =
     let same : line ≡ says.line = ok_value (sym is ∙ says.form) in
-    ok_not_err (sym says.does ∙ ap (effect_of section) (sym same) ∙ does)
+    ok_not_err (sym says.does ∙ ap (line_effect section) (sym same) ∙ does)
 no_line_fault number section items text kind labels effect rest says d f (twice others another says2 not k) =
     let r = one_reading section text others labels another effect says2 says in
     let names : List Item = map (Label section) labels in
     let parts : List Item = parts_of number effect in
     let all : items ++ ((names ++ parts) ++ rest) ≡ (items ++ names) ++ (parts ++ rest) = ap (λ l. items ++ l) (append_assoc names parts rest) ∙ sym (append_assoc items names (parts ++ rest)) in
-    not (subst (λ l. Distinct (items ++ map (Label section) l)) (sym r.0) (distinct_front (items ++ names) (parts ++ rest) (subst Distinct all d)))
+    not (subst (λ l. DistinctLabels (items ++ map (Label section) l)) (sym r.0) (distinct_front (items ++ names) (parts ++ rest) (subst DistinctLabels all d)))
 no_line_fault number section items text kind labels effect rest says d f (long others another says2 distinct not k) =
     let r = one_reading section text others labels another effect says2 says in
     let new : List Item = items_of number section labels effect in
@@ -255,16 +255,16 @@ one_line_fault number section items text kind another (form a) (statement line b
 one_line_fault number section items text kind another (form a) (twice labels effect says not k) = absurd (ok_not_err (sym says.form ∙ a))
 one_line_fault number section items text kind another (form a) (long labels effect says distinct not k) = absurd (ok_not_err (sym says.form ∙ a))
 one_line_fault number section items text kind another (statement line a does) (form b) = absurd (ok_not_err (sym a ∙ b))
-one_line_fault number section items text kind another (statement line a does) (statement line2 b does2) = err_same (sym does ∙ ap (effect_of section) (ok_value (sym a ∙ b)) ∙ does2)
-one_line_fault number section items text kind another (statement line a does) (twice labels effect says not k) = absurd (ok_not_err (sym says.does ∙ ap (effect_of section) (ok_value (sym says.form ∙ a)) ∙ does))
-one_line_fault number section items text kind another (statement line a does) (long labels effect says distinct not k) = absurd (ok_not_err (sym says.does ∙ ap (effect_of section) (ok_value (sym says.form ∙ a)) ∙ does))
+one_line_fault number section items text kind another (statement line a does) (statement line2 b does2) = err_same (sym does ∙ ap (line_effect section) (ok_value (sym a ∙ b)) ∙ does2)
+one_line_fault number section items text kind another (statement line a does) (twice labels effect says not k) = absurd (ok_not_err (sym says.does ∙ ap (line_effect section) (ok_value (sym says.form ∙ a)) ∙ does))
+one_line_fault number section items text kind another (statement line a does) (long labels effect says distinct not k) = absurd (ok_not_err (sym says.does ∙ ap (line_effect section) (ok_value (sym says.form ∙ a)) ∙ does))
 one_line_fault number section items text kind another (twice labels effect says not k) (form b) = absurd (ok_not_err (sym says.form ∙ b))
-one_line_fault number section items text kind another (twice labels effect says not k) (statement line b does) = absurd (ok_not_err (sym says.does ∙ ap (effect_of section) (ok_value (sym says.form ∙ b)) ∙ does))
+one_line_fault number section items text kind another (twice labels effect says not k) (statement line b does) = absurd (ok_not_err (sym says.does ∙ ap (line_effect section) (ok_value (sym says.form ∙ b)) ∙ does))
 one_line_fault number section items text kind another (twice labels effect says not k) (twice labels2 effect2 says2 not2 k2) = k ∙ sym k2
-one_line_fault number section items text kind another (twice labels effect says not k) (long labels2 effect2 says2 distinct not2 k2) = absurd (not (subst (λ l. Distinct (items ++ map (Label section) l)) (one_reading section text labels2 labels effect2 effect says2 says).0 distinct))
+one_line_fault number section items text kind another (twice labels effect says not k) (long labels2 effect2 says2 distinct not2 k2) = absurd (not (subst (λ l. DistinctLabels (items ++ map (Label section) l)) (one_reading section text labels2 labels effect2 effect says2 says).0 distinct))
 one_line_fault number section items text kind another (long labels effect says distinct not k) (form b) = absurd (ok_not_err (sym says.form ∙ b))
-one_line_fault number section items text kind another (long labels effect says distinct not k) (statement line b does) = absurd (ok_not_err (sym says.does ∙ ap (effect_of section) (ok_value (sym says.form ∙ b)) ∙ does))
-one_line_fault number section items text kind another (long labels effect says distinct not k) (twice labels2 effect2 says2 not2 k2) = absurd (not2 (subst (λ l. Distinct (items ++ map (Label section) l)) (one_reading section text labels labels2 effect effect2 says says2).0 distinct))
+one_line_fault number section items text kind another (long labels effect says distinct not k) (statement line b does) = absurd (ok_not_err (sym says.does ∙ ap (line_effect section) (ok_value (sym says.form ∙ b)) ∙ does))
+one_line_fault number section items text kind another (long labels effect says distinct not k) (twice labels2 effect2 says2 not2 k2) = absurd (not2 (subst (λ l. DistinctLabels (items ++ map (Label section) l)) (one_reading section text labels labels2 effect effect2 says says2).0 distinct))
 one_line_fault number section items text kind another (long labels effect says distinct not k) (long labels2 effect2 says2 distinct2 not2 k2) = k ∙ sym k2
 
 -- lines that have a program have no line at fault
@@ -274,7 +274,7 @@ no_fault_among good bad below section last items all number kind whole program a
     let same = one_program 0 Text good c.front items c.last section c.told program.told in
     let line : 0 + (length good + 1) ≡ number = zero-add (length good + 1) ∙ sym at in
     let is : all ≡ items ++ (items_of number section c.labels c.effect ++ c.rest) = c.whole ∙ (λ i. same.0 i ++ (items_of (line i) (same.1 i) c.labels c.effect ++ c.rest)) in
-    no_line_fault number section items bad kind c.labels c.effect c.rest (subst (λ s. Says s bad c.labels c.effect) same.1 c.says) (subst Distinct is whole.distinct) (subst Fits is whole.fits) fault
+    no_line_fault number section items bad kind c.labels c.effect c.rest (subst (λ s. Says s bad c.labels c.effect) same.1 c.says) (subst DistinctLabels is whole.distinct) (subst Fits is whole.fits) fault
 
 -- ---- the two passes
 
@@ -305,7 +305,7 @@ first_stops source good bad below section items line kind cut program at wrong =
     by_lines (Ok q) is read = absurd (no_fault_among good bad below section q.section items q.items line kind (subst (λ l. HasProgram l q.section q.items) cut (program_read (lines_of source) q read)) program at wrong)
     by_lines (Err fault) is stop = is ∙ ap Err (by_place fault stop (program_read stop.good stop.m stop.read) (apart good below stop.good stop.below bad stop.bad (sym cut ∙ stop.cut)))
 
-second_stops : (items front back : List Item) (item : Item) (line : ℕ) (kind : FaultKind) → Distinct items → items ≡ front ++ item ∷ back → ((above between : List Item) (one : Item) → front ≡ above ++ one ∷ between → HasPut items above one) → PartFault items (0x10000 + size Text front) item line kind → second_pass items ≡ Err (record { line = line; kind = kind })
+second_stops : (items front back : List Item) (item : Item) (line : ℕ) (kind : FaultKind) → DistinctLabels items → items ≡ front ++ item ∷ back → ((above between : List Item) (one : Item) → front ≡ above ++ one ∷ between → HasPut items above one) → PartFault items (0x10000 + size Text front) item line kind → second_pass items ≡ Err (record { line = line; kind = kind })
 unfolding HasPut
 second_stops items front back item line kind d cut puts wrong = by_pass (second_pass items) refl
   where
@@ -340,7 +340,7 @@ told source line kind (in_part section items front back item program some cut pu
     let f = first_is source section items program in
     let full : (size Text f.0.items == 0) ≡ false = let n = ap (size Text) f.2 in grind (arith, nat_tests) in
     let pass : second_pass f.0.items ≡ Err (record { line = line; kind = kind }) = ap second_pass f.2 ∙ second_stops items front back item line kind program.distinct cut puts wrong in
-    ap (chained (λ progress. laid_out progress.items)) f.1 ∙ ap (λ b. unless_empty b f.0.items) full ∙ ap (mapped (λ sections. record { items = f.0.items; sections = sections })) pass
+    ap (chained (λ progress. laid_out progress.items)) f.1 ∙ ap (λ b. unless_empty b f.0.items) full ∙ ap (map_value (λ sections. record { items = f.0.items; sections = sections })) pass
 
 -- ---- the answer
 

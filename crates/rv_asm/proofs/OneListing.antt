@@ -22,7 +22,7 @@ use Rattle.rv_asm.specs.Words.{Spell, instruction_of}
 use Rattle.rv_asm.specs.Program.{size}
 use Rattle.asm_statements.specs.Parts.{code_length, datum_length}
 use Rattle.rv_asm.specs.Listing.{ListingContent, image_of}
-use Rattle.rv_asm.specs.Assembly.{Distinct, IsSplit, PutsWords, PutsBytes, TextAt, DataAt, Holds, Assembles}
+use Rattle.rv_asm.specs.Assembly.{DistinctLabels, IsSplit, PutsWords, PutsBytes, TextAt, DataAt, HoldsParts, Assembles}
 use Rattle.rv_asm.proofs.Places.{size_push}
 use Rattle.rv_asm.proofs.OneFault.{one_address, one_program, cons_head, cons_tail}
 
@@ -52,7 +52,7 @@ one_split address high other low another a b =
     let low_most = b.signed.high in
     (omega (arith, ints), omega (arith, ints))
 
-one_putting : (items : List Item) (here : ℕ) (code : Code) (one other : List TextWord) → Distinct items → PutsWords items here code one → PutsWords items here code other → one ≡ other
+one_putting : (items : List Item) (here : ℕ) (code : Code) (one other : List TextWord) → DistinctLabels items → PutsWords items here code one → PutsWords items here code other → one ≡ other
 unfolding PutsWords
 one_putting items here (Fixed insn) one other d a b = a ∙ sym b
 one_putting items here (LoadAddress rd label) one other d a b =
@@ -79,7 +79,7 @@ putting_length items here (Branch kind rs1 rs2 label) words a = ap (λ (l : List
 putting_length items here (Number number) words a = ap (λ (l : List TextWord). 4 * length l) a
 putting_length items here (Address label) words a = ap (λ (l : List TextWord). 4 * length l) a.1.1
 
-one_datum : (items : List Item) (datum : Datum) (one other : List ℕ) → Distinct items → PutsBytes items datum one → PutsBytes items datum other → one ≡ other
+one_datum : (items : List Item) (datum : Datum) (one other : List ℕ) → DistinctLabels items → PutsBytes items datum one → PutsBytes items datum other → one ≡ other
 unfolding PutsBytes
 one_datum items (Word number) one other d a b = a ∙ sym b
 one_datum items (Pointer label) one other d a b =
@@ -100,7 +100,7 @@ putting_bytes items (Zeros count) bytes a = ap (λ (l : List ℕ). length l) a �
 -- ---- sections
 
 -- two texts of one program that are the same up to an item are the same
-one_text : (items front back : List Item) (text other before rest more : List TextWord) → Distinct items → items ≡ front ++ back
+one_text : (items front back : List Item) (text other before rest more : List TextWord) → DistinctLabels items → items ≡ front ++ back
     → ((f b : List Item) (line : ℕ) (code : Code) → items ≡ f ++ InText line code ∷ b → TextAt items f code text)
     → ((f b : List Item) (line : ℕ) (code : Code) → items ≡ f ++ InText line code ∷ b → TextAt items f code other)
     → 4 * length text ≡ size Text items → 4 * length other ≡ size Text items
@@ -131,7 +131,7 @@ one_text items front (InText line code ∷ back) text other before rest more d c
     (same ∙ ap (λ l. before ++ l) here_other.1 ∙ (λ i. before ++ (sym words i ++ stands.after)) ∙ sym (append_assoc before at.words stands.after))
     (omega (arith, length-append before at.words, size_push Text front (InText line code)))
 
-one_data : (items front back : List Item) (bytes other before rest more : List ℕ) → Distinct items → items ≡ front ++ back
+one_data : (items front back : List Item) (bytes other before rest more : List ℕ) → DistinctLabels items → items ≡ front ++ back
     → ((f b : List Item) (line : ℕ) (datum : Datum) → items ≡ f ++ InData line datum ∷ b → DataAt items f datum bytes)
     → ((f b : List Item) (line : ℕ) (datum : Datum) → items ≡ f ++ InData line datum ∷ b → DataAt items f datum other)
     → length bytes ≡ size Data items → length other ≡ size Data items
@@ -180,7 +180,7 @@ pub one_listing : (source : List ℕ) (one other : ListingContent) → AllByRecu
 unfolding size
 one_listing source one other small low a b =
     let items = (one_program 0 Text (lines_of source) a.items b.items a.section b.section a.program.told b.program.told).0 in
-    let holds : Holds a.items b.text b.bytes = subst (λ l. Holds l b.text b.bytes) (sym items) b.holds in
+    let holds : HoldsParts a.items b.text b.bytes = subst (λ l. HoldsParts l b.text b.bytes) (sym items) b.holds in
     let text : a.text ≡ b.text = one_text a.items [] a.items a.text b.text [] a.text b.text a.program.distinct refl a.holds.text_parts holds.text_parts a.holds.text_size holds.text_size refl refl refl in
     let bytes : a.bytes ≡ b.bytes = one_data a.items [] a.items a.bytes b.bytes [] a.bytes b.bytes a.program.distinct refl a.holds.data_parts holds.data_parts a.holds.data_size holds.data_size refl refl refl in
     let words : one.words ≡ other.words = one_spelling one.words other.words a.text small low a.lists.words (subst (Spell other.words) (sym text) b.lists.words) in

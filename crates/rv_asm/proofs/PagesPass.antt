@@ -20,9 +20,9 @@ use Rattle.asm_statements.specs.declared.section.Section.{Section}
 use Rattle.asm_statements.specs.declared.section.Section.TheVariants.{Text, Data}
 use Rattle.rv_asm.specs.declared.place.Place.{Place}
 use Rattle.rv_asm.specs.declared.item.Item.{Item}
-use Rattle.rv_asm.specs.Program.{size, place_of, section_start}
-use Rattle.elf_image.specs.BytePages.{page_count, page_at, pages_of}
-use Rattle.rv_asm.specs.Listing.{text_rights, data_rights, entry_if, entry_in, entry_at, entry_of, image_of}
+use Rattle.rv_asm.specs.Program.{size, label_place, section_start}
+use Rattle.elf_image.specs.BytePages.{page_count, nth_page, byte_pages}
+use Rattle.rv_asm.specs.Listing.{text_rights, data_rights, entry_point_if, entry_point_in, entry_point_at, entry_point_of, image_of}
 
 -- pages with numbers one behind the other
 abbrev Numbered : ℕ → List ImagePage → Type 0
@@ -33,7 +33,7 @@ numbered_append : (n m : ℕ) (xs ys : List ImagePage) → m ≡ n + length xs �
 numbered_append n m [] ys e a b = let same : m ≡ n = omega arith in subst (λ k. Numbered k ys) same b
 numbered_append n m (x ∷ xs) ys e a b = (a.0, numbered_append (n + 1) m xs ys (omega arith) a.1 b)
 
-numbered_map : (first : ℕ) (rights : Rights) (bytes : List ℕ) (a n m : ℕ) → m ≡ first + a → Numbered m (map (page_at first rights bytes) (range_with_len a n))
+numbered_map : (first : ℕ) (rights : Rights) (bytes : List ℕ) (a n m : ℕ) → m ≡ first + a → Numbered m (map (nth_page first rights bytes) (range_with_len a n))
 numbered_map first rights bytes a zero m e = tt
 numbered_map first rights bytes a (suc n) m e = (sym e, numbered_map first rights bytes (a + 1) n (m + 1) (omega arith))
 
@@ -54,44 +54,44 @@ length_bytes [] = refl
 length_bytes (w ∷ words) = let rest = length_bytes words in omega (arith, length-append (little_bytes 4 w) (bytes_of words))
 
 -- the entry lies in the text
-entry_within : (items : List Item) → 0 < size Text items → (offset : ℕ) × (entry_of items ≡ 0x10000 + offset) × (offset < size Text items)
-unfolding entry_of
-entry_within items some = by_place (place_of items (codes "_start"))
+entry_within : (items : List Item) → 0 < size Text items → (offset : ℕ) × (entry_point_of items ≡ 0x10000 + offset) × (offset < size Text items)
+unfolding entry_point_of
+entry_within items some = by_place (label_place items (codes "_start"))
   where
-    by_test : (b : Bool) (offset : ℕ) → nat_lt offset (size Text items) ≡ b → (o : ℕ) × (entry_if b offset ≡ 0x10000 + o) × (o < size Text items)
+    by_test : (b : Bool) (offset : ℕ) → nat_lt offset (size Text items) ≡ b → (o : ℕ) × (entry_point_if b offset ≡ 0x10000 + o) × (o < size Text items)
     by_test true offset e = (offset, refl, grind (arith, nat_tests))
     by_test false offset e = (0, refl, some)
 
-    by_section : (section : Section) (offset : ℕ) → (o : ℕ) × (entry_in (size Text items) section offset ≡ 0x10000 + o) × (o < size Text items)
+    by_section : (section : Section) (offset : ℕ) → (o : ℕ) × (entry_point_in (size Text items) section offset ≡ 0x10000 + o) × (o < size Text items)
     by_section Text offset = by_test (nat_lt offset (size Text items)) offset refl
     by_section Data offset = (0, refl, some)
 
-    by_place : (place : Option Place) → (o : ℕ) × (entry_at (size Text items) place ≡ 0x10000 + o) × (o < size Text items)
+    by_place : (place : Option Place) → (o : ℕ) × (entry_point_at (size Text items) place ≡ 0x10000 + o) × (o < size Text items)
     by_place None = (0, refl, some)
     by_place (Some place) = by_section place.section place.offset
 
 -- the pages of the text hold it
-text_entered : (bytes : List ℕ) (offset entry : ℕ) (more : List ImagePage) → entry ≡ 0x10000 + offset → offset < length bytes → entered entry (pages_of 16 text_rights bytes ++ more) ≡ true
-unfolding entered pages_of
+text_entered : (bytes : List ℕ) (offset entry : ℕ) (more : List ImagePage) → entry ≡ 0x10000 + offset → offset < length bytes → entered entry (byte_pages 16 text_rights bytes ++ more) ≡ true
+unfolding entered byte_pages
 text_entered bytes offset entry more is within =
     let test = λ (listed : ImagePage). (listed.number == page_number entry) && may Fetch listed.page.rights in
-    let pages : List ImagePage = map (page_at 16 text_rights bytes) (range_with_len 0 (page_count bytes)) in
+    let pages : List ImagePage = map (nth_page 16 text_rights bytes) (range_with_len 0 (page_count bytes)) in
     let k : ℕ = offset / 4096 in
     let below : k < page_count bytes = omega arith in
-    let at : slice_index_or pages k (page_at 16 text_rights bytes k) ≡ page_at 16 text_rights bytes k = get_or-map-range_with_len (page_at 16 text_rights bytes) 0 (page_count bytes) k k (page_at 16 text_rights bytes k) below (omega arith) in
+    let at : slice_index_or pages k (nth_page 16 text_rights bytes k) ≡ nth_page 16 text_rights bytes k = get_or-map-range_with_len (nth_page 16 text_rights bytes) 0 (page_count bytes) k k (nth_page 16 text_rights bytes k) below (omega arith) in
     let number : 16 + k ≡ page_number entry = omega arith in
-    let passes : test (page_at 16 text_rights bytes k) ≡ true = ap (λ b. b && true) (eq-eqb (16 + k) (page_number entry) number) in
-    let here : list_any test pages ≡ true = list_any_at test pages k (page_at 16 text_rights bytes k) (let len = length-map-range_with_len (page_at 16 text_rights bytes) 0 (page_count bytes) in omega arith) (ap test at ∙ passes) in
+    let passes : test (nth_page 16 text_rights bytes k) ≡ true = ap (λ b. b && true) (eq-eqb (16 + k) (page_number entry) number) in
+    let here : list_any test pages ≡ true = list_any_at test pages k (nth_page 16 text_rights bytes k) (let len = length-map-range_with_len (nth_page 16 text_rights bytes) 0 (page_count bytes) in omega arith) (ap test at ∙ passes) in
     list_any-append test pages more ∙ ap (λ b. b || list_any test more) here
 
-pub pages_pass : (items : List Item) (words bytes : List ℕ) → 4 * length words ≡ size Text items → length bytes ≡ size Data items → 0 < size Text items → size Text items ≤ 262144 → size Data items ≤ 1048576 → parts_fault (entry_of items) (pages_of 16 text_rights (bytes_of words) ++ pages_of (section_start items Data / 4096) data_rights bytes) ≡ None
-unfolding pages_of
+pub pages_pass : (items : List Item) (words bytes : List ℕ) → 4 * length words ≡ size Text items → length bytes ≡ size Data items → 0 < size Text items → size Text items ≤ 262144 → size Data items ≤ 1048576 → parts_fault (entry_point_of items) (byte_pages 16 text_rights (bytes_of words) ++ byte_pages (section_start items Data / 4096) data_rights bytes) ≡ None
+unfolding byte_pages
 pages_pass items words bytes words_size bytes_size some text_fits data_fits =
-    let text_pages : List ImagePage = map (page_at 16 text_rights (bytes_of words)) (range_with_len 0 (page_count (bytes_of words))) in
+    let text_pages : List ImagePage = map (nth_page 16 text_rights (bytes_of words)) (range_with_len 0 (page_count (bytes_of words))) in
     let first : ℕ = section_start items Data / 4096 in
-    let data_pages : List ImagePage = map (page_at first data_rights bytes) (range_with_len 0 (page_count bytes)) in
-    let n : length text_pages ≡ page_count (bytes_of words) = length-map-range_with_len (page_at 16 text_rights (bytes_of words)) 0 (page_count (bytes_of words)) in
-    let m : length data_pages ≡ page_count bytes = length-map-range_with_len (page_at first data_rights bytes) 0 (page_count bytes) in
+    let data_pages : List ImagePage = map (nth_page first data_rights bytes) (range_with_len 0 (page_count bytes)) in
+    let n : length text_pages ≡ page_count (bytes_of words) = length-map-range_with_len (nth_page 16 text_rights (bytes_of words)) 0 (page_count (bytes_of words)) in
+    let m : length data_pages ≡ page_count bytes = length-map-range_with_len (nth_page first data_rights bytes) 0 (page_count bytes) in
     let whole : length (bytes_of words) ≡ size Text items = length_bytes words ∙ words_size in
     let next : first ≡ 16 + length text_pages = omega arith in
     let numbers : Numbered 16 (text_pages ++ data_pages) = numbered_append 16 first text_pages data_pages next (numbered_map 16 text_rights (bytes_of words) 0 (page_count (bytes_of words)) 16 refl) (numbered_map first data_rights bytes 0 (page_count bytes) first (sym (add-zero first))) in
@@ -99,31 +99,31 @@ pages_pass items words bytes words_size bytes_size some text_fits data_fits =
     let few : 16 + length (text_pages ++ data_pages) ≤ 4032 = omega arith in
     let near = neighbours 16 (text_pages ++ data_pages) (omega arith) (λ i d within. numbered_at 16 (text_pages ++ data_pages) i d numbers within) in
     let entry = entry_within items some in
-    no_fault_from_pass (entry_of items) (text_pages ++ data_pages) (record {
+    no_fault_from_pass (entry_point_of items) (text_pages ++ data_pages) (record {
       low = numbered_low 16 (text_pages ++ data_pages) numbers (omega arith);
       up = near.0;
       few = omega arith;
       compact = near.1;
-      start = text_entered (bytes_of words) entry.0 (entry_of items) data_pages entry.1 (let w = entry.2 in omega arith);
+      start = text_entered (bytes_of words) entry.0 (entry_point_of items) data_pages entry.1 (let w = entry.2 in omega arith);
     })
 
-readable_same : (first : ℕ) (rights : Rights) (bytes : List ℕ) (ks : List ℕ) → readable rights ≡ rights → map readable_page (map (page_at first rights bytes) ks) ≡ map (page_at first rights bytes) ks
+readable_same : (first : ℕ) (rights : Rights) (bytes : List ℕ) (ks : List ℕ) → readable rights ≡ rights → map readable_page (map (nth_page first rights bytes) ks) ≡ map (nth_page first rights bytes) ks
 unfolding readable_page
 readable_same first rights bytes [] e = refl
-readable_same first rights bytes (k ∷ ks) e = λ i. record { number = first + k; page = record { rights = e i; bytes = (page_at first rights bytes k).page.bytes } } ∷ readable_same first rights bytes ks e i
+readable_same first rights bytes (k ∷ ks) e = λ i. record { number = first + k; page = record { rights = e i; bytes = (nth_page first rights bytes k).page.bytes } } ∷ readable_same first rights bytes ks e i
 
 map_append : (xs ys : List ImagePage) → map readable_page (xs ++ ys) ≡ map readable_page xs ++ map readable_page ys
 map_append [] ys = refl
 map_append (x ∷ xs) ys = ap (λ l. readable_page x ∷ l) (map_append xs ys)
 
 -- the rights of these pages stay
-pub image_from_parts : (items : List Item) (words bytes : List ℕ) → image_of_parts (entry_of items) (pages_of 16 text_rights (bytes_of words) ++ pages_of (section_start items Data / 4096) data_rights bytes) ≡ image_of items words bytes
-unfolding image_of_parts image_of pages_of readable
+pub image_from_parts : (items : List Item) (words bytes : List ℕ) → image_of_parts (entry_point_of items) (byte_pages 16 text_rights (bytes_of words) ++ byte_pages (section_start items Data / 4096) data_rights bytes) ≡ image_of items words bytes
+unfolding image_of_parts image_of byte_pages readable
 image_from_parts items words bytes =
     let first : ℕ = section_start items Data / 4096 in
     λ i. record {
-      entry = entry_of items;
-      pages = (map_append (map (page_at 16 text_rights (bytes_of words)) (range_with_len 0 (page_count (bytes_of words)))) (map (page_at first data_rights bytes) (range_with_len 0 (page_count bytes)))
+      entry = entry_point_of items;
+      pages = (map_append (map (nth_page 16 text_rights (bytes_of words)) (range_with_len 0 (page_count (bytes_of words)))) (map (nth_page first data_rights bytes) (range_with_len 0 (page_count bytes)))
           ∙ (λ j. readable_same 16 text_rights (bytes_of words) (range_with_len 0 (page_count (bytes_of words))) refl j ++ readable_same first data_rights bytes (range_with_len 0 (page_count bytes)) refl j)) i;
     }
 

@@ -20,10 +20,10 @@ use Rattle.rv_asm.specs.declared.item.Item.{Item}
 use Rattle.rv_asm.specs.declared.item.Item.TheVariants.{Label, InText, InData}
 use Rattle.rv_asm.specs.declared.word.TextWord.{TextWord}
 use Rattle.rv_asm.specs.declared.word.TextWord.TheVariants.{Instruction, Plain}
-use Rattle.rv_asm.specs.Steps.{FaultAt, chained, mapped, on_line}
+use Rattle.rv_asm.specs.Steps.{FaultAt, chained, map_value, on_line}
 use Rattle.rv_asm.specs.Program.{size, address_of}
 use Rattle.rv_asm.specs.SecondPass.{Sections, at_label, load_words, reaches, if_reached, jump_words, branch_words, code_words, datum_bytes, next_address, put, put_all, no_sections, second_pass}
-use Rattle.rv_asm.specs.Assembly.{Lacks, IsSplit, PutsWords, PutsBytes, TextAt, DataAt, Holds, HasPut, code_label, datum_label, TooFar, PartFault, no_label, no_datum_label, too_far}
+use Rattle.rv_asm.specs.Assembly.{Lacks, IsSplit, PutsWords, PutsBytes, TextAt, DataAt, HoldsParts, HasPut, code_label, datum_label, TooFar, PartFault, no_label, no_datum_label, too_far}
 use Rattle.rv_isa.specs.Split.{upper_part, low_part}
 use Rattle.rv_isa.specs.SplitLaws.{low_part_small, low_part_large, low_part_fits}
 use Rattle.rv_asm.proofs.Places.{size_push}
@@ -167,7 +167,7 @@ unfolding put
 step_said all front s (Label section name) at = record { words = []; bytes = []; text = sym (append-nil s.text); more_bytes = sym (append-nil s.bytes); has_put = (refl, refl) }
 step_said all front s (InText line code) at = by_code (code_words (address_of all) (next_address s) code) (subst (λ here. CodeSaid all here code (code_words (address_of all) (next_address s) code)) (ap (λ n. 0x10000 + n) at) (code_said all (next_address s) code))
   where
-    by_code : (r : Result (List TextWord) FaultKind) → CodeSaid all (0x10000 + size Text front) code r → StepSaid all front s (InText line code) (on_line line (mapped (λ words. record s { text = s.text ++ words }) r))
+    by_code : (r : Result (List TextWord) FaultKind) → CodeSaid all (0x10000 + size Text front) code r → StepSaid all front s (InText line code) (on_line line (map_value (λ words. record s { text = s.text ++ words }) r))
     by_code (Ok words) said = record { words = words; bytes = []; text = refl; more_bytes = sym (append-nil s.bytes); has_put = (said, refl) }
     by_code (Err kind) said = by_fault said
       where
@@ -176,7 +176,7 @@ step_said all front s (InText line code) at = by_code (code_words (address_of al
         by_fault (far beyond is) = too_far code refl beyond is
 step_said all front s (InData line datum) at = by_datum (datum_bytes (address_of all) datum) (datum_said all datum)
   where
-    by_datum : (r : Result (List ℕ) FaultKind) → DatumSaid all datum r → StepSaid all front s (InData line datum) (on_line line (mapped (λ bytes. record s { bytes = s.bytes ++ bytes }) r))
+    by_datum : (r : Result (List ℕ) FaultKind) → DatumSaid all datum r → StepSaid all front s (InData line datum) (on_line line (map_value (λ bytes. record s { bytes = s.bytes ++ bytes }) r))
     by_datum (Ok bytes) said = record { words = []; bytes = bytes; text = sym (append-nil s.text); more_bytes = refl; has_put = (refl, said) }
     by_datum (Err kind) said = no_datum_label datum said.0 refl said.1 said.2 said.3
 
@@ -311,7 +311,7 @@ all_said all front s (item ∷ items) at data_at = by_step (put all s item) refl
 
 -- ---- the whole second pass
 
-pub holds : (items : List Item) (sections : Sections) → second_pass items ≡ Ok sections → Holds items sections.text sections.bytes
+pub holds : (items : List Item) (sections : Sections) → second_pass items ≡ Ok sections → HoldsParts items sections.text sections.bytes
 unfolding second_pass size
 holds items sections is =
     let said : Filled items [] no_sections items sections = subst (AllSaid items [] no_sections items) is (all_said items [] no_sections items refl refl) in

@@ -6,15 +6,15 @@ use Rattle.rv_asm.specs.declared.fault.AsmError.TheVariants.{Fault, NoMemory}
 use Rattle.asm_statements.specs.declared.section.Section.{Section}
 use Rattle.asm_statements.specs.declared.section.Section.TheVariants.{Text}
 use Rattle.rv_asm.specs.declared.item.Item.{Item}
-use Rattle.rv_asm.specs.Steps.{FaultAt, Fails, chained, mapped}
+use Rattle.rv_asm.specs.Steps.{FaultAt, Fails, chained, map_value}
 use Rattle.text_lines.specs.Text.{lines_of}
 use Rattle.rv_asm.specs.Program.{size}
 use Rattle.rv_asm.specs.FirstPass.{Progress, no_lines, with_lines, first_pass}
 use Rattle.rv_asm.specs.SecondPass.{Sections, second_pass}
 use Rattle.rv_asm.specs.Listing.{Assembly, ListingContent, ListsTold, unless_empty, laid_out, assembled}
-use Rattle.rv_asm.specs.Assembly.{HasProgram, Holds, Assembles, FirstFault, in_line, no_text, in_part, IsFirstFault}
+use Rattle.rv_asm.specs.Assembly.{HasProgram, HoldsParts, Assembles, FirstFault, in_line, no_text, in_part, IsFirstFault}
 use Rattle.elf_image.specs.Image.{ImageContent}
-use Rattle.rv_asm.specs.Listing.{Lists, entry_of, image_of}
+use Rattle.rv_asm.specs.Listing.{Lists, entry_point_of, image_of}
 use Rattle.rv_asm.proofs.Entries.{enters}
 use Rattle.rv_asm.proofs.LineLaws.{LinesSaid, lines_said, program_read}
 use Rattle.rv_asm.proofs.PartLaws.{holds, stops}
@@ -24,7 +24,7 @@ pub record HasAssembly (source : List ℕ) (assembly : Assembly) : Type 0 where
   pub section : Section
   pub program : HasProgram (lines_of source) section assembly.items
   pub some : 0 < size Text assembly.items
-  pub holds : Holds assembly.items assembly.sections.text assembly.sections.bytes
+  pub holds : HoldsParts assembly.items assembly.sections.text assembly.sections.bytes
 
 abbrev pub Said : List ℕ → Result Assembly FaultAt → Type 0
 Said source (Ok assembly) = HasAssembly source assembly
@@ -34,7 +34,7 @@ laid_said : (source : List ℕ) (section : Section) (items : List Item) → HasP
 unfolding laid_out
 laid_said source section items program = by_size (size Text items == 0) refl
   where
-    by_pass : (r : Result Sections FaultAt) → second_pass items ≡ r → 0 < size Text items → Said source (mapped (λ sections. record { items = items; sections = sections }) r)
+    by_pass : (r : Result Sections FaultAt) → second_pass items ≡ r → 0 < size Text items → Said source (map_value (λ sections. record { items = items; sections = sections }) r)
     by_pass (Ok sections) is some = record { section = section; program = program; some = some; holds = holds items sections is }
     by_pass (Err fault) is some = let s = stops items fault is in in_part section items s.above s.below s.item program some s.cut s.put_above s.wrong
 
@@ -52,7 +52,7 @@ said source = by_lines (with_lines 0 no_lines (lines_of source)) (lines_said 0 n
         let program = program_read stop.good stop.m stop.read in
         in_line stop.good stop.bad stop.below stop.m.section stop.m.items stop.cut program (stop.number ∙ zero-add (length stop.good + 1)) (stop.wrong program.distinct)
 
-entry_listed : (assembly : Assembly) (listing : ListingContent) → Lists assembly listing → listing.image.entry ≡ entry_of assembly.items
+entry_listed : (assembly : Assembly) (listing : ListingContent) → Lists assembly listing → listing.image.entry ≡ entry_point_of assembly.items
 unfolding image_of
 entry_listed assembly listing l = ap (λ (image : ImageContent). image.entry) l.image
 

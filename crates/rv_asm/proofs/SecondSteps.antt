@@ -17,7 +17,7 @@ use Rattle.asm_statements.specs.declared.part.Datum.TheVariants.{Word, Pointer, 
 use Rattle.rv_asm.specs.declared.item.Item.{Item}
 use Rattle.rv_asm.specs.declared.item.Item.TheVariants.{Label, InText, InData}
 use Rattle.rv_asm.specs.declared.word.TextWord.{TextWord}
-use Rattle.rv_asm.specs.Steps.{FaultAt, Fails, chained, mapped, on_line}
+use Rattle.rv_asm.specs.Steps.{FaultAt, Fails, chained, map_value, on_line}
 use Rattle.rv_asm.specs.Program.{size, item_length, address_of}
 use Rattle.asm_statements.specs.Parts.{code_length, datum_length}
 use Rattle.rv_asm.specs.SecondPass.{Sections, code_words, datum_bytes, at_label, load_words, jump_words, branch_words, if_reached, reaches, next_address, put, put_all, no_sections, second_pass}
@@ -104,12 +104,12 @@ unfolding put
 put_adds all sections (Label section name) = (sym (add-zero (4 * length sections.text)), sym (add-zero (length sections.bytes)))
 put_adds all sections (InText line code) = by_words (code_words (address_of all) (next_address sections) code) (code_words_length (address_of all) (next_address sections) code)
   where
-    by_words : (r : Result (List TextWord) FaultKind) → OfLength (code_length code) r → Adds sections (InText line code) (on_line line (mapped (λ words. record sections { text = sections.text ++ words }) r))
+    by_words : (r : Result (List TextWord) FaultKind) → OfLength (code_length code) r → Adds sections (InText line code) (on_line line (map_value (λ words. record sections { text = sections.text ++ words }) r))
     by_words (Ok words) sized = (omega (arith, length-append sections.text words), sym (add-zero (length sections.bytes)))
     by_words (Err kind) sized = tt
 put_adds all sections (InData line datum) = by_bytes (datum_bytes (address_of all) datum) (datum_bytes_length (address_of all) datum)
   where
-    by_bytes : (r : Result (List ℕ) FaultKind) → OfBytes (datum_length datum) r → Adds sections (InData line datum) (on_line line (mapped (λ bytes. record sections { bytes = sections.bytes ++ bytes }) r))
+    by_bytes : (r : Result (List ℕ) FaultKind) → OfBytes (datum_length datum) r → Adds sections (InData line datum) (on_line line (map_value (λ bytes. record sections { bytes = sections.bytes ++ bytes }) r))
     by_bytes (Ok bytes) sized = (sym (add-zero (4 * length sections.text)), omega (arith, length-append sections.bytes bytes))
     by_bytes (Err kind) sized = tt
 

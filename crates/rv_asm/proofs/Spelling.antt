@@ -3,9 +3,9 @@ use Rattle.std.proofs.Common.{◌≡◌, ℕ, List, [], ◌∷◌, ◌++◌, map
 use Rattle.rv_isa.specs.declared.instruction.Insn.{Insn}
 use Rattle.rv_asm.specs.declared.word.TextWord.{TextWord}
 use Rattle.rv_asm.specs.declared.word.TextWord.TheVariants.{Instruction, Plain}
-use Rattle.rv_asm.specs.Words.{Stands, instruction_of, Spell, word_from, words_from, AreWords}
+use Rattle.rv_asm.specs.Words.{StandsForWord, instruction_of, Spell, word_from, words_from, AreWords}
 
-pub spell_push : (numbers : List ℕ) (words : List TextWord) (number : ℕ) (word : TextWord) → Spell numbers words → Stands number word → Spell (numbers ++ number ∷ []) (words ++ word ∷ [])
+pub spell_push : (numbers : List ℕ) (words : List TextWord) (number : ℕ) (word : TextWord) → Spell numbers words → StandsForWord number word → Spell (numbers ++ number ∷ []) (words ++ word ∷ [])
 unfolding Spell
 spell_push [] [] number word s t = (t, tt)
 spell_push [] (w ∷ words) number word s t = absurd s
@@ -19,7 +19,7 @@ spell_length [] (w ∷ words) s = absurd s
 spell_length (n ∷ numbers) [] s = absurd s
 spell_length (n ∷ numbers) (w ∷ words) s = omega (arith, spell_length numbers words s.1)
 
-from_word : (number : ℕ) (word : TextWord) → Stands number word → word_from number (instruction_of word) ≡ word
+from_word : (number : ℕ) (word : TextWord) → StandsForWord number word → word_from number (instruction_of word) ≡ word
 from_word number (Instruction insn) s = refl
 from_word number (Plain other) s = ap Plain s
 
@@ -35,13 +35,13 @@ map_push : (words : List TextWord) (word : TextWord) → map instruction_of (wor
 map_push [] word = refl
 map_push (w ∷ words) word = ap (λ l. instruction_of w ∷ l) (map_push words word)
 
-pub words_more : (numbers more : List ℕ) (insns others : List (Option Insn)) (number : ℕ) (insn : Option Insn) (word : TextWord) → AreWords numbers insns → Stands number word → insn ≡ instruction_of word → more ≡ numbers ++ number ∷ [] → others ≡ insns ++ insn ∷ [] → words_from more others ≡ words_from numbers insns ++ word ∷ []
+pub words_more : (numbers more : List ℕ) (insns others : List (Option Insn)) (number : ℕ) (insn : Option Insn) (word : TextWord) → AreWords numbers insns → StandsForWord number word → insn ≡ instruction_of word → more ≡ numbers ++ number ∷ [] → others ≡ insns ++ insn ∷ [] → words_from more others ≡ words_from numbers insns ++ word ∷ []
 words_more numbers more insns others number insn word are stands is n e =
     let all : Spell (numbers ++ number ∷ []) (words_from numbers insns ++ word ∷ []) = spell_push numbers (words_from numbers insns) number word are.spell stands in
     let list : others ≡ map instruction_of (words_from numbers insns ++ word ∷ []) = e ∙ (λ i. are.instructions i ++ is i ∷ []) ∙ sym (map_push (words_from numbers insns) word) in
     (λ i. words_from (n i) (list i)) ∙ words_back (numbers ++ number ∷ []) (words_from numbers insns ++ word ∷ []) all
 
-pub are_more : (numbers more : List ℕ) (insns others : List (Option Insn)) (number : ℕ) (insn : Option Insn) (word : TextWord) → AreWords numbers insns → Stands number word → insn ≡ instruction_of word → more ≡ numbers ++ number ∷ [] → others ≡ insns ++ insn ∷ [] → AreWords more others
+pub are_more : (numbers more : List ℕ) (insns others : List (Option Insn)) (number : ℕ) (insn : Option Insn) (word : TextWord) → AreWords numbers insns → StandsForWord number word → insn ≡ instruction_of word → more ≡ numbers ++ number ∷ [] → others ≡ insns ++ insn ∷ [] → AreWords more others
 are_more numbers more insns others number insn word are stands is n e =
     let from = words_more numbers more insns others number insn word are stands is n e in
     record {

@@ -6,7 +6,7 @@ use Rattle.rv_asm.specs.declared.fault.AsmError.TheVariants.{Fault, NoMemory}
 use Rattle.asm_lines.specs.declared.fault.FaultKind.TheVariants.{Empty}
 use Rattle.asm_statements.specs.declared.section.Section.TheVariants.{Text}
 use Rattle.rv_asm.specs.declared.item.Item.{Item}
-use Rattle.rv_asm.specs.Steps.{Fails, chained, mapped}
+use Rattle.rv_asm.specs.Steps.{Fails, chained, map_value}
 use Rattle.rv_asm.specs.Program.{size}
 use Rattle.rv_asm.specs.FirstPass.{Progress, first_pass}
 use Rattle.rv_asm.specs.SecondPass.{Sections, second_pass}
@@ -21,7 +21,7 @@ laid : (source : List ℕ) (progress : Progress) → first_pass source ≡ Ok pr
 unfolding assembled
 laid source progress is = ap (chained (λ progress. laid_out progress.items)) is
 
-not_empty : (items : List Item) → (size Text items == 0) ≡ false → laid_out items ≡ mapped (λ sections. record { items = items; sections = sections }) (second_pass items)
+not_empty : (items : List Item) → (size Text items == 0) ≡ false → laid_out items ≡ map_value (λ sections. record { items = items; sections = sections }) (second_pass items)
 unfolding laid_out
 not_empty items some = ap (λ b. unless_empty b items) some
 
@@ -31,12 +31,12 @@ no_text source progress is none = laid source progress is ∙ ap (λ b. unless_e
 
 pub second_refuses : (source : List ℕ) (progress : Progress) (error : AsmError) → first_pass source ≡ Ok progress → (size Text progress.items == 0) ≡ false → Fails (second_pass progress.items) error → Fails (assembled source) error
 second_refuses source progress (Fault line kind) is some fails =
-    laid source progress is ∙ not_empty progress.items some ∙ ap (mapped (λ sections. record { items = progress.items; sections = sections })) fails
+    laid source progress is ∙ not_empty progress.items some ∙ ap (map_value (λ sections. record { items = progress.items; sections = sections })) fails
 second_refuses source progress NoMemory is some fails = tt
 
 pub listed : (source : List ℕ) (progress : Progress) (sections : Sections) (listing : ListingContent) → first_pass source ≡ Ok progress → (size Text progress.items == 0) ≡ false → second_pass progress.items ≡ Ok sections → Lists (record { items = progress.items; sections = sections }) listing → ListsTold (assembled source) listing
 listed source progress sections listing is some put lists =
-    let all : assembled source ≡ Ok (record { items = progress.items; sections = sections }) = laid source progress is ∙ not_empty progress.items some ∙ ap (mapped (λ sections. record { items = progress.items; sections = sections })) put in
+    let all : assembled source ≡ Ok (record { items = progress.items; sections = sections }) = laid source progress is ∙ not_empty progress.items some ∙ ap (map_value (λ sections. record { items = progress.items; sections = sections })) put in
     subst (λ told. ListsTold told listing) (sym all) lists
 
 pub some_text : (items : List Item) → (size Text items == 0) ≡ false → 0 < size Text items

@@ -21,45 +21,45 @@ use Rattle.rv_asm.specs.declared.item.Item.TheVariants.{Label, InText, InData}
 use Rattle.rv_asm.specs.declared.word.TextWord.{TextWord}
 use Rattle.rv_asm.specs.declared.word.TextWord.TheVariants.{Instruction, Plain}
 use Rattle.asm_lines.specs.Forms.{Line}
-use Rattle.asm_statements.specs.Effects.{Effect, Enter, Text as TextEffect, Data as DataEffect}
+use Rattle.asm_statements.specs.Effects.{StatementEffect, Enter, Text as TextEffect, Data as DataEffect}
 use Rattle.asm_lines.specs.Lines.{line_form}
 use Rattle.text_lines.specs.Text.{lines_of}
 use Rattle.page_memory.specs.MemoryMap.{text_start}
 use Rattle.rv_asm.specs.Program.{size, section_start, most_text, most_data}
-use Rattle.rv_asm.specs.LineEffects.{effect_of}
+use Rattle.rv_asm.specs.LineEffects.{line_effect}
 use Rattle.rv_asm.specs.Listing.{ListingContent, Lists}
 
 -- ---- what lines say
 
 -- a line in a section: its labels, and what its statement does
-pub record Says (section : Section) (text : List ℕ) (labels : List (List ℕ)) (effect : Effect) : Type 0 where
+pub record Says (section : Section) (text : List ℕ) (labels : List (List ℕ)) (effect : StatementEffect) : Type 0 where
   pub line : Line
   pub form : line_form text ≡ Ok line
   pub named : labels ≡ line.labels
-  pub does : effect_of section line ≡ Ok effect
+  pub does : line_effect section line ≡ Ok effect
 
 -- the section of the next line
-abbrev pub entered : Section → Effect → Section
-entered section (Enter other) = other
-entered section (TextEffect parts) = section
-entered section (DataEffect parts) = section
+abbrev pub section_after : Section → StatementEffect → Section
+section_after section (Enter other) = other
+section_after section (TextEffect parts) = section
+section_after section (DataEffect parts) = section
 
 -- what a line puts into the sections
-abbrev pub parts_of : ℕ → Effect → List Item
+abbrev pub parts_of : ℕ → StatementEffect → List Item
 parts_of line (Enter section) = []
 parts_of line (TextEffect parts) = map (InText line) parts
 parts_of line (DataEffect parts) = map (InData line) parts
 
 -- a line's labels, which belong to the section that stood before it, and then its parts
-abbrev pub items_of : ℕ → Section → List (List ℕ) → Effect → List Item
+abbrev pub items_of : ℕ → Section → List (List ℕ) → StatementEffect → List Item
 items_of line section labels effect = map (Label section) labels ++ parts_of line effect
 
 -- lines behind so many others, in a section: what they say one after another, and the section behind them
 unfoldable pub Tells : ℕ → Section → List (List ℕ) → List Item → Section → Type 0
 Tells before section [] items last = (items ≡ []) × (last ≡ section)
 Tells before section (text ∷ below) items last =
-    (labels : List (List ℕ)) × ((effect : Effect) × ((rest : List Item) ×
-    (Says section text labels effect × (items ≡ items_of (before + 1) section labels effect ++ rest) × Tells (before + 1) (entered section effect) below rest last)))
+    (labels : List (List ℕ)) × ((effect : StatementEffect) × ((rest : List Item) ×
+    (Says section text labels effect × (items ≡ items_of (before + 1) section labels effect ++ rest) × Tells (before + 1) (section_after section effect) below rest last)))
 
 -- ---- labels
 
@@ -71,11 +71,11 @@ Lacks (InText line code ∷ items) name = Lacks items name
 Lacks (InData line datum ∷ items) name = Lacks items name
 
 -- no label stands twice
-unfoldable pub Distinct : List Item → Type 0
-Distinct [] = ⊤
-Distinct (Label section name ∷ items) = Lacks items name × Distinct items
-Distinct (InText line code ∷ items) = Distinct items
-Distinct (InData line datum ∷ items) = Distinct items
+unfoldable pub DistinctLabels : List Item → Type 0
+DistinctLabels [] = ⊤
+DistinctLabels (Label section name ∷ items) = Lacks items name × DistinctLabels items
+DistinctLabels (InText line code ∷ items) = DistinctLabels items
+DistinctLabels (InData line datum ∷ items) = DistinctLabels items
 
 -- a name's label has an address: its section's start and the sizes of what stands before it in that section
 pub record HasAddress (items : List Item) (name : List ℕ) (address : ℕ) : Type 0 where
@@ -95,7 +95,7 @@ pub record Fits (items : List Item) : Type 0 where
 -- lines have a program
 pub record HasProgram (lines : List (List ℕ)) (section : Section) (items : List Item) : Type 0 where
   pub told : Tells 0 Text lines items section
-  pub distinct : Distinct items
+  pub distinct : DistinctLabels items
   pub fits : Fits items
 
 -- an address in two parts, of which the lower is its low 12 bits taken signed
@@ -143,7 +143,7 @@ pub record DataAt (items front : List Item) (datum : Datum) (data_bytes : List �
   pub put : PutsBytes items datum bytes
 
 -- the text and the data hold what the parts of a program put there, and nothing else
-pub record Holds (items : List Item) (text : List TextWord) (bytes : List ℕ) : Type 0 where
+pub record HoldsParts (items : List Item) (text : List TextWord) (bytes : List ℕ) : Type 0 where
   pub text_parts : (front back : List Item) (line : ℕ) (code : Code) → items ≡ front ++ InText line code ∷ back → TextAt items front code text
   pub data_parts : (front back : List Item) (line : ℕ) (datum : Datum) → items ≡ front ++ InData line datum ∷ back → DataAt items front datum bytes
   pub text_size : 4 * length text ≡ size Text items
@@ -162,7 +162,7 @@ pub record Assembles (source : List ℕ) (listing : ListingContent) : Type 0 whe
   pub bytes : List ℕ
   pub program : HasProgram (lines_of source) section items
   pub some : 0 < size Text items
-  pub holds : Holds items text bytes
+  pub holds : HoldsParts items text bytes
   pub enters : EntersAt items listing.image.entry
   pub lists : Lists (record { items = items; sections = record { text = text; bytes = bytes } }) listing
 
@@ -172,9 +172,9 @@ pub record Assembles (source : List ℕ) (listing : ListingContent) : Type 0 whe
 -- text or data, in this order
 pub data LineFault (number : ℕ) (section : Section) (items : List Item) (text : List ℕ) (kind : FaultKind) : Type 0 where
   form : line_form text ≡ Err kind → LineFault number section items text kind
-  statement : (line : Line) → line_form text ≡ Ok line → effect_of section line ≡ Err kind → LineFault number section items text kind
-  twice : (labels : List (List ℕ)) (effect : Effect) → Says section text labels effect → (Distinct (items ++ map (Label section) labels) → ⊥) → kind ≡ LabelTwice → LineFault number section items text kind
-  long : (labels : List (List ℕ)) (effect : Effect) → Says section text labels effect → Distinct (items ++ map (Label section) labels) → (Fits (items ++ items_of number section labels effect) → ⊥) → kind ≡ TooLong → LineFault number section items text kind
+  statement : (line : Line) → line_form text ≡ Ok line → line_effect section line ≡ Err kind → LineFault number section items text kind
+  twice : (labels : List (List ℕ)) (effect : StatementEffect) → Says section text labels effect → (DistinctLabels (items ++ map (Label section) labels) → ⊥) → kind ≡ LabelTwice → LineFault number section items text kind
+  long : (labels : List (List ℕ)) (effect : StatementEffect) → Says section text labels effect → DistinctLabels (items ++ map (Label section) labels) → (Fits (items ++ items_of number section labels effect) → ⊥) → kind ≡ TooLong → LineFault number section items text kind
 
 -- a part has what it puts
 unfoldable pub HasPut : List Item → List Item → Item → Type 0

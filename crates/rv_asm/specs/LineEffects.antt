@@ -4,13 +4,13 @@ use Rattle.asm_lines.specs.Forms.{Line}
 use Rattle.asm_lines.specs.declared.fault.FaultKind.{FaultKind}
 use Rattle.asm_lines.specs.declared.operand.Operand.{Operand}
 use Rattle.asm_statements.specs.declared.section.Section.{Section}
-use Rattle.asm_statements.specs.Effects.{Effect, Enter}
+use Rattle.asm_statements.specs.Effects.{StatementEffect, Enter}
 use Rattle.asm_statements.specs.Statements.{statement_effect}
 
 -- what a line does in a section: a line with no statement stays there
-abbrev pub effect_of_name : Section → List Operand → Option (List ℕ) → Result Effect FaultKind
+abbrev pub effect_of_name : Section → List Operand → Option (List ℕ) → Result StatementEffect FaultKind
 effect_of_name section operands None = Ok (Enter section)
 effect_of_name section operands (Some name) = statement_effect section name operands
 
-abbrev pub effect_of : Section → Line → Result Effect FaultKind
-effect_of section line = effect_of_name section line.operands line.name
+abbrev pub line_effect : Section → Line → Result StatementEffect FaultKind
+line_effect section line = effect_of_name section line.operands line.name

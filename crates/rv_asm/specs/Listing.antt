@@ -4,15 +4,15 @@ use Rattle.page_memory.specs.declared.rights.Rights.{Rights}
 use Rattle.page_memory.specs.Rights.{read_write, read_execute}
 use Rattle.page_memory.specs.MemoryMap.{text_start, text_first_page}
 use Rattle.elf_image.specs.Image.{ImageContent, bytes_of}
-use Rattle.elf_image.specs.BytePages.{pages_of}
+use Rattle.elf_image.specs.BytePages.{byte_pages}
 use Rattle.rv_isa.specs.declared.instruction.Insn.{Insn}
 use Rattle.asm_lines.specs.declared.fault.FaultKind.TheVariants.{Empty}
 use Rattle.asm_statements.specs.declared.section.Section.{Section}
 use Rattle.asm_statements.specs.declared.section.Section.TheVariants.{Text, Data}
 use Rattle.rv_asm.specs.declared.place.Place.{Place}
 use Rattle.rv_asm.specs.declared.item.Item.{Item}
-use Rattle.rv_asm.specs.Steps.{FaultAt, chained, mapped}
-use Rattle.rv_asm.specs.Program.{size, place_of, section_start}
+use Rattle.rv_asm.specs.Steps.{FaultAt, chained, map_value}
+use Rattle.rv_asm.specs.Program.{size, label_place, section_start}
 use Rattle.rv_asm.specs.FirstPass.{first_pass}
 use Rattle.rv_asm.specs.SecondPass.{Sections, second_pass}
 use Rattle.rv_asm.specs.Words.{Spell, instruction_of}
@@ -25,20 +25,20 @@ abbrev pub data_rights : Rights
 data_rights = read_write
 
 -- the entry: the label `_start`, where it stands in the text before its end; else where the text begins
-abbrev pub entry_if : Bool → ℕ → ℕ
-entry_if true offset = text_start + offset
-entry_if false offset = text_start
+abbrev pub entry_point_if : Bool → ℕ → ℕ
+entry_point_if true offset = text_start + offset
+entry_point_if false offset = text_start
 
-abbrev pub entry_in : ℕ → Section → ℕ → ℕ
-entry_in end Text offset = entry_if (nat_lt offset end) offset
-entry_in end Data offset = text_start
+abbrev pub entry_point_in : ℕ → Section → ℕ → ℕ
+entry_point_in end Text offset = entry_point_if (nat_lt offset end) offset
+entry_point_in end Data offset = text_start
 
-abbrev pub entry_at : ℕ → Option Place → ℕ
-entry_at end None = text_start
-entry_at end (Some place) = entry_in end place.section place.offset
+abbrev pub entry_point_at : ℕ → Option Place → ℕ
+entry_point_at end None = text_start
+entry_point_at end (Some place) = entry_point_in end place.section place.offset
 
-unfoldable pub entry_of : List Item → ℕ
-entry_of items = entry_at (size Text items) (place_of items (codes "_start"))
+unfoldable pub entry_point_of : List Item → ℕ
+entry_point_of items = entry_point_at (size Text items) (label_place items (codes "_start"))
 
 -- a program with its sections
 pub record Assembly : Type 0 where
@@ -56,8 +56,8 @@ pub record ListingContent : Type 0 where
 unfoldable pub image_of : List Item → List ℕ → List ℕ → ImageContent
 image_of items words bytes =
     record {
-      entry = entry_of items;
-      pages = pages_of text_first_page text_rights (bytes_of words) ++ pages_of (section_start items Data / 4096) data_rights bytes;
+      entry = entry_point_of items;
+      pages = byte_pages text_first_page text_rights (bytes_of words) ++ byte_pages (section_start items Data / 4096) data_rights bytes;
     }
 
 -- a listing of an assembly
@@ -70,7 +70,7 @@ pub record Lists (assembly : Assembly) (listing : ListingContent) : Type 0 where
 -- a source with no word of text
 abbrev pub unless_empty : Bool → List Item → Result Assembly FaultAt
 unless_empty true items = Err (record { line = 0; kind = Empty })
-unless_empty false items = mapped (λ sections. record { items = items; sections = sections }) (second_pass items)
+unless_empty false items = map_value (λ sections. record { items = items; sections = sections }) (second_pass items)
 
 unfoldable pub laid_out : List Item → Result Assembly FaultAt
 laid_out items = unless_empty (size Text items == 0) items

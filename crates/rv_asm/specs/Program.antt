@@ -23,10 +23,10 @@ size section [] = 0
 size section (item ∷ items) = item_length section item + size section items
 
 -- the section of a label of this name
-abbrev pub labelled : List ℕ → Item → Option Section
-labelled name (Label section other) = if bytes_eq other name then Some section else None
-labelled name (InText line code) = None
-labelled name (InData line datum) = None
+abbrev pub section_of_label : List ℕ → Item → Option Section
+section_of_label name (Label section other) = if bytes_eq other name then Some section else None
+section_of_label name (InText line code) = None
+section_of_label name (InData line datum) = None
 
 -- the place of a name behind an item, from its place in what follows
 abbrev pub place_from : Item → Option Section → Option Place → Option Place
@@ -34,9 +34,9 @@ place_from item (Some section) below = Some (record { section = section; offset 
 place_from item None below = option_map (λ place. record { section = place.section; offset = item_length place.section item + place.offset }) below
 
 -- where the label of a name stands: its section, and how many bytes the section has before it
-unfoldable pub place_of : List Item → List ℕ → Option Place
-place_of [] name = None
-place_of (item ∷ items) name = place_from item (labelled name item) (place_of items name)
+unfoldable pub label_place : List Item → List ℕ → Option Place
+label_place [] name = None
+label_place (item ∷ items) name = place_from item (section_of_label name item) (label_place items name)
 
 -- the most bytes that the text may have, 65536 words, and that the data may have
 abbrev pub most_text : ℕ
@@ -52,4 +52,4 @@ section_start items Data = (text_start + size Text items + 4095) / 4096 * 4096
 
 -- the address of the label of a name
 unfoldable pub address_of : List Item → List ℕ → Option ℕ
-address_of items name = option_map (λ place. section_start items place.section + place.offset) (place_of items name)
+address_of items name = option_map (λ place. section_start items place.section + place.offset) (label_place items name)

@@ -17,7 +17,7 @@ use Rattle.rv_asm.specs.declared.word.TextWord.{TextWord}
 use Rattle.rv_asm.specs.declared.word.TextWord.TheVariants.{Instruction, Plain}
 use Rattle.rv_asm.specs.declared.word.Words.{Words}
 use Rattle.rv_asm.specs.declared.word.Words.TheVariants.{One, Two}
-use Rattle.rv_asm.specs.Steps.{FaultAt, chained, mapped, on_line}
+use Rattle.rv_asm.specs.Steps.{FaultAt, chained, map_value, on_line}
 use Rattle.page_memory.specs.MemoryMap.{text_start}
 use Rattle.rv_asm.specs.Program.{address_of}
 use Rattle.rv_isa.specs.Split.{upper_part, low_part}
@@ -82,9 +82,9 @@ next_address sections = text_start + 4 * length sections.text
 unfoldable pub put : List Item → Sections → Item → Result Sections FaultAt
 put all sections (Label section name) = Ok sections
 put all sections (InText line code) =
-    on_line line (mapped (λ words. record sections { text = sections.text ++ words }) (code_words (address_of all) (next_address sections) code))
+    on_line line (map_value (λ words. record sections { text = sections.text ++ words }) (code_words (address_of all) (next_address sections) code))
 put all sections (InData line datum) =
-    on_line line (mapped (λ bytes. record sections { bytes = sections.bytes ++ bytes }) (datum_bytes (address_of all) datum))
+    on_line line (map_value (λ bytes. record sections { bytes = sections.bytes ++ bytes }) (datum_bytes (address_of all) datum))
 
 unfoldable pub put_all : List Item → Sections → List Item → Result Sections FaultAt
 put_all all sections [] = Ok sections

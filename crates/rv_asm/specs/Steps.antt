@@ -15,9 +15,9 @@ chained next (Ok x) = next x
 chained next (Err fault) = Err fault
 
 -- an answer by a function of its value, or its fault
-abbrev pub mapped : {A B F : Type 0} → (A → B) → Result A F → Result B F
-mapped f (Ok x) = Ok (f x)
-mapped f (Err fault) = Err fault
+abbrev pub map_value : {A B F : Type 0} → (A → B) → Result A F → Result B F
+map_value f (Ok x) = Ok (f x)
+map_value f (Err fault) = Err fault
 
 -- an answer whose fault is on this line
 abbrev pub on_line : {A : Type 0} → ℕ → Result A FaultKind → Result A FaultAt

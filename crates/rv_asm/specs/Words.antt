@@ -6,9 +6,9 @@ use Rattle.rv_asm.specs.declared.word.TextWord.{TextWord}
 use Rattle.rv_asm.specs.declared.word.TextWord.TheVariants.{Instruction, Plain}
 
 -- a number stands for a word: it agrees with the instruction by the instruction table, or is the number itself
-abbrev pub Stands : ℕ → TextWord → Type 0
-Stands number (Instruction insn) = Agrees number insn
-Stands number (Plain other) = number ≡ other
+abbrev pub StandsForWord : ℕ → TextWord → Type 0
+StandsForWord number (Instruction insn) = Agrees number insn
+StandsForWord number (Plain other) = number ≡ other
 
 abbrev pub instruction_of : TextWord → Option Insn
 instruction_of (Instruction insn) = Some insn
@@ -19,7 +19,7 @@ unfoldable pub Spell : List ℕ → List TextWord → Type 0
 Spell [] [] = Unit {0}
 Spell [] (word ∷ words) = ⊥
 Spell (number ∷ numbers) [] = ⊥
-Spell (number ∷ numbers) (word ∷ words) = Stands number word × Spell numbers words
+Spell (number ∷ numbers) (word ∷ words) = StandsForWord number word × Spell numbers words
 
 -- a word from its number and its instruction
 abbrev pub word_from : ℕ → Option Insn → TextWord

@@ -2,7 +2,7 @@
 
 ghost use Rattle.std.specs.Prelude.{◌≡◌, ◌<◌, ◌+◌, ◌%◌, ◌^◌, ℤ, pos, ◌-ℤ◌, ◌∷◌, [], Some, None, IfSome, IsSome, ◌↔◌};
 ghost use Rattle.rv_isa.specs.declared.kinds.BranchKind.{BranchKind};
-ghost use Rattle.rv_asm.specs.Steps.{mapped};
+ghost use Rattle.rv_asm.specs.Steps.{map_value};
 ghost use Rattle.rv_asm.specs.Program.{address_of};
 ghost use Rattle.rv_asm.specs.SecondPass.{code_words, words_list, at_label, load_words, jump_words, branch_words, reaches};
 
@@ -20,7 +20,7 @@ pub(crate) fn code_words(
     code: &Code<'_>,
 ) -> Result<Words, FaultKind>
     requires { here < 2 ^ 31 }
-    ensures { mapped words_list result ≡ code_words (address_of program.now.items) here code.now }
+    ensures { map_value words_list result ≡ code_words (address_of program.now.items) here code.now }
 {
     match code {
         Code::Fixed(insn) => Ok(Words::One(TextWord::Instruction(*insn))),
@@ -73,7 +73,7 @@ fn load_words(rd: Reg, address: u32) -> Words
 fn jump_words(rd: Reg, here: u32, target: u32) -> Result<Words, FaultKind>
     requires here_below { here < 2 ^ 31 }
     requires target_below { target < 2 ^ 31 }
-    ensures { mapped words_list result ≡ jump_words rd here target }
+    ensures { map_value words_list result ≡ jump_words rd here target }
 {
     match JumpOffset::new(target as i32 - here as i32) {
         Some(offset) => Ok(Words::One(TextWord::Instruction(Insn::Jal { rd, offset }))),
@@ -91,7 +91,7 @@ fn branch_words(
 ) -> Result<Words, FaultKind>
     requires here_below { here < 2 ^ 31 }
     requires target_below { target < 2 ^ 31 }
-    ensures { mapped words_list result ≡ branch_words kind rs1 rs2 here target }
+    ensures { map_value words_list result ≡ branch_words kind rs1 rs2 here target }
 {
     match BranchOffset::new(target as i32 - here as i32) {
         Some(offset) => Ok(Words::One(TextWord::Instruction(Insn::Branch {

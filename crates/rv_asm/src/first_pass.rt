@@ -1,10 +1,10 @@
 //! The first pass: line by line to the items of a program.
 
 ghost use Rattle.std.specs.Prelude.{◌≡◌, IfOk, IfErr, map};
-ghost use Rattle.asm_lines.specs.Faults.{Refuses};
+ghost use Rattle.asm_lines.specs.Faults.{RefusesLine};
 ghost use Rattle.asm_statements.specs.Effects.{effect_value};
 ghost use Rattle.rv_asm.specs.Steps.{Fails};
-ghost use Rattle.rv_asm.specs.Program.{labelled};
+ghost use Rattle.rv_asm.specs.Program.{section_of_label};
 ghost use Rattle.rv_asm.specs.FirstPass.{first_pass, with_line, with_labels, with_items, with_effect};
 ghost use Rattle.rv_asm.specs.LineEffects.{effect_of_name};
 ghost use Rattle.rv_asm.specs.declared.item.Item.TheVariants.{InText, InData};
@@ -46,7 +46,7 @@ fn with_line<'a>(
     text: &'a [u8],
 ) -> Result<Program<'a>, Refusal>
     ensures program { IfOk result (λ more. with_line line program.entry text.now ≡ Ok more) }
-    ensures refusal { IfErr result (Refuses (with_line line program.entry text.now)) }
+    ensures refusal { IfErr result (RefusesLine (with_line line program.entry text.now)) }
 {
     let Line {
         labels,
@@ -66,7 +66,7 @@ fn read_effect<'a>(
     operands: &[Operand<'a>],
 ) -> Result<Effect<'a>, Refusal>
     ensures effect { IfOk result (λ effect. effect_of_name section operands.now name.entry ≡ Ok (effect_value effect)) }
-    ensures refusal { IfErr result (Refuses (effect_of_name section operands.now name.entry)) }
+    ensures refusal { IfErr result (RefusesLine (effect_of_name section operands.now name.entry)) }
 {
     match name {
         Some(name) => read_statement(alloc, section, name.bytes(), operands),
@@ -78,7 +78,7 @@ fn read_effect<'a>(
 #[tactic(auto, using(crate::proofs::FirstLoops::labels_go_on, crate::proofs::FirstLoops::labels_end))]
 fn with_labels<'a>(mut program: Program<'a>, labels: Vec<Span<'a>>) -> Result<Program<'a>, Refusal>
     ensures program { IfOk result (λ more. with_labels program.entry labels.entry.items ≡ Ok more) }
-    ensures refusal { IfErr result (Refuses (with_labels program.entry labels.entry.items)) }
+    ensures refusal { IfErr result (RefusesLine (with_labels program.entry labels.entry.items)) }
 {
     for name in labels {
         program = program.with_label(name)?;
@@ -93,7 +93,7 @@ fn with_effect<'a>(
     effect: Effect<'a>,
 ) -> Result<Program<'a>, Refusal>
     ensures program { IfOk result (λ more. with_effect line program.entry (effect_value effect.entry) ≡ Ok more) }
-    ensures refusal { IfErr result (Refuses (with_effect line program.entry (effect_value effect.entry))) }
+    ensures refusal { IfErr result (RefusesLine (with_effect line program.entry (effect_value effect.entry))) }
 {
     match effect {
         Effect::Enter(section) => Ok(program.entered(section)),
@@ -110,7 +110,7 @@ fn with_text<'a>(
     parts: Vec<Code<'a>>,
 ) -> Result<Program<'a>, Refusal>
     ensures program { IfOk result (λ more. with_items program.entry (map (InText line) parts.entry.items) ≡ Ok more) }
-    ensures refusal { IfErr result (Refuses (with_items program.entry (map (InText line) parts.entry.items))) }
+    ensures refusal { IfErr result (RefusesLine (with_items program.entry (map (InText line) parts.entry.items))) }
 {
     for code in parts {
         program = program.with_code(line, code)?;
@@ -126,7 +126,7 @@ fn with_data<'a>(
     parts: Vec<Datum<'a>>,
 ) -> Result<Program<'a>, Refusal>
     ensures program { IfOk result (λ more. with_items program.entry (map (InData line) parts.entry.items) ≡ Ok more) }
-    ensures refusal { IfErr result (Refuses (with_items program.entry (map (InData line) parts.entry.items))) }
+    ensures refusal { IfErr result (RefusesLine (with_items program.entry (map (InData line) parts.entry.items))) }
 {
     for datum in parts {
         program = program.with_datum(line, datum)?;

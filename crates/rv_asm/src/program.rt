@@ -1,8 +1,8 @@
 ghost use Rattle.std.specs.Prelude.{◌≡◌, ◌<◌, ◌≤◌, ◌+◌, ◌^◌, ◌==◌, IfOk, IfErr, IfSome, option_map, ℕ, List};
-ghost use Rattle.asm_lines.specs.Faults.{Refuses};
+ghost use Rattle.asm_lines.specs.Faults.{RefusesLine};
 ghost use Rattle.page_memory.specs.MemoryMap.{text_start};
-ghost use Rattle.rv_asm.specs.Program.{place_of, size, address_of, section_start, labelled, most_text, most_data};
-ghost use Rattle.rv_asm.specs.Listing.{entry_of};
+ghost use Rattle.rv_asm.specs.Program.{label_place, size, address_of, section_start, section_of_label, most_text, most_data};
+ghost use Rattle.rv_asm.specs.Listing.{entry_point_of};
 ghost use Rattle.rv_asm.specs.FirstPass.{no_lines, with_label, with_item};
 ghost use Rattle.asm_statements.specs.declared.section.Section.TheVariants.{Text, Data};
 ghost use Rattle.rv_asm.specs.declared.item.Item.TheVariants.{InText, InData};
@@ -100,7 +100,7 @@ impl<'a> Program<'a> {
 
     /// The place of a name.
     fn place(&self, name: &[u8]) -> Option<Place>
-        ensures place { result ≡ place_of self.now.items name.now }
+        ensures place { result ≡ label_place self.now.items name.now }
         ensures low { IfSome result (λ place. place.offset ≤ most_data) }
     {
         self.places.get(name).copied()
@@ -125,9 +125,9 @@ impl<'a> Program<'a> {
     }
 
     /// The entry: the label `_start`, where it stands in the text before its end; else where the text begins.
-    #[tactic(auto, unfolding(crate::specs::Listing::entry_of))]
+    #[tactic(auto, unfolding(crate::specs::Listing::entry_point_of))]
     pub(crate) fn entry(&self) -> u32
-        ensures { result ≡ entry_of self.now.items }
+        ensures { result ≡ entry_point_of self.now.items }
     {
         match self.place(b"_start") {
             Some(
@@ -155,7 +155,7 @@ impl<'a> Program<'a> {
     /// The program with one more label, at the end of the section.
     pub(crate) fn with_label(mut self, name: Span<'a>) -> Result<Self, Refusal>
         ensures program { IfOk result (λ program. with_label self.entry name.entry ≡ Ok program) }
-        ensures refusal { IfErr result (Refuses (with_label self.entry name.entry)) }
+        ensures refusal { IfErr result (RefusesLine (with_label self.entry name.entry)) }
     {
         if self.place(name.bytes()).is_some() {
             return Err(Refusal::Fault(FaultKind::LabelTwice));
@@ -170,7 +170,7 @@ impl<'a> Program<'a> {
     /// The program with one more part of its text, from a line.
     pub(crate) fn with_code(self, line: usize, code: Code<'a>) -> Result<Self, Refusal>
         ensures program { IfOk result (λ program. with_item self.entry (InText line code.entry) ≡ Ok program) }
-        ensures refusal { IfErr result (Refuses (with_item self.entry (InText line code.entry))) }
+        ensures refusal { IfErr result (RefusesLine (with_item self.entry (InText line code.entry))) }
     {
         self.with_item(Item::InText { line, code })
     }
@@ -178,16 +178,16 @@ impl<'a> Program<'a> {
     /// The program with one more part of its data, from a line.
     pub(crate) fn with_datum(self, line: usize, datum: Datum<'a>) -> Result<Self, Refusal>
         ensures program { IfOk result (λ program. with_item self.entry (InData line datum.entry) ≡ Ok program) }
-        ensures refusal { IfErr result (Refuses (with_item self.entry (InData line datum.entry))) }
+        ensures refusal { IfErr result (RefusesLine (with_item self.entry (InData line datum.entry))) }
     {
         self.with_item(Item::InData { line, datum })
     }
 
     /// The program with one more part, where there is room for it.
     fn with_item(mut self, item: Item<'a>) -> Result<Self, Refusal>
-        requires { (name : List ℕ) → labelled name item ≡ None }
+        requires { (name : List ℕ) → section_of_label name item ≡ None }
         ensures program { IfOk result (λ program. with_item self.entry item.entry ≡ Ok program) }
-        ensures refusal { IfErr result (Refuses (with_item self.entry item.entry)) }
+        ensures refusal { IfErr result (RefusesLine (with_item self.entry item.entry)) }
     {
         let text = item.length(Section::Text);
         let data = item.length(Section::Data);

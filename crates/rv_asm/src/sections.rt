@@ -1,5 +1,5 @@
 ghost use Rattle.std.specs.Prelude.{◌≡◌, ◌<◌, ◌≤◌, ◌+◌, ◌*◌, ◌++◌, ◌∷◌, [], ◌^◌, IfOk, IfErr, length, map, replicate};
-ghost use Rattle.rv_asm.specs.Steps.{Fails, mapped, on_line};
+ghost use Rattle.rv_asm.specs.Steps.{Fails, map_value, on_line};
 ghost use Rattle.rv_asm.specs.Program.{address_of};
 ghost use Rattle.rv_asm.specs.SecondPass.{no_sections, next_address, put, words_list, datum_bytes};
 ghost use Rattle.rv_asm.specs.Words.{Spell, instruction_of};

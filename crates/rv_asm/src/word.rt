@@ -1,5 +1,5 @@
 ghost use Rattle.std.specs.Prelude.{◌≡◌};
-ghost use Rattle.rv_asm.specs.Words.{instruction_of, Stands};
+ghost use Rattle.rv_asm.specs.Words.{instruction_of, StandsForWord};
 
 use rv_isa::{Insn, encode};
 
@@ -22,7 +22,7 @@ pub(crate) enum Words {
 impl TextWord {
     /// The word as a number.
     pub(crate) fn number(&self) -> u32
-        ensures { Stands result self.now }
+        ensures { StandsForWord result self.now }
     {
         match self {
             TextWord::Instruction(insn) => encode(*insn),

@@ -8,7 +8,7 @@ use Rattle.rv_isa.specs.declared.kinds.LoadKind.{LoadKind}
 use Rattle.rv_isa.specs.declared.kinds.LoadKind.TheVariants.{Lb, Lh, Lw, Lbu, Lhu}
 use Rattle.rv_isa.specs.declared.kinds.StoreKind.{StoreKind}
 use Rattle.rv_isa.specs.declared.kinds.StoreKind.TheVariants.{Sb, Sh, Sw}
-use Rattle.rv_exec.specs.Arithmetic.{word_of}
+use Rattle.rv_exec.specs.Arithmetic.{word_of_signed}
 
 abbrev pub load_width : LoadKind → Width
 load_width Lb = Byte
@@ -24,8 +24,8 @@ store_width Sw = Word
 
 -- LB and LH extend the sign of what they load, the others have zeros above it
 unfoldable pub extended : LoadKind → ℕ → ℕ
-extended Lb number = word_of (cast_signed w8 (number % 2 ^ 8))
-extended Lh number = word_of (cast_signed w16 (number % 2 ^ 16))
+extended Lb number = word_of_signed (cast_signed w8 (number % 2 ^ 8))
+extended Lh number = word_of_signed (cast_signed w16 (number % 2 ^ 16))
 extended Lw number = number
 extended Lbu number = number
 extended Lhu number = number

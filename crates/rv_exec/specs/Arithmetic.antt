@@ -27,8 +27,8 @@ abbrev pub signed_word : ℕ → ℤ
 signed_word a = cast_signed w32 a
 
 -- the word of a signed number
-abbrev pub word_of : ℤ → ℕ
-word_of z = cast_unsigned w32 z
+abbrev pub word_of_signed : ℤ → ℕ
+word_of_signed z = cast_unsigned w32 z
 
 abbrev pub one_if : Bool → ℕ
 one_if true = 1
@@ -43,11 +43,11 @@ high_word product = cast_unsigned w64 product / 2 ^ 32
 -- division rounds toward zero; the quotient by zero has all bits set. The quotient of -2^31 by -1 is 2^31, whose
 -- word is that of -2^31
 unfoldable pub quotient : ℕ → ℕ → ℕ
-quotient a b = if b == 0 then 2 ^ 32 - 1 else word_of (int_div (signed_word a) (signed_word b))
+quotient a b = if b == 0 then 2 ^ 32 - 1 else word_of_signed (int_div (signed_word a) (signed_word b))
 
 -- a remainder has the sign of the dividend, and the remainder by zero is the dividend
 unfoldable pub remainder : ℕ → ℕ → ℕ
-remainder a b = if b == 0 then a else word_of (int_rem (signed_word a) (signed_word b))
+remainder a b = if b == 0 then a else word_of_signed (int_rem (signed_word a) (signed_word b))
 
 unfoldable pub unsigned_quotient : ℕ → ℕ → ℕ
 unsigned_quotient a b = if b == 0 then 2 ^ 32 - 1 else a / b
@@ -66,7 +66,7 @@ result_of Slt a b = one_if (int_lt (signed_word a) (signed_word b))
 result_of Sltu a b = one_if (nat_lt a b)
 result_of Xor a b = bit_xor a b
 result_of Srl a b = a / 2 ^ (b % 32)
-result_of Sra a b = word_of (int_shr (signed_word a) (b % 32))
+result_of Sra a b = word_of_signed (int_shr (signed_word a) (b % 32))
 result_of Or a b = bit_or a b
 result_of And a b = bit_and a b
 result_of Mul a b = (a * b) % 2 ^ 32

@@ -13,7 +13,7 @@ use Rattle.rv_exec.specs.declared.cause.Cause.{Cause}
 use Rattle.rv_exec.specs.declared.cause.Cause.TheVariants.{InstructionMisaligned, IllegalInstruction, Breakpoint}
 use Rattle.rv_exec.specs.Causes.{fetch_cause, load_cause, store_cause}
 use Rattle.rv_exec.specs.Registers.{Registers, register, with_register, with_pc, next_pc}
-use Rattle.rv_exec.specs.Arithmetic.{word_sum, word_of, even, result_of, immediate_operation, shift_operation, is_taken}
+use Rattle.rv_exec.specs.Arithmetic.{word_sum, word_of_signed, even, result_of, immediate_operation, shift_operation, is_taken}
 use Rattle.rv_exec.specs.Access.{load_width, store_width, extended}
 use Rattle.rv_exec.specs.Amo.{amo_result}
 
@@ -50,7 +50,7 @@ branched regs memory target false = Next (with_pc regs (next_pc regs)) memory
 
 -- the address of a load or a store
 abbrev pub address_at : Registers → ℕ → ℤ → ℕ
-address_at regs rs1 offset = word_sum (register regs rs1) (word_of offset)
+address_at regs rs1 offset = word_sum (register regs rs1) (word_of_signed offset)
 
 abbrev pub after_load : Registers → Memory → LoadKind → ℕ → ℕ → Result ℕ MemoryFault → Line
 after_load regs memory kind rd address (Ok number) = Next (computed regs rd (extended kind number)) memory
@@ -81,15 +81,15 @@ amo_line regs memory kind rd address operand =
 unfoldable pub insn_line : Registers → Memory → Insn → Line
 insn_line regs memory (Lui rd immediate) = Next (computed regs rd (immediate * 2 ^ 12)) memory
 insn_line regs memory (Auipc rd immediate) = Next (computed regs rd (word_sum regs.pc (immediate * 2 ^ 12))) memory
-insn_line regs memory (Jal rd offset) = jumped regs memory rd (word_sum regs.pc (word_of offset))
-insn_line regs memory (Jalr rd rs1 offset) = jumped regs memory rd (even (word_sum (register regs rs1) (word_of offset)))
+insn_line regs memory (Jal rd offset) = jumped regs memory rd (word_sum regs.pc (word_of_signed offset))
+insn_line regs memory (Jalr rd rs1 offset) = jumped regs memory rd (even (word_sum (register regs rs1) (word_of_signed offset)))
 insn_line regs memory (Branch kind rs1 rs2 offset) =
-    branched regs memory (word_sum regs.pc (word_of offset)) (is_taken kind (register regs rs1) (register regs rs2))
+    branched regs memory (word_sum regs.pc (word_of_signed offset)) (is_taken kind (register regs rs1) (register regs rs2))
 insn_line regs memory (Load kind rd rs1 offset) = load_line regs memory kind rd (address_at regs rs1 offset)
 insn_line regs memory (Store kind rs1 rs2 offset) =
     store_line regs memory kind (address_at regs rs1 offset) (register regs rs2)
 insn_line regs memory (OpImmediate kind rd rs1 immediate) =
-    Next (computed regs rd (result_of (immediate_operation kind) (register regs rs1) (word_of immediate))) memory
+    Next (computed regs rd (result_of (immediate_operation kind) (register regs rs1) (word_of_signed immediate))) memory
 insn_line regs memory (Shift kind rd rs1 amount) =
     Next (computed regs rd (result_of (shift_operation kind) (register regs rs1) amount)) memory
 insn_line regs memory (Op kind rd rs1 rs2) =

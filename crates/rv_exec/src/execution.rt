@@ -1,7 +1,7 @@
 ghost use Rattle.std.specs.Prelude.{◌≡◌, ◌<◌};
 ghost use Rattle.page_memory.specs.Memory.{Memory};
 ghost use Rattle.rv_exec.specs.Registers.{register};
-ghost use Rattle.rv_exec.specs.Arithmetic.{even, immediate_operation, is_taken, result_of, shift_operation, word_of, word_sum};
+ghost use Rattle.rv_exec.specs.Arithmetic.{even, immediate_operation, is_taken, result_of, shift_operation, word_of_signed, word_sum};
 ghost use Rattle.rv_exec.specs.Line.{address_at, branched, computed, insn_line, jumped, line};
 ghost use Rattle.rv_exec.specs.Uses.{pages_used, data_pages};
 ghost use Rattle.rv_exec.specs.Outcomes.{Follows, UnlessDone, UsesPages, IsPresent};
@@ -163,7 +163,7 @@ fn perform_branch(
     offset: BranchOffset,
 ) -> Outcome
     ensures line { let taken = is_taken kind (register regs.old rs1) (register regs.old rs2) in
-        (memory : Memory) → Follows (branched regs.old memory (word_sum regs.old.pc (word_of offset)) taken) result regs.new memory }
+        (memory : Memory) → Follows (branched regs.old memory (word_sum regs.old.pc (word_of_signed offset)) taken) result regs.new memory }
     ensures registers_stay { UnlessDone result (regs.new ≡ regs.old) }
     ensures present { IsPresent result }
 {
@@ -175,7 +175,7 @@ fn perform_branch(
 /// Jumps by an offset, and keeps the address of the next instruction in rd.
 #[inline(always)]
 fn perform_jal(regs: &mut Regs, rd: Reg, offset: JumpOffset) -> Outcome
-    ensures line { let target = word_sum regs.old.pc (word_of offset) in
+    ensures line { let target = word_sum regs.old.pc (word_of_signed offset) in
         (memory : Memory) → Follows (jumped regs.old memory rd target) result regs.new memory }
     ensures registers_stay { UnlessDone result (regs.new ≡ regs.old) }
     ensures present { IsPresent result }
@@ -204,7 +204,7 @@ fn perform_immediate(
     immediate: Immediate,
 ) -> Outcome
     ensures done { result ≡ Outcome.Done }
-    ensures written { regs.new ≡ computed regs.old rd (result_of (immediate_operation kind) (register regs.old rs1) (word_of immediate)) }
+    ensures written { regs.new ≡ computed regs.old rd (result_of (immediate_operation kind) (register regs.old rs1) (word_of_signed immediate)) }
 {
     let value = operate_immediate(kind, regs.read(rs1), immediate.word());
     compute(regs, rd, value)

@@ -25,11 +25,11 @@ bit_name One = codes "one"
 bit_name Gone = codes "gone"
 
 -- the words with which a call is written
-abbrev pub IsWritten : ClockCall → List (List ℕ) → Type 0
-IsWritten (Admit key) words = (text : List ℕ) × (words ≡ codes "admit" ∷ text ∷ []) × IsKey text × (key ≡ key_value text)
-IsWritten Ask words = words ≡ codes "ask" ∷ []
-IsWritten (Answer bit) words = words ≡ bit_name bit ∷ []
-IsWritten (Restore key) words = (text : List ℕ) × (words ≡ codes "restore" ∷ text ∷ []) × IsKey text × (key ≡ key_value text)
-IsWritten (Withdraw key) words = (text : List ℕ) × (words ≡ codes "withdraw" ∷ text ∷ []) × IsKey text × (key ≡ key_value text)
-IsWritten (Purge process) words = (text : List ℕ) × (words ≡ codes "purge" ∷ text ∷ []) × IsNumber 65535 text × (process ≡ number_value text)
-IsWritten Show words = words ≡ codes "list" ∷ []
+abbrev pub WritesCall : ClockCall → List (List ℕ) → Type 0
+WritesCall (Admit key) words = (text : List ℕ) × (words ≡ codes "admit" ∷ text ∷ []) × IsKey text × (key ≡ key_value text)
+WritesCall Ask words = words ≡ codes "ask" ∷ []
+WritesCall (Answer bit) words = words ≡ bit_name bit ∷ []
+WritesCall (Restore key) words = (text : List ℕ) × (words ≡ codes "restore" ∷ text ∷ []) × IsKey text × (key ≡ key_value text)
+WritesCall (Withdraw key) words = (text : List ℕ) × (words ≡ codes "withdraw" ∷ text ∷ []) × IsKey text × (key ≡ key_value text)
+WritesCall (Purge process) words = (text : List ℕ) × (words ≡ codes "purge" ∷ text ∷ []) × IsNumber 65535 text × (process ≡ number_value text)
+WritesCall Show words = words ≡ codes "list" ∷ []

@@ -19,29 +19,29 @@ AreNameAndNumbers name one two words = (first : List ℕ) × ((second : List ℕ
     (words ≡ name ∷ first ∷ second ∷ []) × Writes first one × Writes second two)
 
 -- the words with which an event is written
-abbrev pub IsWritten : Event → List (List ℕ) → Type 0
-IsWritten (Step process hart) words = AreNameAndNumbers (codes "step") process hart words
-IsWritten (Notice process hart) words = AreNameAndNumbers (codes "notice") process hart words
-IsWritten Sweep words = words ≡ codes "sweep" ∷ []
-IsWritten (Collect key) words = AreNameAndNumbers (codes "collect") key.process key.vpn words
-IsWritten (Saved key) words = AreNameAndNumbers (codes "saved") key.process key.vpn words
-IsWritten (PageIn key) words = AreNameAndNumbers (codes "pagein") key.process key.vpn words
-IsWritten (Kill process cause) words = AreNameAndNumbers (codes "kill") process (kill_number cause) words
-IsWritten (Purge process) words = AreNameAndNumber (codes "purge") process words
+abbrev pub WritesEvent : Event → List (List ℕ) → Type 0
+WritesEvent (Step process hart) words = AreNameAndNumbers (codes "step") process hart words
+WritesEvent (Notice process hart) words = AreNameAndNumbers (codes "notice") process hart words
+WritesEvent Sweep words = words ≡ codes "sweep" ∷ []
+WritesEvent (Collect key) words = AreNameAndNumbers (codes "collect") key.process key.vpn words
+WritesEvent (Saved key) words = AreNameAndNumbers (codes "saved") key.process key.vpn words
+WritesEvent (PageIn key) words = AreNameAndNumbers (codes "pagein") key.process key.vpn words
+WritesEvent (Kill process cause) words = AreNameAndNumbers (codes "kill") process (kill_number cause) words
+WritesEvent (Purge process) words = AreNameAndNumber (codes "purge") process words
 
 -- a line is skipped, or writes one event
-abbrev pub Says : List ℕ → List Event → Type 0
-Says line events = (IsSkipped line × (events ≡ []))
-    ⊎ ((event : Event) × IsWritten event (words_of line) × (events ≡ event ∷ []))
+abbrev pub SaysEvents : List ℕ → List Event → Type 0
+SaysEvents line events = (IsSkipped line × (events ≡ []))
+    ⊎ ((event : Event) × WritesEvent event (words_of line) × (events ≡ event ∷ []))
 
 -- each line is skipped or writes an event; these are the events
 abbrev pub SayAll : List (List ℕ) → List Event → Type 0
 SayAll [] events = events ≡ []
 SayAll (line ∷ lines) events = (first : List Event) × ((others : List Event) ×
-    Says line first × SayAll lines others × (events ≡ first ++ others))
+    SaysEvents line first × SayAll lines others × (events ≡ first ++ others))
 
 abbrev pub IsBad : List ℕ → Type 0
-IsBad line = (events : List Event) → ¬ Says line events
+IsBad line = (events : List Event) → ¬ SaysEvents line events
 
 -- the lines say these events: all of them, or those above the first bad one, whose number is told, counted from 1
 abbrev pub IsScript : List (List ℕ) → List Event → Option ℕ → Type 0

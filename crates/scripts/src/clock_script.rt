@@ -3,7 +3,7 @@
 ghost use Rattle.std.specs.Prelude.{◌≡◌, ◌↔◌, ◌∷◌, [], IfOk, IfSome, IsErr, None, Ok, Err, position};
 ghost use Rattle.std.specs.Option.{SomeIff};
 ghost use Rattle.text_lines.specs.Text.{words_of};
-ghost use Rattle.scripts.specs.ClockScript.{IsWritten, IsKey, key_value, is_slash};
+ghost use Rattle.scripts.specs.ClockScript.{WritesCall, IsKey, key_value, is_slash};
 ghost use Rattle.scripts.specs.Lines.{IsSkipped};
 ghost use Rattle.scripts.specs.declared.clock_script.ClockCall.{ClockCall};
 
@@ -33,8 +33,8 @@ pub enum ClockCall {
 /// The call that a line of a clock script stands for, if it is not skipped.
 pub fn call_on_line(line: &[u8]) -> Result<Option<ClockCall>, BadLine>
     ensures skipped { result ≡ Ok None ↔ IsSkipped line.now }
-    ensures call { IfOk result (λ found. IfSome found (λ call. IsWritten call (words_of line.now))) }
-    ensures bad { IsErr result → (call : ClockCall) → ¬ IsWritten call (words_of line.now) }
+    ensures call { IfOk result (λ found. IfSome found (λ call. WritesCall call (words_of line.now))) }
+    ensures bad { IsErr result → (call : ClockCall) → ¬ WritesCall call (words_of line.now) }
 {
     if is_skipped(line) {
         return Ok(None);
@@ -59,8 +59,8 @@ pub fn call_on_line(line: &[u8]) -> Result<Option<ClockCall>, BadLine>
 
 /// A call that is one word.
 fn call_without(name: &[u8]) -> Option<ClockCall>
-    ensures found { IfSome result (λ call. IsWritten call (name.now ∷ [])) }
-    ensures none { result ≡ None → (call : ClockCall) → ¬ IsWritten call (name.now ∷ []) }
+    ensures found { IfSome result (λ call. WritesCall call (name.now ∷ [])) }
+    ensures none { result ≡ None → (call : ClockCall) → ¬ WritesCall call (name.now ∷ []) }
 {
     if name == b"ask".as_slice() {
         Some(ClockCall::Ask)
@@ -79,8 +79,8 @@ fn call_without(name: &[u8]) -> Option<ClockCall>
 
 /// A call that is a word and what it is about.
 fn call_with(name: &[u8], argument: &[u8]) -> Option<ClockCall>
-    ensures found { IfSome result (λ call. IsWritten call (name.now ∷ argument.now ∷ [])) }
-    ensures none { result ≡ None → (call : ClockCall) → ¬ IsWritten call (name.now ∷ argument.now ∷ []) }
+    ensures found { IfSome result (λ call. WritesCall call (name.now ∷ argument.now ∷ [])) }
+    ensures none { result ≡ None → (call : ClockCall) → ¬ WritesCall call (name.now ∷ argument.now ∷ []) }
 {
     if name == b"admit".as_slice() {
         Some(ClockCall::Admit(key(argument)?))

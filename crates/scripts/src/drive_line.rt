@@ -5,7 +5,7 @@ ghost use Rattle.std.specs.Option.{SomeIff};
 ghost use Rattle.text_lines.specs.Numbers.{IsNumber, number_value};
 ghost use Rattle.text_lines.specs.Text.{words_of};
 ghost use Rattle.machine_core.specs.declared.event.Event.{Event};
-ghost use Rattle.scripts.specs.DriveScript.{IsWritten};
+ghost use Rattle.scripts.specs.DriveScript.{WritesEvent};
 ghost use Rattle.scripts.specs.Lines.{IsSkipped};
 
 use crate::lines::{BadLine, is_skipped};
@@ -17,8 +17,8 @@ use text_lines::{next_word, number};
 /// The event that a line of a drive script writes, if it is not skipped.
 pub fn event_on_line(line: &[u8]) -> Result<Option<Event>, BadLine>
     ensures skipped { result ≡ Ok None ↔ IsSkipped line.now }
-    ensures event { IfOk result (λ found. IfSome found (λ event. IsWritten event (words_of line.now))) }
-    ensures bad { IsErr result → (event : Event) → ¬ IsWritten event (words_of line.now) }
+    ensures event { IfOk result (λ found. IfSome found (λ event. WritesEvent event (words_of line.now))) }
+    ensures bad { IsErr result → (event : Event) → ¬ WritesEvent event (words_of line.now) }
 {
     if is_skipped(line) {
         return Ok(None);
@@ -34,8 +34,8 @@ pub fn event_on_line(line: &[u8]) -> Result<Option<Event>, BadLine>
 
 /// The event of a name and the words behind it.
 fn event_with(name: &[u8], rest: &[u8]) -> Option<Event>
-    ensures found { IfSome result (λ event. IsWritten event (name.now ∷ words_of rest.now)) }
-    ensures none { result ≡ None → (event : Event) → ¬ IsWritten event (name.now ∷ words_of rest.now) }
+    ensures found { IfSome result (λ event. WritesEvent event (name.now ∷ words_of rest.now)) }
+    ensures none { result ≡ None → (event : Event) → ¬ WritesEvent event (name.now ∷ words_of rest.now) }
 {
     let Some((first, rest)) = next_word(rest) else {
         return event_alone(name);
@@ -51,8 +51,8 @@ fn event_with(name: &[u8], rest: &[u8]) -> Option<Event>
 
 /// An event that is one word.
 fn event_alone(name: &[u8]) -> Option<Event>
-    ensures found { IfSome result (λ event. IsWritten event (name.now ∷ [])) }
-    ensures none { result ≡ None → (event : Event) → ¬ IsWritten event (name.now ∷ []) }
+    ensures found { IfSome result (λ event. WritesEvent event (name.now ∷ [])) }
+    ensures none { result ≡ None → (event : Event) → ¬ WritesEvent event (name.now ∷ []) }
 {
     if name == b"sweep".as_slice() {
         Some(Event::Sweep)
@@ -63,8 +63,8 @@ fn event_alone(name: &[u8]) -> Option<Event>
 
 /// An event that is a word and a number.
 fn event_of_one(name: &[u8], first: &[u8]) -> Option<Event>
-    ensures found { IfSome result (λ event. IsWritten event (name.now ∷ first.now ∷ [])) }
-    ensures none { result ≡ None → (event : Event) → ¬ IsWritten event (name.now ∷ first.now ∷ []) }
+    ensures found { IfSome result (λ event. WritesEvent event (name.now ∷ first.now ∷ [])) }
+    ensures none { result ≡ None → (event : Event) → ¬ WritesEvent event (name.now ∷ first.now ∷ []) }
 {
     if name == b"purge".as_slice() {
         Some(Event::Purge {
@@ -77,8 +77,8 @@ fn event_of_one(name: &[u8], first: &[u8]) -> Option<Event>
 
 /// An event that is a word and two numbers.
 fn event_of_two(name: &[u8], first: &[u8], second: &[u8]) -> Option<Event>
-    ensures found { IfSome result (λ event. IsWritten event (name.now ∷ first.now ∷ second.now ∷ [])) }
-    ensures none { result ≡ None → (event : Event) → ¬ IsWritten event (name.now ∷ first.now ∷ second.now ∷ []) }
+    ensures found { IfSome result (λ event. WritesEvent event (name.now ∷ first.now ∷ second.now ∷ [])) }
+    ensures none { result ≡ None → (event : Event) → ¬ WritesEvent event (name.now ∷ first.now ∷ second.now ∷ []) }
 {
     let process = word_number(first)?;
     let second = word_number(second)?;

@@ -6,8 +6,8 @@ use Rattle.clock_policy.specs.declared.key.Key.{Key}
 use Rattle.clock_policy.specs.declared.entry.Entry.{Entry}
 use Rattle.clock_policy.specs.declared.entry.EntryKind.{EntryKind}
 use Rattle.clock_policy.specs.ClockPro.{number}
-use Rattle.clock_policy.specs.Residents.{in_frame, is_resident}
-use Rattle.page_store.specs.PageValue.{PageValue, Place, Fresh, Resident, Leaving, Saving, Away, Purged, frame_of, state_of}
+use Rattle.clock_policy.specs.Residents.{in_frame, is_resident_that}
+use Rattle.page_store.specs.PageValue.{PageValue, Place, Fresh, Resident, Leaving, Saving, Away, Purged, frame_of, page_state_of}
 use Rattle.paged_memory.specs.Counting.{page_passes, pages_below, pages_where, is_resident_place, frame_passes}
 use Rattle.paged_memory.specs.Paged.{page_at}
 use Rattle.space_core.specs.StandsFor.{SpaceValue}
@@ -45,7 +45,7 @@ number_more p [] i e h = cc
 number_more p (z ∷ zs) zero e h = let same : z ≡ e = cc in let w : ◌≡◌ {A = ℕ} (cond (p z) 1 0) (cond (p e) 1 0) = ap (λ (x : Entry). cond (p x) 1 0) same in omega (arith, w)
 number_more p (z ∷ zs) (suc i) e h = omega (arith, number_more p zs i e h)
 
-same_test : (r : Key → Bool) (e : Entry) (key : Key) (kind : EntryKind) → e.key ≡ key → e.kind ≡ kind → ◌≡◌ {A = ℕ} (cond (is_resident r e) 1 0) (cond (in_frame kind && r key) 1 0)
+same_test : (r : Key → Bool) (e : Entry) (key : Key) (kind : EntryKind) → e.key ≡ key → e.kind ≡ kind → ◌≡◌ {A = ℕ} (cond (is_resident_that r e) 1 0) (cond (in_frame kind && r key) 1 0)
 same_test r e key kind key_is kind_is =
     let first : ◌≡◌ {A = ℕ} (cond (in_frame e.kind && r e.key) 1 0) (cond (in_frame e.kind && r key) 1 0) = ap (λ (k : Key). cond (in_frame e.kind && r k) 1 0) key_is in
     let second : ◌≡◌ {A = ℕ} (cond (in_frame e.kind && r key) 1 0) (cond (in_frame kind && r key) 1 0) = ap (λ (k : EntryKind). cond (in_frame k && r key) 1 0) kind_is in
@@ -56,18 +56,18 @@ shown e = (e.key, e.kind)
 
 -- the same of an entry that is read by its key and kind
 pub entry_more : (r : Key → Bool) (es : List Entry) (i : ℕ) (key : Key) (kind : EntryKind) → option_map shown (slice_get es i) ≡ Some (key, kind)
-    → number (is_resident r) (take (i + 1) es) ≡ number (is_resident r) (take i es) + cond (in_frame kind && r key) 1 0
+    → number (is_resident_that r) (take (i + 1) es) ≡ number (is_resident_that r) (take i es) + cond (in_frame kind && r key) 1 0
 entry_more r es i key kind h = by_entry (slice_get es i) refl h
   where
     by_entry : (o : Option Entry) → slice_get es i ≡ o → option_map shown o ≡ Some (key, kind)
-        → number (is_resident r) (take (i + 1) es) ≡ number (is_resident r) (take i es) + cond (in_frame kind && r key) 1 0
+        → number (is_resident_that r) (take (i + 1) es) ≡ number (is_resident_that r) (take i es) + cond (in_frame kind && r key) 1 0
     by_entry None at told = cc
     by_entry (Some e) at told =
         let pair : shown e ≡ (key, kind) = cc in
         let key_is : e.key ≡ key = ap (λ (p : Key × EntryKind). p.0) pair in
         let kind_is : e.kind ≡ kind = ap (λ (p : Key × EntryKind). p.1) pair in
         let test = same_test r e key kind key_is kind_is in
-        let more = number_more (is_resident r) es i e at in
+        let more = number_more (is_resident_that r) es i e at in
         rw add-one (omega (arith, more, test))
 
 -- and where there is no further entry
@@ -85,11 +85,11 @@ module _ {S : Type 0} where
   page_more test pages n = rw add-one (omega arith)
 
   -- what a page's state tells of it
-  resident_state : (o : Option (PageValue S)) → is_resident_stage (option_map (λ (page : PageValue S). state_of page.place) o) ≡ page_passes (λ (page : PageValue S). is_resident_place page.place && true) o
+  resident_state : (o : Option (PageValue S)) → is_resident_stage (option_map (λ (page : PageValue S). page_state_of page.place) o) ≡ page_passes (λ (page : PageValue S). is_resident_place page.place && true) o
   resident_state None = refl
   resident_state (Some page) = by_place page.place
     where
-      by_place : (place : Place S) → is_resident_stage (Some (state_of place)) ≡ is_resident_place place && true
+      by_place : (place : Place S) → is_resident_stage (Some (page_state_of place)) ≡ is_resident_place place && true
       by_place Fresh = refl
       by_place (Resident frame slot) = refl
       by_place (Leaving frame slot mark) = refl
@@ -97,11 +97,11 @@ module _ {S : Type 0} where
       by_place (Away slot) = refl
       by_place Purged = refl
 
-  framed_state : (o : Option (PageValue S)) → has_frame_stage (option_map (λ (page : PageValue S). state_of page.place) o) ≡ page_passes (λ (page : PageValue S). frame_passes (λ _. true) (frame_of page.place)) o
+  framed_state : (o : Option (PageValue S)) → has_frame_stage (option_map (λ (page : PageValue S). page_state_of page.place) o) ≡ page_passes (λ (page : PageValue S). frame_passes (λ _. true) (frame_of page.place)) o
   framed_state None = refl
   framed_state (Some page) = by_place page.place
     where
-      by_place : (place : Place S) → has_frame_stage (Some (state_of place)) ≡ frame_passes (λ _. true) (frame_of place)
+      by_place : (place : Place S) → has_frame_stage (Some (page_state_of place)) ≡ frame_passes (λ _. true) (frame_of place)
       by_place Fresh = refl
       by_place (Resident frame slot) = refl
       by_place (Leaving frame slot mark) = refl
@@ -109,7 +109,7 @@ module _ {S : Type 0} where
       by_place (Away slot) = refl
       by_place Purged = refl
 
-  stage_below : (space : SpaceValue S) (n : ℕ) → n < 2 ^ 20 → stage_at space n ≡ option_map (λ (page : PageValue S). state_of page.place) (page_at space.memory.pages n)
+  stage_below : (space : SpaceValue S) (n : ℕ) → n < 2 ^ 20 → stage_at space n ≡ option_map (λ (page : PageValue S). page_state_of page.place) (page_at space.memory.pages n)
   stage_below space n small = let below : nat_lt n (2 ^ 20) ≡ true = grind (arith, nat_tests) in rw below
 
   abbrev pub residents_to : SpaceValue S → ℕ → ℕ

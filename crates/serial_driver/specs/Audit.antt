@@ -22,8 +22,8 @@ has_frame_stage (Some stage.Purged) = false
 
 module _ {S : Type 0} where
   -- whether the page of a key is resident
-  abbrev pub has_resident : CoreValue S → Key → Bool
-  has_resident core key = is_resident_stage (option_and_then (λ (process : ProcessSideValue S). stage_at process.space key.vpn) (slice_get core.processes key.process))
+  abbrev pub holds_resident : CoreValue S → Key → Bool
+  holds_resident core key = is_resident_stage (option_and_then (λ (process : ProcessSideValue S). stage_at process.space key.vpn) (slice_get core.processes key.process))
 
   -- how many pages are resident, and how many hold a frame
   abbrev pub resident_pages : CoreValue S → ℕ
@@ -33,7 +33,7 @@ module _ {S : Type 0} where
   framed_pages core = total (λ (process : ProcessSideValue S). frames_in process.space (λ _. true)) core.processes
 
   -- so many pages of the process of a number are resident, and so many hold a frame
-  pub record IsHeld (core : CoreValue S) (number resident framed : ℕ) : Type 0 where
+  pub record HoldsPages (core : CoreValue S) (number resident framed : ℕ) : Type 0 where
     pub process : ProcessSideValue S
     pub found : slice_get core.processes number ≡ Some process
     pub residents : resident ≡ residents_in process.space (λ _. true)
@@ -41,7 +41,7 @@ module _ {S : Type 0} where
 
   -- each resident entry of the list is of a resident page, there are as many of these, and the frames that are free or in pages
   -- are as many as the machine was made with
-  pub record IsSound (core : CoreValue S) : Type 0 where
-    pub listed : residents core.pager.pager.list (has_resident core) ≡ residents core.pager.pager.list (λ _. true)
+  pub record IsSoundMachine (core : CoreValue S) : Type 0 where
+    pub listed : residents core.pager.pager.list (holds_resident core) ≡ residents core.pager.pager.list (λ _. true)
     pub counted : residents core.pager.pager.list (λ _. true) ≡ resident_pages core
     pub framed : length core.pager.pager.free + framed_pages core ≡ core.pager.pager.size

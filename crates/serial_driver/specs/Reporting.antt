@@ -6,7 +6,7 @@ use Rattle.machine_core.specs.declared.report.ProcessReport.{ProcessReport}
 use Rattle.machine_core.specs.declared.report.Report.{Report}
 use Rattle.machine_core.specs.Machine.{CoreValue}
 use Rattle.machine_sides.specs.Sides.{ProcessSideValue}
-use Rattle.serial_driver.specs.Audit.{IsSound}
+use Rattle.serial_driver.specs.Audit.{IsSoundMachine}
 
 -- a process's output and ending, and how many instructions ran
 pub record Told : Type 0 where
@@ -35,4 +35,4 @@ module _ {S : Type 0} where
     pub saves : report.saves ≡ core.pager.saves
     pub drops : report.drops ≡ core.pager.drops
     pub questions : report.questions ≡ core.pager.pager.tallies.questions
-    pub audit : IsTrue report.audit ↔ IsSound core
+    pub audit : IsTrue report.audit ↔ IsSoundMachine core

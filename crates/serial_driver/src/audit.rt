@@ -3,7 +3,7 @@
 ghost use Rattle.std.specs.Prelude.{◌≡◌, ◌↔◌, ◌<◌, ◌≤◌, ◌^◌, ◌&&◌, true, IsTrue, length, Some, slice_get, cond};
 ghost use Rattle.clock_policy.specs.Residents.{residents, in_frame};
 ghost use Rattle.machine_sides.specs.Admitting.{is_resident_stage};
-ghost use Rattle.serial_driver.specs.Audit.{has_resident, has_frame_stage, resident_pages, framed_pages, IsHeld, IsSound};
+ghost use Rattle.serial_driver.specs.Audit.{holds_resident, has_frame_stage, resident_pages, framed_pages, HoldsPages, IsSoundMachine};
 
 use clock_policy::{Clock, EntryKind, Key};
 use machine_core::Core;
@@ -24,7 +24,7 @@ struct Held {
 /// Whether the list's resident entries are exactly the resident pages, and the frames that are free or in pages are as many
 /// as the machine was made with.
 pub(crate) fn audit<L: Ledger, S: SwapSlot, C: Clock>(core: &Core<L, S, C>) -> bool
-    ensures { IsTrue result ↔ IsSound core.now }
+    ensures { IsTrue result ↔ IsSoundMachine core.now }
 {
     let listed = resident_entries(core);
     if entries_of_resident_pages(core) != listed {
@@ -59,7 +59,7 @@ fn resident_entries<L: Ledger, S: SwapSlot, C: Clock>(core: &Core<L, S, C>) -> u
 
 /// How many of them are of resident pages.
 fn entries_of_resident_pages<L: Ledger, S: SwapSlot, C: Clock>(core: &Core<L, S, C>) -> usize
-    ensures { result ≡ residents core.now.pager.pager.list (has_resident core.now) }
+    ensures { result ≡ residents core.now.pager.pager.list (holds_resident core.now) }
 {
     core.faithful();
     let mut count = 0;
@@ -78,7 +78,7 @@ fn is_of_resident_page<L: Ledger, S: SwapSlot, C: Clock>(
     key: Key,
     kind: EntryKind,
 ) -> bool
-    ensures { result ≡ in_frame kind && has_resident core.now key }
+    ensures { result ≡ in_frame kind && holds_resident core.now key }
 {
     if !is_in_frame(kind) {
         return false;
@@ -106,7 +106,7 @@ fn held_pages<L: Ledger, S: SwapSlot, C: Clock>(core: &Core<L, S, C>) -> Held
 /// Counts the pages of one process that stand in frames.
 fn held_pages_of<L: Ledger, S: SwapSlot, C: Clock>(core: &Core<L, S, C>, process: u32) -> Held
     requires { process < length core.now.processes }
-    ensures held { IsHeld core.now process result.resident result.framed }
+    ensures held { HoldsPages core.now process result.resident result.framed }
     ensures few_resident { result.resident ≤ 2 ^ 20 }
     ensures few_framed { result.framed ≤ 2 ^ 20 }
 {

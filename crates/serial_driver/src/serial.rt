@@ -1,5 +1,5 @@
 ghost use Rattle.std.specs.Prelude.{ℕ, IfOk};
-ghost use Rattle.machine_core.specs.Applying.{Reaches};
+ghost use Rattle.machine_core.specs.Applying.{LeadsTo};
 ghost use Rattle.serial_driver.specs.Endings.{HasEnded};
 ghost use Rattle.serial_driver.specs.Reporting.{Reports};
 
@@ -29,7 +29,7 @@ pub fn run_serial<L: Ledger, S: SwapSlot, C: Clock>(
     slice: u32,
     limit: u64,
 ) -> Result<Report, AllocError>
-    ensures reached { Reaches S.content S.honest S.failures core.old core.new }
+    ensures reached { LeadsTo S.content S.honest S.failures core.old core.new }
     ensures ended { IfOk result (λ _. (number : ℕ) → HasEnded core.new number) }
     ensures report { IfOk result (λ report. Reports core.new report) }
 {
@@ -41,7 +41,7 @@ pub fn run_serial<L: Ledger, S: SwapSlot, C: Clock>(
 /// Plays a machine to its end.
 #[tactic(auto, using(crate::proofs::Reached::reaches_last))]
 fn play<L: Ledger, S: SwapSlot, C: Clock>(core: &mut Core<L, S, C>, slice: u32, limit: u64)
-    ensures reached { Reaches S.content S.honest S.failures core.old core.new }
+    ensures reached { LeadsTo S.content S.honest S.failures core.old core.new }
     ensures ended { (number : ℕ) → HasEnded core.new number }
 {
     let mut turns = Turns::new(core.size(), slice);
@@ -57,7 +57,7 @@ fn play_events<L: Ledger, S: SwapSlot, C: Clock>(
     turns: &mut Turns,
     limit: u64,
 )
-    ensures { Reaches S.content S.honest S.failures core.old core.new }
+    ensures { LeadsTo S.content S.honest S.failures core.old core.new }
 {
     let mut left = limit;
     'turns: for _ in 0..limit {
@@ -77,7 +77,7 @@ fn act<L: Ledger, S: SwapSlot, C: Clock>(
     turns: &mut Turns,
     next: Next,
 ) -> u64
-    ensures { Reaches S.content S.honest S.failures core.old core.new }
+    ensures { LeadsTo S.content S.honest S.failures core.old core.new }
 {
     match next {
         Next::Event(event) => apply(core, turns, event),
@@ -95,7 +95,7 @@ fn apply<L: Ledger, S: SwapSlot, C: Clock>(
     turns: &mut Turns,
     event: Event,
 ) -> u64
-    ensures { Reaches S.content S.honest S.failures core.old core.new }
+    ensures { LeadsTo S.content S.honest S.failures core.old core.new }
 {
     let reply = core.apply(event);
     turns.heed(event, reply);
@@ -110,7 +110,7 @@ fn run<L: Ledger, S: SwapSlot, C: Clock>(
     hart: u32,
     most: u32,
 ) -> u64
-    ensures { Reaches S.content S.honest S.failures core.old core.new }
+    ensures { LeadsTo S.content S.honest S.failures core.old core.new }
 {
     let done = core.steps(process, hart, most);
     turns.heed_steps(done);
@@ -120,7 +120,7 @@ fn run<L: Ledger, S: SwapSlot, C: Clock>(
 /// Does the save that is out, if there is one.
 #[tactic(auto, using(machine_core::specs::ApplyingLaws::reaches_same))]
 fn save<L: Ledger, S: SwapSlot, C: Clock>(core: &mut Core<L, S, C>, unsaved: Option<Key>)
-    ensures { Reaches S.content S.honest S.failures core.old core.new }
+    ensures { LeadsTo S.content S.honest S.failures core.old core.new }
 {
     let Some(page) = unsaved else {
         return;
@@ -131,7 +131,7 @@ fn save<L: Ledger, S: SwapSlot, C: Clock>(core: &mut Core<L, S, C>, unsaved: Opt
 /// Ends each process that goes on, and takes back what the processes have.
 #[tactic(auto, using(machine_core::specs::ApplyingLaws::reaches_same))]
 fn end_all<L: Ledger, S: SwapSlot, C: Clock>(core: &mut Core<L, S, C>)
-    ensures reached { Reaches S.content S.honest S.failures core.old core.new }
+    ensures reached { LeadsTo S.content S.honest S.failures core.old core.new }
     ensures ended { (number : ℕ) → HasEnded core.new number }
 {
     'processes: for process in 0..core.processes() as u32 {
@@ -143,7 +143,7 @@ fn end_all<L: Ledger, S: SwapSlot, C: Clock>(core: &mut Core<L, S, C>)
 /// Ends a process that goes on.
 #[tactic(auto, using(machine_core::specs::ApplyingLaws::reaches_same))]
 fn end<L: Ledger, S: SwapSlot, C: Clock>(core: &mut Core<L, S, C>, process: u32)
-    ensures reached { Reaches S.content S.honest S.failures core.old core.new }
+    ensures reached { LeadsTo S.content S.honest S.failures core.old core.new }
     ensures ended { HasEnded core.new process }
     ensures kept { (number : ℕ) → HasEnded core.old number → HasEnded core.new number }
 {

@@ -12,7 +12,7 @@ use Rattle.page_memory.specs.StandsForLaws.{place_of-each}
 use Rattle.page_store.specs.PageValue.{PageValue}
 use Rattle.elf_image.specs.declared.image.ImagePage.{ImagePage}
 use Rattle.elf_image.specs.Image.{ArePages}
-use Rattle.paged_memory.specs.Growth.{zero_page}
+use Rattle.paged_memory.specs.Growth.{fresh_zero_page}
 use Rattle.paged_memory.specs.Paged.{flat_page, memory_of}
 use Rattle.flat_machine.specs.Process.{image_entry, stack_entry, opening_pages}
 use Rattle.flat_machine.specs.PlainRunLaws.{next_is}
@@ -45,7 +45,7 @@ module _ (S : Type 0) where
       ∙ ap all_fresh (one_more_image pages i listed within)
 
   -- the pages of the stack
-  zeros_are : zero_page {S = S} ≡ fresh memory.zero_page
+  zeros_are : fresh_zero_page {S = S} ≡ fresh memory.zero_page
   unfolding zero_bytes
   zeros_are = refl
 
@@ -55,20 +55,20 @@ module _ (S : Type 0) where
       let count : (524224 + k) - 524224 ≡ k = omega arith in
       above (524224 + k) (so_far pages k) (subst (λ n. KeysBelow (524224 + k) (map image_entry pages ++ map stack_entry (range_with_len 524224 n))) count (stack_below pages (524224 + k) are (omega arith)))
 
-  stack_more : (pages : List ImagePage) (k : ℕ) → ArePages pages → added (524224 + k) zero_page (all_fresh {S = S} (so_far pages k)) ≡ all_fresh (so_far pages (k + 1))
+  stack_more : (pages : List ImagePage) (k : ℕ) → ArePages pages → added (524224 + k) fresh_zero_page (all_fresh {S = S} (so_far pages k)) ≡ all_fresh (so_far pages (k + 1))
   unfolding so_far
   stack_more pages k are =
-      added_behind (all_fresh (so_far pages k)) (524224 + k) zero_page (stack_absent pages k are)
+      added_behind (all_fresh (so_far pages k)) (524224 + k) fresh_zero_page (stack_absent pages k are)
       ∙ ap (λ (p : PageValue S). all_fresh (so_far pages k) ++ (524224 + k, p) ∷ []) zeros_are
       ∙ one_more (so_far pages k) (524224 + k) memory.zero_page
       ∙ ap all_fresh (one_more_stack pages k (524224 + k) refl)
 
-  stack_added : (pages : List ImagePage) (k : ℕ) → ArePages pages → with_added 524224 k zero_page (all_fresh {S = S} (map image_entry pages)) ≡ all_fresh (so_far pages k)
+  stack_added : (pages : List ImagePage) (k : ℕ) → ArePages pages → with_added 524224 k fresh_zero_page (all_fresh {S = S} (map image_entry pages)) ≡ all_fresh (so_far pages k)
   unfolding with_added so_far
   stack_added pages zero are = ap all_fresh (sym (append-nil (map image_entry pages)))
-  stack_added pages (suc k) are = ap (added (524224 + k) zero_page) (stack_added pages k are) ∙ stack_more pages k are ∙ ap (λ n. all_fresh (so_far pages n)) (sym (next_is k))
+  stack_added pages (suc k) are = ap (added (524224 + k) fresh_zero_page) (stack_added pages k are) ∙ stack_more pages k are ∙ ap (λ n. all_fresh (so_far pages n)) (sym (next_is k))
 
-  pub opening_added : (pages : List ImagePage) → ArePages pages → with_added 524224 64 zero_page (all_fresh {S = S} (map image_entry pages)) ≡ all_fresh (opening_pages pages)
+  pub opening_added : (pages : List ImagePage) → ArePages pages → with_added 524224 64 fresh_zero_page (all_fresh {S = S} (map image_entry pages)) ≡ all_fresh (opening_pages pages)
   unfolding so_far
   opening_added pages are = stack_added pages 64 are
 

@@ -3,7 +3,7 @@ use Rattle.std.proofs.Common.{◌≡◌, ◌++◌, ◌∷◌, ◌≤◌, [], ℕ
 use Rattle.std.proofs.lemmas.Option.{none-some}
 use Rattle.std.proofs.lemmas.List.{length-append, length-set}
 use Rattle.tlb_core.specs.declared.translation.Translation.{Translation}
-use Rattle.tlb_core.specs.Cache.{entry_of}
+use Rattle.tlb_core.specs.Cache.{translation_of}
 use Rattle.page_store.specs.PageValue.{PageValue, Place}
 use Rattle.page_store.specs.PageValue as place
 use Rattle.page_store.specs.Lending.{with_bytes, rewritten}
@@ -16,7 +16,7 @@ use Rattle.paged_memory.specs.Access.{cache_of, is_doomed}
 use Rattle.paged_memory.specs.HartMemory.{KeepsPages, KeepsAccess}
 use Rattle.space_core.specs.declared.progress.SliceStop.{SliceStop}
 use Rattle.space_core.specs.declared.progress.SliceStop.TheVariants.{Budget, Absent, Yield, HartDone, Ended, NoHart, ScheduleFull, NoMemory}
-use Rattle.space_core.specs.Slicing.{OthersStay, Settles, LeavesCaches}
+use Rattle.space_core.specs.Slicing.{OthersStay, SettlesCaches, LeavesCaches}
 use Rattle.space_core.specs.StandsFor.{is_purged, is_purged_place}
 
 -- ---- no hart that was started goes
@@ -72,11 +72,11 @@ module _ {S : Type 0} where
   settled_others : (hart : ℕ) (old between new : PagedValue S) → KeepsAccess hart old between → OthersStay hart between.caches new.caches × (cache_of new.caches hart ≡ []) → OthersStay hart old.caches new.caches × (cache_of new.caches hart ≡ [])
   settled_others hart old between new kept (others, own) = (λ h other. others h other ∙ kept.others h other, own)
 
-  pub settled : (stop : SliceStop) (hart : ℕ) (old between new : PagedValue S) → KeepsAccess hart old between → Settles stop hart between.caches new.caches → LeavesCaches stop hart old new
+  pub settled : (stop : SliceStop) (hart : ℕ) (old between new : PagedValue S) → KeepsAccess hart old between → SettlesCaches stop hart between.caches new.caches → LeavesCaches stop hart old new
   settled Budget hart old between new kept same = (
     λ h other. same h ∙ kept.others h other,
     record {
-      held = λ page is. kept.held page (subst (λ cache. is_some (entry_of page cache) ≡ true) (same hart) is);
+      held = λ page is. kept.held page (subst (λ cache. is_some (translation_of page cache) ≡ true) (same hart) is);
       doomed = λ page is. kept.doomed page (subst (λ cache. is_doomed page cache ≡ true) (same hart) is);
     },
   )

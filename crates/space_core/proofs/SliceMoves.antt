@@ -14,7 +14,7 @@ use Rattle.env_calls.specs.Step.{effect}
 use Rattle.flat_machine.specs.Process.{Process, hart_registers, is_live, may_step, stepped, after, flat_step, flat_run}
 use Rattle.flat_machine.specs.Refusals.{WantsMemory}
 use Rattle.flat_machine.specs.RunLaws.{flat_run_none, flat_run_append, one_more_step}
-use Rattle.flat_machine.specs.StepLaws.{both, goes_on, goes_on_alike, may, marked_within}
+use Rattle.flat_machine.specs.StepLaws.{both, has_no_ending, goes_on_alike, may_step_when_live, marked_within}
 use Rattle.space_core.specs.declared.progress.Progress.{Progress}
 use Rattle.space_core.specs.declared.progress.Progress.TheVariants as progress
 use Rattle.space_core.specs.declared.progress.SliceStop.{SliceStop}
@@ -68,12 +68,12 @@ passes_on hart at progress.Ended was goes = absurd (none-some _ (sym goes))
 
 by_effect : (hart : ℕ) (p q : Process) (r : Registers) (e : Effect) → may_step hart p ≡ true → MarksAfter hart p.environment.live e → after hart p r e ≡ q → stop_after (progress_of e) ≡ None → may_step hart q ≡ true
 by_effect hart p q r (Runs regs env memory) now marks is goes =
-    subst (λ x. may_step hart x ≡ true) is (goes_on_alike hart p (after hart p r (Runs regs env memory)) now (goes_on hart p now) marks)
+    subst (λ x. may_step hart x ≡ true) is (goes_on_alike hart p (after hart p r (Runs regs env memory)) now (has_no_ending hart p now) marks)
 by_effect hart p q r (Spawns first regs env memory) now marks is goes =
     let live = p.environment.live in
     let lives : slice_index_or live hart false ≡ true = (both _ (is_live hart p) now).1 in
     let more : slice_index_or env.live hart false ≡ true = ap (λ l. slice_index_or l hart false) marks.0 ∙ get_or_append_left live (true ∷ []) false hart (marked_within live hart lives) ∙ lives in
-    subst (λ x. may_step hart x ≡ true) is (may hart (after hart p r (Spawns first regs env memory)) (goes_on hart p now) more)
+    subst (λ x. may_step hart x ≡ true) is (may_step_when_live hart (after hart p r (Spawns first regs env memory)) (has_no_ending hart p now) more)
 by_effect hart p q r (Yields regs env memory) now marks is goes = absurd (none-some _ (sym goes))
 by_effect hart p q r (Finishes regs env memory) now marks is goes = absurd (none-some _ (sym goes))
 by_effect hart p q r (Exits status regs env memory) now marks is goes = absurd (none-some _ (sym goes))

@@ -3,7 +3,7 @@ ghost use Rattle.std.specs.Option.{option_or};
 ghost use Rattle.sv32_table.specs.Entry.{blank};
 ghost use Rattle.sv32_table.specs.EntryAt.{entry_at, ChangesEntry, unaccessed_entry, dirty_of};
 ghost use Rattle.tlb_core.specs.Cache.{doomed};
-ghost use Rattle.page_store.specs.PageValue.{state_of};
+ghost use Rattle.page_store.specs.PageValue.{page_state_of};
 ghost use Rattle.paged_memory.specs.Paged.{page_at, seen_at, memory_of};
 ghost use Rattle.space_core.specs.Caches.{noticed, if_killed};
 ghost use Rattle.paged_memory.specs.Calls.{accessed_at, ChangesBy, Leaves, RefusesLeave};
@@ -41,7 +41,7 @@ impl<L: Ledger, S: SwapSlot> Space<L, S> {
     /// Where a page is, or `None` where none is mapped.
     pub fn state(&self, vpn: u32) -> Option<PageState>
         requires { vpn < 2 ^ 20 }
-        ensures { result ≡ option_map (λ page. state_of page.place) (page_at self.now.memory.pages vpn) }
+        ensures { result ≡ option_map (λ page. page_state_of page.place) (page_at self.now.memory.pages vpn) }
     {
         self.memory.state(vpn)
     }

@@ -8,7 +8,7 @@ ghost use Rattle.paged_memory.specs.HartMemory.{KeepsAccess, MarksSince};
 ghost use Rattle.space_core.specs.RunningValue.{with_memory};
 ghost use Rattle.space_core.specs.Next.{next_pages};
 ghost use Rattle.space_core.specs.Slices.{EachStep, StopsRecorded};
-ghost use Rattle.space_core.specs.Slicing.{shown_process, Settles, KeepsSpace};
+ghost use Rattle.space_core.specs.Slicing.{shown_process, SettlesCaches, KeepsSpace};
 ghost use Rattle.space_core.specs.StandsFor.{StandsFor};
 
 use crate::progress::{Slice, SliceStop};
@@ -126,7 +126,7 @@ fn settle_caches<L: Ledger, S: SwapSlot>(
 )
     ensures memory { memory.new ≡ record memory.old { caches = memory.new.caches } }
     ensures harts { length memory.new.caches ≡ length memory.old.caches }
-    ensures caches { Settles stop hart memory.old.caches memory.new.caches }
+    ensures caches { SettlesCaches stop hart memory.old.caches memory.new.caches }
 {
     match stop {
         SliceStop::Budget => {}

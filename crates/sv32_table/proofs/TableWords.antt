@@ -4,7 +4,7 @@ use Rattle.std.proofs.lemmas.Bool.Decides.{nat_tests}
 use Rattle.std.specs.Ordering.{nat_cmp, eq_by_cmp}
 use Rattle.std.specs.Cmp.{unsigned_tied, nat_cmp_total}
 use Rattle.std.specs.FinMap.{get, insert, find, get-from_entries, get-insert, same_map, nat_cmp-IsAntisymmetric}
-use Rattle.sv32_table.specs.TranslationProcess.{row, rows, words_of}
+use Rattle.sv32_table.specs.TranslationProcess.{row, rows, physical_words}
 
 abbrev found : ℕ → List (ℕ × ℕ) → Option ℕ
 found q es = find nat_cmp q es
@@ -136,25 +136,25 @@ found-rows-set q at ppn (table ∷ tables) (suc k) i new within sized small is =
 
 -- the same of the memory
 pub get-words_of : (tables : List (List ℕ)) (q k i : ℕ) → k < length tables → Sized tables → i < 1024 → q ≡ (0x200000 + k) * 4096 + 4 * i
-    → get (words_of tables) q ≡ Some (get_or (get_or tables k []) i 0)
-unfolding words_of
+    → get (physical_words tables) q ≡ Some (get_or (get_or tables k []) i 0)
+unfolding physical_words
 get-words_of tables q k i within sized small is =
     get-from_entries nat_cmp_total (rows 0x200000 tables) q ∙ found-rows q 0x200000 tables k i within sized small is
 
-pub get_below-words_of : (tables : List (List ℕ)) (q : ℕ) → q < 0x200000 * 4096 → get (words_of tables) q ≡ None
-unfolding words_of
+pub get_below-words_of : (tables : List (List ℕ)) (q : ℕ) → q < 0x200000 * 4096 → get (physical_words tables) q ≡ None
+unfolding physical_words
 get_below-words_of tables q below = get-from_entries nat_cmp_total (rows 0x200000 tables) q ∙ found_below-rows q 0x200000 tables below
 
-pub get_past-words_of : (tables : List (List ℕ)) (q : ℕ) → Sized tables → (0x200000 + length tables) * 4096 ≤ q → get (words_of tables) q ≡ None
-unfolding words_of
+pub get_past-words_of : (tables : List (List ℕ)) (q : ℕ) → Sized tables → (0x200000 + length tables) * 4096 ≤ q → get (physical_words tables) q ≡ None
+unfolding physical_words
 get_past-words_of tables q sized past = get-from_entries nat_cmp_total (rows 0x200000 tables) q ∙ found_past-rows q 0x200000 tables sized past
 
 pub words_of-set : (tables : List (List ℕ)) (at k i new : ℕ) → k < length tables → Sized tables → i < 1024 → at ≡ (0x200000 + k) * 4096 + 4 * i
-    → words_of (set tables k (set (get_or tables k []) i new)) ≡ insert (words_of tables) at new
-unfolding words_of
+    → physical_words (set tables k (set (get_or tables k []) i new)) ≡ insert (physical_words tables) at new
+unfolding physical_words
 words_of-set tables at k i new within sized small is =
     same_map nat_cmp_total nat_cmp-IsAntisymmetric _ _ (λ q.
     get-from_entries nat_cmp_total (rows 0x200000 (set tables k (set (get_or tables k []) i new))) q
     ∙ found-rows-set q at 0x200000 tables k i new within sized small is
     ∙ ap (cond (same q at) (Some new)) (sym (get-from_entries nat_cmp_total (rows 0x200000 tables) q))
-    ∙ sym (get-insert nat_cmp_total (words_of tables) at new q))
+    ∙ sym (get-insert nat_cmp_total (physical_words tables) at new q))

@@ -10,19 +10,19 @@ use Rattle.sv32_table.specs.declared.fault.WalkFault.TheVariants.{PageFault}
 use Rattle.sv32_table.specs.declared.walk.Leaf.{Leaf as Translation}
 use Rattle.sv32_table.specs.Entry.{Entry, entry_of, word_of, shape_of, has_reserved, allows, is_aligned, touched}
 use Rattle.sv32_table.specs.Tables.{IsSized, Walked, word_in, with_word, table_of, last_step, next_step, root_step, walk_end, physical_of, permits, translated, walked_from, walked}
-use Rattle.sv32_table.specs.TranslationProcess.{Success, words_of, Follows, IsTranslation, translate, level_1, word_1, entry_1, leaf_1, level_0, word_0, entry_0, leaf_0, physical_0, physical_1, vpn_0, vpn_1}
+use Rattle.sv32_table.specs.TranslationProcess.{Success, physical_words, FollowsProcess, IsTranslation, translate, level_1, word_1, entry_1, leaf_1, level_0, word_0, entry_0, leaf_0, physical_0, physical_1, vpn_0, vpn_1}
 use Rattle.sv32_table.proofs.TableWords.{get-words_of, get_below-words_of, get_past-words_of, words_of-set}
 
 -- a walk's result and tables follow what the process comes to
 abbrev FollowsIn : List (List ℕ) → Result Success WalkFault → Walked → Type 0
-FollowsIn tables outcome walk = Follows outcome (words_of tables) walk.0 (words_of walk.1)
+FollowsIn tables outcome walk = FollowsProcess outcome (physical_words tables) walk.0 (physical_words walk.1)
 
 abbrev answer : Entry → ℕ → Result Translation WalkFault
 answer e physical = Ok (record { pte = record { 0 = word_of e }; physical = physical })
 
 -- a write of one word
 words_of-with_word : (tables : List (List ℕ)) (at k i new : ℕ) → IsSized tables → k < length tables → i < 1024 → at ≡ (0x200000 + k) * 4096 + 4 * i
-    → words_of (with_word tables k i new) ≡ insert (words_of tables) at new
+    → physical_words (with_word tables k i new) ≡ insert (physical_words tables) at new
 unfolding with_word
 words_of-with_word tables at k i new sized within small is = words_of-set tables at k i new within sized.sized small is
 
@@ -64,14 +64,14 @@ entry_0_follows tables address access at table index Leaf sized within small is 
 
 -- a word of a table is read
 get-word_in : (tables : List (List ℕ)) (q k i : ℕ) → IsSized tables → k < length tables → i < 1024 → q ≡ (0x200000 + k) * 4096 + 4 * i
-    → get (words_of tables) q ≡ Some (word_in tables k i)
+    → get (physical_words tables) q ≡ Some (word_in tables k i)
 unfolding word_in
 get-word_in tables q k i sized within small is = get-words_of tables q k i within sized.sized small is
 
 -- step 2 at level 0: a number below the tables', one past them, or a table's
 word_0_follows : (tables : List (List ℕ)) (address : ℕ) (access : Access) (at ppn index : ℕ) → IsSized tables → index < 1024 → at ≡ ppn * 4096 + index * 4
     → (low within : Bool) → nat_le 0x200000 ppn ≡ low → nat_lt (ppn - 0x200000) (length tables) ≡ within
-    → FollowsIn tables (word_0 address access at (get (words_of tables) at)) (walked_from tables address access (next_step tables index (cond (low && within) (Some (ppn - 0x200000)) None)))
+    → FollowsIn tables (word_0 address access at (get (physical_words tables) at)) (walked_from tables address access (next_step tables index (cond (low && within) (Some (ppn - 0x200000)) None)))
 unfolding word_0 next_step walked_from
 word_0_follows tables address access at ppn index sized small is false within low-is within-is =
     let below : ppn < 0x200000 = grind (arith, nat_tests) in
@@ -88,7 +88,7 @@ word_0_follows tables address access at ppn index sized small is true true low-i
 
 -- a pointer at level 1, over the test of its reserved bits
 pointer_follows : (tables : List (List ℕ)) (address : ℕ) (access : Access) (e : Entry) (reserved : Bool) → IsSized tables
-    → FollowsIn tables (cond reserved (Err PageFault) (level_0 (words_of tables) (e.ppn * 0x1000) address access))
+    → FollowsIn tables (cond reserved (Err PageFault) (level_0 (physical_words tables) (e.ppn * 0x1000) address access))
     (walked_from tables address access (cond reserved (Err PageFault) (next_step tables (address / 0x1000 % 1024) (table_of (length tables) e.ppn))))
 unfolding level_0 table_of walked_from
 pointer_follows tables address access e true sized = (refl, refl)
@@ -99,7 +99,7 @@ pointer_follows tables address access e false sized =
 entry_1_follows : (tables : List (List ℕ)) (address : ℕ) (access : Access) (at : ℕ) (shape : Shape) → IsSized tables → address < 2 ^ 32
     → at ≡ 0x200000 * 4096 + 4 * (address / 0x400000)
     → let e = entry_of (word_in tables 0 (address / 0x400000)) in
-    FollowsIn tables (entry_1 (words_of tables) address access at e shape) (walked_from tables address access (root_step tables address e shape))
+    FollowsIn tables (entry_1 (physical_words tables) address access at e shape) (walked_from tables address access (root_step tables address e shape))
 unfolding entry_1 root_step walked_from leaf_1 translated permits
 entry_1_follows tables address access at Invalid sized fits is = (refl, refl)
 entry_1_follows tables address access at Leaf sized fits is =

@@ -12,7 +12,7 @@ use Rattle.page_memory.specs.declared.rights.Rights.{Rights}
 use Rattle.sv32_table.specs.Entry.{Entry, entry_of, word_of, shape_of, blank, leaf_entry, page_entry}
 use Rattle.sv32_table.specs.Tables.{IsSized, word_in, table_for, zero_table, pointed_by, mapped, marked, found, walked}
 use Rattle.sv32_table.specs.EntryAt.{entry_in, entry_at, pointed, IsTree, walk_entry, walked_entry, unmapped_entry, unaccessed_entry, valid_word, accessed_of, dirty_of, ChangesEntry, has_table, SameTables, AddsTable}
-use Rattle.sv32_table.specs.EntryWords.{entry_of-word_of, software_small}
+use Rattle.sv32_table.specs.EntryWordLaws.{entry_of-word_of, software_small}
 use Rattle.sv32_table.specs.WriteLaws.{table_for-pointed, few_tables, pointers_below-none}
 use Rattle.sv32_table.specs.EntryChangeLaws.{AddsTable-mapped, SameTables-marked, IsTree-mapped, entry_at-mapped, IsTree-marked, entry_at-marked, found-entry_at, walk_by_entry}
 

@@ -11,7 +11,7 @@ use Rattle.sv32_table.specs.declared.fault.WalkFault.TheVariants.{PageFault}
 use Rattle.sv32_table.specs.Entry.{Entry, entry_of, word_of, shape_of, has_reserved, allows, touched, blank}
 use Rattle.sv32_table.specs.Tables.{Walked, word_in, with_word, table_of, pointed_by, table_for, with_table, mapped, mapped_from, found, found_from, word_if_valid, marked, marked_from, walked, walked_from, walk_end, root_step, next_step, last_step, translated, permits, physical_of}
 use Rattle.sv32_table.specs.EntryAt.{entry_in, entry_at, pointed, IsTree, walk_entry, walked_entry, valid_word, ChangesEntry, has_table, SameTables, AddsTable}
-use Rattle.sv32_table.specs.EntryWords.{entry_of-word_of, word_of-entry_of, software_small}
+use Rattle.sv32_table.specs.EntryWordLaws.{entry_of-word_of, word_of-entry_of, software_small}
 use Rattle.sv32_table.specs.WriteLaws.{table_for-pointed, entry_at-with_word, IsTree-with_word, few_tables, SameTables-with_word}
 use Rattle.sv32_table.specs.NewTableLaws.{AddsTable-with_table, IsTree-with_table, entry_at-with_table, pointed_within, pointed-with_table_same, length-with_table}
 

@@ -8,7 +8,7 @@ use Rattle.page_memory.specs.Rights.{has, may}
 use Rattle.sv32_table.specs.declared.fault.WalkFault.TheVariants.{PageFault}
 use Rattle.sv32_table.specs.Entry.{Entry, entry_of, word_of, shape_of, allows, touched, blank, leaf_entry, page_entry}
 use Rattle.sv32_table.specs.EntryAt.{is_leaf, walk_entry, walked_entry, unmapped_entry, unaccessed_entry, accessed_of, dirty_of, valid_word}
-use Rattle.sv32_table.specs.EntryWords.{entry_of-word_of}
+use Rattle.sv32_table.specs.EntryWordLaws.{entry_of-word_of}
 
 abbrev pub is_store : Access → Bool
 is_store Store = true

@@ -10,7 +10,7 @@ use Rattle.sv32_table.specs.declared.pte.Shape.TheVariants.{Invalid, Pointer, Le
 use Rattle.sv32_table.specs.Entry.{Entry, entry_of, word_of, shape_of, has_reserved, blank, pointer_entry}
 use Rattle.sv32_table.specs.Tables.{IsSized, word_in, with_word, table_of, pointed_by, table_for, zero_table, with_table}
 use Rattle.sv32_table.specs.EntryAt.{entry_in, entry_at, pointed, IsTree, has_table, AddsTable}
-use Rattle.sv32_table.specs.EntryWords.{entry_of-word_of}
+use Rattle.sv32_table.specs.EntryWordLaws.{entry_of-word_of}
 use Rattle.sv32_table.specs.WriteLaws.{pointers_below-more, length-with_word, word_in-with_word_same, word_in-with_word_index, word_in-with_word_table, IsSized-with_word, table_for-pointed}
 
 abbrev grown : List (List ℕ) → List (List ℕ)

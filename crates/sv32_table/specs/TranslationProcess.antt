@@ -83,10 +83,10 @@ unfoldable pub translate : Words → ℕ → ℕ → Access → Result Success W
 translate words root address access = level_1 words (root * 0x1000) address access
 
 -- a result and the words after it are what the process comes to
-abbrev pub Follows : Result Success WalkFault → Words → Result Translation WalkFault → Words → Type 0
-Follows (Ok success) old result new =
+abbrev pub FollowsProcess : Result Success WalkFault → Words → Result Translation WalkFault → Words → Type 0
+FollowsProcess (Ok success) old result new =
     (result ≡ Ok (record { pte = record { 0 = word_of success.entry }; physical = success.physical })) × (new ≡ insert old success.at (word_of success.entry))
-Follows (Err fault) old result new = (result ≡ Err fault) × (new ≡ old)
+FollowsProcess (Err fault) old result new = (result ≡ Err fault) × (new ≡ old)
 
 -- the words of a table that stands at an address
 abbrev pub row : ℕ → List ℕ → List (ℕ × ℕ)
@@ -99,9 +99,9 @@ rows ppn [] = []
 rows ppn (table ∷ tables) = row (ppn * 0x1000) table ++ rows (ppn + 1) tables
 
 -- the physical memory that the tables of a process stand for
-unfoldable pub words_of : List (List ℕ) → Words
-words_of tables = from_entries (rows root_page tables)
+unfoldable pub physical_words : List (List ℕ) → Words
+physical_words tables = from_entries (rows root_page tables)
 
 -- what a call of `walk` gave is what the process comes to, over those words
 unfoldable pub IsTranslation : List (List ℕ) → ℕ → Access → Result Translation WalkFault → List (List ℕ) → Type 0
-IsTranslation old address access result new = Follows (translate (words_of old) root_page address access) (words_of old) result (words_of new)
+IsTranslation old address access result new = FollowsProcess (translate (physical_words old) root_page address access) (physical_words old) result (physical_words new)

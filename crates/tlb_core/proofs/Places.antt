@@ -9,7 +9,7 @@ use Rattle.std.proofs.lemmas.List.Quantifiers.{position-Some, all_pairs_push}
 use Rattle.std.proofs.lemmas.List.Kept.{AllPairs-filter}
 use Rattle.std.proofs.lemmas.Bool.Decides.{nat_tests}
 use Rattle.tlb_core.specs.declared.translation.Translation.{Translation}
-use Rattle.tlb_core.specs.Cache.{OnePerPage, is_of, entry_of, with_room, filled, filled_at, doomed, doomed_entry, undoomed}
+use Rattle.tlb_core.specs.Cache.{OnePerPage, is_of_page, translation_of, with_room, filled, filled_at, doomed, doomed_entry, undoomed}
 
 -- a search by place is a search
 slice_get_at : (xs : List Translation) (k : ℕ) (d : Translation) → k < length xs → slice_get xs k ≡ Some (get_or xs k d)
@@ -17,17 +17,17 @@ slice_get_at [] k d within = absurd (omega arith)
 slice_get_at (x ∷ xs) zero d within = refl
 slice_get_at (x ∷ xs) (suc k) d within = slice_get_at xs k d (omega arith)
 
-pub find_at_place : (page : ℕ) (xs : List Translation) (k : ℕ) (d : Translation) → position (is_of page) xs ≡ Some k → Some (get_or xs k d) ≡ entry_of page xs
+pub find_at_place : (page : ℕ) (xs : List Translation) (k : ℕ) (d : Translation) → position (is_of_page page) xs ≡ Some k → Some (get_or xs k d) ≡ translation_of page xs
 find_at_place page xs k d is = by_length (nat_lt n (length xs)) refl is
   where
     n : ℕ
-    n = position_or_len (is_of page) xs
+    n = position_or_len (is_of_page page) xs
 
-    by_length : (b : Bool) → nat_lt n (length xs) ≡ b → cond b (Some n) None ≡ Some k → Some (get_or xs k d) ≡ entry_of page xs
+    by_length : (b : Bool) → nat_lt n (length xs) ≡ b → cond b (Some n) None ≡ Some k → Some (get_or xs k d) ≡ translation_of page xs
     by_length true test is =
         let e : n ≡ k = cc in
         let less : n < length xs = grind (arith, nat_tests) in
-        sym (find_at (is_of page) xs ∙ ap (slice_get xs) e ∙ slice_get_at xs k d (omega arith))
+        sym (find_at (is_of_page page) xs ∙ ap (slice_get xs) e ∙ slice_get_at xs k d (omega arith))
     by_length false test is = cc
 
 -- the same pages in the same places
@@ -57,34 +57,34 @@ pages-set xs k e d same =
     map-set (λ (x : Translation). x.page) xs k e ∙ ap (set (pages xs) k) (sym same)
     ∙ sym (map-set (λ (x : Translation). x.page) xs k (get_or xs k d)) ∙ ap pages (set-get_or xs k d)
 
-pub one_per_page_replaced : (xs ys : List Translation) (e : Translation) (k : ℕ) → OnePerPage xs → position (is_of e.page) xs ≡ Some k → ys ≡ set xs k e → OnePerPage ys
+pub one_per_page_replaced : (xs ys : List Translation) (e : Translation) (k : ℕ) → OnePerPage xs → position (is_of_page e.page) xs ≡ Some k → ys ≡ set xs k e → OnePerPage ys
 one_per_page_replaced xs ys e k one is made =
-    let at = position-Some (is_of e.page) xs k e is in
+    let at = position-Some (is_of_page e.page) xs k e is in
     let same : (get_or xs k e).page ≡ e.page = let t = at.1 in grind (arith, nat_tests) in
     one_per_page_same xs ys (ap pages made ∙ pages-set xs k e e same) one
 
-pub place_within : (page : ℕ) (xs : List Translation) (k : ℕ) → position (is_of page) xs ≡ Some k → k < length xs
+pub place_within : (page : ℕ) (xs : List Translation) (k : ℕ) → position (is_of_page page) xs ≡ Some k → k < length xs
 place_within page xs k is = by_length (nat_lt n (length xs)) refl is
   where
     n : ℕ
-    n = position_or_len (is_of page) xs
+    n = position_or_len (is_of_page page) xs
 
     by_length : (b : Bool) → nat_lt n (length xs) ≡ b → cond b (Some n) None ≡ Some k → k < length xs
     by_length true test is = let e : n ≡ k = cc in let less : n < length xs = grind (arith, nat_tests) in omega arith
     by_length false test is = cc
 
 -- or behind the others
-not_first : (page : ℕ) (x : Translation) (o : Option Translation) → cond (is_of page x) (Some x) o ≡ None → (x.page ≢ page) × (o ≡ None)
-not_first page x o none = by_test (is_of page x) refl none
+not_first : (page : ℕ) (x : Translation) (o : Option Translation) → cond (is_of_page page x) (Some x) o ≡ None → (x.page ≢ page) × (o ≡ None)
+not_first page x o none = by_test (is_of_page page x) refl none
   where
-    by_test : (b : Bool) → is_of page x ≡ b → cond b (Some x) o ≡ None → (x.page ≢ page) × (o ≡ None)
+    by_test : (b : Bool) → is_of_page page x ≡ b → cond b (Some x) o ≡ None → (x.page ≢ page) × (o ≡ None)
     by_test true test none = cc
     by_test false test none = (grind (arith, nat_tests), none)
 
-not_there : (page : ℕ) (xs : List Translation) (k : ℕ) (d : Translation) → entry_of page xs ≡ None → k < length xs → (get_or xs k d).page ≢ page
+not_there : (page : ℕ) (xs : List Translation) (k : ℕ) (d : Translation) → translation_of page xs ≡ None → k < length xs → (get_or xs k d).page ≢ page
 not_there page [] k d none within = absurd (omega arith)
-not_there page (x ∷ xs) zero d none within = (not_first page x (find (is_of page) xs) none).0
-not_there page (x ∷ xs) (suc k) d none within = not_there page xs k d ((not_first page x (find (is_of page) xs) none).1) (omega arith)
+not_there page (x ∷ xs) zero d none within = (not_first page x (find (is_of_page page) xs) none).0
+not_there page (x ∷ xs) (suc k) d none within = not_there page xs k d ((not_first page x (find (is_of_page page) xs) none).1) (omega arith)
 
 one_per_page_dropped : (n : ℕ) (xs : List Translation) → OnePerPage xs → OnePerPage (drop n xs)
 one_per_page_dropped n xs one =
@@ -95,7 +95,7 @@ pub one_per_page_room : (xs ys : List Translation) → OnePerPage xs → ys ≡ 
 one_per_page_room xs ys one made = rw made (one_per_page_dropped 1 xs one)
 
 -- what has no entry has none once the oldest is gone
-not_in_room : (page : ℕ) (xs : List Translation) (k : ℕ) (d : Translation) → entry_of page xs ≡ None → k < length (with_room xs) → (get_or (with_room xs) k d).page ≢ page
+not_in_room : (page : ℕ) (xs : List Translation) (k : ℕ) (d : Translation) → translation_of page xs ≡ None → k < length (with_room xs) → (get_or (with_room xs) k d).page ≢ page
 unfolding with_room
 not_in_room page xs k d none within = by_room (nat_lt (length xs) 16) within
   where
@@ -103,7 +103,7 @@ not_in_room page xs k d none within = by_room (nat_lt (length xs) 16) within
     by_room true within = not_there page xs k d none within
     by_room false within = let long = length-drop 1 xs in rw (get_or-drop 1 xs k d) (not_there page xs (1 + k) d none (omega arith))
 
-pub one_per_page_behind : (xs rs ys : List Translation) (e : Translation) → OnePerPage rs → rs ≡ with_room xs → entry_of e.page xs ≡ None → ys ≡ rs ++ e ∷ [] → OnePerPage ys
+pub one_per_page_behind : (xs rs ys : List Translation) (e : Translation) → OnePerPage rs → rs ≡ with_room xs → translation_of e.page xs ≡ None → ys ≡ rs ++ e ∷ [] → OnePerPage ys
 one_per_page_behind xs rs ys e one room none made =
     rw made (record {
       apart = all_pairs_push (λ (a b : Translation). a.page ≢ b.page) rs e one.apart
@@ -124,11 +124,11 @@ unfolding undoomed
 one_per_page_undoomed xs ys one made = rw made (record { apart = AllPairs-filter (λ (a b : Translation). a.page ≢ b.page) (λ e. not e.doomed) xs one.apart })
 
 -- the two ways to put an entry in
-pub filled_in_place : (e : Translation) (xs : List Translation) (k : ℕ) → position (is_of e.page) xs ≡ Some k → filled e xs ≡ set xs k e
+pub filled_in_place : (e : Translation) (xs : List Translation) (k : ℕ) → position (is_of_page e.page) xs ≡ Some k → filled e xs ≡ set xs k e
 unfolding filled filled_at
 filled_in_place e xs k is = rw is refl
 
-pub filled_behind : (e : Translation) (xs : List Translation) → position (is_of e.page) xs ≡ None → filled e xs ≡ with_room xs ++ e ∷ []
+pub filled_behind : (e : Translation) (xs : List Translation) → position (is_of_page e.page) xs ≡ None → filled e xs ≡ with_room xs ++ e ∷ []
 unfolding filled filled_at
 filled_behind e xs is = rw is refl
 
@@ -180,8 +180,8 @@ marked_whole page xs ws made =
 pub refill_set : (xs : List Translation) (k : ℕ) (e : Translation) → refill (length xs) xs (set xs k e) ≡ set xs k e
 refill_set xs k e = refill_same xs (set xs k e) (length xs) (length-set xs k e) refl
 
-pub one_per_page_refilled : (xs seen ws : List Translation) (e : Translation) (k : ℕ) → OnePerPage xs → xs ≡ seen → position (is_of e.page) seen ≡ Some k → ws ≡ set xs k e
+pub one_per_page_refilled : (xs seen ws : List Translation) (e : Translation) (k : ℕ) → OnePerPage xs → xs ≡ seen → position (is_of_page e.page) seen ≡ Some k → ws ≡ set xs k e
     → OnePerPage (refill (length xs) xs ws)
 one_per_page_refilled xs seen ws e k one same is made =
-    let here : position (is_of e.page) xs ≡ Some k = rw same is in
+    let here : position (is_of_page e.page) xs ≡ Some k = rw same is in
     rw (made, refill_set xs k e) (one_per_page_replaced xs (set xs k e) e k one here refl)

@@ -13,35 +13,35 @@ use Rattle.page_memory.specs.Words.{page_number}
 use Rattle.tlb_core.specs.declared.translation.Translation.{Translation}
 use Rattle.tlb_core.specs.declared.ready.Known.{Known}
 use Rattle.tlb_core.specs.declared.ready.Ready.{Ready}
-use Rattle.tlb_core.specs.Cache.{Hits, is_of, entry_of, doomed, doomed_entry}
+use Rattle.tlb_core.specs.Cache.{Hits, is_of_page, translation_of, doomed, doomed_entry}
 use Rattle.tlb_core.specs.CacheLaws.{entry_of-doomed}
 use Rattle.tlb_core.specs.Ready.{nowhere, known_for, with_known, learned, unless_of, forgotten, IsReady}
 use Rattle.std.specs.List.{refill}
 use Rattle.tlb_core.proofs.Places.{place_within, marked_whole, refill_set}
 
 -- an entry of another page hides nothing
-find_other : (q : ℕ) (x : Translation) (xs : List Translation) → x.page ≢ q → find (is_of q) (x ∷ xs) ≡ find (is_of q) xs
-find_other q x xs apart = let test : is_of q x ≡ false = grind (arith, nat_tests) in rw test refl
+find_other : (q : ℕ) (x : Translation) (xs : List Translation) → x.page ≢ q → find (is_of_page q) (x ∷ xs) ≡ find (is_of_page q) xs
+find_other q x xs apart = let test : is_of_page q x ≡ false = grind (arith, nat_tests) in rw test refl
 
-find_set_other : (q : ℕ) (xs : List Translation) (k : ℕ) (e d : Translation) → k < length xs → (get_or xs k d).page ≢ q → e.page ≢ q → find (is_of q) (set xs k e) ≡ find (is_of q) xs
+find_set_other : (q : ℕ) (xs : List Translation) (k : ℕ) (e d : Translation) → k < length xs → (get_or xs k d).page ≢ q → e.page ≢ q → find (is_of_page q) (set xs k e) ≡ find (is_of_page q) xs
 find_set_other q [] k e d within was is = absurd (omega arith)
 find_set_other q (x ∷ xs) zero e d within was is = find_other q e xs is ∙ sym (find_other q x xs was)
-find_set_other q (x ∷ xs) (suc k) e d within was is = ap (λ o. cond (is_of q x) (Some x) o) (find_set_other q xs k e d (omega arith) was is)
+find_set_other q (x ∷ xs) (suc k) e d within was is = ap (λ o. cond (is_of_page q x) (Some x) o) (find_set_other q xs k e d (omega arith) was is)
 
 -- what a cache shows it shows on where the page's entry stays
-shown_on : (cache cache' : List Translation) (access : Access) (q place : ℕ) → (hits : Hits cache access q place) → entry_of q cache' ≡ Some hits.entry → Hits cache' access q place
+shown_on : (cache cache' : List Translation) (access : Access) (q place : ℕ) → (hits : Hits cache access q place) → translation_of q cache' ≡ Some hits.entry → Hits cache' access q place
 shown_on cache cache' access q place hits found = record { entry = hits.entry; found = found; at = hits.at; allowed = hits.allowed; dirty = hits.dirty }
 
-pub hits_replaced : (cache : List Translation) (k : ℕ) (e : Translation) (access : Access) (q place : ℕ) → position (is_of e.page) cache ≡ Some k → q ≢ e.page → Hits cache access q place → Hits (set cache k e) access q place
+pub hits_replaced : (cache : List Translation) (k : ℕ) (e : Translation) (access : Access) (q place : ℕ) → position (is_of_page e.page) cache ≡ Some k → q ≢ e.page → Hits cache access q place → Hits (set cache k e) access q place
 hits_replaced cache k e access q place is apart hits =
-    let at = position-Some (is_of e.page) cache k e is in
+    let at = position-Some (is_of_page e.page) cache k e is in
     let same : (get_or cache k e).page ≡ e.page = let t = at.1 in grind (arith, nat_tests) in
     shown_on cache (set cache k e) access q place hits
     (find_set_other q cache k e e (place_within e.page cache k is) (λ s. apart (sym s ∙ same)) (λ s. apart (sym s)) ∙ hits.found)
 
 pub hits_behind : (cache : List Translation) (e : Translation) (access : Access) (q place : ℕ) → Hits cache access q place → Hits (cache ++ e ∷ []) access q place
 hits_behind cache e access q place hits =
-    shown_on cache (cache ++ e ∷ []) access q place hits (find-append (is_of q) cache (e ∷ []) ∙ ap (λ o. option_or o (find (is_of q) (e ∷ []))) hits.found)
+    shown_on cache (cache ++ e ∷ []) access q place hits (find-append (is_of_page q) cache (e ∷ []) ∙ ap (λ o. option_or o (find (is_of_page q) (e ∷ []))) hits.found)
 
 pub hits_dropped : (cache : List Translation) (d : Translation) (access : Access) (q place : ℕ) → q ≢ (get_or cache 0 d).page → Hits cache access q place → Hits (drop 1 cache) access q place
 hits_dropped [] d access q place apart hits = shown_on [] [] access q place hits hits.found
@@ -204,9 +204,9 @@ ready_marked page cache marked ready made is =
     (ready_on cache (doomed page cache) ready (λ access q place hits. hits_doomed page cache access q place hits) is)
 
 -- and as an entry is put in at the place of its page's, which is forgotten
-pub ready_replaced : (cache seen written : List Translation) (e : Translation) (k : ℕ) (ready : Ready) → cache ≡ seen → position (is_of e.page) seen ≡ Some k → written ≡ set cache k e
+pub ready_replaced : (cache seen written : List Translation) (e : Translation) (k : ℕ) (ready : Ready) → cache ≡ seen → position (is_of_page e.page) seen ≡ Some k → written ≡ set cache k e
     → IsReady cache ready → IsReady (refill (length cache) cache written) (forgotten e.page ready)
 ready_replaced cache seen written e k ready same at made is =
-    let here : position (is_of e.page) cache ≡ Some k = ap (position (is_of e.page)) same ∙ at in
+    let here : position (is_of_page e.page) cache ≡ Some k = ap (position (is_of_page e.page)) same ∙ at in
     subst (λ l. IsReady l (forgotten e.page ready)) (sym (ap (refill (length cache) cache) made ∙ refill_set cache k e))
     (ready_forgotten cache (set cache k e) e.page ready (λ access q place apart hits. hits_replaced cache k e access q place here apart hits) is)

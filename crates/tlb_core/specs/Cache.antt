@@ -10,17 +10,17 @@ pub record OnePerPage (cache : List Translation) : Type 0 where
   pub apart : AllPairs (λ a b. a.page ≢ b.page) cache
 
 -- whether an entry is this page's
-abbrev pub is_of : ℕ → Translation → Bool
-is_of page e = e.page == page
+abbrev pub is_of_page : ℕ → Translation → Bool
+is_of_page page e = e.page == page
 
 -- the entry of a page
-abbrev pub entry_of : ℕ → List Translation → Option Translation
-entry_of page cache = find (is_of page) cache
+abbrev pub translation_of : ℕ → List Translation → Option Translation
+translation_of page cache = find (is_of_page page) cache
 
 -- a cache shows the place of a page for an access: it has a translation with the right, and for a store with D
 pub record Hits (cache : List Translation) (access : Access) (page place : ℕ) : Type 0 where
   pub entry : Translation
-  pub found : entry_of page cache ≡ Some entry
+  pub found : translation_of page cache ≡ Some entry
   pub at : entry.place ≡ place
   pub allowed : may access entry.rights ≡ true
   pub dirty : access ≡ Store → entry.dirty ≡ true
@@ -35,11 +35,11 @@ filled_at entry cache (Some place) = slice_set cache place entry
 filled_at entry cache None = with_room cache ++ entry ∷ []
 
 unfoldable pub filled : Translation → List Translation → List Translation
-filled entry cache = filled_at entry cache (position (is_of entry.page) cache)
+filled entry cache = filled_at entry cache (position (is_of_page entry.page) cache)
 
 -- an entry, marked as one to be dropped if it is this page's
 abbrev pub doomed_entry : ℕ → Translation → Translation
-doomed_entry page e = record e { doomed = e.doomed || is_of page e }
+doomed_entry page e = record e { doomed = e.doomed || is_of_page page e }
 
 -- the cache with the entry of a page marked
 unfoldable pub doomed : ℕ → List Translation → List Translation

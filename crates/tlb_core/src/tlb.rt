@@ -1,6 +1,6 @@
 ghost use Rattle.std.specs.Prelude.{◌≡◌, ◌<◌, ◌≤◌, ◌%◌, ℕ, [], ◌∷◌, ◌++◌, length, is_some, Some, None, position, slice_set, IfSome};
 ghost use Rattle.page_memory.specs.Words.{page_number, bytes_in};
-ghost use Rattle.tlb_core.specs.Cache.{OnePerPage, Hits, entry_of, is_of, filled, doomed, undoomed, with_room};
+ghost use Rattle.tlb_core.specs.Cache.{OnePerPage, Hits, translation_of, is_of_page, filled, doomed, undoomed, with_room};
 
 use crate::hints::Hints;
 use crate::ready::{Ready, start_if_aligned};
@@ -57,7 +57,7 @@ impl Tlb {
     #[inline]
     #[tactic(auto, using(crate::specs::CacheLaws::found_at))]
     pub fn look(&self, page: u32) -> Option<Translation>
-        ensures { result ≡ entry_of page self.now }
+        ensures { result ≡ translation_of page self.now }
     {
         match self.entries.as_slice().get(self.hints.place(page)) {
             Some(entry) if entry.page == page => Some(*entry),
@@ -104,7 +104,7 @@ impl Tlb {
 
     /// Whether there is an entry of a page.
     pub fn holds(&self, page: u32) -> bool
-        ensures { result ≡ is_some (entry_of page self.now) }
+        ensures { result ≡ is_some (translation_of page self.now) }
     {
         self.look(page).is_some()
     }
@@ -112,7 +112,7 @@ impl Tlb {
     #[cold]
     #[tactic(auto, using(crate::proofs::Places::find_at_place, crate::specs::CacheLaws::find_nowhere))]
     fn search(&self, page: u32) -> Option<Translation>
-        ensures { result ≡ entry_of page self.now }
+        ensures { result ≡ translation_of page self.now }
     {
         match self.place_of(page) {
             Some(place) => Some(self.entries.as_slice()[place]),
@@ -134,7 +134,7 @@ impl Tlb {
     /// Puts an entry in at the place of its page's.
     #[tactic(auto, using(crate::proofs::Places::refill_set))]
     fn replace(&mut self, place: usize, entry: Translation)
-        requires place { position (is_of entry.page) self.old ≡ Some place }
+        requires place { position (is_of_page entry.page) self.old ≡ Some place }
         requires within { place < length self.old }
         ensures { self.new ≡ slice_set self.old place entry }
     {
@@ -146,7 +146,7 @@ impl Tlb {
     /// Where the entry of a page stands.
     #[tactic(auto, using(crate::proofs::Places::place_within))]
     fn place_of(&self, page: u32) -> Option<usize>
-        ensures place { result ≡ position (is_of page) self.now }
+        ensures place { result ≡ position (is_of_page page) self.now }
         ensures within { IfSome result (λ place. place < length self.now) }
     {
         self.entries
@@ -157,7 +157,7 @@ impl Tlb {
 
     /// Puts the entry of a page that has none behind the others.
     fn append(&mut self, entry: Translation)
-        requires { entry_of entry.page self.old ≡ None }
+        requires { translation_of entry.page self.old ≡ None }
         ensures { self.new ≡ with_room self.old ++ entry ∷ [] }
     {
         self.make_room();

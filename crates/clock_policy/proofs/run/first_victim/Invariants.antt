@@ -1,5 +1,5 @@
 use Rattle.std.proofs.Common.{◌≡◌, ◌+◌, ◌*◌, ◌≤◌, drop}
-use Rattle.clock_policy.specs.Bound.{left, run_state, run_victim}
+use Rattle.clock_policy.specs.Bound.{answers_left, run_state, run_victim}
 use Rattle.clock_policy.specs.Lawful.{Lawful}
 use Rattle.clock_policy.proofs.run.first_victim.Given as goal
 
@@ -12,5 +12,5 @@ invariant-loop-bit g l =
       moved : run_state (drop l.bit-index l.bits) now ≡ run_state l.bits start;
       victim : run_victim (drop l.bit-index l.bits) now ≡ run_victim l.bits start;
       lawful : Lawful now;
-      fewer : left now + l.bit-index ≤ 5 * start.frames;
+      fewer : answers_left now + l.bit-index ≤ 5 * start.frames;
     }

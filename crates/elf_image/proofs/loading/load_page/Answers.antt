@@ -4,12 +4,12 @@ use Rattle.std.proofs.lemmas.List.Elements.{All-filter}
 use Rattle.page_memory.specs.Memory.{Page}
 use Rattle.elf_image.specs.declared.program_header.ProgramHeader.{ProgramHeader}
 use Rattle.elf_image.specs.ElfFiles.{loaded_byte, bytes_between, loaded_page, touches}
-use Rattle.elf_image.specs.Segments.{IsSound, given_rights}
+use Rattle.elf_image.specs.Segments.{IsSoundSegment, given_rights}
 use Rattle.elf_image.proofs.PageBytes.{rights_of_run, bytes_of_run}
 use Rattle.elf_image.proofs.loading.load_page.Goals as goal
 
 pub fill-requires-clause-sound : goal.fill-requires-clause-sound
-fill-requires-clause-sound c = subst (λ (l : List ProgramHeader). All (IsSound (length c.args.file.now)) l) (sym c.touching-run.ensures) (All-filter (touches c.args.number) (IsSound (length c.args.file.now)) c.args.loaded.now c.requires.sound)
+fill-requires-clause-sound c = subst (λ (l : List ProgramHeader). All (IsSoundSegment (length c.args.file.now)) l) (sym c.touching-run.ensures) (All-filter (touches c.args.number) (IsSoundSegment (length c.args.file.now)) c.args.loaded.now c.requires.sound)
 
 pub returns : goal.returns
 unfolding loaded_page

@@ -2,7 +2,7 @@ use Rattle.std.proofs.Common.{◌≡◌, ◌++◌, ◌-◌, ◌+◌, map, arith,
 use Rattle.std.specs.FinMap.{get, insert, from_entries}
 use Rattle.std.specs.List.{range_with_len}
 use Rattle.flat_machine.specs.Process.{image_entry, stack_entry}
-use Rattle.flat_machine.specs.PagesLaws.{stack_below, unmapped, mapped, one_more_stack}
+use Rattle.flat_machine.specs.PagesLaws.{stack_below, unmapped, one_more_page, one_more_stack}
 use Rattle.flat_machine.proofs.opening.opening_memory.Goals as goal
 
 pub map_page-requires-clause-absent : goal.map_page-requires-clause-absent
@@ -17,7 +17,7 @@ loop-number-preserved c =
     let at : 524224 + (c.loop-number.number - 524224) ≡ c.loop-number.number = omega arith in
     c.in_ok-map_page.ensures.ok
     ∙ (λ i. insert (c.loop-number.invariant i) c.loop-number.number (c.in_ok-page.ensures i))
-    ∙ mapped c.loop-number.number c.loop-number.number _ _ below (omega arith)
+    ∙ one_more_page c.loop-number.number c.loop-number.number _ _ below (omega arith)
     ∙ ap from_entries (one_more_stack c.args.pages.now (c.loop-number.number - 524224) c.loop-number.number at)
     ∙ ap (λ n. from_entries (map image_entry c.args.pages.now ++ map stack_entry (range_with_len 524224 n))) k
 

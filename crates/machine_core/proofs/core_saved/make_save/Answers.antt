@@ -1,13 +1,13 @@
 -- The save stands where it was found.
 use Rattle.std.proofs.Common.{sym, ap, ◌∙◌, position}
-use Rattle.machine_core.specs.SavingOut.{is_of_page}
+use Rattle.machine_core.specs.SavingOut.{is_save_of}
 use Rattle.machine_core.proofs.JobsOut.{taken_at}
 use Rattle.machine_core.proofs.core_saved.make_save.Goals as goal
 
 pub returns-clause-makes : goal.returns-clause-makes
 returns-clause-makes g c =
     let taken = taken_at c.args.key c.args.jobs.now.items c.swap_remove.new.self.items c.in_ok-place.place c.swap_remove.result
-    (sym (ap (position (is_of_page c.args.key)) c.as_slice.ensures.value) ∙ sym c.place_of.ensures ∙ c.in_ok-place.was)
+    (sym (ap (position (is_save_of c.args.key)) c.as_slice.ensures.value) ∙ sym c.place_of.ensures ∙ c.in_ok-place.was)
     c.swap_remove.ensures.value c.swap_remove.ensures.items in
     record {
       job = c.swap_remove.result;

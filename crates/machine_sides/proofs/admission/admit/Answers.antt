@@ -1,7 +1,7 @@
 -- The process's reason comes first, then the pager's.
 use Rattle.std.proofs.Common.{sym, ap, ◌∙◌, subst}
 use Rattle.pager_core.specs.Pager.{PagerState, admission_refused, admitted_with}
-use Rattle.pager_core.specs.Refusals.{Refuses}
+use Rattle.pager_core.specs.Refusals.{RefusesAdmission}
 use Rattle.machine_sides.specs.Sides.{PagerSideValue}
 use Rattle.machine_sides.proofs.Admissions.{barred, refused, admits}
 use Rattle.machine_sides.proofs.admission.admit.Goals as goal
@@ -12,7 +12,7 @@ returns-in-Some-clause-refused g c = barred c.args.key c.args.pager.now c.args.p
 pub returns-in-Err-clause-refused : goal.returns-in-Err-clause-refused
 returns-in-Err-clause-refused g c =
     refused c.args.key c.args.pager.now _ c.args.process.now.space c.in-Err.refusal c.pager_refusal.result c.pager_refusal.ensures (sym c.in_default.is ∙ c.page_bars.ensures)
-    (subst (λ (p : PagerSideValue). Refuses c.in-Err.refusal c.args.key p.pager) c.pager.view_is c.in-Err.ensures.refused)
+    (subst (λ (p : PagerSideValue). RefusesAdmission c.in-Err.refusal c.args.key p.pager) c.pager.view_is c.in-Err.ensures.refused)
     (ap (λ (p : PagerState). record { pager = p; saves = c.pager.inside.saves; drops = c.pager.inside.drops }) c.in-Err.ensures.err ∙ c.pager.view_is)
 
 pub returns-clause-admitted : goal.returns-clause-admitted

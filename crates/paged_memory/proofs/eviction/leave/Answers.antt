@@ -1,5 +1,5 @@
 use Rattle.std.proofs.Common.{◌≡◌, Some, ap, sym, ◌∙◌, option_map}
-use Rattle.page_store.specs.PageValue.{state_of}
+use Rattle.page_store.specs.PageValue.{page_state_of}
 use Rattle.page_store.specs.declared.state.PageState.TheVariants.{Resident}
 use Rattle.page_memory.specs.Entries.{place_of}
 use Rattle.paged_memory.proofs.PagedLaws.{page_at-place, page_at-nowhere, changed_by}
@@ -9,12 +9,12 @@ use Rattle.paged_memory.proofs.eviction.leave.Goals as goal
 pub unreachable-requires : goal.unreachable-requires
 unreachable-requires g c =
     let none = page_at-nowhere c.args.pages.now c.args.vpn (sym c.place.ensures.place ∙ c.in_default.is) in
-    let clash = sym c.requires.resident ∙ ap (option_map (λ page. state_of page.place)) none in cc
+    let clash = sym c.requires.resident ∙ ap (option_map (λ page. page_state_of page.place)) none in cc
 
 pub returns : goal.returns
 returns g c =
     let at : place_of c.args.vpn c.args.pages.now ≡ Some c.in-Some.place = sym c.place.ensures.place ∙ c.in-Some.is in
     let found = page_at-place c.args.pages.now c.args.vpn c.in-Some.place c.at_mut.result.now at c.at_mut.ensures.value in
-    let is : Some (state_of c.at_mut.result.now.place) ≡ Some Resident = ap (option_map (λ page. state_of page.place)) (sym found) ∙ c.requires.resident in
+    let is : Some (page_state_of c.at_mut.result.now.place) ≡ Some Resident = ap (option_map (λ page. page_state_of page.place)) (sym found) ∙ c.requires.resident in
     changed_by c.args.pages.now c.args.vpn c.in-Some.place c.at_mut.result.now c.leave.new.self at c.at_mut.ensures.value
     (leaves c.args.changed c.at_mut.result.now c.leave.new.self c.leave.result (cc) c.leave.ensures.ok c.leave.ensures.refused c.leave.ensures.origin)

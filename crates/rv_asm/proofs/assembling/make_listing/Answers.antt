@@ -4,7 +4,7 @@ use Rattle.page_memory.specs.Words.{page_number}
 use Rattle.elf_image.specs.Image.{ImageContent, bytes_of}
 use Rattle.elf_image.specs.Parts.{parts_fault, image_of_parts}
 use Rattle.rv_asm.specs.Words.{Spell}
-use Rattle.elf_image.specs.BytePages.{pages_of}
+use Rattle.elf_image.specs.BytePages.{byte_pages}
 use Rattle.rv_asm.specs.Listing.{ListingContent, image_of, text_rights, data_rights}
 use Rattle.rv_asm.proofs.SecondSteps.{pass_length}
 use Rattle.rv_asm.proofs.Spelling.{spell_length}
@@ -47,8 +47,8 @@ unwrap-image-requires c =
     let words = spell_length c.into_parts-words.result.0.items c.args.sections.text c.into_parts-words.ensures.words in
     let code = c.deref-2.ensures.value ∙ c.in_ok-code.ensures ∙ ap bytes_of c.deref.ensures.value in
     let bytes = c.deref-3.ensures.value ∙ c.into_parts-words.ensures.bytes in
-    let first = c.in_ok-pages.ensures ∙ (λ i. c.new.ensures.items i ++ pages_of (c.page_of.ensures.number i) text_rights (code i)) in
-    let pages = c.in_ok-pages-2.ensures ∙ (λ i. first i ++ pages_of ((c.page_of-first.ensures.number ∙ ap page_number c.start.ensures.start) i) data_rights (bytes i)) in
+    let first = c.in_ok-pages.ensures ∙ (λ i. c.new.ensures.items i ++ byte_pages (c.page_of.ensures.number i) text_rights (code i)) in
+    let pages = c.in_ok-pages-2.ensures ∙ (λ i. first i ++ byte_pages ((c.page_of-first.ensures.number ∙ ap page_number c.start.ensures.start) i) data_rights (bytes i)) in
     ok_from_no_fault c.from_parts.result
     (c.from_parts.ensures.refusal ∙ (λ i. parts_fault (c.entry.ensures i) (pages i))
     ∙ pages_pass c.args.program.now.items c.into_parts-words.result.0.items c.args.sections.bytes (omega arith) long.1 c.requires.some c.items.ensures.text_fits c.items.ensures.data_fits)
@@ -57,8 +57,8 @@ pub returns : goal.returns
 returns c =
     let code = c.deref-2.ensures.value ∙ c.in_ok-code.ensures ∙ ap bytes_of c.deref.ensures.value in
     let bytes = c.deref-3.ensures.value ∙ c.into_parts-words.ensures.bytes in
-    let first = c.in_ok-pages.ensures ∙ (λ i. c.new.ensures.items i ++ pages_of (c.page_of.ensures.number i) text_rights (code i)) in
-    let pages = c.in_ok-pages-2.ensures ∙ (λ i. first i ++ pages_of ((c.page_of-first.ensures.number ∙ ap page_number c.start.ensures.start) i) data_rights (bytes i)) in
+    let first = c.in_ok-pages.ensures ∙ (λ i. c.new.ensures.items i ++ byte_pages (c.page_of.ensures.number i) text_rights (code i)) in
+    let pages = c.in_ok-pages-2.ensures ∙ (λ i. first i ++ byte_pages ((c.page_of-first.ensures.number ∙ ap page_number c.start.ensures.start) i) data_rights (bytes i)) in
     let made = IfOk-at_ok (λ (image : ImageContent). image ≡ image_of_parts c.entry.result c.in_ok-pages-2.pages.items) c.unwrap-image.ensures c.from_parts.ensures.image in
     let listing = c.new-2.ensures in
     record {

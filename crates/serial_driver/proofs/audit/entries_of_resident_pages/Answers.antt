@@ -2,8 +2,8 @@
 use Rattle.std.proofs.Common.{◌≡◌, ◌&&◌, cond, length, ◌≤◌, refl, sym, ap, ◌∙◌, arith}
 use Rattle.std.proofs.lemmas.List.{take_all}
 use Rattle.clock_policy.specs.ClockPro.{number}
-use Rattle.clock_policy.specs.Residents.{residents, is_resident}
-use Rattle.serial_driver.specs.Audit.{has_resident}
+use Rattle.clock_policy.specs.Residents.{residents, is_resident_that}
+use Rattle.serial_driver.specs.Audit.{holds_resident}
 use Rattle.serial_driver.proofs.Counted.{entry_more, entries_end}
 use Rattle.serial_driver.proofs.audit.entries_of_resident_pages.Goals as goal
 
@@ -11,11 +11,11 @@ pub returns-in_default : goal.returns-in_default
 unfolding residents
 returns-in_default g c =
     c.entries.invariant.0
-    ∙ ap (number (is_resident (has_resident c.args.core.now))) (entries_end c.args.core.now.pager.pager.list.entries c.entries.i (sym c.entry.ensures.entry ∙ c.in_default.is))
+    ∙ ap (number (is_resident_that (holds_resident c.args.core.now))) (entries_end c.args.core.now.pager.pager.list.entries c.entries.i (sym c.entry.ensures.entry ∙ c.in_default.is))
 
 pub entries-preserved : goal.entries-preserved
 entries-preserved g c =
-    let more = entry_more (has_resident c.args.core.now) c.args.core.now.pager.pager.list.entries c.entries.i c.in-Some.key c.in-Some.kind (sym c.entry.ensures.entry ∙ c.in-Some.is) in
+    let more = entry_more (holds_resident c.args.core.now) c.args.core.now.pager.pager.list.entries c.entries.i c.in-Some.key c.in-Some.kind (sym c.entry.ensures.entry ∙ c.in-Some.is) in
     let one = c.one_if-count.ensures.value ∙ ap (λ t. cond t 1 0) c.is_of_resident_page.ensures in
     (omega (arith, c.entries.invariant.0, more, one), omega (arith, c.entries.invariant.1, c.one_if-count.ensures.small))
 
@@ -24,4 +24,4 @@ unfolding residents
 returns g c =
     let machine = c.faithful.ensures.machine in
     let few : length c.args.core.now.pager.pager.list.entries ≤ c.entries.i = omega (arith, machine.lawful.within, machine.lawful.most) in
-    c.entries.invariant.0 ∙ ap (number (is_resident (has_resident c.args.core.now))) (take_all c.entries.i c.args.core.now.pager.pager.list.entries few)
+    c.entries.invariant.0 ∙ ap (number (is_resident_that (holds_resident c.args.core.now))) (take_all c.entries.i c.args.core.now.pager.pager.list.entries few)

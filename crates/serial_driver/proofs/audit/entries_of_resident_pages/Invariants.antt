@@ -1,8 +1,8 @@
 use Rattle.std.proofs.Common.{◌≡◌, ◌≤◌, take}
 use Rattle.clock_policy.specs.ClockPro.{number}
-use Rattle.clock_policy.specs.Residents.{is_resident}
-use Rattle.serial_driver.specs.Audit.{has_resident}
+use Rattle.clock_policy.specs.Residents.{is_resident_that}
+use Rattle.serial_driver.specs.Audit.{holds_resident}
 use Rattle.serial_driver.proofs.audit.entries_of_resident_pages.Given as goal
 
 abbrev pub invariant-entries : goal.invariant-entries
-invariant-entries g l = (l.count ≡ number (is_resident (has_resident l.core)) (take l.i l.core.pager.pager.list.entries)) × (l.count ≤ l.i)
+invariant-entries g l = (l.count ≡ number (is_resident_that (holds_resident l.core)) (take l.i l.core.pager.pager.list.entries)) × (l.count ≤ l.i)

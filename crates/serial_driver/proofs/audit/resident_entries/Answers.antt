@@ -2,13 +2,13 @@
 use Rattle.std.proofs.Common.{◌≡◌, ◌&&◌, true, cond, length, ◌≤◌, refl, sym, ap, ◌∙◌, arith}
 use Rattle.std.proofs.lemmas.List.{take_all}
 use Rattle.clock_policy.specs.ClockPro.{number}
-use Rattle.clock_policy.specs.Residents.{residents, is_resident, in_frame}
+use Rattle.clock_policy.specs.Residents.{residents, is_resident_that, in_frame}
 use Rattle.serial_driver.proofs.Counted.{entry_more, entries_end, and_true}
 use Rattle.serial_driver.proofs.audit.resident_entries.Goals as goal
 
 pub returns-in_default : goal.returns-in_default
 unfolding residents
-returns-in_default g c = c.entries.invariant.0 ∙ ap (number (is_resident (λ _. true))) (entries_end c.args.core.now.pager.pager.list.entries c.entries.i (sym c.entry.ensures.entry ∙ c.in_default.is))
+returns-in_default g c = c.entries.invariant.0 ∙ ap (number (is_resident_that (λ _. true))) (entries_end c.args.core.now.pager.pager.list.entries c.entries.i (sym c.entry.ensures.entry ∙ c.in_default.is))
 
 pub entries-preserved : goal.entries-preserved
 entries-preserved g c =
@@ -21,4 +21,4 @@ unfolding residents
 returns g c =
     let machine = c.faithful.ensures.machine in
     let few : length c.args.core.now.pager.pager.list.entries ≤ c.entries.i = omega (arith, machine.lawful.within, machine.lawful.most) in
-    c.entries.invariant.0 ∙ ap (number (is_resident (λ _. true))) (take_all c.entries.i c.args.core.now.pager.pager.list.entries few)
+    c.entries.invariant.0 ∙ ap (number (is_resident_that (λ _. true))) (take_all c.entries.i c.args.core.now.pager.pager.list.entries few)

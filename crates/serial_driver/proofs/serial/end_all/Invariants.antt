@@ -1,11 +1,11 @@
 use Rattle.std.proofs.Common.{ℕ, ◌<◌}
-use Rattle.machine_core.specs.Applying.{Reaches}
+use Rattle.machine_core.specs.Applying.{LeadsTo}
 use Rattle.serial_driver.specs.Endings.{HasEnded}
 use Rattle.serial_driver.proofs.serial.end_all.Given as goal
 
 abbrev pub invariant-processes : goal.invariant-processes
 invariant-processes g l = record {
-  reached : Reaches g.S.SwapSlot.content g.S.SwapSlot.honest g.S.SwapSlot.failures l.initial.core l.core;
+  reached : LeadsTo g.S.SwapSlot.content g.S.SwapSlot.honest g.S.SwapSlot.failures l.initial.core l.core;
   kept : (number : ℕ) → HasEnded l.initial.core number → HasEnded l.core number;
   ended : (number : ℕ) → number < l.process → HasEnded l.core number;
 }

@@ -1,5 +1,5 @@
-use Rattle.machine_core.specs.Applying.{Reaches}
+use Rattle.machine_core.specs.Applying.{LeadsTo}
 use Rattle.serial_driver.proofs.serial.play_events.Given as goal
 
 abbrev pub invariant-turns : goal.invariant-turns
-invariant-turns g l = Reaches g.S.SwapSlot.content g.S.SwapSlot.honest g.S.SwapSlot.failures l.initial.core l.core
+invariant-turns g l = LeadsTo g.S.SwapSlot.content g.S.SwapSlot.honest g.S.SwapSlot.failures l.initial.core l.core

@@ -2,7 +2,7 @@ use Rattle.std.proofs.Common.{◌≡◌, ◌++◌, ◌∷◌, [], arith, ap, ◌
 use Rattle.std.proofs.lemmas.Grind.{common_steps}
 use Rattle.page_memory.specs.Entries.{place_of, with_added}
 use Rattle.flat_machine.specs.Process.{image_entry}
-use Rattle.paged_memory.specs.Growth.{zero_page}
+use Rattle.paged_memory.specs.Growth.{fresh_zero_page}
 use Rattle.paged_memory.specs.Paged.{PagedValue}
 use Rattle.sv32_table.specs.EntryAt.{entry_at}
 use Rattle.space_core.specs.Fresh.{fresh, all_fresh}
@@ -31,5 +31,5 @@ returns-clause-pages g c =
     let all : take c.loop-listed.listed-index c.args.pages.now ≡ c.args.pages.now = grind (arith, common_steps) in
     ap (λ (m : PagedValue g.row.S.Denot). m.pages) c.add_hart.ensures
     ∙ c.in_ok-map_zeroed.ensures.ok
-    ∙ ap (with_added 524224 64 zero_page) (c.loop-listed.invariant.mapped ∙ ap (λ l. all_fresh (map image_entry l)) all)
+    ∙ ap (with_added 524224 64 fresh_zero_page) (c.loop-listed.invariant.mapped ∙ ap (λ l. all_fresh (map image_entry l)) all)
     ∙ opening_added g.row.S.Denot c.args.pages.now c.requires

@@ -3,7 +3,7 @@ use Rattle.std.proofs.Common.{sym, ap, ◌∙◌}
 use Rattle.clock_policy.specs.ClockPro.{is_shadow, removed, fallen}
 use Rattle.page_ring.specs.Chain.{Chain}
 use Rattle.clock_ring.specs.BodyState.{state_of}
-use Rattle.clock_ring.specs.RingState.{entry_at}
+use Rattle.clock_ring.specs.RingState.{entry_at_node}
 use Rattle.clock_ring.proofs.ScanLaws.{stands, rests_there, some_cells}
 use Rattle.clock_ring.proofs.TrimLaws.{trim_whole, trim_goes_on, trim_ends}
 use Rattle.clock_ring.proofs.body.Body.trim_once.Goals as goal
@@ -24,7 +24,7 @@ pub set_test_hand-requires : goal.set_test_hand-requires
 set_test_hand-requires c = (stands c.to_shadow.self.ring.cells c.to_shadow.at c.node-node.result c.to_shadow.self.kept.whole.apart c.to_shadow.invariant.there c.node-node.ensures).holds
 
 pub remove-requires : goal.remove-requires
-remove-requires c = ap (λ (r : Chain). entry_at r.cells c.to_shadow.at) c.set_test_hand.ensures.same ∙ (stands c.to_shadow.self.ring.cells c.to_shadow.at c.node-node.result c.to_shadow.self.kept.whole.apart c.to_shadow.invariant.there c.node-node.ensures).holds
+remove-requires c = ap (λ (r : Chain). entry_at_node r.cells c.to_shadow.at) c.set_test_hand.ensures.same ∙ (stands c.to_shadow.self.ring.cells c.to_shadow.at c.node-node.result c.to_shadow.self.kept.whole.apart c.to_shadow.invariant.there c.node-node.ensures).holds
 
 pub returns-then-is_shadow : goal.returns-then-is_shadow
 returns-then-is_shadow c = record {

@@ -8,7 +8,7 @@ use Rattle.env_calls.specs.Serving.{TakesMemory}
 use Rattle.flat_machine.specs.declared.end.End.TheVariants.{Trapped}
 use Rattle.env_calls.specs.LiveLaws.{MarksAfter, marks_after}
 use Rattle.flat_machine.specs.Process.{Process, IsWhole, hart_registers, may_step}
-use Rattle.flat_machine.specs.StepLaws.{taken, goes_on, started}
+use Rattle.flat_machine.specs.StepLaws.{taken, has_no_ending, started}
 use Rattle.flat_machine.proofs.process.FlatProcess.step_fully.Goals as goal
 
 pub invariant_of-self : goal.invariant_of-self
@@ -70,14 +70,14 @@ returns-in-Exited-clause-ok c =
 pub returns-in-Ran-clause-same : goal.returns-in-Ran-clause-same
 returns-in-Ran-clause-same c = λ _.
     let is : effect c.args.hart c.index_mut-regs.result.now c.self.inside.env c.self.inside.memory ≡ Runs c.step.new.regs c.step.new.env c.step.new.bus = (rw c.in-Ran.is at c.in-Ok.ensures.stepped) in (
-      ap (λ (p : Process). p.ending) c.self.view_is ∙ goes_on c.args.hart c.args.self.now c.requires,
+      ap (λ (p : Process). p.ending) c.self.view_is ∙ has_no_ending c.args.hart c.args.self.now c.requires,
       subst (MarksAfter c.args.hart c.self.inside.env.live) is (marks_after c.args.hart c.index_mut-regs.result.now c.self.inside.env c.self.inside.memory) ∙ ap (λ (p : Process). p.environment.live) c.self.view_is,
     )
 
 pub returns-in-Yielded-clause-same : goal.returns-in-Yielded-clause-same
 returns-in-Yielded-clause-same c = λ _.
     let is : effect c.args.hart c.index_mut-regs.result.now c.self.inside.env c.self.inside.memory ≡ Yields c.step.new.regs c.step.new.env c.step.new.bus = (rw c.in-Yielded.is at c.in-Ok.ensures.stepped) in (
-      ap (λ (p : Process). p.ending) c.self.view_is ∙ goes_on c.args.hart c.args.self.now c.requires,
+      ap (λ (p : Process). p.ending) c.self.view_is ∙ has_no_ending c.args.hart c.args.self.now c.requires,
       subst (MarksAfter c.args.hart c.self.inside.env.live) is (marks_after c.args.hart c.index_mut-regs.result.now c.self.inside.env c.self.inside.memory) ∙ ap (λ (p : Process). p.environment.live) c.self.view_is,
     )
 

@@ -1,6 +1,6 @@
 use Rattle.std.proofs.Common.{◌≡◌, ◌≤◌, ◌-◌, ◌+◌, ◌++◌, length, replicate, arith, ap, ◌∙◌}
 use Rattle.flat_machine.specs.Schedule.{written_out, rest_in_last}
-use Rattle.flat_machine.specs.TurnsLaws.{last_there, last_at, written_up, joined_up, rest_up}
+use Rattle.flat_machine.specs.TurnsLaws.{last_there, last_turn_at, written_up, joined_up, rest_up}
 use Rattle.flat_machine.proofs.schedule.Schedule.lengthen.Goals as goal
 
 pub overflow_sub-last : goal.overflow_sub-last
@@ -23,7 +23,7 @@ overflow_add-index_mut c =
     let fit : c.args.count ≤ rest_in_last c.self.inside.turns.items c.args.hart = omega (arith, ap (λ t. rest_in_last t c.args.hart) c.self.view_is, c.requires.fit) in
     let there = last_there c.self.inside.turns.items c.args.hart c.args.count fit c.requires.some in
     let last : (c.len-last.result - 1) + 1 ≡ length c.self.inside.turns.items = omega arith in
-    let facts = last_at c.self.inside.turns.items (c.len-last.result - 1) c.args.hart c.args.count c.index_mut.result.now last c.index_mut.ensures.value fit c.requires.some in
+    let facts = last_turn_at c.self.inside.turns.items (c.len-last.result - 1) c.args.hart c.args.count c.index_mut.result.now last c.index_mut.ensures.value fit c.requires.some in
     let most = facts.1 in
     record { fits = omega arith }
 
@@ -33,7 +33,7 @@ invariant_of-self c =
     let fit : c.args.count ≤ rest_in_last c.self.inside.turns.items c.args.hart = omega (arith, ap (λ t. rest_in_last t c.args.hart) c.self.view_is, c.requires.fit) in
     let there = last_there c.self.inside.turns.items c.args.hart c.args.count fit c.requires.some in
     let last : (c.len-last.result - 1) + 1 ≡ length c.self.inside.turns.items = omega arith in
-    let facts = last_at c.self.inside.turns.items (c.len-last.result - 1) c.args.hart c.args.count c.index_mut.result.now last c.index_mut.ensures.value fit c.requires.some in
+    let facts = last_turn_at c.self.inside.turns.items (c.len-last.result - 1) c.args.hart c.args.count c.index_mut.result.now last c.index_mut.ensures.value fit c.requires.some in
     record {
       joined = joined_up c.self.inside.turns.items (c.len-last.result - 1) c.args.count c.index_mut.result.now c.self.invariant.joined last c.index_mut.ensures.value facts.1 c.requires.some;
       roomy = c.self.invariant.roomy;
@@ -45,7 +45,7 @@ returns-clause-recorded c =
     let fit : c.args.count ≤ rest_in_last c.self.inside.turns.items c.args.hart = omega (arith, ap (λ t. rest_in_last t c.args.hart) c.self.view_is, c.requires.fit) in
     let there = last_there c.self.inside.turns.items c.args.hart c.args.count fit c.requires.some in
     let last : (c.len-last.result - 1) + 1 ≡ length c.self.inside.turns.items = omega arith in
-    let facts = last_at c.self.inside.turns.items (c.len-last.result - 1) c.args.hart c.args.count c.index_mut.result.now last c.index_mut.ensures.value fit c.requires.some in
+    let facts = last_turn_at c.self.inside.turns.items (c.len-last.result - 1) c.args.hart c.args.count c.index_mut.result.now last c.index_mut.ensures.value fit c.requires.some in
     written_up c.self.inside.turns.items (c.len-last.result - 1) c.args.hart c.args.count c.index_mut.result.now c.index_mut.result.now last c.index_mut.ensures.value facts.0
     ∙ ap (λ t. written_out t ++ replicate c.args.count c.args.hart) c.self.view_is
 
@@ -55,6 +55,6 @@ returns-clause-rest c =
     let fit : c.args.count ≤ rest_in_last c.self.inside.turns.items c.args.hart = omega (arith, ap (λ t. rest_in_last t c.args.hart) c.self.view_is, c.requires.fit) in
     let there = last_there c.self.inside.turns.items c.args.hart c.args.count fit c.requires.some in
     let last : (c.len-last.result - 1) + 1 ≡ length c.self.inside.turns.items = omega arith in
-    let facts = last_at c.self.inside.turns.items (c.len-last.result - 1) c.args.hart c.args.count c.index_mut.result.now last c.index_mut.ensures.value fit c.requires.some in
+    let facts = last_turn_at c.self.inside.turns.items (c.len-last.result - 1) c.args.hart c.args.count c.index_mut.result.now last c.index_mut.ensures.value fit c.requires.some in
     rest_up c.self.inside.turns.items (c.len-last.result - 1) c.args.hart c.args.count c.index_mut.result.now last c.index_mut.ensures.value facts.0 facts.1
     ∙ ap (λ t. rest_in_last t c.args.hart) c.self.view_is

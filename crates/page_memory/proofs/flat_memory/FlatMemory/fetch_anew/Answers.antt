@@ -3,13 +3,13 @@ use Rattle.page_memory.specs.declared.words.Access.TheVariants.{Fetch}
 use Rattle.page_memory.specs.Words.{page_number}
 use Rattle.page_memory.specs.Entries.{place_of}
 use Rattle.page_memory.specs.Memory.{fetched}
-use Rattle.page_memory.specs.Hints.{Stands}
+use Rattle.page_memory.specs.Hints.{StandsAt}
 use Rattle.page_memory.specs.HintsLaws.{fetched_there, leads_there, stands_of}
 use Rattle.page_memory.proofs.flat_memory.FlatMemory.fetch_anew.Goals as goal
 
 pub returns-clause-word : goal.returns-clause-word
 returns-clause-word c =
     let there : place_of (page_number c.args.address) c.self.inside.pages ≡ Some c.in_ok-place.place = ap (λ n. place_of n c.self.inside.pages) (sym c.page_of.ensures.number) ∙ c.in_ok-place.ensures.place in
-    let stands : Stands Fetch c.self.inside.pages (page_number c.args.address) c.in_ok-place.place = stands_of Fetch c.self.inside.pages (page_number c.args.address) c.in_ok-place.place c.in_ok-place.ensures.within there c.in_ok-place.ensures.allowed in
+    let stands : StandsAt Fetch c.self.inside.pages (page_number c.args.address) c.in_ok-place.place = stands_of Fetch c.self.inside.pages (page_number c.args.address) c.in_ok-place.place c.in_ok-place.ensures.within there c.in_ok-place.ensures.allowed in
     ap Ok c.number.ensures
     ∙ sym (ap (λ m. fetched m c.args.address) (sym c.self.view_is) ∙ fetched_there c.self.inside.pages c.args.address c.in_ok-place.place c.at-page.result.now (omega arith) stands c.at-page.ensures)

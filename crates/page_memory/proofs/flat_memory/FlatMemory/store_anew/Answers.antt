@@ -9,7 +9,7 @@ use Rattle.page_memory.specs.Entries.{place_of, with_value}
 use Rattle.page_memory.specs.AccessLaws.{stored_at}
 use Rattle.page_memory.specs.declared.hint.Hint.{Hint}
 use Rattle.page_memory.specs.declared.hint.Hints.{Hints}
-use Rattle.page_memory.specs.Hints.{Stands, LeadAll, Remembers}
+use Rattle.page_memory.specs.Hints.{StandsAt, LeadAll, Remembers}
 use Rattle.page_memory.specs.HintsLaws.{leads_there, stands_of, one_remembered, still_remembered}
 use Rattle.page_memory.proofs.flat_memory.FlatMemory.store_anew.Goals as goal
 
@@ -24,7 +24,7 @@ returns-clause-ok c =
 pub invariant_of-self : goal.invariant_of-self
 invariant_of-self c =
     let there : place_of (page_number c.args.address) c.self.inside.pages ≡ Some c.in_ok-place.place = ap (λ n. place_of n c.self.inside.pages) (sym c.page_of.ensures.number) ∙ c.in_ok-place.ensures.place in
-    let stands : Stands Store c.self.inside.pages (page_number c.args.address) c.in_ok-place.place = stands_of Store c.self.inside.pages (page_number c.args.address) c.in_ok-place.place c.in_ok-place.ensures.within there c.in_ok-place.ensures.allowed in
+    let stands : StandsAt Store c.self.inside.pages (page_number c.args.address) c.in_ok-place.place = stands_of Store c.self.inside.pages (page_number c.args.address) c.in_ok-place.place c.in_ok-place.ensures.within there c.in_ok-place.ensures.allowed in
     let among : List Hint → Type 0 = λ hints. LeadAll Store c.self.inside.pages hints in
     let these : LeadAll Store c.self.inside.pages c.remember.new.hints = subst among (sym c.remember.ensures) (one_remembered Store c.self.inside.pages c.self.inside.hints.stored (page_number c.args.address % 64) _ (leads_there Store c.self.inside.pages c.args.address (c.args.address / 4096 * 4096) c.in_ok-place.place refl stands) c.self.invariant.stored) in
     let hints : Hints = record c.self.inside.hints { stored = c.remember.new.hints } in

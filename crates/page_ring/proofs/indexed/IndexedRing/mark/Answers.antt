@@ -3,7 +3,7 @@ use Rattle.std.specs.Prelude.{◌≡◌, true, List}
 use Rattle.std.proofs.Common.{sym, subst}
 use Rattle.page_ring.specs.Linked.{Cell, is_at}
 use Rattle.page_ring.specs.Chain.{Chain, Split, split}
-use Rattle.page_ring.specs.Index.{Indexes, node_of, index_mark}
+use Rattle.page_ring.specs.Index.{FindsNodes, node_of, index_mark}
 use Rattle.page_ring.proofs.indexed.IndexedRing.mark.Goals as goal
 
 pub invariant_of-self : goal.invariant_of-self
@@ -12,5 +12,5 @@ invariant_of-self c = record {
   parted = c.self.invariant.parted;
 }
   where
-    at_split : Split c.self.inside.links.cells c.args.at → Indexes c.mark.new.self.cells (λ k. node_of k c.self.inside.places)
-    at_split e = subst (λ (l : List Cell). Indexes l (λ k. node_of k c.self.inside.places)) (sym (c.mark.ensures.cells e.before e.behind e.cell e.parts e.is)) (index_mark (λ k. node_of k c.self.inside.places) c.args.kind e.before e.behind e.cell (subst (λ (l : List Cell). Indexes l (λ k. node_of k c.self.inside.places)) e.parts c.self.invariant.indexes))
+    at_split : Split c.self.inside.links.cells c.args.at → FindsNodes c.mark.new.self.cells (λ k. node_of k c.self.inside.places)
+    at_split e = subst (λ (l : List Cell). FindsNodes l (λ k. node_of k c.self.inside.places)) (sym (c.mark.ensures.cells e.before e.behind e.cell e.parts e.is)) (index_mark (λ k. node_of k c.self.inside.places) c.args.kind e.before e.behind e.cell (subst (λ (l : List Cell). FindsNodes l (λ k. node_of k c.self.inside.places)) e.parts c.self.invariant.indexes))

@@ -5,7 +5,7 @@ use Rattle.page_ring.specs.declared.links.Node.{Node}
 use Rattle.page_ring.specs.Linked.{Cell, is_at, first_at, last_at}
 use Rattle.page_ring.specs.Chain.{Chain, Split, split, rotates_split}
 use Rattle.page_ring.specs.Slots.{same_key}
-use Rattle.page_ring.specs.Index.{Indexes, node_of, index_remove}
+use Rattle.page_ring.specs.Index.{FindsNodes, node_of, index_remove}
 use Rattle.page_ring.proofs.indexed.IndexedRing.remove.Goals as goal
 
 pub invariant_of-self : goal.invariant_of-self
@@ -14,9 +14,9 @@ invariant_of-self c = record {
   parted = c.remove-2.ensures.parted;
 }
   where
-    at_split : Split c.self.inside.links.cells c.args.at → Indexes c.remove.new.self.cells (λ k. node_of k c.remove-2.new.self)
+    at_split : Split c.self.inside.links.cells c.args.at → FindsNodes c.remove.new.self.cells (λ k. node_of k c.remove-2.new.self)
     at_split e =
         let node : c.node.result ≡ record { entry = e.cell.entry; next = first_at (e.behind ++ e.before) c.args.at; previous = last_at c.args.at (e.behind ++ e.before) } =
         c.node.ensures e.cell (e.behind ++ e.before) (rotates_split c.self.inside.links.cells e.before e.behind e.cell e.parts) e.is in
-        subst (λ (l : List Cell). Indexes l (λ k. node_of k c.remove-2.new.self)) (sym (c.remove.ensures.cells e.before e.behind e.cell e.parts e.is))
-        (index_remove (λ k. node_of k c.self.inside.places) (λ k. node_of k c.remove-2.new.self) e.before e.behind e.cell (λ k. c.remove-2.ensures.taken k ∙ ap (λ (n : Node). cond (same_key n.entry.key k) None (node_of k c.self.inside.places)) node) (subst (λ (l : List Cell). Indexes l (λ k. node_of k c.self.inside.places)) e.parts c.self.invariant.indexes))
+        subst (λ (l : List Cell). FindsNodes l (λ k. node_of k c.remove-2.new.self)) (sym (c.remove.ensures.cells e.before e.behind e.cell e.parts e.is))
+        (index_remove (λ k. node_of k c.self.inside.places) (λ k. node_of k c.remove-2.new.self) e.before e.behind e.cell (λ k. c.remove-2.ensures.taken k ∙ ap (λ (n : Node). cond (same_key n.entry.key k) None (node_of k c.self.inside.places)) node) (subst (λ (l : List Cell). FindsNodes l (λ k. node_of k c.self.inside.places)) e.parts c.self.invariant.indexes))

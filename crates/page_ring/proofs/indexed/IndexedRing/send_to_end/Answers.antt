@@ -3,7 +3,7 @@ use Rattle.std.specs.Prelude.{◌≡◌, true, List}
 use Rattle.std.proofs.Common.{sym, subst}
 use Rattle.page_ring.specs.Linked.{Cell, is_at}
 use Rattle.page_ring.specs.Chain.{Chain, Split, split}
-use Rattle.page_ring.specs.Index.{Indexes, node_of, index_send}
+use Rattle.page_ring.specs.Index.{FindsNodes, node_of, index_send}
 use Rattle.page_ring.proofs.indexed.IndexedRing.send_to_end.Goals as goal
 
 pub invariant_of-self : goal.invariant_of-self
@@ -12,5 +12,5 @@ invariant_of-self c = record {
   parted = c.self.invariant.parted;
 }
   where
-    at_split : Split c.self.inside.links.cells c.args.at → Indexes c.send_to_end.new.self.cells (λ k. node_of k c.self.inside.places)
-    at_split e = subst (λ (l : List Cell). Indexes l (λ k. node_of k c.self.inside.places)) (sym (c.send_to_end.ensures.cells e.before e.behind e.cell e.parts e.is)) (index_send (λ k. node_of k c.self.inside.places) c.args.kind e.before e.behind e.cell (subst (λ (l : List Cell). Indexes l (λ k. node_of k c.self.inside.places)) e.parts c.self.invariant.indexes))
+    at_split : Split c.self.inside.links.cells c.args.at → FindsNodes c.send_to_end.new.self.cells (λ k. node_of k c.self.inside.places)
+    at_split e = subst (λ (l : List Cell). FindsNodes l (λ k. node_of k c.self.inside.places)) (sym (c.send_to_end.ensures.cells e.before e.behind e.cell e.parts e.is)) (index_send (λ k. node_of k c.self.inside.places) c.args.kind e.before e.behind e.cell (subst (λ (l : List Cell). FindsNodes l (λ k. node_of k c.self.inside.places)) e.parts c.self.invariant.indexes))

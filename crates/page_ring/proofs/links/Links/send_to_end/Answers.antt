@@ -2,7 +2,7 @@
 use Rattle.std.specs.Prelude.{◌≡◌, ◌++◌, true, [], ◌∷◌, List}
 use Rattle.std.proofs.Common.{sym, ap, ◌∙◌, subst}
 use Rattle.page_ring.specs.Linked.{Cell, is_at}
-use Rattle.page_ring.specs.Chain.{Chain, cells_of, Changed, changed, of_kind, held_node}
+use Rattle.page_ring.specs.Chain.{Chain, cells_of, Changed, changes_at, of_kind, held_node}
 use Rattle.page_ring.proofs.SendLaws.{send_front, send_behind}
 use Rattle.page_ring.proofs.links.Links.send_to_end.Goals as goal
 
@@ -11,7 +11,7 @@ invariant_of-self c =
     let seen : c.args.self.now.cells ≡ cells_of c.self.inside.nodes c.self.inside.front = sym (ap (λ (l : Chain). l.cells) c.self.view_is) in
     let there : is_at (cells_of c.self.inside.nodes c.self.inside.front) c.args.at ≡ true = subst (λ (l : List Cell). is_at l c.args.at ≡ true) seen c.requires in
     let step : Changed c.self.inside.nodes c.set_kind.new.nodes c.self.inside.front c.index.result.now.next c.args.at (λ u d v. (u ++ v) ++ of_kind c.args.kind d ∷ []) =
-    changed c.self.inside.nodes c.set_kind.new.nodes c.self.inside.front c.index.result.now.next c.args.at (λ u d v. (u ++ v) ++ of_kind c.args.kind d ∷ []) c.self.invariant there
+    changes_at c.self.inside.nodes c.set_kind.new.nodes c.self.inside.front c.index.result.now.next c.args.at (λ u d v. (u ++ v) ++ of_kind c.args.kind d ∷ []) c.self.invariant there
     (send_front c.self.inside.nodes c.set_kind.new.nodes c.self.inside.front c.args.at c.args.kind c.index.result.now c.index.ensures c.if-at-self.true c.set_kind.ensures.set c.set_kind.ensures.others c.set_kind.ensures.len) in
     step.held
 
@@ -20,7 +20,7 @@ returns-then-at-self-clause-cells c =
     let seen : c.args.self.now.cells ≡ cells_of c.self.inside.nodes c.self.inside.front = sym (ap (λ (l : Chain). l.cells) c.self.view_is) in
     let there : is_at (cells_of c.self.inside.nodes c.self.inside.front) c.args.at ≡ true = subst (λ (l : List Cell). is_at l c.args.at ≡ true) seen c.requires in
     let step : Changed c.self.inside.nodes c.set_kind.new.nodes c.self.inside.front c.index.result.now.next c.args.at (λ u d v. (u ++ v) ++ of_kind c.args.kind d ∷ []) =
-    changed c.self.inside.nodes c.set_kind.new.nodes c.self.inside.front c.index.result.now.next c.args.at (λ u d v. (u ++ v) ++ of_kind c.args.kind d ∷ []) c.self.invariant there
+    changes_at c.self.inside.nodes c.set_kind.new.nodes c.self.inside.front c.index.result.now.next c.args.at (λ u d v. (u ++ v) ++ of_kind c.args.kind d ∷ []) c.self.invariant there
     (send_front c.self.inside.nodes c.set_kind.new.nodes c.self.inside.front c.args.at c.args.kind c.index.result.now c.index.ensures c.if-at-self.true c.set_kind.ensures.set c.set_kind.ensures.others c.set_kind.ensures.len) in
     λ u v d parts is. step.cells u v d (sym seen ∙ parts) is
 
@@ -29,7 +29,7 @@ returns-then-at-self-clause-apart c =
     let seen : c.args.self.now.cells ≡ cells_of c.self.inside.nodes c.self.inside.front = sym (ap (λ (l : Chain). l.cells) c.self.view_is) in
     let there : is_at (cells_of c.self.inside.nodes c.self.inside.front) c.args.at ≡ true = subst (λ (l : List Cell). is_at l c.args.at ≡ true) seen c.requires in
     let step : Changed c.self.inside.nodes c.set_kind.new.nodes c.self.inside.front c.index.result.now.next c.args.at (λ u d v. (u ++ v) ++ of_kind c.args.kind d ∷ []) =
-    changed c.self.inside.nodes c.set_kind.new.nodes c.self.inside.front c.index.result.now.next c.args.at (λ u d v. (u ++ v) ++ of_kind c.args.kind d ∷ []) c.self.invariant there
+    changes_at c.self.inside.nodes c.set_kind.new.nodes c.self.inside.front c.index.result.now.next c.args.at (λ u d v. (u ++ v) ++ of_kind c.args.kind d ∷ []) c.self.invariant there
     (send_front c.self.inside.nodes c.set_kind.new.nodes c.self.inside.front c.args.at c.args.kind c.index.result.now c.index.ensures c.if-at-self.true c.set_kind.ensures.set c.set_kind.ensures.others c.set_kind.ensures.len) in
     step.held.circle.apart
 
@@ -44,7 +44,7 @@ invariant_of-self-2 c =
     let seen : c.args.self.now.cells ≡ cells_of c.self.inside.nodes c.self.inside.front = sym (ap (λ (l : Chain). l.cells) c.self.view_is) in
     let there : is_at (cells_of c.self.inside.nodes c.self.inside.front) c.args.at ≡ true = subst (λ (l : List Cell). is_at l c.args.at ≡ true) seen c.requires in
     let step : Changed c.self.inside.nodes c.link_again.new.nodes c.self.inside.front c.self.inside.front c.args.at (λ u d v. (u ++ v) ++ of_kind c.args.kind d ∷ []) =
-    changed c.self.inside.nodes c.link_again.new.nodes c.self.inside.front c.self.inside.front c.args.at (λ u d v. (u ++ v) ++ of_kind c.args.kind d ∷ []) c.self.invariant there
+    changes_at c.self.inside.nodes c.link_again.new.nodes c.self.inside.front c.self.inside.front c.args.at (λ u d v. (u ++ v) ++ of_kind c.args.kind d ∷ []) c.self.invariant there
     (send_behind c.self.inside.nodes c.pass_over.new.nodes c.link_again.new.nodes c.self.inside.front c.args.at c.args.kind c.pass_over.result c.pass_over.ensures.node c.if-at-self.false c.pass_over.ensures.circle c.link_again.ensures.circle (c.link_again.ensures.len ∙ c.pass_over.ensures.len)) in
     step.held
 
@@ -53,7 +53,7 @@ returns-clause-cells c =
     let seen : c.args.self.now.cells ≡ cells_of c.self.inside.nodes c.self.inside.front = sym (ap (λ (l : Chain). l.cells) c.self.view_is) in
     let there : is_at (cells_of c.self.inside.nodes c.self.inside.front) c.args.at ≡ true = subst (λ (l : List Cell). is_at l c.args.at ≡ true) seen c.requires in
     let step : Changed c.self.inside.nodes c.link_again.new.nodes c.self.inside.front c.self.inside.front c.args.at (λ u d v. (u ++ v) ++ of_kind c.args.kind d ∷ []) =
-    changed c.self.inside.nodes c.link_again.new.nodes c.self.inside.front c.self.inside.front c.args.at (λ u d v. (u ++ v) ++ of_kind c.args.kind d ∷ []) c.self.invariant there
+    changes_at c.self.inside.nodes c.link_again.new.nodes c.self.inside.front c.self.inside.front c.args.at (λ u d v. (u ++ v) ++ of_kind c.args.kind d ∷ []) c.self.invariant there
     (send_behind c.self.inside.nodes c.pass_over.new.nodes c.link_again.new.nodes c.self.inside.front c.args.at c.args.kind c.pass_over.result c.pass_over.ensures.node c.if-at-self.false c.pass_over.ensures.circle c.link_again.ensures.circle (c.link_again.ensures.len ∙ c.pass_over.ensures.len)) in
     λ u v d parts is. step.cells u v d (sym seen ∙ parts) is
 
@@ -62,6 +62,6 @@ returns-clause-apart c =
     let seen : c.args.self.now.cells ≡ cells_of c.self.inside.nodes c.self.inside.front = sym (ap (λ (l : Chain). l.cells) c.self.view_is) in
     let there : is_at (cells_of c.self.inside.nodes c.self.inside.front) c.args.at ≡ true = subst (λ (l : List Cell). is_at l c.args.at ≡ true) seen c.requires in
     let step : Changed c.self.inside.nodes c.link_again.new.nodes c.self.inside.front c.self.inside.front c.args.at (λ u d v. (u ++ v) ++ of_kind c.args.kind d ∷ []) =
-    changed c.self.inside.nodes c.link_again.new.nodes c.self.inside.front c.self.inside.front c.args.at (λ u d v. (u ++ v) ++ of_kind c.args.kind d ∷ []) c.self.invariant there
+    changes_at c.self.inside.nodes c.link_again.new.nodes c.self.inside.front c.self.inside.front c.args.at (λ u d v. (u ++ v) ++ of_kind c.args.kind d ∷ []) c.self.invariant there
     (send_behind c.self.inside.nodes c.pass_over.new.nodes c.link_again.new.nodes c.self.inside.front c.args.at c.args.kind c.pass_over.result c.pass_over.ensures.node c.if-at-self.false c.pass_over.ensures.circle c.link_again.ensures.circle (c.link_again.ensures.len ∙ c.pass_over.ensures.len)) in
     step.held.circle.apart

@@ -8,21 +8,21 @@ use Rattle.std.proofs.lemmas.List.Folds.{find-append}
 use Rattle.clock_policy.specs.declared.key.Key.{Key}
 use Rattle.clock_policy.specs.declared.entry.Entry.{Entry}
 use Rattle.clock_policy.specs.declared.entry.EntryKind.TheVariants.{Hot, Test, Cold, Shadow}
-use Rattle.clock_policy.specs.ClockPro.{number, key_of, place_of, round, stays_in, settled, is_hot, is_cold, is_shadow, hot_count, cold_count, shadow_count, is_in_test, trimmed_tests, trimmed_part, trimmed_list}
+use Rattle.clock_policy.specs.ClockPro.{number, found_key, place_of, round, stays_in, settled, is_hot, is_cold, is_shadow, hot_count, cold_count, shadow_count, is_in_test, trimmed_tests, trimmed_part, trimmed_list}
 
 pub number_is : (p : Entry → Bool) (l : List Entry) → number p l ≡ count_by p l
 number_is p l = is_sum_by (number p) (λ e. cond (p e) 1 0) refl (λ _ _. refl) l
 
-pub key_of-find-append : (p : Entry → Bool) (a b : List Entry) → key_of (find p (a ++ b)) ≡ option_or (key_of (find p a)) (key_of (find p b))
+pub key_of-find-append : (p : Entry → Bool) (a b : List Entry) → found_key (find p (a ++ b)) ≡ option_or (found_key (find p a)) (found_key (find p b))
 key_of-find-append p [] b = refl
 key_of-find-append p (e ∷ es) b =
-    elim (p e) as (λ t. key_of (cond t (Some e) (find p (es ++ b))) ≡ option_or (key_of (cond t (Some e) (find p es))) (key_of (find p b))) [
+    elim (p e) as (λ t. found_key (cond t (Some e) (find p (es ++ b))) ≡ option_or (found_key (cond t (Some e) (find p es))) (found_key (find p b))) [
       | true ↦ refl
       | false ↦ key_of-find-append p es b
     ]
 
 pub settled_halves : (old new : List Entry) (hand : Option Key) → settled old new hand
-    ≡ option_or (key_of (find (stays_in new) (drop (place_of hand old) old))) (key_of (find (stays_in new) (take (place_of hand old) old)))
+    ≡ option_or (found_key (find (stays_in new) (drop (place_of hand old) old))) (found_key (find (stays_in new) (take (place_of hand old) old)))
 unfolding settled
 settled_halves old new hand = key_of-find-append (stays_in new) (drop (place_of hand old) old) (take (place_of hand old) old)
 
@@ -53,12 +53,12 @@ trimmed_list_then i l h = rw h refl
 pub trimmed_list_else : (i : ℕ) (l : List Entry) → any_shadow (drop i l) ≡ false → trimmed_list i l ≡ trimmed_part (take i l) ++ trimmed_part (drop i l)
 trimmed_list_else i l h = rw h refl
 
-pub shadow_halves : (i : ℕ) (l : List Entry) → key_of (find (λ e. is_shadow e.kind) (round i l))
-    ≡ option_or (key_of (find (λ e. is_shadow e.kind) (drop i l))) (key_of (find (λ e. is_shadow e.kind) (take i l)))
+pub shadow_halves : (i : ℕ) (l : List Entry) → found_key (find (λ e. is_shadow e.kind) (round i l))
+    ≡ option_or (found_key (find (λ e. is_shadow e.kind) (drop i l))) (found_key (find (λ e. is_shadow e.kind) (take i l)))
 shadow_halves i l = key_of-find-append (λ e. is_shadow e.kind) (drop i l) (take i l)
 
-pub any_halves : (i : ℕ) (l : List Entry) → key_of (find (λ _. true) (round i l))
-    ≡ option_or (key_of (find (λ _. true) (drop i l))) (key_of (find (λ _. true) (take i l)))
+pub any_halves : (i : ℕ) (l : List Entry) → found_key (find (λ _. true) (round i l))
+    ≡ option_or (found_key (find (λ _. true) (drop i l))) (found_key (find (λ _. true) (take i l)))
 any_halves i l = key_of-find-append (λ _. true) (drop i l) (take i l)
 
 -- each entry is hot, cold or a shadow

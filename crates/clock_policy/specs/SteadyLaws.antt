@@ -9,10 +9,10 @@ use Rattle.clock_policy.specs.declared.entry.EntryKind.{EntryKind}
 use Rattle.clock_policy.specs.declared.entry.EntryKind.TheVariants.{Shadow}
 use Rattle.clock_policy.specs.declared.answer.Bit.{Bit}
 use Rattle.clock_policy.specs.declared.answer.Bit.TheVariants.{Zero, One, Gone}
-use Rattle.clock_policy.specs.ClockPro.{ClockState, number, has_key, place, place_of, round, key_of, stays_in, settled, relisted, removed, appended, marked, sent_to_end, grown, fallen, cold_hand_on, shadowed, turned_to, trimmed, trimmed_once, tests_ended, hot_left, trimmed_list, trimmed_tests, test_count, shadow_count, is_shadow}
+use Rattle.clock_policy.specs.ClockPro.{ClockState, number, has_key, place, place_of, round, found_key, stays_in, settled, relisted, removed, appended, marked, sent_to_end, grown, fallen, cold_hand_on, shadowed, turned_to, trimmed, trimmed_once, tests_ended, hot_left, trimmed_list, trimmed_tests, test_count, shadow_count, is_shadow}
 use Rattle.clock_policy.specs.Lawful.{RestsIn}
-use Rattle.clock_policy.specs.Listed.{has_key_refl, list_any-round}
-use Rattle.clock_policy.specs.CountLaws.{same_key, has_key_sym, number-append, number-round, number-without, number-without_le, number-set, any_number, number_any, place_has, IsIn, place_holds, in_number, keys-tests_ended, keys-trimmed_list}
+use Rattle.clock_policy.specs.ListedLaws.{has_key_refl, list_any-round}
+use Rattle.clock_policy.specs.CountLaws.{has_key_same, has_key_sym, number-append, number-round, number-without, number-without_le, number-set, any_number, number_any, place_has, IsIn, place_holds, in_number, keys-tests_ended, keys-trimmed_list}
 
 pub record Based (s : ClockState) : Type 0 where
   pub least : 4 ≤ s.frames
@@ -69,15 +69,15 @@ none_stays (n ∷ ns) old i from h =
 pub settled_rests : (new old : List Entry) (hand : Option Key) → KeysFrom new old → RestsIn new (settled old new hand)
 unfolding settled
 settled_rests new old hand from =
-    elim (find (stays_in new) (round (place_of hand old) old)) as (λ found. find (stays_in new) (round (place_of hand old) old) ≡ found → RestsIn new (key_of found)) [
+    elim (find (stays_in new) (round (place_of hand old) old)) as (λ found. find (stays_in new) (round (place_of hand old) old) ≡ found → RestsIn new (found_key found)) [
       | None ↦ λ h. none_stays new old (place_of hand old) from h
       | Some e ↦ λ h. any_number (has_key e.key) new (found_passes (stays_in new) (round (place_of hand old) old) e h)
     ] refl
 
 -- the first entry from a place on is one of the list
-pub first_rests : (i : ℕ) (l : List Entry) → RestsIn l (key_of (find (λ _. true) (round i l)))
+pub first_rests : (i : ℕ) (l : List Entry) → RestsIn l (found_key (find (λ _. true) (round i l)))
 first_rests i l =
-    elim (round i l) as (λ r. round i l ≡ r → RestsIn l (key_of (find (λ _. true) r))) [
+    elim (round i l) as (λ r. round i l ≡ r → RestsIn l (found_key (find (λ _. true) r))) [
       | [] ↦ λ h. omega (arith, ap length h, length-append (drop i l) (take i l), length-drop i l, length-take i l)
       | e ∷ es ↦ λ h.
           let same : number (has_key e.key) (e ∷ es) ≡ number (has_key e.key) l = rw h at (number-round (has_key e.key) i l) in
@@ -108,8 +108,8 @@ removed_steady k s b = relisted_steady (take (place k s.entries) s.entries ++ dr
 -- two keys of one entry are one key
 same_number : (q k : Key) (e : Entry) (l : List Entry) → has_key q e ≡ true → has_key k e ≡ true → number (has_key q) l ≡ number (has_key k) l
 same_number q k e l h g =
-    let process : q.process ≡ k.process = sym (same_key q e h).0 ∙ (same_key k e g).0 in
-    let vpn : q.vpn ≡ k.vpn = sym (same_key q e h).1 ∙ (same_key k e g).1 in
+    let process : q.process ≡ k.process = sym (has_key_same q e h).0 ∙ (has_key_same k e g).0 in
+    let vpn : q.vpn ≡ k.vpn = sym (has_key_same q e h).1 ∙ (has_key_same k e g).1 in
     ap (λ (a : ℕ). number (λ n. (n.key.process == a) && (n.key.vpn == q.vpn)) l) process
     ∙ ap (λ (b : ℕ). number (λ n. (n.key.process == k.process) && (n.key.vpn == b)) l) vpn
 
@@ -156,7 +156,7 @@ marked_keys : (q k : Key) (kind : EntryKind) (l : List Entry) → place k l < le
 marked_keys q k kind l listed =
     let y : Entry = record { key = k; kind = kind } in
     let found : (x : Entry) × (slice_get l (place k l) ≡ Some x) × (has_key k x ≡ true) = place_has k l listed in
-    let key : (found.0.key.process ≡ k.process) × (found.0.key.vpn ≡ k.vpn) = same_key k found.0 found.2 in
+    let key : (found.0.key.process ≡ k.process) × (found.0.key.vpn ≡ k.vpn) = has_key_same k found.0 found.2 in
     let same : has_key q found.0 ≡ has_key q y = rw (key.0, key.1) refl in
     omega (arith, rw same at (number-set (has_key q) found.0 y l (place k l) found.1))
 
@@ -255,7 +255,7 @@ pub trimmed_once_steady : (s : ClockState) → Based s → Steady (trimmed_once 
 unfolding trimmed_once
 trimmed_once_steady s b =
     let i = place_of s.test_hand s.entries in
-    let at_shadow : ClockState = record s { test_hand = key_of (find (λ e. is_shadow e.kind) (round i s.entries)) } in
+    let at_shadow : ClockState = record s { test_hand = found_key (find (λ e. is_shadow e.kind) (round i s.entries)) } in
     let based : Based at_shadow = record {
       least = b.least;
       most = b.most;

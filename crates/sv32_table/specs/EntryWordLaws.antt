@@ -13,8 +13,8 @@ weigh-eq_one (suc (suc n)) weight small = absurd (omega arith)
 pub weigh-flag : (word weight : ℕ) → weigh (flag word weight) weight ≡ word / weight % 2 * weight
 weigh-flag word weight = weigh-eq_one (word / weight % 2) weight (omega arith)
 
-pub halves : (word : ℕ) → word ≡ word / 1 % 2 + 2 * (word / 2 % 2) + 4 * (word / 4 % 2) + 8 * (word / 8 % 2) + 16 * (word / 16)
-halves word = omega arith
+pub by_halving : (word : ℕ) → word ≡ word / 1 % 2 + 2 * (word / 2 % 2) + 4 * (word / 4 % 2) + 8 * (word / 8 % 2) + 16 * (word / 16)
+by_halving word = omega arith
 
 pub more_halves : (word : ℕ) → word / 16 ≡ word / 16 % 2 + 2 * (word / 32 % 2) + 4 * (word / 64 % 2) + 8 * (word / 128 % 2) + 16 * (word / 256)
 more_halves word = omega arith
@@ -30,7 +30,7 @@ word_of-entry_of word =
     let f = weigh-flag word 32 in
     let g = weigh-flag word 64 in
     let h = weigh-flag word 128 in
-    let low = halves word in
+    let low = by_halving word in
     let high = more_halves word in
     let top : word / 256 ≡ word / 256 % 4 + 4 * (word / 1024) = omega arith in
     omega arith

@@ -9,7 +9,7 @@ use Rattle.flat_machine.specs.declared.end.KillCause.{KillCause}
 use Rattle.machine_core.specs.Applying.{Applies}
 use Rattle.machine_core.specs.Machine.{CoreValue}
 use Rattle.machine_core.specs.MachineRun.{of_process, end_reason}
-use Rattle.machine_core.specs.Sides.{ProcessSideValue}
+use Rattle.machine_sides.specs.Sides.{ProcessSideValue}
 use Rattle.machine_core.specs.declared.error.EventRefusal.{EventRefusal}
 use Rattle.machine_core.specs.declared.event.Event.TheVariants.{Kill, Purge}
 use Rattle.machine_core.specs.declared.event.Reply.{Reply}

@@ -1,7 +1,7 @@
 -- Which processes of a machine have ended.
 use Rattle.std.specs.Prelude.{◌≡◌, ℕ, Some, IsSome, slice_get}
 use Rattle.machine_core.specs.Machine.{CoreValue}
-use Rattle.machine_core.specs.Sides.{ProcessSideValue}
+use Rattle.machine_sides.specs.Sides.{ProcessSideValue}
 
 -- the process of this number has ended, if there is one
 abbrev pub HasEnded : {S : Type 0} → CoreValue S → ℕ → Type 0

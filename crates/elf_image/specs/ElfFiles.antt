@@ -150,9 +150,17 @@ file_pages file = loaded_pages file (segments file)
 abbrev pub is_short : List ℕ → Bool
 is_short file = nat_lt (length file) 52
 
--- 2: EI_MAG0 to EI_MAG3 are not 7F 45 4C 46
+-- EI_MAG0 to EI_MAG3, little-endian: 7F, then `ELF`
+abbrev pub magic : ℕ
+magic = 0x464C_457F
+
+-- the file has these four bytes, and begins with them
+abbrev pub begins_as_elf : List ℕ → Bool
+begins_as_elf file = nat_lt 3 (length file) && (word_at 0 file == magic)
+
+-- 2: the file does not begin so
 abbrev pub is_not_elf : List ℕ → Bool
-is_not_elf file = not (word_at 0 file == 0x464C_457F)
+is_not_elf file = not (word_at 0 file == magic)
 
 -- 3: EI_CLASS is not ELFCLASS32, EI_DATA not ELFDATA2LSB or EI_VERSION not EV_CURRENT
 abbrev pub is_wrong_class : List ℕ → Bool

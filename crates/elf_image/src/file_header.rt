@@ -1,5 +1,5 @@
 ghost use Rattle.std.specs.Prelude.{◌≡◌, ◌+◌, ◌≤◌, length, slice_index};
-ghost use Rattle.elf_image.specs.ElfFiles.{half_at, word_at, is_short, is_not_elf, is_wrong_class, is_wrong_type, is_wrong_machine, has_flags, has_no_headers, headers_count, headers_offset, header_fault};
+ghost use Rattle.elf_image.specs.ElfFiles.{half_at, word_at, is_short, begins_as_elf, is_not_elf, is_wrong_class, is_wrong_type, is_wrong_machine, has_flags, has_no_headers, headers_count, headers_offset, header_fault};
 
 use crate::fault::ElfFault;
 use crate::format::{EXECUTABLE_FILE, HEADER_SIZE, PROGRAM_HEADER_SIZE, RISC_V, VERSION};
@@ -76,6 +76,16 @@ pub(crate) fn header_fault(file: &[u8]) -> Option<ElfFault>
     } else {
         None
     }
+}
+
+/// Whether a file begins as an ELF file does, with the four bytes of `EI_MAG0` to `EI_MAG3`. What follows may still be wrong.
+pub fn begins_as_elf(file: &[u8]) -> bool
+    ensures { result ≡ begins_as_elf file.now }
+{
+    if file.len() < 4 {
+        return false;
+    }
+    word_at(file, 0) == MAGIC
 }
 
 /// Whether the file begins otherwise than an ELF file does.

@@ -26,6 +26,7 @@ mod written_law;
 
 pub use byte_pages::{bytes_of_words, with_pages};
 pub use fault::ElfFault;
+pub use file_header::begins_as_elf;
 pub use image::{Image, ImagePage};
 pub use read::read_elf;
 pub use words::TEXT_START;

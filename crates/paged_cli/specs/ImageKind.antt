@@ -1,11 +1,11 @@
 -- In which of the three ways a file holds an image.
-use Rattle.std.specs.Prelude.{◌≡◌, ℕ, List, [], ◌∷◌, IsTrue, nat_eq, take, codes}
-use Rattle.std.specs.List.{starts_with}
+use Rattle.std.specs.Prelude.{◌≡◌, ℕ, List, [], ◌∷◌, IsTrue, take, codes}
+use Rattle.elf_image.specs.ElfFiles.{begins_as_elf}
 use Rattle.text_lines.specs.Text.{lines_of}
 
--- the four bytes with which ELF files begin: 7F, then `ELF`
+-- the four bytes with which ELF files begin
 abbrev pub BeginsAsElf : List ℕ → Type 0
-BeginsAsElf bytes = IsTrue (starts_with nat_eq bytes (127 ∷ 69 ∷ 76 ∷ 70 ∷ []))
+BeginsAsElf bytes = IsTrue (begins_as_elf bytes)
 
 -- a first line `.words`
 abbrev pub BeginsAsWords : List ℕ → Type 0

@@ -3,6 +3,7 @@
 ghost use Rattle.std.specs.Prelude.{◌≡◌, ◌↔◌};
 ghost use Rattle.paged_cli.specs.ImageKind.{BeginsAsElf, BeginsAsWords};
 
+use elf_image::begins_as_elf;
 use text_lines::next_line;
 
 /// What the file of an image is.
@@ -21,7 +22,7 @@ pub fn kind_of_file(file: &[u8]) -> ImageKind
     ensures elf { (result ≡ ImageKind.Elf) ↔ BeginsAsElf file.now }
     ensures words { (result ≡ ImageKind.Words) ↔ ((¬ BeginsAsElf file.now) × BeginsAsWords file.now) }
 {
-    if file.starts_with(b"\x7FELF") {
+    if begins_as_elf(file) {
         return ImageKind::Elf;
     }
     match next_line(file) {

@@ -1,7 +1,9 @@
 //! A plain Rust interpreter that translates by Sv32 page tables and a list of 16 translations, matching on the word itself.
 //!
-//! Fetches, loads and stores each try the entry that served last, then the list in turn, and walk the tables where no entry
-//! serves; a walk sets the accessed bit, and the dirty bit on a store, and the first of 16 entries goes.
+//! Fetches, loads and stores each try the entry that served last, then the list in turn (with `--cfg in_turn` the list in turn
+//! alone), and walk the tables where no entry serves; a walk sets the accessed bit, and the dirty bit on a store, and the first
+//! of 16 entries goes.
+#![cfg_attr(in_turn, allow(dead_code))]
 #[path = "../flat/elf.rs"]
 mod elf;
 
@@ -54,11 +56,18 @@ impl Machine {
     /// The place of an address among the frames' bytes.
     #[inline(always)]
     fn place(&mut self, address: u32, right: u8) -> Option<usize> {
+        #[cfg(in_turn)]
+        let entry = match (0..16).find(|&entry| self.serves(entry, address >> 12, right)) {
+            Some(entry) => entry,
+            None => self.walk(address >> 12, right)?,
+        };
+        #[cfg(not(in_turn))]
         let last = match right {
             EXECUTE => self.fetched,
             READ => self.loaded,
             _ => self.stored,
         };
+        #[cfg(not(in_turn))]
         let entry = if self.serves(last, address >> 12, right) { last } else { self.find(address >> 12, right)? };
         Some((self.entries[entry & 15].base | address & 4095) as usize)
     }

@@ -1,29 +1,23 @@
 -- What a hart's next line and the pages that it uses are, by what memory answers to the fetch.
-use Rattle.std.specs.Prelude.{◌≡◌, ℕ, zero, suc, List, [], ◌∷◌, Some, None, Result, Ok, Err, All, Contains, IsOk, refl}
+use Rattle.std.specs.Prelude.{◌≡◌, ℕ, zero, suc, List, [], ◌∷◌, Result, Ok, Err, All, Contains, IsOk, refl}
 use Rattle.std.proofs.Common.{arith, ap, sym, subst, ◌∙◌}
 use Rattle.page_memory.specs.declared.fault.MemoryFault.{MemoryFault}
 use Rattle.page_memory.specs.Words.{page_number}
 use Rattle.page_memory.specs.Memory.{Memory, fetched}
-use Rattle.rv_isa.specs.declared.instruction.Insn.{Insn}
 use Rattle.rv_isa.specs.Table.{insn_of}
-use Rattle.rv_exec.specs.declared.cause.Cause.TheVariants.{IllegalInstruction}
 use Rattle.rv_exec.specs.Causes.{fetch_cause}
 use Rattle.rv_exec.specs.declared.outcome.Outcome.{Outcome}
 use Rattle.rv_exec.specs.declared.outcome.Outcome.TheVariants.{Done, Ecall, Trap, Absent}
 use Rattle.rv_exec.specs.Registers.{Registers}
-use Rattle.rv_exec.specs.Line.{Traps, insn_line, decoded_line, fetched_line, line}
-use Rattle.rv_exec.specs.Uses.{data_pages, decoded_pages, fetched_pages, pages_used}
+use Rattle.rv_exec.specs.Line.{Traps, decoded_line, fetched_line, line}
+use Rattle.rv_exec.specs.Uses.{decoded_pages, fetched_pages, pages_used}
 use Rattle.rv_exec.specs.Outcomes.{Used, UsesPages}
 
 -- ---- the line
 
-pub line_insn : (regs : Registers) (memory : Memory) (word : ℕ) (insn : Insn) → fetched memory regs.pc ≡ Ok word → insn_of word ≡ Some insn → line regs memory ≡ insn_line regs memory insn
+pub line_fetched : (regs : Registers) (memory : Memory) (word : ℕ) → fetched memory regs.pc ≡ Ok word → line regs memory ≡ decoded_line regs memory word (insn_of word)
 unfolding line
-line_insn regs memory word insn h d = ap (fetched_line regs memory) h ∙ ap (decoded_line regs memory word) d
-
-pub line_illegal : (regs : Registers) (memory : Memory) (word : ℕ) → fetched memory regs.pc ≡ Ok word → insn_of word ≡ None → line regs memory ≡ Traps IllegalInstruction word
-unfolding line
-line_illegal regs memory word h d = ap (fetched_line regs memory) h ∙ ap (decoded_line regs memory word) d
+line_fetched regs memory word h = ap (fetched_line regs memory) h
 
 pub line_fault : (regs : Registers) (memory : Memory) (fault : MemoryFault) → fetched memory regs.pc ≡ Err fault → line regs memory ≡ Traps (fetch_cause fault) regs.pc
 unfolding line
@@ -31,15 +25,9 @@ line_fault regs memory fault h = ap (fetched_line regs memory) h
 
 -- ---- the pages
 
-pages_insn : (regs : Registers) (memory : Memory) (word : ℕ) (insn : Insn) → fetched memory regs.pc ≡ Ok word → insn_of word ≡ Some insn → pages_used regs memory ≡ page_number regs.pc ∷ data_pages regs memory insn
+pages_fetched : (regs : Registers) (memory : Memory) (word : ℕ) → fetched memory regs.pc ≡ Ok word → pages_used regs memory ≡ page_number regs.pc ∷ decoded_pages regs memory (insn_of word)
 unfolding pages_used
-pages_insn regs memory word insn h d =
-    ap (fetched_pages regs memory) h ∙ ap (λ found. page_number regs.pc ∷ decoded_pages regs memory found) d
-
-pages_illegal : (regs : Registers) (memory : Memory) (word : ℕ) → fetched memory regs.pc ≡ Ok word → insn_of word ≡ None → pages_used regs memory ≡ page_number regs.pc ∷ []
-unfolding pages_used
-pages_illegal regs memory word h d =
-    ap (fetched_pages regs memory) h ∙ ap (λ found. page_number regs.pc ∷ decoded_pages regs memory found) d
+pages_fetched regs memory word h = ap (fetched_pages regs memory) h
 
 pages_fault : (regs : Registers) (memory : Memory) (fault : MemoryFault) → fetched memory regs.pc ≡ Err fault → pages_used regs memory ≡ []
 unfolding pages_used
@@ -55,17 +43,17 @@ all_none P k d h = absurd (omega arith)
 contains_behind : (page other : ℕ) (pages : List ℕ) → Contains pages page → Contains (other ∷ pages) page
 contains_behind page other pages h = (suc h.0, omega arith, h.2)
 
--- the pages of an instruction are that of its fetch and those of its data
-pub uses_insn : (has marks lacks has' marks' lacks' : ℕ → Type 0) (regs : Registers) (memory memory' : Memory) (word : ℕ) (insn : Insn) (outcome : Outcome)
-    → fetched memory regs.pc ≡ Ok word → insn_of word ≡ Some insn → memory' ≡ memory
+-- the pages that a word uses are that of its fetch and those of its data
+pub uses_fetched : (has marks lacks has' marks' lacks' : ℕ → Type 0) (regs : Registers) (memory memory' : Memory) (word : ℕ) (outcome : Outcome)
+    → fetched memory regs.pc ≡ Ok word → memory' ≡ memory
     → ((page : ℕ) → has' page → has page) → ((page : ℕ) → lacks' page → lacks page) → ((page : ℕ) → marks page → marks' page)
     → has (page_number regs.pc) → marks (page_number regs.pc)
-    → UsesPages has' marks' lacks' (data_pages regs memory' insn) outcome
+    → UsesPages has' marks' lacks' (decoded_pages regs memory' (insn_of word)) outcome
     → UsesPages has marks' lacks (pages_used regs memory) outcome
-uses_insn has marks lacks has' marks' lacks' regs memory memory' word insn outcome h d e had lacked marked first mark rest =
-    let data_used : List ℕ = data_pages regs memory' insn in
+uses_fetched has marks lacks has' marks' lacks' regs memory memory' word outcome h e had lacked marked first mark rest =
+    let data_used : List ℕ = decoded_pages regs memory' (insn_of word) in
     let whole : pages_used regs memory ≡ page_number regs.pc ∷ data_used =
-    pages_insn regs memory word insn h d ∙ ap (λ m. page_number regs.pc ∷ data_pages regs m insn) (sym e) in
+    pages_fetched regs memory word h ∙ ap (λ m. page_number regs.pc ∷ decoded_pages regs m (insn_of word)) (sym e) in
     let all : Used has' marks' data_used → Used has marks' (page_number regs.pc ∷ data_used) =
     λ g. (
       all_front has (page_number regs.pc) data_used first (λ k d b. had _ (g.0 k d b)),
@@ -78,12 +66,6 @@ uses_insn has marks lacks has' marks' lacks' regs memory memory' word insn outco
       | Trap cause value ↦ all
       | Absent page ↦ λ g. (contains_behind page (page_number regs.pc) data_used g.0, lacked page g.1)
     ] rest)
-
-pub used_illegal : (has marks : ℕ → Type 0) (regs : Registers) (memory : Memory) (word : ℕ) → fetched memory regs.pc ≡ Ok word → insn_of word ≡ None
-    → has (page_number regs.pc) → marks (page_number regs.pc) → Used has marks (pages_used regs memory)
-used_illegal has marks regs memory word h d first mark =
-    subst (Used has marks) (sym (pages_illegal regs memory word h d))
-    (all_front has (page_number regs.pc) [] first (all_none has), all_front marks (page_number regs.pc) [] mark (all_none marks))
 
 pub used_fault : (has marks : ℕ → Type 0) (regs : Registers) (memory : Memory) (fault : MemoryFault) → fetched memory regs.pc ≡ Err fault → Used has marks (pages_used regs memory)
 used_fault has marks regs memory fault h = subst (Used has marks) (sym (pages_fault regs memory fault h)) (all_none has, all_none marks)

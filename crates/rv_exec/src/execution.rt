@@ -1,21 +1,23 @@
-ghost use Rattle.std.specs.Prelude.{◌≡◌, ◌<◌};
+ghost use Rattle.std.specs.Prelude.{◌≡◌, []};
 ghost use Rattle.page_memory.specs.Memory.{Memory};
-ghost use Rattle.rv_exec.specs.Registers.{register};
-ghost use Rattle.rv_exec.specs.Arithmetic.{even, immediate_operation, is_taken, result_of, shift_operation, word_of_signed, word_sum};
-ghost use Rattle.rv_exec.specs.Line.{address_at, branched, computed, insn_line, jumped, line};
-ghost use Rattle.rv_exec.specs.Uses.{pages_used, data_pages};
+ghost use Rattle.rv_isa.specs.Table.{insn_of, jalr_of, branch_of, load_of, store_of, op_immediate_of, shift_of, op_of, fence_of, amo_of, system_of};
+ghost use Rattle.rv_exec.specs.Line.{decoded_line, line};
+ghost use Rattle.rv_exec.specs.Uses.{decoded_pages, pages_used};
 ghost use Rattle.rv_exec.specs.Outcomes.{Follows, UnlessDone, UsesPages, IsPresent};
 
 use crate::accesses::{perform_amo, perform_load, perform_store};
 use crate::advance::{advance, compute};
-use crate::arithmetic::{add, branches, operate, operate_immediate, shift, without_lowest_bit};
+use crate::arithmetic::add;
 use crate::bus::{Bus, BusError};
 use crate::cause::Cause;
+use crate::jumps::{perform_branch, perform_jal, perform_jalr};
+use crate::operations::{perform_immediate, perform_op, perform_shift};
 use crate::outcome::Outcome;
 use crate::regs::Regs;
 use rv_isa::{
-    BranchKind, BranchOffset, Immediate, ImmediateKind, Insn, JumpOffset, OpKind, Reg, ShiftAmount,
-    ShiftKind, decode,
+    amo_kind, branch_kind, branch_offset, funct3, immediate, immediate_kind, jump_offset,
+    load_kind, op_kind, opcode, rd, rs1, rs2, shift_amount, shift_kind, store_immediate,
+    store_kind, upper_immediate,
 };
 
 /// Runs a hart's next instruction: fetches the word at pc and does what the instruction table says of it.
@@ -34,194 +36,215 @@ pub fn execute<B: Bus>(regs: &mut Regs, bus: &mut B) -> Outcome
 {
     let pc = regs.pc();
     match bus.fetch(pc) {
-        Ok(word) => match decode(word) {
-            Some(insn) => perform(regs, bus, &insn),
-            None => Outcome::Trap(Cause::IllegalInstruction, word),
-        },
+        Ok(word) => perform(regs, bus, word),
         Err(BusError::Fault(fault)) => Outcome::Trap(Cause::of_fetch(fault), pc),
         Err(BusError::Absent(page)) => Outcome::Absent(page),
     }
 }
 
-/// Does what the table says of an instruction that was fetched at pc. Execution is sequentially consistent: there is nothing
-/// left for a fence to order.
+/// Does what the table says of a word that was fetched at pc. The word's fields go straight to what is done with them: it is as
+/// if the word was decoded, but no instruction is built, which would take as long as to run it.
 #[inline(always)]
-#[tactic(auto, unfolding(crate::specs::Line::insn_line, crate::specs::Uses::data_pages))]
-fn perform<B: Bus>(regs: &mut Regs, bus: &mut B, insn: &Insn) -> Outcome
-    ensures line { let line = insn_line regs.old (B.memory bus.old) insn.now in
+#[tactic(auto, unfolding(rv_isa::specs::Table::insn_of, rv_isa::specs::Table::operation_of, crate::specs::Line::insn_line, crate::specs::Uses::data_pages))]
+fn perform<B: Bus>(regs: &mut Regs, bus: &mut B, word: u32) -> Outcome
+    ensures line { let line = decoded_line regs.old (B.memory bus.old) word (insn_of word) in
         Follows line result regs.new (B.memory bus.new) }
     ensures registers_stay { UnlessDone result (regs.new ≡ regs.old) }
     ensures memory_stays { UnlessDone result (B.memory bus.new ≡ B.memory bus.old) }
-    ensures pages { let used = data_pages regs.old (B.memory bus.old) insn.now in
+    ensures pages { let used = decoded_pages regs.old (B.memory bus.old) (insn_of word) in
         UsesPages (B.has bus.old) (B.marks bus.new) (B.lacks bus.old) used result }
     ensures kept { B.keeps bus.old bus.new }
 {
-    match *insn {
-        Insn::Lui { rd, immediate } => compute(regs, rd, immediate.value() << 12),
-        Insn::Auipc { rd, immediate } => {
-            let sum = add(regs.pc(), immediate.value() << 12);
-            compute(regs, rd, sum)
+    match opcode(word) {
+        0b011_0111 => compute(regs, rd(word), upper_immediate(word).value() << 12),
+        0b001_0111 => {
+            let sum = add(regs.pc(), upper_immediate(word).value() << 12);
+            compute(regs, rd(word), sum)
         }
-        Insn::Jal { rd, offset } => perform_jal(regs, rd, offset),
-        Insn::Jalr { rd, rs1, offset } => perform_jalr(regs, rd, rs1, offset),
-        Insn::Branch {
-            kind,
-            rs1,
-            rs2,
-            offset,
-        } => perform_branch(regs, kind, rs1, rs2, offset),
-        Insn::Load {
-            kind,
-            rd,
-            rs1,
-            offset,
-        } => perform_load(regs, bus, kind, rd, rs1, offset),
-        Insn::Store {
-            kind,
-            rs1,
-            rs2,
-            offset,
-        } => perform_store(regs, bus, kind, rs1, rs2, offset),
-        Insn::OpImmediate {
-            kind,
-            rd,
-            rs1,
-            immediate,
-        } => perform_immediate(regs, kind, rd, rs1, immediate),
-        Insn::Shift {
-            kind,
-            rd,
-            rs1,
-            amount,
-        } => perform_shift(regs, kind, rd, rs1, amount),
-        Insn::Op { kind, rd, rs1, rs2 } => perform_op(regs, kind, rd, rs1, rs2),
-        Insn::Fence { .. } => advance(regs),
-        Insn::Amo {
-            kind,
-            rd,
-            rs1,
-            rs2,
-            ..
-        } => perform_amo(regs, bus, kind, rd, regs.read(rs1), regs.read(rs2)),
-        Insn::Ecall => Outcome::Ecall,
-        Insn::Ebreak => Outcome::Trap(Cause::Breakpoint, regs.pc()),
+        0b110_1111 => perform_jal(regs, rd(word), jump_offset(word)),
+        0b110_0111 => jalr(regs, word),
+        0b110_0011 => branch(regs, word),
+        0b000_0011 => load(regs, bus, word),
+        0b010_0011 => store(regs, bus, word),
+        0b001_0011 => op_immediate(regs, word),
+        0b011_0011 => op(regs, word),
+        0b000_1111 => fence(regs, word),
+        0b010_1111 => amo(regs, bus, word),
+        0b111_0011 => system(regs, word),
+        _ => illegal(word),
     }
 }
 
-/// Jumps to a target, and keeps the address of the next instruction in the register of this number.
-#[inline]
-#[tactic(auto, unfolding(crate::specs::Line::jumped))]
-fn jump(regs: &mut Regs, link: u8, target: u32) -> Outcome
-    requires { link < 32 }
-    ensures line { (memory : Memory) → Follows (jumped regs.old memory link target) result regs.new memory }
+/// A word that is outside the table.
+#[inline(always)]
+fn illegal(word: u32) -> Outcome
+    ensures { result ≡ Outcome.Trap Cause.IllegalInstruction word }
+{
+    Outcome::Trap(Cause::IllegalInstruction, word)
+}
+
+/// Opcode JALR.
+#[inline(always)]
+#[tactic(auto, unfolding(rv_isa::specs::Table::jalr_of, crate::specs::Line::insn_line, crate::specs::Uses::data_pages))]
+fn jalr(regs: &mut Regs, word: u32) -> Outcome
+    ensures line { (memory : Memory) → Follows (decoded_line regs.old memory word (jalr_of word)) result regs.new memory }
     ensures registers_stay { UnlessDone result (regs.new ≡ regs.old) }
+    ensures no_pages { (memory : Memory) → decoded_pages regs.old memory (jalr_of word) ≡ [] }
     ensures present { IsPresent result }
 {
-    if target % 4 == 0 {
-        let next = regs.next_pc();
-        regs.set_pc(target);
-        regs.set_x(link, next);
-        Outcome::Done
+    if funct3(word) == 0b000 {
+        perform_jalr(regs, rd(word), rs1(word), immediate(word))
     } else {
-        Outcome::Trap(Cause::InstructionMisaligned, target)
+        illegal(word)
     }
 }
 
-/// Jumps to a target where the branch is taken.
-#[inline]
-fn branch(regs: &mut Regs, target: u32, taken: bool) -> Outcome
-    ensures line { (memory : Memory) → Follows (branched regs.old memory target taken) result regs.new memory }
+/// Opcode BRANCH.
+#[inline(always)]
+#[tactic(auto, unfolding(rv_isa::specs::Table::branch_of, crate::specs::Line::insn_line, crate::specs::Uses::data_pages))]
+fn branch(regs: &mut Regs, word: u32) -> Outcome
+    ensures line { (memory : Memory) → Follows (decoded_line regs.old memory word (branch_of word)) result regs.new memory }
     ensures registers_stay { UnlessDone result (regs.new ≡ regs.old) }
+    ensures no_pages { (memory : Memory) → decoded_pages regs.old memory (branch_of word) ≡ [] }
     ensures present { IsPresent result }
 {
-    if taken {
-        jump(regs, 0, target)
-    } else {
+    match branch_kind(word) {
+        Some(kind) => perform_branch(regs, kind, rs1(word), rs2(word), branch_offset(word)),
+        None => illegal(word),
+    }
+}
+
+/// Opcode LOAD.
+#[inline(always)]
+#[tactic(auto, unfolding(rv_isa::specs::Table::load_of, crate::specs::Line::insn_line, crate::specs::Uses::data_pages))]
+fn load<B: Bus>(regs: &mut Regs, bus: &mut B, word: u32) -> Outcome
+    ensures line { let line = decoded_line regs.old (B.memory bus.old) word (load_of word) in
+        Follows line result regs.new (B.memory bus.new) }
+    ensures registers_stay { UnlessDone result (regs.new ≡ regs.old) }
+    ensures memory_stays { UnlessDone result (B.memory bus.new ≡ B.memory bus.old) }
+    ensures pages { let used = decoded_pages regs.old (B.memory bus.old) (load_of word) in
+        UsesPages (B.has bus.old) (B.marks bus.new) (B.lacks bus.old) used result }
+    ensures kept { B.keeps bus.old bus.new }
+{
+    match load_kind(word) {
+        Some(kind) => perform_load(regs, bus, kind, rd(word), rs1(word), immediate(word)),
+        None => illegal(word),
+    }
+}
+
+/// Opcode STORE.
+#[inline(always)]
+#[tactic(auto, unfolding(rv_isa::specs::Table::store_of, crate::specs::Line::insn_line, crate::specs::Uses::data_pages))]
+fn store<B: Bus>(regs: &mut Regs, bus: &mut B, word: u32) -> Outcome
+    ensures line { let line = decoded_line regs.old (B.memory bus.old) word (store_of word) in
+        Follows line result regs.new (B.memory bus.new) }
+    ensures registers_stay { UnlessDone result (regs.new ≡ regs.old) }
+    ensures memory_stays { UnlessDone result (B.memory bus.new ≡ B.memory bus.old) }
+    ensures pages { let used = decoded_pages regs.old (B.memory bus.old) (store_of word) in
+        UsesPages (B.has bus.old) (B.marks bus.new) (B.lacks bus.old) used result }
+    ensures kept { B.keeps bus.old bus.new }
+{
+    match store_kind(word) {
+        Some(kind) => perform_store(regs, bus, kind, rs1(word), rs2(word), store_immediate(word)),
+        None => illegal(word),
+    }
+}
+
+/// Opcode OP-IMM.
+#[inline(always)]
+#[tactic(auto, unfolding(rv_isa::specs::Table::op_immediate_of, crate::specs::Line::insn_line, crate::specs::Uses::data_pages))]
+fn op_immediate(regs: &mut Regs, word: u32) -> Outcome
+    ensures line { (memory : Memory) → Follows (decoded_line regs.old memory word (op_immediate_of word)) result regs.new memory }
+    ensures registers_stay { UnlessDone result (regs.new ≡ regs.old) }
+    ensures no_pages { (memory : Memory) → decoded_pages regs.old memory (op_immediate_of word) ≡ [] }
+    ensures present { IsPresent result }
+{
+    match immediate_kind(word) {
+        Some(kind) => perform_immediate(regs, kind, rd(word), rs1(word), immediate(word)),
+        None => shift(regs, word),
+    }
+}
+
+/// Opcode OP-IMM, where it is a shift.
+#[inline(always)]
+#[tactic(auto, unfolding(rv_isa::specs::Table::shift_of, crate::specs::Line::insn_line, crate::specs::Uses::data_pages))]
+fn shift(regs: &mut Regs, word: u32) -> Outcome
+    ensures line { (memory : Memory) → Follows (decoded_line regs.old memory word (shift_of word)) result regs.new memory }
+    ensures registers_stay { UnlessDone result (regs.new ≡ regs.old) }
+    ensures no_pages { (memory : Memory) → decoded_pages regs.old memory (shift_of word) ≡ [] }
+    ensures present { IsPresent result }
+{
+    match shift_kind(word) {
+        Some(kind) => perform_shift(regs, kind, rd(word), rs1(word), shift_amount(word)),
+        None => illegal(word),
+    }
+}
+
+/// Opcode OP.
+#[inline(always)]
+#[tactic(auto, unfolding(rv_isa::specs::Table::op_of, crate::specs::Line::insn_line, crate::specs::Uses::data_pages))]
+fn op(regs: &mut Regs, word: u32) -> Outcome
+    ensures line { (memory : Memory) → Follows (decoded_line regs.old memory word (op_of word)) result regs.new memory }
+    ensures registers_stay { UnlessDone result (regs.new ≡ regs.old) }
+    ensures no_pages { (memory : Memory) → decoded_pages regs.old memory (op_of word) ≡ [] }
+    ensures present { IsPresent result }
+{
+    match op_kind(word) {
+        Some(kind) => perform_op(regs, kind, rd(word), rs1(word), rs2(word)),
+        None => illegal(word),
+    }
+}
+
+/// Opcode MISC-MEM. Execution is sequentially consistent: there is nothing left for a fence to order.
+#[inline(always)]
+#[tactic(auto, unfolding(rv_isa::specs::Table::fence_of, crate::specs::Line::insn_line, crate::specs::Uses::data_pages))]
+fn fence(regs: &mut Regs, word: u32) -> Outcome
+    ensures line { (memory : Memory) → Follows (decoded_line regs.old memory word (fence_of word)) result regs.new memory }
+    ensures registers_stay { UnlessDone result (regs.new ≡ regs.old) }
+    ensures no_pages { (memory : Memory) → decoded_pages regs.old memory (fence_of word) ≡ [] }
+    ensures present { IsPresent result }
+{
+    if funct3(word) == 0b000 {
         advance(regs)
+    } else {
+        illegal(word)
     }
 }
 
-/// Jumps to an offset past what rs1 holds, and keeps the address of the next instruction in rd.
+/// Opcode AMO.
 #[inline(always)]
-fn perform_jalr(regs: &mut Regs, rd: Reg, rs1: Reg, offset: Immediate) -> Outcome
-    ensures line { let target = even (address_at regs.old rs1 offset) in
-        (memory : Memory) → Follows (jumped regs.old memory rd target) result regs.new memory }
+#[tactic(auto, unfolding(rv_isa::specs::Table::amo_of, crate::specs::Line::insn_line, crate::specs::Uses::data_pages))]
+fn amo<B: Bus>(regs: &mut Regs, bus: &mut B, word: u32) -> Outcome
+    ensures line { let line = decoded_line regs.old (B.memory bus.old) word (amo_of word) in
+        Follows line result regs.new (B.memory bus.new) }
     ensures registers_stay { UnlessDone result (regs.new ≡ regs.old) }
+    ensures memory_stays { UnlessDone result (B.memory bus.new ≡ B.memory bus.old) }
+    ensures pages { let used = decoded_pages regs.old (B.memory bus.old) (amo_of word) in
+        UsesPages (B.has bus.old) (B.marks bus.new) (B.lacks bus.old) used result }
+    ensures kept { B.keeps bus.old bus.new }
+{
+    match amo_kind(word) {
+        Some(kind) => {
+            let address = regs.read(rs1(word));
+            let operand = regs.read(rs2(word));
+            perform_amo(regs, bus, kind, rd(word), address, operand)
+        }
+        None => illegal(word),
+    }
+}
+
+/// Opcode SYSTEM.
+#[inline(always)]
+#[tactic(auto, unfolding(rv_isa::specs::Table::system_of, crate::specs::Line::insn_line, crate::specs::Uses::data_pages))]
+fn system(regs: &mut Regs, word: u32) -> Outcome
+    ensures line { (memory : Memory) → Follows (decoded_line regs.old memory word (system_of word)) result regs.new memory }
+    ensures registers_stay { UnlessDone result (regs.new ≡ regs.old) }
+    ensures no_pages { (memory : Memory) → decoded_pages regs.old memory (system_of word) ≡ [] }
     ensures present { IsPresent result }
 {
-    let target = without_lowest_bit(add(regs.read(rs1), offset.word()));
-    jump(regs, rd.index(), target)
-}
-
-/// Branches by an offset where what rs1 and rs2 hold compares so.
-#[inline(always)]
-fn perform_branch(
-    regs: &mut Regs,
-    kind: BranchKind,
-    rs1: Reg,
-    rs2: Reg,
-    offset: BranchOffset,
-) -> Outcome
-    ensures line { let taken = is_taken kind (register regs.old rs1) (register regs.old rs2) in
-        (memory : Memory) → Follows (branched regs.old memory (word_sum regs.old.pc (word_of_signed offset)) taken) result regs.new memory }
-    ensures registers_stay { UnlessDone result (regs.new ≡ regs.old) }
-    ensures present { IsPresent result }
-{
-    let target = add(regs.pc(), offset.word());
-    let taken = branches(kind, regs.read(rs1), regs.read(rs2));
-    branch(regs, target, taken)
-}
-
-/// Jumps by an offset, and keeps the address of the next instruction in rd.
-#[inline(always)]
-fn perform_jal(regs: &mut Regs, rd: Reg, offset: JumpOffset) -> Outcome
-    ensures line { let target = word_sum regs.old.pc (word_of_signed offset) in
-        (memory : Memory) → Follows (jumped regs.old memory rd target) result regs.new memory }
-    ensures registers_stay { UnlessDone result (regs.new ≡ regs.old) }
-    ensures present { IsPresent result }
-{
-    let target = add(regs.pc(), offset.word());
-    jump(regs, rd.index(), target)
-}
-
-/// Writes the result of an operation on what rs1 and rs2 hold to rd.
-#[inline(always)]
-fn perform_op(regs: &mut Regs, kind: OpKind, rd: Reg, rs1: Reg, rs2: Reg) -> Outcome
-    ensures done { result ≡ Outcome.Done }
-    ensures written { regs.new ≡ computed regs.old rd (result_of kind (register regs.old rs1) (register regs.old rs2)) }
-{
-    let value = operate(kind, regs.read(rs1), regs.read(rs2));
-    compute(regs, rd, value)
-}
-
-/// Writes the result of an operation on what rs1 holds and an immediate to rd.
-#[inline(always)]
-fn perform_immediate(
-    regs: &mut Regs,
-    kind: ImmediateKind,
-    rd: Reg,
-    rs1: Reg,
-    immediate: Immediate,
-) -> Outcome
-    ensures done { result ≡ Outcome.Done }
-    ensures written { regs.new ≡ computed regs.old rd (result_of (immediate_operation kind) (register regs.old rs1) (word_of_signed immediate)) }
-{
-    let value = operate_immediate(kind, regs.read(rs1), immediate.word());
-    compute(regs, rd, value)
-}
-
-/// Writes what rs1 holds, shifted, to rd.
-#[inline(always)]
-fn perform_shift(
-    regs: &mut Regs,
-    kind: ShiftKind,
-    rd: Reg,
-    rs1: Reg,
-    amount: ShiftAmount,
-) -> Outcome
-    ensures done { result ≡ Outcome.Done }
-    ensures written { regs.new ≡ computed regs.old rd (result_of (shift_operation kind) (register regs.old rs1) amount) }
-{
-    let value = shift(kind, regs.read(rs1), u32::from(amount.value()));
-    compute(regs, rd, value)
+    match word {
+        0x0000_0073 => Outcome::Ecall,
+        0x0010_0073 => Outcome::Trap(Cause::Breakpoint, regs.pc()),
+        _ => illegal(word),
+    }
 }

@@ -12,7 +12,9 @@ mod bus;
 mod cause;
 mod execution;
 mod flat_bus;
+mod jumps;
 mod multiplication;
+mod operations;
 mod outcome;
 mod regs;
 #[cfg(test)]

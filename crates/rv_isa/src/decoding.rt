@@ -1,13 +1,15 @@
 ghost use Rattle.std.specs.Prelude.{◌≡◌, IfSome};
 ghost use Rattle.rv_isa.specs.declared.instruction.Insn.{Insn};
-ghost use Rattle.rv_isa.specs.Table.{Agrees, insn_of, jalr_of, branch_of, branch_kind, load_of, load_kind, store_of, store_kind, op_immediate_of, immediate_kind, shift_of, shift_kind, op_of, op_kind, fence_of, amo_of, amo_kind, system_of};
+ghost use Rattle.rv_isa.specs.Table.{Agrees, insn_of, jalr_of, branch_of, load_of, store_of, op_immediate_of, shift_of, op_of, fence_of, amo_of, system_of};
 
 use super::fields::{
-    branch_offset, fence_bits, field, immediate, jump_offset, rd, rs1, rs2, shift_amount,
-    store_immediate, upper_immediate,
+    branch_offset, fence_bits, field, funct3, immediate, jump_offset, opcode, rd, rs1, rs2,
+    shift_amount, store_immediate, upper_immediate,
 };
 use super::instruction::Insn;
-use super::kinds::{AmoKind, BranchKind, ImmediateKind, LoadKind, OpKind, ShiftKind, StoreKind};
+use super::kind_of_word::{
+    amo_kind, branch_kind, immediate_kind, load_kind, op_kind, shift_kind, store_kind,
+};
 
 /// The instruction that a word stands for, or `None` for a word outside RV32I, M and Zaamo (unprivileged manual).
 #[inline(always)]
@@ -25,7 +27,7 @@ pub fn decode(word: u32) -> Option<Insn>
 fn by_opcode(word: u32) -> Option<Insn>
     ensures { result ≡ insn_of word }
 {
-    match field(word, 6, 0) {
+    match opcode(word) {
         0b011_0111 => Some(Insn::Lui {
             rd: rd(word),
             immediate: upper_immediate(word),
@@ -56,7 +58,7 @@ fn by_opcode(word: u32) -> Option<Insn>
 fn jalr(word: u32) -> Option<Insn>
     ensures { result ≡ jalr_of word }
 {
-    if field(word, 14, 12) == 0b000 {
+    if funct3(word) == 0b000 {
         Some(Insn::Jalr {
             rd: rd(word),
             rs1: rs1(word),
@@ -72,7 +74,7 @@ fn jalr(word: u32) -> Option<Insn>
 fn branch(word: u32) -> Option<Insn>
     ensures { result ≡ branch_of word }
 {
-    let kind = branch_kind(field(word, 14, 12))?;
+    let kind = branch_kind(word)?;
     Some(Insn::Branch {
         kind,
         rs1: rs1(word),
@@ -82,27 +84,11 @@ fn branch(word: u32) -> Option<Insn>
 }
 
 #[inline(always)]
-#[tactic(auto, unfolding(crate::specs::Table::branch_kind))]
-fn branch_kind(funct3: u32) -> Option<BranchKind>
-    ensures { result ≡ branch_kind funct3 }
-{
-    match funct3 {
-        0b000 => Some(BranchKind::Beq),
-        0b001 => Some(BranchKind::Bne),
-        0b100 => Some(BranchKind::Blt),
-        0b101 => Some(BranchKind::Bge),
-        0b110 => Some(BranchKind::Bltu),
-        0b111 => Some(BranchKind::Bgeu),
-        _ => None,
-    }
-}
-
-#[inline(always)]
 #[tactic(auto, unfolding(crate::specs::Table::load_of))]
 fn load(word: u32) -> Option<Insn>
     ensures { result ≡ load_of word }
 {
-    let kind = load_kind(field(word, 14, 12))?;
+    let kind = load_kind(word)?;
     Some(Insn::Load {
         kind,
         rd: rd(word),
@@ -112,26 +98,11 @@ fn load(word: u32) -> Option<Insn>
 }
 
 #[inline(always)]
-#[tactic(auto, unfolding(crate::specs::Table::load_kind))]
-fn load_kind(funct3: u32) -> Option<LoadKind>
-    ensures { result ≡ load_kind funct3 }
-{
-    match funct3 {
-        0b000 => Some(LoadKind::Lb),
-        0b001 => Some(LoadKind::Lh),
-        0b010 => Some(LoadKind::Lw),
-        0b100 => Some(LoadKind::Lbu),
-        0b101 => Some(LoadKind::Lhu),
-        _ => None,
-    }
-}
-
-#[inline(always)]
 #[tactic(auto, unfolding(crate::specs::Table::store_of))]
 fn store(word: u32) -> Option<Insn>
     ensures { result ≡ store_of word }
 {
-    let kind = store_kind(field(word, 14, 12))?;
+    let kind = store_kind(word)?;
     Some(Insn::Store {
         kind,
         rs1: rs1(word),
@@ -141,24 +112,11 @@ fn store(word: u32) -> Option<Insn>
 }
 
 #[inline(always)]
-#[tactic(auto, unfolding(crate::specs::Table::store_kind))]
-fn store_kind(funct3: u32) -> Option<StoreKind>
-    ensures { result ≡ store_kind funct3 }
-{
-    match funct3 {
-        0b000 => Some(StoreKind::Sb),
-        0b001 => Some(StoreKind::Sh),
-        0b010 => Some(StoreKind::Sw),
-        _ => None,
-    }
-}
-
-#[inline(always)]
 #[tactic(auto, unfolding(crate::specs::Table::op_immediate_of))]
 fn op_immediate(word: u32) -> Option<Insn>
     ensures { result ≡ op_immediate_of word }
 {
-    match immediate_kind(field(word, 14, 12)) {
+    match immediate_kind(word) {
         Some(kind) => Some(Insn::OpImmediate {
             kind,
             rd: rd(word),
@@ -170,27 +128,11 @@ fn op_immediate(word: u32) -> Option<Insn>
 }
 
 #[inline(always)]
-#[tactic(auto, unfolding(crate::specs::Table::immediate_kind))]
-fn immediate_kind(funct3: u32) -> Option<ImmediateKind>
-    ensures { result ≡ immediate_kind funct3 }
-{
-    match funct3 {
-        0b000 => Some(ImmediateKind::Addi),
-        0b010 => Some(ImmediateKind::Slti),
-        0b011 => Some(ImmediateKind::Sltiu),
-        0b100 => Some(ImmediateKind::Xori),
-        0b110 => Some(ImmediateKind::Ori),
-        0b111 => Some(ImmediateKind::Andi),
-        _ => None,
-    }
-}
-
-#[inline(always)]
 #[tactic(auto, unfolding(crate::specs::Table::shift_of))]
 fn shift(word: u32) -> Option<Insn>
     ensures { result ≡ shift_of word }
 {
-    let kind = shift_kind(field(word, 31, 25), field(word, 14, 12))?;
+    let kind = shift_kind(word)?;
     Some(Insn::Shift {
         kind,
         rd: rd(word),
@@ -200,24 +142,11 @@ fn shift(word: u32) -> Option<Insn>
 }
 
 #[inline(always)]
-#[tactic(auto, unfolding(crate::specs::Table::shift_kind))]
-fn shift_kind(funct7: u32, funct3: u32) -> Option<ShiftKind>
-    ensures { result ≡ shift_kind funct7 funct3 }
-{
-    match (funct7, funct3) {
-        (0b000_0000, 0b001) => Some(ShiftKind::Slli),
-        (0b000_0000, 0b101) => Some(ShiftKind::Srli),
-        (0b010_0000, 0b101) => Some(ShiftKind::Srai),
-        _ => None,
-    }
-}
-
-#[inline(always)]
 #[tactic(auto, unfolding(crate::specs::Table::op_of))]
 fn op(word: u32) -> Option<Insn>
     ensures { result ≡ op_of word }
 {
-    let kind = op_kind(field(word, 31, 25), field(word, 14, 12))?;
+    let kind = op_kind(word)?;
     Some(Insn::Op {
         kind,
         rd: rd(word),
@@ -227,48 +156,11 @@ fn op(word: u32) -> Option<Insn>
 }
 
 #[inline(always)]
-#[tactic(auto, unfolding(crate::specs::Table::op_kind))]
-fn op_kind(funct7: u32, funct3: u32) -> Option<OpKind>
-    ensures { result ≡ op_kind funct7 funct3 }
-{
-    match funct7 {
-        0b000_0000 => match funct3 {
-            0b000 => Some(OpKind::Add),
-            0b001 => Some(OpKind::Sll),
-            0b010 => Some(OpKind::Slt),
-            0b011 => Some(OpKind::Sltu),
-            0b100 => Some(OpKind::Xor),
-            0b101 => Some(OpKind::Srl),
-            0b110 => Some(OpKind::Or),
-            0b111 => Some(OpKind::And),
-            _ => None,
-        },
-        0b000_0001 => match funct3 {
-            0b000 => Some(OpKind::Mul),
-            0b001 => Some(OpKind::Mulh),
-            0b010 => Some(OpKind::Mulhsu),
-            0b011 => Some(OpKind::Mulhu),
-            0b100 => Some(OpKind::Div),
-            0b101 => Some(OpKind::Divu),
-            0b110 => Some(OpKind::Rem),
-            0b111 => Some(OpKind::Remu),
-            _ => None,
-        },
-        0b010_0000 => match funct3 {
-            0b000 => Some(OpKind::Sub),
-            0b101 => Some(OpKind::Sra),
-            _ => None,
-        },
-        _ => None,
-    }
-}
-
-#[inline(always)]
 #[tactic(auto, unfolding(crate::specs::Table::fence_of))]
 fn fence(word: u32) -> Option<Insn>
     ensures { result ≡ fence_of word }
 {
-    if field(word, 14, 12) == 0 {
+    if funct3(word) == 0 {
         Some(Insn::Fence {
             bits: fence_bits(word),
             rd: rd(word),
@@ -284,7 +176,7 @@ fn fence(word: u32) -> Option<Insn>
 fn amo(word: u32) -> Option<Insn>
     ensures { result ≡ amo_of word }
 {
-    let kind = amo_kind(field(word, 31, 27), field(word, 14, 12))?;
+    let kind = amo_kind(word)?;
     Some(Insn::Amo {
         kind,
         acquire: field(word, 26, 26) == 1,
@@ -293,28 +185,6 @@ fn amo(word: u32) -> Option<Insn>
         rs1: rs1(word),
         rs2: rs2(word),
     })
-}
-
-#[inline(always)]
-#[tactic(auto, unfolding(crate::specs::Table::amo_kind))]
-fn amo_kind(funct5: u32, funct3: u32) -> Option<AmoKind>
-    ensures { result ≡ amo_kind funct5 funct3 }
-{
-    if funct3 != 0b010 {
-        return None;
-    }
-    match funct5 {
-        0b00000 => Some(AmoKind::Amoadd),
-        0b00001 => Some(AmoKind::Amoswap),
-        0b00100 => Some(AmoKind::Amoxor),
-        0b01000 => Some(AmoKind::Amoor),
-        0b01100 => Some(AmoKind::Amoand),
-        0b10000 => Some(AmoKind::Amomin),
-        0b10100 => Some(AmoKind::Amomax),
-        0b11000 => Some(AmoKind::Amominu),
-        0b11100 => Some(AmoKind::Amomaxu),
-        _ => None,
-    }
 }
 
 #[inline(always)]

@@ -19,9 +19,33 @@ pub(crate) fn field(word: u32, high: u32, low: u32) -> u32
     (word >> low) % (1 << (high + 1 - low))
 }
 
+/// Bits 6 to 0: which group of instructions a word belongs to.
+#[inline(always)]
+pub fn opcode(word: u32) -> u32
+    ensures { result ≡ bits word 6 0 }
+{
+    field(word, 6, 0)
+}
+
+/// Bits 14 to 12: which instructions of its opcode.
+#[inline(always)]
+pub fn funct3(word: u32) -> u32
+    ensures { result ≡ bits word 14 12 }
+{
+    field(word, 14, 12)
+}
+
+/// Bits 31 to 25: which of these, where they have no immediate.
+#[inline(always)]
+pub(crate) fn funct7(word: u32) -> u32
+    ensures { result ≡ bits word 31 25 }
+{
+    field(word, 31, 25)
+}
+
 /// The register in bits 11 to 7.
 #[inline(always)]
-pub(crate) fn rd(word: u32) -> Reg
+pub fn rd(word: u32) -> Reg
     ensures { result ≡ bits word 11 7 }
 {
     Reg::from_index(field(word, 11, 7) as u8)
@@ -29,7 +53,7 @@ pub(crate) fn rd(word: u32) -> Reg
 
 /// The register in bits 19 to 15.
 #[inline(always)]
-pub(crate) fn rs1(word: u32) -> Reg
+pub fn rs1(word: u32) -> Reg
     ensures { result ≡ bits word 19 15 }
 {
     Reg::from_index(field(word, 19, 15) as u8)
@@ -37,7 +61,7 @@ pub(crate) fn rs1(word: u32) -> Reg
 
 /// The register in bits 24 to 20.
 #[inline(always)]
-pub(crate) fn rs2(word: u32) -> Reg
+pub fn rs2(word: u32) -> Reg
     ensures { result ≡ bits word 24 20 }
 {
     Reg::from_index(field(word, 24, 20) as u8)
@@ -45,7 +69,7 @@ pub(crate) fn rs2(word: u32) -> Reg
 
 /// The shift amount in bits 24 to 20.
 #[inline(always)]
-pub(crate) fn shift_amount(word: u32) -> ShiftAmount
+pub fn shift_amount(word: u32) -> ShiftAmount
     ensures { result ≡ bits word 24 20 }
 {
     ShiftAmount::from_value(field(word, 24, 20) as u8)
@@ -53,7 +77,7 @@ pub(crate) fn shift_amount(word: u32) -> ShiftAmount
 
 /// The immediate of the I format.
 #[inline(always)]
-pub(crate) fn immediate(word: u32) -> Immediate
+pub fn immediate(word: u32) -> Immediate
     ensures { result ≡ i_immediate word }
 {
     Immediate::from_value(word.cast_signed() >> 20)
@@ -69,7 +93,7 @@ fn signed_funct7(word: u32) -> i32
 
 /// The immediate of the S format.
 #[inline(always)]
-pub(crate) fn store_immediate(word: u32) -> Immediate
+pub fn store_immediate(word: u32) -> Immediate
     ensures { result ≡ s_immediate word }
 {
     Immediate::from_value(signed_funct7(word) * 0x20 + field(word, 11, 7).cast_signed())
@@ -85,7 +109,7 @@ pub(crate) fn fence_bits(word: u32) -> FenceBits
 
 /// The immediate of the U format.
 #[inline(always)]
-pub(crate) fn upper_immediate(word: u32) -> UpperImmediate
+pub fn upper_immediate(word: u32) -> UpperImmediate
     ensures { result ≡ u_immediate word }
 {
     UpperImmediate::from_value(field(word, 31, 12))
@@ -102,7 +126,7 @@ fn sign(word: u32) -> i32
 
 /// The distance of the B format.
 #[inline(always)]
-pub(crate) fn branch_offset(word: u32) -> BranchOffset
+pub fn branch_offset(word: u32) -> BranchOffset
     ensures { result ≡ b_immediate word }
 {
     let low = field(word, 7, 7) * 0x800 + field(word, 30, 25) * 0x20 + field(word, 11, 8) * 2;
@@ -111,7 +135,7 @@ pub(crate) fn branch_offset(word: u32) -> BranchOffset
 
 /// The distance of the J format.
 #[inline(always)]
-pub(crate) fn jump_offset(word: u32) -> JumpOffset
+pub fn jump_offset(word: u32) -> JumpOffset
     ensures { result ≡ j_immediate word }
 {
     let low = field(word, 19, 12) * 0x1000 + field(word, 20, 20) * 0x800 + field(word, 30, 21) * 2;

@@ -8,6 +8,7 @@ mod decoding;
 mod encoding;
 mod fields;
 mod instruction;
+mod kind_of_word;
 mod kinds;
 mod laws;
 mod operands;
@@ -18,7 +19,14 @@ mod text;
 
 pub use decoding::decode;
 pub use encoding::encode;
+pub use fields::{
+    branch_offset, funct3, immediate, jump_offset, opcode, rd, rs1, rs2, shift_amount,
+    store_immediate, upper_immediate,
+};
 pub use instruction::Insn;
+pub use kind_of_word::{
+    amo_kind, branch_kind, immediate_kind, load_kind, op_kind, shift_kind, store_kind,
+};
 pub use kinds::{AmoKind, BranchKind, ImmediateKind, LoadKind, OpKind, ShiftKind, StoreKind};
 pub use laws::{one_instruction, one_word, table_lookup};
 pub use operands::{

@@ -2,48 +2,37 @@
 use Rattle.std.proofs.Common.{◌≡◌, sym, ap, ◌∙◌, subst, Ok, Err, IsOk}
 use Rattle.page_memory.specs.Words.{page_number}
 use Rattle.page_memory.specs.Memory.{fetched}
-use Rattle.rv_exec.specs.Line.{line, insn_line}
-use Rattle.rv_exec.specs.LineLaws.{line_insn, line_illegal, line_fault, uses_insn, used_illegal, used_fault, contains_fetch}
+use Rattle.rv_isa.specs.Table.{insn_of}
+use Rattle.rv_exec.specs.Line.{line, decoded_line}
+use Rattle.rv_exec.specs.LineLaws.{line_fetched, line_fault, uses_fetched, used_fault, contains_fetch}
 use Rattle.rv_exec.specs.Outcomes.{Follows}
 use Rattle.rv_exec.proofs.execution.execute.Goals as goal
 
-pub returns-in-Some-clause-line : goal.returns-in-Some-clause-line
-returns-in-Some-clause-line g c =
+pub returns-in-Ok-clause-line : goal.returns-in-Ok-clause-line
+returns-in-Ok-clause-line g c =
     let regs = c.args.regs.now in
     let memory = g.B.Bus.memory c.args.bus.now in
-    let fetch : fetched memory regs.pc ≡ Ok c.in-Ok.word = rw (← c.pc-pc.ensures) c.in-Ok.ensures.answer.0 in
-    let whole : line regs memory ≡ insn_line regs (g.B.Bus.memory c.fetch.new.self) c.in-Some.insn =
-    line_insn regs memory c.in-Ok.word c.in-Some.insn fetch (sym c.in-Some.ensures.value)
-    ∙ ap (λ m. insn_line regs m c.in-Some.insn) (sym c.in-Ok.ensures.same) in
+    let word = c.in-Ok.word in
+    let fetch : fetched memory regs.pc ≡ Ok word = rw (← c.pc-pc.ensures) c.in-Ok.ensures.answer.0 in
+    let whole : line regs memory ≡ decoded_line regs (g.B.Bus.memory c.fetch.new.self) word (insn_of word) =
+    line_fetched regs memory word fetch ∙ ap (λ m. decoded_line regs m word (insn_of word)) (sym c.in-Ok.ensures.same) in
     subst (λ l. Follows l c.perform.result c.perform.new.regs (g.B.Bus.memory c.perform.new.bus)) (sym whole) c.perform.ensures.line
 
-pub returns-in-Some-clause-pages : goal.returns-in-Some-clause-pages
-returns-in-Some-clause-pages g c =
+pub returns-in-Ok-clause-pages : goal.returns-in-Ok-clause-pages
+returns-in-Ok-clause-pages g c =
     let regs = c.args.regs.now in
     let memory = g.B.Bus.memory c.args.bus.now in
     let fetch : fetched memory regs.pc ≡ Ok c.in-Ok.word = rw (← c.pc-pc.ensures) c.in-Ok.ensures.answer.0 in
     let first : g.B.Bus.has c.args.bus.now (page_number regs.pc) = rw (← c.pc-pc.ensures) c.in-Ok.ensures.answer.1.0 in
     let mark : g.B.Bus.marks c.fetch.new.self (page_number regs.pc) = rw (← c.pc-pc.ensures) c.in-Ok.ensures.answer.1.1 in
-    uses_insn (g.B.Bus.has c.args.bus.now) (g.B.Bus.marks c.fetch.new.self) (g.B.Bus.lacks c.args.bus.now)
+    uses_fetched (g.B.Bus.has c.args.bus.now) (g.B.Bus.marks c.fetch.new.self) (g.B.Bus.lacks c.args.bus.now)
     (g.B.Bus.has c.fetch.new.self) (g.B.Bus.marks c.perform.new.bus) (g.B.Bus.lacks c.fetch.new.self)
-    regs memory (g.B.Bus.memory c.fetch.new.self) c.in-Ok.word c.in-Some.insn c.perform.result
-    fetch (sym c.in-Some.ensures.value) c.in-Ok.ensures.same
+    regs memory (g.B.Bus.memory c.fetch.new.self) c.in-Ok.word c.perform.result
+    fetch c.in-Ok.ensures.same
     (λ page h. g.met.B.Bus.had_before _ _ page c.in-Ok.ensures.kept h)
     (λ page h. g.met.B.Bus.lacked_before _ _ page c.in-Ok.ensures.kept h)
     (λ page h. g.met.B.Bus.marked_on _ _ page c.perform.ensures.kept h)
     first mark c.perform.ensures.pages
-
-pub returns-in-None-clause-line : goal.returns-in-None-clause-line
-returns-in-None-clause-line g c =
-    let fetch : fetched (g.B.Bus.memory c.args.bus.now) c.args.regs.now.pc ≡ Ok c.in-Ok.word = rw (← c.pc-pc.ensures) c.in-Ok.ensures.answer.0 in
-    line_illegal c.args.regs.now (g.B.Bus.memory c.args.bus.now) c.in-Ok.word fetch (sym c.in-None.ensures.value)
-
-pub returns-in-None-clause-pages : goal.returns-in-None-clause-pages
-returns-in-None-clause-pages g c =
-    let fetch : fetched (g.B.Bus.memory c.args.bus.now) c.args.regs.now.pc ≡ Ok c.in-Ok.word = rw (← c.pc-pc.ensures) c.in-Ok.ensures.answer.0 in
-    let first : g.B.Bus.has c.args.bus.now (page_number c.args.regs.now.pc) = rw (← c.pc-pc.ensures) c.in-Ok.ensures.answer.1.0 in
-    let mark : g.B.Bus.marks c.fetch.new.self (page_number c.args.regs.now.pc) = rw (← c.pc-pc.ensures) c.in-Ok.ensures.answer.1.1 in
-    used_illegal (g.B.Bus.has c.args.bus.now) (g.B.Bus.marks c.fetch.new.self) c.args.regs.now (g.B.Bus.memory c.args.bus.now) c.in-Ok.word fetch (sym c.in-None.ensures.value) first mark
 
 pub returns-in-Err-Fault-clause-line : goal.returns-in-Err-Fault-clause-line
 returns-in-Err-Fault-clause-line g c =

@@ -16,7 +16,7 @@ use crate::outcome::Outcome;
 use crate::regs::Regs;
 use rv_isa::{
     amo_kind, branch_kind, branch_offset, funct3, immediate, immediate_kind, jump_offset,
-    load_kind, op_kind, opcode, rd, rs1, rs2, shift_amount, shift_kind, store_immediate,
+    load_kind, op_kind, opcode, opcodes, rd, rs1, rs2, shift_amount, shift_kind, store_immediate,
     store_kind, upper_immediate,
 };
 
@@ -56,21 +56,21 @@ fn perform<B: Bus>(regs: &mut Regs, bus: &mut B, word: u32) -> Outcome
     ensures kept { B.keeps bus.old bus.new }
 {
     match opcode(word) {
-        0b011_0111 => compute(regs, rd(word), upper_immediate(word).value() << 12),
-        0b001_0111 => {
+        opcodes::LUI => compute(regs, rd(word), upper_immediate(word).value() << 12),
+        opcodes::AUIPC => {
             let sum = add(regs.pc(), upper_immediate(word).value() << 12);
             compute(regs, rd(word), sum)
         }
-        0b110_1111 => perform_jal(regs, rd(word), jump_offset(word)),
-        0b110_0111 => jalr(regs, word),
-        0b110_0011 => branch(regs, word),
-        0b000_0011 => load(regs, bus, word),
-        0b010_0011 => store(regs, bus, word),
-        0b001_0011 => op_immediate(regs, word),
-        0b011_0011 => op(regs, word),
-        0b000_1111 => fence(regs, word),
-        0b010_1111 => amo(regs, bus, word),
-        0b111_0011 => system(regs, word),
+        opcodes::JAL => perform_jal(regs, rd(word), jump_offset(word)),
+        opcodes::JALR => jalr(regs, word),
+        opcodes::BRANCH => branch(regs, word),
+        opcodes::LOAD => load(regs, bus, word),
+        opcodes::STORE => store(regs, bus, word),
+        opcodes::OP_IMM => op_immediate(regs, word),
+        opcodes::OP => op(regs, word),
+        opcodes::MISC_MEM => fence(regs, word),
+        opcodes::AMO => amo(regs, bus, word),
+        opcodes::SYSTEM => system(regs, word),
         _ => illegal(word),
     }
 }

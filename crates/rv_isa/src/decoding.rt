@@ -10,6 +10,7 @@ use super::instruction::Insn;
 use super::kind_of_word::{
     amo_kind, branch_kind, immediate_kind, load_kind, op_kind, shift_kind, store_kind,
 };
+use super::opcodes;
 
 /// The instruction that a word stands for, or `None` for a word outside RV32I, M and Zaamo (unprivileged manual).
 #[inline(always)]
@@ -28,27 +29,27 @@ fn by_opcode(word: u32) -> Option<Insn>
     ensures { result ≡ insn_of word }
 {
     match opcode(word) {
-        0b011_0111 => Some(Insn::Lui {
+        opcodes::LUI => Some(Insn::Lui {
             rd: rd(word),
             immediate: upper_immediate(word),
         }),
-        0b001_0111 => Some(Insn::Auipc {
+        opcodes::AUIPC => Some(Insn::Auipc {
             rd: rd(word),
             immediate: upper_immediate(word),
         }),
-        0b110_1111 => Some(Insn::Jal {
+        opcodes::JAL => Some(Insn::Jal {
             rd: rd(word),
             offset: jump_offset(word),
         }),
-        0b110_0111 => jalr(word),
-        0b110_0011 => branch(word),
-        0b000_0011 => load(word),
-        0b010_0011 => store(word),
-        0b001_0011 => op_immediate(word),
-        0b011_0011 => op(word),
-        0b000_1111 => fence(word),
-        0b010_1111 => amo(word),
-        0b111_0011 => system(word),
+        opcodes::JALR => jalr(word),
+        opcodes::BRANCH => branch(word),
+        opcodes::LOAD => load(word),
+        opcodes::STORE => store(word),
+        opcodes::OP_IMM => op_immediate(word),
+        opcodes::OP => op(word),
+        opcodes::MISC_MEM => fence(word),
+        opcodes::AMO => amo(word),
+        opcodes::SYSTEM => system(word),
         _ => None,
     }
 }

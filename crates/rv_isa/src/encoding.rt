@@ -6,6 +6,7 @@ use super::instruction::Insn;
 use super::kinds::{
     AmoKind, BranchKind, Code, ImmediateKind, LoadKind, OpKind, ShiftKind, StoreKind,
 };
+use super::opcodes;
 use super::operands::{BranchOffset, FenceBits, Immediate, JumpOffset, Reg, UpperImmediate};
 
 /// The word of an instruction, in the formats of the unprivileged manual.
@@ -21,44 +22,44 @@ fn word_of(insn: Insn) -> u32
     ensures { Agrees result insn }
 {
     match insn {
-        Insn::Lui { rd, immediate } => u_format(0b011_0111, rd, immediate),
-        Insn::Auipc { rd, immediate } => u_format(0b001_0111, rd, immediate),
-        Insn::Jal { rd, offset } => j_format(0b110_1111, rd, offset),
-        Insn::Jalr { rd, rs1, offset } => i_format(0b110_0111, 0, rd, rs1, offset),
+        Insn::Lui { rd, immediate } => u_format(opcodes::LUI, rd, immediate),
+        Insn::Auipc { rd, immediate } => u_format(opcodes::AUIPC, rd, immediate),
+        Insn::Jal { rd, offset } => j_format(opcodes::JAL, rd, offset),
+        Insn::Jalr { rd, rs1, offset } => i_format(opcodes::JALR, 0, rd, rs1, offset),
         Insn::Branch {
             kind,
             rs1,
             rs2,
             offset,
-        } => { b_format(0b110_0011, branch_code(kind), rs1, rs2, offset) }
+        } => { b_format(opcodes::BRANCH, branch_code(kind), rs1, rs2, offset) }
         Insn::Load {
             kind,
             rd,
             rs1,
             offset,
-        } => i_format(0b000_0011, load_code(kind), rd, rs1, offset),
+        } => i_format(opcodes::LOAD, load_code(kind), rd, rs1, offset),
         Insn::Store {
             kind,
             rs1,
             rs2,
             offset,
-        } => s_format(0b010_0011, store_code(kind), rs1, rs2, offset),
+        } => s_format(opcodes::STORE, store_code(kind), rs1, rs2, offset),
         Insn::OpImmediate {
             kind,
             rd,
             rs1,
             immediate,
-        } => { i_format(0b001_0011, immediate_code(kind), rd, rs1, immediate) }
+        } => { i_format(opcodes::OP_IMM, immediate_code(kind), rd, rs1, immediate) }
         Insn::Shift {
             kind,
             rd,
             rs1,
             amount,
-        } => { r_format(0b001_0011, shift_code(kind), rd, rs1, amount.value()) }
+        } => { r_format(opcodes::OP_IMM, shift_code(kind), rd, rs1, amount.value()) }
         Insn::Op { kind, rd, rs1, rs2 } => {
-            r_format(0b011_0011, op_code(kind), rd, rs1, rs2.index())
+            r_format(opcodes::OP, op_code(kind), rd, rs1, rs2.index())
         }
-        Insn::Fence { bits, rd, rs1 } => fence_format(0b000_1111, bits, rd, rs1),
+        Insn::Fence { bits, rd, rs1 } => fence_format(opcodes::MISC_MEM, bits, rd, rs1),
         Insn::Amo {
             kind,
             acquire,
@@ -172,7 +173,7 @@ fn amo_format(funct5: u32, ordering: (u32, u32), rd: Reg, rs1: Reg, rs2: Reg) ->
     let rs1 = u32::from(rs1.index());
     let rd = u32::from(rd.index());
     let funct7 = (funct5 << 2) + (ordering.0 << 1) + ordering.1;
-    (funct7 << 25) + (rs2 << 20) + (rs1 << 15) + (0b010 << 12) + (rd << 7) + 0b010_1111
+    (funct7 << 25) + (rs2 << 20) + (rs1 << 15) + (0b010 << 12) + (rd << 7) + opcodes::AMO
 }
 
 /// A flag as a bit.

@@ -11,6 +11,7 @@ mod instruction;
 mod kind_of_word;
 mod kinds;
 mod laws;
+pub mod opcodes;
 mod operands;
 mod split;
 #[cfg(test)]

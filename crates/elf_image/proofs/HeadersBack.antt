@@ -1,17 +1,16 @@
 -- What the headers of a written file say when they are read.
-use Rattle.std.proofs.Common.{◌≡◌, ℕ, zero, suc, ◌+◌, ◌*◌, ◌<◌, ◌≤◌, ◌^◌, Bool, true, false, cond, nat_lt, ◌&&◌, ◌||◌, List, [], ◌∷◌, ◌++◌, length, drop, map, flat_map, slice_index_or, get_or, Option, Some, None, arith, refl, sym, ap, ◌∙◌, append_assoc}
+use Rattle.std.proofs.Common.{◌≡◌, ℕ, zero, suc, ◌+◌, ◌*◌, ◌<◌, ◌≤◌, ◌^◌, Bool, true, false, cond, nat_lt, ◌&&◌, ◌||◌, List, [], ◌∷◌, ◌++◌, length, drop, map, flat_map, slice_index_or, get_or, None, arith, refl, sym, ap, ◌∙◌, append_assoc, le-ltb}
 use Rattle.std.specs.List.{range_with_len}
 use Rattle.std.proofs.lemmas.List.{drop-drop, get_or-map, length-map}
 use Rattle.std.proofs.lemmas.List.FromFn.{fill_by_all}
 use Rattle.std.proofs.Math.Seq.{drop-append-add}
-use Rattle.std.proofs.lemmas.Bool.{false≢true}
-use Rattle.std.proofs.lemmas.Bool.Decides.{nat_tests}
+use Rattle.std.proofs.lemmas.Bool.{and_right}
+use Rattle.elf_image.specs.PartsLaws.{no_fault_after}
 use Rattle.byteorder.specs.Endian.{little_bytes, little_number}
 use Rattle.byteorder.specs.Numbers.{little_number-reads_back}
 use Rattle.page_memory.specs.Rights.{may}
 use Rattle.page_memory.specs.declared.rights.Rights.{Rights}
 use Rattle.page_memory.specs.declared.words.Access.TheVariants.{Fetch, Load, Store}
-use Rattle.elf_image.specs.declared.fault.ElfFault.{ElfFault}
 use Rattle.elf_image.specs.declared.fault.ElfFault.TheVariants.{Short, Headers}
 use Rattle.elf_image.specs.declared.runs.Run.{Run}
 use Rattle.elf_image.specs.declared.program_header.ProgramHeader.{ProgramHeader}
@@ -38,23 +37,12 @@ offset_back : (entry count : ℕ) (rest : List ℕ) → headers_offset (file_hea
 unfolding word_at file_header
 offset_back entry count rest = refl
 
-skips : (test : Bool) (fault : ElfFault) (rest : Option ElfFault) → test ≡ false → rest ≡ None → cond test (Some fault) rest ≡ None
-skips true fault rest e h = absurd (false≢true (sym e))
-skips false fault rest e h = h
-
-pub not_less : (a b : ℕ) → b ≤ a → nat_lt a b ≡ false
-not_less a b h = grind (arith, nat_tests)
-
-and_none : (b c : Bool) → c ≡ false → (b && c) ≡ false
-and_none true c e = e
-and_none false c e = refl
-
 pub header_passes : (entry count : ℕ) (rest : List ℕ) → count < 2 ^ 16 → 52 + 32 * count ≤ length (file_header entry count ++ rest) → header_fault (file_header entry count ++ rest) ≡ None
 unfolding header_fault half_at word_at file_header
 header_passes entry count rest few long =
     let size : ℕ = length (file_header entry count ++ rest) in
-    skips (nat_lt size 52) Short _ (not_less size 52 (omega arith))
-    (skips (nat_lt 0 (little_number 2 (little_bytes 2 count)) && (false || nat_lt size (52 + 32 * little_number 2 (little_bytes 2 count)))) Headers None (ap (λ n. nat_lt 0 n && (false || nat_lt size (52 + 32 * n))) (half_back count [] few) ∙ and_none (nat_lt 0 count) (nat_lt size (52 + 32 * count)) (not_less size (52 + 32 * count) long)) refl)
+    no_fault_after (nat_lt size 52) Short _ (le-ltb size 52 (omega arith))
+    (no_fault_after (nat_lt 0 (little_number 2 (little_bytes 2 count)) && (false || nat_lt size (52 + 32 * little_number 2 (little_bytes 2 count)))) Headers None (ap (λ n. nat_lt 0 n && (false || nat_lt size (52 + 32 * n))) (half_back count [] few) ∙ and_right (nat_lt 0 count) (nat_lt size (52 + 32 * count)) (le-ltb size (52 + 32 * count) long)) refl)
 
 -- what the program header of a run says
 abbrev pub header_of : ℕ → Run → ProgramHeader

@@ -1,9 +1,9 @@
 -- The pages that a written file loads are the image's.
-use Rattle.std.proofs.Common.{◌≡◌, ℕ, zero, suc, ◌+◌, ◌*◌, ◌<◌, ◌≤◌, Bool, true, false, cond, not, ◌==◌, List, [], ◌∷◌, ◌++◌, length, map, slice_index, bit_and, arith, refl, sym, ap, ◌∙◌, inl, inr, ◌⊎◌, IsTrue}
+use Rattle.std.proofs.Common.{◌≡◌, ℕ, zero, suc, ◌+◌, ◌*◌, ◌<◌, ◌≤◌, Bool, true, false, cond, not, ◌==◌, List, [], ◌∷◌, ◌++◌, length, map, slice_index, bit_and, arith, refl, sym, ap, ◌∙◌, inl, inr, IsTrue}
 use Rattle.std.specs.List.{list_any, filter, range_with_len}
 use Rattle.std.proofs.lemmas.List.{get_or_append_left, get_or-append-add}
 use Rattle.std.proofs.lemmas.List.FromFn.{fill_by_all}
-use Rattle.std.proofs.lemmas.Bool.{false≢true}
+use Rattle.std.proofs.lemmas.Bool.{false≢true, cases_Bool}
 use Rattle.page_memory.specs.Rights.{may, readable}
 use Rattle.page_memory.specs.declared.words.Access.TheVariants.{Load, Store}
 use Rattle.elf_image.specs.declared.image.ImagePage.{ImagePage}
@@ -15,10 +15,7 @@ use Rattle.elf_image.specs.WrittenFiles.{flags_of, page_bytes}
 use Rattle.elf_image.proofs.HeadersBack.{header_of}
 use Rattle.elf_image.proofs.LoadedRuns.{blank, page_at, Rising, touched, touched_only, given, byte_loaded}
 use Rattle.elf_image.proofs.Tiles.{Tile}
-
-decide : (b : Bool) → (b ≡ true) ⊎ (b ≡ false)
-decide true = inl refl
-decide false = inr refl
+use Rattle.elf_image.proofs.TouchedRanges.{page_limit_is}
 
 -- the numbers that pass a test, where these are the numbers of pages
 filter_pages : (test : ℕ → Bool) (n a : ℕ) (rest : List ImagePage) → rising rest ≡ true
@@ -29,14 +26,14 @@ filter_pages : (test : ℕ → Bool) (n a : ℕ) (rest : List ImagePage) → ris
 filter_pages test zero a [] up range passes only = refl
 filter_pages test zero a (one ∷ rest) up range passes only = absurd (let within = range 0 (omega arith) in omega arith)
 filter_pages test (suc n) a [] up range passes only =
-    elim (decide (test a)) [
+    elim (cases_Bool (test a)) [
       | inl e ↦ absurd (let none = (only a (omega arith) e).1 in omega arith)
       | inr e ↦
           ap (λ b. cond b (a ∷ filter test (range_with_len (a + 1) n)) (filter test (range_with_len (a + 1) n))) e
           ∙ filter_pages test n (a + 1) [] up (λ k l. absurd (omega arith)) (λ k l. absurd (omega arith)) (λ x l e. only x (omega arith) e)
     ]
 filter_pages test (suc n) a (one ∷ rest) up range passes only =
-    elim (decide (test a)) [
+    elim (cases_Bool (test a)) [
       | inl e ↦
           let first = sym (found (only a (omega arith) e)) in
           let others = filter_pages test n (a + 1) rest (rising_rest one rest up)
@@ -71,16 +68,11 @@ filter_pages test (suc n) a (one ∷ rest) up range passes only =
     above e zero l = let least = (range 0 l).0 in let other = differs e in omega arith
     above e (suc k) l = let least = (range 0 (omega arith)).0 in let more = later k (omega arith) in omega arith
 
--- how many pages there are
-page_count_is : image_page_limit ≡ 458752
-unfolding image_page_limit
-page_count_is = refl
-
 pub touched_are : (pages : List ImagePage) (start : ℕ) (segments : List Run) → rising pages ≡ true → ((i : ℕ) → i < length pages → (page_at pages i).number < 458752) → Tile pages 0 segments → touched_pages (map (header_of start) segments) ≡ map (λ (p : ImagePage). p.number) pages
 unfolding touched_pages
 touched_are pages start segments up low tile =
     filter_pages (λ page. list_any (touches page) (map (header_of start) segments)) image_page_limit 0 pages up
-    (λ k l. let below = low k l in let all = page_count_is in (omega arith, omega arith))
+    (λ k l. let below = low k l in let all = page_limit_is in (omega arith, omega arith))
     (λ k l. touched pages start 0 segments k tile (omega arith) l)
     (λ x l e. touched_only pages start 0 segments x tile e)
 

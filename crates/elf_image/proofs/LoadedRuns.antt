@@ -1,20 +1,15 @@
 -- What segments load that are the runs of an image's pages.
-use Rattle.std.proofs.Common.{◌≡◌, ℕ, zero, suc, ◌+◌, ◌-◌, ◌*◌, ◌<◌, ◌≤◌, min, max, Bool, true, false, cond, not, nat_lt, nat_le, ◌&&◌, ◌||◌, ◌==◌, List, [], ◌∷◌, length, map, slice_index, slice_index_or, arith, refl, sym, ap, ◌∙◌, inl, inr, bit_and}
+use Rattle.std.proofs.Common.{◌≡◌, ℕ, zero, suc, ◌+◌, ◌-◌, ◌*◌, ◌<◌, ◌≤◌, min, max, Bool, true, false, cond, not, nat_lt, nat_le, ◌&&◌, ◌||◌, ◌==◌, List, [], ◌∷◌, length, map, slice_index, slice_index_or, arith, refl, sym, ap, ◌∙◌, inl, inr, bit_and, lt-ltb, le-leb, le-ltb}
 use Rattle.std.specs.List.{list_any}
-use Rattle.std.proofs.lemmas.Bool.{false≢true}
-use Rattle.std.proofs.lemmas.Bool.Decides.{nat_tests, leb_tells}
+use Rattle.std.proofs.lemmas.Bool.{false≢true, or_right}
+use Rattle.std.proofs.lemmas.Bool.Decides.{leb_tells}
+use Rattle.std.proofs.Math.Bool.{or-false}
 use Rattle.elf_image.specs.declared.image.ImagePage.{ImagePage}
 use Rattle.elf_image.specs.declared.runs.Run.{Run}
 use Rattle.elf_image.specs.ElfFiles.{touches, share_address, overlap, gives, loaded_byte}
 use Rattle.elf_image.specs.WrittenFiles.{flags_of}
-use Rattle.elf_image.proofs.HeadersBack.{header_of, not_less}
+use Rattle.elf_image.proofs.HeadersBack.{header_of}
 use Rattle.elf_image.proofs.Tiles.{IsRun, Tile}
-
-pub is_less : (a b : ℕ) → a < b → nat_lt a b ≡ true
-is_less a b h = grind (arith, nat_tests)
-
-is_most : (a b : ℕ) → a ≤ b → nat_le a b ≡ true
-is_most a b h = grind (arith, nat_tests)
 
 -- a page that stands for none
 pub blank : ImagePage
@@ -28,13 +23,13 @@ Rising pages = (i j : ℕ) → i < j → j < length pages → (page_at pages i).
 
 -- a run touches its own pages and no others
 touch_in : (start x : ℕ) (run : Run) → run.number ≤ x → x < run.number + run.count → touches x (header_of start run) ≡ true
-touch_in start x run low high = is_less _ _ (omega arith)
+touch_in start x run low high = lt-ltb _ _ (omega arith)
 
 touch_below : (start x : ℕ) (run : Run) → x < run.number → touches x (header_of start run) ≡ false
-touch_below start x run low = not_less _ _ (omega arith)
+touch_below start x run low = le-ltb _ _ (omega arith)
 
 touch_above : (start x : ℕ) (run : Run) → run.number + run.count ≤ x → touches x (header_of start run) ≡ false
-touch_above start x run high = not_less _ _ (omega arith)
+touch_above start x run high = le-ltb _ _ (omega arith)
 
 number_in : (pages : List ImagePage) (run : Run) (i : ℕ) → IsRun pages run → run.place ≤ i → i < run.place + run.count → (page_at pages i).number ≡ run.number + (i - run.place)
 number_in pages run i one low high =
@@ -69,14 +64,6 @@ end_below pages i run up one high within =
 
 behind : (pages : List ImagePage) (start i : ℕ) (run : Run) → Rising pages → IsRun pages run → run.place + run.count ≤ i → i < length pages → touches (page_at pages i).number (header_of start run) ≡ false
 behind pages start i run up one high within = touch_above start (page_at pages i).number run (end_below pages i run up one high within)
-
-or_right : (a b : Bool) → b ≡ true → (a || b) ≡ true
-or_right true b e = refl
-or_right false b e = e
-
-or_false : (a : Bool) → (a || false) ≡ a
-or_false true = refl
-or_false false = refl
 
 -- each page is touched
 pub touched : (pages : List ImagePage) (start place : ℕ) (segments : List Run) (i : ℕ) → Tile pages place segments → place ≤ i → i < length pages → list_any (touches (page_at pages i).number) (map (header_of start) segments) ≡ true
@@ -128,7 +115,7 @@ given pages start place (run ∷ later) flag i up tile low within =
           let high = near.1 in
           ap (λ b. (b && not (bit_and (flags_of run.rights) flag == 0)) || list_any (gives flag x) (map (header_of start) later)) (own pages start i run tile.1.0 (omega arith) (omega arith))
           ∙ ap (λ b. not (bit_and (flags_of run.rights) flag == 0) || b) (given_before pages start (place + run.count) later flag i up tile.1.1 high)
-          ∙ or_false (not (bit_and (flags_of run.rights) flag == 0))
+          ∙ or-false (not (bit_and (flags_of run.rights) flag == 0))
           ∙ ap (λ r. not (bit_and (flags_of r) flag == 0)) (sym (rights_in pages run i tile.1.0 (omega arith) (omega arith)))
     ]
 
@@ -144,13 +131,13 @@ byte_loaded file pages start place (run ∷ later) i offset up tile low within s
       | inl past ↦
           let far = past.1 in
           let end = end_below pages i run up tile.1.0 (omega arith) within in
-          ap (λ b. cond b here there) (and_false (nat_le (4096 * run.number) (4096 * x + offset)) _ (not_less (4096 * x + offset) (4096 * run.number + 4096 * run.count) (omega arith)))
+          ap (λ b. cond b here there) (and_false (nat_le (4096 * run.number) (4096 * x + offset)) _ (le-ltb (4096 * x + offset) (4096 * run.number + 4096 * run.count) (omega arith)))
           ∙ byte_loaded file pages start (place + run.count) later i offset up tile.1.1 far within small
       | inr near ↦
           let high = near.1 in
           let number = number_in pages run i tile.1.0 (omega arith) (omega arith) in
           let place_is : start + 4096 * run.place + (4096 * x + offset - 4096 * run.number) ≡ start + (4096 * i + offset) = omega arith in
-          ap (λ b. cond b here there) (both (nat_le (4096 * run.number) (4096 * x + offset)) (nat_lt (4096 * x + offset) (4096 * run.number + 4096 * run.count)) (is_most _ _ (omega arith)) (is_less _ _ (omega arith)))
+          ap (λ b. cond b here there) (both (nat_le (4096 * run.number) (4096 * x + offset)) (nat_lt (4096 * x + offset) (4096 * run.number + 4096 * run.count)) (le-leb _ _ (omega arith)) (lt-ltb _ _ (omega arith)))
           ∙ ap (slice_index file) place_is
     ]
   where
@@ -171,7 +158,7 @@ apart_from pages start place one (run ∷ later) up is low tile =
     let full = tile.1.0.full in
     let first = number_in pages run run.place tile.1.0 (omega arith) (omega arith) in
     let end = end_below pages run.place one up is (omega arith) (omega arith) in
-    ap (λ b. b || list_any (share_address (header_of start one)) (map (header_of start) later)) (not_less (max (4096 * one.number) (4096 * run.number)) (min (4096 * one.number + 4096 * one.count) (4096 * run.number + 4096 * run.count)) (omega arith))
+    ap (λ b. b || list_any (share_address (header_of start one)) (map (header_of start) later)) (le-ltb (max (4096 * one.number) (4096 * run.number)) (min (4096 * one.number + 4096 * one.count) (4096 * run.number + 4096 * run.count)) (omega arith))
     ∙ apart_from pages start (place + run.count) one later up is (omega arith) tile.1.1
 
 pub no_overlap : (pages : List ImagePage) (start place : ℕ) (segments : List Run) → Rising pages → Tile pages place segments → overlap (map (header_of start) segments) ≡ false

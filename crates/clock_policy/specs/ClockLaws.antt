@@ -14,6 +14,7 @@ use Rattle.clock_policy.specs.declared.refusal.Refusal.{Refusal}
 use Rattle.clock_policy.specs.declared.answer.Kind.TheVariants as kind
 use Rattle.clock_policy.specs.declared.refusal.Refusal.TheVariants.{NoQuestion, Full}
 use Rattle.clock_policy.specs.ClockPro.{ClockState, Answer, number, has_key, place, place_of, round, is_hot, is_cold, is_shadow, hot_count, cold_count, shadow_count, tests_ended, hot_left, relisted, removed, appended, marked, sent_to_end, grown, fallen, turned_to, cold_hand_on, shadowed, trimmed, trimmed_once, asks_hot, asked_entry, opening_state, gone_on, gives_up, heeded, kind_answered, entry_answered, answered, is_full, kind_of, kind_admitted, admitted, kind_restored, restored, kind_withdrawn, withdrawn, is_of_process, purged}
+use Rattle.clock_policy.specs.FrameCounts.{least_frames, most_frames}
 use Rattle.clock_policy.specs.Lawful.{Lawful}
 use Rattle.clock_policy.specs.Bound.{answers_left, NothingResident}
 use Rattle.clock_policy.specs.LookupLaws.{length_is}
@@ -49,7 +50,7 @@ lawful_of s h resident shadows = record {
   test_hand_rests = h.test_hand_rests;
 }
 
-pub opening_lawful : (frames : ℕ) → 4 ≤ frames → frames ≤ 4096 → Lawful (opening_state frames)
+pub opening_lawful : (frames : ℕ) → least_frames ≤ frames → frames ≤ most_frames → Lawful (opening_state frames)
 unfolding opening_state
 opening_lawful frames least most = record {
   least = least;

@@ -2,6 +2,8 @@
 use Rattle.std.specs.Prelude.{◌≡◌, ℕ, ◌+◌, ◌-◌, ◌==◌, ◌||◌, nat_lt, cond, Bool, true, false, Option, Some, None, find, List, [], ◌∷◌, Result, Ok, Err, IsErr, IsNone, ◌↔◌, refl}
 use Rattle.std.proofs.Common.{arith, sym, ◌∙◌}
 use Rattle.std.proofs.lemmas.Bool.Decides.{nat_tests}
+use Rattle.std.proofs.lemmas.Bool.{or_right}
+use Rattle.clock_policy.specs.FindLaws.{found_passes}
 use Rattle.clock_policy.specs.declared.key.Key.{Key}
 use Rattle.clock_policy.specs.declared.entry.Entry.{Entry}
 use Rattle.clock_policy.specs.declared.entry.EntryKind.{EntryKind}
@@ -25,7 +27,7 @@ find_none p (e ∷ es) h =
       | false ↦ λ g. omega (arith, find_none p es g)
     ] h
 
-none_found : (p : Entry → Bool) (l : List Entry) → number p l ≡ 0 → find p l ≡ None
+pub none_found : (p : Entry → Bool) (l : List Entry) → number p l ≡ 0 → find p l ≡ None
 none_found p [] h = refl
 none_found p (e ∷ es) h =
     elim (p e) as (λ t. cond t 1 0 + number p es ≡ 0 → cond t (Some e) (find p es) ≡ None) [
@@ -69,26 +71,14 @@ pub question_none : (s : ClockState) → NothingResident s → question_of s ≡
 unfolding question_of
 question_none s h = rw (none_asked s h) refl
 
-found_passes : (p : Entry → Bool) (l : List Entry) (x : Entry) → find p l ≡ Some x → p x ≡ true
-found_passes p [] x h = cc
-found_passes p (e ∷ es) x h =
-    elim (p e) as (λ t. p e ≡ t → cond t (Some e) (find p es) ≡ Some x → p x ≡ true) [
-      | true ↦ λ is g. let same : e ≡ x = cc in rw (← same) is
-      | false ↦ λ is g. found_passes p es x g
-    ] refl h
-
 -- the entry that is asked is resident
 pub asked_resident : (s : ClockState) (x : Entry) → asked_entry s ≡ Some x → (is_hot x.kind || is_cold x.kind) ≡ true
 unfolding asked_entry
 asked_resident s x h =
     elim (asks_hot s) as (λ t. cond t (find (λ e. is_hot e.kind) s.entries) (find (λ e. is_cold e.kind) (round (place_of s.cold_hand s.entries) s.entries)) ≡ Some x → (is_hot x.kind || is_cold x.kind) ≡ true) [
       | true ↦ λ g. rw (found_passes (λ e. is_hot e.kind) s.entries x g) refl
-      | false ↦ λ g. or_second (is_hot x.kind) (is_cold x.kind) (found_passes (λ e. is_cold e.kind) (round (place_of s.cold_hand s.entries) s.entries) x g)
+      | false ↦ λ g. or_right (is_hot x.kind) (is_cold x.kind) (found_passes (λ e. is_cold e.kind) (round (place_of s.cold_hand s.entries) s.entries) x g)
     ] h
-  where
-    or_second : (a b : Bool) → b ≡ true → (a || b) ≡ true
-    or_second true b h = refl
-    or_second false b h = h
 
 resident_answered : (kind : EntryKind) (bit : Bit) (x : Entry) (s : ClockState) (e : Refusal) → (is_hot kind || is_cold kind) ≡ true → (kind_answered kind bit x s).1 ≡ Err e → ⊥
 unfolding gone_on gives_up

@@ -2,6 +2,7 @@
 use Rattle.std.specs.Prelude.{◌≡◌, ℕ, suc, ◌+◌, ◌*◌, ◌≤◌, ◌<◌, ◌==◌, false, List, [], ◌∷◌, ◌++◌, length, refl}
 use Rattle.std.proofs.Common.{arith, ap}
 use Rattle.std.proofs.lemmas.Bool.Decides.{nat_tests}
+use Rattle.std.proofs.lemmas.List.{length_push}
 use Rattle.clock_policy.specs.declared.entry.EntryKind.{EntryKind}
 use Rattle.clock_policy.specs.ClockPro.{is_hot, is_cold, is_shadow, hot_count, cold_count, shadow_count}
 use Rattle.clock_policy.specs.LookupLaws.{length_is}
@@ -66,10 +67,6 @@ length_marked kind (d ∷ ds) v c = ap (λ (n : ℕ). suc n) (length_marked kind
 pub length_removed : (u v : List Cell) (c : Cell) → length (u ++ v) + 1 ≡ length (u ++ c ∷ v)
 length_removed [] v c = omega arith
 length_removed (d ∷ ds) v c = omega (arith, length_removed ds v c)
-
-pub length_appended : (cs : List Cell) (c : Cell) → length (cs ++ c ∷ []) ≡ length cs + 1
-length_appended [] c = refl
-length_appended (d ∷ ds) c = omega (arith, length_appended ds c)
 
 -- where not each frame has its page, the circle has room for one more
 pub room_left : (n : Counts) (cs : List Cell) (frames : ℕ) → Counted n cs → hot_count (entries_of cs) + cold_count (entries_of cs) ≤ frames → shadow_count (entries_of cs) ≤ frames →

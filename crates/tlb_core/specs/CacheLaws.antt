@@ -1,11 +1,13 @@
 -- Laws of translation caches for the crates above: what each call does to all entries, and to the entry of a page.
-use Rattle.std.specs.Prelude.{◌≡◌, ◌≢◌, ℕ, ◌<◌, ◌≤◌, Bool, true, false, not, ◌||◌, nat_lt, Option, Some, None, List, [], ◌∷◌, length, drop, map, filter, find, position, slice_get, All, is_some, refl, ◌⊎◌}
+use Rattle.std.specs.Prelude.{◌≡◌, ◌≢◌, ℕ, ◌<◌, Bool, true, false, not, ◌||◌, nat_lt, Option, Some, None, List, [], ◌∷◌, length, drop, map, filter, find, position, All, is_some, refl, ◌⊎◌}
 use Rattle.std.proofs.Common.{sym, ◌∙◌, ap, subst, arith, cond, get_or, inl, inr, option_map, suc, zero}
 use Rattle.std.specs.List.{position_or_len}
 use Rattle.std.proofs.lemmas.List.Elements.{All-head, All-tail, All-nil, All-cons, All-set, All-push, All-drop, All-filter, All-map, All-weaker, filter_passes}
 use Rattle.std.proofs.lemmas.List.{get_or_default}
 use Rattle.std.proofs.lemmas.List.Folds.{find_at, find-set, find-append}
 use Rattle.std.proofs.lemmas.Bool.Decides.{nat_tests}
+use Rattle.std.proofs.lemmas.Option.{slice_get_past}
+use Rattle.std.proofs.lemmas.Bool.{not-true}
 use Rattle.tlb_core.specs.declared.translation.Translation.{Translation}
 use Rattle.tlb_core.specs.Cache.{OnePerPage, is_of_page, translation_of, with_room, filled, filled_at, doomed_entry, doomed, undoomed}
 
@@ -18,7 +20,7 @@ first_or_later page x e o found = by_test (is_of_page page x) refl found
     by_test true test found = let same : x ≡ e = cc in let of : x.page ≡ page = grind (arith, nat_tests) in inl (same, of)
     by_test false test found = inr (test, found)
 
-first_is_other : (page : ℕ) (x : Translation) (o : Option Translation) → cond (is_of_page page x) (Some x) o ≡ None → (x.page ≢ page) × (o ≡ None)
+pub first_is_other : (page : ℕ) (x : Translation) (o : Option Translation) → cond (is_of_page page x) (Some x) o ≡ None → (x.page ≢ page) × (o ≡ None)
 first_is_other page x o none = by_test (is_of_page page x) refl none
   where
     by_test : (b : Bool) → is_of_page page x ≡ b → cond b (Some x) o ≡ None → (x.page ≢ page) × (o ≡ None)
@@ -56,13 +58,8 @@ none-All page (x ∷ xs) all =
     let test : is_of_page page x ≡ false = grind (arith, nat_tests) in
     rw test (none-All page xs (All-tail (λ (e : Translation). e.page ≢ page) x xs all))
 
-slice_get_past : (xs : List Translation) (k : ℕ) → length xs ≤ k → slice_get xs k ≡ None
-slice_get_past [] k past = refl
-slice_get_past (x ∷ xs) zero past = absurd (omega arith)
-slice_get_past (x ∷ xs) (suc k) past = slice_get_past xs k (omega arith)
-
-nowhere : (p : Translation → Bool) (xs : List Translation) → nat_lt (position_or_len p xs) (length xs) ≡ false → find p xs ≡ None
-nowhere p xs test = find_at p xs ∙ slice_get_past xs (position_or_len p xs) (grind (arith, nat_tests))
+none_without_place : (p : Translation → Bool) (xs : List Translation) → nat_lt (position_or_len p xs) (length xs) ≡ false → find p xs ≡ None
+none_without_place p xs test = find_at p xs ∙ slice_get_past xs (position_or_len p xs) (grind (arith, nat_tests))
 
 -- a page has no entry where a search for its place finds none
 pub find_nowhere : (page : ℕ) (xs : List Translation) → position (is_of_page page) xs ≡ None → translation_of page xs ≡ None
@@ -73,7 +70,7 @@ find_nowhere page xs is = by_length (nat_lt n (length xs)) refl is
 
     by_length : (b : Bool) → nat_lt n (length xs) ≡ b → cond b (Some n) None ≡ None → translation_of page xs ≡ None
     by_length true test is = cc
-    by_length false test is = nowhere (is_of_page page) xs test
+    by_length false test is = none_without_place (is_of_page page) xs test
 
 -- the entry that a place shows is the page's
 pub found_at : (page : ℕ) (xs : List Translation) (k : ℕ) (x : Translation) → OnePerPage xs → k < length xs → x ≡ get_or xs k x → x.page ≡ page
@@ -130,14 +127,10 @@ pub All-undoomed : (P : Translation → Type 0) (cache : List Translation) → A
 unfolding undoomed
 All-undoomed P cache all = All-filter (λ e. not e.doomed) P cache all
 
-not_marked : (b : Bool) → not b ≡ true → b ≡ false
-not_marked true is = cc
-not_marked false is = refl
-
 pub undoomed-none : (cache : List Translation) → All (λ e. e.doomed ≡ false) (undoomed cache)
 unfolding undoomed
 undoomed-none cache =
-    All-weaker (λ (e : Translation). not e.doomed ≡ true) (λ e. e.doomed ≡ false) (λ e is. not_marked e.doomed is) (filter (λ e. not e.doomed) cache)
+    All-weaker (λ (e : Translation). not e.doomed ≡ true) (λ e. e.doomed ≡ false) (λ e is. not-true e.doomed is) (filter (λ e. not e.doomed) cache)
     (filter_passes (λ (e : Translation). not e.doomed) cache)
 
 -- the entry of a page after `fill`
@@ -154,7 +147,7 @@ entry_of-filled e cache = by_place (nat_lt n (length cache)) refl
     by_place : (b : Bool) → nat_lt n (length cache) ≡ b → find (is_of_page e.page) (filled_at e cache (cond b (Some n) None)) ≡ Some e
     by_place true test = find-set (is_of_page e.page) cache n e refl (grind (arith, nat_tests)) its
     by_place false test =
-        let none = nowhere (is_of_page e.page) cache test in
+        let none = none_without_place (is_of_page e.page) cache test in
         let gone = none-All e.page (with_room cache) (All-with_room (λ x. x.page ≢ e.page) cache (All-none e.page cache none)) in
         find-append (is_of_page e.page) (with_room cache) (e ∷ []) ∙ rw (gone, its) refl
 

@@ -144,15 +144,6 @@ answered_residents r bit s q h asks =
           taken_at (heeded s bit) bit (kind_answered x.kind (heeded s bit) x s).1 x.key q same (heeded_takes s bit (kind_answered x.kind (heeded s bit) x s).1) r _ _ (kind_taken x.kind r (heeded s bit) x s refl (steady_of s h) (asked_in s x is))
     ] refl asks
 
--- Without a question nothing changes.
-pub refused_residents : (r : Key → Bool) (bit : Bit) (s : ClockState) → question_of s ≡ None → residents (answered bit s).0 r ≡ residents s r
-unfolding answered question_of
-refused_residents r bit s asks =
-    elim (asked_entry s) as (λ found. found_key found ≡ None → residents (entry_answered found (heeded s bit) s).0 r ≡ residents s r) [
-      | None ↦ λ g. refl
-      | Some x ↦ λ g. cc
-    ] asks
-
 kind_victim : (kind : EntryKind) (bit : Bit) (x : Entry) (s : ClockState) (k : Key) → (kind_answered kind bit x s).1 ≡ Ok (Victim k) → x.key ≡ k
 unfolding gone_on gives_up
 kind_victim Hot bit x s k h = cc

@@ -138,13 +138,6 @@ apart_left y (k ∷ ks) v apart h =
       | false ↦ λ is. apart_left y ks v apart.1 h
     ] refl
 
-apart_right : (y : Key) (u v : List Key) → DistinctKeys (u ++ v) → among u y ≡ true → among v y ≡ false
-apart_right y u v apart h =
-    elim (among v y) as (λ t. among v y ≡ t → t ≡ false) [
-      | true ↦ λ is. let other : among u y ≡ false = apart_left y u v apart is in cc
-      | false ↦ λ is. refl
-    ] refl
-
 -- Where a hand rests: from the key's place on, once round, the first key that passes the test.
 
 abbrev pub rest : (Key → Bool) → List Key → Option Key → Option Key

@@ -27,12 +27,6 @@ on cs cold test s = record s { entries = entries_of cs; cold_hand = hand_at cs c
 
 -- Entries of nodes.
 
-pub nothing_at : (cs : List Cell) (n : ℕ) → is_at cs n ≡ false → entry_at_node cs n ≡ None
-nothing_at [] n h = refl
-nothing_at (c ∷ cs) n h =
-    let parts : ((c.at == n) ≡ false) × (is_at cs n ≡ false) = or_parts (c.at == n) (is_at cs n) h in
-    rw (parts.0) (nothing_at cs n (parts.1))
-
 pub found_at : (cs : List Cell) (n : ℕ) (e : Entry) → entry_at_node cs n ≡ Some e → is_at cs n ≡ true
 found_at [] n e h = cc
 found_at (c ∷ cs) n e h =

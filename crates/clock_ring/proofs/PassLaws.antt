@@ -1,6 +1,6 @@
 -- The hot hand's way, front by front.
 use Rattle.std.specs.Prelude.{◌≡◌, ◌≢◌, ℕ, suc, ◌+◌, ◌≤◌, ◌<◌, Bool, true, false, ◌==◌, ◌⊎◌, cond, Some, List, [], ◌∷◌, ◌++◌, length, refl}
-use Rattle.std.proofs.Common.{inl, inr, arith, sym, ap, ◌∙◌, subst, eqb-true, ne_eqb}
+use Rattle.std.proofs.Common.{inl, inr, arith, sym, ap, ◌∙◌, subst, ne_eqb}
 use Rattle.clock_policy.specs.declared.key.Key.{Key}
 use Rattle.clock_policy.specs.declared.entry.Entry.{Entry}
 use Rattle.clock_policy.specs.declared.entry.EntryKind.{EntryKind}

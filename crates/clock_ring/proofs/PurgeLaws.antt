@@ -1,7 +1,6 @@
 -- The purge, entry by entry.
-use Rattle.std.specs.Prelude.{◌≡◌, ℕ, ◌+◌, ◌≤◌, ◌<◌, Bool, true, false, cond, List, [], ◌∷◌, ◌++◌, take, drop, length, refl}
+use Rattle.std.specs.Prelude.{◌≡◌, ℕ, ◌+◌, ◌<◌, Bool, true, false, cond, List, [], ◌∷◌, ◌++◌, take, drop, length, refl}
 use Rattle.std.proofs.Common.{sym, ap, ◌∙◌, append_assoc}
-use Rattle.std.proofs.lemmas.List.{drop_all}
 use Rattle.std.proofs.Math.Bool.{or-true}
 use Rattle.clock_policy.specs.declared.entry.Entry.{Entry}
 use Rattle.clock_policy.specs.ClockPro.{ClockState, is_of_process, removed}
@@ -128,7 +127,3 @@ purge_keeps process first now i at node s whole within h told stays =
 
     stands : (e : Entry) (s : ClockState) → is_of_process process e ≡ false → removed_of process e s ≡ s
     stands e s h = rw h refl
-
--- nothing is left
-pub purge_ends : (process : ℕ) (first now : List Cell) (i at : ℕ) (s whole : ClockState) → length first ≤ i → Purging process first now i at s whole → s ≡ whole
-purge_ends process first now i at s whole past h = sym (ap (λ (l : List Cell). each_removed process (entries_of l) s) (drop_all i first past)) ∙ h.rest

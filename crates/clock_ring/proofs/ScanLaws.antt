@@ -1,6 +1,5 @@
 -- A walk along the links, from a node on.
 use Rattle.std.specs.Prelude.{◌≡◌, ℕ, zero, suc, ◌+◌, ◌≤◌, ◌<◌, Bool, true, false, ◌==◌, ◌||◌, ◌-◌, nat_lt, cond, find, slice_get, Option, Some, None, List, [], ◌∷◌, ◌++◌, take, drop, length, refl}
-use Rattle.std.specs.Option.{option_or}
 use Rattle.std.proofs.Common.{arith, sym, ap, ◌∙◌, subst, append_assoc, add-one, append-nil}
 use Rattle.std.proofs.lemmas.List.Folds.{find-append}
 use Rattle.std.proofs.lemmas.Bool.{or_parts}
@@ -153,10 +152,6 @@ scan_ends p cells at node apart there told passes =
 pub around_front : (cells : List Cell) (front : ℕ) → ((c : Cell) → (cs : List Cell) → cells ≡ c ∷ cs → front ≡ c.at) → around cells front ≡ cells
 around_front [] front h = refl
 around_front (c ∷ cs) front h = rw (h c cs refl, at_self c.at) (append-nil (c ∷ cs))
-
-pub front_there : (cells : List Cell) (front : ℕ) → 1 ≤ length cells → ((c : Cell) → (cs : List Cell) → cells ≡ c ∷ cs → front ≡ c.at) → is_at cells front ≡ true
-front_there [] front some h = absurd (omega (arith, some))
-front_there (c ∷ cs) front some h = rw (h c cs refl, at_self c.at) refl
 
 pub some_cells : (p : Entry → Bool) (cells : List Cell) → 1 ≤ number p (entries_of cells) → 1 ≤ length cells
 some_cells p [] h = absurd (omega (arith, h))

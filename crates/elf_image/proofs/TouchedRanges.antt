@@ -1,7 +1,7 @@
 -- The pages that segments touch, as they are listed segment by segment.
 use Rattle.std.proofs.Common.{◌≡◌, ℕ, zero, suc, ◌+◌, ◌-◌, ◌*◌, ◌/◌, ◌<◌, ◌≤◌, max, Bool, true, false, cond, List, [], ◌∷◌, ◌++◌, length, get_or, arith, refl, sym, ap, ◌∙◌, subst, inl, inr, length-append, append-nil, take, drop, length-drop, length-take}
 use Rattle.std.specs.List.{list_any, filter, All, AllPairs, range_with_len}
-use Rattle.std.specs.List.Sorted.{IsNonDecreasingBy, IsPartitionPoint}
+use Rattle.std.specs.List.Sorted.{IsPartitionPoint}
 use Rattle.std.proofs.lemmas.List.{get_or_default, take-append-drop, get_or-take, get_or-drop}
 use Rattle.std.proofs.lemmas.Bool.Decides.{nat_tests, leb_tells}
 use Rattle.std.proofs.lemmas.List.Elements.{filter-append, All-head, All-tail}
@@ -96,14 +96,6 @@ pub record Listed (loaded : List ProgramHeader) (i next : ℕ) (pages : List ℕ
   pub done : (k : ℕ) (d : ProgramHeader) → k < i → end_of (get_or loaded k d) ≤ 4096 * next
   pub ahead : (k : ℕ) (d : ProgramHeader) → i ≤ k → k < length loaded → 4096 * next ≤ (get_or loaded k d).address + 4095
   pub listed : pages ≡ filter (is_touched loaded) (range_with_len 0 next)
-
-pub listed_none : (loaded : List ProgramHeader) → Listed loaded 0 0 []
-listed_none loaded = record {
-  low = omega arith;
-  done = λ k d below. absurd (omega arith);
-  ahead = λ k d from within. omega arith;
-  listed = refl;
-}
 
 module _ (loaded : List ProgramHeader) (full : All (λ segment. 0 < segment.memory_size) loaded) (low : All (λ segment. end_of segment ≤ 0x7000_0000) loaded) (apart : AllPairs (λ one other. end_of one ≤ other.address) loaded) where
   -- a segment begins no earlier than those before it
@@ -239,21 +231,6 @@ range_more first number h =
     ap (range_with_len first) more
     ∙ range_parts first (number - first) 1
     ∙ ap (λ n. range_with_len first (number - first) ++ n ∷ []) at
-
--- segments that lie apart rise by their ends and by their starts
-pub ends_rise : (loaded : List ProgramHeader) → AllPairs (λ one other. end_of one ≤ other.address) loaded → IsNonDecreasingBy end_of loaded
-ends_rise loaded apart i j d h within =
-    elim (leb_tells (suc i) j) [
-      | inl before ↦ let a = apart i j d before.1 within in omega arith
-      | inr at ↦ let one : i ≡ j = omega arith in subst (λ n. end_of (get_or loaded i d) ≤ end_of (get_or loaded n d)) one (omega arith)
-    ]
-
-pub starts_rise : (loaded : List ProgramHeader) → AllPairs (λ one other. end_of one ≤ other.address) loaded → IsNonDecreasingBy (λ segment. segment.address) loaded
-starts_rise loaded apart i j d h within =
-    elim (leb_tells (suc i) j) [
-      | inl before ↦ let a = apart i j d before.1 within in omega arith
-      | inr at ↦ let one : i ≡ j = omega arith in subst (λ n. (get_or loaded i d).address ≤ (get_or loaded n d).address) one (omega arith)
-    ]
 
 -- the same from what two binary searches found
 pub touching_found : (loaded rest : List ProgramHeader) (page start before count : ℕ) → start ≡ 4096 * page → rest ≡ drop before loaded → before ≤ length loaded → count ≤ length rest → IsPartitionPoint (λ segment. end_of segment ≤ start) (λ segment. start < end_of segment) loaded before → IsPartitionPoint (λ segment. segment.address < start + 4096) (λ segment. start + 4096 ≤ segment.address) rest count → All (λ segment. 0 < segment.memory_size) loaded → take count rest ≡ filter (touches page) loaded

@@ -1,5 +1,5 @@
 -- An index from a page to its node.
-use Rattle.std.specs.Prelude.{◌≡◌, ◌≤◌, ◌+◌, ◌==◌, ◌&&◌, ◌⊎◌, ℕ, Bool, true, false, cond, List, [], ◌∷◌, ◌++◌, Option, Some, None, refl}
+use Rattle.std.specs.Prelude.{◌≡◌, ◌≤◌, ◌+◌, ◌==◌, ◌⊎◌, ℕ, Bool, true, false, cond, List, [], ◌∷◌, ◌++◌, Option, Some, None, refl}
 use Rattle.std.specs.Option.{option_or}
 use Rattle.std.proofs.Common.{arith, sym, ap, ◌∙◌, subst}
 use Rattle.std.proofs.lemmas.Bool.Decides.{nat_tests}
@@ -145,9 +145,6 @@ turn_at k a b one =
     at_of-append k b a ∙ sym (swapped k a b (omega (arith, one, both))) ∙ sym (at_of-append k a b)
 
 -- The index after a change.
-
-same_keys : (k q : Key) (e : Entry) → e.key ≡ k → has_key q e ≡ same_key k q
-same_keys k q e h = ap (λ (x : Key). (x.process == q.process) && (x.vpn == q.vpn)) h
 
 pub index_mark : (look : Key → Option ℕ) (kind : EntryKind) (u v : List Cell) (c : Cell) → FindsNodes (u ++ c ∷ v) look → FindsNodes (u ++ of_kind kind c ∷ v) look
 index_mark look kind u v c h = record {

@@ -178,10 +178,6 @@ linked_in s t u w c d ds h alone put others ahead back =
       apart = apart_behind (d ∷ ds) c h.apart alone;
     }
 
-apart_parts : (a b : List Cell) → DistinctNodes (a ++ b) → DistinctNodes b
-apart_parts [] b h = h
-apart_parts (c ∷ cs) b h = apart_parts cs b (h.1)
-
 apart_between : (c : Cell) (a b : List Cell) → DistinctNodes (a ++ b) → is_at (a ++ b) c.at ≡ false → DistinctNodes (a ++ c ∷ b)
 apart_between c [] b h alone = (alone, h)
 apart_between c (d ∷ ds) b h alone =

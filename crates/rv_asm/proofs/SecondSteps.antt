@@ -67,9 +67,6 @@ code_words_length address here (Branch kind rs1 rs2 label) = label_length 4 (add
 code_words_length address here (Number number) = refl
 code_words_length address here (Address label) = label_length 4 (address label) (λ target. Ok (Plain target ∷ [])) (λ target. refl)
 
-pub words_length : (address : List ℕ → Option ℕ) (here : ℕ) (code : Code) (words : List TextWord) → code_words address here code ≡ Ok words → 4 * length words ≡ code_length code
-words_length address here code words is = subst (OfLength (code_length code)) is (code_words_length address here code)
-
 -- how many bytes a part gives
 abbrev OfBytes : ℕ → Result (List ℕ) FaultKind → Type 0
 OfBytes n (Ok bytes) = length bytes ≡ n

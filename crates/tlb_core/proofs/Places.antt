@@ -134,9 +134,6 @@ room_there xs few = let test : nat_lt (length xs) 16 ≡ true = grind (arith, na
 abbrev pub marked_below : ℕ → List Translation → ℕ → List Translation
 marked_below page xs i = map (doomed_entry page) (take i xs) ++ drop i xs
 
-pub marked_none : (page : ℕ) (xs : List Translation) → xs ≡ marked_below page xs 0
-marked_none page xs = refl
-
 marked_suc : (page : ℕ) (xs : List Translation) (i : ℕ) (d : Translation) → i < length xs
     → set (marked_below page xs i) i (doomed_entry page (get_or (marked_below page xs i) i d)) ≡ marked_below page xs (suc i)
 marked_suc page [] i d within = absurd (omega arith)

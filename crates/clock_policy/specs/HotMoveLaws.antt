@@ -69,14 +69,14 @@ tests_ended-append : (a b : List Entry) → tests_ended (a ++ b) ≡ tests_ended
 tests_ended-append [] b = refl
 tests_ended-append (e ∷ es) b = ap (λ (l : List Entry). test_ended e.kind e ++ l) (tests_ended-append es b) ∙ sym (append_assoc (test_ended e.kind e) (tests_ended es) (tests_ended b))
 
-ended_keys : (u : List Entry) → keys (tests_ended u) ≡ keys (filter (λ e. not (is_shadow e.kind)) u)
-ended_keys [] = refl
-ended_keys (e ∷ es) =
+tests_ended_keys : (u : List Entry) → keys (tests_ended u) ≡ keys (filter (λ e. not (is_shadow e.kind)) u)
+tests_ended_keys [] = refl
+tests_ended_keys (e ∷ es) =
     elim e.kind as (λ t. keys (test_ended t e ++ tests_ended es) ≡ keys (cond (not (is_shadow t)) (e ∷ filter (λ e. not (is_shadow e.kind)) es) (filter (λ e. not (is_shadow e.kind)) es))) [
-      | Hot ↦ ap (λ (l : List Key). e.key ∷ l) (ended_keys es)
-      | Test ↦ ap (λ (l : List Key). e.key ∷ l) (ended_keys es)
-      | Cold ↦ ap (λ (l : List Key). e.key ∷ l) (ended_keys es)
-      | Shadow ↦ ended_keys es
+      | Hot ↦ ap (λ (l : List Key). e.key ∷ l) (tests_ended_keys es)
+      | Test ↦ ap (λ (l : List Key). e.key ∷ l) (tests_ended_keys es)
+      | Cold ↦ ap (λ (l : List Key). e.key ∷ l) (tests_ended_keys es)
+      | Shadow ↦ tests_ended_keys es
     ]
 
 -- the next stage, from what the front leaves and how many tests ended
@@ -100,7 +100,7 @@ front_of n e r s = refl
 stage_order : (u v : List Entry) (e : Entry) (s : ClockState) → s.entries ≡ u ++ e ∷ v → DistinctKeys (keys s.entries) → Clockwise s.entries (e ∷ (v ++ tests_ended u))
 stage_order u v e s is apart =
     let there : DistinctKeys (keys (u ++ e ∷ v)) = rw is at apart in
-    rw is (clockwise_behind (λ e. not (is_shadow e.kind)) u (e ∷ v) (tests_ended u) (ended_keys u) (rw (keys-append u (e ∷ v)) at there))
+    rw is (clockwise_behind (λ e. not (is_shadow e.kind)) u (e ∷ v) (tests_ended u) (tests_ended_keys u) (rw (keys-append u (e ∷ v)) at there))
 
 -- the front of a list goes
 front_removed : (n : ℕ) (e : Entry) (r : List Entry) (s : ClockState) → DistinctKeys (keys s.entries) → Clockwise s.entries (e ∷ r) → removed e.key (fallen n (relisted (e ∷ r) s)) ≡ fallen n (relisted (r ++ []) s)

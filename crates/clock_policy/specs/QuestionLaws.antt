@@ -19,12 +19,12 @@ use Rattle.clock_policy.specs.CountLaws.{number-round}
 
 -- Where there is no question.
 
-find_none : (p : Entry → Bool) (l : List Entry) → find p l ≡ None → number p l ≡ 0
-find_none p [] h = refl
-find_none p (e ∷ es) h =
+none_counted : (p : Entry → Bool) (l : List Entry) → find p l ≡ None → number p l ≡ 0
+none_counted p [] h = refl
+none_counted p (e ∷ es) h =
     elim (p e) as (λ t. cond t (Some e) (find p es) ≡ None → cond t 1 0 + number p es ≡ 0) [
       | true ↦ λ g. cc
-      | false ↦ λ g. omega (arith, find_none p es g)
+      | false ↦ λ g. omega (arith, none_counted p es g)
     ] h
 
 pub none_found : (p : Entry → Bool) (l : List Entry) → number p l ≡ 0 → find p l ≡ None
@@ -48,9 +48,9 @@ pub asked_none : (s : ClockState) → asked_entry s ≡ None → NothingResident
 unfolding asked_entry
 asked_none s h =
     elim (asks_hot s) as (λ t. asks_hot s ≡ t → cond t (find (λ e. is_hot e.kind) s.entries) (find (λ e. is_cold e.kind) (round (place_of s.cold_hand s.entries) s.entries)) ≡ None → NothingResident s) [
-      | true ↦ λ asks g. no_hot (s.frames - s.share) (hot_count s.entries) (cold_count s.entries) asks (find_none (λ e. is_hot e.kind) s.entries g)
+      | true ↦ λ asks g. no_hot (s.frames - s.share) (hot_count s.entries) (cold_count s.entries) asks (none_counted (λ e. is_hot e.kind) s.entries g)
       | false ↦ λ asks g. absurd (no_cold (s.frames - s.share) (hot_count s.entries) (cold_count s.entries) asks
-          (sym (number-round (λ e. is_cold e.kind) (place_of s.cold_hand s.entries) s.entries) ∙ find_none (λ e. is_cold e.kind) (round (place_of s.cold_hand s.entries) s.entries) g))
+          (sym (number-round (λ e. is_cold e.kind) (place_of s.cold_hand s.entries) s.entries) ∙ none_counted (λ e. is_cold e.kind) (round (place_of s.cold_hand s.entries) s.entries) g))
     ] refl h
 
 pub none_asked : (s : ClockState) → NothingResident s → asked_entry s ≡ None

@@ -54,12 +54,12 @@ no_of p q less k fails =
       | false ↦ λ is. refl
     ] refl
 
-find_none : (p q : Key → Bool) → Within q p → (ks : List Key) → find p ks ≡ None → find q ks ≡ None
-find_none p q less [] h = refl
-find_none p q less (k ∷ ks) h =
+find_none_of_less : (p q : Key → Bool) → Within q p → (ks : List Key) → find p ks ≡ None → find q ks ≡ None
+find_none_of_less p q less [] h = refl
+find_none_of_less p q less (k ∷ ks) h =
     elim (p k) as (λ t. p k ≡ t → cond t (Some k) (find p ks) ≡ None → find q (k ∷ ks) ≡ None) [
       | true ↦ λ is g. cc
-      | false ↦ λ is g. rw (no_of p q less k is) (find_none p q less ks g)
+      | false ↦ λ is g. rw (no_of p q less k is) (find_none_of_less p q less ks g)
     ] refl h
 
 found_among : (p : Key → Bool) (ks : List Key) (y : Key) → find p ks ≡ Some y → among ks y ≡ true
@@ -166,7 +166,7 @@ rest_again p q less u v y apart h =
     elim (find p v) as (λ t. find p v ≡ t → option_or t (find p u) ≡ Some y → rest q (u ++ v) (Some y) ≡ find q (v ++ u)) [
       | None ↦ λ is g.
           let here : among u y ≡ true = found_among p u y g in
-          let nothing : find q v ≡ None = find_none p q less v is in
+          let nothing : find q v ≡ None = find_none_of_less p q less v is in
           rw (from_left y u v here, before_left y u v here, find-append q (from_key y u ++ v) (before_key y u), find-append q (from_key y u) v, before_found p q less u y g, from_found p q less u y g, find-append q v u, nothing)
           (option_or-none (option_or (find q u) None) ∙ option_or-none (find q u))
       | Some x ↦ λ is g.
@@ -263,8 +263,8 @@ rest_composes p q less u v m a b parts is apart =
     elim (find p (b ++ a)) as (λ t. find p (b ++ a) ≡ t → rest q m t ≡ find q (b ++ a)) [
       | None ↦ λ h.
           let nothing : find p (u ++ v) ≡ None = ap (find p) (sym parts) ∙ none_swapped p b a h in
-          let left : find q m ≡ None = ap (find q) is ∙ find_filter p q less (v ++ u) ∙ find_none p q less (v ++ u) (none_swapped p u v nothing) in
-          left ∙ sym (find_none p q less (b ++ a) h)
+          let left : find q m ≡ None = ap (find q) is ∙ find_filter p q less (v ++ u) ∙ find_none_of_less p q less (v ++ u) (none_swapped p u v nothing) in
+          left ∙ sym (find_none_of_less p q less (b ++ a) h)
       | Some y ↦ λ h.
           let holds : p y ≡ true = found_passes p (b ++ a) y h in
           let found : among (b ++ a) y ≡ true = found_among p (b ++ a) y h in

@@ -45,13 +45,13 @@ marked_at n e t v s alone =
     shares c n = omega arith
 
 -- Entries with no shadow among them end their tests in place.
-ended_keys : (l : List Entry) → any_shadow l ≡ false → keys (trimmed_part l) ≡ keys l
-ended_keys [] h = refl
-ended_keys (e ∷ es) h =
+trimmed_part_keys : (l : List Entry) → any_shadow l ≡ false → keys (trimmed_part l) ≡ keys l
+trimmed_part_keys [] h = refl
+trimmed_part_keys (e ∷ es) h =
     elim e.kind as (λ t. is_shadow t || any_shadow es ≡ false → keys (cond (is_shadow t) es (test_ended t e ++ trimmed_part es)) ≡ e.key ∷ keys es) [
-      | Hot ↦ λ g. ap (λ (l : List Key). e.key ∷ l) (ended_keys es g)
-      | Test ↦ λ g. ap (λ (l : List Key). e.key ∷ l) (ended_keys es g)
-      | Cold ↦ λ g. ap (λ (l : List Key). e.key ∷ l) (ended_keys es g)
+      | Hot ↦ λ g. ap (λ (l : List Key). e.key ∷ l) (trimmed_part_keys es g)
+      | Test ↦ λ g. ap (λ (l : List Key). e.key ∷ l) (trimmed_part_keys es g)
+      | Cold ↦ λ g. ap (λ (l : List Key). e.key ∷ l) (trimmed_part_keys es g)
       | Shadow ↦ λ g. cc
     ] h
 
@@ -169,7 +169,7 @@ first_shadow e (d ∷ ds) r none is =
 keys_ended : (u p v : List Entry) → any_shadow p ≡ false → keys (u ++ (trimmed_part p ++ v)) ≡ keys (u ++ (p ++ v))
 keys_ended u p v none =
     keys-append u (trimmed_part p ++ v)
-    ∙ ap (λ (l : List Key). keys u ++ l) (keys-append (trimmed_part p) v ∙ ap (λ (l : List Key). l ++ keys v) (ended_keys p none) ∙ sym (keys-append p v))
+    ∙ ap (λ (l : List Key). keys u ++ l) (keys-append (trimmed_part p) v ∙ ap (λ (l : List Key). l ++ keys v) (trimmed_part_keys p none) ∙ sym (keys-append p v))
     ∙ sym (keys-append u (p ++ v))
 
 -- the shadow stands from the hand on

@@ -45,8 +45,8 @@ header_passes entry count rest few long =
     (no_fault_after (nat_lt 0 (little_number 2 (little_bytes 2 count)) && (false || nat_lt size (52 + 32 * little_number 2 (little_bytes 2 count)))) Headers None (ap (λ n. nat_lt 0 n && (false || nat_lt size (52 + 32 * n))) (half_back count [] few) ∙ and_right (nat_lt 0 count) (nat_lt size (52 + 32 * count)) (le-ltb size (52 + 32 * count) long)) refl)
 
 -- what the program header of a run says
-abbrev pub header_of : ℕ → Run → ProgramHeader
-header_of start run =
+abbrev pub run_header : ℕ → Run → ProgramHeader
+run_header start run =
     record {
       kind = 1;
       offset = start + 4096 * run.place;
@@ -70,7 +70,7 @@ small_flags rights = by (may Load rights) (may Store rights) (may Fetch rights)
     by false false true = omega arith
     by false false false = omega arith
 
-header_there : (file : List ℕ) (offset start : ℕ) (run : Run) (rest : List ℕ) → drop offset file ≡ segment_header start run ++ rest → HasRoom start run → header_at file offset ≡ header_of start run
+header_there : (file : List ℕ) (offset start : ℕ) (run : Run) (rest : List ℕ) → drop offset file ≡ segment_header start run ++ rest → HasRoom start run → header_at file offset ≡ run_header start run
 unfolding header_at word_at segment_header
 header_there file offset start run rest e room =
     λ i. record {
@@ -99,11 +99,11 @@ header_found start (run ∷ later) tail (suc k) d l =
           ∙ next.1,
     )
 
-pub headers_back : (entry start : ℕ) (segments : List Run) (tail : List ℕ) → length segments < 2 ^ 16 → ((k : ℕ) (d : Run) → k < length segments → HasRoom start (slice_index_or segments k d)) → program_headers (file_header entry (length segments) ++ (flat_map (segment_header start) segments ++ tail)) ≡ map (header_of start) segments
+pub headers_back : (entry start : ℕ) (segments : List Run) (tail : List ℕ) → length segments < 2 ^ 16 → ((k : ℕ) (d : Run) → k < length segments → HasRoom start (slice_index_or segments k d)) → program_headers (file_header entry (length segments) ++ (flat_map (segment_header start) segments ++ tail)) ≡ map (run_header start) segments
 unfolding program_headers
 headers_back entry start segments tail few room =
     (λ i. map (λ k. header_at file (offset_back entry (length segments) rest i + 32 * k)) (range_with_len 0 (count_back entry (length segments) rest few i)))
-    ∙ sym (fill_by_all (λ k. header_at file (52 + 32 * k)) (map (header_of start) segments) (length segments) (header_of 0 none) (length-map segments (header_of start)) each)
+    ∙ sym (fill_by_all (λ k. header_at file (52 + 32 * k)) (map (run_header start) segments) (length segments) (run_header 0 none) (length-map segments (run_header start)) each)
   where
     rest : List ℕ
     rest = flat_map (segment_header start) segments ++ tail
@@ -114,9 +114,9 @@ headers_back entry start segments tail few room =
     none : Run
     none = record { number = 0; place = 0; count = 0; rights = record { 0 = 0 } }
 
-    each : (k : ℕ) → k < length segments → get_or (map (header_of start) segments) k (header_of 0 none) ≡ header_at file (52 + 32 * k)
+    each : (k : ℕ) → k < length segments → get_or (map (run_header start) segments) k (run_header 0 none) ≡ header_at file (52 + 32 * k)
     each k l =
         let found = header_found start segments tail k none l in
         let at : 52 + 32 * k ≡ length (file_header entry (length segments)) + 32 * k = let size = length-file_header entry (length segments) in omega arith in
-        get_or-map (header_of start) segments k none (header_of 0 none) l
+        get_or-map (run_header start) segments k none (run_header 0 none) l
         ∙ sym (header_there file (52 + 32 * k) start (slice_index_or segments k none) found.0 (ap (λ n. drop n file) at ∙ drop-append-add (file_header entry (length segments)) rest (32 * k) ∙ found.1) (room k none l))

@@ -4,13 +4,13 @@ use Rattle.asm_lines.specs.declared.bytes.ByteClass.TheVariants.{Word}
 use Rattle.asm_lines.specs.declared.front.Front.{Front}
 use Rattle.asm_lines.specs.declared.front.Front.TheVariants.{End, Token, Bad}
 use Rattle.asm_lines.specs.Bytes.{class_of}
-use Rattle.asm_lines.specs.Tokens.{Place, Between, tokens_of, tokens_from, followed}
+use Rattle.asm_lines.specs.Tokens.{LexerState, Between, tokens_of, tokens_from, followed}
 
 -- no token at all, or one and what follows it, or bytes that are none
-abbrev pub GivesFrom : Place → Front → List ℕ → Type 0
-GivesFrom place End text = tokens_from place text ≡ Some []
-GivesFrom place (Token token rest) text = tokens_from place text ≡ followed (Some token) (tokens_of rest.now)
-GivesFrom place Bad text = tokens_from place text ≡ None
+abbrev pub GivesFrom : LexerState → Front → List ℕ → Type 0
+GivesFrom state End text = tokens_from state text ≡ Some []
+GivesFrom state (Token token rest) text = tokens_from state text ≡ followed (Some token) (tokens_of rest.now)
+GivesFrom state Bad text = tokens_from state text ≡ None
 
 abbrev pub Gives : Front → List ℕ → Type 0
 Gives front text = GivesFrom Between front text

@@ -1,66 +1,43 @@
 -- Laws on numbers as they are written.
-use Rattle.std.specs.Prelude.{◌≡◌, ◌≢◌, ℕ, ◌<◌, ◌≤◌, min, List, [], ◌∷◌, Bool, true, false, cond, ◌&&◌, Some, None, pos, neg_ℤ, refl, nat_eq, codes}
+use Rattle.std.specs.Prelude.{◌≡◌, ℕ, ◌<◌, ◌≤◌, min, List, [], ◌∷◌, true, false, Some, None, pos, neg_ℤ, refl, nat_eq, codes}
 use Rattle.std.specs.List.{list_all, starts_with}
 use Rattle.std.specs.Char.{digit_value, is_digit}
 use Rattle.std.specs.Str.Parse.{AllDigits, IsNumeral, digits_value}
-use Rattle.std.proofs.Common.{◌∙◌, ap, arith, lt-ltb, lit≤}
-use Rattle.std.proofs.lemmas.Bool.{eqb-true}
-use Rattle.asm_lines.specs.Numbers.{too_large, numeral, number_of}
-
-both : (a b : Bool) → a ≡ true → b ≡ true → (a && b) ≡ true
-both true b e f = f
-both false b e f = e
-
-not_both : (a b : Bool) → b ≡ false → (a && b) ≡ false
-not_both true b f = f
-not_both false b f = refl
-
-not_first : (a b : Bool) → a ≡ false → (a && b) ≡ false
-not_first true b e = absurd (cc)
-not_first false b e = refl
-
-chosen : (b : Bool) (x : ℕ) → b ≡ true → cond b (Some x) None ≡ Some x
-chosen true x e = refl
-chosen false x e = absurd (cc)
+use Rattle.std.proofs.Common.{◌∙◌, ap, arith, lt-ltb, lit≤, ne_eqb}
+use Rattle.std.proofs.lemmas.Bool.{and_from, and_right, and_left, cond-true}
+use Rattle.asm_lines.specs.Numbers.{too_large, saturating_numeral, number_of}
 
 digits_pass : (radix : ℕ) (text : List ℕ) → AllDigits radix text → list_all (λ byte. is_digit byte radix) text ≡ true
 digits_pass radix [] all = refl
 digits_pass radix (byte ∷ text) all =
-    both (is_digit byte radix) (list_all (λ b. is_digit b radix) text) (lt-ltb _ _ all.0) (digits_pass radix text all.1)
+    and_from (is_digit byte radix) (list_all (λ b. is_digit b radix) text) (lt-ltb _ _ all.0) (digits_pass radix text all.1)
 
-held : (n : ℕ) → n ≤ too_large → min too_large n ≡ n
-held n small = omega (arith, small)
+not_too_large : (n : ℕ) → n ≤ too_large → min too_large n ≡ n
+not_too_large n small = omega (arith, small)
 
 numeral_reads : (radix : ℕ) (text : List ℕ) → IsNumeral radix text → digits_value radix text ≤ too_large
-    → numeral radix text ≡ Some (digits_value radix text)
-unfolding numeral
+    → saturating_numeral radix text ≡ Some (digits_value radix text)
+unfolding saturating_numeral
 numeral_reads radix [] is small = absurd (omega (arith, is.0))
 numeral_reads radix (byte ∷ text) is small =
-    chosen (list_all (λ digit. is_digit digit radix) (byte ∷ text)) (min too_large (digits_value radix (byte ∷ text))) (digits_pass radix (byte ∷ text) is.1)
-    ∙ ap Some (held (digits_value radix (byte ∷ text)) small)
-
-unequal : (a b : ℕ) → a ≢ b → nat_eq a b ≡ false
-unequal a b h = by_test (nat_eq a b) refl
-  where
-    by_test : (t : Bool) → nat_eq a b ≡ t → t ≡ false
-    by_test true e = absurd (h (eqb-true a b e))
-    by_test false e = refl
+    cond-true (list_all (λ digit. is_digit digit radix) (byte ∷ text)) (Some (min too_large (digits_value radix (byte ∷ text)))) None (digits_pass radix (byte ∷ text) is.1)
+    ∙ ap Some (not_too_large (digits_value radix (byte ∷ text)) small)
 
 -- no decimal digit is an `x` or a `-`
 no_digit : (other byte : ℕ) → 10 ≤ digit_value other → digit_value byte < 10 → nat_eq other byte ≡ false
-no_digit other byte none digit = unequal other byte (λ same. apart (digit_value other) (digit_value byte) none digit (ap digit_value same))
+no_digit other byte none digit = ne_eqb other byte (λ same. apart (digit_value other) (digit_value byte) none digit (ap digit_value same))
   where
     apart : (m n : ℕ) → 10 ≤ m → n < 10 → m ≡ n → ⊥
     apart m n low high same = omega (arith, low, high, same)
 
 no_prefix : (text : List ℕ) → AllDigits 10 text → starts_with nat_eq text (codes "0x") ≡ false
 no_prefix [] all = refl
-no_prefix (byte ∷ []) all = not_both (nat_eq 48 byte) false refl
-no_prefix (byte ∷ next ∷ text) all = not_both (nat_eq 48 byte) _ (not_first (nat_eq 120 next) true (no_digit 120 next (lit≤ tt) all.1.0))
+no_prefix (byte ∷ []) all = and_right (nat_eq 48 byte) false refl
+no_prefix (byte ∷ next ∷ text) all = and_right (nat_eq 48 byte) _ (and_left (nat_eq 120 next) true (no_digit 120 next (lit≤ tt) all.1.0))
 
 no_minus : (text : List ℕ) → AllDigits 10 text → starts_with nat_eq text (codes "-") ≡ false
 no_minus [] all = refl
-no_minus (byte ∷ text) all = not_first (nat_eq 45 byte) true (no_digit 45 byte (lit≤ tt) all.0)
+no_minus (byte ∷ text) all = and_left (nat_eq 45 byte) true (no_digit 45 byte (lit≤ tt) all.0)
 
 -- decimal digits write their value, ..
 pub decimal_reads : (digits : List ℕ) → IsNumeral 10 digits → digits_value 10 digits ≤ too_large → number_of digits ≡ Some (pos (digits_value 10 digits))

@@ -9,14 +9,14 @@ abbrev pub too_large : ℕ
 too_large = 2 ^ 40
 
 -- what one digit or more write in a radix, where nothing else stands there: their value, held down to too_large
-unfoldable pub numeral : ℕ → List ℕ → Option ℕ
-numeral radix [] = None
-numeral radix (byte ∷ bytes) =
+unfoldable pub saturating_numeral : ℕ → List ℕ → Option ℕ
+saturating_numeral radix [] = None
+saturating_numeral radix (byte ∷ bytes) =
     if list_all (λ digit. is_digit digit radix) (byte ∷ bytes) then Some (min too_large (digits_value radix (byte ∷ bytes))) else None
 
 -- a number is hexadecimal behind `0x`, and else decimal, where `-` may stand first
 unfoldable pub number_of : List ℕ → Option ℤ
 number_of word =
-    if starts_with nat_eq word (codes "0x") then option_map pos (numeral 16 (drop 2 word))
-    else if starts_with nat_eq word (codes "-") then option_map (λ size. neg_ℤ (pos size)) (numeral 10 (drop 1 word))
-    else option_map pos (numeral 10 word)
+    if starts_with nat_eq word (codes "0x") then option_map pos (saturating_numeral 16 (drop 2 word))
+    else if starts_with nat_eq word (codes "-") then option_map (λ size. neg_ℤ (pos size)) (saturating_numeral 10 (drop 1 word))
+    else option_map pos (saturating_numeral 10 word)

@@ -3,11 +3,11 @@ use Rattle.std.specs.Prelude.{ℕ, List, ◌∷◌, Option, Some, None, option_a
 use Rattle.asm_lines.specs.declared.operand.Operand.{Operand}
 use Rattle.asm_lines.specs.declared.token.Token.{Token}
 use Rattle.asm_lines.specs.declared.token.Token.TheVariants.{Name, Colon, Close}
-use Rattle.asm_lines.specs.Forms.{Line}
+use Rattle.asm_lines.specs.Forms.{SourceLine}
 use Rattle.asm_lines.specs.Tokens.{tokens_of}
-use Rattle.asm_lines.specs.Lines.{Turn, Due, operands_from, arguments_of, statement_form, line_of}
+use Rattle.asm_lines.specs.Lines.{OperandTurn, Due, operands_from, arguments_of, statement_form, line_of}
 
-abbrev pub operands_on : Turn → List ℕ → Option (List Operand)
+abbrev pub operands_on : OperandTurn → List ℕ → Option (List Operand)
 operands_on turn text = option_and_then (operands_from turn) (tokens_of text)
 
 -- the operands where this token stands before the text
@@ -17,10 +17,10 @@ operands_behind token text = option_and_then (λ tokens. operands_from Due (toke
 abbrev pub arguments_on : List ℕ → Option (List Operand)
 arguments_on text = option_and_then arguments_of (tokens_of text)
 
-abbrev pub statement_on : List ℕ → Option Line
+abbrev pub statement_on : List ℕ → Option SourceLine
 statement_on text = option_and_then statement_form (tokens_of text)
 
-abbrev pub line_on : List ℕ → Option Line
+abbrev pub line_on : List ℕ → Option SourceLine
 line_on text = option_and_then line_of (tokens_of text)
 
 -- a name and a closing bracket, and the tokens behind them

@@ -18,12 +18,12 @@ begins_number (byte ∷ bytes) = is_ascii_digit byte || (byte == 45)
 unfoldable pub word_token : List ℕ → Option Token
 word_token word = if begins_number word then option_map token.Number (number_of word) else Some (token.Name word)
 
--- where in a line a byte stands: between tokens, or in a word or a text of which these bytes have come; in a text the flag tells
--- that a backslash escapes the byte
-pub data Place : Type 0 where
-  Between : Place
-  InWord : List ℕ → Place
-  InText : Bool → List ℕ → Place
+-- the state in which a line is cut into tokens: between tokens, or in a word or a text of which these bytes have come; in a text
+-- the flag tells that a backslash escapes the next byte
+pub data LexerState : Type 0 where
+  Between : LexerState
+  InWord : List ℕ → LexerState
+  InText : Bool → List ℕ → LexerState
 
 -- a token and those that follow it, if each is one
 abbrev pub followed : Option Token → Option (List Token) → Option (List Token)
@@ -31,7 +31,7 @@ followed None later = None
 followed (Some one) later = option_map (λ tokens. one ∷ tokens) later
 
 -- what a byte begins between tokens, where `later` gives the tokens of what follows it
-abbrev pub begun : ByteClass → ℕ → (Place → Option (List Token)) → Option (List Token)
+abbrev pub begun : ByteClass → ℕ → (LexerState → Option (List Token)) → Option (List Token)
 begun Blank byte later = later Between
 begun Comment byte later = Some []
 begun Quote byte later = later (InText false [])
@@ -43,25 +43,25 @@ begun Word byte later = later (InWord (byte ∷ []))
 begun Stray byte later = None
 
 -- what a byte does to a text
-abbrev pub continued : TextStep → List ℕ → ℕ → (Place → Option (List Token)) → Option (List Token)
+abbrev pub continued : TextStep → List ℕ → ℕ → (LexerState → Option (List Token)) → Option (List Token)
 continued Closes text byte later = followed (Some (token.Text text)) (later Between)
 continued (Belongs escapes) text byte later = later (InText escapes (text ++ byte ∷ []))
 continued Breaks text byte later = None
 
 -- the tokens from a byte on
-abbrev pub tokens_at : Place → ℕ → (Place → Option (List Token)) → Option (List Token)
+abbrev pub tokens_at : LexerState → ℕ → (LexerState → Option (List Token)) → Option (List Token)
 tokens_at Between byte later = begun (class_of byte) byte later
 tokens_at (InWord word) byte later =
     if is_name_byte byte then later (InWord (word ++ byte ∷ []))
     else followed (word_token word) (begun (class_of byte) byte later)
 tokens_at (InText escaped text) byte later = continued (text_step escaped byte) text byte later
 
--- the tokens of a line from a place on; a text is closed on its line
-abbrev pub tokens_from : Place → List ℕ → Option (List Token)
+-- the tokens of a line from a state on; a text is closed on its line
+abbrev pub tokens_from : LexerState → List ℕ → Option (List Token)
 tokens_from Between [] = Some []
 tokens_from (InWord word) [] = followed (word_token word) (Some [])
 tokens_from (InText escaped text) [] = None
-tokens_from place (byte ∷ bytes) = tokens_at place byte (λ next. tokens_from next bytes)
+tokens_from state (byte ∷ bytes) = tokens_at state byte (λ next. tokens_from next bytes)
 
 abbrev pub tokens_of : List ℕ → Option (List Token)
 tokens_of line = tokens_from Between line

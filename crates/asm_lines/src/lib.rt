@@ -8,11 +8,11 @@ mod bytes;
 mod fault;
 mod front;
 mod laws;
-mod line;
 mod numbers;
 mod operand;
 mod operands;
 mod scanning;
+mod source_line;
 mod span;
 mod statement;
 #[cfg(test)]
@@ -25,7 +25,7 @@ pub use laws::{
     blanks_and_comments_give_no_tokens, numbers_stand_for_their_value, texts_reach_to_their_quote,
     words_reach_to_their_end,
 };
-pub use line::Line;
 pub use operand::Operand;
 pub use scanning::scan_line;
+pub use source_line::SourceLine;
 pub use span::Span;

@@ -1,7 +1,7 @@
 //! Numbers as they are written.
 
 ghost use Rattle.std.specs.Prelude.{◌≡◌, ◌≤◌, option_map, pos, neg_ℤ, IfSome};
-ghost use Rattle.asm_lines.specs.Numbers.{numeral, number_of, too_large};
+ghost use Rattle.asm_lines.specs.Numbers.{saturating_numeral, number_of, too_large};
 
 /// A number that no field holds: each number from here on stands as this one.
 const TOO_LARGE: u64 = 0x100_0000_0000;
@@ -24,26 +24,26 @@ pub fn number(word: &[u8]) -> Option<i64>
 fn positive(digits: &[u8], radix: u32) -> Option<i64>
     requires least { 2 ≤ radix }
     requires greatest { radix ≤ 36 }
-    ensures { result ≡ option_map pos (numeral radix digits.now) }
+    ensures { result ≡ option_map pos (saturating_numeral radix digits.now) }
 {
-    let size = numeral(digits, radix)?;
+    let size = saturating_numeral(digits, radix)?;
     Some(size as i64)
 }
 
 /// What decimal digits write behind a minus.
 fn negative(digits: &[u8]) -> Option<i64>
-    ensures { result ≡ option_map (λ size. neg_ℤ (pos size)) (numeral 10 digits.now) }
+    ensures { result ≡ option_map (λ size. neg_ℤ (pos size)) (saturating_numeral 10 digits.now) }
 {
-    let size = numeral(digits, 10)?;
+    let size = saturating_numeral(digits, 10)?;
     Some(-(size as i64))
 }
 
 /// What one digit or more write in a radix, where nothing else stands there: their value, or [`TOO_LARGE`] past it.
-#[tactic(auto, using(crate::proofs::Numerals::goes_on, crate::proofs::Numerals::no_digit), unfolding(crate::specs::Numbers::numeral))]
-fn numeral(digits: &[u8], radix: u32) -> Option<u64>
+#[tactic(auto, using(crate::proofs::Numerals::numeral_goes_on, crate::proofs::Numerals::numeral_stops), unfolding(crate::specs::Numbers::saturating_numeral))]
+fn saturating_numeral(digits: &[u8], radix: u32) -> Option<u64>
     requires least { 2 ≤ radix }
     requires greatest { radix ≤ 36 }
-    ensures value { result ≡ numeral radix digits.now }
+    ensures value { result ≡ saturating_numeral radix digits.now }
     ensures small { IfSome result (λ size. size ≤ too_large) }
 {
     if digits.is_empty() {

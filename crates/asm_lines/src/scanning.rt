@@ -10,7 +10,7 @@ ghost use Rattle.asm_lines.specs.declared.token.Token.TheVariants as token;
 
 use crate::fault::Refusal;
 use crate::front::Front;
-use crate::line::Line;
+use crate::source_line::SourceLine;
 use crate::span::Span;
 use crate::statement::statement;
 use crate::token::Token;
@@ -20,7 +20,7 @@ use std::alloc::Global;
 /// Reads a line to its form: labels with a colon behind each, then perhaps a statement's name, and operands parted by
 /// commas. A line of no such form is a [`FaultKind::BadLine`](crate::FaultKind::BadLine).
 #[tactic(auto, unfolding(crate::specs::Lines::line_form))]
-pub fn scan_line<'a>(alloc: Global, text: &'a [u8]) -> Result<Line<'a>, Refusal>
+pub fn scan_line<'a>(alloc: Global, text: &'a [u8]) -> Result<SourceLine<'a>, Refusal>
     ensures line { IfOk result (λ line. line_form text.now ≡ Ok (line_value line)) }
     ensures refusal { IfErr result (RefusesLine (line_form text.now)) }
 {
@@ -33,7 +33,7 @@ pub fn scan_line<'a>(alloc: Global, text: &'a [u8]) -> Result<Line<'a>, Refusal>
         rest = behind;
     }
     let (name, operands) = statement(alloc, rest)?;
-    Ok(Line {
+    Ok(SourceLine {
         labels,
         name,
         operands,

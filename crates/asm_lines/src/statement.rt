@@ -2,7 +2,7 @@
 
 ghost use Rattle.std.specs.Prelude.{◌≡◌, Some, IfOk, IfErr, ok_or};
 ghost use Rattle.asm_lines.specs.Faults.{RefusesLine};
-ghost use Rattle.asm_lines.specs.Forms.{Line};
+ghost use Rattle.asm_lines.specs.Forms.{SourceLine};
 ghost use Rattle.asm_lines.specs.Lines.{unlabelled};
 ghost use Rattle.asm_lines.specs.Readings.{statement_on, arguments_on};
 

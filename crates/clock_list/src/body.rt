@@ -2,6 +2,7 @@
 
 ghost use Rattle.std.specs.Prelude.{◌≡◌, ◌≤◌, ◌<◌, ◌+◌, ◌-◌, ◌*◌, ℕ, vec_len, vec_capacity, IfOk, OnErr, Ok, Err, ◌≢◌};
 ghost use Rattle.clock_policy.specs.ClockPro.{place, relisted, removed, appended, marked, sent_to_end, grown, fallen, turned_to, cold_hand_on, shadowed, trimmed_once, trimmed, asked_entry, asks_hot, opening_state, question_of, purged, gone_on, gives_up, heeded, test_answered, cold_answered, answered, is_full, new_admitted, shadow_admitted, admitted, new_restored, shadow_restored, restored, withdrawn};
+ghost use Rattle.clock_policy.specs.FrameCounts.{least_frames, most_frames};
 ghost use Rattle.clock_policy.specs.Lawful.{HasFewEntries};
 
 use crate::rebuild::{rebuild_trimmed, rebuild_turned, rebuild_without, rebuild_without_process};
@@ -23,8 +24,8 @@ pub(crate) struct Body {
     spare: Vec<Entry>,
     pub(crate) cold_hand: Option<Key>,
     pub(crate) test_hand: Option<Key>,
-    ghost least: { 4 ≤ frames },
-    ghost most: { frames ≤ 4096 },
+    ghost least: { least_frames ≤ frames },
+    ghost most: { frames ≤ most_frames },
     ghost shared: { share < frames },
     ghost counted: { asked ≤ 3 * frames },
     ghost within: { vec_len entries ≤ 2 * frames },
@@ -38,8 +39,8 @@ impl Body {
     /// An empty list, with room for two entries a frame.
     #[tactic(auto, unfolding(clock_policy::specs::ClockPro::opening_state))]
     pub(crate) fn new(alloc: Global, frames: usize) -> Result<Self, AllocError>
-        requires least { 4 ≤ frames }
-        requires most { frames ≤ 4096 }
+        requires least { least_frames ≤ frames }
+        requires most { frames ≤ most_frames }
         ensures { IfOk result (λ body. state_of body ≡ opening_state frames) }
     {
         let entries = Vec::with_capacity(alloc, 2 * frames)?;

@@ -2,6 +2,7 @@
 use Rattle.std.specs.Prelude.{◌≡◌, ℕ, suc, ◌+◌, ◌≤◌, Bool, true, false, not, ◌==◌, ◌&&◌, ◌||◌, cond, ◌⊎◌, Option, Some, None, is_ok, find, filter, slice_get, option_map, List, [], ◌∷◌, ◌++◌, take, drop, Result, Ok, Err, refl}
 use Rattle.std.proofs.Common.{arith, sym, ap, ◌∙◌, inl, inr}
 use Rattle.std.proofs.lemmas.Bool.Decides.{nat_tests}
+use Rattle.std.proofs.lemmas.Bool.{and_parts}
 use Rattle.clock_policy.specs.declared.key.Key.{Key}
 use Rattle.clock_policy.specs.declared.entry.Entry.{Entry}
 use Rattle.clock_policy.specs.declared.entry.EntryKind.{EntryKind}
@@ -153,15 +154,11 @@ any_key r p (e ∷ es) less =
       | false ↦ λ is. omega (arith, any_key r p es less)
     ] refl
 
-and_second : (a b : Bool) → (a && b) ≡ true → b ≡ true
-and_second true b h = h
-and_second false b h = cc
-
 -- a key counts once at most
 pub residents_once : (k : Key) (s : ClockState) → Lawful s → residents s (is_key k) ≤ 1
 unfolding residents
 residents_once k s h =
-    omega (arith, any_key (is_resident_that (is_key k)) (has_key k) s.entries (λ e yes. and_second (in_frame e.kind) (has_key k e) yes), h.distinct k)
+    omega (arith, any_key (is_resident_that (is_key k)) (has_key k) s.entries (λ e yes. (and_parts (in_frame e.kind) (has_key k e) yes).1), h.distinct k)
 
 in_list_number : (p : Entry → Bool) (x : Entry) (l : List Entry) → IsIn x l → p x ≡ true → 1 ≤ number p l
 in_list_number p x [] h is = absurd h
@@ -177,7 +174,7 @@ shown Test h = refl
 shown Cold h = refl
 shown Shadow h = cc
 
-is_key_self : (k : Key) → is_key k k ≡ true
+pub is_key_self : (k : Key) → is_key k k ≡ true
 is_key_self k = grind arith
 
 entry_counts : (x : Entry) (s : ClockState) → IsIn x s.entries → in_frame x.kind ≡ true → 1 ≤ residents s (is_key x.key)
@@ -204,7 +201,7 @@ unfolding residents
 key_residents k s h = counted k s.entries (h.distinct k)
   where
     none_left : (k : Key) (l : List Entry) → number (has_key k) l ≡ 0 → number (is_resident_that (is_key k)) l ≡ 0
-    none_left k l h = omega (arith, any_key (is_resident_that (is_key k)) (has_key k) l (λ e yes. and_second (in_frame e.kind) (has_key k e) yes))
+    none_left k l h = omega (arith, any_key (is_resident_that (is_key k)) (has_key k) l (λ e yes. (and_parts (in_frame e.kind) (has_key k e) yes).1))
 
     head_counts : (f : Bool) (n : ℕ) → n ≡ 0 → cond (f && true) 1 0 + n ≡ cond f 1 0
     head_counts true n h = omega arith

@@ -14,8 +14,9 @@ use Rattle.clock_policy.specs.declared.refusal.Refusal.{Refusal}
 use Rattle.clock_policy.specs.declared.answer.Kind.TheVariants as kind
 use Rattle.clock_policy.specs.declared.refusal.Refusal.TheVariants.{NoQuestion, Full}
 use Rattle.clock_policy.specs.ClockPro.{ClockState, Answer, number, has_key, place, place_of, round, is_hot, is_cold, is_shadow, hot_count, cold_count, shadow_count, tests_ended, hot_left, relisted, removed, appended, marked, sent_to_end, grown, fallen, turned_to, cold_hand_on, shadowed, trimmed, trimmed_once, asks_hot, asked_entry, opening_state, gone_on, gives_up, heeded, kind_answered, entry_answered, answered, is_full, kind_of, kind_admitted, admitted, kind_restored, restored, kind_withdrawn, withdrawn, is_of_process, purged}
+use Rattle.clock_policy.specs.FrameCounts.{least_frames, most_frames}
 use Rattle.clock_policy.specs.Lawful.{Lawful}
-use Rattle.clock_policy.specs.Bound.{answers_left, NothingResident}
+use Rattle.clock_policy.specs.Bound.{answers_left}
 use Rattle.clock_policy.specs.LookupLaws.{length_is}
 use Rattle.clock_policy.specs.ListedLaws.{kind_listed, place_within}
 use Rattle.clock_policy.specs.CountLaws.{number-append, number-without, number-without_le, number-set, number-filter, IsIn, found_in, in_round, in_number, number_any, place_holds, place_has, hot_count-tests_ended, cold_count-tests_ended, shadow_count-tests_ended, hot_count-trimmed_list, cold_count-trimmed_list, shadow_count-trimmed_list}
@@ -49,7 +50,7 @@ lawful_of s h resident shadows = record {
   test_hand_rests = h.test_hand_rests;
 }
 
-pub opening_lawful : (frames : ℕ) → 4 ≤ frames → frames ≤ 4096 → Lawful (opening_state frames)
+pub opening_lawful : (frames : ℕ) → least_frames ≤ frames → frames ≤ most_frames → Lawful (opening_state frames)
 unfolding opening_state
 opening_lawful frames least most = record {
   least = least;
@@ -464,20 +465,6 @@ purged_lawful process s h =
     (omega (arith, h.few, number-filter (λ e. is_shadow e.kind) q s.entries))
 
 -- The bound.
-
-pub left_within : (s : ClockState) → Lawful s → answers_left s ≤ 5 * s.frames
-left_within s h = within s.frames s.asked (hot_count s.entries) (cold_count s.entries) h.few.resident
-  where
-    within : (m a h c : ℕ) → h + c ≤ m → cond (nat_lt a (3 * m)) (5 * m - a) (2 * h + c) ≤ 5 * m
-    within m a h c few =
-        elim (nat_lt a (3 * m)) as (λ t. cond t (5 * m - a) (2 * h + c) ≤ 5 * m) [ true ↦ omega arith | false ↦ omega arith ]
-
-pub left_none : (s : ClockState) → Lawful s → answers_left s ≡ 0 → NothingResident s
-left_none s h z = none s.frames s.asked (hot_count s.entries) (cold_count s.entries) h.least h.few_asked z
-  where
-    none : (m a h c : ℕ) → 4 ≤ m → a ≤ 3 * m → cond (nat_lt a (3 * m)) (5 * m - a) (2 * h + c) ≡ 0 → h + c ≡ 0
-    none m a h c least few z =
-        elim (nat_lt a (3 * m)) as (λ t. cond t (5 * m - a) (2 * h + c) ≡ 0 → h + c ≡ 0) [ true ↦ λ g. absurd (omega arith) | false ↦ λ g. omega arith ] z
 
 -- the number of answers that are left, in plain numbers: a came so far, or one more
 lower : (m a h c h' c' : ℕ) → a ≤ 3 * m → h + c ≤ m → h' + c' ≤ h + c → (a ≡ 3 * m → 2 * h' + c' < 2 * h + c) →

@@ -1,6 +1,8 @@
 -- The hot answer's equation is single moves, one after another: the front is passed until the entry that is asked stands there.
-use Rattle.std.specs.Prelude.{◌≡◌, ℕ, zero, suc, ◌+◌, ◌-◌, ◌≤◌, max, Bool, true, false, not, ◌||◌, cond, Option, Some, None, filter, slice_get, List, [], ◌∷◌, ◌++◌, take, drop, length, refl}
-use Rattle.std.proofs.Common.{arith, sym, ap, ◌∙◌, append_assoc, add-one}
+use Rattle.std.specs.Prelude.{◌≡◌, ℕ, zero, suc, ◌+◌, ◌-◌, ◌≤◌, max, Bool, not, ◌||◌, cond, Option, Some, None, filter, slice_get, List, [], ◌∷◌, ◌++◌, take, drop, length, refl}
+use Rattle.std.proofs.Common.{arith, sym, ap, ◌∙◌, append_assoc, add-one, append-nil}
+use Rattle.std.proofs.Math.Bool.{or_comm, or-false}
+use Rattle.clock_policy.specs.FindLaws.{find_same}
 use Rattle.clock_policy.specs.declared.key.Key.{Key}
 use Rattle.clock_policy.specs.declared.entry.Entry.{Entry}
 use Rattle.clock_policy.specs.declared.entry.EntryKind.{EntryKind}
@@ -12,9 +14,9 @@ use Rattle.clock_policy.specs.Lawful.{Lawful}
 use Rattle.clock_policy.specs.ListedLaws.{has_key_refl}
 use Rattle.clock_policy.specs.CountLaws.{IsIn, place_holds, number-append}
 use Rattle.clock_policy.specs.Residents.{is_key}
-use Rattle.clock_policy.specs.SettledLaws.{keys, among, DistinctKeys, Clockwise, rest, settled_rest, among-append, find_same, keys-append, from_key, before_key}
+use Rattle.clock_policy.specs.SettledLaws.{keys, among, DistinctKeys, Clockwise, rest, settled_rest, among-append, keys-append, from_key, before_key}
 use Rattle.clock_policy.specs.SingleMoves.{front_turned, kind_passed, front_passed, fronts_passed, front_answered}
-use Rattle.clock_policy.specs.SingleMoveLaws.{apart_of, or_comm, clockwise_behind, relisted_same, removed_at}
+use Rattle.clock_policy.specs.SingleMoveLaws.{apart_of, clockwise_behind, relisted_same, removed_at}
 
 -- Moves of a front.
 
@@ -29,13 +31,9 @@ settled_alike old a b hand same = settled_rest old a hand ∙ by_hand hand ∙ s
 turned_keys : (e y : Entry) (r : List Entry) → y.key ≡ e.key → (k : Key) → among (keys (e ∷ r)) k ≡ among (keys (r ++ y ∷ [])) k
 turned_keys e y r same k =
     or_comm (is_key k e.key) (among (keys r) k)
-    ∙ ap (λ (t : Bool). among (keys r) k || t) (sym (or_false (is_key k y.key) ∙ ap (is_key k) same))
+    ∙ ap (λ (t : Bool). among (keys r) k || t) (sym (or-false (is_key k y.key) ∙ ap (is_key k) same))
     ∙ sym (among-append k (keys r) (y.key ∷ []))
     ∙ ap (λ (l : List Key). among l k) (sym (keys-append r (y ∷ [])))
-  where
-    or_false : (b : Bool) → b || false ≡ b
-    or_false true = refl
-    or_false false = refl
 
 front_at : (n : ℕ) (e y : Entry) (r : List Entry) (s : ClockState) → y.key ≡ e.key → record (fallen n (relisted (e ∷ r) s)) { entries = r ++ y ∷ [] } ≡ fallen n (relisted (r ++ y ∷ []) s)
 unfolding fallen relisted
@@ -71,19 +69,15 @@ tests_ended-append : (a b : List Entry) → tests_ended (a ++ b) ≡ tests_ended
 tests_ended-append [] b = refl
 tests_ended-append (e ∷ es) b = ap (λ (l : List Entry). test_ended e.kind e ++ l) (tests_ended-append es b) ∙ sym (append_assoc (test_ended e.kind e) (tests_ended es) (tests_ended b))
 
-ended_keys : (u : List Entry) → keys (tests_ended u) ≡ keys (filter (λ e. not (is_shadow e.kind)) u)
-ended_keys [] = refl
-ended_keys (e ∷ es) =
+tests_ended_keys : (u : List Entry) → keys (tests_ended u) ≡ keys (filter (λ e. not (is_shadow e.kind)) u)
+tests_ended_keys [] = refl
+tests_ended_keys (e ∷ es) =
     elim e.kind as (λ t. keys (test_ended t e ++ tests_ended es) ≡ keys (cond (not (is_shadow t)) (e ∷ filter (λ e. not (is_shadow e.kind)) es) (filter (λ e. not (is_shadow e.kind)) es))) [
-      | Hot ↦ ap (λ (l : List Key). e.key ∷ l) (ended_keys es)
-      | Test ↦ ap (λ (l : List Key). e.key ∷ l) (ended_keys es)
-      | Cold ↦ ap (λ (l : List Key). e.key ∷ l) (ended_keys es)
-      | Shadow ↦ ended_keys es
+      | Hot ↦ ap (λ (l : List Key). e.key ∷ l) (tests_ended_keys es)
+      | Test ↦ ap (λ (l : List Key). e.key ∷ l) (tests_ended_keys es)
+      | Cold ↦ ap (λ (l : List Key). e.key ∷ l) (tests_ended_keys es)
+      | Shadow ↦ tests_ended_keys es
     ]
-
-append_nil : (l : List Entry) → l ++ [] ≡ l
-append_nil [] = refl
-append_nil (e ∷ es) = ap (λ (l : List Entry). e ∷ l) (append_nil es)
 
 -- the next stage, from what the front leaves and how many tests ended
 next_stage : (u v : List Entry) (e : Entry) (s : ClockState) (left : List Entry) (n : ℕ) → test_ended e.kind e ≡ left → cond (is_in_test e.kind) 1 0 ≡ n →
@@ -97,7 +91,7 @@ next_stage u v e s left n is tests =
 
     listed : (u v : List Entry) (e : Entry) (left : List Entry) → test_ended e.kind e ≡ left → (v ++ tests_ended u) ++ left ≡ v ++ tests_ended (u ++ e ∷ [])
     listed u v e left is =
-        append_assoc v (tests_ended u) left ∙ ap (λ (l : List Entry). v ++ l) (sym (tests_ended-append u (e ∷ []) ∙ ap (λ (l : List Entry). tests_ended u ++ l) (append_nil (test_ended e.kind e) ∙ is)))
+        append_assoc v (tests_ended u) left ∙ ap (λ (l : List Entry). v ++ l) (sym (tests_ended-append u (e ∷ []) ∙ ap (λ (l : List Entry). tests_ended u ++ l) (append-nil (test_ended e.kind e) ∙ is)))
 
 front_of : (n : ℕ) (e : Entry) (r : List Entry) (s : ClockState) → front_passed (fallen n (relisted (e ∷ r) s)) ≡ kind_passed e.kind e.key (fallen n (relisted (e ∷ r) s))
 unfolding fallen relisted
@@ -106,14 +100,14 @@ front_of n e r s = refl
 stage_order : (u v : List Entry) (e : Entry) (s : ClockState) → s.entries ≡ u ++ e ∷ v → DistinctKeys (keys s.entries) → Clockwise s.entries (e ∷ (v ++ tests_ended u))
 stage_order u v e s is apart =
     let there : DistinctKeys (keys (u ++ e ∷ v)) = rw is at apart in
-    rw is (clockwise_behind (λ e. not (is_shadow e.kind)) u (e ∷ v) (tests_ended u) (ended_keys u) (rw (keys-append u (e ∷ v)) at there))
+    rw is (clockwise_behind (λ e. not (is_shadow e.kind)) u (e ∷ v) (tests_ended u) (tests_ended_keys u) (rw (keys-append u (e ∷ v)) at there))
 
 -- the front of a list goes
 front_removed : (n : ℕ) (e : Entry) (r : List Entry) (s : ClockState) → DistinctKeys (keys s.entries) → Clockwise s.entries (e ∷ r) → removed e.key (fallen n (relisted (e ∷ r) s)) ≡ fallen n (relisted (r ++ []) s)
 front_removed n e r s apart order =
     front_gone n e.key (relisted (e ∷ r) s)
     ∙ ap (fallen n) (removed_at e [] r s refl apart order)
-    ∙ ap (λ (l : List Entry). fallen n (relisted l s)) (sym (append_nil r))
+    ∙ ap (λ (l : List Entry). fallen n (relisted l s)) (sym (append-nil r))
 
 stage_step : (u v : List Entry) (e : Entry) (s : ClockState) → s.entries ≡ u ++ e ∷ v → DistinctKeys (keys s.entries) → front_passed (stage u (e ∷ v) s) ≡ stage (u ++ e ∷ []) v s
 stage_step u v e s is apart =
@@ -139,7 +133,7 @@ stage_step u v e s is apart =
         ∙ next_stage u v e s [] 1 (ap (λ (k : EntryKind). test_ended k e) is) (ap {B = ℕ} (λ (k : EntryKind). cond (is_in_test k) 1 0) is)
 
 stages : (w u v : List Entry) (s : ClockState) → s.entries ≡ u ++ (w ++ v) → DistinctKeys (keys s.entries) → fronts_passed (length w) (stage u (w ++ v) s) ≡ stage (u ++ w) v s
-stages [] u v s is apart = ap (λ (l : List Entry). stage l v s) (sym (append_nil u))
+stages [] u v s is apart = ap (λ (l : List Entry). stage l v s) (sym (append-nil u))
 stages (e ∷ es) u v s is apart =
     ap (fronts_passed (length es)) (stage_step u (es ++ v) e s is apart)
     ∙ stages es (u ++ e ∷ []) v s (is ∙ sym (append_assoc u (e ∷ []) (es ++ v))) apart
@@ -151,7 +145,7 @@ fallen_is s h = ap (λ (c : ℕ). record s { share = c }) h
 
 -- nothing was passed yet
 first_stage : (s : ClockState) → Lawful s → stage [] s.entries s ≡ s
-first_stage s h = ap (λ (l : List Entry). fallen 0 (relisted l s)) (append_nil s.entries) ∙ ap (fallen 0) (relisted_same s h) ∙ none_fallen s h
+first_stage s h = ap (λ (l : List Entry). fallen 0 (relisted l s)) (append-nil s.entries) ∙ ap (fallen 0) (relisted_same s h) ∙ none_fallen s h
   where
     same_share : (c : ℕ) → 1 ≤ c → max (c - 0) 1 ≡ c
     same_share c h = omega arith

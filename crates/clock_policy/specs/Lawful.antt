@@ -1,8 +1,9 @@
--- What holds of every state that the calls reach from an empty list of 4 to 4096 frames.
+-- What holds of every state that the calls reach from an empty list.
 use Rattle.std.specs.Prelude.{◌≡◌, ◌+◌, ◌*◌, ◌≤◌, ◌<◌, List, length, Option, Some, None}
 use Rattle.clock_policy.specs.declared.key.Key.{Key}
 use Rattle.clock_policy.specs.declared.entry.Entry.{Entry}
 use Rattle.clock_policy.specs.ClockPro.{ClockState, number, has_key, hot_count, cold_count, shadow_count}
+use Rattle.clock_policy.specs.FrameCounts.{least_frames, most_frames}
 
 -- the hand stands on an entry of the list, or on none where the list is empty
 abbrev pub RestsIn : List Entry → Option Key → Type 0
@@ -15,8 +16,8 @@ pub record HasFewEntries (s : ClockState) : Type 0 where
   pub shadows : shadow_count s.entries ≤ s.frames
 
 pub record Lawful (s : ClockState) : Type 0 where
-  pub least : 4 ≤ s.frames
-  pub most : s.frames ≤ 4096
+  pub least : least_frames ≤ s.frames
+  pub most : s.frames ≤ most_frames
   pub share_low : 1 ≤ s.share
   pub share_high : s.share < s.frames
   pub few_asked : s.asked ≤ 3 * s.frames

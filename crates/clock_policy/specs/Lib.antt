@@ -3,11 +3,13 @@ pub mod Bound
 pub mod ClockLaws
 pub mod ClockPro
 pub mod CountLaws
-pub mod LookupLaws
+pub mod FindLaws
+pub mod FrameCounts
 pub mod HotMoveLaws
 pub mod KeptLaws
 pub mod Lawful
 pub mod ListedLaws
+pub mod LookupLaws
 pub mod QuestionLaws
 pub mod RefusalNumber
 pub mod ResidentLaws

@@ -4,6 +4,7 @@ use Rattle.std.specs.List.{list_any}
 use Rattle.std.proofs.Common.{arith, sym, ap, ◌∙◌}
 use Rattle.std.proofs.lemmas.List.{take-append-drop}
 use Rattle.std.proofs.lemmas.List.Folds.{list_any-append}
+use Rattle.std.proofs.Math.Bool.{or-true, or_comm}
 use Rattle.clock_policy.specs.declared.key.Key.{Key}
 use Rattle.clock_policy.specs.declared.entry.Entry.{Entry}
 use Rattle.clock_policy.specs.ClockPro.{ClockState, has_key, place, place_of, place_of, round, is_hot, is_cold, asks_hot, asked_entry, kind_of}
@@ -20,21 +21,12 @@ place_within k (e ∷ es) h =
       | false ↦ λ g. omega (arith, place_within k es g)
     ] h
 
-or_true : (b : Bool) → b || true ≡ true
-or_true true = refl
-or_true false = refl
-
-or_comm : (a b : Bool) → a || b ≡ b || a
-or_comm true b = sym (or_true b)
-or_comm false true = refl
-or_comm false false = refl
-
 pub found_any : (p : Entry → Bool) (l : List Entry) (x : Entry) → find p l ≡ Some x → list_any (has_key x.key) l ≡ true
 found_any p [] x h = cc
 found_any p (e ∷ es) x h =
     elim (p e) as (λ t. cond t (Some e) (find p es) ≡ Some x → has_key x.key e || list_any (has_key x.key) es ≡ true) [
       | true ↦ λ g. let same : e ≡ x = cc in rw (← same) (rw (has_key_refl e) refl)
-      | false ↦ λ g. rw (found_any p es x g) (or_true (has_key x.key e))
+      | false ↦ λ g. rw (found_any p es x g) (or-true (has_key x.key e))
     ] h
 
 pub list_any-round : (q : Entry → Bool) (i : ℕ) (l : List Entry) → list_any q (round i l) ≡ list_any q l

@@ -2,6 +2,8 @@
 use Rattle.std.specs.Prelude.{◌≡◌, ℕ, ◌+◌, ◌-◌, ◌==◌, ◌||◌, nat_lt, cond, Bool, true, false, Option, Some, None, find, List, [], ◌∷◌, Result, Ok, Err, IsErr, IsNone, ◌↔◌, refl}
 use Rattle.std.proofs.Common.{arith, sym, ◌∙◌}
 use Rattle.std.proofs.lemmas.Bool.Decides.{nat_tests}
+use Rattle.std.proofs.lemmas.Bool.{or_right}
+use Rattle.clock_policy.specs.FindLaws.{found_passes}
 use Rattle.clock_policy.specs.declared.key.Key.{Key}
 use Rattle.clock_policy.specs.declared.entry.Entry.{Entry}
 use Rattle.clock_policy.specs.declared.entry.EntryKind.{EntryKind}
@@ -17,15 +19,15 @@ use Rattle.clock_policy.specs.CountLaws.{number-round}
 
 -- Where there is no question.
 
-find_none : (p : Entry → Bool) (l : List Entry) → find p l ≡ None → number p l ≡ 0
-find_none p [] h = refl
-find_none p (e ∷ es) h =
+none_counted : (p : Entry → Bool) (l : List Entry) → find p l ≡ None → number p l ≡ 0
+none_counted p [] h = refl
+none_counted p (e ∷ es) h =
     elim (p e) as (λ t. cond t (Some e) (find p es) ≡ None → cond t 1 0 + number p es ≡ 0) [
       | true ↦ λ g. cc
-      | false ↦ λ g. omega (arith, find_none p es g)
+      | false ↦ λ g. omega (arith, none_counted p es g)
     ] h
 
-none_found : (p : Entry → Bool) (l : List Entry) → number p l ≡ 0 → find p l ≡ None
+pub none_found : (p : Entry → Bool) (l : List Entry) → number p l ≡ 0 → find p l ≡ None
 none_found p [] h = refl
 none_found p (e ∷ es) h =
     elim (p e) as (λ t. cond t 1 0 + number p es ≡ 0 → cond t (Some e) (find p es) ≡ None) [
@@ -46,9 +48,9 @@ pub asked_none : (s : ClockState) → asked_entry s ≡ None → NothingResident
 unfolding asked_entry
 asked_none s h =
     elim (asks_hot s) as (λ t. asks_hot s ≡ t → cond t (find (λ e. is_hot e.kind) s.entries) (find (λ e. is_cold e.kind) (round (place_of s.cold_hand s.entries) s.entries)) ≡ None → NothingResident s) [
-      | true ↦ λ asks g. no_hot (s.frames - s.share) (hot_count s.entries) (cold_count s.entries) asks (find_none (λ e. is_hot e.kind) s.entries g)
+      | true ↦ λ asks g. no_hot (s.frames - s.share) (hot_count s.entries) (cold_count s.entries) asks (none_counted (λ e. is_hot e.kind) s.entries g)
       | false ↦ λ asks g. absurd (no_cold (s.frames - s.share) (hot_count s.entries) (cold_count s.entries) asks
-          (sym (number-round (λ e. is_cold e.kind) (place_of s.cold_hand s.entries) s.entries) ∙ find_none (λ e. is_cold e.kind) (round (place_of s.cold_hand s.entries) s.entries) g))
+          (sym (number-round (λ e. is_cold e.kind) (place_of s.cold_hand s.entries) s.entries) ∙ none_counted (λ e. is_cold e.kind) (round (place_of s.cold_hand s.entries) s.entries) g))
     ] refl h
 
 pub none_asked : (s : ClockState) → NothingResident s → asked_entry s ≡ None
@@ -69,26 +71,14 @@ pub question_none : (s : ClockState) → NothingResident s → question_of s ≡
 unfolding question_of
 question_none s h = rw (none_asked s h) refl
 
-found_passes : (p : Entry → Bool) (l : List Entry) (x : Entry) → find p l ≡ Some x → p x ≡ true
-found_passes p [] x h = cc
-found_passes p (e ∷ es) x h =
-    elim (p e) as (λ t. p e ≡ t → cond t (Some e) (find p es) ≡ Some x → p x ≡ true) [
-      | true ↦ λ is g. let same : e ≡ x = cc in rw (← same) is
-      | false ↦ λ is g. found_passes p es x g
-    ] refl h
-
 -- the entry that is asked is resident
 pub asked_resident : (s : ClockState) (x : Entry) → asked_entry s ≡ Some x → (is_hot x.kind || is_cold x.kind) ≡ true
 unfolding asked_entry
 asked_resident s x h =
     elim (asks_hot s) as (λ t. cond t (find (λ e. is_hot e.kind) s.entries) (find (λ e. is_cold e.kind) (round (place_of s.cold_hand s.entries) s.entries)) ≡ Some x → (is_hot x.kind || is_cold x.kind) ≡ true) [
       | true ↦ λ g. rw (found_passes (λ e. is_hot e.kind) s.entries x g) refl
-      | false ↦ λ g. or_second (is_hot x.kind) (is_cold x.kind) (found_passes (λ e. is_cold e.kind) (round (place_of s.cold_hand s.entries) s.entries) x g)
+      | false ↦ λ g. or_right (is_hot x.kind) (is_cold x.kind) (found_passes (λ e. is_cold e.kind) (round (place_of s.cold_hand s.entries) s.entries) x g)
     ] h
-  where
-    or_second : (a b : Bool) → b ≡ true → (a || b) ≡ true
-    or_second true b h = refl
-    or_second false b h = h
 
 resident_answered : (kind : EntryKind) (bit : Bit) (x : Entry) (s : ClockState) (e : Refusal) → (is_hot kind || is_cold kind) ≡ true → (kind_answered kind bit x s).1 ≡ Err e → ⊥
 unfolding gone_on gives_up

@@ -56,9 +56,9 @@ trimmed_list_same r i l =
       | false ↦ omega (arith, number-append p (trimmed_part (take i l)) (trimmed_part (drop i l)), trimmed_part_same r (take i l), trimmed_part_same r (drop i l), number-split p i l)
     ]
 
-trimmed_same : (r : Key → Bool) (s : ClockState) → number (is_resident_that r) (trimmed s).entries ≡ number (is_resident_that r) s.entries
+trimmed_keeps_residents : (r : Key → Bool) (s : ClockState) → number (is_resident_that r) (trimmed s).entries ≡ number (is_resident_that r) s.entries
 unfolding trimmed trimmed_once relisted fallen
-trimmed_same r s =
+trimmed_keeps_residents r s =
     elim (nat_lt s.frames (shadow_count s.entries)) as (λ t. number (is_resident_that r) (cond t (trimmed_once s) s).entries ≡ number (is_resident_that r) s.entries) [
       | true ↦ trimmed_list_same r (place_of s.test_hand s.entries) s.entries
       | false ↦ refl
@@ -109,10 +109,10 @@ kind_taken : (kind : EntryKind) (r : Key → Bool) (bit : Bit) (x : Entry) (s : 
     number (is_resident_that r) (kind_answered kind bit x s).0.entries + cond (takes bit (kind_answered kind bit x s).1 && r x.key) 1 0 ≡ number (is_resident_that r) s.entries
 unfolding gone_on gives_up grown
 kind_taken Hot r bit x s is h in_list = hot_taken r bit x s h.based in_list is
-kind_taken Test r Zero x s is h in_list = omega (arith, trimmed_same r (shadowed x.key s), shadow_taken r x s h.based in_list (rw is refl))
+kind_taken Test r Zero x s is h in_list = omega (arith, trimmed_keeps_residents r (shadowed x.key s), shadow_taken r x s h.based in_list (rw is refl))
 kind_taken Test r One x s is h in_list = omega (arith, cold_sent r x.key Hot s, sent_taken r x Hot s h.based in_list (rw is refl) refl)
 kind_taken Test r Gone x s is h in_list = omega (arith, cold_on r x.key s, removed_taken r x s h.based in_list (rw is refl))
-kind_taken Cold r Zero x s is h in_list = omega (arith, trimmed_same r (removed x.key (cold_hand_on x.key s)), cold_on r x.key s, removed_taken r x s h.based in_list (rw is refl))
+kind_taken Cold r Zero x s is h in_list = omega (arith, trimmed_keeps_residents r (removed x.key (cold_hand_on x.key s)), cold_on r x.key s, removed_taken r x s h.based in_list (rw is refl))
 kind_taken Cold r One x s is h in_list = omega (arith, cold_sent r x.key Test s, sent_taken r x Test s h.based in_list (rw is refl) refl)
 kind_taken Cold r Gone x s is h in_list = omega (arith, cold_on r x.key s, removed_taken r x s h.based in_list (rw is refl))
 kind_taken Shadow r bit x s is h in_list = omega arith
@@ -143,15 +143,6 @@ answered_residents r bit s q h asks =
           let same : x.key ≡ q = cc in
           taken_at (heeded s bit) bit (kind_answered x.kind (heeded s bit) x s).1 x.key q same (heeded_takes s bit (kind_answered x.kind (heeded s bit) x s).1) r _ _ (kind_taken x.kind r (heeded s bit) x s refl (steady_of s h) (asked_in s x is))
     ] refl asks
-
--- Without a question nothing changes.
-pub refused_residents : (r : Key → Bool) (bit : Bit) (s : ClockState) → question_of s ≡ None → residents (answered bit s).0 r ≡ residents s r
-unfolding answered question_of
-refused_residents r bit s asks =
-    elim (asked_entry s) as (λ found. found_key found ≡ None → residents (entry_answered found (heeded s bit) s).0 r ≡ residents s r) [
-      | None ↦ λ g. refl
-      | Some x ↦ λ g. cc
-    ] asks
 
 kind_victim : (kind : EntryKind) (bit : Bit) (x : Entry) (s : ClockState) (k : Key) → (kind_answered kind bit x s).1 ≡ Ok (Victim k) → x.key ≡ k
 unfolding gone_on gives_up

@@ -3,18 +3,17 @@
 use Rattle.std.specs.Prelude.{◌≡◌, suc, Bool, true, false, ◌||◌, cond, Option, Some, None, find, filter, List, [], ◌∷◌, ◌++◌, take, drop, refl}
 use Rattle.std.specs.List.{list_any}
 use Rattle.std.specs.Option.{option_or}
-use Rattle.std.proofs.Common.{arith, sym, ap, ◌∙◌, append_assoc}
+use Rattle.std.proofs.Common.{arith, sym, ap, ◌∙◌, append_assoc, append-nil}
 use Rattle.std.proofs.lemmas.List.Folds.{find-append}
+use Rattle.std.proofs.Math.Bool.{or-true}
+use Rattle.clock_policy.specs.FindLaws.{found_passes, option_or-none, find_same}
 use Rattle.clock_policy.specs.declared.key.Key.{Key}
 use Rattle.clock_policy.specs.declared.entry.Entry.{Entry}
 use Rattle.clock_policy.specs.ClockPro.{has_key, place, round, found_key, settled}
 use Rattle.clock_policy.specs.Residents.{is_key}
-use Rattle.clock_policy.specs.AdmitLaws.{one_key}
+use Rattle.clock_policy.specs.AdmitLaws.{one_key, is_key_self}
 
 -- Lists of keys.
-
-pub is_key_self : (k : Key) → is_key k k ≡ true
-is_key_self k = grind arith
 
 pub is_one_key : (k q : Key) → is_key k q ≡ true → q ≡ k
 is_one_key k q h = one_key q k (parts k q h).0 (parts k q h).1
@@ -55,40 +54,20 @@ no_of p q less k fails =
       | false ↦ λ is. refl
     ] refl
 
-or_none : (a : Option Key) → option_or a None ≡ a
-or_none None = refl
-or_none (Some k) = refl
-
-or_assoc : (a b c : Option Key) → option_or (option_or a b) c ≡ option_or a (option_or b c)
-or_assoc None b c = refl
-or_assoc (Some k) b c = refl
-
-find_none : (p q : Key → Bool) → Within q p → (ks : List Key) → find p ks ≡ None → find q ks ≡ None
-find_none p q less [] h = refl
-find_none p q less (k ∷ ks) h =
+find_none_of_less : (p q : Key → Bool) → Within q p → (ks : List Key) → find p ks ≡ None → find q ks ≡ None
+find_none_of_less p q less [] h = refl
+find_none_of_less p q less (k ∷ ks) h =
     elim (p k) as (λ t. p k ≡ t → cond t (Some k) (find p ks) ≡ None → find q (k ∷ ks) ≡ None) [
       | true ↦ λ is g. cc
-      | false ↦ λ is g. rw (no_of p q less k is) (find_none p q less ks g)
+      | false ↦ λ is g. rw (no_of p q less k is) (find_none_of_less p q less ks g)
     ] refl h
-
-found_holds : (p : Key → Bool) (ks : List Key) (y : Key) → find p ks ≡ Some y → p y ≡ true
-found_holds p [] y h = cc
-found_holds p (k ∷ ks) y h =
-    elim (p k) as (λ t. p k ≡ t → cond t (Some k) (find p ks) ≡ Some y → p y ≡ true) [
-      | true ↦ λ is g. let same : k ≡ y = cc in rw (← same) is
-      | false ↦ λ is g. found_holds p ks y g
-    ] refl h
-
-pub or_true : (b : Bool) → b || true ≡ true
-or_true true = refl
-or_true false = refl
 
 found_among : (p : Key → Bool) (ks : List Key) (y : Key) → find p ks ≡ Some y → among ks y ≡ true
 found_among p [] y h = cc
 found_among p (k ∷ ks) y h =
     elim (p k) as (λ t. cond t (Some k) (find p ks) ≡ Some y → is_key y k || among ks y ≡ true) [
       | true ↦ λ g. let same : k ≡ y = cc in rw (same, is_key_self y) refl
-      | false ↦ λ g. rw (found_among p ks y g) (or_true (is_key y k))
+      | false ↦ λ g. rw (found_among p ks y g) (or-true (is_key y k))
     ] h
 
 -- a key that fails the test is not one that passes it
@@ -106,7 +85,7 @@ from_found p q less [] y h = refl
 from_found p q less (k ∷ ks) y h =
     elim (p k) as (λ t. p k ≡ t → cond t (Some k) (find p ks) ≡ Some y → find q (cond (is_key y k) (k ∷ ks) (from_key y ks)) ≡ find q (k ∷ ks)) [
       | true ↦ λ is g. let same : k ≡ y = cc in rw (same, is_key_self y) refl
-      | false ↦ λ is g. rw (not_key p y k (found_holds p ks y g) is, no_of p q less k is) (from_found p q less ks y g)
+      | false ↦ λ is g. rw (not_key p y k (found_passes p ks y g) is, no_of p q less k is) (from_found p q less ks y g)
     ] refl h
 
 before_found : (p q : Key → Bool) → Within q p → (ks : List Key) (y : Key) → find p ks ≡ Some y → find q (before_key y ks) ≡ None
@@ -114,7 +93,7 @@ before_found p q less [] y h = refl
 before_found p q less (k ∷ ks) y h =
     elim (p k) as (λ t. p k ≡ t → cond t (Some k) (find p ks) ≡ Some y → find q (cond (is_key y k) [] (k ∷ before_key y ks)) ≡ None) [
       | true ↦ λ is g. let same : k ≡ y = cc in rw (same, is_key_self y) refl
-      | false ↦ λ is g. rw (not_key p y k (found_holds p ks y g) is, no_of p q less k is) (before_found p q less ks y g)
+      | false ↦ λ is g. rw (not_key p y k (found_passes p ks y g) is, no_of p q less k is) (before_found p q less ks y g)
     ] refl h
 
 -- Two lists, one behind the other.
@@ -154,16 +133,9 @@ apart_left y (k ∷ ks) v apart h =
           let gone : among ks k || among v k ≡ false = sym (among-append k ks v) ∙ apart.0 in
           let there : among v k ≡ true = rw same h in
           let both : among ks k || true ≡ false = rw there at gone in
-          let holds : among ks k || true ≡ true = or_true (among ks k) in
+          let holds : among ks k || true ≡ true = or-true (among ks k) in
           cc
       | false ↦ λ is. apart_left y ks v apart.1 h
-    ] refl
-
-apart_right : (y : Key) (u v : List Key) → DistinctKeys (u ++ v) → among u y ≡ true → among v y ≡ false
-apart_right y u v apart h =
-    elim (among v y) as (λ t. among v y ≡ t → t ≡ false) [
-      | true ↦ λ is. let other : among u y ≡ false = apart_left y u v apart is in cc
-      | false ↦ λ is. refl
     ] refl
 
 -- Where a hand rests: from the key's place on, once round, the first key that passes the test.
@@ -194,16 +166,16 @@ rest_again p q less u v y apart h =
     elim (find p v) as (λ t. find p v ≡ t → option_or t (find p u) ≡ Some y → rest q (u ++ v) (Some y) ≡ find q (v ++ u)) [
       | None ↦ λ is g.
           let here : among u y ≡ true = found_among p u y g in
-          let nothing : find q v ≡ None = find_none p q less v is in
+          let nothing : find q v ≡ None = find_none_of_less p q less v is in
           rw (from_left y u v here, before_left y u v here, find-append q (from_key y u ++ v) (before_key y u), find-append q (from_key y u) v, before_found p q less u y g, from_found p q less u y g, find-append q v u, nothing)
-          (or_none (option_or (find q u) None) ∙ or_none (find q u))
+          (option_or-none (option_or (find q u) None) ∙ option_or-none (find q u))
       | Some x ↦ λ is g.
           let same : x ≡ y = cc in
           let found : find p v ≡ Some y = rw (← same) is in
           let there : among v y ≡ true = found_among p v y found in
           let other : among u y ≡ false = apart_left y u v apart there in
           rw (from_right y u v other, before_right y u v other, find-append q (from_key y v) (u ++ before_key y v), find-append q u (before_key y v), before_found p q less v y found, from_found p q less v y found, find-append q v u)
-          (ap (option_or (find q v)) (or_none (find q u)))
+          (ap (option_or (find q v)) (option_or-none (find q u)))
     ] refl (sym (find-append p v u) ∙ h)
 
 -- the list without what fails a test
@@ -260,20 +232,12 @@ before_place k [] = refl
 before_place k (e ∷ es) =
     elim (has_key k e) as (λ t. keys (take (cond t 0 (suc (place k es))) (e ∷ es)) ≡ cond t [] (e.key ∷ before_key k (keys es))) [ true ↦ refl | false ↦ ap (λ (l : List Key). e.key ∷ l) (before_place k es) ]
 
-pub find_same : (p q : Key → Bool) → ((k : Key) → p k ≡ q k) → (ks : List Key) → find p ks ≡ find q ks
-find_same p q same [] = refl
-find_same p q same (k ∷ ks) = rw (same k) (elim (q k) as (λ t. cond t (Some k) (find p ks) ≡ cond t (Some k) (find q ks)) [ true ↦ refl | false ↦ find_same p q same ks ])
-
-pub append_none : (ks : List Key) → ks ++ [] ≡ ks
-append_none [] = refl
-append_none (k ∷ ks) = ap (λ (l : List Key). k ∷ l) (append_none ks)
-
 pub settled_rest : (old new : List Entry) (hand : Option Key) → settled old new hand ≡ rest (among (keys new)) (keys old) hand
 unfolding settled
 settled_rest old new None =
     find_keys (λ k. list_any (has_key k) new) (round 0 old)
     ∙ find_same (λ k. list_any (has_key k) new) (among (keys new)) (stays_among new) (keys (round 0 old))
-    ∙ ap (find (among (keys new))) (keys-append old [] ∙ append_none (keys old))
+    ∙ ap (find (among (keys new))) (keys-append old [] ∙ append-nil (keys old))
 settled_rest old new (Some k) =
     find_keys (λ q. list_any (has_key q) new) (round (place k old) old)
     ∙ find_same (λ q. list_any (has_key q) new) (among (keys new)) (stays_among new) (keys (round (place k old) old))
@@ -299,10 +263,10 @@ rest_composes p q less u v m a b parts is apart =
     elim (find p (b ++ a)) as (λ t. find p (b ++ a) ≡ t → rest q m t ≡ find q (b ++ a)) [
       | None ↦ λ h.
           let nothing : find p (u ++ v) ≡ None = ap (find p) (sym parts) ∙ none_swapped p b a h in
-          let left : find q m ≡ None = ap (find q) is ∙ find_filter p q less (v ++ u) ∙ find_none p q less (v ++ u) (none_swapped p u v nothing) in
-          left ∙ sym (find_none p q less (b ++ a) h)
+          let left : find q m ≡ None = ap (find q) is ∙ find_filter p q less (v ++ u) ∙ find_none_of_less p q less (v ++ u) (none_swapped p u v nothing) in
+          left ∙ sym (find_none_of_less p q less (b ++ a) h)
       | Some y ↦ λ h.
-          let holds : p y ≡ true = found_holds p (b ++ a) y h in
+          let holds : p y ≡ true = found_passes p (b ++ a) y h in
           let found : among (b ++ a) y ≡ true = found_among p (b ++ a) y h in
           let there : among (u ++ v) y ≡ true = ap (λ (l : List Key). among l y) (sym parts) ∙ among-append y a b ∙ or_swapped (among b y) (among a y) (sym (among-append y b a) ∙ found) in
           let one : rest q m (Some y) ≡ rest q (v ++ u) (Some y) = ap (λ (l : List Key). rest q l (Some y)) is ∙ rest_filter p q less y holds (v ++ u) in
@@ -311,7 +275,7 @@ rest_composes p q less u v m a b parts is apart =
     ] refl
   where
     or_swapped : (x y : Bool) → x || y ≡ true → y || x ≡ true
-    or_swapped true y h = or_true y
+    or_swapped true y h = or-true y
     or_swapped false true h = refl
     or_swapped false false h = h
 
@@ -335,8 +299,8 @@ settled_composes old mid new hand apart order less =
     by_hand None =
         let p : Key → Bool = among (keys mid) in
         let q : Key → Bool = among (keys new) in
-        ap (λ (l : List Key). rest q (keys mid) (find p l)) (sym (append_none (keys old)))
+        ap (λ (l : List Key). rest q (keys mid) (find p l)) (sym (append-nil (keys old)))
         ∙ rest_composes p q less order.passed order.ahead (keys mid) [] (keys old) order.parts order.kept (rw order.parts at apart)
-        ∙ ap (find q) (append_none (keys old))
+        ∙ ap (find q) (append-nil (keys old))
     by_hand (Some k) =
         rest_composes (among (keys mid)) (among (keys new)) less order.passed order.ahead (keys mid) (before_key k (keys old)) (from_key k (keys old)) (split_key k (keys old) ∙ order.parts) order.kept (rw order.parts at apart)

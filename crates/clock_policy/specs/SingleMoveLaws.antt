@@ -1,6 +1,10 @@
 -- The equations of the hot answer and of the purge are single moves, one after another.
 use Rattle.std.specs.Prelude.{◌≡◌, ℕ, suc, ◌+◌, ◌≤◌, Bool, true, false, not, ◌||◌, cond, Option, Some, None, find, filter, List, [], ◌∷◌, ◌++◌, take, drop, refl}
-use Rattle.std.proofs.Common.{arith, sym, ap, ◌∙◌, append_assoc, add-one}
+use Rattle.std.proofs.Common.{arith, sym, ap, ◌∙◌, append_assoc, add-one, append-nil}
+use Rattle.std.proofs.Math.Bool.{or-true, or_comm}
+use Rattle.std.proofs.lemmas.Bool.{or_parts}
+use Rattle.std.proofs.lemmas.List.Elements.{filter_agree, filter-append}
+use Rattle.clock_policy.specs.AdmitLaws.{is_key_self}
 use Rattle.clock_policy.specs.declared.key.Key.{Key}
 use Rattle.clock_policy.specs.declared.entry.Entry.{Entry}
 use Rattle.clock_policy.specs.ClockPro.{ClockState, number, has_key, place, settled, relisted, removed, is_of_process, purged}
@@ -8,7 +12,7 @@ use Rattle.clock_policy.specs.Lawful.{Lawful, RestsIn}
 use Rattle.clock_policy.specs.ListedLaws.{has_key_refl}
 use Rattle.clock_policy.specs.CountLaws.{any_number, number_any}
 use Rattle.clock_policy.specs.Residents.{is_key}
-use Rattle.clock_policy.specs.SettledLaws.{keys, among, DistinctKeys, Within, Clockwise, rest, settled_rest, settled_composes, is_key_self, is_one_key, from_key, or_true, among-append, keys-append, stays_among, append_none, apart_left}
+use Rattle.clock_policy.specs.SettledLaws.{keys, among, DistinctKeys, Within, Clockwise, rest, settled_rest, settled_composes, is_one_key, from_key, among-append, keys-append, stays_among, apart_left}
 use Rattle.clock_policy.specs.SingleMoves.{removed_of, each_removed}
 
 -- Keys that stay.
@@ -31,38 +35,24 @@ is_key_sym a b h =
       | false ↦ λ is. refl
     ] refl
 
-or_false : (a b : Bool) → a || b ≡ false → (a ≡ false) × (b ≡ false)
-or_false true b h = cc
-or_false false b h = (refl, h)
-
 filter_skip : (x : Key) (p : Key → Bool) (ks : List Key) → among ks x ≡ false → filter (λ k. is_key k x || p k) ks ≡ filter p ks
 filter_skip x p [] h = refl
 filter_skip x p (k ∷ ks) h =
-    let parts : (is_key x k ≡ false) × (among ks x ≡ false) = or_false (is_key x k) (among ks x) h in
+    let parts : (is_key x k ≡ false) × (among ks x ≡ false) = or_parts (is_key x k) (among ks x) h in
     rw (is_key_sym x k (parts.0)) (elim (p k) as (λ t. cond t (k ∷ filter (λ k. is_key k x || p k) ks) (filter (λ k. is_key k x || p k) ks) ≡ cond t (k ∷ filter p ks) (filter p ks)) [
       | true ↦ ap (λ (l : List Key). k ∷ l) (filter_skip x p ks (parts.1))
       | false ↦ filter_skip x p ks (parts.1)
     ])
 
-filter_same : (p q : Key → Bool) → ((k : Key) → p k ≡ q k) → (ks : List Key) → filter p ks ≡ filter q ks
-filter_same p q same [] = refl
-filter_same p q same (k ∷ ks) =
-    rw (same k) (elim (q k) as (λ t. cond t (k ∷ filter p ks) (filter p ks) ≡ cond t (k ∷ filter q ks) (filter q ks)) [ true ↦ ap (λ (l : List Key). k ∷ l) (filter_same p q same ks) | false ↦ filter_same p q same ks ])
-
 filter_all : (p : Key → Bool) (ks : List Key) → Within (among ks) p → filter p ks ≡ ks
 filter_all p [] less = refl
 filter_all p (k ∷ ks) less =
-    rw (less k (rw (is_key_self k) refl)) (ap (λ (l : List Key). k ∷ l) (filter_all p ks (λ q h. less q (rw h (or_true (is_key q k))))))
-
-filter_keys-append : (p : Key → Bool) (a b : List Key) → filter p (a ++ b) ≡ filter p a ++ filter p b
-filter_keys-append p [] b = refl
-filter_keys-append p (k ∷ ks) b =
-    elim (p k) as (λ t. cond t (k ∷ filter p (ks ++ b)) (filter p (ks ++ b)) ≡ cond t (k ∷ filter p ks) (filter p ks) ++ filter p b) [ true ↦ ap (λ (l : List Key). k ∷ l) (filter_keys-append p ks b) | false ↦ filter_keys-append p ks b ]
+    rw (less k (rw (is_key_self k) refl)) (ap (λ (l : List Key). k ∷ l) (filter_all p ks (λ q h. less q (rw h (or-true (is_key q k))))))
 
 kept_among : (g : Entry → Bool) (u : List Entry) (a : List Key) (x : Key) → among (keys u ++ a) x ≡ false → among (keys (filter g u) ++ a) x ≡ false
 kept_among g [] a x h = h
 kept_among g (e ∷ es) a x h =
-    let parts : (is_key x e.key ≡ false) × (among (keys es ++ a) x ≡ false) = or_false (is_key x e.key) (among (keys es ++ a) x) h in
+    let parts : (is_key x e.key ≡ false) × (among (keys es ++ a) x ≡ false) = or_parts (is_key x e.key) (among (keys es ++ a) x) h in
     elim (g e) as (λ t. among (keys (cond t (e ∷ filter g es) (filter g es)) ++ a) x ≡ false) [
       | true ↦ rw (parts.0) (kept_among g es a x (parts.1))
       | false ↦ kept_among g es a x (parts.1)
@@ -72,14 +62,9 @@ kept_keys : (g : Entry → Bool) (u : List Entry) (a : List Key) → DistinctKey
 kept_keys g [] a apart = refl
 kept_keys g (e ∷ es) a apart =
     elim (g e) as (λ t. filter (among (keys (cond t (e ∷ filter g es) (filter g es)) ++ a)) (e.key ∷ keys es) ≡ keys (cond t (e ∷ filter g es) (filter g es))) [
-      | true ↦ rw (is_key_self e.key) (ap (λ (l : List Key). e.key ∷ l) (filter_skip e.key (among (keys (filter g es) ++ a)) (keys es) (or_false (among (keys es) e.key) (among a e.key) (sym (among-append e.key (keys es) a) ∙ apart.0)).0 ∙ kept_keys g es a apart.1))
+      | true ↦ rw (is_key_self e.key) (ap (λ (l : List Key). e.key ∷ l) (filter_skip e.key (among (keys (filter g es) ++ a)) (keys es) (or_parts (among (keys es) e.key) (among a e.key) (sym (among-append e.key (keys es) a) ∙ apart.0)).0 ∙ kept_keys g es a apart.1))
       | false ↦ rw (kept_among g es a e.key apart.0) (kept_keys g es a apart.1)
     ]
-
-pub or_comm : (a b : Bool) → a || b ≡ b || a
-or_comm true b = sym (or_true b)
-or_comm false true = refl
-or_comm false false = refl
 
 -- The list with some of its first entries left out stays in the old order, in its place or behind the others.
 
@@ -89,8 +74,8 @@ among_either t v k =
 
 kept_parts : (g : Entry → Bool) (u v t : List Entry) (p : Key → Bool) → keys t ≡ keys (filter g u) → DistinctKeys (keys u ++ keys v) → ((k : Key) → p k ≡ among (keys t ++ keys v) k) → (filter p (keys u) ≡ keys t) × (filter p (keys v) ≡ keys v)
 kept_parts g u v t p same apart is = (
-  filter_same p (among (keys t ++ keys v)) is (keys u) ∙ ap (λ (l : List Key). filter (among (l ++ keys v)) (keys u)) same ∙ kept_keys g u (keys v) apart ∙ sym same,
-  filter_all p (keys v) (λ k h. is k ∙ among-append k (keys t) (keys v) ∙ rw h (or_true (among (keys t) k))),
+  filter_agree p (among (keys t ++ keys v)) is (keys u) ∙ ap (λ (l : List Key). filter (among (l ++ keys v)) (keys u)) same ∙ kept_keys g u (keys v) apart ∙ sym same,
+  filter_all p (keys v) (λ k h. is k ∙ among-append k (keys t) (keys v) ∙ rw h (or-true (among (keys t) k))),
 )
 
 pub clockwise_behind : (g : Entry → Bool) (u v t : List Entry) → keys t ≡ keys (filter g u) → DistinctKeys (keys u ++ keys v) → Clockwise (u ++ v) (v ++ t)
@@ -101,7 +86,7 @@ clockwise_behind g u v t same apart =
       passed = keys u;
       ahead = keys v;
       parts = keys-append u v;
-      kept = keys-append v t ∙ sym (filter_keys-append p (keys v) (keys u) ∙ rw (parts.0, parts.1) refl);
+      kept = keys-append v t ∙ sym (filter-append p (keys v) (keys u) ∙ rw (parts.0, parts.1) refl);
     }
 
 pub clockwise_kept : (g : Entry → Bool) (u v t : List Entry) → keys t ≡ keys (filter g u) → DistinctKeys (keys u ++ keys v) → Clockwise (u ++ v) (t ++ v)
@@ -112,7 +97,7 @@ clockwise_kept g u v t same apart =
       passed = [];
       ahead = keys (u ++ v);
       parts = refl;
-      kept = keys-append t v ∙ sym (ap (filter p) (append_none (keys (u ++ v)) ∙ keys-append u v) ∙ filter_keys-append p (keys u) (keys v) ∙ rw (parts.0, parts.1) refl);
+      kept = keys-append t v ∙ sym (ap (filter p) (append-nil (keys (u ++ v)) ∙ keys-append u v) ∙ filter-append p (keys u) (keys v) ∙ rw (parts.0, parts.1) refl);
     }
 
 -- Lists put in place of the old one.
@@ -187,17 +172,12 @@ removed_at e t v s alone apart order =
 abbrev stays : ℕ → Entry → Bool
 stays process e = not (is_of_process process e)
 
-filter-append : (g : Entry → Bool) (a b : List Entry) → filter g (a ++ b) ≡ filter g a ++ filter g b
-filter-append g [] b = refl
-filter-append g (e ∷ es) b =
-    elim (g e) as (λ t. cond t (e ∷ filter g (es ++ b)) (filter g (es ++ b)) ≡ cond t (e ∷ filter g es) (filter g es) ++ filter g b) [ true ↦ ap (λ (l : List Entry). e ∷ l) (filter-append g es b) | false ↦ filter-append g es b ]
-
 pub none_before : (e : Entry) (u v : List Entry) → DistinctKeys (keys (u ++ e ∷ v)) → among (keys u) e.key ≡ false
 none_before e u v apart = apart_left e.key (keys u) (keys (e ∷ v)) (rw (keys-append u (e ∷ v)) at apart) (rw (is_key_self e.key) refl)
 
 none_kept : (g : Entry → Bool) (e : Entry) (u : List Entry) → among (keys u) e.key ≡ false → among (keys (filter g u)) e.key ≡ false
 none_kept g e u h =
-    ap (λ (l : List Key). among l e.key) (sym (append_none (keys (filter g u)))) ∙ kept_among g u [] e.key (ap (λ (l : List Key). among l e.key) (append_none (keys u)) ∙ h)
+    ap (λ (l : List Key). among l e.key) (sym (append-nil (keys (filter g u)))) ∙ kept_among g u [] e.key (ap (λ (l : List Key). among l e.key) (append-nil (keys u)) ∙ h)
 
 step_removed : (process : ℕ) (e : Entry) (u v : List Entry) (s : ClockState) → s.entries ≡ u ++ e ∷ v → DistinctKeys (keys s.entries) →
     removed_of process e (relisted (filter (stays process) u ++ e ∷ v) s) ≡ relisted (filter (stays process) (u ++ e ∷ []) ++ v) s
@@ -209,21 +189,13 @@ step_removed process e u v s is apart =
     elim (is_of_process process e) as (λ t. is_of_process process e ≡ t → cond t (removed e.key (relisted (filter g u ++ e ∷ v) s)) (relisted (filter g u ++ e ∷ v) s) ≡ relisted (filter g (u ++ e ∷ []) ++ v) s) [
       | true ↦ λ gone.
           removed_at e (filter g u) v s (none_kept g e u (none_before e u v there)) apart order
-          ∙ ap (λ (l : List Entry). relisted (l ++ v) s) (sym (filter-append g u (e ∷ []) ∙ rw gone (append_nil (filter g u))))
+          ∙ ap (λ (l : List Entry). relisted (l ++ v) s) (sym (filter-append g u (e ∷ []) ∙ rw gone (append-nil (filter g u))))
       | false ↦ λ kept.
           ap (λ (l : List Entry). relisted l s) (sym (ap (λ (l : List Entry). l ++ v) (filter-append g u (e ∷ []) ∙ rw kept refl) ∙ append_assoc (filter g u) (e ∷ []) v))
     ] refl
-  where
-    append_nil : (l : List Entry) → l ++ [] ≡ l
-    append_nil [] = refl
-    append_nil (e ∷ es) = ap (λ (l : List Entry). e ∷ l) (append_nil es)
 
 each_from : (process : ℕ) (v u : List Entry) (s : ClockState) → s.entries ≡ u ++ v → DistinctKeys (keys s.entries) → each_removed process v (relisted (filter (stays process) u ++ v) s) ≡ relisted (filter (stays process) (u ++ v) ++ []) s
-each_from process [] u s is apart = ap (λ (l : List Entry). relisted (filter (stays process) l ++ []) s) (sym (append_end u))
-  where
-    append_end : (l : List Entry) → l ++ [] ≡ l
-    append_end [] = refl
-    append_end (e ∷ es) = ap (λ (l : List Entry). e ∷ l) (append_end es)
+each_from process [] u s is apart = ap (λ (l : List Entry). relisted (filter (stays process) l ++ []) s) (sym (append-nil u))
 each_from process (e ∷ es) u s is apart =
     ap (each_removed process es) (step_removed process e u es s is apart)
     ∙ each_from process es (u ++ e ∷ []) s (is ∙ sym (append_assoc u (e ∷ []) es)) apart
@@ -235,8 +207,4 @@ unfolding purged
 purged_by_moves process s h =
     ap (each_removed process s.entries) (sym (relisted_same s h))
     ∙ each_from process s.entries [] s refl (apart_of s.entries h.distinct)
-    ∙ ap (λ (l : List Entry). relisted l s) (append_end (filter (stays process) s.entries))
-  where
-    append_end : (l : List Entry) → l ++ [] ≡ l
-    append_end [] = refl
-    append_end (e ∷ es) = ap (λ (l : List Entry). e ∷ l) (append_end es)
+    ∙ ap (λ (l : List Entry). relisted l s) (append-nil (filter (stays process) s.entries))

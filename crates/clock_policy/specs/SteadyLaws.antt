@@ -3,6 +3,7 @@ use Rattle.std.specs.Prelude.{◌≡◌, ℕ, ◌+◌, ◌*◌, ◌≤◌, ◌<�
 use Rattle.std.specs.List.{list_any}
 use Rattle.std.proofs.Common.{arith, sym, ap, ◌∙◌, length-append, length-set}
 use Rattle.std.proofs.lemmas.List.{length-take, length-drop}
+use Rattle.clock_policy.specs.FindLaws.{found_passes}
 use Rattle.clock_policy.specs.declared.key.Key.{Key}
 use Rattle.clock_policy.specs.declared.entry.Entry.{Entry}
 use Rattle.clock_policy.specs.declared.entry.EntryKind.{EntryKind}
@@ -10,13 +11,14 @@ use Rattle.clock_policy.specs.declared.entry.EntryKind.TheVariants.{Shadow}
 use Rattle.clock_policy.specs.declared.answer.Bit.{Bit}
 use Rattle.clock_policy.specs.declared.answer.Bit.TheVariants.{Zero, One, Gone}
 use Rattle.clock_policy.specs.ClockPro.{ClockState, number, has_key, place, place_of, round, found_key, stays_in, settled, relisted, removed, appended, marked, sent_to_end, grown, fallen, cold_hand_on, shadowed, turned_to, trimmed, trimmed_once, tests_ended, hot_left, trimmed_list, trimmed_tests, test_count, shadow_count, is_shadow}
+use Rattle.clock_policy.specs.FrameCounts.{least_frames, most_frames}
 use Rattle.clock_policy.specs.Lawful.{RestsIn}
 use Rattle.clock_policy.specs.ListedLaws.{has_key_refl, list_any-round}
 use Rattle.clock_policy.specs.CountLaws.{has_key_same, has_key_sym, number-append, number-round, number-without, number-without_le, number-set, any_number, number_any, place_has, IsIn, place_holds, in_number, keys-tests_ended, keys-trimmed_list}
 
 pub record Based (s : ClockState) : Type 0 where
-  pub least : 4 ≤ s.frames
-  pub most : s.frames ≤ 4096
+  pub least : least_frames ≤ s.frames
+  pub most : s.frames ≤ most_frames
   pub share_low : 1 ≤ s.share
   pub share_high : s.share < s.frames
   pub few_asked : s.asked ≤ 3 * s.frames
@@ -44,14 +46,6 @@ find_some p q less (e ∷ es) h =
         | false ↦ λ no g. g
       ] refl h)
     ] refl
-
-found_passes : (p : Entry → Bool) (l : List Entry) (x : Entry) → find p l ≡ Some x → p x ≡ true
-found_passes p [] x h = cc
-found_passes p (e ∷ es) x h =
-    elim (p e) as (λ t. p e ≡ t → cond t (Some e) (find p es) ≡ Some x → p x ≡ true) [
-      | true ↦ λ is g. let same : e ≡ x = cc in rw (← same) is
-      | false ↦ λ is g. found_passes p es x g
-    ] refl h
 
 -- where no entry of the old list stays, the new one is empty
 none_stays : (new old : List Entry) (i : ℕ) → KeysFrom new old → find (stays_in new) (round i old) ≡ None → length new ≡ 0

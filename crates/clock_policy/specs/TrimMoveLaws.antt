@@ -1,6 +1,6 @@
 -- The trimming's equation is single moves, one after another: each entry from the test hand on ends its test, up to the first shadow.
 use Rattle.std.specs.Prelude.{◌≡◌, ℕ, suc, ◌+◌, ◌-◌, ◌≤◌, max, Bool, true, false, ◌||◌, cond, Option, Some, find, List, [], ◌∷◌, ◌++◌, take, drop, set, refl}
-use Rattle.std.proofs.Common.{arith, sym, ap, ◌∙◌, append_assoc}
+use Rattle.std.proofs.Common.{arith, sym, ap, ◌∙◌, append_assoc, append-nil}
 use Rattle.std.proofs.lemmas.List.{take-append-drop}
 use Rattle.std.proofs.lemmas.List.Folds.{list_any-append}
 use Rattle.clock_policy.specs.declared.key.Key.{Key}
@@ -45,13 +45,13 @@ marked_at n e t v s alone =
     shares c n = omega arith
 
 -- Entries with no shadow among them end their tests in place.
-ended_keys : (l : List Entry) → any_shadow l ≡ false → keys (trimmed_part l) ≡ keys l
-ended_keys [] h = refl
-ended_keys (e ∷ es) h =
+trimmed_part_keys : (l : List Entry) → any_shadow l ≡ false → keys (trimmed_part l) ≡ keys l
+trimmed_part_keys [] h = refl
+trimmed_part_keys (e ∷ es) h =
     elim e.kind as (λ t. is_shadow t || any_shadow es ≡ false → keys (cond (is_shadow t) es (test_ended t e ++ trimmed_part es)) ≡ e.key ∷ keys es) [
-      | Hot ↦ λ g. ap (λ (l : List Key). e.key ∷ l) (ended_keys es g)
-      | Test ↦ λ g. ap (λ (l : List Key). e.key ∷ l) (ended_keys es g)
-      | Cold ↦ λ g. ap (λ (l : List Key). e.key ∷ l) (ended_keys es g)
+      | Hot ↦ λ g. ap (λ (l : List Key). e.key ∷ l) (trimmed_part_keys es g)
+      | Test ↦ λ g. ap (λ (l : List Key). e.key ∷ l) (trimmed_part_keys es g)
+      | Cold ↦ λ g. ap (λ (l : List Key). e.key ∷ l) (trimmed_part_keys es g)
       | Shadow ↦ λ g. cc
     ] h
 
@@ -165,15 +165,11 @@ first_shadow e (d ∷ ds) r none is =
       | false ↦ λ g. first_shadow e ds r g is
     ] none
 
-append_nil : (l : List Entry) → l ++ [] ≡ l
-append_nil [] = refl
-append_nil (e ∷ es) = ap (λ (l : List Entry). e ∷ l) (append_nil es)
-
 -- where entries end their tests the keys stay
 keys_ended : (u p v : List Entry) → any_shadow p ≡ false → keys (u ++ (trimmed_part p ++ v)) ≡ keys (u ++ (p ++ v))
 keys_ended u p v none =
     keys-append u (trimmed_part p ++ v)
-    ∙ ap (λ (l : List Key). keys u ++ l) (keys-append (trimmed_part p) v ∙ ap (λ (l : List Key). l ++ keys v) (ended_keys p none) ∙ sym (keys-append p v))
+    ∙ ap (λ (l : List Key). keys u ++ l) (keys-append (trimmed_part p) v ∙ ap (λ (l : List Key). l ++ keys v) (trimmed_part_keys p none) ∙ sym (keys-append p v))
     ∙ sym (keys-append u (p ++ v))
 
 -- the shadow stands from the hand on
@@ -206,15 +202,15 @@ moves_behind u v s f clear is apart =
     let r : List Entry = f.behind in
     let t : List Entry = trimmed_part v in
     let n : ℕ = 0 + trimmed_tests v in
-    let ends : s.entries ≡ u ++ (v ++ []) = is ∙ ap (λ (l : List Entry). u ++ l) (sym (append_nil v)) in
+    let ends : s.entries ≡ u ++ (v ++ []) = is ∙ ap (λ (l : List Entry). u ++ l) (sym (append-nil v)) in
     let passed : u ++ t ≡ p ++ (e ∷ (r ++ t)) = ap (λ (l : List Entry). l ++ t) f.parts ∙ append_assoc p (e ∷ r) t in
     let first : keys (u ++ t) ≡ keys s.entries =
-    ap (λ (l : List Entry). keys (u ++ l)) (sym (append_nil t)) ∙ keys_ended u v [] clear ∙ ap keys (sym ends) in
+    ap (λ (l : List Entry). keys (u ++ l)) (sym (append-nil t)) ∙ keys_ended u v [] clear ∙ ap keys (sym ends) in
     let second : keys (p ++ (e ∷ (r ++ t))) ≡ keys s.entries = ap keys (sym passed) ∙ first in
     let same : keys (trimmed_part p ++ e ∷ (r ++ t)) ≡ keys s.entries = keys_ended [] p (e ∷ (r ++ t)) f.none ∙ second in
     ap (λ (l : List Entry). each_ended (v ++ u) (trimming 0 l s)) ends
     ∙ passes v u u [] 0 s clear (rw ends at apart)
-    ∙ ap (λ (l : List Entry). each_ended u (trimming n (u ++ l) s)) (append_nil t)
+    ∙ ap (λ (l : List Entry). each_ended u (trimming n (u ++ l) s)) (append-nil t)
     ∙ ap (λ (l : List Entry). each_ended u (trimming n l s)) passed
     ∙ ap (λ (l : List Entry). each_ended l (trimming n (p ++ (e ∷ (r ++ t))) s)) f.parts
     ∙ passes p (e ∷ r) [] (e ∷ (r ++ t)) n s f.none (rw second apart)

@@ -2,6 +2,7 @@
 
 ghost use Rattle.std.specs.Prelude.{◌≡◌, ◌≢◌, ◌≤◌, ◌<◌, ◌+◌, ◌*◌, ◌++◌, ◌⊎◌, ℕ, IfOk, OnOk, OnErr, IsOk, IsErr, IsNone, ◌↔◌, Ok, Err, length, slice_get, option_map, vec_len, vec_capacity};
 ghost use Rattle.clock_policy.specs.ClockPro.{ClockState, opening_state, kind_of, question_of, answered, admitted, restored, withdrawn, purged, purge_count};
+ghost use Rattle.clock_policy.specs.FrameCounts.{least_frames, most_frames};
 ghost use Rattle.clock_policy.specs.Lawful.{Lawful};
 ghost use Rattle.clock_policy.specs.Bound.{answers_left, NothingResident};
 
@@ -11,6 +12,12 @@ use crate::key::Key;
 use crate::refusal::{NewRefusal, Refusal};
 use std::alloc::{AllocError, Global};
 
+/// The least number of frames that a list may serve.
+pub const LEAST_FRAMES: usize = 4;
+
+/// The greatest number of frames that a list may serve.
+pub const MOST_FRAMES: usize = 4096;
+
 /// A list of pages under CLOCK-Pro, which names the page that is to leave its frame.
 ///
 /// `state` is what the list stands for: each call is that of the definition on it, the refusals in the order of their numbers included.
@@ -19,10 +26,10 @@ use std::alloc::{AllocError, Global};
 pub trait Clock: Drop {
     ghost state: { Self → ClockState };
 
-    /// An empty list for 4 to 4096 frames.
+    /// An empty list for [`LEAST_FRAMES`] to [`MOST_FRAMES`] frames.
     fn new(alloc: Global, frames: usize) -> Result<Self, NewRefusal>
         ensures ok { IfOk result (λ clock. state clock ≡ opening_state frames) }
-        ensures bad_size { (result ≡ Err NewRefusal.BadSize) ↔ ((frames < 4) ⊎ (4096 < frames)) }
+        ensures bad_size { (result ≡ Err NewRefusal.BadSize) ↔ ((frames < least_frames) ⊎ (most_frames < frames)) }
         ensures lawful { IfOk result (λ clock. Lawful (state clock)) };
 
     /// The number of frames that the list serves.

@@ -67,10 +67,6 @@ pub length_removed : (u v : List Cell) (c : Cell) → length (u ++ v) + 1 ≡ le
 length_removed [] v c = omega arith
 length_removed (d ∷ ds) v c = omega (arith, length_removed ds v c)
 
-pub length_appended : (cs : List Cell) (c : Cell) → length (cs ++ c ∷ []) ≡ length cs + 1
-length_appended [] c = refl
-length_appended (d ∷ ds) c = omega (arith, length_appended ds c)
-
 -- where not each frame has its page, the circle has room for one more
 pub room_left : (n : Counts) (cs : List Cell) (frames : ℕ) → Counted n cs → hot_count (entries_of cs) + cold_count (entries_of cs) ≤ frames → shadow_count (entries_of cs) ≤ frames →
     ((hot_count (entries_of cs) + cold_count (entries_of cs)) == frames) ≡ false → length cs < 2 * frames

@@ -1,6 +1,9 @@
 -- The single moves on cells are the policy's moves on entries.
 use Rattle.std.specs.Prelude.{◌≡◌, ℕ, suc, ◌+◌, Bool, true, false, ◌==◌, ◌||◌, cond, unwrap_or, Option, Some, None, find, set, List, [], ◌∷◌, ◌++◌, take, drop, length, refl}
-use Rattle.std.proofs.Common.{arith, sym, ap, ◌∙◌, subst, append_assoc, add-one}
+use Rattle.std.proofs.Common.{arith, sym, ap, ◌∙◌, subst, append_assoc, add-one, eqb-true, append-nil, ne_eqb}
+use Rattle.std.proofs.Math.Bool.{or-true, or_comm}
+use Rattle.std.proofs.lemmas.Bool.{or_parts, eqb-false}
+use Rattle.clock_policy.specs.AdmitLaws.{is_key_self}
 use Rattle.clock_policy.specs.declared.key.Key.{Key}
 use Rattle.clock_policy.specs.declared.entry.Entry.{Entry}
 use Rattle.clock_policy.specs.declared.entry.EntryKind.{EntryKind}
@@ -8,12 +11,12 @@ use Rattle.clock_policy.specs.declared.entry.EntryKind.TheVariants.{Shadow}
 use Rattle.clock_policy.specs.ClockPro.{ClockState, number, has_key, place, round, found_key, settled, relisted, removed, appended, marked, sent_to_end, cold_hand_on, shadowed}
 use Rattle.clock_policy.specs.ListedLaws.{has_key_refl}
 use Rattle.clock_policy.specs.Residents.{is_key}
-use Rattle.clock_policy.specs.SettledLaws.{keys, among, rest, settled_rest, from_key, before_key, is_key_self, among-append, keys-append}
+use Rattle.clock_policy.specs.SettledLaws.{keys, among, rest, settled_rest, from_key, before_key, among-append, keys-append}
 use Rattle.clock_policy.specs.SingleMoves.{front_turned, test_hand_on}
 use Rattle.clock_policy.specs.SingleMoveLaws.{rest_stays, without_at}
 use Rattle.clock_policy.specs.TrimMoveLaws.{set_at}
 use Rattle.page_ring.specs.Linked.{Cell, DistinctNodes, is_at, first_at}
-use Rattle.page_ring.specs.LinkLaws.{same_at, at_self, or_true, is_at-append}
+use Rattle.page_ring.specs.LinkLaws.{at_self, is_at-append}
 use Rattle.page_ring.specs.Chain.{of_kind}
 use Rattle.page_ring.specs.Index.{entries_of, entries-append, number-cells, mark_number, remove_number, DistinctPages}
 use Rattle.clock_ring.specs.RingState.{entry_at_node, hand_at, Rests, Whole}
@@ -23,16 +26,6 @@ abbrev pub on : List Cell → ℕ → ℕ → ClockState → ClockState
 on cs cold test s = record s { entries = entries_of cs; cold_hand = hand_at cs cold; test_hand = hand_at cs test }
 
 -- Entries of nodes.
-
-or_false : (a b : Bool) → a || b ≡ false → (a ≡ false) × (b ≡ false)
-or_false true b h = cc
-or_false false b h = (refl, h)
-
-pub nothing_at : (cs : List Cell) (n : ℕ) → is_at cs n ≡ false → entry_at_node cs n ≡ None
-nothing_at [] n h = refl
-nothing_at (c ∷ cs) n h =
-    let parts : ((c.at == n) ≡ false) × (is_at cs n ≡ false) = or_false (c.at == n) (is_at cs n) h in
-    rw (parts.0) (nothing_at cs n (parts.1))
 
 pub found_at : (cs : List Cell) (n : ℕ) (e : Entry) → entry_at_node cs n ≡ Some e → is_at cs n ≡ true
 found_at [] n e h = cc
@@ -46,7 +39,7 @@ found_at (c ∷ cs) n e h =
 pub entry_behind : (u v : List Cell) (n : ℕ) → is_at u n ≡ false → entry_at_node (u ++ v) n ≡ entry_at_node v n
 entry_behind [] v n h = refl
 entry_behind (c ∷ cs) v n h =
-    let parts : ((c.at == n) ≡ false) × (is_at cs n ≡ false) = or_false (c.at == n) (is_at cs n) h in
+    let parts : ((c.at == n) ≡ false) × (is_at cs n ≡ false) = or_parts (c.at == n) (is_at cs n) h in
     rw (parts.0) (entry_behind cs v n (parts.1))
 
 pub entry_before : (u v : List Cell) (n : ℕ) (e : Entry) → entry_at_node u n ≡ Some e → entry_at_node (u ++ v) n ≡ Some e
@@ -62,7 +55,7 @@ alone_at [] v c apart = refl
 alone_at (d ∷ ds) v c apart =
     elim (d.at == c.at) as (λ t. (d.at == c.at) ≡ t → t || is_at ds c.at ≡ false) [
       | true ↦ λ is.
-          let there : is_at (ds ++ c ∷ v) d.at ≡ true = is_at-append ds (c ∷ v) d.at ∙ rw (same_at d.at c.at is, at_self c.at) (or_true (is_at ds c.at)) in
+          let there : is_at (ds ++ c ∷ v) d.at ≡ true = is_at-append ds (c ∷ v) d.at ∙ rw (eqb-true d.at c.at is, at_self c.at) (or-true (is_at ds c.at)) in
           let gone : is_at (ds ++ c ∷ v) d.at ≡ false = apart.0 in
           cc
       | false ↦ λ is. alone_at ds v c (apart.1)
@@ -94,7 +87,7 @@ entered (c ∷ cs) n h =
       | true ↦ λ is g. record { entry = c.entry; is = rw is refl; among = rw (is_key_self c.entry.key) refl }
       | false ↦ λ is g.
           let e : Entered cs n = entered cs n g in
-          record { entry = e.entry; is = rw is e.is; among = rw e.among (or_true (is_key e.entry.key c.entry.key)) }
+          record { entry = e.entry; is = rw is e.is; among = rw e.among (or-true (is_key e.entry.key c.entry.key)) }
     ] refl h
 
 -- the cells around a node's
@@ -107,7 +100,7 @@ pub between : (cs : List Cell) (at : ℕ) (e : Entry) → entry_at_node cs at �
 between [] at e h = cc
 between (c ∷ cs) at e h =
     elim (c.at == at) as (λ t. (c.at == at) ≡ t → cond t (Some c.entry) (entry_at_node cs at) ≡ Some e → Between (c ∷ cs) at e) [
-      | true ↦ λ is g. record { before = []; behind = cs; parts = ap (λ (d : Cell). d ∷ cs) (one c at e (same_at c.at at is) g) }
+      | true ↦ λ is g. record { before = []; behind = cs; parts = ap (λ (d : Cell). d ∷ cs) (one c at e (eqb-true c.at at is) g) }
       | false ↦ λ is g. let b : Between cs at e = between cs at e g in record { before = c ∷ b.before; behind = b.behind; parts = ap (λ (l : List Cell). c ∷ l) b.parts }
     ] refl h
   where
@@ -145,18 +138,18 @@ among-cells u v k =
     ∙ among-append k (keys (entries_of u)) (keys (entries_of v))
 
 pub gone_before : (u v : List Cell) (c : Cell) → DistinctPages (u ++ c ∷ v) → among (keys (entries_of u)) c.entry.key ≡ false
-gone_before u v c distinct = (or_false (among (keys (entries_of u)) c.entry.key) (among (keys (entries_of v)) c.entry.key) (sym (among-cells u v c.entry.key) ∙ gone u v c distinct)).0
+gone_before u v c distinct = (or_parts (among (keys (entries_of u)) c.entry.key) (among (keys (entries_of v)) c.entry.key) (sym (among-cells u v c.entry.key) ∙ gone u v c distinct)).0
 
 from_here : (k : Key) (a b : List Key) → among a k ≡ false → from_key k (a ++ k ∷ b) ≡ k ∷ b
 from_here k [] b h = rw (is_key_self k) refl
 from_here k (q ∷ qs) b h =
-    let parts : (is_key k q ≡ false) × (among qs k ≡ false) = or_false (is_key k q) (among qs k) h in
+    let parts : (is_key k q ≡ false) × (among qs k ≡ false) = or_parts (is_key k q) (among qs k) h in
     rw (parts.0) (from_here k qs b (parts.1))
 
 before_here : (k : Key) (a b : List Key) → among a k ≡ false → before_key k (a ++ k ∷ b) ≡ a
 before_here k [] b h = rw (is_key_self k) refl
 before_here k (q ∷ qs) b h =
-    let parts : (is_key k q ≡ false) × (among qs k ≡ false) = or_false (is_key k q) (among qs k) h in
+    let parts : (is_key k q ≡ false) × (among qs k ≡ false) = or_parts (is_key k q) (among qs k) h in
     rw (parts.0) (ap (λ (l : List Key). q ∷ l) (before_here k qs b (parts.1)))
 
 -- the page of the first cell
@@ -172,11 +165,6 @@ hand_first : (u v : List Cell) (n : ℕ) → DistinctNodes (u ++ v) → hand_at 
 hand_first u (d ∷ ds) n apart = ap found_key (entry_here u ds d apart)
 hand_first [] [] n apart = refl
 hand_first (d ∷ ds) [] n apart = rw (at_self d.at) refl
-
-or_comm : (a b : Bool) → a || b ≡ b || a
-or_comm true b = sym (or_true b)
-or_comm false true = refl
-or_comm false false = refl
 
 -- the next of a cell that goes
 settled_next : (u v : List Cell) (c : Cell) → DistinctNodes (u ++ v) → DistinctPages (u ++ c ∷ v) →
@@ -200,8 +188,8 @@ settled_next u v c apart distinct =
     not_first : (q : Key → Bool) (k : Key) (l : List Key) → q k ≡ false → find q (k ∷ l) ≡ find q l
     not_first q k l h = rw h refl
 
-back : (m n : ℕ) → (m == n) ≡ false → (n == m) ≡ false
-back m n h = elim (n == m) as (λ t. (n == m) ≡ t → t ≡ false) [ true ↦ λ is. let same : n ≡ m = same_at n m is in let yes : (m == n) ≡ true = rw same (at_self m) in cc | false ↦ λ is. refl ] refl
+unequal_sym : (m n : ℕ) → (m == n) ≡ false → (n == m) ≡ false
+unequal_sym m n h = ne_eqb n m (λ same. eqb-false m n h (sym same))
 
 -- where a hand rests once a cell is out
 abbrev pub left_at : ℕ → ℕ → ℕ → ℕ
@@ -212,10 +200,10 @@ settled_hand : (u v : List Cell) (c : Cell) (hand : ℕ) → DistinctNodes (u ++
 settled_hand u v c hand apart left distinct rests =
     elim (hand == c.at) as (λ t. (hand == c.at) ≡ t → settled (entries_of (u ++ c ∷ v)) (entries_of (u ++ v)) (hand_at (u ++ c ∷ v) hand) ≡ hand_at (u ++ v) (cond t (first_at (v ++ u) c.at) hand)) [
       | true ↦ λ is.
-          ap (settled (entries_of (u ++ c ∷ v)) (entries_of (u ++ v))) (ap (hand_at (u ++ c ∷ v)) (same_at hand c.at is) ∙ ap found_key (entry_here u v c apart))
+          ap (settled (entries_of (u ++ c ∷ v)) (entries_of (u ++ v))) (ap (hand_at (u ++ c ∷ v)) (eqb-true hand c.at is) ∙ ap found_key (entry_here u v c apart))
           ∙ settled_next u v c left distinct
       | false ↦ λ is.
-          let other : (c.at == hand) ≡ false = back hand c.at is in
+          let other : (c.at == hand) ≡ false = unequal_sym hand c.at is in
           let e : Entered (u ++ v) hand = entered (u ++ v) hand (sym (at_skipped u v c hand other) ∙ rests_at u v c hand rests) in
           let old : hand_at (u ++ c ∷ v) hand ≡ Some e.entry.key = ap found_key (entry_skipped u v c hand other ∙ e.is) in
           ap (settled (entries_of (u ++ c ∷ v)) (entries_of (u ++ v))) old
@@ -269,7 +257,7 @@ pub left_rests : (u v : List Cell) (c : Cell) (hand : ℕ) → Rests (u ++ c ∷
 left_rests u v c hand rests =
     elim (hand == c.at) as (λ t. (hand == c.at) ≡ t → Rests (u ++ v) (cond t (first_at (v ++ u) c.at) hand)) [
       | true ↦ λ is. swap_rests u v (first_at (v ++ u) c.at) (first_in (v ++ u) c.at)
-      | false ↦ λ is. at_rests (u ++ v) hand (sym (at_skipped u v c hand (back hand c.at is)) ∙ rests_at u v c hand rests)
+      | false ↦ λ is. at_rests (u ++ v) hand (sym (at_skipped u v c hand (unequal_sym hand c.at is)) ∙ rests_at u v c hand rests)
     ] refl
 
 -- What stays whole.
@@ -350,14 +338,10 @@ entry_turned : (c : Cell) (cs : List Cell) (n : ℕ) → DistinctNodes (c ∷ cs
 entry_turned c cs n apart =
     elim (c.at == n) as (λ t. (c.at == n) ≡ t → entry_at_node (cs ++ c ∷ []) n ≡ cond t (Some c.entry) (entry_at_node cs n)) [
       | true ↦ λ is.
-          let alone : is_at cs n ≡ false = ap (is_at cs) (sym (same_at c.at n is)) ∙ apart.0 in
+          let alone : is_at cs n ≡ false = ap (is_at cs) (sym (eqb-true c.at n is)) ∙ apart.0 in
           entry_behind cs (c ∷ []) n alone ∙ rw is refl
-      | false ↦ λ is. entry_skipped cs [] c n is ∙ ap (λ (l : List Cell). entry_at_node l n) (append_nil cs)
+      | false ↦ λ is. entry_skipped cs [] c n is ∙ ap (λ (l : List Cell). entry_at_node l n) (append-nil cs)
     ] refl
-  where
-    append_nil : (l : List Cell) → l ++ [] ≡ l
-    append_nil [] = refl
-    append_nil (d ∷ ds) = ap (λ (l : List Cell). d ∷ l) (append_nil ds)
 
 pub turned_on : (c : Cell) (cs : List Cell) (cold test : ℕ) (s : ClockState) → DistinctNodes (c ∷ cs) → on (cs ++ c ∷ []) cold test s ≡ front_turned (on (c ∷ cs) cold test s)
 unfolding front_turned
@@ -407,7 +391,7 @@ left_taken : (u v : List Cell) (c : Cell) (hand : ℕ) → Rests (u ++ c ∷ v) 
 left_taken [] [] c hand rests =
     elim (hand == c.at) as (λ t. (hand == c.at) ≡ t → c.at ≡ cond t c.at hand) [
       | true ↦ λ is. refl
-      | false ↦ λ is. alone (c.at == hand) (back hand c.at is) rests
+      | false ↦ λ is. alone (c.at == hand) (unequal_sym hand c.at is) rests
     ] refl
   where
     alone : (b : Bool) → b ≡ false → b || false ≡ true → c.at ≡ hand
@@ -460,7 +444,7 @@ placed u v c distinct = ap (place c.entry.key) (entries-append u (c ∷ v)) ∙ 
     after : (u v : List Cell) (c : Cell) → among (keys (entries_of u)) c.entry.key ≡ false → place c.entry.key (entries_of u ++ c.entry ∷ entries_of v) ≡ length u
     after [] v c h = rw (has_key_refl c.entry) refl
     after (d ∷ ds) v c h =
-        let parts : (is_key c.entry.key d.entry.key ≡ false) × (among (keys (entries_of ds)) c.entry.key ≡ false) = or_false (is_key c.entry.key d.entry.key) (among (keys (entries_of ds)) c.entry.key) h in
+        let parts : (is_key c.entry.key d.entry.key ≡ false) × (among (keys (entries_of ds)) c.entry.key ≡ false) = or_parts (is_key c.entry.key d.entry.key) (among (keys (entries_of ds)) c.entry.key) h in
         let other : has_key c.entry.key d.entry ≡ false = parts.0 in
         rw other (ap (λ (n : ℕ). suc n) (after ds v c (parts.1)))
 
@@ -493,7 +477,7 @@ pub next_rests : (u v : List Cell) (c : Cell) → Rests (u ++ c ∷ v) (first_at
 next_rests u v c = at_rests (u ++ c ∷ v) (first_at (v ++ u) c.at) (is_at-append u (c ∷ v) (first_at (v ++ u) c.at) ∙ there u v c)
   where
     there : (u v : List Cell) (c : Cell) → is_at u (first_at (v ++ u) c.at) || is_at (c ∷ v) (first_at (v ++ u) c.at) ≡ true
-    there u (d ∷ ds) c = rw (at_self d.at, or_true (c.at == d.at)) (or_true (is_at u d.at))
+    there u (d ∷ ds) c = rw (at_self d.at, or-true (c.at == d.at)) (or-true (is_at u d.at))
     there [] [] c = rw (at_self c.at) refl
     there (d ∷ ds) [] c = rw (at_self d.at) refl
 

@@ -1,6 +1,6 @@
 -- The hot hand's way, front by front.
 use Rattle.std.specs.Prelude.{◌≡◌, ◌≢◌, ℕ, suc, ◌+◌, ◌≤◌, ◌<◌, Bool, true, false, ◌==◌, ◌⊎◌, cond, Some, List, [], ◌∷◌, ◌++◌, length, refl}
-use Rattle.std.proofs.Common.{inl, inr, arith, sym, ap, ◌∙◌, subst}
+use Rattle.std.proofs.Common.{inl, inr, arith, sym, ap, ◌∙◌, subst, ne_eqb}
 use Rattle.clock_policy.specs.declared.key.Key.{Key}
 use Rattle.clock_policy.specs.declared.entry.Entry.{Entry}
 use Rattle.clock_policy.specs.declared.entry.EntryKind.{EntryKind}
@@ -10,7 +10,7 @@ use Rattle.clock_policy.specs.CountLaws.{IsIn}
 use Rattle.clock_policy.specs.SingleMoves.{kind_passed, front_passed, fronts_passed}
 use Rattle.page_ring.specs.declared.links.Node.{Node}
 use Rattle.page_ring.specs.Linked.{Cell}
-use Rattle.page_ring.specs.LinkLaws.{at_self, same_at}
+use Rattle.page_ring.specs.LinkLaws.{at_self}
 use Rattle.page_ring.specs.Chain.{same, of_kind}
 use Rattle.page_ring.specs.Index.{entries_of, entries-append, DistinctPages}
 use Rattle.clock_ring.specs.RingState.{entry_at_node, passed_as, passed_list}
@@ -93,7 +93,7 @@ pub front_goes_by : (cells new : List Cell) (at front : ℕ) (e : Entry) (s t : 
     new ≡ passed_list cells → t ≡ front_passed s → Passed cells new at e s t
 front_goes_by [] new at front e s t distinct holds first away is moved = cc
 front_goes_by (c ∷ cs) new at front e s t distinct holds first away is moved =
-    let other : (c.at == at) ≡ false = differs c.at at (λ (q : c.at ≡ at). away (first c cs refl ∙ q)) in
+    let other : (c.at == at) ≡ false = ne_eqb c.at at (λ (q : c.at ≡ at). away (first c cs refl ∙ q)) in
     let behind : entry_at_node cs at ≡ Some e = skipped c cs at e other holds in
     let listed : 1 ≤ number (has_key e.key) (entries_of cs) = listed_at cs at e behind in
     let fails : has_key e.key c.entry ≡ false = only (has_key e.key c.entry) (number (has_key e.key) (entries_of cs)) (distinct e.key) listed in
@@ -106,9 +106,6 @@ front_goes_by (c ∷ cs) new at front e s t distinct holds first away is moved =
       nearer = omega (arith, here, there);
     }
   where
-    differs : (m n : ℕ) → m ≢ n → (m == n) ≡ false
-    differs m n h = elim (m == n) as (λ t. (m == n) ≡ t → t ≡ false) [ true ↦ λ q. absurd (h (same_at m n q)) | false ↦ λ q. refl ] refl
-
     skipped : (c : Cell) (cs : List Cell) (at : ℕ) (e : Entry) → (c.at == at) ≡ false → entry_at_node (c ∷ cs) at ≡ Some e → entry_at_node cs at ≡ Some e
     skipped c cs at e h g = rw h at g
 

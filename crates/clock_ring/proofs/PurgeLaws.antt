@@ -1,13 +1,13 @@
 -- The purge, entry by entry.
-use Rattle.std.specs.Prelude.{◌≡◌, ℕ, ◌+◌, ◌≤◌, ◌<◌, Bool, true, false, cond, List, [], ◌∷◌, ◌++◌, take, drop, length, refl}
+use Rattle.std.specs.Prelude.{◌≡◌, ℕ, ◌+◌, ◌<◌, Bool, true, false, cond, List, [], ◌∷◌, ◌++◌, take, drop, length, refl}
 use Rattle.std.proofs.Common.{sym, ap, ◌∙◌, append_assoc}
-use Rattle.std.proofs.lemmas.List.{drop_all}
+use Rattle.std.proofs.Math.Bool.{or-true}
 use Rattle.clock_policy.specs.declared.entry.Entry.{Entry}
 use Rattle.clock_policy.specs.ClockPro.{ClockState, is_of_process, removed}
 use Rattle.clock_policy.specs.SingleMoves.{removed_of, each_removed}
 use Rattle.page_ring.specs.declared.links.Node.{Node}
 use Rattle.page_ring.specs.Linked.{Cell, is_at, first_at, last_at}
-use Rattle.page_ring.specs.LinkLaws.{at_self, or_true, is_at-append}
+use Rattle.page_ring.specs.LinkLaws.{at_self, is_at-append}
 use Rattle.page_ring.specs.Chain.{rotates_split}
 use Rattle.page_ring.specs.Index.{entries_of}
 use Rattle.clock_ring.proofs.StepLaws.{NodeAt, Made}
@@ -56,7 +56,7 @@ purge_at process first now i at s whole within h =
     let is : m.cell.at ≡ at = ap (λ (l : List Cell). first_at l at) (sym m.from) ∙ h.next in
     ap (λ (l : List Cell). is_at l at) (h.cells ∙ ap (λ (l : List Cell). left_of process (take i first) ++ l) m.from)
     ∙ is_at-append (left_of process (take i first)) (m.cell ∷ m.behind) at
-    ∙ rw (is, at_self at) (or_true (is_at (left_of process (take i first)) at))
+    ∙ rw (is, at_self at) (or-true (is_at (left_of process (take i first)) at))
 
 pub passing : (process : ℕ) (first now : List Cell) (i at : ℕ) (node : Node) (s whole : ClockState) → i < length first → Purging process first now i at s whole → NodeAt now at node → Passing process first now i at node
 passing process first now i at node s whole within h told =
@@ -127,7 +127,3 @@ purge_keeps process first now i at node s whole within h told stays =
 
     stands : (e : Entry) (s : ClockState) → is_of_process process e ≡ false → removed_of process e s ≡ s
     stands e s h = rw h refl
-
--- nothing is left
-pub purge_ends : (process : ℕ) (first now : List Cell) (i at : ℕ) (s whole : ClockState) → length first ≤ i → Purging process first now i at s whole → s ≡ whole
-purge_ends process first now i at s whole past h = sym (ap (λ (l : List Cell). each_removed process (entries_of l) s) (drop_all i first past)) ∙ h.rest

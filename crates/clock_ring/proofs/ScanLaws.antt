@@ -1,8 +1,10 @@
 -- A walk along the links, from a node on.
 use Rattle.std.specs.Prelude.{◌≡◌, ℕ, zero, suc, ◌+◌, ◌≤◌, ◌<◌, Bool, true, false, ◌==◌, ◌||◌, ◌-◌, nat_lt, cond, find, slice_get, Option, Some, None, List, [], ◌∷◌, ◌++◌, take, drop, length, refl}
-use Rattle.std.specs.Option.{option_or}
-use Rattle.std.proofs.Common.{arith, sym, ap, ◌∙◌, subst, append_assoc, add-one}
+use Rattle.std.proofs.Common.{arith, sym, ap, ◌∙◌, subst, append_assoc, add-one, append-nil}
 use Rattle.std.proofs.lemmas.List.Folds.{find-append}
+use Rattle.std.proofs.lemmas.Bool.{or_parts}
+use Rattle.clock_policy.specs.FindLaws.{option_or-none}
+use Rattle.clock_policy.specs.QuestionLaws.{none_found}
 use Rattle.clock_policy.specs.declared.key.Key.{Key}
 use Rattle.clock_policy.specs.declared.entry.Entry.{Entry}
 use Rattle.clock_policy.specs.ClockPro.{number, found_key, place_of, round, asks_hot, asked_entry, is_hot, is_cold, hot_count, cold_count, ClockState}
@@ -15,24 +17,16 @@ use Rattle.clock_ring.specs.RingState.{entry_at_node, hand_at, from_at, before_a
 use Rattle.clock_ring.proofs.MoveLaws.{alone_at, entry_here, next_rests, placed}
 use Rattle.clock_ring.proofs.StepLaws.{NodeAt}
 
-append_nil : (l : List Cell) → l ++ [] ≡ l
-append_nil [] = refl
-append_nil (c ∷ cs) = ap (λ (l : List Cell). c ∷ l) (append_nil cs)
-
-or_false : (a b : Bool) → a || b ≡ false → (a ≡ false) × (b ≡ false)
-or_false true b h = cc
-or_false false b h = (refl, h)
-
 from_here : (u v : List Cell) (c : Cell) → is_at u c.at ≡ false → from_at (u ++ c ∷ v) c.at ≡ c ∷ v
 from_here [] v c h = rw (at_self c.at) refl
 from_here (d ∷ ds) v c h =
-    let parts : ((d.at == c.at) ≡ false) × (is_at ds c.at ≡ false) = or_false (d.at == c.at) (is_at ds c.at) h in
+    let parts : ((d.at == c.at) ≡ false) × (is_at ds c.at ≡ false) = or_parts (d.at == c.at) (is_at ds c.at) h in
     rw (parts.0) (from_here ds v c (parts.1))
 
 before_here : (u v : List Cell) (c : Cell) → is_at u c.at ≡ false → before_at (u ++ c ∷ v) c.at ≡ u
 before_here [] v c h = rw (at_self c.at) refl
 before_here (d ∷ ds) v c h =
-    let parts : ((d.at == c.at) ≡ false) × (is_at ds c.at ≡ false) = or_false (d.at == c.at) (is_at ds c.at) h in
+    let parts : ((d.at == c.at) ≡ false) × (is_at ds c.at ≡ false) = or_parts (d.at == c.at) (is_at ds c.at) h in
     rw (parts.0) (ap (λ (l : List Cell). d ∷ l) (before_here ds v c (parts.1)))
 
 pub around_here : (u v : List Cell) (c : Cell) → DistinctNodes (u ++ c ∷ v) → around (u ++ c ∷ v) c.at ≡ c ∷ (v ++ u)
@@ -47,7 +41,7 @@ around_next u (d ∷ ds) c apart =
     ∙ around_here (u ++ c ∷ []) ds d (subst DistinctNodes (sym (append_assoc u (c ∷ []) (d ∷ ds))) apart)
     ∙ ap (λ (l : List Cell). d ∷ l) (sym (append_assoc ds u (c ∷ [])))
 around_next [] [] c apart = rw (at_self c.at) refl
-around_next (d ∷ ds) [] c apart = around_here [] (ds ++ c ∷ []) d apart ∙ append_nil (d ∷ (ds ++ c ∷ []))
+around_next (d ∷ ds) [] c apart = around_here [] (ds ++ c ∷ []) d apart ∙ append-nil (d ∷ (ds ++ c ∷ []))
 
 pub rests_is : (u v : List Cell) (c : Cell) → Rests (u ++ c ∷ v) (first_at (v ++ u) c.at) → is_at (u ++ c ∷ v) (first_at (v ++ u) c.at) ≡ true
 rests_is [] v c h = h
@@ -122,15 +116,11 @@ scan_goes_on p cells at node apart there told some fails =
     let ahead : entries_of (around cells node.next) ≡ entries_of r ++ c.entry ∷ [] = ap entries_of w.ahead ∙ entries-append r (c ∷ []) in
     record {
       there = w.there;
-      same = ap (find p) ahead ∙ find-append p (entries_of r) (c.entry ∷ []) ∙ rw not (or_none (find p (entries_of r))) ∙ sym (ap (find p) here ∙ skipped c (entries_of r) not);
+      same = ap (find p) ahead ∙ find-append p (entries_of r) (c.entry ∷ []) ∙ rw not (option_or-none (find p (entries_of r))) ∙ sym (ap (find p) here ∙ skipped c (entries_of r) not);
       nearer = subst (λ (n : ℕ). n < steps_to p (entries_of (around cells at))) (sym (ap (steps_to p) ahead ∙ steps-append p (entries_of r) (c.entry ∷ []) left))
           (subst (λ (n : ℕ). steps_to p (entries_of r) < n) (sym (ap (steps_to p) here ∙ stepped c (entries_of r) not)) (omega arith));
     }
   where
-    or_none : (o : Option Entry) → option_or o None ≡ o
-    or_none None = refl
-    or_none (Some e) = refl
-
     skipped : (c : Cell) (l : List Entry) → p c.entry ≡ false → find p (c.entry ∷ l) ≡ find p l
     skipped c l h = rw h refl
 
@@ -161,11 +151,7 @@ scan_ends p cells at node apart there told passes =
 
 pub around_front : (cells : List Cell) (front : ℕ) → ((c : Cell) → (cs : List Cell) → cells ≡ c ∷ cs → front ≡ c.at) → around cells front ≡ cells
 around_front [] front h = refl
-around_front (c ∷ cs) front h = rw (h c cs refl, at_self c.at) (append_nil (c ∷ cs))
-
-pub front_there : (cells : List Cell) (front : ℕ) → 1 ≤ length cells → ((c : Cell) → (cs : List Cell) → cells ≡ c ∷ cs → front ≡ c.at) → is_at cells front ≡ true
-front_there [] front some h = absurd (omega (arith, some))
-front_there (c ∷ cs) front some h = rw (h c cs refl, at_self c.at) refl
+around_front (c ∷ cs) front h = rw (h c cs refl, at_self c.at) (append-nil (c ∷ cs))
 
 pub some_cells : (p : Entry → Bool) (cells : List Cell) → 1 ≤ number p (entries_of cells) → 1 ≤ length cells
 some_cells p [] h = absurd (omega (arith, h))
@@ -174,14 +160,6 @@ some_cells p (c ∷ cs) h = omega arith
 pub rests_there : (cells : List Cell) (hand : ℕ) → 1 ≤ length cells → Rests cells hand → is_at cells hand ≡ true
 rests_there [] hand some h = absurd (omega (arith, some))
 rests_there (c ∷ cs) hand some h = h
-
-pub none_found : (p : Entry → Bool) (l : List Entry) → number p l ≡ 0 → find p l ≡ None
-none_found p [] h = refl
-none_found p (e ∷ es) h =
-    elim (p e) as (λ t. cond t 1 0 + number p es ≡ 0 → cond t (Some e) (find p es) ≡ None) [
-      | true ↦ λ g. absurd (omega (arith, g))
-      | false ↦ λ g. none_found p es (omega (arith, g))
-    ] h
 
 pub round_hand : (cells : List Cell) (hand : ℕ) → DistinctNodes cells → DistinctPages cells → is_at cells hand ≡ true → round (place_of (hand_at cells hand) (entries_of cells)) (entries_of cells) ≡ entries_of (around cells hand)
 round_hand cells hand apart distinct there = at_split (split cells hand there)

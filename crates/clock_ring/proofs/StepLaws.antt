@@ -1,6 +1,8 @@
 -- What a call on the links makes of the circle with its hands and counts.
 use Rattle.std.specs.Prelude.{◌≡◌, ◌≢◌, ℕ, ◌+◌, ◌*◌, ◌≤◌, ◌<◌, true, false, ◌==◌, ◌||◌, cond, find, option_map, Option, Some, None, List, [], ◌∷◌, ◌++◌, length, refl}
-use Rattle.std.proofs.Common.{arith, sym, ap, ◌∙◌, subst}
+use Rattle.std.proofs.Common.{arith, sym, ap, ◌∙◌, subst, eqb-true}
+use Rattle.std.proofs.lemmas.List.{length_push}
+use Rattle.clock_policy.specs.FrameCounts.{most_frames}
 use Rattle.clock_policy.specs.declared.key.Key.{Key}
 use Rattle.clock_policy.specs.declared.entry.Entry.{Entry}
 use Rattle.clock_policy.specs.declared.entry.EntryKind.{EntryKind}
@@ -10,12 +12,12 @@ use Rattle.clock_policy.specs.AdmitLaws.{keyed}
 use Rattle.clock_policy.specs.SingleMoves.{front_turned, test_hand_on}
 use Rattle.page_ring.specs.declared.links.Node.{Node}
 use Rattle.page_ring.specs.Linked.{Cell, DistinctNodes, is_at, first_at, last_at}
-use Rattle.page_ring.specs.LinkLaws.{at_self, same_at, not_same, apart_turned}
+use Rattle.page_ring.specs.LinkLaws.{at_self, not_same, apart_turned}
 use Rattle.page_ring.specs.Chain.{of_kind, Rotates, rotates_split}
 use Rattle.page_ring.specs.Index.{entries_of, at_of, appended_distinct}
 use Rattle.clock_ring.specs.declared.counts.Counts.{Counts}
 use Rattle.clock_ring.specs.RingState.{entry_at_node, hand_at, Rests, Whole, Counted, Kept, More, HasOne}
-use Rattle.clock_ring.proofs.CountedLaws.{has_one, counted_removed, counted_appended, counted_marked, counted_turned, counted_length, less_length, length_marked, length_removed, length_appended}
+use Rattle.clock_ring.proofs.CountedLaws.{has_one, counted_removed, counted_appended, counted_marked, counted_turned, counted_length, less_length, length_marked, length_removed}
 use Rattle.clock_ring.proofs.MoveLaws.{on, Between, between, found_at, left_at, taken_up, at_rests, turned_on, turned_whole, marked_on, marked_whole, removed_on, removed_whole, appended_on, appended_whole, sent_on, sent_whole, cold_set_on, test_set_on, shadowed_on, next_rests}
 
 -- what a circle tells of a node
@@ -37,10 +39,10 @@ has_one_at n cells at e h holds =
     has_one n b.before b.behind (record { at = at; entry = e }) (subst (Counted n) b.parts h)
 
 -- there is room for one more in the counts
-pub few_counted : (cells : List Cell) (cold test frames : ℕ) (n : Counts) → frames ≤ 4096 → Kept cells cold test n frames → n.hot + n.cold + n.shadows ≤ 8192
+pub few_counted : (cells : List Cell) (cold test frames : ℕ) (n : Counts) → frames ≤ most_frames → Kept cells cold test n frames → n.hot + n.cold + n.shadows ≤ 8192
 few_counted cells cold test frames n most h = omega (arith, counted_length n cells h.counted, h.within)
 
-pub few_less : (cells : List Cell) (cold test frames : ℕ) (n m : Counts) (kind : EntryKind) → frames ≤ 4096 → Kept cells cold test n frames → More m n kind → m.hot + m.cold + m.shadows ≤ 8192
+pub few_less : (cells : List Cell) (cold test frames : ℕ) (n m : Counts) (kind : EntryKind) → frames ≤ most_frames → Kept cells cold test n frames → More m n kind → m.hot + m.cold + m.shadows ≤ 8192
 few_less cells cold test frames n m kind most h less = omega (arith, less_length n m cells kind h.counted less, h.within)
 
 parted : (u v : List Cell) (c : Cell) → DistinctNodes (u ++ c ∷ v) → DistinctNodes (u ++ v)
@@ -63,7 +65,7 @@ turn_step (c ∷ cs) new cold test n frames h some made apart =
       kept = subst (λ (l : List Cell). Kept l cold test n frames) (sym is) (record {
         whole = turned_whole c cs cold test h.whole (subst DistinctNodes is apart);
         counted = counted_turned n (c ∷ []) cs h.counted;
-        within = omega (arith, length_appended cs c, h.within);
+        within = omega (arith, length_push cs c, h.within);
       });
       moved = λ s. ap (λ (l : List Cell). on l cold test s) is ∙ turned_on c cs cold test s h.whole.apart;
     }
@@ -125,7 +127,7 @@ append_step cells new at e cold test cold' test' n m frames h room free is apart
     let after : Kept (cells ++ c ∷ []) (taken_up cells at cold) (taken_up cells at test) m frames = record {
       whole = appended_whole cells c cold test h.whole (subst DistinctNodes is apart) (appended_distinct cells c h.whole.distinct free);
       counted = counted_appended n m cells c h.counted more;
-      within = omega (arith, length_appended cells c, room);
+      within = omega (arith, length_push cells c, room);
     } in
     record {
       kept = subst (λ (l : List Cell). Kept l cold' test' m frames) (sym is) (subst (λ (k : ℕ). Kept (cells ++ c ∷ []) k test' m frames) (sym cold_is) (subst (λ (k : ℕ). Kept (cells ++ c ∷ []) (taken_up cells at cold) k m frames) (sym test_is) after));
@@ -155,7 +157,7 @@ send_step cells new at e kind node cold test cold' test' n m k frames h holds to
         let after : Kept ((u ++ v) ++ of_kind kind c ∷ []) (left_at cold at (first_at (v ++ u) at)) (left_at test at (first_at (v ++ u) at)) k frames = record {
           whole = sent_whole kind u v c cold test old.whole left (subst DistinctNodes is apart);
           counted = counted_appended m k (u ++ v) (of_kind kind c) (counted_removed n m u v c old.counted less) more;
-          within = omega (arith, length_removed u v c, length_appended (u ++ v) (of_kind kind c), old.within);
+          within = omega (arith, length_removed u v c, length_push (u ++ v) (of_kind kind c), old.within);
         } in
         record {
           kept = subst (λ (l : List Cell). Kept l cold' test' k frames) (sym is) (subst (λ (j : ℕ). Kept l' j test' k frames) (sym one) (subst (λ (j : ℕ). Kept l' (left_at cold at (first_at (v ++ u) at)) j k frames) (sym two) after));
@@ -268,7 +270,7 @@ located k (c ∷ cs) at apart h =
     differs : (cs : List Cell) (m n : ℕ) → is_at cs m ≡ false → is_at cs n ≡ true → (m == n) ≡ false
     differs cs m n alone there =
         elim (m == n) as (λ t. (m == n) ≡ t → t ≡ false) [
-          | true ↦ λ is. absurd (not_same cs m n alone there (sym (same_at m n is)))
+          | true ↦ λ is. absurd (not_same cs m n alone there (sym (eqb-true m n is)))
           | false ↦ λ is. refl
         ] refl
 

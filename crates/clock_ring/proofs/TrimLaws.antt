@@ -52,12 +52,6 @@ each-append (e ∷ es) b s h =
       | Shadow ↦ λ g. refl
     ] h
 
-same_shadow : (k : EntryKind) → is_shadow k ≡ false → is_shadow (ended_kind k) ≡ false
-same_shadow Hot h = refl
-same_shadow Test h = refl
-same_shadow Cold h = refl
-same_shadow Shadow h = h
-
 pub record Trimming (cells new : List Cell) (at next : ℕ) (s t : ClockState) : Type 0 where
   pub there : is_at new next ≡ true
   pub rest : each_ended (entries_of (around new next)) t ≡ each_ended (entries_of (around cells at)) s

@@ -2,6 +2,7 @@
 
 ghost use Rattle.std.specs.Prelude.{◌≡◌, ◌≤◌, ◌<◌, ◌*◌, ◌++◌, List, [], ◌∷◌, None, cond, ◌==◌, length, IfOk, OnOk, OnErr, IfSome, option_map};
 ghost use Rattle.clock_policy.specs.ClockPro.{opening_state, kind_of, removed, appended, marked, sent_to_end, grown, fallen, cold_hand_on, shadowed};
+ghost use Rattle.clock_policy.specs.FrameCounts.{least_frames, most_frames};
 ghost use Rattle.clock_policy.specs.SingleMoves.{front_turned, test_hand_on};
 ghost use Rattle.page_ring.specs.Linked.{Cell};
 ghost use Rattle.page_ring.specs.Chain.{of_kind};
@@ -30,8 +31,8 @@ pub(crate) struct Body {
     pub(crate) cold_hand: usize,
     pub(crate) test_hand: usize,
     pub(crate) counts: Counts,
-    ghost least: { 4 ≤ frames },
-    ghost most: { frames ≤ 4096 },
+    ghost least: { least_frames ≤ frames },
+    ghost most: { frames ≤ most_frames },
     ghost share_low: { 1 ≤ share },
     ghost share_high: { share < frames },
     ghost few_asked: { asked ≤ 3 * frames },
@@ -52,8 +53,8 @@ impl Body {
     /// An empty circle, with room for two entries a frame.
     #[tactic(auto, unfolding(clock_policy::specs::ClockPro::opening_state))]
     pub(crate) fn new(alloc: Global, frames: usize) -> Result<Self, AllocError>
-        requires least { 4 ≤ frames }
-        requires most { frames ≤ 4096 }
+        requires least { least_frames ≤ frames }
+        requires most { frames ≤ most_frames }
         ensures { IfOk result (λ body. state_of body ≡ opening_state frames) }
     {
         let ring = IndexedRing::new(alloc, 2 * frames)?;

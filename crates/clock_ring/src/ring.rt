@@ -5,7 +5,10 @@ ghost use Rattle.clock_policy.specs.ClockPro.{kind_of, admitted, restored};
 ghost use Rattle.clock_policy.specs.Lawful.{Lawful};
 
 use crate::body::Body;
-use clock_policy::{Bit, Clock, Entry, EntryKind, Key, Kind, NewRefusal, Refusal, Verdict};
+use clock_policy::{
+    Bit, Clock, Entry, EntryKind, Key, Kind, LEAST_FRAMES, MOST_FRAMES, NewRefusal, Refusal,
+    Verdict,
+};
 use std::alloc::{AllocError, Global};
 use std::marker::Model;
 
@@ -35,7 +38,7 @@ impl Clock for ClockRing {
     ghost state = { λ c. c };
 
     fn new(alloc: Global, frames: usize) -> Result<Self, NewRefusal> {
-        if !(4..=4096).contains(&frames) {
+        if !(LEAST_FRAMES..=MOST_FRAMES).contains(&frames) {
             return Err(NewRefusal::BadSize);
         }
         match Body::new(alloc, frames) {

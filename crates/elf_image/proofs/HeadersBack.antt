@@ -1,17 +1,16 @@
 -- What the headers of a written file say when they are read.
-use Rattle.std.proofs.Common.{◌≡◌, ℕ, zero, suc, ◌+◌, ◌*◌, ◌<◌, ◌≤◌, ◌^◌, Bool, true, false, cond, nat_lt, ◌&&◌, ◌||◌, List, [], ◌∷◌, ◌++◌, length, drop, map, flat_map, slice_index_or, get_or, Option, Some, None, arith, refl, sym, ap, ◌∙◌, append_assoc}
+use Rattle.std.proofs.Common.{◌≡◌, ℕ, zero, suc, ◌+◌, ◌*◌, ◌<◌, ◌≤◌, ◌^◌, Bool, true, false, cond, nat_lt, ◌&&◌, ◌||◌, List, [], ◌∷◌, ◌++◌, length, drop, map, flat_map, slice_index_or, get_or, None, arith, refl, sym, ap, ◌∙◌, append_assoc, le-ltb}
 use Rattle.std.specs.List.{range_with_len}
 use Rattle.std.proofs.lemmas.List.{drop-drop, get_or-map, length-map}
 use Rattle.std.proofs.lemmas.List.FromFn.{fill_by_all}
 use Rattle.std.proofs.Math.Seq.{drop-append-add}
-use Rattle.std.proofs.lemmas.Bool.{false≢true}
-use Rattle.std.proofs.lemmas.Bool.Decides.{nat_tests}
+use Rattle.std.proofs.lemmas.Bool.{and_right}
+use Rattle.elf_image.specs.PartsLaws.{no_fault_after}
 use Rattle.byteorder.specs.Endian.{little_bytes, little_number}
 use Rattle.byteorder.specs.Numbers.{little_number-reads_back}
 use Rattle.page_memory.specs.Rights.{may}
 use Rattle.page_memory.specs.declared.rights.Rights.{Rights}
 use Rattle.page_memory.specs.declared.words.Access.TheVariants.{Fetch, Load, Store}
-use Rattle.elf_image.specs.declared.fault.ElfFault.{ElfFault}
 use Rattle.elf_image.specs.declared.fault.ElfFault.TheVariants.{Short, Headers}
 use Rattle.elf_image.specs.declared.runs.Run.{Run}
 use Rattle.elf_image.specs.declared.program_header.ProgramHeader.{ProgramHeader}
@@ -38,27 +37,16 @@ offset_back : (entry count : ℕ) (rest : List ℕ) → headers_offset (file_hea
 unfolding word_at file_header
 offset_back entry count rest = refl
 
-skips : (test : Bool) (fault : ElfFault) (rest : Option ElfFault) → test ≡ false → rest ≡ None → cond test (Some fault) rest ≡ None
-skips true fault rest e h = absurd (false≢true (sym e))
-skips false fault rest e h = h
-
-pub not_less : (a b : ℕ) → b ≤ a → nat_lt a b ≡ false
-not_less a b h = grind (arith, nat_tests)
-
-and_none : (b c : Bool) → c ≡ false → (b && c) ≡ false
-and_none true c e = e
-and_none false c e = refl
-
 pub header_passes : (entry count : ℕ) (rest : List ℕ) → count < 2 ^ 16 → 52 + 32 * count ≤ length (file_header entry count ++ rest) → header_fault (file_header entry count ++ rest) ≡ None
 unfolding header_fault half_at word_at file_header
 header_passes entry count rest few long =
     let size : ℕ = length (file_header entry count ++ rest) in
-    skips (nat_lt size 52) Short _ (not_less size 52 (omega arith))
-    (skips (nat_lt 0 (little_number 2 (little_bytes 2 count)) && (false || nat_lt size (52 + 32 * little_number 2 (little_bytes 2 count)))) Headers None (ap (λ n. nat_lt 0 n && (false || nat_lt size (52 + 32 * n))) (half_back count [] few) ∙ and_none (nat_lt 0 count) (nat_lt size (52 + 32 * count)) (not_less size (52 + 32 * count) long)) refl)
+    no_fault_after (nat_lt size 52) Short _ (le-ltb size 52 (omega arith))
+    (no_fault_after (nat_lt 0 (little_number 2 (little_bytes 2 count)) && (false || nat_lt size (52 + 32 * little_number 2 (little_bytes 2 count)))) Headers None (ap (λ n. nat_lt 0 n && (false || nat_lt size (52 + 32 * n))) (half_back count [] few) ∙ and_right (nat_lt 0 count) (nat_lt size (52 + 32 * count)) (le-ltb size (52 + 32 * count) long)) refl)
 
 -- what the program header of a run says
-abbrev pub header_of : ℕ → Run → ProgramHeader
-header_of start run =
+abbrev pub run_header : ℕ → Run → ProgramHeader
+run_header start run =
     record {
       kind = 1;
       offset = start + 4096 * run.place;
@@ -82,7 +70,7 @@ small_flags rights = by (may Load rights) (may Store rights) (may Fetch rights)
     by false false true = omega arith
     by false false false = omega arith
 
-header_there : (file : List ℕ) (offset start : ℕ) (run : Run) (rest : List ℕ) → drop offset file ≡ segment_header start run ++ rest → HasRoom start run → header_at file offset ≡ header_of start run
+header_there : (file : List ℕ) (offset start : ℕ) (run : Run) (rest : List ℕ) → drop offset file ≡ segment_header start run ++ rest → HasRoom start run → header_at file offset ≡ run_header start run
 unfolding header_at word_at segment_header
 header_there file offset start run rest e room =
     λ i. record {
@@ -111,11 +99,11 @@ header_found start (run ∷ later) tail (suc k) d l =
           ∙ next.1,
     )
 
-pub headers_back : (entry start : ℕ) (segments : List Run) (tail : List ℕ) → length segments < 2 ^ 16 → ((k : ℕ) (d : Run) → k < length segments → HasRoom start (slice_index_or segments k d)) → program_headers (file_header entry (length segments) ++ (flat_map (segment_header start) segments ++ tail)) ≡ map (header_of start) segments
+pub headers_back : (entry start : ℕ) (segments : List Run) (tail : List ℕ) → length segments < 2 ^ 16 → ((k : ℕ) (d : Run) → k < length segments → HasRoom start (slice_index_or segments k d)) → program_headers (file_header entry (length segments) ++ (flat_map (segment_header start) segments ++ tail)) ≡ map (run_header start) segments
 unfolding program_headers
 headers_back entry start segments tail few room =
     (λ i. map (λ k. header_at file (offset_back entry (length segments) rest i + 32 * k)) (range_with_len 0 (count_back entry (length segments) rest few i)))
-    ∙ sym (fill_by_all (λ k. header_at file (52 + 32 * k)) (map (header_of start) segments) (length segments) (header_of 0 none) (length-map segments (header_of start)) each)
+    ∙ sym (fill_by_all (λ k. header_at file (52 + 32 * k)) (map (run_header start) segments) (length segments) (run_header 0 none) (length-map segments (run_header start)) each)
   where
     rest : List ℕ
     rest = flat_map (segment_header start) segments ++ tail
@@ -126,9 +114,9 @@ headers_back entry start segments tail few room =
     none : Run
     none = record { number = 0; place = 0; count = 0; rights = record { 0 = 0 } }
 
-    each : (k : ℕ) → k < length segments → get_or (map (header_of start) segments) k (header_of 0 none) ≡ header_at file (52 + 32 * k)
+    each : (k : ℕ) → k < length segments → get_or (map (run_header start) segments) k (run_header 0 none) ≡ header_at file (52 + 32 * k)
     each k l =
         let found = header_found start segments tail k none l in
         let at : 52 + 32 * k ≡ length (file_header entry (length segments)) + 32 * k = let size = length-file_header entry (length segments) in omega arith in
-        get_or-map (header_of start) segments k none (header_of 0 none) l
+        get_or-map (run_header start) segments k none (run_header 0 none) l
         ∙ sym (header_there file (52 + 32 * k) start (slice_index_or segments k none) found.0 (ap (λ n. drop n file) at ∙ drop-append-add (file_header entry (length segments)) rest (32 * k) ∙ found.1) (room k none l))

@@ -22,13 +22,13 @@ use Rattle.elf_image.specs.Parts.{first_fault, too_high, rising, entered, parts_
 use Rattle.elf_image.specs.Regions.{regions}
 use Rattle.elf_image.specs.RisingLaws.{rises}
 use Rattle.elf_image.proofs.Overlaps.{overlap_moved, two_overlap}
-use Rattle.elf_image.proofs.TouchedRanges.{pages_below}
+use Rattle.elf_image.proofs.TouchedRanges.{page_limit_is}
 use Rattle.elf_image.proofs.Reading.{sound_segments, pages_moved}
 
 -- touched pages lie below 0x70000000 and rise
 pub touched_low : (loaded : List ProgramHeader) → All (λ page. page < 458752) (touched_pages loaded)
 unfolding touched_pages
-touched_low loaded = All-filter (λ page. list_any (touches page) loaded) (λ page. page < 458752) (range_with_len 0 image_page_limit) (λ k d within. let below : k < image_page_limit = subst (λ n. k < n) (length-range_with_len 0 image_page_limit) within in let at = get_or-range_with_len 0 image_page_limit k d below in omega (arith, pages_below))
+touched_low loaded = All-filter (λ page. list_any (touches page) loaded) (λ page. page < 458752) (range_with_len 0 image_page_limit) (λ k d within. let below : k < image_page_limit = subst (λ n. k < n) (length-range_with_len 0 image_page_limit) within in let at = get_or-range_with_len 0 image_page_limit k d below in omega (arith, page_limit_is))
 
 touched_rise : (loaded : List ProgramHeader) → IsStrictlyIncreasing (touched_pages loaded)
 unfolding touched_pages

@@ -1,9 +1,9 @@
 -- The pages that a written file loads are the image's.
-use Rattle.std.proofs.Common.{◌≡◌, ℕ, zero, suc, ◌+◌, ◌*◌, ◌<◌, ◌≤◌, Bool, true, false, cond, not, ◌==◌, List, [], ◌∷◌, ◌++◌, length, map, slice_index, bit_and, arith, refl, sym, ap, ◌∙◌, inl, inr, ◌⊎◌, IsTrue}
+use Rattle.std.proofs.Common.{◌≡◌, ℕ, zero, suc, ◌+◌, ◌*◌, ◌<◌, ◌≤◌, Bool, true, false, cond, not, ◌==◌, List, [], ◌∷◌, ◌++◌, length, map, slice_index, bit_and, arith, refl, sym, ap, ◌∙◌, inl, inr, IsTrue}
 use Rattle.std.specs.List.{list_any, filter, range_with_len}
 use Rattle.std.proofs.lemmas.List.{get_or_append_left, get_or-append-add}
 use Rattle.std.proofs.lemmas.List.FromFn.{fill_by_all}
-use Rattle.std.proofs.lemmas.Bool.{false≢true}
+use Rattle.std.proofs.lemmas.Bool.{false≢true, cases_Bool}
 use Rattle.page_memory.specs.Rights.{may, readable}
 use Rattle.page_memory.specs.declared.words.Access.TheVariants.{Load, Store}
 use Rattle.elf_image.specs.declared.image.ImagePage.{ImagePage}
@@ -12,13 +12,10 @@ use Rattle.elf_image.specs.ElfFiles.{touches, touched_pages, image_page_limit, p
 use Rattle.elf_image.specs.Parts.{rising, readable_page}
 use Rattle.elf_image.specs.RisingLaws.{rising_rest, rising_far}
 use Rattle.elf_image.specs.WrittenFiles.{flags_of, page_bytes}
-use Rattle.elf_image.proofs.HeadersBack.{header_of}
-use Rattle.elf_image.proofs.LoadedRuns.{blank, page_at, Rising, touched, touched_only, given, byte_loaded}
+use Rattle.elf_image.proofs.HeadersBack.{run_header}
+use Rattle.elf_image.proofs.LoadedRuns.{blank, page_at, Rising, touched, touched_only, granted, byte_loaded}
 use Rattle.elf_image.proofs.Tiles.{Tile}
-
-decide : (b : Bool) → (b ≡ true) ⊎ (b ≡ false)
-decide true = inl refl
-decide false = inr refl
+use Rattle.elf_image.proofs.TouchedRanges.{page_limit_is}
 
 -- the numbers that pass a test, where these are the numbers of pages
 filter_pages : (test : ℕ → Bool) (n a : ℕ) (rest : List ImagePage) → rising rest ≡ true
@@ -29,14 +26,14 @@ filter_pages : (test : ℕ → Bool) (n a : ℕ) (rest : List ImagePage) → ris
 filter_pages test zero a [] up range passes only = refl
 filter_pages test zero a (one ∷ rest) up range passes only = absurd (let within = range 0 (omega arith) in omega arith)
 filter_pages test (suc n) a [] up range passes only =
-    elim (decide (test a)) [
+    elim (cases_Bool (test a)) [
       | inl e ↦ absurd (let none = (only a (omega arith) e).1 in omega arith)
       | inr e ↦
           ap (λ b. cond b (a ∷ filter test (range_with_len (a + 1) n)) (filter test (range_with_len (a + 1) n))) e
           ∙ filter_pages test n (a + 1) [] up (λ k l. absurd (omega arith)) (λ k l. absurd (omega arith)) (λ x l e. only x (omega arith) e)
     ]
 filter_pages test (suc n) a (one ∷ rest) up range passes only =
-    elim (decide (test a)) [
+    elim (cases_Bool (test a)) [
       | inl e ↦
           let first = sym (found (only a (omega arith) e)) in
           let others = filter_pages test n (a + 1) rest (rising_rest one rest up)
@@ -71,16 +68,11 @@ filter_pages test (suc n) a (one ∷ rest) up range passes only =
     above e zero l = let least = (range 0 l).0 in let other = differs e in omega arith
     above e (suc k) l = let least = (range 0 (omega arith)).0 in let more = later k (omega arith) in omega arith
 
--- how many pages there are
-page_count_is : image_page_limit ≡ 458752
-unfolding image_page_limit
-page_count_is = refl
-
-pub touched_are : (pages : List ImagePage) (start : ℕ) (segments : List Run) → rising pages ≡ true → ((i : ℕ) → i < length pages → (page_at pages i).number < 458752) → Tile pages 0 segments → touched_pages (map (header_of start) segments) ≡ map (λ (p : ImagePage). p.number) pages
+pub touched_are : (pages : List ImagePage) (start : ℕ) (segments : List Run) → rising pages ≡ true → ((i : ℕ) → i < length pages → (page_at pages i).number < 458752) → Tile pages 0 segments → touched_pages (map (run_header start) segments) ≡ map (λ (p : ImagePage). p.number) pages
 unfolding touched_pages
 touched_are pages start segments up low tile =
-    filter_pages (λ page. list_any (touches page) (map (header_of start) segments)) image_page_limit 0 pages up
-    (λ k l. let below = low k l in let all = page_count_is in (omega arith, omega arith))
+    filter_pages (λ page. list_any (touches page) (map (run_header start) segments)) image_page_limit 0 pages up
+    (λ k l. let below = low k l in let all = page_limit_is in (omega arith, omega arith))
     (λ k l. touched pages start 0 segments k tile (omega arith) l)
     (λ x l e. touched_only pages start 0 segments x tile e)
 
@@ -148,25 +140,25 @@ map_same f (one ∷ rest) each =
 pub still_readable : (pages : List ImagePage) → ((k : ℕ) → k < length pages → (page_at pages k).page.rights.0 < 8) → ((k : ℕ) → k < length pages → IsTrue (may Store (page_at pages k).page.rights) → IsTrue (may Load (page_at pages k).page.rights)) → map readable_page pages ≡ pages
 still_readable pages plain loads = map_same readable_page pages (λ k l. readable_page_back (page_at pages k) (plain k l) (loads k l))
 
-rights_loaded : (pages : List ImagePage) (start : ℕ) (segments : List Run) (i : ℕ) → Rising pages → Tile pages 0 segments → i < length pages → (page_at pages i).page.rights.0 < 8 → page_rights (map (header_of start) segments) (page_at pages i).number ≡ (page_at pages i).page.rights
+rights_loaded : (pages : List ImagePage) (start : ℕ) (segments : List Run) (i : ℕ) → Rising pages → Tile pages 0 segments → i < length pages → (page_at pages i).page.rights.0 < 8 → page_rights (map (run_header start) segments) (page_at pages i).number ≡ (page_at pages i).page.rights
 unfolding page_rights
 rights_loaded pages start segments i up tile l small =
-    let read = given pages start 0 segments 4 i up tile (omega arith) l in
-    let write = given pages start 0 segments 2 i up tile (omega arith) l in
-    let execute = given pages start 0 segments 1 i up tile (omega arith) l in
+    let read = granted pages start 0 segments 4 i up tile (omega arith) l in
+    let write = granted pages start 0 segments 2 i up tile (omega arith) l in
+    let execute = granted pages start 0 segments 1 i up tile (omega arith) l in
     let bits = bits_back (page_at pages i).page.rights.0 small in
     (λ j. record { 0 = cond (read j) 1 0 + (cond (write j) 2 0 + cond (execute j) 4 0) })
     ∙ (λ j. record { 0 = bits j })
 
-bytes_loaded : (front : List ℕ) (pages : List ImagePage) (start : ℕ) (segments : List Run) (i : ℕ) → length front ≡ start → Rising pages → Tile pages 0 segments → ((k : ℕ) → k < length pages → length (page_at pages k).page.bytes ≡ 4096) → i < length pages → bytes_between (loaded_byte (front ++ page_bytes pages) (map (header_of start) segments)) (4096 * (page_at pages i).number) 4096 ≡ (page_at pages i).page.bytes
+bytes_loaded : (front : List ℕ) (pages : List ImagePage) (start : ℕ) (segments : List Run) (i : ℕ) → length front ≡ start → Rising pages → Tile pages 0 segments → ((k : ℕ) → k < length pages → length (page_at pages k).page.bytes ≡ 4096) → i < length pages → bytes_between (loaded_byte (front ++ page_bytes pages) (map (run_header start) segments)) (4096 * (page_at pages i).number) 4096 ≡ (page_at pages i).page.bytes
 bytes_loaded front pages start segments i at up tile whole l =
-    between_is (loaded_byte (front ++ page_bytes pages) (map (header_of start) segments)) (4096 * (page_at pages i).number) 4096 (page_at pages i).page.bytes (whole i l) (λ k h. sym (
+    between_is (loaded_byte (front ++ page_bytes pages) (map (run_header start) segments)) (4096 * (page_at pages i).number) 4096 (page_at pages i).page.bytes (whole i l) (λ k h. sym (
     byte_loaded (front ++ page_bytes pages) pages start 0 segments i k up tile (omega arith) l h
     ∙ ap (λ n. slice_index (front ++ page_bytes pages) (n + (4096 * i + k))) (sym at)
     ∙ get_or-append-add front (page_bytes pages) (4096 * i + k) 0
     ∙ byte_among pages i k whole l h))
 
-page_loaded : (front : List ℕ) (pages : List ImagePage) (start : ℕ) (segments : List Run) (i : ℕ) → length front ≡ start → Rising pages → Tile pages 0 segments → ((k : ℕ) → k < length pages → length (page_at pages k).page.bytes ≡ 4096) → ((k : ℕ) → k < length pages → (page_at pages k).page.rights.0 < 8) → i < length pages → loaded_page (front ++ page_bytes pages) (map (header_of start) segments) (page_at pages i).number ≡ page_at pages i
+page_loaded : (front : List ℕ) (pages : List ImagePage) (start : ℕ) (segments : List Run) (i : ℕ) → length front ≡ start → Rising pages → Tile pages 0 segments → ((k : ℕ) → k < length pages → length (page_at pages k).page.bytes ≡ 4096) → ((k : ℕ) → k < length pages → (page_at pages k).page.rights.0 < 8) → i < length pages → loaded_page (front ++ page_bytes pages) (map (run_header start) segments) (page_at pages i).number ≡ page_at pages i
 unfolding loaded_page
 page_loaded front pages start segments i at up tile whole plain l =
     let rights = rights_loaded pages start segments i up tile l (plain i l) in
@@ -174,8 +166,8 @@ page_loaded front pages start segments i at up tile whole plain l =
     λ j. record { number = (page_at pages i).number; page = record { rights = rights j; bytes = bytes j } }
 
 -- all pages that segments load which are the runs of these pages
-pub pages_loaded : (front : List ℕ) (pages : List ImagePage) (start : ℕ) (segments : List Run) → length front ≡ start → rising pages ≡ true → Rising pages → ((k : ℕ) → k < length pages → (page_at pages k).number < 458752) → ((k : ℕ) → k < length pages → length (page_at pages k).page.bytes ≡ 4096) → ((k : ℕ) → k < length pages → (page_at pages k).page.rights.0 < 8) → Tile pages 0 segments → loaded_pages (front ++ page_bytes pages) (map (header_of start) segments) ≡ pages
+pub pages_loaded : (front : List ℕ) (pages : List ImagePage) (start : ℕ) (segments : List Run) → length front ≡ start → rising pages ≡ true → Rising pages → ((k : ℕ) → k < length pages → (page_at pages k).number < 458752) → ((k : ℕ) → k < length pages → length (page_at pages k).page.bytes ≡ 4096) → ((k : ℕ) → k < length pages → (page_at pages k).page.rights.0 < 8) → Tile pages 0 segments → loaded_pages (front ++ page_bytes pages) (map (run_header start) segments) ≡ pages
 unfolding loaded_pages
 pages_loaded front pages start segments at rise up low whole plain tile =
-    ap (map (loaded_page (front ++ page_bytes pages) (map (header_of start) segments))) (touched_are pages start segments rise low tile)
-    ∙ map_numbers (loaded_page (front ++ page_bytes pages) (map (header_of start) segments)) pages (λ k l. page_loaded front pages start segments k at up tile whole plain l)
+    ap (map (loaded_page (front ++ page_bytes pages) (map (run_header start) segments))) (touched_are pages start segments rise low tile)
+    ∙ map_numbers (loaded_page (front ++ page_bytes pages) (map (run_header start) segments)) pages (λ k l. page_loaded front pages start segments k at up tile whole plain l)

@@ -28,8 +28,8 @@ byte_in f start count k h = get_or-map-range_with_len (λ n. f (start + n)) 0 co
 pub bytes_like : (f g : ℕ → ℕ) (start count : ℕ) → ((a : ℕ) → start ≤ a → a < start + count → f a ≡ g a) → bytes_between f start count ≡ bytes_between g start count
 bytes_like f g start count same = bytes_are g start count (bytes_between f start count) (length-bytes_between f start count) (λ k h. byte_in f start count k h ∙ same (start + k) (omega arith) (omega arith))
 
-pub zero_bytes : (start count : ℕ) → replicate count 0 ≡ bytes_between (λ a. 0) start count
-zero_bytes start count = bytes_are (λ a. 0) start count (replicate count 0) (length-replicate count 0) (λ k h. get_or-replicate count k 0 0 h)
+pub zeros_between : (start count : ℕ) → replicate count 0 ≡ bytes_between (λ a. 0) start count
+zeros_between start count = bytes_are (λ a. 0) start count (replicate count 0) (length-replicate count 0) (λ k h. get_or-replicate count k 0 0 h)
 
 -- a segment that fills no byte there
 not_filled : (address : ℕ) (segment : ProgramHeader) → (segment.address ≤ address → segment.address + segment.file_size ≤ address) → fills address segment ≡ false

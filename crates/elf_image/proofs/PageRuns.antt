@@ -1,8 +1,7 @@
 -- Runs of pages, as they are found from the front on.
-use Rattle.std.proofs.Common.{◌≡◌, ℕ, ◌+◌, ◌<◌, ◌≤◌, Bool, true, false, cond, ◌&&◌, ◌==◌, List, [], ◌∷◌, ◌++◌, length, drop, slice_index_or, arith, refl, sym, ap, ◌∙◌, append_assoc, inl, inr}
+use Rattle.std.proofs.Common.{◌≡◌, ℕ, ◌+◌, ◌<◌, ◌≤◌, Bool, true, false, cond, ◌&&◌, ◌==◌, List, [], ◌∷◌, ◌++◌, length, drop, slice_index_or, arith, refl, sym, ap, ◌∙◌, append_assoc, eqb-true}
 use Rattle.std.proofs.lemmas.List.{drop_more, drop_all}
-use Rattle.std.proofs.lemmas.Bool.{false≢true}
-use Rattle.std.proofs.lemmas.Bool.Decides.{eqb_tells}
+use Rattle.std.proofs.lemmas.Bool.{and_parts}
 use Rattle.elf_image.specs.declared.image.ImagePage.{ImagePage}
 use Rattle.elf_image.specs.declared.runs.Run.{Run}
 use Rattle.elf_image.specs.WrittenFiles.{run_of, goes_on, joined, runs_from, runs}
@@ -18,20 +17,12 @@ joined_none : (run : Run) → joined run [] ≡ run ∷ []
 unfolding joined
 joined_none run = refl
 
-both_true : (a b : Bool) → (a && b) ≡ true → (a ≡ true) × (b ≡ true)
-both_true true true e = (refl, refl)
-both_true true false e = absurd (false≢true e)
-both_true false b e = absurd (false≢true e)
-
-equal : (a b : ℕ) → (a == b) ≡ true → a ≡ b
-equal a b e = elim (eqb_tells a b) [ inl same ↦ same.1 | inr other ↦ absurd (false≢true (sym other.0 ∙ e)) ]
-
 -- a run with a page more goes on as the page's run does
 goes_on_as : (run next later : Run) → next.count ≡ 1 → goes_on run next ≡ true → goes_on (merged run 1) later ≡ goes_on next later
 goes_on_as run next later one e =
-    let both = both_true _ _ e in
-    let ends : run.number + run.count ≡ next.number = equal _ _ both.0 in
-    let rights : run.rights.0 ≡ next.rights.0 = equal _ _ both.1 in
+    let both = and_parts _ _ e in
+    let ends : run.number + run.count ≡ next.number = eqb-true _ _ both.0 in
+    let rights : run.rights.0 ≡ next.rights.0 = eqb-true _ _ both.1 in
     let end : run.number + (run.count + 1) ≡ next.number + next.count = omega arith in
     λ i. (end i == later.number) && (rights i == later.rights.0)
 

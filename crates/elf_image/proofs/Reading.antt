@@ -2,7 +2,7 @@
 use Rattle.std.proofs.Common.{◌≡◌, ℕ, zero, suc, ◌+◌, ◌*◌, ◌<◌, ◌≤◌, Bool, true, false, not, ◌&&◌, ◌||◌, cond, ltb, List, [], ◌∷◌, length, map, get_or, arith, refl, sym, ◌∙◌, Some, None, ◌==◌, lit<, if◌then◌else◌}
 use Rattle.std.specs.List.{list_any, filter, sum_by, All, range_with_len}
 use Rattle.std.specs.List.Sorted.{IsPermutation}
-use Rattle.std.proofs.lemmas.Bool.{false≢true}
+use Rattle.std.proofs.lemmas.Bool.{false≢true, or_parts}
 use Rattle.std.proofs.lemmas.Bool.Decides.{nat_tests}
 use Rattle.std.proofs.lemmas.List.Sums.{sum_by-cons}
 use Rattle.std.proofs.lemmas.List.Sorted.{sum_by-IsPermutation, list_any-IsPermutation, All-permutation}
@@ -17,10 +17,6 @@ use Rattle.elf_image.specs.Parts.{first_fault}
 use Rattle.elf_image.proofs.Overlaps.{overlap_moved}
 
 -- ---- what tests of headers leave
-
-both_fail : (a b : Bool) → (a || b) ≡ false → (a ≡ false) × (b ≡ false)
-both_fail true b e = cc
-both_fail false b e = (refl, e)
 
 -- where no fault is first, no test holds
 all_pass : (tests : List (Bool × ElfFault)) → first_fault tests ≡ None → (k : ℕ) (d : Bool × ElfFault) → k < length tests → (get_or tests k d).0 ≡ false
@@ -96,14 +92,14 @@ both_fill size address one other s t a b = let u = s.shorter in let v = t.shorte
 byte_summed : (file : List ℕ) (size address : ℕ) (loaded : List ProgramHeader) → All (IsSoundSegment size) loaded → overlap loaded ≡ false → loaded_byte file loaded address ≡ sum_by (byte_from file address) loaded
 byte_summed file size address [] sound apart = refl
 byte_summed file size address (one ∷ rest) sound apart =
-    cases (fills address one) refl (byte_summed file size address rest (All-tail (IsSoundSegment size) one rest sound) (both_fail _ _ apart).1)
+    cases (fills address one) refl (byte_summed file size address rest (All-tail (IsSoundSegment size) one rest sound) (or_parts _ _ apart).1)
     ∙ sym (sum_by-cons (byte_from file address) one rest)
   where
     alone : fills address one ≡ true → All (λ other. byte_from file address other ≡ 0) rest
     alone fill k d within = blank (fills address (get_or rest k d)) refl
       where
         blank : (b : Bool) → b ≡ fills address (get_or rest k d) → cond b (filled_byte file address (get_or rest k d)) 0 ≡ 0
-        blank true e = absurd (false≢true (sym (none_from_any (share_address one) rest (both_fail _ _ apart).0 k d within) ∙ both_fill size address one (get_or rest k d) (All-head (IsSoundSegment size) one rest sound) (All-tail (IsSoundSegment size) one rest sound k d within) fill (sym e)))
+        blank true e = absurd (false≢true (sym (none_from_any (share_address one) rest (or_parts _ _ apart).0 k d within) ∙ both_fill size address one (get_or rest k d) (All-head (IsSoundSegment size) one rest sound) (All-tail (IsSoundSegment size) one rest sound k d within) fill (sym e)))
         blank false e = refl
 
     cases : (b : Bool) → b ≡ fills address one → loaded_byte file rest address ≡ sum_by (byte_from file address) rest → cond b (filled_byte file address one) (loaded_byte file rest address) ≡ cond b (filled_byte file address one) 0 + sum_by (byte_from file address) rest

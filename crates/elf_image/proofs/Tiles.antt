@@ -1,8 +1,8 @@
 -- The runs of pages lie one behind the other and cover all pages.
-use Rattle.std.proofs.Common.{◌≡◌, ℕ, ◌+◌, ◌-◌, ◌<◌, ◌≤◌, Bool, true, false, cond, ◌&&◌, ◌==◌, List, [], ◌∷◌, length, drop, slice_index_or, arith, refl, sym, ap, ◌∙◌, subst, inl, inr}
+use Rattle.std.proofs.Common.{◌≡◌, ℕ, ◌+◌, ◌-◌, ◌<◌, ◌≤◌, Bool, true, false, cond, List, [], ◌∷◌, length, drop, slice_index_or, arith, refl, sym, ap, ◌∙◌, subst, inl, inr, eqb-true}
 use Rattle.std.proofs.lemmas.List.{get_or-drop, drop-drop, length-drop}
-use Rattle.std.proofs.lemmas.Bool.{false≢true}
-use Rattle.std.proofs.lemmas.Bool.Decides.{eqb_tells, leb_tells}
+use Rattle.std.proofs.lemmas.Bool.{and_parts}
+use Rattle.std.proofs.lemmas.Bool.Decides.{leb_tells}
 use Rattle.page_memory.specs.declared.rights.Rights.{Rights}
 use Rattle.elf_image.specs.declared.image.ImagePage.{ImagePage}
 use Rattle.elf_image.specs.declared.runs.Run.{Run}
@@ -20,23 +20,15 @@ abbrev pub Tile : List ImagePage → ℕ → List Run → Type 0
 Tile pages place [] = place ≡ length pages
 Tile pages place (run ∷ later) = (run.place ≡ place) × (IsRun pages run × Tile pages (place + run.count) later)
 
-both_true : (a b : Bool) → (a && b) ≡ true → (a ≡ true) × (b ≡ true)
-both_true true true e = (refl, refl)
-both_true true false e = absurd (false≢true e)
-both_true false b e = absurd (false≢true e)
-
-equal : (a b : ℕ) → (a == b) ≡ true → a ≡ b
-equal a b e = elim (eqb_tells a b) [ inl same ↦ same.1 | inr other ↦ absurd (false≢true (sym other.0 ∙ e)) ]
-
 same_rights : (one other : Rights) → one.0 ≡ other.0 → one ≡ other
 same_rights one other e = λ i. record { 0 = e i }
 
 -- two runs that go on with one another are one
 merged_run : (pages : List ImagePage) (run next : Run) → IsRun pages run → IsRun pages next → next.place ≡ run.place + run.count → goes_on run next ≡ true → IsRun pages (record { number = run.number; place = run.place; count = run.count + next.count; rights = run.rights })
 merged_run pages run next one other behind on =
-    let both = both_true _ _ on in
-    let number : run.number + run.count ≡ next.number = equal _ _ both.0 in
-    let same : run.rights ≡ next.rights = same_rights _ _ (equal _ _ both.1) in
+    let both = and_parts _ _ on in
+    let number : run.number + run.count ≡ next.number = eqb-true _ _ both.0 in
+    let same : run.rights ≡ next.rights = same_rights _ _ (eqb-true _ _ both.1) in
     record {
       full = let f = one.full in omega arith;
       within = let w = other.within in omega arith;

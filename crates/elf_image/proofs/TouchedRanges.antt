@@ -1,7 +1,7 @@
 -- The pages that segments touch, as they are listed segment by segment.
-use Rattle.std.proofs.Common.{◌≡◌, ℕ, zero, suc, ◌+◌, ◌-◌, ◌*◌, ◌/◌, ◌<◌, ◌≤◌, max, Bool, true, false, cond, leb, ltb, List, [], ◌∷◌, ◌++◌, length, get_or, arith, refl, sym, ap, ◌∙◌, subst, inl, inr, length-append, append-nil, take, drop, length-drop, length-take}
+use Rattle.std.proofs.Common.{◌≡◌, ℕ, zero, suc, ◌+◌, ◌-◌, ◌*◌, ◌/◌, ◌<◌, ◌≤◌, max, Bool, true, false, cond, List, [], ◌∷◌, ◌++◌, length, get_or, arith, refl, sym, ap, ◌∙◌, subst, inl, inr, length-append, append-nil, take, drop, length-drop, length-take}
 use Rattle.std.specs.List.{list_any, filter, All, AllPairs, range_with_len}
-use Rattle.std.specs.List.Sorted.{IsNonDecreasingBy, IsPartitionPoint}
+use Rattle.std.specs.List.Sorted.{IsPartitionPoint}
 use Rattle.std.proofs.lemmas.List.{get_or_default, take-append-drop, get_or-take, get_or-drop}
 use Rattle.std.proofs.lemmas.Bool.Decides.{nat_tests, leb_tells}
 use Rattle.std.proofs.lemmas.List.Elements.{filter-append, All-head, All-tail}
@@ -86,9 +86,9 @@ untouched_behind page segment h = grind (arith, nat_tests)
 pub touched_within : (page : ℕ) (segment : ProgramHeader) → 0 < segment.memory_size → segment.address < 4096 * page + 4096 → 4096 * page < end_of segment → touches page segment ≡ true
 touched_within page segment some low high = grind (arith, nat_tests)
 
-pub pages_below : image_page_limit ≡ 458752
+pub page_limit_is : image_page_limit ≡ 458752
 unfolding image_page_limit
-pages_below = refl
+page_limit_is = refl
 
 -- what is known when the first segments are done: all that they touch lies below `next`, and the others lie behind
 pub record Listed (loaded : List ProgramHeader) (i next : ℕ) (pages : List ℕ) : Type 0 where
@@ -96,14 +96,6 @@ pub record Listed (loaded : List ProgramHeader) (i next : ℕ) (pages : List ℕ
   pub done : (k : ℕ) (d : ProgramHeader) → k < i → end_of (get_or loaded k d) ≤ 4096 * next
   pub ahead : (k : ℕ) (d : ProgramHeader) → i ≤ k → k < length loaded → 4096 * next ≤ (get_or loaded k d).address + 4095
   pub listed : pages ≡ filter (is_touched loaded) (range_with_len 0 next)
-
-pub listed_none : (loaded : List ProgramHeader) → Listed loaded 0 0 []
-listed_none loaded = record {
-  low = omega arith;
-  done = λ k d below. absurd (omega arith);
-  ahead = λ k d from within. omega arith;
-  listed = refl;
-}
 
 module _ (loaded : List ProgramHeader) (full : All (λ segment. 0 < segment.memory_size) loaded) (low : All (λ segment. end_of segment ≤ 0x7000_0000) loaded) (apart : AllPairs (λ one other. end_of one ≤ other.address) loaded) where
   -- a segment begins no earlier than those before it
@@ -170,7 +162,7 @@ module _ (loaded : List ProgramHeader) (full : All (λ segment. 0 < segment.memo
   whole : (next : ℕ) → next ≤ 458752 → touched_pages loaded ≡ filter (is_touched loaded) (range_with_len 0 next) ++ filter (is_touched loaded) (range_with_len next (image_page_limit - next))
   unfolding touched_pages
   whole next h =
-      let count = pages_below in
+      let count = page_limit_is in
       let parts : image_page_limit ≡ next + (image_page_limit - next) = omega arith in
       let at : 0 + next ≡ next = omega arith in
       ap (λ n. filter (is_touched loaded) (range_with_len 0 n)) parts
@@ -240,40 +232,13 @@ range_more first number h =
     ∙ range_parts first (number - first) 1
     ∙ ap (λ n. range_with_len first (number - first) ++ n ∷ []) at
 
--- segments that lie apart rise by their ends and by their starts
-pub ends_rise : (loaded : List ProgramHeader) → AllPairs (λ one other. end_of one ≤ other.address) loaded → IsNonDecreasingBy end_of loaded
-ends_rise loaded apart i j d h within =
-    elim (leb_tells (suc i) j) [
-      | inl before ↦ let a = apart i j d before.1 within in omega arith
-      | inr at ↦ let one : i ≡ j = omega arith in subst (λ n. end_of (get_or loaded i d) ≤ end_of (get_or loaded n d)) one (omega arith)
-    ]
-
-pub starts_rise : (loaded : List ProgramHeader) → AllPairs (λ one other. end_of one ≤ other.address) loaded → IsNonDecreasingBy (λ segment. segment.address) loaded
-starts_rise loaded apart i j d h within =
-    elim (leb_tells (suc i) j) [
-      | inl before ↦ let a = apart i j d before.1 within in omega arith
-      | inr at ↦ let one : i ≡ j = omega arith in subst (λ n. (get_or loaded i d).address ≤ (get_or loaded n d).address) one (omega arith)
-    ]
-
 -- the same from what two binary searches found
-pub touching_found : (loaded rest : List ProgramHeader) (page start before count : ℕ) → start ≡ 4096 * page → rest ≡ drop before loaded → before ≤ length loaded → count ≤ length rest → IsPartitionPoint (λ segment. leb (end_of segment) start ≡ true) (λ segment. leb (end_of segment) start ≡ false) loaded before → IsPartitionPoint (λ segment. ltb segment.address (start + 4096) ≡ true) (λ segment. ltb segment.address (start + 4096) ≡ false) rest count → All (λ segment. 0 < segment.memory_size) loaded → take count rest ≡ filter (touches page) loaded
+pub touching_found : (loaded rest : List ProgramHeader) (page start before count : ℕ) → start ≡ 4096 * page → rest ≡ drop before loaded → before ≤ length loaded → count ≤ length rest → IsPartitionPoint (λ segment. end_of segment ≤ start) (λ segment. start < end_of segment) loaded before → IsPartitionPoint (λ segment. segment.address < start + 4096) (λ segment. start + 4096 ≤ segment.address) rest count → All (λ segment. 0 < segment.memory_size) loaded → take count rest ≡ filter (touches page) loaded
 touching_found loaded rest page start before count at is b c first second full =
     ap (take count) is
     ∙ touching_run loaded page before count b (subst (λ l. count ≤ length l) is c)
-    (λ k d below. up (end_of (get_or loaded k d)) start (4096 * page) at (first.0 k d (omega arith) below))
-    (λ k d from within. down (end_of (get_or loaded k d)) start (4096 * page) at (first.1 k d from within))
-    (λ k d below. under (get_or (drop before loaded) k d).address start (4096 * page) at (subst (λ (l : List ProgramHeader). ltb (get_or l k d).address (start + 4096) ≡ true) is (second.0 k d (omega arith) below)))
-    (λ k d from within. over (get_or (drop before loaded) k d).address start (4096 * page) at (subst (λ (l : List ProgramHeader). ltb (get_or l k d).address (start + 4096) ≡ false) is (second.1 k d from (subst (λ l. k < length l) (sym is) within))))
+    (λ k d below. subst (λ s. end_of (get_or loaded k d) ≤ s) at (first.0 k d (omega arith) below))
+    (λ k d from within. subst (λ s. s < end_of (get_or loaded k d)) at (first.1 k d from within))
+    (λ k d below. subst (λ s. (get_or (drop before loaded) k d).address < s + 4096) at (subst (λ (l : List ProgramHeader). (get_or l k d).address < start + 4096) is (second.0 k d (omega arith) below)))
+    (λ k d from within. subst (λ s. s + 4096 ≤ (get_or (drop before loaded) k d).address) at (subst (λ (l : List ProgramHeader). start + 4096 ≤ (get_or l k d).address) is (second.1 k d from (subst (λ l. k < length l) (sym is) within))))
     full
-  where
-    up : (a s t : ℕ) → s ≡ t → leb a s ≡ true → a ≤ t
-    up a s t e h = grind (arith, nat_tests)
-
-    down : (a s t : ℕ) → s ≡ t → leb a s ≡ false → t < a
-    down a s t e h = grind (arith, nat_tests)
-
-    under : (a s t : ℕ) → s ≡ t → ltb a (s + 4096) ≡ true → a < t + 4096
-    under a s t e h = grind (arith, nat_tests)
-
-    over : (a s t : ℕ) → s ≡ t → ltb a (s + 4096) ≡ false → t + 4096 ≤ a
-    over a s t e h = grind (arith, nat_tests)

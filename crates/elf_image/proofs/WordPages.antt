@@ -1,7 +1,7 @@
 -- A page's bytes as its words are written one after another.
-use Rattle.std.proofs.Common.{◌≡◌, ◌≢◌, ℕ, ◌+◌, ◌-◌, ◌*◌, ◌<◌, ◌≤◌, min, List, [], ◌∷◌, ◌++◌, length, take, drop, replicate, map, slice_index, slice_index_or, arith, refl, sym, ap, ◌∙◌, subst, append_assoc, append-nil, length-append, take_all, length-drop, length-take, IsTrue, ◌&&◌, ◌==◌, lit<}
+use Rattle.std.proofs.Common.{◌≡◌, ◌≢◌, ℕ, ◌+◌, ◌-◌, ◌*◌, ◌<◌, ◌≤◌, min, List, [], ◌∷◌, ◌++◌, length, take, drop, replicate, map, slice_index, slice_index_or, arith, refl, sym, ap, ◌∙◌, subst, append_assoc, append-nil, take_all, length-drop, length-take, IsTrue, ◌&&◌, ◌==◌, lit<}
 use Rattle.std.specs.List.{range_with_len, list_any}
-use Rattle.std.proofs.lemmas.List.{take_min, take_more, drop-replicate}
+use Rattle.std.proofs.lemmas.List.{take_min, take_more, drop-replicate, nil_from_length}
 use Rattle.std.proofs.lemmas.Grind.{flat_map-append}
 use Rattle.std.proofs.lemmas.List.FromFn.{get_or-map-range_with_len, length-map-range_with_len}
 use Rattle.std.proofs.Math.Seq.{drop-append-add, take-append_seam}
@@ -13,11 +13,8 @@ use Rattle.std.proofs.lemmas.List.Folds.{list_any_at}
 use Rattle.page_memory.specs.Words.{page_offset}
 use Rattle.elf_image.specs.declared.image.ImagePage.{ImagePage}
 use Rattle.elf_image.specs.Image.{IsLawful, bytes_of, padded, word_page, word_pages, most_words}
+use Rattle.elf_image.specs.ImageLaws.{length-bytes_of}
 use Rattle.elf_image.specs.PartsLaws.{neighbours}
-
-length-bytes_of : (words : List ℕ) → length (bytes_of words) ≡ 4 * length words
-length-bytes_of [] = refl
-length-bytes_of (w ∷ words) = let rest = length-bytes_of words in omega (arith, length-append (little_bytes 4 w) (bytes_of words))
 
 -- one more word's bytes
 bytes_more : (words : List ℕ) (i : ℕ) → i < length words → bytes_of (take (i + 1) words) ≡ bytes_of (take i words) ++ little_bytes 4 (slice_index words i)
@@ -61,10 +58,6 @@ page_cut words place h =
     ∙ ap (λ n. take n (drop (1024 * place) words)) cut
     ∙ take_min 1024 (drop (1024 * place) words)
 
-no_words : (words : List ℕ) → length words ≡ 0 → words ≡ []
-no_words [] e = refl
-no_words (w ∷ words) e = absurd (omega arith)
-
 pub lawful_words : (words : List ℕ) (pages : List ImagePage) → words ≢ [] → length words ≤ most_words → pages ≡ map (word_page words) (range_with_len 0 (word_pages words)) → IsLawful (record { entry = 65536; pages = pages })
 lawful_words words pages some few e =
     let count : length pages ≡ word_pages words = ap length e ∙ length-map-range_with_len (word_page words) 0 (word_pages words) in
@@ -82,7 +75,7 @@ lawful_words words pages some few e =
     }
   where
     some_page : word_pages words ≢ 0
-    some_page none = some (no_words words (omega arith))
+    some_page none = some (nil_from_length words (omega arith))
 
     entered : (pages : List ImagePage) → length pages ≡ word_pages words → word_pages words ≤ 4032 → pages ≡ map (word_page words) (range_with_len 0 (word_pages words)) → IsTrue (list_any (λ listed. (listed.number == 16) && may Fetch listed.page.rights) pages)
     entered [] count most e = absurd (some_page (sym count))

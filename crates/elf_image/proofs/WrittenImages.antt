@@ -1,11 +1,11 @@
 -- The file that is written of an image has no fault, and its image is that image.
-use Rattle.std.proofs.Common.{◌≡◌, ℕ, suc, ◌+◌, ◌*◌, ◌<◌, ◌≤◌, Bool, true, false, cond, not, nat_lt, ◌&&◌, ◌||◌, List, [], ◌∷◌, ◌++◌, length, map, flat_map, slice_index_or, Option, Some, None, arith, refl, sym, ap, ◌∙◌, append_assoc, length-append}
+use Rattle.std.proofs.Common.{◌≡◌, ℕ, suc, ◌+◌, ◌*◌, ◌<◌, ◌≤◌, Bool, true, false, cond, not, nat_lt, ◌||◌, List, [], ◌∷◌, ◌++◌, length, map, flat_map, slice_index_or, None, arith, refl, ap, ◌∙◌, append_assoc, length-append, lt-ltb, le-ltb}
 use Rattle.std.specs.List.{list_any, filter}
 use Rattle.std.specs.Option.{option_or}
-use Rattle.std.proofs.lemmas.Bool.{false≢true}
+use Rattle.std.proofs.lemmas.Bool.{and_right}
+use Rattle.elf_image.specs.PartsLaws.{no_fault_after}
 use Rattle.elf_image.specs.declared.runs.Run.{Run}
 use Rattle.elf_image.specs.declared.program_header.ProgramHeader.{ProgramHeader}
-use Rattle.elf_image.specs.declared.fault.ElfFault.{ElfFault}
 use Rattle.elf_image.specs.declared.fault.ElfFault.TheVariants.{Dynamic, SegmentOutOfFile, SizeOrder, Range, Overlap, TooLarge, TooSparse, EntryNotExecutable}
 use Rattle.elf_image.specs.Image.{ImageContent, IsLawful}
 use Rattle.elf_image.specs.Parts.{rising, entered, image_of_parts, readable_page}
@@ -13,31 +13,23 @@ use Rattle.elf_image.specs.RisingLaws.{rises}
 use Rattle.elf_image.specs.Regions.{regions}
 use Rattle.elf_image.specs.ElfFiles.{file_entry, program_headers, load_headers, segments, is_load, is_dynamic, is_out_of_file, is_larger_in_file, is_out_of_range, overlap, loaded_pages, file_pages, header_fault, program_fault, loading_fault, file_fault, file_image}
 use Rattle.elf_image.specs.WrittenFiles.{runs, file_header, segment_header, padding, pages_offset, page_bytes, file_front, elf_file, IsHeld}
-use Rattle.elf_image.proofs.HeadersBack.{header_of, headers_back, header_passes, entry_back, not_less}
+use Rattle.elf_image.proofs.HeadersBack.{run_header, headers_back, header_passes, entry_back}
 use Rattle.elf_image.proofs.LoadedPages.{pages_loaded, still_readable}
-use Rattle.elf_image.proofs.LoadedRuns.{blank, is_less, no_overlap, tile_each, run_low}
+use Rattle.elf_image.proofs.LoadedRuns.{blank, no_overlap, tile_each, run_low}
 use Rattle.elf_image.proofs.Tiles.{IsRun, runs_tile}
 use Rattle.elf_image.proofs.WrittenBytes.{length-file_front, length-page_bytes, length-runs, runs_have_room}
 
 -- no header fails a test, or all pass it
-none : (test : ProgramHeader → Bool) (header : Run → ProgramHeader) (found : List Run) → ((k : ℕ) (d : Run) → k < length found → test (header (slice_index_or found k d)) ≡ false) → list_any test (map header found) ≡ false
-none test header [] each = refl
-none test header (run ∷ later) each = ap (λ b. b || list_any test (map header later)) (each 0 run (omega arith)) ∙ none test header later (λ k d l. each (suc k) d (omega arith))
+no_header_passes : (test : ProgramHeader → Bool) (header : Run → ProgramHeader) (found : List Run) → ((k : ℕ) (d : Run) → k < length found → test (header (slice_index_or found k d)) ≡ false) → list_any test (map header found) ≡ false
+no_header_passes test header [] each = refl
+no_header_passes test header (run ∷ later) each = ap (λ b. b || list_any test (map header later)) (each 0 run (omega arith)) ∙ no_header_passes test header later (λ k d l. each (suc k) d (omega arith))
 
-all : (test : ProgramHeader → Bool) (header : Run → ProgramHeader) (found : List Run) → ((k : ℕ) (d : Run) → k < length found → test (header (slice_index_or found k d)) ≡ true) → filter test (map header found) ≡ map header found
-all test header [] each = refl
-all test header (run ∷ later) each =
-    let others = all test header later (λ k d l. each (suc k) d (omega arith)) in
+each_header_passes : (test : ProgramHeader → Bool) (header : Run → ProgramHeader) (found : List Run) → ((k : ℕ) (d : Run) → k < length found → test (header (slice_index_or found k d)) ≡ true) → filter test (map header found) ≡ map header found
+each_header_passes test header [] each = refl
+each_header_passes test header (run ∷ later) each =
+    let others = each_header_passes test header later (λ k d l. each (suc k) d (omega arith)) in
     ap (λ b. cond b (header run ∷ filter test (map header later)) (filter test (map header later))) (each 0 run (omega arith))
     ∙ ap (λ l. header run ∷ l) others
-
-skips : (test : Bool) (fault : ElfFault) (rest : Option ElfFault) → test ≡ false → rest ≡ None → cond test (Some fault) rest ≡ None
-skips true fault rest e h = absurd (false≢true (sym e))
-skips false fault rest e h = h
-
-right_false : (a b : Bool) → b ≡ false → (a && b) ≡ false
-right_false true b e = e
-right_false false b e = refl
 
 abbrev count_of : ImageContent → ℕ
 count_of image = length (runs image.pages)
@@ -46,7 +38,7 @@ abbrev start_of : ImageContent → ℕ
 start_of image = pages_offset (count_of image)
 
 abbrev headers_of : ImageContent → List ProgramHeader
-headers_of image = map (header_of (start_of image)) (runs image.pages)
+headers_of image = map (run_header (start_of image)) (runs image.pages)
 
 -- the file is its headers and what stands behind them
 in_parts : (image : ImageContent) → elf_file image ≡ file_header image.entry (count_of image) ++ (flat_map (segment_header (start_of image)) (runs image.pages) ++ (padding (count_of image) ++ page_bytes image.pages))
@@ -75,7 +67,7 @@ program_headers_are image held =
 
 load_headers_are : (image : ImageContent) → IsHeld image → load_headers (elf_file image) ≡ headers_of image
 unfolding load_headers
-load_headers_are image held = ap (filter is_load) (program_headers_are image held) ∙ all is_load (header_of (start_of image)) (runs image.pages) (λ k d l. refl)
+load_headers_are image held = ap (filter is_load) (program_headers_are image held) ∙ each_header_passes is_load (run_header (start_of image)) (runs image.pages) (λ k d l. refl)
 
 run_at : (image : ImageContent) (k : ℕ) (d : Run) → k < count_of image → IsRun image.pages (slice_index_or (runs image.pages) k d)
 run_at image k d l = tile_each image.pages 0 (runs image.pages) (runs_tile image.pages) k d l
@@ -84,7 +76,7 @@ segments_are : (image : ImageContent) → IsHeld image → segments (elf_file im
 unfolding segments
 segments_are image held =
     ap (filter (λ (header : ProgramHeader). nat_lt 0 header.memory_size)) (load_headers_are image held)
-    ∙ all (λ (header : ProgramHeader). nat_lt 0 header.memory_size) (header_of (start_of image)) (runs image.pages) (λ k d l. is_less 0 (4096 * (slice_index_or (runs image.pages) k d).count) (let full = (run_at image k d l).full in omega arith))
+    ∙ each_header_passes (λ (header : ProgramHeader). nat_lt 0 header.memory_size) (run_header (start_of image)) (runs image.pages) (λ k d l. lt-ltb 0 (4096 * (slice_index_or (runs image.pages) k d).count) (let full = (run_at image k d l).full in omega arith))
 
 rise : (image : ImageContent) → IsHeld image → rising image.pages ≡ true
 rise image held = rises image.pages (λ k m d e l. held.lawful.pages.rising k m d (omega arith) l)
@@ -123,25 +115,25 @@ no_program_fault : (image : ImageContent) → IsHeld image → program_fault (el
 unfolding program_fault
 no_program_fault image held =
     let file = elf_file image in
-    let header = header_of (start_of image) in
+    let header = run_header (start_of image) in
     let found = runs image.pages in
-    skips (list_any is_dynamic (program_headers file)) Dynamic _ (ap (list_any is_dynamic) (program_headers_are image held) ∙ none is_dynamic header found (λ k d l. refl))
-    (skips (list_any (is_out_of_file (length file)) (load_headers file)) SegmentOutOfFile _ (ap (list_any (is_out_of_file (length file))) (load_headers_are image held) ∙ none (is_out_of_file (length file)) header found (λ k d l. in_file k d l))
-    (skips (list_any is_larger_in_file (load_headers file)) SizeOrder _ (ap (list_any is_larger_in_file) (load_headers_are image held) ∙ none is_larger_in_file header found (λ k d l. not_less (4096 * (slice_index_or found k d).count) (4096 * (slice_index_or found k d).count) (omega arith)))
-    (skips (list_any is_out_of_range (load_headers file)) Range None (ap (list_any is_out_of_range) (load_headers_are image held) ∙ none is_out_of_range header found (λ k d l. in_range k d l)) refl)))
+    no_fault_after (list_any is_dynamic (program_headers file)) Dynamic _ (ap (list_any is_dynamic) (program_headers_are image held) ∙ no_header_passes is_dynamic header found (λ k d l. refl))
+    (no_fault_after (list_any (is_out_of_file (length file)) (load_headers file)) SegmentOutOfFile _ (ap (list_any (is_out_of_file (length file))) (load_headers_are image held) ∙ no_header_passes (is_out_of_file (length file)) header found (λ k d l. in_file k d l))
+    (no_fault_after (list_any is_larger_in_file (load_headers file)) SizeOrder _ (ap (list_any is_larger_in_file) (load_headers_are image held) ∙ no_header_passes is_larger_in_file header found (λ k d l. le-ltb (4096 * (slice_index_or found k d).count) (4096 * (slice_index_or found k d).count) (omega arith)))
+    (no_fault_after (list_any is_out_of_range (load_headers file)) Range None (ap (list_any is_out_of_range) (load_headers_are image held) ∙ no_header_passes is_out_of_range header found (λ k d l. in_range k d l)) refl)))
   where
-    in_file : (k : ℕ) (d : Run) → k < count_of image → is_out_of_file (length (elf_file image)) (header_of (start_of image) (slice_index_or (runs image.pages) k d)) ≡ false
+    in_file : (k : ℕ) (d : Run) → k < count_of image → is_out_of_file (length (elf_file image)) (run_header (start_of image) (slice_index_or (runs image.pages) k d)) ≡ false
     in_file k d l =
         let run = slice_index_or (runs image.pages) k d in
         let within = (run_at image k d l).within in
         let sized = size image held in
-        right_false (nat_lt 0 (4096 * run.count)) (nat_lt (length (elf_file image)) (start_of image + 4096 * run.place + 4096 * run.count)) (not_less _ _ (omega arith))
+        and_right (nat_lt 0 (4096 * run.count)) (nat_lt (length (elf_file image)) (start_of image + 4096 * run.place + 4096 * run.count)) (le-ltb _ _ (omega arith))
 
-    in_range : (k : ℕ) (d : Run) → k < count_of image → is_out_of_range (header_of (start_of image) (slice_index_or (runs image.pages) k d)) ≡ false
+    in_range : (k : ℕ) (d : Run) → k < count_of image → is_out_of_range (run_header (start_of image) (slice_index_or (runs image.pages) k d)) ≡ false
     in_range k d l =
         let run = slice_index_or (runs image.pages) k d in
         let low = run_low image.pages run (λ i h. held.lawful.pages.low i blank h) (run_at image k d l) in
-        right_false (nat_lt 0 (4096 * run.count)) (nat_lt 0x7000_0000 (4096 * run.number + 4096 * run.count)) (not_less _ _ (omega arith))
+        and_right (nat_lt 0 (4096 * run.count)) (nat_lt 0x7000_0000 (4096 * run.number + 4096 * run.count)) (le-ltb _ _ (omega arith))
 
 no_loading_fault : (image : ImageContent) → IsHeld image → loading_fault (elf_file image) ≡ None
 unfolding loading_fault
@@ -149,10 +141,10 @@ no_loading_fault image held =
     let file = elf_file image in
     let pages = file_pages_are image held in
     let entry = entry_is image held in
-    skips (overlap (segments file)) Overlap _ (ap overlap (segments_are image held) ∙ no_overlap image.pages (start_of image) 0 (runs image.pages) (λ i j below within. held.lawful.pages.rising i j blank below within) (runs_tile image.pages))
-    (skips (nat_lt 4032 (length (file_pages file))) TooLarge _ (ap (λ p. nat_lt 4032 (length p)) pages ∙ not_less 4032 (length image.pages) held.lawful.pages.few)
-    (skips (nat_lt 56 (length (regions (file_pages file)))) TooSparse _ (ap (λ p. nat_lt 56 (length (regions p))) pages ∙ not_less 56 (length (regions image.pages)) held.lawful.pages.compact)
-    (skips (not (entered (file_entry file) (file_pages file))) EntryNotExecutable None ((λ i. not (entered (entry i) (pages i))) ∙ ap not (is_entered image held.lawful)) refl)))
+    no_fault_after (overlap (segments file)) Overlap _ (ap overlap (segments_are image held) ∙ no_overlap image.pages (start_of image) 0 (runs image.pages) (λ i j below within. held.lawful.pages.rising i j blank below within) (runs_tile image.pages))
+    (no_fault_after (nat_lt 4032 (length (file_pages file))) TooLarge _ (ap (λ p. nat_lt 4032 (length p)) pages ∙ le-ltb 4032 (length image.pages) held.lawful.pages.few)
+    (no_fault_after (nat_lt 56 (length (regions (file_pages file)))) TooSparse _ (ap (λ p. nat_lt 56 (length (regions p))) pages ∙ le-ltb 56 (length (regions image.pages)) held.lawful.pages.compact)
+    (no_fault_after (not (entered (file_entry file) (file_pages file))) EntryNotExecutable None ((λ i. not (entered (entry i) (pages i))) ∙ ap not (is_entered image held.lawful)) refl)))
 
 pub no_fault : (image : ImageContent) → IsHeld image → file_fault (elf_file image) ≡ None
 unfolding file_fault

@@ -1,8 +1,7 @@
 -- When parts make an image.
-use Rattle.std.specs.Prelude.{ℕ, ◌≡◌, ◌+◌, ◌<◌, ◌≤◌, Bool, true, false, cond, not, nat_lt, List, [], ◌∷◌, length, slice_index_or, Option, Some, None, refl}
-use Rattle.std.proofs.Common.{sym, ap, arith}
-use Rattle.std.proofs.lemmas.Bool.{false≢true}
-use Rattle.std.proofs.lemmas.Bool.Decides.{nat_tests}
+use Rattle.std.specs.Prelude.{ℕ, ◌≡◌, ◌+◌, ◌<◌, ◌≤◌, Bool, true, false, cond, not, List, [], ◌∷◌, length, slice_index_or, Option, Some, None, refl}
+use Rattle.std.proofs.Common.{sym, ap, arith, le-ltb, ltb-false}
+use Rattle.std.proofs.lemmas.Bool.{false≢true, not-false}
 use Rattle.page_memory.specs.MemoryMap.{most_image_pages, most_image_regions}
 use Rattle.elf_image.specs.declared.image.ImagePage.{ImagePage}
 use Rattle.elf_image.specs.declared.fault.ElfFault.{ElfFault}
@@ -18,38 +17,29 @@ pub record Pass (entry : ℕ) (pages : List ImagePage) : Type 0 where
   pub compact : length (regions pages) ≤ most_image_regions
   pub start : entered entry pages ≡ true
 
--- where no fault is first, no test holds
-passed : (test : Bool) (fault : ElfFault) (rest : Option ElfFault) → cond test (Some fault) rest ≡ None → (test ≡ false) × (rest ≡ None)
-passed true fault rest e = cc
-passed false fault rest e = (refl, e)
+-- there is no fault where a test fails and there is none behind it, ..
+pub no_fault_after : (test : Bool) (fault : ElfFault) (rest : Option ElfFault) → test ≡ false → rest ≡ None → cond test (Some fault) rest ≡ None
+no_fault_after true fault rest e h = absurd (false≢true (sym e))
+no_fault_after false fault rest e h = h
 
-denied : (b : Bool) → not b ≡ false → b ≡ true
-denied true e = refl
-denied false e = absurd (false≢true (sym e))
-
-at_most : (most n : ℕ) → nat_lt most n ≡ false → n ≤ most
-at_most most n e = grind (arith, nat_tests)
-
-not_above : (most n : ℕ) → n ≤ most → nat_lt most n ≡ false
-not_above most n e = grind (arith, nat_tests)
+-- .. and only there
+parts_of_no_fault : (test : Bool) (fault : ElfFault) (rest : Option ElfFault) → cond test (Some fault) rest ≡ None → (test ≡ false) × (rest ≡ None)
+parts_of_no_fault true fault rest e = cc
+parts_of_no_fault false fault rest e = (refl, e)
 
 pub pass_from_no_fault : (entry : ℕ) (pages : List ImagePage) → parts_fault entry pages ≡ None → Pass entry pages
 unfolding parts_fault
 pass_from_no_fault entry pages none =
-    let range = passed _ _ _ none in
-    let overlap = passed _ _ _ range.1 in
-    let large = passed _ _ _ overlap.1 in
-    let sparse = passed _ _ _ large.1 in
-    let start = passed _ _ _ sparse.1 in
-    record { low = range.0; up = denied _ overlap.0; few = at_most 4032 _ large.0; compact = at_most 56 _ sparse.0; start = denied _ start.0 }
+    let range = parts_of_no_fault _ _ _ none in
+    let overlap = parts_of_no_fault _ _ _ range.1 in
+    let large = parts_of_no_fault _ _ _ overlap.1 in
+    let sparse = parts_of_no_fault _ _ _ large.1 in
+    let start = parts_of_no_fault _ _ _ sparse.1 in
+    record { low = range.0; up = not-false _ overlap.0; few = ltb-false 4032 _ large.0; compact = ltb-false 56 _ sparse.0; start = not-false _ start.0 }
 
 pub no_fault_from_pass : (entry : ℕ) (pages : List ImagePage) → Pass entry pages → parts_fault entry pages ≡ None
 unfolding parts_fault
-no_fault_from_pass entry pages pass = skips _ _ _ pass.low (skips _ _ _ (ap not pass.up) (skips _ _ _ (not_above 4032 _ pass.few) (skips _ _ _ (not_above 56 _ pass.compact) (skips _ _ _ (ap not pass.start) refl))))
-  where
-    skips : (test : Bool) (fault : ElfFault) (rest : Option ElfFault) → test ≡ false → rest ≡ None → cond test (Some fault) rest ≡ None
-    skips true fault rest e h = absurd (false≢true (sym e))
-    skips false fault rest e h = h
+no_fault_from_pass entry pages pass = no_fault_after _ _ _ pass.low (no_fault_after _ _ _ (ap not pass.up) (no_fault_after _ _ _ (le-ltb 4032 _ pass.few) (no_fault_after _ _ _ (le-ltb 56 _ pass.compact) (no_fault_after _ _ _ (ap not pass.start) refl))))
 
 -- pages one behind the other from a number on rise, and lie in few regions where none lies at or above the 57344th
 pub neighbours : (first : ℕ) (pages : List ImagePage) → first + length pages ≤ 57344 → ((i : ℕ) (d : ImagePage) → i < length pages → (slice_index_or pages i d).number ≡ first + i) → (rising pages ≡ true) × (length (regions pages) ≤ 56)

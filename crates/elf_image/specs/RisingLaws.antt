@@ -1,22 +1,15 @@
 -- Pages by rising number: by places, and the regions that they lie in.
-use Rattle.std.proofs.Common.{◌≡◌, ℕ, zero, suc, ◌+◌, ◌/◌, ◌<◌, ◌≤◌, Bool, true, false, cond, not, eqb, ◌&&◌, ◌||◌, ◌==◌, nat_lt, nat_le, List, [], ◌∷◌, ◌++◌, length, take, map, slice_index_or, Option, Some, None, arith, refl, sym, ap, ◌∙◌, subst, inl, inr}
+use Rattle.std.proofs.Common.{◌≡◌, ℕ, zero, suc, ◌+◌, ◌/◌, ◌<◌, ◌≤◌, Bool, true, false, cond, not, eqb, ◌&&◌, ◌||◌, ◌==◌, nat_lt, nat_le, List, [], ◌∷◌, ◌++◌, length, take, map, slice_index_or, Option, Some, None, arith, refl, sym, ap, ◌∙◌, subst, inl, inr, ltb-true, le-ltb, eq-eqb}
 use Rattle.std.specs.List.{list_any}
 use Rattle.std.specs.Option.{option_eq}
 use Rattle.std.proofs.lemmas.List.{map-append, take_more, get_or_default}
 use Rattle.std.proofs.lemmas.List.Folds.{list_any-append}
 use Rattle.std.proofs.lemmas.Bool.Decides.{nat_tests, eqb_tells, leb_tells}
-use Rattle.std.proofs.lemmas.Bool.{false≢true}
+use Rattle.std.proofs.lemmas.Bool.{false≢true, and_parts, or_parts}
+use Rattle.std.proofs.Math.Bool.{or-false}
 use Rattle.elf_image.specs.declared.image.ImagePage.{ImagePage}
 use Rattle.elf_image.specs.Parts.{rising, too_high}
 use Rattle.elf_image.specs.Regions.{region_of, distinct, regions}
-
-both_true : (a b : Bool) → (a && b) ≡ true → (a ≡ true) × (b ≡ true)
-both_true true true e = (refl, refl)
-both_true true false e = absurd (false≢true e)
-both_true false b e = absurd (false≢true e)
-
-less : (a b : ℕ) → nat_lt a b ≡ true → a < b
-less a b e = grind (arith, nat_tests)
 
 pub rises : (pages : List ImagePage) → ((k m : ℕ) (d : ImagePage) → m ≡ k + 1 → m < length pages → (slice_index_or pages k d).number < (slice_index_or pages m d).number) → rising pages ≡ true
 unfolding rising
@@ -33,10 +26,7 @@ unfolding rising
 falls [] k m d e l h = absurd (omega arith)
 falls (one ∷ []) k m d e l h = absurd (omega arith)
 falls (one ∷ next ∷ rest) k zero d e l h = absurd (omega arith)
-falls (one ∷ next ∷ rest) zero (suc zero) d e l h = ap (λ b. b && rising (next ∷ rest)) (not_less one.number next.number h)
-  where
-    not_less : (a b : ℕ) → b ≤ a → nat_lt a b ≡ false
-    not_less a b h = grind (arith, nat_tests)
+falls (one ∷ next ∷ rest) zero (suc zero) d e l h = ap (λ b. b && rising (next ∷ rest)) (le-ltb one.number next.number h)
 falls (one ∷ next ∷ rest) zero (suc (suc m)) d e l h = absurd (omega arith)
 falls (one ∷ next ∷ rest) (suc k) (suc m) d e l h = ap (λ b. nat_lt one.number next.number && b) (falls (next ∷ rest) k m d (omega arith) (omega arith) h) ∙ and_false (nat_lt one.number next.number)
   where
@@ -52,11 +42,11 @@ falls_at pages k m one next e l h =
 pub rising_rest : (one : ImagePage) (rest : List ImagePage) → rising (one ∷ rest) ≡ true → rising rest ≡ true
 unfolding rising
 rising_rest one [] e = refl
-rising_rest one (next ∷ rest) e = (both_true _ _ e).1
+rising_rest one (next ∷ rest) e = (and_parts _ _ e).1
 
 rising_first : (one next : ImagePage) (rest : List ImagePage) → rising (one ∷ next ∷ rest) ≡ true → one.number < next.number
 unfolding rising
-rising_first one next rest e = less _ _ (both_true _ _ e).0
+rising_first one next rest e = ltb-true _ _ (and_parts _ _ e).0
 
 -- the first number is below each later one
 first_below : (one : ImagePage) (rest : List ImagePage) (j : ℕ) (d : ImagePage) → rising (one ∷ rest) ≡ true → j < length rest → one.number < (slice_index_or rest j d).number
@@ -78,7 +68,7 @@ rising_take (suc n) [] e = refl
 rising_take (suc zero) (one ∷ rest) e = refl
 rising_take (suc (suc n)) (one ∷ []) e = refl
 rising_take (suc (suc n)) (one ∷ next ∷ rest) e =
-    let both = both_true (nat_lt one.number next.number) (rising (next ∷ rest)) e in
+    let both = and_parts (nat_lt one.number next.number) (rising (next ∷ rest)) e in
     ap (λ b. b && rising (next ∷ take n rest)) both.0 ∙ rising_take (suc n) (next ∷ rest) both.1
 
 -- no page lies too high
@@ -89,11 +79,7 @@ low_pages (one ∷ rest) e zero d l = elim (leb_tells 458752 one.number) [
   | inl high ↦ absurd (false≢true (sym e ∙ ap (λ b. b || too_high rest) high.0))
   | inr low ↦ low.1
 ]
-low_pages (one ∷ rest) e (suc i) d l = low_pages rest (right_false (nat_le 458752 one.number) (too_high rest) e) i d (omega arith)
-  where
-    right_false : (a b : Bool) → (a || b) ≡ false → b ≡ false
-    right_false true b e = absurd (false≢true (sym e))
-    right_false false b e = e
+low_pages (one ∷ rest) e (suc i) d l = low_pages rest (or_parts (nat_le 458752 one.number) (too_high rest) e).1 i d (omega arith)
 
 -- whether a value is among others
 abbrev pub holds : ℕ → List ℕ → Bool
@@ -168,11 +154,7 @@ pushed_above next (a ∷ rest) one e = let here = rising_first next a (rest ++ o
 -- a page behind rising pages lies in one of their regions just where it lies in the last page's
 held_last : (front : List ImagePage) (one : ImagePage) → rising (front ++ one ∷ []) ≡ true → holds (region_of one) (map region_of front) ≡ is_region (region_of one) (last_region front)
 held_last [] one e = refl
-held_last (a ∷ []) one e = or_false (region_of a == region_of one)
-  where
-    or_false : (b : Bool) → (b || false) ≡ b
-    or_false true = refl
-    or_false false = refl
+held_last (a ∷ []) one e = or-false (region_of a == region_of one)
 held_last (a ∷ b ∷ front) one e =
     let there : rising (b ∷ (front ++ one ∷ [])) ≡ true = rising_rest a (b ∷ (front ++ one ∷ [])) e in
     let first = rising_first a b (front ++ one ∷ []) e in
@@ -182,12 +164,9 @@ held_last (a ∷ b ∷ front) one e =
   where
     between : (x y z : ℕ) → x < y → y < z → (x / 1024 == z / 1024) ≡ true → (y / 1024 == z / 1024) ≡ true
     between x y z l m e = elim (eqb_tells (x / 1024) (z / 1024)) [
-      | inl same ↦ equal (y / 1024) (z / 1024) (let at = same.1 in omega arith)
+      | inl same ↦ eq-eqb (y / 1024) (z / 1024) (let at = same.1 in omega arith)
       | inr other ↦ absurd (false≢true (sym other.0 ∙ e))
     ]
-      where
-        equal : (p q : ℕ) → p ≡ q → (p == q) ≡ true
-        equal p q at = grind (arith, nat_tests)
 
     absorbed : (x y h : Bool) → (x ≡ true → y ≡ true) → (x || (y || h)) ≡ (y || h)
     absorbed true true h f = refl

@@ -1,5 +1,6 @@
 ghost use Rattle.std.specs.Prelude.{◌≡◌, ◌+◌, ◌-◌, ◌/◌, ◌*◌, ◌<◌, ◌≤◌, ◌++◌, length, IfOk, IfErr, OnOk};
 ghost use Rattle.std.specs.List.{All, AllPairs, range_with_len, filter};
+ghost use Rattle.std.specs.List.Sorted.{IsNonDecreasingBy, IsPartitionPoint};
 ghost use Rattle.page_memory.specs.MemoryMap.{image_end, image_end_page, most_image_pages};
 ghost use Rattle.elf_image.specs.ElfFiles.{end_of, touches, touched_pages};
 ghost use Rattle.elf_image.specs.Segments.{TouchTooMany};
@@ -52,8 +53,24 @@ pub(crate) fn touching(loaded: &[ProgramHeader], page: u32) -> &[ProgramHeader]
     ensures { result.now ≡ filter (touches page) loaded.now }
 {
     let start = u64::from(page) * PAGE_SIZE as u64;
-    let before = loaded.partition_point(|segment| segment.end() <= start);
-    let rest = &loaded[before..];
-    let count = rest.partition_point(|segment| (segment.address as u64) < start + PAGE_SIZE as u64);
-    &rest[..count]
+    let rest = &loaded[count_ending_by(loaded, start)..];
+    &rest[..count_starting_below(rest, start + PAGE_SIZE as u64)]
+}
+
+/// How many segments end at an address or below it, where their ends rise.
+fn count_ending_by(loaded: &[ProgramHeader], address: u64) -> usize
+    requires rising { IsNonDecreasingBy end_of loaded.now }
+    ensures bound { result ≤ length loaded.now }
+    ensures those { IsPartitionPoint (λ segment. end_of segment ≤ address) (λ segment. address < end_of segment) loaded.now result }
+{
+    loaded.partition_point(|segment| segment.end() <= address)
+}
+
+/// How many segments begin below an address, where their addresses rise.
+fn count_starting_below(loaded: &[ProgramHeader], address: u64) -> usize
+    requires rising { IsNonDecreasingBy (λ segment. segment.address) loaded.now }
+    ensures bound { result ≤ length loaded.now }
+    ensures those { IsPartitionPoint (λ segment. segment.address < address) (λ segment. address ≤ segment.address) loaded.now result }
+{
+    loaded.partition_point(|segment| (segment.address as u64) < address)
 }

@@ -1,3 +1,3 @@
 pub mod FrameValue
-pub mod PoolValue
+pub mod FramePoolValue
 pub mod Lending

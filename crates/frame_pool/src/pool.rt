@@ -41,9 +41,9 @@ pub struct FramePool<L: Ledger> {
 
 impl<L: Ledger> Model for FramePool<L> {
     ghost use Rattle.std.specs.Prelude.{◌≡◌, ◌≤◌, vec_len, vec_capacity};
-    ghost use Rattle.frame_pool.specs.PoolValue.{PoolValue};
+    ghost use Rattle.frame_pool.specs.FramePoolValue.{FramePoolValue};
 
-    ghost Value = { PoolValue };
+    ghost Value = { FramePoolValue };
 
     ghost view = { λ p. record { free = p.free.items; size = p.size } };
 
@@ -51,7 +51,7 @@ impl<L: Ledger> Model for FramePool<L> {
 }
 
 impl<L: Ledger> FramePool<L> {
-    ghost use Rattle.frame_pool.specs.PoolValue.{PoolValue, full_pool};
+    ghost use Rattle.frame_pool.specs.FramePoolValue.{FramePoolValue, full_pool};
 
     /// A pool of `size` frames of zero bytes, all free, with the numbers 0 to `size - 1`. The ledger has one part for
     /// each frame, and one for the pool itself.

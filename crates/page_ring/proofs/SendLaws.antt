@@ -1,31 +1,17 @@
 -- A cell that becomes the last and stays in its node.
-use Rattle.std.specs.Prelude.{◌≡◌, ◌≢◌, ℕ, suc, ◌==◌, ◌||◌, Bool, true, false, List, [], ◌∷◌, ◌++◌, length, Option, Some, None, is_some, refl}
+use Rattle.std.specs.Prelude.{◌≡◌, ◌≢◌, ℕ, suc, ◌==◌, true, false, List, [], ◌∷◌, ◌++◌, length, Some, refl}
 use Rattle.std.proofs.Common.{sym, ap, ◌∙◌, subst}
-use Rattle.slab.specs.Slab.{Slab, get, slab_len, ContainsKey}
+use Rattle.std.proofs.Math.Bool.{or-true, or_comm}
+use Rattle.slab.specs.Slab.{Slab, get, slab_len}
 use Rattle.clock_policy.specs.declared.entry.EntryKind.{EntryKind}
 use Rattle.page_ring.specs.declared.links.Node.{Node}
-use Rattle.page_ring.specs.Linked.{Changes, Cell, Circle, is_at, first_at, last_at}
-use Rattle.page_ring.specs.LinkLaws.{same_at, at_self, or_true, not_same, is_at-append, turned}
+use Rattle.page_ring.specs.Linked.{Cell, Circle, is_at, first_at, last_at}
+use Rattle.page_ring.specs.LinkLaws.{at_self, not_same, is_at-append, turned}
 use Rattle.page_ring.specs.Chain.{Held, KindSet, of_kind, mark_step, turn_step, length_with}
-
--- what had a node has one after a change
-pub kept_key : (s t : Slab Node) (at : ℕ) (f : Node → Node) → Changes s t at f → (k : ℕ) → ContainsKey s k → ContainsKey t k
-kept_key s t at f change k there =
-    elim (k == at) as (λ b. (k == at) ≡ b → ContainsKey t k) [
-      | true ↦ λ is. let same : k ≡ at = same_at k at is in subst (ContainsKey t) (sym same) (by_node (get s at) refl (subst (ContainsKey s) same there))
-      | false ↦ λ is. ap is_some (change.others k (off is)) ∙ there
-    ] refl
-  where
-    by_node : (o : Option Node) → get s at ≡ o → is_some o ≡ true → ContainsKey t at
-    by_node None is some = cc
-    by_node (Some node) is some = ap is_some (change.set node is)
-
-    off : (k == at) ≡ false → k ≢ at
-    off is = λ same. let holds : (k == at) ≡ true = ap (λ (n : ℕ). n == at) same ∙ at_self at in cc
 
 there_in : (l v : List Cell) (c : Cell) → is_at (l ++ c ∷ v) c.at ≡ true
 there_in [] v c = rw (at_self c.at) refl
-there_in (d ∷ ds) v c = rw (there_in ds v c) (or_true (d.at == c.at))
+there_in (d ∷ ds) v c = rw (there_in ds v c) (or-true (d.at == c.at))
 
 -- the first becomes the last by a turn
 pub send_front : (s t : Slab Node) (f at : ℕ) (kind : EntryKind) (node : Node) → get s at ≡ Some node → at ≡ f → KindSet s t at kind → ((k : ℕ) → k ≢ at → get t k ≡ get s k) → slab_len t ≡ slab_len s →
@@ -34,11 +20,6 @@ send_front s t f at kind node got here set others len [] v c h is =
     mark_step s t node.next at kind set others len v [] c (turn_step s f node (ap (get s) (sym here) ∙ got) c v h) is
 send_front s t f at kind node got here set others len (d ∷ ds) v c h is =
     absurd (not_same (ds ++ c ∷ v) d.at c.at (h.circle.apart.0) (there_in ds v c) (is ∙ here ∙ sym h.first))
-
-or_comm : (a b : Bool) → a || b ≡ b || a
-or_comm true b = sym (or_true b)
-or_comm false true = refl
-or_comm false false = refl
 
 -- another is passed over and linked behind the last
 pub send_behind : (s t w : Slab Node) (f at : ℕ) (kind : EntryKind) (node : Node) → get s at ≡ Some node → at ≢ f →

@@ -1,12 +1,13 @@
 -- What links stand for: their cells from the front on, how many nodes fit, and which node the next cell gets.
 use Rattle.std.specs.Prelude.{◌≡◌, ◌≢◌, ℕ, zero, suc, ◌+◌, ◌≤◌, Bool, true, false, ◌==◌, ◌||◌, cond, List, [], ◌∷◌, ◌++◌, length, Option, Some, None, refl}
-use Rattle.std.proofs.Common.{arith, sym, ap, ◌∙◌, subst}
+use Rattle.std.proofs.Common.{arith, sym, ap, ◌∙◌, subst, eqb-true, ne_eqb}
+use Rattle.std.proofs.Math.Bool.{or-true}
 use Rattle.slab.specs.Slab.{Slab, get, slab_len, ContainsKey}
 use Rattle.clock_policy.specs.declared.entry.Entry.{Entry}
 use Rattle.clock_policy.specs.declared.entry.EntryKind.{EntryKind}
 use Rattle.page_ring.specs.declared.links.Node.{Node}
 use Rattle.page_ring.specs.Linked.{Cell, first_at, last_at, is_at, DistinctNodes, Linked, Circle}
-use Rattle.page_ring.specs.LinkLaws.{turned, linked_kept, same_at, at_self, or_true, not_same, free_of}
+use Rattle.page_ring.specs.LinkLaws.{turned, linked_kept, at_self, not_same, free_of}
 
 pub record Chain : Type 0 where
   pub cells : List Cell
@@ -51,7 +52,7 @@ pub split : (cs : List Cell) (at : ℕ) → is_at cs at ≡ true → Split cs at
 split [] at h = cc
 split (c ∷ cs) at h =
     elim (c.at == at) as (λ t. (c.at == at) ≡ t → t || is_at cs at ≡ true → Split (c ∷ cs) at) [
-      | true ↦ λ is g. record { before = []; cell = c; behind = cs; parts = refl; is = same_at c.at at is }
+      | true ↦ λ is g. record { before = []; cell = c; behind = cs; parts = refl; is = eqb-true c.at at is }
       | false ↦ λ is g. let e : Split cs at = split cs at g in record { before = c ∷ e.before; cell = e.cell; behind = e.behind; parts = ap (λ (l : List Cell). c ∷ l) e.parts; is = e.is }
     ] refl h
 
@@ -173,10 +174,7 @@ remove_step s t f g at next circle ahead len made u v c h is =
 
     holds : (l : List Cell) → is_at (l ++ c ∷ v) c.at ≡ true
     holds [] = rw (at_self c.at) refl
-    holds (d ∷ ds) = rw (holds ds) (or_true (d.at == c.at))
-
-    differs : (m n : ℕ) → m ≢ n → (m == n) ≡ false
-    differs m n h = elim (m == n) as (λ t. (m == n) ≡ t → t ≡ false) [ true ↦ λ e. absurd (h (same_at m n e)) | false ↦ λ e. refl ] refl
+    holds (d ∷ ds) = rw (holds ds) (or-true (d.at == c.at))
 
     by_front : (u : List Cell) → first_at (u ++ c ∷ v) f ≡ f → DistinctNodes (u ++ c ∷ v) → next ≡ first_at (v ++ u) at → first_at (u ++ v) g ≡ g
     by_front [] first apart e =
@@ -186,7 +184,7 @@ remove_step s t f g at next circle ahead len made u v c h is =
         let there : is_at (ds ++ c ∷ v) c.at ≡ true = holds ds in
         let away : c.at ≢ d.at = not_same (ds ++ c ∷ v) d.at c.at (apart.0) there in
         let off : f ≢ at = λ same. away (is ∙ sym same ∙ sym first) in
-        first ∙ sym (made ∙ ap (λ (t : Bool). cond t next f) (differs f at off))
+        first ∙ sym (made ∙ ap (λ (t : Bool). cond t next f) (ne_eqb f at off))
 
 -- the front becomes the last
 pub turn_step : (s : Slab Node) (f : ℕ) (node : Node) → get s f ≡ Some node → (c : Cell) → (cs : List Cell) → Held s f (c ∷ cs) → Held s node.next (cs ++ c ∷ [])

@@ -1,9 +1,10 @@
 -- An index from a page to its node.
-use Rattle.std.specs.Prelude.{◌≡◌, ◌≤◌, ◌+◌, ◌==◌, ◌&&◌, ◌⊎◌, ℕ, Bool, true, false, cond, List, [], ◌∷◌, ◌++◌, Option, Some, None, refl}
+use Rattle.std.specs.Prelude.{◌≡◌, ◌≤◌, ◌+◌, ◌==◌, ◌⊎◌, ℕ, Bool, true, false, cond, List, [], ◌∷◌, ◌++◌, Option, Some, None, refl}
 use Rattle.std.specs.Option.{option_or}
 use Rattle.std.proofs.Common.{arith, sym, ap, ◌∙◌, subst}
 use Rattle.std.proofs.lemmas.Bool.Decides.{nat_tests}
 use Rattle.std.specs.HashMap.{get_by}
+use Rattle.clock_policy.specs.FindLaws.{option_or-none}
 use Rattle.clock_policy.specs.declared.key.Key.{Key}
 use Rattle.clock_policy.specs.declared.entry.Entry.{Entry}
 use Rattle.clock_policy.specs.declared.entry.EntryKind.{EntryKind}
@@ -12,7 +13,7 @@ use Rattle.clock_policy.specs.CountLaws.{number-append}
 use Rattle.clock_policy.specs.AdmitLaws.{one_key}
 use Rattle.page_ring.specs.Linked.{Cell}
 use Rattle.page_ring.specs.Slots.{same_key, in_slot}
-use Rattle.page_ring.specs.declared.places.Places.{Places}
+use Rattle.page_ring.specs.declared.node_index.NodeIndex.{NodeIndex}
 use Rattle.page_ring.specs.Chain.{of_kind}
 
 abbrev pub entries_of : List Cell → List Entry
@@ -29,11 +30,11 @@ abbrev pub DistinctPages : List Cell → Type 0
 DistinctPages cs = (k : Key) → number (has_key k) (entries_of cs) ≤ 1
 
 -- the node of a page by the index: in its slot, or else in the map
-abbrev pub node_of : Key → Places → Option ℕ
+abbrev pub node_of : Key → NodeIndex → Option ℕ
 node_of k p = option_or (in_slot p.slots.items k) (get_by (same_key k) p.others)
 
 -- no page is in its slot and in the map
-abbrev pub Parted : Places → Type 0
+abbrev pub Parted : NodeIndex → Type 0
 Parted p = (k : Key) → in_slot p.slots.items k ≡ None ⊎ get_by (same_key k) p.others ≡ None
 
 -- look-ups find each page's node, and nothing else
@@ -42,7 +43,7 @@ pub record FindsNodes (cs : List Cell) (look : Key → Option ℕ) : Type 0 wher
   pub distinct : DistinctPages cs
 
 -- the index finds each page's node
-pub record Indexed (cs : List Cell) (p : Places) : Type 0 where
+pub record Indexed (cs : List Cell) (p : NodeIndex) : Type 0 where
   pub indexes : FindsNodes cs (λ k. node_of k p)
   pub parted : Parted p
 
@@ -61,14 +62,6 @@ at_of-append : (k : Key) (a b : List Cell) → at_of k (a ++ b) ≡ option_or (a
 at_of-append k [] b = refl
 at_of-append k (c ∷ cs) b =
     elim (has_key k c.entry) as (λ t. cond t (Some c.at) (at_of k (cs ++ b)) ≡ option_or (cond t (Some c.at) (at_of k cs)) (at_of k b)) [ true ↦ refl | false ↦ at_of-append k cs b ]
-
-or_none : (a : Option ℕ) → option_or a None ≡ a
-or_none None = refl
-or_none (Some n) = refl
-
-or_assoc : (a b c : Option ℕ) → option_or (option_or a b) c ≡ option_or a (option_or b c)
-or_assoc None b c = refl
-or_assoc (Some n) b c = refl
 
 pub none_at : (k : Key) (cs : List Cell) → number (has_key k) (entries_of cs) ≡ 0 → at_of k cs ≡ None
 none_at k [] h = refl
@@ -89,7 +82,7 @@ at_none k (c ∷ cs) h =
 swapped : (k : Key) (a b : List Cell) → number (has_key k) (entries_of a) + number (has_key k) (entries_of b) ≤ 1 → option_or (at_of k a) (at_of k b) ≡ option_or (at_of k b) (at_of k a)
 swapped k a b h =
     elim (at_of k a) as (λ o. at_of k a ≡ o → option_or o (at_of k b) ≡ option_or (at_of k b) o) [
-      | None ↦ λ is. sym (or_none (at_of k b))
+      | None ↦ λ is. sym (option_or-none (at_of k b))
       | Some n ↦ λ is. rw (none_at k b (other is)) refl
     ] refl
   where
@@ -137,7 +130,7 @@ append_at k cs c free =
     at_of-append k cs (c ∷ [])
     ∙ elim (has_key k c.entry) as (λ t. has_key k c.entry ≡ t → option_or (at_of k cs) (cond t (Some c.at) None) ≡ cond t (Some c.at) (at_of k cs)) [
       | true ↦ λ is. rw (none is) refl
-      | false ↦ λ is. or_none (at_of k cs)
+      | false ↦ λ is. option_or-none (at_of k cs)
     ] refl
   where
     parts : (k : Key) (e : Entry) → has_key k e ≡ true → (k.process ≡ e.key.process) × (k.vpn ≡ e.key.vpn)
@@ -152,9 +145,6 @@ turn_at k a b one =
     at_of-append k b a ∙ sym (swapped k a b (omega (arith, one, both))) ∙ sym (at_of-append k a b)
 
 -- The index after a change.
-
-same_keys : (k q : Key) (e : Entry) → e.key ≡ k → has_key q e ≡ same_key k q
-same_keys k q e h = ap (λ (x : Key). (x.process == q.process) && (x.vpn == q.vpn)) h
 
 pub index_mark : (look : Key → Option ℕ) (kind : EntryKind) (u v : List Cell) (c : Cell) → FindsNodes (u ++ c ∷ v) look → FindsNodes (u ++ of_kind kind c ∷ v) look
 index_mark look kind u v c h = record {

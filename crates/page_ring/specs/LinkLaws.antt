@@ -1,7 +1,9 @@
 -- What happens to a circle when a node is taken out, put in or changed.
-use Rattle.std.specs.Prelude.{◌≡◌, ◌≢◌, ℕ, Bool, true, false, ◌==◌, ◌||◌, List, [], ◌∷◌, ◌++◌, Some, None, refl}
-use Rattle.std.proofs.Common.{arith, sym, ap, ◌∙◌, subst}
+use Rattle.std.specs.Prelude.{◌≡◌, ◌≢◌, ℕ, true, false, ◌==◌, ◌||◌, List, [], ◌∷◌, ◌++◌, Some, None, refl}
+use Rattle.std.proofs.Common.{arith, sym, ap, ◌∙◌, subst, eqb-true}
 use Rattle.std.proofs.lemmas.Bool.Decides.{nat_tests}
+use Rattle.std.proofs.Math.Bool.{or-true, or_comm}
+use Rattle.std.proofs.lemmas.Bool.{or_parts}
 use Rattle.slab.specs.Slab.{Slab, get}
 use Rattle.clock_policy.specs.declared.entry.Entry.{Entry}
 use Rattle.page_ring.specs.declared.links.Node.{Node}
@@ -34,14 +36,10 @@ linked_both s p (c ∷ cs) b n h g = (rw (first-append cs b n) (h.0), linked_bot
 pub at_self : (n : ℕ) → (n == n) ≡ true
 at_self n = grind (arith, nat_tests)
 
-pub or_true : (b : Bool) → b || true ≡ true
-or_true true = refl
-or_true false = refl
-
 pub linked_kept : (s t : Slab Node) (p : ℕ) (cs : List Cell) (n : ℕ) → ((k : ℕ) → is_at cs k ≡ true → get t k ≡ get s k) → Linked s p cs n → Linked t p cs n
 linked_kept s t p [] n same h = tt
 linked_kept s t p (c ∷ cs) n same h =
-    (same c.at (rw (at_self c.at) refl) ∙ h.0, linked_kept s t c.at cs n (λ k there. same k (rw there (or_true (c.at == k)))) (h.1))
+    (same c.at (rw (at_self c.at) refl) ∙ h.0, linked_kept s t c.at cs n (λ k there. same k (rw there (or-true (c.at == k)))) (h.1))
 
 -- Keys of nodes.
 
@@ -49,12 +47,6 @@ pub is_at-append : (a b : List Cell) (k : ℕ) → is_at (a ++ b) k ≡ is_at a 
 is_at-append [] b k = refl
 is_at-append (c ∷ cs) b k =
     elim (c.at == k) as (λ t. t || is_at (cs ++ b) k ≡ (t || is_at cs k) || is_at b k) [ true ↦ refl | false ↦ is_at-append cs b k ]
-
-pub same_at : (m n : ℕ) → (m == n) ≡ true → m ≡ n
-same_at m n h = grind (arith, nat_tests)
-
-other_at : (m n : ℕ) → (m == n) ≡ false → m ≢ n
-other_at m n h = grind (arith, nat_tests)
 
 -- A link that changes.
 
@@ -102,7 +94,7 @@ alone_last [] c h = refl
 alone_last (d ∷ ds) c h =
     elim (d.at == c.at) as (λ t. (d.at == c.at) ≡ t → t || is_at ds c.at ≡ false) [
       | true ↦ λ is.
-          let there : is_at (ds ++ c ∷ []) d.at ≡ true = is_at-append ds (c ∷ []) d.at ∙ rw (same_at d.at c.at is, at_self c.at) (or_true (is_at ds c.at)) in
+          let there : is_at (ds ++ c ∷ []) d.at ≡ true = is_at-append ds (c ∷ []) d.at ∙ rw (eqb-true d.at c.at is, at_self c.at) (or-true (is_at ds c.at)) in
           let gone : is_at (ds ++ c ∷ []) d.at ≡ false = h.0 in
           cc
       | false ↦ λ is. alone_last ds c (h.1)
@@ -162,13 +154,13 @@ pub free_of : (s : Slab Node) (p : ℕ) (cs : List Cell) (n k : ℕ) → Linked 
 free_of s p [] n k h free = refl
 free_of s p (c ∷ cs) n k h free =
     elim (c.at == k) as (λ t. (c.at == k) ≡ t → t || is_at cs k ≡ false) [
-      | true ↦ λ is. let same : c.at ≡ k = same_at c.at k is in let held : get s k ≡ Some (record { entry = c.entry; next = first_at cs n; previous = p }) = ap (get s) (sym same) ∙ h.0 in cc
+      | true ↦ λ is. let same : c.at ≡ k = eqb-true c.at k is in let held : get s k ≡ Some (record { entry = c.entry; next = first_at cs n; previous = p }) = ap (get s) (sym same) ∙ h.0 in cc
       | false ↦ λ is. free_of s c.at cs n k (h.1) free
     ] refl
 
 end_in : (p : ℕ) (d : Cell) (ds : List Cell) → is_at (d ∷ ds) (last_at p (d ∷ ds)) ≡ true
 end_in p d [] = rw (at_self d.at) refl
-end_in p d (e ∷ es) = rw (end_in d.at e es) (or_true (d.at == last_at e.at es))
+end_in p d (e ∷ es) = rw (end_in d.at e es) (or-true (d.at == last_at e.at es))
 
 -- A node outside the circle becomes the last before the first.
 pub linked_in : (s t u w : Slab Node) (c d : Cell) (ds : List Cell) → Circle s (d ∷ ds) → is_at (d ∷ ds) c.at ≡ false →
@@ -186,19 +178,11 @@ linked_in s t u w c d ds h alone put others ahead back =
       apart = apart_behind (d ∷ ds) c h.apart alone;
     }
 
-apart_parts : (a b : List Cell) → DistinctNodes (a ++ b) → DistinctNodes b
-apart_parts [] b h = h
-apart_parts (c ∷ cs) b h = apart_parts cs b (h.1)
-
-or_nothing : (a b : Bool) → a || b ≡ false → (a ≡ false) × (b ≡ false)
-or_nothing true b h = cc
-or_nothing false b h = (refl, h)
-
 apart_between : (c : Cell) (a b : List Cell) → DistinctNodes (a ++ b) → is_at (a ++ b) c.at ≡ false → DistinctNodes (a ++ c ∷ b)
 apart_between c [] b h alone = (alone, h)
 apart_between c (d ∷ ds) b h alone =
-    let parts : ((d.at == c.at) ≡ false) × (is_at (ds ++ b) c.at ≡ false) = or_nothing (d.at == c.at) (is_at (ds ++ b) c.at) alone in
-    let away : (is_at ds d.at ≡ false) × (is_at b d.at ≡ false) = or_nothing (is_at ds d.at) (is_at b d.at) (sym (is_at-append ds b d.at) ∙ h.0) in
+    let parts : ((d.at == c.at) ≡ false) × (is_at (ds ++ b) c.at ≡ false) = or_parts (d.at == c.at) (is_at (ds ++ b) c.at) alone in
+    let away : (is_at ds d.at ≡ false) × (is_at b d.at ≡ false) = or_parts (is_at ds d.at) (is_at b d.at) (sym (is_at-append ds b d.at) ∙ h.0) in
     (is_at-append ds (c ∷ b) d.at ∙ rw (away.0, not_back d.at c.at (parts.0)) (away.1), apart_between c ds b (h.1) (parts.1))
   where
     not_back : (m n : ℕ) → (m == n) ≡ false → (n == m) ≡ false
@@ -211,11 +195,6 @@ apart_turned [] b h = subst DistinctNodes (sym (nil_behind b)) h
     nil_behind [] = refl
     nil_behind (c ∷ cs) = ap (λ (l : List Cell). c ∷ l) (nil_behind cs)
 apart_turned (c ∷ cs) b h = apart_between c b cs (apart_turned cs b (h.1)) (is_at-append b cs c.at ∙ or_comm (is_at b c.at) (is_at cs c.at) ∙ sym (is_at-append cs b c.at) ∙ h.0)
-  where
-    or_comm : (a b : Bool) → a || b ≡ b || a
-    or_comm true b = sym (or_true b)
-    or_comm false true = refl
-    or_comm false false = refl
 
 -- A circle may begin anywhere.
 pub turned : (s : Slab Node) (a b : List Cell) → Circle s (a ++ b) → Circle s (b ++ a)
@@ -253,6 +232,12 @@ unlinked_at s t u w node at held others ahead back c cs is h =
     (subst (λ (n : Node). Changes t u n.previous (with_next n.next)) one ahead)
     (subst (λ (n : Node). Changes u w n.next (with_previous n.previous)) one back)
 
+-- a node with its links told by other names
+node_is : (t : Slab Node) (at front next previous last : ℕ) (entry : Entry) → get t at ≡ Some (record { entry = entry; next = front; previous = previous }) → next ≡ front → previous ≡ last →
+    get t at ≡ Some (record { entry = entry; next = next; previous = last })
+node_is t at front next previous last entry put first end =
+    put ∙ ap (λ (n : ℕ). Some (record { entry = entry; next = n; previous = previous })) (sym first) ∙ ap (λ (n : ℕ). Some (record { entry = entry; next = next; previous = n })) end
+
 pub linked_again : (s t u w : Slab Node) (node : Node) (front at : ℕ) (entry : Entry) → get s front ≡ Some node →
     get t at ≡ Some (record { entry = entry; next = front; previous = node.previous }) → ((k : ℕ) → k ≢ at → get t k ≡ get s k) →
     Changes t u node.previous (with_next at) → Changes u w front (with_previous at) →
@@ -264,7 +249,7 @@ linked_again s t u w node front at entry held put others ahead back d ds is alon
     let one : node ≡ record { entry = d.entry; next = first_at ds d.at; previous = last_at d.at ds } = cc in
     let end : node.previous ≡ last_at d.at ds = ap (λ (n : Node). n.previous) one in
     linked_in s t u w (record { at = at; entry = entry }) d ds h alone
-    (put ∙ ap (λ (n : ℕ). Some (record { entry = entry; next = n; previous = node.previous })) (sym is) ∙ ap (λ (n : ℕ). Some (record { entry = entry; next = d.at; previous = n })) end)
+    (node_is t at front d.at node.previous (last_at d.at ds) entry put is end)
     others
     (subst (λ (n : ℕ). Changes t u n (with_next at)) end ahead)
     (subst (λ (n : ℕ). Changes u w n (with_previous at)) (sym is) back)

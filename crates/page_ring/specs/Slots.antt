@@ -1,7 +1,7 @@
 -- A table of slots: each page has one, which holds its node or another page's.
 use Rattle.std.specs.Prelude.{ℕ, ◌+◌, ◌-◌, ◌*◌, ◌%◌, ◌^◌, ◌==◌, ◌&&◌, Bool, cond, List, length, Option, Some, None, slice_index_or, bit_and}
 use Rattle.clock_policy.specs.declared.key.Key.{Key}
-use Rattle.page_ring.specs.declared.places.Place.{Place}
+use Rattle.page_ring.specs.declared.node_index.IndexedNode.{IndexedNode}
 
 abbrev pub same_key : Key → Key → Bool
 same_key k q = (k.process == q.process) && (k.vpn == q.vpn)
@@ -11,9 +11,9 @@ unfoldable pub index_slot : Key → ℕ → ℕ
 index_slot k n = bit_and ((k.vpn + k.process * 0x9E37_79B9 % 2 ^ 32) % 2 ^ 32) (n - 1)
 
 -- what a slot tells of a page
-abbrev pub held : Option Place → Key → Option ℕ
+abbrev pub held : Option IndexedNode → Key → Option ℕ
 held None k = None
 held (Some p) k = cond (same_key p.key k) (Some p.at) None
 
-abbrev pub in_slot : List (Option Place) → Key → Option ℕ
+abbrev pub in_slot : List (Option IndexedNode) → Key → Option ℕ
 in_slot slots k = held (slice_index_or slots (index_slot k (length slots)) None) k

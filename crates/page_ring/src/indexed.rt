@@ -6,7 +6,7 @@ ghost use Rattle.page_ring.specs.Chain.{of_kind, Rotates};
 ghost use Rattle.page_ring.specs.Index.{DistinctPages, at_of};
 
 use crate::links::{Links, Node};
-use crate::places::Places;
+use crate::node_index::NodeIndex;
 use clock_policy::{Entry, EntryKind, Key};
 use std::alloc::{AllocError, Global};
 use std::marker::Model;
@@ -15,7 +15,7 @@ use std::marker::Model;
 #[derive(Drop)]
 pub struct IndexedRing {
     links: Links,
-    places: Places,
+    index: NodeIndex,
 }
 
 impl Model for IndexedRing {
@@ -26,7 +26,7 @@ impl Model for IndexedRing {
 
     ghost view = { λ r. r.links };
 
-    ghost invariant = { λ r. Indexed r.links.cells r.places };
+    ghost invariant = { λ r. Indexed r.links.cells r.index };
 }
 
 impl IndexedRing {
@@ -36,8 +36,8 @@ impl IndexedRing {
         ensures room { IfOk result (λ ring. room ≤ ring.room) }
     {
         let links = Links::new(alloc, room)?;
-        let places = Places::new(alloc, room)?;
-        Ok(IndexedRing { links, places })
+        let index = NodeIndex::new(alloc, room)?;
+        Ok(IndexedRing { links, index })
     }
 
     /// How many entries there are.
@@ -46,7 +46,7 @@ impl IndexedRing {
         ensures apart { DistinctNodes self.now.cells }
         ensures distinct { DistinctPages self.now.cells }
     {
-        let _ = &self.places;
+        let _ = &self.index;
         self.links.len()
     }
 
@@ -71,7 +71,7 @@ impl IndexedRing {
     pub fn find(&self, key: Key) -> Option<usize>
         ensures { result ≡ at_of key self.now.cells }
     {
-        self.places.find(key)
+        self.index.find(key)
     }
 
     /// Gives an entry another kind, where it stands.
@@ -106,7 +106,7 @@ impl IndexedRing {
         ensures err { OnErr result (self.new ≡ self.old) }
     {
         let at = self.links.vacant();
-        self.places.insert(entry.key, at)?;
+        self.index.insert(entry.key, at)?;
         self.links.append(entry);
         Ok(at)
     }
@@ -120,7 +120,7 @@ impl IndexedRing {
     {
         let key = self.links.node(at).entry.key;
         self.links.remove(at);
-        self.places.remove(key);
+        self.index.remove(key);
     }
 
     /// An entry becomes the last, of this kind, and stays in its node.

@@ -4,7 +4,7 @@
 
 mod indexed;
 mod links;
-mod places;
+mod node_index;
 
 pub use indexed::IndexedRing;
 pub use links::Node;

@@ -75,6 +75,7 @@ backed held origin NoSlot = origin
 backed held origin (Unsaved slot) = origin
 backed held origin (Saved slot) = held slot
 
+-- the backing of a page: the bytes that it would show if it lost its frame now
 abbrev pub backing_at : {S : Type 0} → (S → List ℕ) → List ℕ → Place S → List ℕ
 backing_at held origin Fresh = origin
 backing_at held origin (Resident frame slot) = backed held origin slot
@@ -107,10 +108,6 @@ Known honest (Leaving frame slot mark) = Unit {0}
 Known honest (Saving frame) = Unit {0}
 Known honest (Away slot) = honest
 Known honest Purged = Unit {0}
-
--- the backing of a page: the bytes that it would show if it lost its frame now
-abbrev pub backing : {S : Type 0} → (S → List ℕ) → PageValue S → List ℕ
-backing held page = backing_at held page.origin.bytes page.place
 
 -- a page that does not count as changed equals its backing
 abbrev pub BackedAt : {S : Type 0} → (S → List ℕ) → List ℕ → Bool → Place S → Type 0

@@ -1,6 +1,6 @@
 -- What the commands that run a machine come to.
 use Rattle.std.specs.Prelude.{ℕ, ⊤, List, Option, replicate}
-use Rattle.swap_slots.specs.Slot.{zero_bytes}
+use Rattle.swap_slots.specs.Slot.{zero_content}
 use Rattle.machine_core.specs.Applying.{Runs, LeadsTo}
 use Rattle.machine_core.specs.Headline.{PagingIsInvisible}
 use Rattle.machine_core.specs.Machine.{CoreValue}
@@ -24,7 +24,7 @@ never slot = 0
 
 -- the machine before its first event
 abbrev pub IsNew : ℕ → ℕ → List Start → CoreValue Slot → Type 0
-IsNew frames slots starts core = MachineBegins frames (replicate slots zero_bytes) starts core
+IsNew frames slots starts core = MachineBegins frames (replicate slots zero_content) starts core
 
 -- a script, by its lines, on a new machine: the replies to the events above its first bad line, whose number is told
 pub record Plays (frames slots : ℕ) (starts : List Start) (lines : List (List ℕ)) (replies : List Reply) (bad_line : Option ℕ) : Type 0 where

@@ -3,7 +3,7 @@
 ghost use Rattle.std.specs.Prelude.{◌≡◌, ◌+◌, ◌≤◌, IfOk, length, map, replicate};
 ghost use Rattle.machine_sides.specs.Starting.{start_of};
 ghost use Rattle.machine_core.specs.Opening.{MachineBegins};
-ghost use Rattle.swap_slots.specs.Slot.{zero_bytes};
+ghost use Rattle.swap_slots.specs.Slot.{zero_content};
 
 use clock_ring::ClockRing;
 use elf_image::Image;
@@ -26,7 +26,7 @@ pub fn new_machine<L: Ledger>(
     requires least { 4 ≤ frames }
     requires most { frames ≤ 4096 }
     requires few { length processes.items ≤ 16 }
-    ensures { IfOk result (λ core. MachineBegins frames (replicate slots zero_bytes) (map (λ start. start_of start.0 start.1.items) processes.items) core) }
+    ensures { IfOk result (λ core. MachineBegins frames (replicate slots zero_content) (map (λ start. start_of start.0 start.1.items) processes.items) core) }
 {
     let slots = memory_slots(alloc, slots)?;
     match Core::new(alloc, frames, blank, slots, processes) {
@@ -38,7 +38,7 @@ pub fn new_machine<L: Ledger>(
 /// So many slots in memory.
 #[tactic(auto, using(crate::proofs::Slots::one_more, crate::proofs::Slots::as_many))]
 fn memory_slots(alloc: Global, count: u32) -> Result<Vec<MemorySlot>, AllocError>
-    ensures { IfOk result (λ slots. slots.items ≡ replicate count zero_bytes) }
+    ensures { IfOk result (λ slots. slots.items ≡ replicate count zero_content) }
 {
     let wanted = count as usize;
     let mut slots = Vec::new(alloc);

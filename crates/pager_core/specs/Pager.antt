@@ -1,7 +1,7 @@
 -- The frames that are free and the replacement list, together: what each call of the pager does to both.
 use Rattle.std.specs.Prelude.{ℕ, ◌+◌, ◌-◌, ◌^◌, ◌||◌, Bool, true, false, not, min, List, [], ◌∷◌, Option, Some, None, Result, Ok, Err, if◌then◌else◌}
 use Rattle.frame_pool.specs.FrameValue.{FrameValue}
-use Rattle.frame_pool.specs.PoolValue.{full_pool}
+use Rattle.frame_pool.specs.FramePoolValue.{full_pool}
 use Rattle.clock_policy.specs.declared.key.Key.{Key}
 use Rattle.clock_policy.specs.declared.entry.EntryKind.{EntryKind}
 use Rattle.clock_policy.specs.declared.answer.Bit.{Bit}

@@ -1,5 +1,5 @@
 -- Labels, parts and lines one after another.
-use Rattle.std.proofs.Common.{◌≡◌, ℕ, ◌+◌, List, [], ◌∷◌, Result, Ok, Err, refl, sym, ap, ◌∙◌, arith, length}
+use Rattle.std.proofs.Common.{◌≡◌, ℕ, ◌+◌, List, [], ◌∷◌, Result, Ok, Err, sym, ap, ◌∙◌}
 use Rattle.asm_lines.specs.declared.fault.FaultKind.{FaultKind}
 use Rattle.asm_lines.specs.declared.fault.Refusal.{Refusal}
 use Rattle.asm_lines.specs.declared.fault.Refusal.TheVariants.{Fault, NoMemory}
@@ -54,10 +54,6 @@ lines_stop before progress kind text below lines are is =
 pub lines_refuse : (before : ℕ) (progress : Progress) (all : Result Progress FaultAt) (text : List ℕ) (below lines : List (List ℕ)) (refusal : Refusal) → lines ≡ text ∷ below → with_lines before progress lines ≡ all → RefusesLine (with_line (before + 1) progress text) refusal → Fails all (error_on (before + 1) refusal)
 lines_refuse before progress all text below lines (Fault kind) are same is = sym same ∙ lines_stop before progress kind text below lines are is
 lines_refuse before progress all text below lines NoMemory are same is = tt
-
-pub no_items : {A : Type 0} (xs : List A) → length xs ≡ 0 → xs ≡ []
-no_items [] e = refl
-no_items (x ∷ xs) e = absurd (omega arith)
 
 pub lines_end : (before : ℕ) (progress : Progress) (lines : List (List ℕ)) → lines ≡ [] → with_lines before progress lines ≡ Ok progress
 unfolding with_lines

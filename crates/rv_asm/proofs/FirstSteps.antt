@@ -19,9 +19,9 @@ pub label_new : (progress : Progress) (name : List ℕ) → is_some (label_place
 unfolding with_label
 label_new progress name there = rw there refl
 
-pub none_there : {A : Type 0} (o : Option A) → is_some o ≡ false → o ≡ None
-none_there None e = refl
-none_there (Some x) e = cc
+pub none_unless_some : {A : Type 0} (o : Option A) → is_some o ≡ false → o ≡ None
+none_unless_some None e = refl
+none_unless_some (Some x) e = cc
 
 pub item_fits : (progress : Progress) (item : Item) (text bytes : ℕ) → text ≡ size Text progress.items → bytes ≡ size Data progress.items → text + item_length Text item ≤ 262144 → bytes + item_length Data item ≤ 1048576 → with_item progress item ≡ Ok (record progress { items = progress.items ++ item ∷ [] })
 unfolding with_item

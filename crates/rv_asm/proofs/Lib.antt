@@ -3,6 +3,7 @@ pub mod FirstLoops
 pub mod FirstSteps
 pub mod LabelLaws
 pub mod LineLaws
+pub mod ListLemmas
 pub mod OneFault
 pub mod OneListing
 pub mod PagesPass

@@ -11,7 +11,7 @@ use Rattle.asm_statements.specs.declared.part.Code.{Code}
 use Rattle.asm_statements.specs.declared.part.Datum.{Datum}
 use Rattle.rv_asm.specs.declared.item.Item.{Item}
 use Rattle.rv_asm.specs.declared.item.Item.TheVariants.{Label, InText, InData}
-use Rattle.asm_lines.specs.Forms.{Line}
+use Rattle.asm_lines.specs.Forms.{SourceLine}
 use Rattle.asm_statements.specs.Effects.{StatementEffect, Enter, Text as TextEffect, Data as DataEffect}
 use Rattle.asm_lines.specs.Lines.{line_form}
 use Rattle.rv_asm.specs.Steps.{FaultAt, chained, on_line}
@@ -21,7 +21,7 @@ use Rattle.rv_asm.specs.LineEffects.{line_effect}
 use Rattle.rv_asm.specs.Assembly.{Says, section_after, parts_of, items_of, Tells, Lacks, DistinctLabels, Fits, HasProgram, LineFault, form, statement, twice, long}
 use Rattle.rv_asm.proofs.Places.{size_append}
 use Rattle.rv_asm.proofs.LabelLaws.{lacks_none, none_from_lacks}
-use Rattle.rv_asm.proofs.FirstSteps.{none_there}
+use Rattle.rv_asm.proofs.FirstSteps.{none_unless_some}
 
 -- ---- labels
 
@@ -67,7 +67,7 @@ labels_said p (name ∷ names) = by_test (is_some (label_place p.items name)) re
     all = append_assoc p.items (Label p.section name ∷ []) (map (Label p.section) names)
 
     later : (r : Result Progress FaultKind) → is_some (label_place p.items name) ≡ false → LabelsSaid (record p { items = p.items ++ Label p.section name ∷ [] }) names r → LabelsSaid p (name ∷ names) r
-    later (Ok q) new rest = (rest.0, rest.1 ∙ all, λ d. rest.2 (distinct_push p.items p.section name d (lacks_none p.items name (none_there (label_place p.items name) new))))
+    later (Ok q) new rest = (rest.0, rest.1 ∙ all, λ d. rest.2 (distinct_push p.items p.section name d (lacks_none p.items name (none_unless_some (label_place p.items name) new))))
     later (Err kind) new rest = (rest.0, λ d. rest.1 (subst DistinctLabels (sym all) d))
 
     by_test : (b : Bool) → is_some (label_place p.items name) ≡ b → LabelsSaid (record p { items = p.items ++ Label p.section name ∷ [] }) names (with_labels (record p { items = p.items ++ Label p.section name ∷ [] }) names) → LabelsSaid p (name ∷ names) (chained (λ more. with_labels more names) (unless_there b p name))
@@ -224,11 +224,11 @@ pub line_said : (number : ℕ) (p : Progress) (text : List ℕ) → LineSaid num
 unfolding with_line
 line_said number p text = by_form (line_form text) refl
   where
-    by_effect : (line : Line) (e : Result StatementEffect FaultKind) → line_form text ≡ Ok line → line_effect p.section line ≡ e → LineSaid number p text (chained (with_reading number p line.labels) e)
+    by_effect : (line : SourceLine) (e : Result StatementEffect FaultKind) → line_form text ≡ Ok line → line_effect p.section line ≡ e → LineSaid number p text (chained (with_reading number p line.labels) e)
     by_effect line (Ok effect) is does = reading_said number p text line.labels effect (record { line = line; form = is; named = refl; does = does })
     by_effect line (Err kind) is does = λ d. statement line is does
 
-    by_form : (r : Result Line FaultKind) → line_form text ≡ r → LineSaid number p text (chained (with_form number p) r)
+    by_form : (r : Result SourceLine FaultKind) → line_form text ≡ r → LineSaid number p text (chained (with_form number p) r)
     by_form (Ok line) is = by_effect line (line_effect p.section line) is refl
     by_form (Err kind) is = λ d. form is
 

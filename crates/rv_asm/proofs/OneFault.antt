@@ -8,6 +8,7 @@ use Rattle.rv_isa.specs.Operands.{IsBranchOffset, IsJumpOffset}
 use Rattle.asm_lines.specs.declared.fault.FaultKind.{FaultKind}
 use Rattle.asm_lines.specs.declared.fault.FaultKind.TheVariants.{Empty}
 use Rattle.std.specs.Result.{IfOk, IfErr}
+use Rattle.rv_asm.proofs.ListLemmas.{Apart, one_place, first_above, second_above, two_cuts}
 use Rattle.rv_asm.specs.declared.fault.AsmError.{AsmError}
 use Rattle.rv_asm.specs.declared.fault.AsmError.TheVariants.{Fault, NoMemory}
 use Rattle.asm_statements.specs.declared.section.Section.{Section}
@@ -19,7 +20,7 @@ use Rattle.asm_statements.specs.declared.part.Datum.TheVariants.{Word, Pointer, 
 use Rattle.rv_asm.specs.declared.item.Item.{Item}
 use Rattle.rv_asm.specs.declared.item.Item.TheVariants.{Label, InText, InData}
 use Rattle.rv_asm.specs.declared.word.TextWord.{TextWord}
-use Rattle.asm_lines.specs.Forms.{Line}
+use Rattle.asm_lines.specs.Forms.{SourceLine}
 use Rattle.asm_statements.specs.Effects.{StatementEffect}
 use Rattle.text_lines.specs.Text.{lines_of}
 use Rattle.rv_asm.specs.Steps.{FaultAt, Fails, chained, map_value}
@@ -30,7 +31,7 @@ use Rattle.rv_asm.specs.SecondPass.{Sections, second_pass}
 use Rattle.rv_asm.specs.Listing.{Assembly, ListingContent, ListsTold, unless_empty, laid_out, assembled}
 use Rattle.rv_asm.specs.Assembly.{Says, section_after, parts_of, items_of, Tells, Lacks, DistinctLabels, HasAddress, Fits, HasProgram, PutsWords, PutsBytes, HasPut, code_label, datum_label, TooFar, PartFault, no_label, no_datum_label, too_far, LineFault, form, statement, twice, long, FirstFault, in_line, no_text, in_part}
 use Rattle.rv_asm.proofs.LineLaws.{LinesSaid, LinesStop, lines_said, program_read, lacks_label, fits_front}
-use Rattle.rv_asm.proofs.PartLaws.{holds, StopsAt, stops}
+use Rattle.rv_asm.proofs.PartLaws.{pass_holds, PassStops, pass_stops}
 
 -- ---- labels
 
@@ -57,8 +58,8 @@ one_address items name one other d a b = some_same (sym (address_is items name o
     some_same : {x y : ℕ} → Some x ≡ Some y → x ≡ y
     some_same e = cc
 
-nowhere : (items : List Item) (name : List ℕ) (address : ℕ) → Lacks items name → HasAddress items name address → ⊥
-nowhere items name address lacks has = lacks_label has.front has.back has.section name (subst (λ l. Lacks l name) has.stands lacks)
+no_address_of_lacking : (items : List Item) (name : List ℕ) (address : ℕ) → Lacks items name → HasAddress items name address → ⊥
+no_address_of_lacking items name address lacks has = lacks_label has.front has.back has.section name (subst (λ l. Lacks l name) has.stands lacks)
 
 -- ---- parts
 
@@ -103,11 +104,11 @@ unfolding HasPut
 no_part_fault items front item line kind d has (no_label code name is names lacks k) =
     let p : (words : List TextWord) × PutsWords items (0x10000 + size Text front) code words = subst (HasPut items front) is has in
     let a = code_address items (0x10000 + size Text front) code p.0 name p.1 names in
-    nowhere items name a.0 lacks a.1
+    no_address_of_lacking items name a.0 lacks a.1
 no_part_fault items front item line kind d has (no_datum_label datum name is names lacks k) =
     let p : (bytes : List ℕ) × PutsBytes items datum bytes = subst (HasPut items front) is has in
     let a = datum_address items datum p.0 name p.1 names in
-    nowhere items name a.0 lacks a.1
+    no_address_of_lacking items name a.0 lacks a.1
 no_part_fault items front item line kind d has (too_far code is beyond k) =
     let p : (words : List TextWord) × PutsWords items (0x10000 + size Text front) code words = subst (HasPut items front) is has in
     far_or_put items (0x10000 + size Text front) code p.0 d p.1 beyond
@@ -119,7 +120,7 @@ one_part_fault items here item line other kind another (no_label code name is na
     let e : InText line code ≡ InText other code2 = sym is ∙ is2 in
     let same : code ≡ code2 = cc in
     let a = far_address items here code2 name beyond (ap code_label (sym same) ∙ names) in
-    absurd (nowhere items name a.0 lacks a.1)
+    absurd (no_address_of_lacking items name a.0 lacks a.1)
 one_part_fault items here item line other kind another (no_datum_label datum name is names lacks k) (no_label code name2 is2 names2 lacks2 k2) = let e : InData line datum ≡ InText other code = sym is ∙ is2 in cc
 one_part_fault items here item line other kind another (no_datum_label datum name is names lacks k) (no_datum_label datum2 name2 is2 names2 lacks2 k2) = let e : InData line datum ≡ InData other datum2 = sym is ∙ is2 in (cc, k ∙ sym k2)
 one_part_fault items here item line other kind another (no_datum_label datum name is names lacks k) (too_far code2 is2 beyond k2) = let e : InData line datum ≡ InText other code2 = sym is ∙ is2 in cc
@@ -127,33 +128,9 @@ one_part_fault items here item line other kind another (too_far code is beyond k
     let e : InText line code ≡ InText other code2 = sym is ∙ is2 in
     let same : code ≡ code2 = cc in
     let a = far_address items here code name2 beyond (ap code_label same ∙ names2) in
-    absurd (nowhere items name2 a.0 lacks2 a.1)
+    absurd (no_address_of_lacking items name2 a.0 lacks2 a.1)
 one_part_fault items here item line other kind another (too_far code is beyond k) (no_datum_label datum name2 is2 names2 lacks2 k2) = let e : InText line code ≡ InData other datum = sym is ∙ is2 in cc
 one_part_fault items here item line other kind another (too_far code is beyond k) (too_far code2 is2 beyond2 k2) = let e : InText line code ≡ InText other code2 = sym is ∙ is2 in (cc, k ∙ sym k2)
-
--- ---- two places in one list
-
-data Apart {A : Type 0} (front : List A) (x : A) (above : List A) (y : A) : Type 0 where
-  same : front ≡ above → x ≡ y → Apart front x above y
-  first : (between : List A) → above ≡ front ++ x ∷ between → Apart front x above y
-  second : (between : List A) → front ≡ above ++ y ∷ between → Apart front x above y
-
-pub cons_head : {A : Type 0} (x y : A) (xs ys : List A) → x ∷ xs ≡ y ∷ ys → x ≡ y
-cons_head x y xs ys e = cc
-
-pub cons_tail : {A : Type 0} (x y : A) (xs ys : List A) → x ∷ xs ≡ y ∷ ys → xs ≡ ys
-cons_tail x y xs ys e = cc
-
-apart : {A : Type 0} (front back above below : List A) (x y : A) → front ++ x ∷ back ≡ above ++ y ∷ below → Apart front x above y
-apart [] back [] below x y e = same refl (cons_head x y back below e)
-apart [] back (z ∷ above) below x y e = first above (ap (λ w. w ∷ above) (sym (cons_head x z back (above ++ y ∷ below) e)))
-apart (w ∷ front) back [] below x y e = second front (ap (λ v. v ∷ front) (cons_head w y (front ++ x ∷ back) below e))
-apart (w ∷ front) back (z ∷ above) below x y e = by_rest (apart front back above below x y (cons_tail w z (front ++ x ∷ back) (above ++ y ∷ below) e))
-  where
-    by_rest : Apart front x above y → Apart (w ∷ front) x (z ∷ above) y
-    by_rest (same f k) = same (λ i. cons_head w z (front ++ x ∷ back) (above ++ y ∷ below) e i ∷ f i) k
-    by_rest (first b i) = first b (λ j. sym (cons_head w z (front ++ x ∷ back) (above ++ y ∷ below) e) j ∷ i j)
-    by_rest (second b i) = second b (λ j. cons_head w z (front ++ x ∷ back) (above ++ y ∷ below) e j ∷ i j)
 
 -- ---- lines
 
@@ -169,7 +146,7 @@ ok_value e = cc
 one_reading : (section : Section) (text : List ℕ) (labels others : List (List ℕ)) (effect another : StatementEffect) → Says section text labels effect → Says section text others another → (labels ≡ others) × (effect ≡ another)
 one_reading section text labels others effect another a b =
     let lines : a.line ≡ b.line = ok_value (sym a.form ∙ b.form) in
-    (a.named ∙ ap (λ (l : Line). l.labels) lines ∙ sym b.named, ok_value (sym a.does ∙ ap (line_effect section) lines ∙ b.does))
+    (a.named ∙ ap (λ (l : SourceLine). l.labels) lines ∙ sym b.named, ok_value (sym a.does ∙ ap (line_effect section) lines ∙ b.does))
 
 pub one_program : (before : ℕ) (section : Section) (lines : List (List ℕ)) (items others : List Item) (last another : Section) → Tells before section lines items last → Tells before section lines others another → (items ≡ others) × (last ≡ another)
 unfolding Tells
@@ -293,17 +270,17 @@ unfolding first_pass
 first_stops source good bad below section items line kind cut program at wrong = by_lines (with_lines 0 no_lines (lines_of source)) refl (lines_said 0 no_lines (lines_of source))
   where
     by_place : (fault : FaultAt) (stop : LinesStop 0 no_lines (lines_of source) fault) → HasProgram stop.good stop.m.section stop.m.items → Apart good bad stop.good stop.bad → fault ≡ record { line = line; kind = kind }
-    by_place fault stop above (same g b) =
+    by_place fault stop above (one_place g b) =
         let number : fault.line ≡ line = stop.number ∙ zero-add (length stop.good + 1) ∙ ap (λ l. length l + 1) (sym g) ∙ sym at in
         let told = one_program 0 Text good stop.m.items items stop.m.section section (subst (λ l. Tells 0 Text l stop.m.items stop.m.section) (sym g) above.told) program.told in
         let here : LineFault line section items bad fault.kind = subst (λ n. LineFault n section items bad fault.kind) number (subst (λ t. LineFault fault.line section items t fault.kind) (sym b) (subst (λ i. LineFault fault.line section i stop.bad fault.kind) told.0 (subst (λ s. LineFault fault.line s stop.m.items stop.bad fault.kind) told.1 (stop.wrong above.distinct)))) in
         λ i. record { line = number i; kind = one_line_fault line section items bad fault.kind kind here wrong i }
-    by_place fault stop above (first between is) = absurd (no_fault_among good bad between section stop.m.section items stop.m.items line kind (subst (λ l. HasProgram l stop.m.section stop.m.items) is above) program at wrong)
-    by_place fault stop above (second between is) = absurd (no_fault_among stop.good stop.bad between stop.m.section section stop.m.items items fault.line fault.kind (subst (λ l. HasProgram l section items) is program) above (stop.number ∙ zero-add (length stop.good + 1)) (stop.wrong above.distinct))
+    by_place fault stop above (first_above between is) = absurd (no_fault_among good bad between section stop.m.section items stop.m.items line kind (subst (λ l. HasProgram l stop.m.section stop.m.items) is above) program at wrong)
+    by_place fault stop above (second_above between is) = absurd (no_fault_among stop.good stop.bad between stop.m.section section stop.m.items items fault.line fault.kind (subst (λ l. HasProgram l section items) is program) above (stop.number ∙ zero-add (length stop.good + 1)) (stop.wrong above.distinct))
 
     by_lines : (r : Result Progress FaultAt) → with_lines 0 no_lines (lines_of source) ≡ r → LinesSaid 0 no_lines (lines_of source) r → with_lines 0 no_lines (lines_of source) ≡ Err (record { line = line; kind = kind })
     by_lines (Ok q) is read = absurd (no_fault_among good bad below section q.section items q.items line kind (subst (λ l. HasProgram l q.section q.items) cut (program_read (lines_of source) q read)) program at wrong)
-    by_lines (Err fault) is stop = is ∙ ap Err (by_place fault stop (program_read stop.good stop.m stop.read) (apart good below stop.good stop.below bad stop.bad (sym cut ∙ stop.cut)))
+    by_lines (Err fault) is stop = is ∙ ap Err (by_place fault stop (program_read stop.good stop.m stop.read) (two_cuts good below stop.good stop.below bad stop.bad (sym cut ∙ stop.cut)))
 
 second_stops : (items front back : List Item) (item : Item) (line : ℕ) (kind : FaultKind) → DistinctLabels items → items ≡ front ++ item ∷ back → ((above between : List Item) (one : Item) → front ≡ above ++ one ∷ between → HasPut items above one) → PartFault items (0x10000 + size Text front) item line kind → second_pass items ≡ Err (record { line = line; kind = kind })
 unfolding HasPut
@@ -314,29 +291,29 @@ second_stops items front back item line kind d cut puts wrong = by_pass (second_
       where
         by_item : (one : Item) → items ≡ front ++ one ∷ back → HasPut items front one
         by_item (Label section name) e = tt
-        by_item (InText n code) e = let t = (holds items sections is).text_parts front back n code e in (t.words, t.put)
-        by_item (InData n datum) e = let t = (holds items sections is).data_parts front back n datum e in (t.bytes, t.put)
+        by_item (InText n code) e = let t = (pass_holds items sections is).text_parts front back n code e in (t.words, t.put)
+        by_item (InData n datum) e = let t = (pass_holds items sections is).data_parts front back n datum e in (t.bytes, t.put)
 
-    by_place : (fault : FaultAt) (stop : StopsAt items fault) → Apart front item stop.above stop.item → fault ≡ record { line = line; kind = kind }
-    by_place fault stop (same f i) =
+    by_place : (fault : FaultAt) (stop : PassStops items fault) → Apart front item stop.above stop.item → fault ≡ record { line = line; kind = kind }
+    by_place fault stop (one_place f i) =
         let here : PartFault items (0x10000 + size Text front) item fault.line fault.kind = subst (λ l. PartFault items (0x10000 + size Text l) item fault.line fault.kind) (sym f) (subst (λ x. PartFault items (0x10000 + size Text stop.above) x fault.line fault.kind) (sym i) stop.wrong) in
         let r = one_part_fault items (0x10000 + size Text front) item fault.line line fault.kind kind here wrong in
         λ j. record { line = r.0 j; kind = r.1 j }
-    by_place fault stop (first between is) = absurd (no_part_fault items front item line kind d (stop.put_above front between item is) wrong)
-    by_place fault stop (second between is) = absurd (no_part_fault items stop.above stop.item fault.line fault.kind d (puts stop.above between stop.item is) stop.wrong)
+    by_place fault stop (first_above between is) = absurd (no_part_fault items front item line kind d (stop.put_above front between item is) wrong)
+    by_place fault stop (second_above between is) = absurd (no_part_fault items stop.above stop.item fault.line fault.kind d (puts stop.above between stop.item is) stop.wrong)
 
     by_pass : (r : Result Sections FaultAt) → second_pass items ≡ r → second_pass items ≡ Err (record { line = line; kind = kind })
     by_pass (Ok sections) is = absurd (no_part_fault items front item line kind d (held sections is) wrong)
-    by_pass (Err fault) is = let stop = stops items fault is in is ∙ ap Err (by_place fault stop (apart front back stop.above stop.below item stop.item (sym cut ∙ stop.cut)))
+    by_pass (Err fault) is = let stop = pass_stops items fault is in is ∙ ap Err (by_place fault stop (two_cuts front back stop.above stop.below item stop.item (sym cut ∙ stop.cut)))
 
-pub told : (source : List ℕ) (line : ℕ) (kind : FaultKind) → FirstFault source line kind → assembled source ≡ Err (record { line = line; kind = kind })
+pub fault_assembled : (source : List ℕ) (line : ℕ) (kind : FaultKind) → FirstFault source line kind → assembled source ≡ Err (record { line = line; kind = kind })
 unfolding assembled laid_out
-told source line kind (in_line good bad below section items cut program at wrong) = ap (chained (λ progress. laid_out progress.items)) (first_stops source good bad below section items line kind cut program at wrong)
-told source line kind (no_text section items program none at is) =
+fault_assembled source line kind (in_line good bad below section items cut program at wrong) = ap (chained (λ progress. laid_out progress.items)) (first_stops source good bad below section items line kind cut program at wrong)
+fault_assembled source line kind (no_text section items program none at is) =
     let f = first_is source section items program in
     let empty : (size Text f.0.items == 0) ≡ true = let n = ap (size Text) f.2 in grind (arith, nat_tests) in
     ap (chained (λ progress. laid_out progress.items)) f.1 ∙ ap (λ b. unless_empty b f.0.items) empty ∙ (λ i. Err (record { line = sym at i; kind = sym is i }))
-told source line kind (in_part section items front back item program some cut puts wrong) =
+fault_assembled source line kind (in_part section items front back item program some cut puts wrong) =
     let f = first_is source section items program in
     let full : (size Text f.0.items == 0) ≡ false = let n = ap (size Text) f.2 in grind (arith, nat_tests) in
     let pass : second_pass f.0.items ≡ Err (record { line = line; kind = kind }) = ap second_pass f.2 ∙ second_stops items front back item line kind program.distinct cut puts wrong in
@@ -344,10 +321,10 @@ told source line kind (in_part section items front back item program some cut pu
 
 -- ---- the answer
 
-pub answered : (source : List ℕ) (result : Result ListingContent AsmError) (line : ℕ) (kind : FaultKind) → IfOk result (ListsTold (assembled source)) → IfErr result (Fails (assembled source)) → FirstFault source line kind → (result ≡ Err (Fault line kind)) ⊎ (result ≡ Err NoMemory)
-answered source (Ok listing) line kind ok err fault = absurd (subst (λ r. ListsTold r listing) (told source line kind fault) ok)
-answered source (Err NoMemory) line kind ok err fault = inr refl
-answered source (Err (Fault other another)) line kind ok err fault = inl (same_fault (sym err ∙ told source line kind fault))
+pub fault_answered : (source : List ℕ) (result : Result ListingContent AsmError) (line : ℕ) (kind : FaultKind) → IfOk result (ListsTold (assembled source)) → IfErr result (Fails (assembled source)) → FirstFault source line kind → (result ≡ Err (Fault line kind)) ⊎ (result ≡ Err NoMemory)
+fault_answered source (Ok listing) line kind ok err fault = absurd (subst (λ r. ListsTold r listing) (fault_assembled source line kind fault) ok)
+fault_answered source (Err NoMemory) line kind ok err fault = inr refl
+fault_answered source (Err (Fault other another)) line kind ok err fault = inl (same_fault (sym err ∙ fault_assembled source line kind fault))
   where
     fault_line : Result Assembly FaultAt → ℕ
     fault_line (Ok assembly) = 0

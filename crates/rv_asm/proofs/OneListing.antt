@@ -3,7 +3,8 @@ use Rattle.std.proofs.Common.{◌≡◌, ℕ, ◌+◌, ◌*◌, ◌<◌, ◌^◌
 use Rattle.std.specs.Prelude.{ℤ, pos, ◌-ℤ◌}
 use Rattle.std.specs.List.{AllByRecursion}
 use Rattle.std.proofs.lemmas.Int.{ints}
-use Rattle.std.proofs.lemmas.List.{length-replicate}
+use Rattle.std.proofs.lemmas.List.{length-replicate, nil_from_length}
+use Rattle.rv_asm.proofs.ListLemmas.{equal_fronts}
 use Rattle.byteorder.specs.Endian.{little_bytes}
 use Rattle.rv_isa.specs.FormatLaws.{agrees_once}
 use Rattle.rv_isa.specs.declared.instruction.Insn.TheVariants.{Lui, OpImmediate, Jal, Branch as BranchInsn}
@@ -24,21 +25,7 @@ use Rattle.asm_statements.specs.Parts.{code_length, datum_length}
 use Rattle.rv_asm.specs.Listing.{ListingContent, image_of}
 use Rattle.rv_asm.specs.Assembly.{DistinctLabels, IsSplit, PutsWords, PutsBytes, TextAt, DataAt, HoldsParts, Assembles}
 use Rattle.rv_asm.proofs.Places.{size_push}
-use Rattle.rv_asm.proofs.OneFault.{one_address, one_program, cons_head, cons_tail}
-
--- ---- lists
-
-fronts : {A : Type 0} (one other rest more : List A) → one ++ rest ≡ other ++ more → length one ≡ length other → (one ≡ other) × (rest ≡ more)
-fronts [] [] rest more e long = (refl, e)
-fronts [] (y ∷ other) rest more e long = absurd (omega (arith, long))
-fronts (x ∷ one) [] rest more e long = absurd (omega (arith, long))
-fronts (x ∷ one) (y ∷ other) rest more e long =
-    let r = fronts one other rest more (cons_tail x y (one ++ rest) (other ++ more) e) (omega (arith, long)) in
-    ((λ i. cons_head x y (one ++ rest) (other ++ more) e i ∷ r.0 i), r.1)
-
-none : {A : Type 0} (rest : List A) → length rest ≡ 0 → rest ≡ []
-none [] long = refl
-none (x ∷ rest) long = absurd (omega (arith, long))
+use Rattle.rv_asm.proofs.OneFault.{one_address, one_program}
 
 -- ---- what one part puts
 
@@ -110,7 +97,7 @@ one_text items front [] text other before rest more d cut parts others long long
     let whole : size Text items ≡ size Text front = ap (size Text) (cut ∙ append-nil front) in
     let text_long = ap (λ (l : List TextWord). length l) is ∙ length-append before rest in
     let other_long = ap (λ (l : List TextWord). length l) same ∙ length-append before more in
-    is ∙ ap (λ l. before ++ l) (none rest (omega arith) ∙ sym (none more (omega arith))) ∙ sym same
+    is ∙ ap (λ l. before ++ l) (nil_from_length rest (omega arith) ∙ sym (nil_from_length more (omega arith))) ∙ sym same
 one_text items front (Label section name ∷ back) text other before rest more d cut parts others long longer is same here =
     one_text items (front ++ Label section name ∷ []) back text other before rest more d (cut ∙ sym (append_assoc front (Label section name ∷ []) back)) parts others long longer is same
     (omega (arith, size_push Text front (Label section name)))
@@ -122,8 +109,8 @@ one_text items front (InText line code ∷ back) text other before rest more d c
     let stands = others front back line code cut in
     let place = at.place in
     let place_too = stands.place in
-    let here_text = fronts before at.before rest (at.words ++ at.after) (sym is ∙ at.stand) (omega arith) in
-    let here_other = fronts before stands.before more (stands.words ++ stands.after) (sym same ∙ stands.stand) (omega arith) in
+    let here_text = equal_fronts before at.before rest (at.words ++ at.after) (sym is ∙ at.stand) (omega arith) in
+    let here_other = equal_fronts before stands.before more (stands.words ++ stands.after) (sym same ∙ stands.stand) (omega arith) in
     let words : at.words ≡ stands.words = one_putting items (0x10000 + size Text front) code at.words stands.words d at.put stands.put in
     let long_words = putting_length items (0x10000 + size Text front) code at.words at.put in
     one_text items (front ++ InText line code ∷ []) back text other (before ++ at.words) at.after stands.after d (cut ∙ sym (append_assoc front (InText line code ∷ []) back)) parts others long longer
@@ -141,7 +128,7 @@ one_data items front [] bytes other before rest more d cut parts others long lon
     let whole : size Data items ≡ size Data front = ap (size Data) (cut ∙ append-nil front) in
     let bytes_long = ap (λ (l : List ℕ). length l) is ∙ length-append before rest in
     let other_long = ap (λ (l : List ℕ). length l) same ∙ length-append before more in
-    is ∙ ap (λ l. before ++ l) (none rest (omega arith) ∙ sym (none more (omega arith))) ∙ sym same
+    is ∙ ap (λ l. before ++ l) (nil_from_length rest (omega arith) ∙ sym (nil_from_length more (omega arith))) ∙ sym same
 one_data items front (Label section name ∷ back) bytes other before rest more d cut parts others long longer is same here =
     one_data items (front ++ Label section name ∷ []) back bytes other before rest more d (cut ∙ sym (append_assoc front (Label section name ∷ []) back)) parts others long longer is same
     (omega (arith, size_push Data front (Label section name)))
@@ -153,8 +140,8 @@ one_data items front (InData line datum ∷ back) bytes other before rest more d
     let stands = others front back line datum cut in
     let place = at.place in
     let place_too = stands.place in
-    let here_bytes = fronts before at.before rest (at.bytes ++ at.after) (sym is ∙ at.stand) (omega arith) in
-    let here_other = fronts before stands.before more (stands.bytes ++ stands.after) (sym same ∙ stands.stand) (omega arith) in
+    let here_bytes = equal_fronts before at.before rest (at.bytes ++ at.after) (sym is ∙ at.stand) (omega arith) in
+    let here_other = equal_fronts before stands.before more (stands.bytes ++ stands.after) (sym same ∙ stands.stand) (omega arith) in
     let same_bytes : at.bytes ≡ stands.bytes = one_datum items datum at.bytes stands.bytes d at.put stands.put in
     let long_bytes = putting_bytes items datum at.bytes at.put in
     one_data items (front ++ InData line datum ∷ []) back bytes other (before ++ at.bytes) at.after stands.after d (cut ∙ sym (append_assoc front (InData line datum ∷ []) back)) parts others long longer

@@ -7,7 +7,7 @@ use Rattle.std.specs.List.{range_with_len, list_any}
 use Rattle.std.proofs.lemmas.Bool.Decides.{nat_tests}
 use Rattle.std.proofs.lemmas.List.Folds.{list_any_at, list_any-append}
 use Rattle.std.proofs.lemmas.List.FromFn.{get_or-map-range_with_len, length-map-range_with_len}
-use Rattle.byteorder.specs.Endian.{little_bytes}
+use Rattle.elf_image.specs.ImageLaws.{length-bytes_of}
 use Rattle.page_memory.specs.declared.rights.Rights.{Rights}
 use Rattle.page_memory.specs.declared.words.Access.TheVariants.{Fetch}
 use Rattle.page_memory.specs.Rights.{may, readable}
@@ -18,7 +18,7 @@ use Rattle.elf_image.specs.Parts.{too_high, entered, parts_fault, readable_page,
 use Rattle.elf_image.specs.PartsLaws.{no_fault_from_pass, neighbours}
 use Rattle.asm_statements.specs.declared.section.Section.{Section}
 use Rattle.asm_statements.specs.declared.section.Section.TheVariants.{Text, Data}
-use Rattle.rv_asm.specs.declared.place.Place.{Place}
+use Rattle.rv_asm.specs.declared.label_place.LabelPlace.{LabelPlace}
 use Rattle.rv_asm.specs.declared.item.Item.{Item}
 use Rattle.rv_asm.specs.Program.{size, label_place, section_start}
 use Rattle.elf_image.specs.BytePages.{page_count, nth_page, byte_pages}
@@ -49,10 +49,6 @@ numbered_low n (page ∷ pages) a within =
     let low : nat_le 458752 page.number ≡ false = let is = a.0 in grind (arith, nat_tests) in
     rw low (numbered_low (n + 1) pages a.1 (omega arith))
 
-pub length_bytes : (words : List ℕ) → length (bytes_of words) ≡ 4 * length words
-length_bytes [] = refl
-length_bytes (w ∷ words) = let rest = length_bytes words in omega (arith, length-append (little_bytes 4 w) (bytes_of words))
-
 -- the entry lies in the text
 entry_within : (items : List Item) → 0 < size Text items → (offset : ℕ) × (entry_point_of items ≡ 0x10000 + offset) × (offset < size Text items)
 unfolding entry_point_of
@@ -66,7 +62,7 @@ entry_within items some = by_place (label_place items (codes "_start"))
     by_section Text offset = by_test (nat_lt offset (size Text items)) offset refl
     by_section Data offset = (0, refl, some)
 
-    by_place : (place : Option Place) → (o : ℕ) × (entry_point_at (size Text items) place ≡ 0x10000 + o) × (o < size Text items)
+    by_place : (place : Option LabelPlace) → (o : ℕ) × (entry_point_at (size Text items) place ≡ 0x10000 + o) × (o < size Text items)
     by_place None = (0, refl, some)
     by_place (Some place) = by_section place.section place.offset
 
@@ -92,7 +88,7 @@ pages_pass items words bytes words_size bytes_size some text_fits data_fits =
     let data_pages : List ImagePage = map (nth_page first data_rights bytes) (range_with_len 0 (page_count bytes)) in
     let n : length text_pages ≡ page_count (bytes_of words) = length-map-range_with_len (nth_page 16 text_rights (bytes_of words)) 0 (page_count (bytes_of words)) in
     let m : length data_pages ≡ page_count bytes = length-map-range_with_len (nth_page first data_rights bytes) 0 (page_count bytes) in
-    let whole : length (bytes_of words) ≡ size Text items = length_bytes words ∙ words_size in
+    let whole : length (bytes_of words) ≡ size Text items = length-bytes_of words ∙ words_size in
     let next : first ≡ 16 + length text_pages = omega arith in
     let numbers : Numbered 16 (text_pages ++ data_pages) = numbered_append 16 first text_pages data_pages next (numbered_map 16 text_rights (bytes_of words) 0 (page_count (bytes_of words)) 16 refl) (numbered_map first data_rights bytes 0 (page_count bytes) first (sym (add-zero first))) in
     let all : length (text_pages ++ data_pages) ≡ length text_pages + length data_pages = length-append text_pages data_pages in

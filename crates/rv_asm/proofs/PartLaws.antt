@@ -7,6 +7,7 @@ use Rattle.std.proofs.lemmas.Int.{ints}
 use Rattle.std.proofs.lemmas.Grind.{common_steps}
 use Rattle.std.proofs.lemmas.Bool.{false≢true}
 use Rattle.std.proofs.lemmas.Bool.Decides.{nat_tests}
+use Rattle.rv_asm.proofs.ListLemmas.{cons_head, cons_tail, no_cut_of_nil}
 use Rattle.rv_isa.specs.Operands.{IsBranchOffset, IsJumpOffset}
 use Rattle.rv_isa.specs.declared.instruction.Insn.TheVariants.{Jal, Branch as BranchInsn}
 use Rattle.asm_lines.specs.declared.fault.FaultKind.{FaultKind}
@@ -74,8 +75,8 @@ jump_missed here target e is =
     let t : reaches 1048576 here target ≡ true = grind (arith, nat_tests) in
     false≢true (sym e ∙ t)
 
-split : (address : ℕ) → IsSplit address (upper_part address) (low_part address)
-split address = record { whole = parts_are_whole; signed = low_part_fits address }
+address_splits : (address : ℕ) → IsSplit address (upper_part address) (low_part address)
+address_splits address = record { whole = parts_are_whole; signed = low_part_fits address }
   where
     parts_are_whole : pos (upper_part address * 4096) +ℤ low_part address ≡ pos address
     parts_are_whole =
@@ -100,7 +101,7 @@ code_said items here (Fixed insn) = refl
 code_said items here (LoadAddress rd label) = by_label (address_of items label) refl
   where
     by_label : (found : Option ℕ) → address_of items label ≡ found → CodeSaid items here (LoadAddress rd label) (at_label (λ target. Ok (load_words rd target)) found)
-    by_label (Some address) e = (address, (upper_part address, (low_part address, (address_found items label address e, split address, refl))))
+    by_label (Some address) e = (address, (upper_part address, (low_part address, (address_found items label address e, address_splits address, refl))))
     by_label None e = unlabelled label refl (no_address items label e) refl
 code_said items here (Jump rd label) = by_label (address_of items label) refl
   where
@@ -151,7 +152,7 @@ Put all front (Label section name) words bytes = (words ≡ []) × (bytes ≡ []
 Put all front (InText line code) words bytes = PutsWords all (0x10000 + size Text front) code words × (bytes ≡ [])
 Put all front (InData line datum) words bytes = (words ≡ []) × PutsBytes all datum bytes
 
-record Step (all front : List Item) (s : Sections) (item : Item) (more : Sections) : Type 0 where
+record PutStep (all front : List Item) (s : Sections) (item : Item) (more : Sections) : Type 0 where
   words : List TextWord
   bytes : List ℕ
   text : more.text ≡ s.text ++ words
@@ -159,7 +160,7 @@ record Step (all front : List Item) (s : Sections) (item : Item) (more : Section
   has_put : Put all front item words bytes
 
 abbrev StepSaid : List Item → List Item → Sections → Item → Result Sections FaultAt → Type 0
-StepSaid all front s item (Ok more) = Step all front s item more
+StepSaid all front s item (Ok more) = PutStep all front s item more
 StepSaid all front s item (Err fault) = PartFault all (0x10000 + size Text front) item fault.line fault.kind
 
 step_said : (all front : List Item) (s : Sections) (item : Item) → 4 * length s.text ≡ size Text front → StepSaid all front s item (put all s item)
@@ -180,13 +181,13 @@ step_said all front s (InData line datum) at = by_datum (datum_bytes (address_of
     by_datum (Ok bytes) said = record { words = []; bytes = bytes; text = sym (append-nil s.text); more_bytes = refl; has_put = (refl, said) }
     by_datum (Err kind) said = no_datum_label datum said.0 refl said.1 said.2 said.3
 
-put_part : (all front : List Item) (s : Sections) (item : Item) (more : Sections) → Step all front s item more → HasPut all front item
+put_part : (all front : List Item) (s : Sections) (item : Item) (more : Sections) → PutStep all front s item more → HasPut all front item
 unfolding HasPut
 put_part all front s (Label section name) more step = tt
 put_part all front s (InText line code) more step = (step.words, step.has_put.0)
 put_part all front s (InData line datum) more step = (step.bytes, step.has_put.1)
 
-record Filled (all front : List Item) (s : Sections) (items : List Item) (q : Sections) : Type 0 where
+record FillsItems (all front : List Item) (s : Sections) (items : List Item) (q : Sections) : Type 0 where
   words : List TextWord
   bytes : List ℕ
   text : q.text ≡ s.text ++ words
@@ -203,14 +204,10 @@ record Stuck (all front items : List Item) (fault : FaultAt) : Type 0 where
   wrong : PartFault all (0x10000 + size Text (front ++ above)) item fault.line fault.kind
 
 abbrev AllSaid : List Item → List Item → Sections → List Item → Result Sections FaultAt → Type 0
-AllSaid all front s items (Ok q) = Filled all front s items q
+AllSaid all front s items (Ok q) = FillsItems all front s items q
 AllSaid all front s items (Err fault) = Stuck all front items fault
 
-nil_cut : {A : Type 0} (f b : List A) (x : A) → [] ≡ f ++ x ∷ b → ⊥
-nil_cut [] b x e = cc
-nil_cut (y ∷ f) b x e = cc
-
-first_text : (all front : List Item) (s more q : Sections) (item : Item) (line : ℕ) (code : Code) (rest : List TextWord) → item ≡ InText line code → 4 * length s.text ≡ size Text front → Step all front s item more → q.text ≡ more.text ++ rest → TextAt all (front ++ []) code q.text
+first_text : (all front : List Item) (s more q : Sections) (item : Item) (line : ℕ) (code : Code) (rest : List TextWord) → item ≡ InText line code → 4 * length s.text ≡ size Text front → PutStep all front s item more → q.text ≡ more.text ++ rest → TextAt all (front ++ []) code q.text
 first_text all front s more q item line code rest is at step whole =
     let same : front ≡ front ++ [] = sym (append-nil front) in
     let has : Put all front (InText line code) step.words step.bytes = subst (λ i. Put all front i step.words step.bytes) is step.has_put in
@@ -223,7 +220,7 @@ first_text all front s more q item line code rest is at step whole =
       put = subst (λ f. PutsWords all (0x10000 + size Text f) code step.words) same has.0;
     }
 
-first_data : (all front : List Item) (s more q : Sections) (item : Item) (line : ℕ) (datum : Datum) (rest : List ℕ) → item ≡ InData line datum → length s.bytes ≡ size Data front → Step all front s item more → q.bytes ≡ more.bytes ++ rest → DataAt all (front ++ []) datum q.bytes
+first_data : (all front : List Item) (s more q : Sections) (item : Item) (line : ℕ) (datum : Datum) (rest : List ℕ) → item ≡ InData line datum → length s.bytes ≡ size Data front → PutStep all front s item more → q.bytes ≡ more.bytes ++ rest → DataAt all (front ++ []) datum q.bytes
 first_data all front s more q item line datum rest is at step whole =
     let same : front ≡ front ++ [] = sym (append-nil front) in
     let has : Put all front (InData line datum) step.words step.bytes = subst (λ i. Put all front i step.words step.bytes) is step.has_put in
@@ -236,17 +233,11 @@ first_data all front s more q item line datum rest is at step whole =
       put = has.1;
     }
 
-cons_first : (item one : Item) (rest more : List Item) → item ∷ rest ≡ one ∷ more → item ≡ one
-cons_first item one rest more e = cc
-
-cons_rest : (item one : Item) (rest more : List Item) → item ∷ rest ≡ one ∷ more → rest ≡ more
-cons_rest item one rest more e = cc
-
 -- an item's place behind the first
 behind : (front : List Item) (item one : Item) (f : List Item) → item ≡ one → (front ++ item ∷ []) ++ f ≡ front ++ (one ∷ f)
 behind front item one f e = append_assoc front (item ∷ []) f ∙ ap (λ i. front ++ (i ∷ f)) e
 
-filled_more : (all front : List Item) (s more q : Sections) (item : Item) (rest : List Item) → 4 * length s.text ≡ size Text front → length s.bytes ≡ size Data front → Step all front s item more → Filled all (front ++ item ∷ []) more rest q → Filled all front s (item ∷ rest) q
+filled_more : (all front : List Item) (s more q : Sections) (item : Item) (rest : List Item) → 4 * length s.text ≡ size Text front → length s.bytes ≡ size Data front → PutStep all front s item more → FillsItems all (front ++ item ∷ []) more rest q → FillsItems all front s (item ∷ rest) q
 filled_more all front s more q item rest at data_at step filled = record {
   words = step.words ++ filled.words;
   bytes = step.bytes ++ filled.bytes;
@@ -257,12 +248,12 @@ filled_more all front s more q item rest at data_at step filled = record {
 }
   where
     texts : (f b : List Item) (line : ℕ) (code : Code) → item ∷ rest ≡ f ++ InText line code ∷ b → TextAt all (front ++ f) code q.text
-    texts [] b line code e = first_text all front s more q item line code filled.words (cons_first item (InText line code) rest b e) at step filled.text
-    texts (one ∷ f) b line code e = subst (λ l. TextAt all l code q.text) (behind front item one f (cons_first item one rest (f ++ InText line code ∷ b) e)) (filled.text_parts f b line code (cons_rest item one rest (f ++ InText line code ∷ b) e))
+    texts [] b line code e = first_text all front s more q item line code filled.words (cons_head item (InText line code) rest b e) at step filled.text
+    texts (one ∷ f) b line code e = subst (λ l. TextAt all l code q.text) (behind front item one f (cons_head item one rest (f ++ InText line code ∷ b) e)) (filled.text_parts f b line code (cons_tail item one rest (f ++ InText line code ∷ b) e))
 
     datas : (f b : List Item) (line : ℕ) (datum : Datum) → item ∷ rest ≡ f ++ InData line datum ∷ b → DataAt all (front ++ f) datum q.bytes
-    datas [] b line datum e = first_data all front s more q item line datum filled.bytes (cons_first item (InData line datum) rest b e) data_at step filled.more_bytes
-    datas (one ∷ f) b line datum e = subst (λ l. DataAt all l datum q.bytes) (behind front item one f (cons_first item one rest (f ++ InData line datum ∷ b) e)) (filled.data_parts f b line datum (cons_rest item one rest (f ++ InData line datum ∷ b) e))
+    datas [] b line datum e = first_data all front s more q item line datum filled.bytes (cons_head item (InData line datum) rest b e) data_at step filled.more_bytes
+    datas (one ∷ f) b line datum e = subst (λ l. DataAt all l datum q.bytes) (behind front item one f (cons_head item one rest (f ++ InData line datum ∷ b) e)) (filled.data_parts f b line datum (cons_tail item one rest (f ++ InData line datum ∷ b) e))
 
 stuck_more : (all front : List Item) (item : Item) (rest : List Item) (fault : FaultAt) → HasPut all front item → Stuck all (front ++ item ∷ []) rest fault → Stuck all front (item ∷ rest) fault
 stuck_more all front item rest fault has stuck = record {
@@ -275,8 +266,8 @@ stuck_more all front item rest fault has stuck = record {
 }
   where
     puts : (f b : List Item) (one : Item) → item ∷ stuck.above ≡ f ++ one ∷ b → HasPut all (front ++ f) one
-    puts [] b one e = subst (λ l. HasPut all l one) (sym (append-nil front)) (subst (λ i. HasPut all front i) (cons_first item one stuck.above b e) has)
-    puts (other ∷ f) b one e = subst (λ l. HasPut all l one) (behind front item other f (cons_first item other stuck.above (f ++ one ∷ b) e)) (stuck.put_above f b one (cons_rest item other stuck.above (f ++ one ∷ b) e))
+    puts [] b one e = subst (λ l. HasPut all l one) (sym (append-nil front)) (subst (λ i. HasPut all front i) (cons_head item one stuck.above b e) has)
+    puts (other ∷ f) b one e = subst (λ l. HasPut all l one) (behind front item other f (cons_head item other stuck.above (f ++ one ∷ b) e)) (stuck.put_above f b one (cons_tail item other stuck.above (f ++ one ∷ b) e))
 
 all_said : (all front : List Item) (s : Sections) (items : List Item) → 4 * length s.text ≡ size Text front → length s.bytes ≡ size Data front → AllSaid all front s items (put_all all s items)
 unfolding put_all
@@ -285,12 +276,12 @@ all_said all front s [] at data_at = record {
   bytes = [];
   text = sym (append-nil s.text);
   more_bytes = sym (append-nil s.bytes);
-  text_parts = λ f b line code e. absurd (nil_cut f b (InText line code) e);
-  data_parts = λ f b line datum e. absurd (nil_cut f b (InData line datum) e);
+  text_parts = λ f b line code e. absurd (no_cut_of_nil f b (InText line code) e);
+  data_parts = λ f b line datum e. absurd (no_cut_of_nil f b (InData line datum) e);
 }
 all_said all front s (item ∷ items) at data_at = by_step (put all s item) refl (step_said all front s item at) (λ more a d. all_said all (front ++ item ∷ []) more items a d)
   where
-    by_rest : (more : Sections) (r : Result Sections FaultAt) → Step all front s item more → AllSaid all (front ++ item ∷ []) more items r → AllSaid all front s (item ∷ items) r
+    by_rest : (more : Sections) (r : Result Sections FaultAt) → PutStep all front s item more → AllSaid all (front ++ item ∷ []) more items r → AllSaid all front s (item ∷ items) r
     by_rest more (Ok q) step rest = filled_more all front s more q item items at data_at step rest
     by_rest more (Err fault) step rest = stuck_more all front item items fault (put_part all front s item more step) rest
 
@@ -305,20 +296,20 @@ all_said all front s (item ∷ items) at data_at = by_step (put all s item) refl
       below = items;
       item = item;
       cut = refl;
-      put_above = λ f b one e. absurd (nil_cut f b one e);
+      put_above = λ f b one e. absurd (no_cut_of_nil f b one e);
       wrong = subst (λ l. PartFault all (0x10000 + size Text l) item fault.line fault.kind) (sym (append-nil front)) step;
     }
 
 -- ---- the whole second pass
 
-pub holds : (items : List Item) (sections : Sections) → second_pass items ≡ Ok sections → HoldsParts items sections.text sections.bytes
+pub pass_holds : (items : List Item) (sections : Sections) → second_pass items ≡ Ok sections → HoldsParts items sections.text sections.bytes
 unfolding second_pass size
-holds items sections is =
-    let said : Filled items [] no_sections items sections = subst (AllSaid items [] no_sections items) is (all_said items [] no_sections items refl refl) in
+pass_holds items sections is =
+    let said : FillsItems items [] no_sections items sections = subst (AllSaid items [] no_sections items) is (all_said items [] no_sections items refl refl) in
     let long = pass_length items sections is in
     record { text_parts = said.text_parts; data_parts = said.data_parts; text_size = long.0; data_size = long.1 }
 
-pub record StopsAt (items : List Item) (fault : FaultAt) : Type 0 where
+pub record PassStops (items : List Item) (fault : FaultAt) : Type 0 where
   pub above : List Item
   pub below : List Item
   pub item : Item
@@ -326,8 +317,8 @@ pub record StopsAt (items : List Item) (fault : FaultAt) : Type 0 where
   pub put_above : (f b : List Item) (one : Item) → above ≡ f ++ one ∷ b → HasPut items f one
   pub wrong : PartFault items (0x10000 + size Text above) item fault.line fault.kind
 
-pub stops : (items : List Item) (fault : FaultAt) → second_pass items ≡ Err fault → StopsAt items fault
+pub pass_stops : (items : List Item) (fault : FaultAt) → second_pass items ≡ Err fault → PassStops items fault
 unfolding second_pass size
-stops items fault is =
+pass_stops items fault is =
     let said : Stuck items [] items fault = subst (AllSaid items [] no_sections items) is (all_said items [] no_sections items refl refl) in
     record { above = said.above; below = said.below; item = said.item; cut = said.cut; put_above = said.put_above; wrong = said.wrong }

@@ -17,7 +17,7 @@ use Rattle.elf_image.specs.Image.{ImageContent}
 use Rattle.rv_asm.specs.Listing.{Lists, entry_point_of, image_of}
 use Rattle.rv_asm.proofs.Entries.{enters}
 use Rattle.rv_asm.proofs.LineLaws.{LinesSaid, lines_said, program_read}
-use Rattle.rv_asm.proofs.PartLaws.{holds, stops}
+use Rattle.rv_asm.proofs.PartLaws.{pass_holds, pass_stops}
 
 -- a program with its sections
 pub record HasAssembly (source : List ℕ) (assembly : Assembly) : Type 0 where
@@ -35,8 +35,8 @@ unfolding laid_out
 laid_said source section items program = by_size (size Text items == 0) refl
   where
     by_pass : (r : Result Sections FaultAt) → second_pass items ≡ r → 0 < size Text items → Said source (map_value (λ sections. record { items = items; sections = sections }) r)
-    by_pass (Ok sections) is some = record { section = section; program = program; some = some; holds = holds items sections is }
-    by_pass (Err fault) is some = let s = stops items fault is in in_part section items s.above s.below s.item program some s.cut s.put_above s.wrong
+    by_pass (Ok sections) is some = record { section = section; program = program; some = some; holds = pass_holds items sections is }
+    by_pass (Err fault) is some = let s = pass_stops items fault is in in_part section items s.above s.below s.item program some s.cut s.put_above s.wrong
 
     by_size : (b : Bool) → (size Text items == 0) ≡ b → Said source (unless_empty b items)
     by_size true e = no_text section items program (grind (arith, nat_tests)) refl refl

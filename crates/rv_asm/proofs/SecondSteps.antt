@@ -1,6 +1,6 @@
 -- Items one after another in the second pass, and how much each puts.
-use Rattle.std.proofs.Common.{◌≡◌, ℕ, ◌+◌, ◌*◌, ◌<◌, ◌≤◌, List, [], ◌∷◌, ◌++◌, length, drop, get_or, Bool, true, false, Option, Some, None, Result, Ok, Err, refl, sym, ap, ◌∙◌, subst, arith, length-append, length-drop, drop-cons, add-one, add-zero, zero-add}
-use Rattle.std.proofs.lemmas.List.{length-replicate}
+use Rattle.std.proofs.Common.{◌≡◌, ℕ, ◌+◌, ◌*◌, ◌<◌, ◌≤◌, List, [], ◌∷◌, ◌++◌, length, drop, get_or, Bool, true, false, Option, Some, None, Result, Ok, Err, refl, sym, ap, ◌∙◌, subst, arith, length-append, drop-cons, add-one, add-zero, zero-add}
+use Rattle.std.proofs.lemmas.List.{length-replicate, drop_all}
 use Rattle.byteorder.specs.Endian.{little_bytes}
 use Rattle.std.specs.Prelude.{⊤, pos, ◌-ℤ◌}
 use Rattle.rv_isa.specs.declared.instruction.Insn.TheVariants.{Jal, Branch as BranchInsn}
@@ -35,16 +35,9 @@ put_refuse all sections items i item told (Fault line kind) within at same is =
     sym same ∙ ap (put_all all sections) cut ∙ ap (chained (λ s. put_all all s (drop (i + 1) items))) is
 put_refuse all sections items i item told NoMemory within at same is = tt
 
-no_more : {A : Type 0} (items : List A) (i : ℕ) → length items ≤ i → drop i items ≡ []
-no_more {A = A} items i past = by_length (drop i items) (omega (arith, length-drop i items))
-  where
-    by_length : (l : List A) → length l ≡ 0 → l ≡ []
-    by_length [] e = refl
-    by_length (x ∷ l) e = absurd (omega arith)
-
 pub put_end : (all : List Item) (sections : Sections) (items : List Item) (i : ℕ) → length items ≤ i → put_all all sections (drop i items) ≡ Ok sections
 unfolding put_all
-put_end all sections items i past = ap (put_all all sections) (no_more items i past)
+put_end all sections items i past = ap (put_all all sections) (drop_all i items past)
 
 pub size_next : (section : Section) (items : List Item) (i : ℕ) (item : Item) → i < length items → item ≡ get_or items i item → size section (drop i items) ≡ item_length section item + size section (drop (i + 1) items)
 unfolding size
@@ -73,9 +66,6 @@ code_words_length address here (Jump rd label) = label_length 4 (address label) 
 code_words_length address here (Branch kind rs1 rs2 label) = label_length 4 (address label) (branch_words kind rs1 rs2 here) (λ target. reached_length (reaches 4096 here target) (Instruction (BranchInsn kind rs1 rs2 (pos target -ℤ pos here))))
 code_words_length address here (Number number) = refl
 code_words_length address here (Address label) = label_length 4 (address label) (λ target. Ok (Plain target ∷ [])) (λ target. refl)
-
-pub words_length : (address : List ℕ → Option ℕ) (here : ℕ) (code : Code) (words : List TextWord) → code_words address here code ≡ Ok words → 4 * length words ≡ code_length code
-words_length address here code words is = subst (OfLength (code_length code)) is (code_words_length address here code)
 
 -- how many bytes a part gives
 abbrev OfBytes : ℕ → Result (List ℕ) FaultKind → Type 0

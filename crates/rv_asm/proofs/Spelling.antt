@@ -1,5 +1,6 @@
 -- One more word at the end of a text.
 use Rattle.std.proofs.Common.{◌≡◌, ℕ, List, [], ◌∷◌, ◌++◌, map, length, Option, refl, sym, ap, ◌∙◌, subst, arith}
+use Rattle.std.proofs.lemmas.List.{map_push}
 use Rattle.rv_isa.specs.declared.instruction.Insn.{Insn}
 use Rattle.rv_asm.specs.declared.word.TextWord.{TextWord}
 use Rattle.rv_asm.specs.declared.word.TextWord.TheVariants.{Instruction, Plain}
@@ -31,14 +32,10 @@ words_back [] (w ∷ words) s = absurd s
 words_back (n ∷ numbers) [] s = absurd s
 words_back (n ∷ numbers) (w ∷ words) s = λ i. from_word n w s.0 i ∷ words_back numbers words s.1 i
 
-map_push : (words : List TextWord) (word : TextWord) → map instruction_of (words ++ word ∷ []) ≡ map instruction_of words ++ instruction_of word ∷ []
-map_push [] word = refl
-map_push (w ∷ words) word = ap (λ l. instruction_of w ∷ l) (map_push words word)
-
 pub words_more : (numbers more : List ℕ) (insns others : List (Option Insn)) (number : ℕ) (insn : Option Insn) (word : TextWord) → AreWords numbers insns → StandsForWord number word → insn ≡ instruction_of word → more ≡ numbers ++ number ∷ [] → others ≡ insns ++ insn ∷ [] → words_from more others ≡ words_from numbers insns ++ word ∷ []
 words_more numbers more insns others number insn word are stands is n e =
     let all : Spell (numbers ++ number ∷ []) (words_from numbers insns ++ word ∷ []) = spell_push numbers (words_from numbers insns) number word are.spell stands in
-    let list : others ≡ map instruction_of (words_from numbers insns ++ word ∷ []) = e ∙ (λ i. are.instructions i ++ is i ∷ []) ∙ sym (map_push (words_from numbers insns) word) in
+    let list : others ≡ map instruction_of (words_from numbers insns ++ word ∷ []) = e ∙ (λ i. are.instructions i ++ is i ∷ []) ∙ sym (map_push instruction_of (words_from numbers insns) word) in
     (λ i. words_from (n i) (list i)) ∙ words_back (numbers ++ number ∷ []) (words_from numbers insns ++ word ∷ []) all
 
 pub are_more : (numbers more : List ℕ) (insns others : List (Option Insn)) (number : ℕ) (insn : Option Insn) (word : TextWord) → AreWords numbers insns → StandsForWord number word → insn ≡ instruction_of word → more ≡ numbers ++ number ∷ [] → others ≡ insns ++ insn ∷ [] → AreWords more others
@@ -46,7 +43,7 @@ are_more numbers more insns others number insn word are stands is n e =
     let from = words_more numbers more insns others number insn word are stands is n e in
     record {
       spell = subst (λ w. Spell more w) (sym from) (subst (λ l. Spell l (words_from numbers insns ++ word ∷ [])) (sym n) (spell_push numbers (words_from numbers insns) number word are.spell stands));
-      instructions = e ∙ (λ i. are.instructions i ++ is i ∷ []) ∙ sym (map_push (words_from numbers insns) word) ∙ ap (map instruction_of) (sym from);
+      instructions = e ∙ (λ i. are.instructions i ++ is i ∷ []) ∙ sym (map_push instruction_of (words_from numbers insns) word) ∙ ap (map instruction_of) (sym from);
     }
 
 pub are_none : (numbers : List ℕ) (insns : List (Option Insn)) → numbers ≡ [] → insns ≡ [] → AreWords numbers insns
@@ -55,7 +52,7 @@ are_none [] [] n e = record { spell = tt; instructions = refl }
 are_none (number ∷ numbers) insns n e = cc
 are_none [] (insn ∷ insns) n e = cc
 
-pub none_from : (numbers : List ℕ) (insns : List (Option Insn)) → numbers ≡ [] → words_from numbers insns ≡ []
+pub no_words_from : (numbers : List ℕ) (insns : List (Option Insn)) → numbers ≡ [] → words_from numbers insns ≡ []
 unfolding words_from
-none_from [] insns n = refl
-none_from (number ∷ numbers) insns n = cc
+no_words_from [] insns n = refl
+no_words_from (number ∷ numbers) insns n = cc

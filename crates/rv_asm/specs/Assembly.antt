@@ -20,7 +20,7 @@ use Rattle.rv_asm.specs.declared.item.Item.{Item}
 use Rattle.rv_asm.specs.declared.item.Item.TheVariants.{Label, InText, InData}
 use Rattle.rv_asm.specs.declared.word.TextWord.{TextWord}
 use Rattle.rv_asm.specs.declared.word.TextWord.TheVariants.{Instruction, Plain}
-use Rattle.asm_lines.specs.Forms.{Line}
+use Rattle.asm_lines.specs.Forms.{SourceLine}
 use Rattle.asm_statements.specs.Effects.{StatementEffect, Enter, Text as TextEffect, Data as DataEffect}
 use Rattle.asm_lines.specs.Lines.{line_form}
 use Rattle.text_lines.specs.Text.{lines_of}
@@ -33,7 +33,7 @@ use Rattle.rv_asm.specs.Listing.{ListingContent, Lists}
 
 -- a line in a section: its labels, and what its statement does
 pub record Says (section : Section) (text : List ℕ) (labels : List (List ℕ)) (effect : StatementEffect) : Type 0 where
-  pub line : Line
+  pub line : SourceLine
   pub form : line_form text ≡ Ok line
   pub named : labels ≡ line.labels
   pub does : line_effect section line ≡ Ok effect
@@ -172,7 +172,7 @@ pub record Assembles (source : List ℕ) (listing : ListingContent) : Type 0 whe
 -- text or data, in this order
 pub data LineFault (number : ℕ) (section : Section) (items : List Item) (text : List ℕ) (kind : FaultKind) : Type 0 where
   form : line_form text ≡ Err kind → LineFault number section items text kind
-  statement : (line : Line) → line_form text ≡ Ok line → line_effect section line ≡ Err kind → LineFault number section items text kind
+  statement : (line : SourceLine) → line_form text ≡ Ok line → line_effect section line ≡ Err kind → LineFault number section items text kind
   twice : (labels : List (List ℕ)) (effect : StatementEffect) → Says section text labels effect → (DistinctLabels (items ++ map (Label section) labels) → ⊥) → kind ≡ LabelTwice → LineFault number section items text kind
   long : (labels : List (List ℕ)) (effect : StatementEffect) → Says section text labels effect → DistinctLabels (items ++ map (Label section) labels) → (Fits (items ++ items_of number section labels effect) → ⊥) → kind ≡ TooLong → LineFault number section items text kind
 

@@ -6,7 +6,7 @@ use Rattle.asm_statements.specs.declared.section.Section.{Section}
 use Rattle.asm_statements.specs.declared.section.Section.TheVariants.{Text, Data}
 use Rattle.rv_asm.specs.declared.item.Item.{Item}
 use Rattle.rv_asm.specs.declared.item.Item.TheVariants.{Label, InText, InData}
-use Rattle.asm_lines.specs.Forms.{Line}
+use Rattle.asm_lines.specs.Forms.{SourceLine}
 use Rattle.asm_statements.specs.Effects.{StatementEffect, Enter, Text as TextEffect, Data as DataEffect}
 use Rattle.asm_lines.specs.Lines.{line_form}
 use Rattle.rv_asm.specs.LineEffects.{line_effect}
@@ -61,7 +61,7 @@ abbrev pub with_reading : ℕ → Progress → List (List ℕ) → StatementEffe
 with_reading line progress labels effect = chained (λ labelled. with_effect line labelled effect) (with_labels progress labels)
 
 -- faults come in the order of their kinds: of the line's form, of its statement, of its labels, of its size
-abbrev pub with_form : ℕ → Progress → Line → Result Progress FaultKind
+abbrev pub with_form : ℕ → Progress → SourceLine → Result Progress FaultKind
 with_form line progress form = chained (with_reading line progress form.labels) (line_effect progress.section form)
 
 unfoldable pub with_line : ℕ → Progress → List ℕ → Result Progress FaultKind

@@ -9,7 +9,7 @@ use Rattle.rv_isa.specs.declared.instruction.Insn.{Insn}
 use Rattle.asm_lines.specs.declared.fault.FaultKind.TheVariants.{Empty}
 use Rattle.asm_statements.specs.declared.section.Section.{Section}
 use Rattle.asm_statements.specs.declared.section.Section.TheVariants.{Text, Data}
-use Rattle.rv_asm.specs.declared.place.Place.{Place}
+use Rattle.rv_asm.specs.declared.label_place.LabelPlace.{LabelPlace}
 use Rattle.rv_asm.specs.declared.item.Item.{Item}
 use Rattle.rv_asm.specs.Steps.{FaultAt, chained, map_value}
 use Rattle.rv_asm.specs.Program.{size, label_place, section_start}
@@ -33,7 +33,7 @@ abbrev pub entry_point_in : ℕ → Section → ℕ → ℕ
 entry_point_in end Text offset = entry_point_if (nat_lt offset end) offset
 entry_point_in end Data offset = text_start
 
-abbrev pub entry_point_at : ℕ → Option Place → ℕ
+abbrev pub entry_point_at : ℕ → Option LabelPlace → ℕ
 entry_point_at end None = text_start
 entry_point_at end (Some place) = entry_point_in end place.section place.offset
 

@@ -7,7 +7,7 @@ use Rattle.asm_statements.specs.declared.section.Section.TheVariants.{Text, Data
 use Rattle.asm_statements.specs.Parts.{code_length, datum_length}
 use Rattle.rv_asm.specs.declared.item.Item.{Item}
 use Rattle.rv_asm.specs.declared.item.Item.TheVariants.{Label, InText, InData}
-use Rattle.rv_asm.specs.declared.place.Place.{Place}
+use Rattle.rv_asm.specs.declared.label_place.LabelPlace.{LabelPlace}
 
 -- how many bytes an item takes in a section
 abbrev pub item_length : Section → Item → ℕ
@@ -29,12 +29,12 @@ section_of_label name (InText line code) = None
 section_of_label name (InData line datum) = None
 
 -- the place of a name behind an item, from its place in what follows
-abbrev pub place_from : Item → Option Section → Option Place → Option Place
+abbrev pub place_from : Item → Option Section → Option LabelPlace → Option LabelPlace
 place_from item (Some section) below = Some (record { section = section; offset = 0 })
 place_from item None below = option_map (λ place. record { section = place.section; offset = item_length place.section item + place.offset }) below
 
 -- where the label of a name stands: its section, and how many bytes the section has before it
-unfoldable pub label_place : List Item → List ℕ → Option Place
+unfoldable pub label_place : List Item → List ℕ → Option LabelPlace
 label_place [] name = None
 label_place (item ∷ items) name = place_from item (section_of_label name item) (label_place items name)
 

@@ -12,7 +12,7 @@ ghost use Rattle.rv_asm.specs.declared.item.Item.TheVariants.{InText, InData};
 use crate::fault::AsmError;
 use crate::item::Item;
 use crate::program::Program;
-use asm_lines::{Line, Operand, Refusal, Span, scan_line};
+use asm_lines::{Operand, Refusal, SourceLine, Span, scan_line};
 use asm_statements::{Code, Datum, Effect, Section, read_statement};
 use std::alloc::Global;
 use text_lines::next_line;
@@ -48,7 +48,7 @@ fn with_line<'a>(
     ensures program { IfOk result (λ more. with_line line program.entry text.now ≡ Ok more) }
     ensures refusal { IfErr result (RefusesLine (with_line line program.entry text.now)) }
 {
-    let Line {
+    let SourceLine {
         labels,
         name,
         operands,

@@ -8,7 +8,7 @@ ghost use Rattle.asm_statements.specs.declared.section.Section.TheVariants.{Text
 ghost use Rattle.rv_asm.specs.declared.item.Item.TheVariants.{InText, InData};
 
 use crate::item::Item;
-use crate::place::Place;
+use crate::label_place::LabelPlace;
 use asm_lines::{FaultKind, Refusal, Span};
 use asm_statements::{Code, Datum, Section};
 use elf_image::TEXT_START;
@@ -32,7 +32,7 @@ const MOST_DATA: u32 = 0x10_0000;
 pub(crate) struct Program<'a> {
     section: Section,
     items: Vec<Item<'a>>,
-    places: HashMap<&'a [u8], Place>,
+    places: HashMap<&'a [u8], LabelPlace>,
     text_size: u32,
     data_size: u32,
 }
@@ -88,18 +88,18 @@ impl<'a> Program<'a> {
     }
 
     /// Where the next item of a section stands.
-    fn end(&self, section: Section) -> Place
+    fn end(&self, section: Section) -> LabelPlace
         ensures { result ≡ record { section = section; offset = size section self.now.items } }
     {
         let offset = match section {
             Section::Text => self.text_size,
             Section::Data => self.data_size,
         };
-        Place { section, offset }
+        LabelPlace { section, offset }
     }
 
     /// The place of a name.
-    fn place(&self, name: &[u8]) -> Option<Place>
+    fn place(&self, name: &[u8]) -> Option<LabelPlace>
         ensures place { result ≡ label_place self.now.items name.now }
         ensures low { IfSome result (λ place. place.offset ≤ most_data) }
     {
@@ -131,7 +131,7 @@ impl<'a> Program<'a> {
     {
         match self.place(b"_start") {
             Some(
-                Place {
+                LabelPlace {
                     section: Section::Text,
                     offset,
                 },

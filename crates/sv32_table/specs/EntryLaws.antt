@@ -1,5 +1,5 @@
 -- Laws of entries for the crates above: what calls do to the entry of a mapped page.
-use Rattle.std.specs.Prelude.{◌≡◌, ℕ, ◌+◌, ◌*◌, ◌%◌, Bool, true, false, ◌&&◌, ◌||◌, if◌then◌else◌, Some, None, Ok, Err, refl}
+use Rattle.std.specs.Prelude.{◌≡◌, ℕ, ◌+◌, ◌*◌, ◌%◌, Bool, true, false, ◌&&◌, ◌||◌, if◌then◌else◌, Some, Ok, Err, refl}
 use Rattle.std.proofs.Common.{sym, ap, ◌∙◌, lit<}
 use Rattle.page_memory.specs.declared.words.Access.{Access}
 use Rattle.page_memory.specs.declared.words.Access.TheVariants.{Fetch, Load, Store}
@@ -7,7 +7,7 @@ use Rattle.page_memory.specs.declared.rights.Rights.{Rights}
 use Rattle.page_memory.specs.Rights.{has, may}
 use Rattle.sv32_table.specs.declared.fault.WalkFault.TheVariants.{PageFault}
 use Rattle.sv32_table.specs.Entry.{Entry, entry_of, word_of, shape_of, allows, touched, blank, leaf_entry, page_entry}
-use Rattle.sv32_table.specs.EntryAt.{is_leaf, walk_entry, walked_entry, unmapped_entry, unaccessed_entry, accessed_of, dirty_of, valid_word}
+use Rattle.sv32_table.specs.EntryAt.{is_leaf, walk_entry, walked_entry, unmapped_entry, unaccessed_entry, accessed_of, dirty_of}
 use Rattle.sv32_table.specs.EntryWordLaws.{entry_of-word_of}
 
 abbrev pub is_store : Access → Bool
@@ -40,11 +40,6 @@ pub unaccessed_entry-page_entry : (ppn : ℕ) (rights : Rights) (accessed dirty 
 unfolding unaccessed_entry page_entry leaf_entry
 unaccessed_entry-page_entry ppn rights accessed dirty = refl
 
-pub valid_word-page_entry : (ppn : ℕ) (rights : Rights) (accessed dirty : Bool)
-    → valid_word (page_entry ppn rights accessed dirty) ≡ Some (record { 0 = word_of (page_entry ppn rights accessed dirty) })
-unfolding valid_word page_entry leaf_entry
-valid_word-page_entry ppn rights accessed dirty = refl
-
 pub accessed_of-page_entry : (ppn : ℕ) (rights : Rights) (accessed dirty : Bool) → accessed_of (page_entry ppn rights accessed dirty) ≡ Some accessed
 unfolding accessed_of page_entry leaf_entry
 accessed_of-page_entry ppn rights accessed dirty = refl
@@ -58,30 +53,10 @@ pub unmapped_entry-blank : unmapped_entry blank ≡ blank
 unfolding unmapped_entry
 unmapped_entry-blank = refl
 
-pub unaccessed_entry-blank : unaccessed_entry blank ≡ blank
-unfolding unaccessed_entry
-unaccessed_entry-blank = refl
-
-pub valid_word-blank : valid_word blank ≡ None
-unfolding valid_word
-valid_word-blank = refl
-
-pub accessed_of-blank : accessed_of blank ≡ None
-unfolding accessed_of
-accessed_of-blank = refl
-
-pub dirty_of-blank : dirty_of blank ≡ false
-unfolding dirty_of
-dirty_of-blank = refl
-
 -- a walk where there is none is a page fault, which changes nothing
 pub walk_entry-blank : (address : ℕ) (access : Access) → walk_entry blank address access ≡ Err PageFault
 unfolding walk_entry shape_of
 walk_entry-blank address access = refl
-
-pub walked_entry-blank : (access : Access) → walked_entry blank access ≡ blank
-unfolding walked_entry shape_of
-walked_entry-blank access = refl
 
 -- a walk for a mapped page sets A, and D for a store
 pub touched-page_entry : (access : Access) (ppn : ℕ) (rights : Rights) (accessed dirty : Bool)
@@ -103,12 +78,6 @@ accessed-page_entry ppn rights accessed dirty = refl
 pub dirty-page_entry : (ppn : ℕ) (rights : Rights) (accessed dirty : Bool) → (page_entry ppn rights accessed dirty).dirty ≡ dirty
 unfolding page_entry leaf_entry
 dirty-page_entry ppn rights accessed dirty = refl
-
--- and its word read again
-pub entry_of-page_entry : (ppn : ℕ) (rights : Rights) (accessed dirty : Bool)
-    → entry_of (word_of (page_entry ppn rights accessed dirty)) ≡ page_entry ppn rights accessed dirty
-unfolding page_entry leaf_entry
-entry_of-page_entry ppn rights accessed dirty = entry_of-word_of (page_entry ppn rights accessed dirty) (lit< tt)
 
 -- whether a walk finds a leaf that allows the access, over the tests of the rights: W without R is no lawful right
 abbrev finds : Access → Bool → Bool → Bool → Bool

@@ -158,10 +158,6 @@ pub user_flag : (word : ℕ) → (bit_and word 16 == 16) ≡ (entry_of word).use
 unfolding entry_of
 user_flag word = mask_test word 16 4 refl (lit< tt)
 
-pub global_flag : (word : ℕ) → (bit_and word 32 == 32) ≡ (entry_of word).global
-unfolding entry_of
-global_flag word = mask_test word 32 5 refl (lit< tt)
-
 pub accessed_flag : (word : ℕ) → (bit_and word 64 == 64) ≡ (entry_of word).accessed
 unfolding entry_of
 accessed_flag word = mask_test word 64 6 refl (lit< tt)

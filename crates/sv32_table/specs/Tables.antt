@@ -9,7 +9,7 @@ use Rattle.sv32_table.specs.declared.pte.Shape.{Shape}
 use Rattle.sv32_table.specs.declared.pte.Shape.TheVariants.{Invalid, Pointer, Leaf}
 use Rattle.sv32_table.specs.declared.fault.WalkFault.{WalkFault}
 use Rattle.sv32_table.specs.declared.fault.WalkFault.TheVariants.{PageFault, AccessFault}
-use Rattle.sv32_table.specs.declared.walk.Place.{Place}
+use Rattle.sv32_table.specs.declared.walk.LeafPlace.{LeafPlace}
 use Rattle.sv32_table.specs.declared.walk.Leaf.{Leaf as Translation}
 
 -- the number of the physical page in which the root stands, and the other tables behind it; and how many there may be
@@ -32,23 +32,23 @@ unfoldable pub table_of : ℕ → ℕ → Option ℕ
 table_of count ppn = if nat_le root_page ppn && nat_lt (ppn - root_page) count then Some (ppn - root_page) else None
 
 -- where a walk ends that went on to a table
-unfoldable pub last_step : ℕ → ℕ → Shape → Result Place WalkFault
+unfoldable pub last_step : ℕ → ℕ → Shape → Result LeafPlace WalkFault
 last_step table index Leaf = Ok (record { table = table; index = index; superpage = false })
 last_step table index Pointer = Err PageFault
 last_step table index Invalid = Err PageFault
 
-unfoldable pub next_step : List (List ℕ) → ℕ → Option ℕ → Result Place WalkFault
+unfoldable pub next_step : List (List ℕ) → ℕ → Option ℕ → Result LeafPlace WalkFault
 next_step tables index (Some table) = last_step table index (shape_of (entry_of (word_in tables table index)))
 next_step tables index None = Err AccessFault
 
-unfoldable pub root_step : List (List ℕ) → ℕ → Entry → Shape → Result Place WalkFault
+unfoldable pub root_step : List (List ℕ) → ℕ → Entry → Shape → Result LeafPlace WalkFault
 root_step tables address root Leaf = Ok (record { table = 0; index = address / 0x400000; superpage = true })
 root_step tables address root Pointer =
     if has_reserved root then Err PageFault else next_step tables (address / 0x1000 % 1024) (table_of (length tables) root.ppn)
 root_step tables address root Invalid = Err PageFault
 
 -- where a walk for an address ends: the place of the leaf, if there is one
-unfoldable pub walk_end : List (List ℕ) → ℕ → Result Place WalkFault
+unfoldable pub walk_end : List (List ℕ) → ℕ → Result LeafPlace WalkFault
 walk_end tables address =
     let root = entry_of (word_in tables 0 (address / 0x400000)) in
     root_step tables address root (shape_of root)
@@ -66,13 +66,13 @@ Walked = Result Translation WalkFault × List (List ℕ)
 unfoldable pub permits : Bool → Access → Entry → Bool
 permits superpage access e = allows access e && (not superpage || is_aligned e)
 
-unfoldable pub translated : List (List ℕ) → ℕ → Access → Place → Entry → Walked
+unfoldable pub translated : List (List ℕ) → ℕ → Access → LeafPlace → Entry → Walked
 translated tables address access place e =
     if permits place.superpage access e
     then (Ok (record { pte = record { 0 = word_of (touched access e) }; physical = physical_of place.superpage e.ppn address }), with_word tables place.table place.index (word_of (touched access e)))
     else (Err PageFault, tables)
 
-unfoldable pub walked_from : List (List ℕ) → ℕ → Access → Result Place WalkFault → Walked
+unfoldable pub walked_from : List (List ℕ) → ℕ → Access → Result LeafPlace WalkFault → Walked
 walked_from tables address access (Ok place) = translated tables address access place (entry_of (word_in tables place.table place.index))
 walked_from tables address access (Err fault) = (Err fault, tables)
 

@@ -6,7 +6,7 @@ ghost use Rattle.sv32_table.specs.Tables.{word_in, with_word, table_of, walk_end
 
 use crate::fault::{MapFault, NoTable, WalkFault};
 use crate::pte::{Pte, Shape};
-use crate::walk::{Leaf, Place};
+use crate::walk::{Leaf, LeafPlace};
 use page_memory::{Access, Rights};
 use std::alloc::{AllocError, Global};
 use std::marker::Model;
@@ -221,7 +221,7 @@ impl Tables {
 
     /// Where a walk for an address ends (translation process, steps 2 to 4).
     #[tactic(auto, unfolding(crate::specs::Tables::walk_end, crate::specs::Tables::root_step))]
-    fn walk_end(&self, address: u32) -> Result<Place, WalkFault>
+    fn walk_end(&self, address: u32) -> Result<LeafPlace, WalkFault>
         ensures place { result ≡ walk_end self.now address }
         ensures within { IfOk result (λ place. (place.table < length self.now) × (place.index < 1024)) }
     {
@@ -235,7 +235,7 @@ impl Tables {
         if !root.is_leaf() {
             return Err(WalkFault::PageFault);
         }
-        Ok(Place {
+        Ok(LeafPlace {
             table: 0,
             index,
             superpage: true,
@@ -244,7 +244,7 @@ impl Tables {
 
     /// Where a walk ends that this pointer leads on.
     #[tactic(auto, unfolding(crate::specs::Tables::root_step, crate::specs::Tables::next_step, crate::specs::Tables::last_step))]
-    fn pointer_end(&self, root: Pte, address: u32) -> Result<Place, WalkFault>
+    fn pointer_end(&self, root: Pte, address: u32) -> Result<LeafPlace, WalkFault>
         ensures place { result ≡ root_step self.now address (entry_of root.0) Shape.Pointer }
         ensures within { IfOk result (λ place. (place.table < length self.now) × (place.index < 1024)) }
     {
@@ -258,7 +258,7 @@ impl Tables {
         if !Pte(self.word(table, index)).is_leaf() {
             return Err(WalkFault::PageFault);
         }
-        Ok(Place {
+        Ok(LeafPlace {
             table,
             index,
             superpage: false,

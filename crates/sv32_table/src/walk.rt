@@ -2,7 +2,7 @@ use crate::pte::Pte;
 
 /// The place of a leaf: a word of a table, of the root's (a superpage's) or of another's.
 #[derive(Clone, Copy)]
-pub(crate) struct Place {
+pub(crate) struct LeafPlace {
     pub table: usize,
     pub index: usize,
     pub superpage: bool,

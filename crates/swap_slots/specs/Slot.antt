@@ -4,6 +4,6 @@ use Rattle.std.specs.Prelude.{◌≡◌, ℕ, ◌-◌, ◌^◌, ◌<◌, ◌⊎�
 abbrev pub Rose : ℕ → ℕ → Type 0
 Rose old new = (old < new) ⊎ ((old ≡ 2 ^ 64 - 1) × (new ≡ 2 ^ 64 - 1))
 
--- the bytes of a page of zeros
-unfoldable pub zero_bytes : List ℕ
-zero_bytes = replicate 4096 0
+-- what a new slot gives: a page of zeros
+unfoldable pub zero_content : List ℕ
+zero_content = replicate 4096 0

@@ -1,5 +1,5 @@
 ghost use Rattle.std.specs.Prelude.{◌≡◌, ◌-◌, ◌+◌, ◌^◌, ◌<◌, ◌≤◌, ◌↔◌, ⊤, min, IfOk, IsOk, OnOk, OnErr};
-ghost use Rattle.swap_slots.specs.Slot.{Rose, zero_bytes};
+ghost use Rattle.swap_slots.specs.Slot.{Rose, zero_content};
 
 use crate::memory::MemorySlot;
 use crate::slot::{SlotFault, SwapSlot};
@@ -25,7 +25,7 @@ impl Model for FuseSlot {
 impl FuseSlot {
     /// A slot that holds a page of zeros, and of whose saves and loads the first `passes` succeed.
     pub fn new(alloc: Global, passes: u64) -> Result<FuseSlot, AllocError>
-        ensures { IfOk result (λ slot. slot ≡ record { content = zero_bytes; left = passes; failures = 0 }) }
+        ensures { IfOk result (λ slot. slot ≡ record { content = zero_content; left = passes; failures = 0 }) }
     {
         Ok(FuseSlot {
             slot: MemorySlot::new(alloc)?,

@@ -1,5 +1,5 @@
 ghost use Rattle.std.specs.Prelude.{◌≡◌, ◌≤◌, ⊤, IfOk, IsOk, OnOk, OnErr};
-ghost use Rattle.swap_slots.specs.Slot.{Rose, zero_bytes};
+ghost use Rattle.swap_slots.specs.Slot.{Rose, zero_content};
 
 use crate::slot::{SlotFault, SwapSlot};
 use std::alloc::{AllocError, Global};
@@ -21,9 +21,9 @@ impl Model for MemorySlot {
 
 impl MemorySlot {
     /// A slot that holds a page of zeros.
-    #[tactic(auto, unfolding(crate::specs::Slot::zero_bytes))]
+    #[tactic(auto, unfolding(crate::specs::Slot::zero_content))]
     pub fn new(alloc: Global) -> Result<MemorySlot, AllocError>
-        ensures { IfOk result (λ slot. slot ≡ zero_bytes) }
+        ensures { IfOk result (λ slot. slot ≡ zero_content) }
     {
         Ok(MemorySlot {
             bytes: Box::new(alloc, [0; 4096])?,

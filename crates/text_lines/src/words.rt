@@ -18,7 +18,7 @@ pub fn next_word(line: &[u8]) -> Option<(&[u8], &[u8])>
 }
 
 /// What stands before the first blank, and what stands behind it.
-#[tactic(auto, using(crate::proofs::Parts::cut, crate::proofs::Parts::uncut))]
+#[tactic(auto, using(crate::proofs::Parts::parts_at_end_found, crate::proofs::Parts::parts_at_no_end))]
 fn split_part(text: &[u8]) -> (&[u8], &[u8])
     requires { 0 < length text.now }
     ensures parts { parts_at is_blank text.now ≡ result.0.now ∷ parts_at is_blank result.1.now }

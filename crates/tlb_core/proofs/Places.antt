@@ -1,5 +1,5 @@
 -- What stands where in a cache, and that each page keeps at most one entry.
-use Rattle.std.proofs.Common.{◌≡◌, ◌≢◌, ℕ, zero, suc, ◌+◌, ◌<◌, ◌≤◌, Bool, true, false, cond, refl, sym, ap, ◌∙◌, arith, List, [], ◌∷◌, ◌++◌, length, get_or, set, take, drop, map, add-one, Option, Some, None, nat_lt}
+use Rattle.std.proofs.Common.{◌≡◌, ◌≢◌, ℕ, zero, suc, ◌+◌, ◌<◌, ◌≤◌, Bool, true, false, cond, refl, sym, ap, ◌∙◌, arith, List, [], ◌∷◌, ◌++◌, length, get_or, set, take, drop, map, add-one, Some, None, nat_lt}
 use Rattle.std.specs.Prelude.{find, position, not, slice_get}
 use Rattle.std.specs.List.{position_or_len, refill}
 use Rattle.std.proofs.Math.ListN.{length-set}
@@ -8,15 +8,12 @@ use Rattle.std.proofs.lemmas.List.Folds.{find_at}
 use Rattle.std.proofs.lemmas.List.Quantifiers.{position-Some, all_pairs_push}
 use Rattle.std.proofs.lemmas.List.Kept.{AllPairs-filter}
 use Rattle.std.proofs.lemmas.Bool.Decides.{nat_tests}
+use Rattle.std.proofs.lemmas.Option.{slice_get-get_or}
 use Rattle.tlb_core.specs.declared.translation.Translation.{Translation}
+use Rattle.tlb_core.specs.CacheLaws.{first_is_other}
 use Rattle.tlb_core.specs.Cache.{OnePerPage, is_of_page, translation_of, with_room, filled, filled_at, doomed, doomed_entry, undoomed}
 
 -- a search by place is a search
-slice_get_at : (xs : List Translation) (k : ℕ) (d : Translation) → k < length xs → slice_get xs k ≡ Some (get_or xs k d)
-slice_get_at [] k d within = absurd (omega arith)
-slice_get_at (x ∷ xs) zero d within = refl
-slice_get_at (x ∷ xs) (suc k) d within = slice_get_at xs k d (omega arith)
-
 pub find_at_place : (page : ℕ) (xs : List Translation) (k : ℕ) (d : Translation) → position (is_of_page page) xs ≡ Some k → Some (get_or xs k d) ≡ translation_of page xs
 find_at_place page xs k d is = by_length (nat_lt n (length xs)) refl is
   where
@@ -27,7 +24,7 @@ find_at_place page xs k d is = by_length (nat_lt n (length xs)) refl is
     by_length true test is =
         let e : n ≡ k = cc in
         let less : n < length xs = grind (arith, nat_tests) in
-        sym (find_at (is_of_page page) xs ∙ ap (slice_get xs) e ∙ slice_get_at xs k d (omega arith))
+        sym (find_at (is_of_page page) xs ∙ ap (slice_get xs) e ∙ slice_get-get_or xs k d (omega arith))
     by_length false test is = cc
 
 -- the same pages in the same places
@@ -73,18 +70,11 @@ place_within page xs k is = by_length (nat_lt n (length xs)) refl is
     by_length true test is = let e : n ≡ k = cc in let less : n < length xs = grind (arith, nat_tests) in omega arith
     by_length false test is = cc
 
--- or behind the others
-not_first : (page : ℕ) (x : Translation) (o : Option Translation) → cond (is_of_page page x) (Some x) o ≡ None → (x.page ≢ page) × (o ≡ None)
-not_first page x o none = by_test (is_of_page page x) refl none
-  where
-    by_test : (b : Bool) → is_of_page page x ≡ b → cond b (Some x) o ≡ None → (x.page ≢ page) × (o ≡ None)
-    by_test true test none = cc
-    by_test false test none = (grind (arith, nat_tests), none)
-
+-- where a search finds no entry of a page, none of that page stands
 not_there : (page : ℕ) (xs : List Translation) (k : ℕ) (d : Translation) → translation_of page xs ≡ None → k < length xs → (get_or xs k d).page ≢ page
 not_there page [] k d none within = absurd (omega arith)
-not_there page (x ∷ xs) zero d none within = (not_first page x (find (is_of_page page) xs) none).0
-not_there page (x ∷ xs) (suc k) d none within = not_there page xs k d ((not_first page x (find (is_of_page page) xs) none).1) (omega arith)
+not_there page (x ∷ xs) zero d none within = (first_is_other page x (find (is_of_page page) xs) none).0
+not_there page (x ∷ xs) (suc k) d none within = not_there page xs k d ((first_is_other page x (find (is_of_page page) xs) none).1) (omega arith)
 
 one_per_page_dropped : (n : ℕ) (xs : List Translation) → OnePerPage xs → OnePerPage (drop n xs)
 one_per_page_dropped n xs one =
@@ -143,9 +133,6 @@ room_there xs few = let test : nat_lt (length xs) 16 ≡ true = grind (arith, na
 -- marks, one entry after the other
 abbrev pub marked_below : ℕ → List Translation → ℕ → List Translation
 marked_below page xs i = map (doomed_entry page) (take i xs) ++ drop i xs
-
-pub marked_none : (page : ℕ) (xs : List Translation) → xs ≡ marked_below page xs 0
-marked_none page xs = refl
 
 marked_suc : (page : ℕ) (xs : List Translation) (i : ℕ) (d : Translation) → i < length xs
     → set (marked_below page xs i) i (doomed_entry page (get_or (marked_below page xs i) i d)) ≡ marked_below page xs (suc i)

@@ -1,10 +1,10 @@
 use Rattle.std.proofs.Common.{◌≡◌, ◌≤◌, ◌-◌, length, replicate}
-use Rattle.swap_slots.specs.Slot.{zero_bytes}
+use Rattle.swap_slots.specs.Slot.{zero_content}
 use Rattle.paged_cli.proofs.machine.memory_slots.Given as goal
 
 abbrev pub invariant-slots : goal.invariant-slots
 invariant-slots l = record {
-  zeros : l.slots.items ≡ replicate (length l.slots.items) zero_bytes;
+  zeros : l.slots.items ≡ replicate (length l.slots.items) zero_content;
   within : length l.slots.items ≤ l.wanted;
 }
 

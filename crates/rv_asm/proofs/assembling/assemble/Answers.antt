@@ -2,7 +2,7 @@ use Rattle.std.proofs.lemmas.Result.{IfOk-weaker, IfErr-weaker}
 use Rattle.rv_asm.specs.Steps.{Fails}
 use Rattle.rv_asm.specs.Listing.{ListsTold, assembled}
 use Rattle.rv_asm.specs.Assembly.{Assembles, IsFirstFault}
-use Rattle.rv_asm.proofs.OneFault.{answered}
+use Rattle.rv_asm.proofs.OneFault.{fault_answered}
 use Rattle.rv_asm.proofs.Relation.{assembles, fails_first}
 use Rattle.rv_asm.proofs.assembling.assemble.Goals as goal
 
@@ -13,4 +13,4 @@ pub returns-clause-refusal : goal.returns-clause-refusal
 returns-clause-refusal c = IfErr-weaker c.assemble_in_passes.result (Fails (assembled c.args.source.now)) (IsFirstFault c.args.source.now) (fails_first c.args.source.now) c.assemble_in_passes.ensures.refusal
 
 pub returns-clause-exact : goal.returns-clause-exact
-returns-clause-exact c line kind fault = answered c.args.source.now c.assemble_in_passes.result line kind c.assemble_in_passes.ensures.listing c.assemble_in_passes.ensures.refusal fault
+returns-clause-exact c line kind fault = fault_answered c.args.source.now c.assemble_in_passes.result line kind c.assemble_in_passes.ensures.listing c.assemble_in_passes.ensures.refusal fault

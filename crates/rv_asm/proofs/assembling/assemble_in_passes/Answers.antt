@@ -2,7 +2,7 @@ use Rattle.std.proofs.Common.{◌∙◌, ap, sym, subst}
 use Rattle.std.proofs.lemmas.Result.{err_from_is_err_and}
 use Rattle.rv_asm.specs.Steps.{Fails}
 use Rattle.rv_asm.specs.FirstPass.{first_pass}
-use Rattle.rv_asm.proofs.Whole.{first_refuses, no_text, second_refuses, listed, some_text}
+use Rattle.rv_asm.proofs.Whole.{first_refuses, no_text, second_refuses, both_passes_list, some_text}
 use Rattle.rv_asm.proofs.assembling.assemble_in_passes.Goals as goal
 
 pub returns-in_err-program-clause-refusal : goal.returns-in_err-program-clause-refusal
@@ -26,4 +26,4 @@ make_listing-requires-clause-some c = some_text c.in_ok-program.program.items (s
 
 pub returns-clause-listing : goal.returns-clause-listing
 returns-clause-listing c =
-    listed c.args.source.now c.in_ok-program.program c.in_ok-sections.sections c.in_ok-make_listing.field-0 (ap first_pass (sym c.as_bytes.ensures.value) ∙ c.in_ok-program.ensures.program) (sym c.has_no_text.ensures ∙ c.if-has_no_text.false) c.in_ok-sections.ensures.sections c.in_ok-make_listing.ensures
+    both_passes_list c.args.source.now c.in_ok-program.program c.in_ok-sections.sections c.in_ok-make_listing.field-0 (ap first_pass (sym c.as_bytes.ensures.value) ∙ c.in_ok-program.ensures.program) (sym c.has_no_text.ensures ∙ c.if-has_no_text.false) c.in_ok-sections.ensures.sections c.in_ok-make_listing.ensures

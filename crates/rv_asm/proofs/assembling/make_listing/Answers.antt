@@ -1,5 +1,6 @@
 use Rattle.std.proofs.Common.{◌≡◌, ◌∙◌, ap, sym, subst, arith, length, ◌++◌}
 use Rattle.std.proofs.lemmas.Result.{IfOk-at_ok}
+use Rattle.elf_image.specs.ImageLaws.{length-bytes_of}
 use Rattle.page_memory.specs.Words.{page_number}
 use Rattle.elf_image.specs.Image.{ImageContent, bytes_of}
 use Rattle.elf_image.specs.Parts.{parts_fault, image_of_parts}
@@ -8,7 +9,7 @@ use Rattle.elf_image.specs.BytePages.{byte_pages}
 use Rattle.rv_asm.specs.Listing.{ListingContent, image_of, text_rights, data_rights}
 use Rattle.rv_asm.proofs.SecondSteps.{pass_length}
 use Rattle.rv_asm.proofs.Spelling.{spell_length}
-use Rattle.rv_asm.proofs.PagesPass.{pages_pass, image_from_parts, length_bytes, ok_from_no_fault}
+use Rattle.rv_asm.proofs.PagesPass.{pages_pass, image_from_parts, ok_from_no_fault}
 use Rattle.rv_asm.proofs.assembling.make_listing.Goals as goal
 
 pub with_pages-requires-clause-few : goal.with_pages-requires-clause-few
@@ -17,7 +18,7 @@ with_pages-requires-clause-few c =
     let text = long.0 in
     let words = spell_length c.into_parts-words.result.0.items c.args.sections.text c.into_parts-words.ensures.words in
     let code = ap length (c.deref-2.ensures.value ∙ c.in_ok-code.ensures ∙ ap bytes_of c.deref.ensures.value) in
-    let bytes = length_bytes c.into_parts-words.result.0.items in
+    let bytes = length-bytes_of c.into_parts-words.result.0.items in
     let fits = c.items.ensures.text_fits in
     omega arith
 

@@ -1,7 +1,8 @@
 use Rattle.std.proofs.Common.{◌∙◌, sym, arith}
 use Rattle.std.specs.Vec.Iter.{into_iter_items}
 use Rattle.std.proofs.lemmas.Result.{err_from_is_err_and}
-use Rattle.rv_asm.proofs.FirstLoops.{labels_refuse, labels_end, no_items}
+use Rattle.std.proofs.lemmas.List.{nil_from_length}
+use Rattle.rv_asm.proofs.FirstLoops.{labels_refuse, labels_end}
 use Rattle.rv_asm.proofs.first_pass.with_labels.Goals as goal
 
 pub returns-in_err-program-clause-refusal : goal.returns-in_err-program-clause-refusal
@@ -14,4 +15,4 @@ returns-in_err-program-clause-refusal c =
 pub returns-clause-program : goal.returns-clause-program
 returns-clause-program c =
     sym c.loop-name.invariant.same
-    ∙ labels_end c.loop-name.program (into_iter_items c.loop-name.name-iterator) (no_items (into_iter_items c.loop-name.name-iterator) (let o = c.loop-name.name-iterator.rest.ok.0 in let e = c.in-None.ensures.steps.0 in omega arith))
+    ∙ labels_end c.loop-name.program (into_iter_items c.loop-name.name-iterator) (nil_from_length (into_iter_items c.loop-name.name-iterator) (let o = c.loop-name.name-iterator.rest.ok.0 in let e = c.in-None.ensures.steps.0 in omega arith))

@@ -1,8 +1,9 @@
 use Rattle.std.proofs.Common.{◌∙◌, ap, sym, map, arith}
 use Rattle.std.specs.Vec.Iter.{into_iter_items}
 use Rattle.std.proofs.lemmas.Result.{err_from_is_err_and}
+use Rattle.std.proofs.lemmas.List.{nil_from_length}
 use Rattle.rv_asm.specs.declared.item.Item.TheVariants.{InText}
-use Rattle.rv_asm.proofs.FirstLoops.{items_refuse, items_end, no_items}
+use Rattle.rv_asm.proofs.FirstLoops.{items_refuse, items_end}
 use Rattle.rv_asm.proofs.first_pass.with_text.Goals as goal
 
 pub returns-in_err-program-clause-refusal : goal.returns-in_err-program-clause-refusal
@@ -15,4 +16,4 @@ returns-in_err-program-clause-refusal c =
 pub returns-clause-program : goal.returns-clause-program
 returns-clause-program c =
     sym c.loop-code.invariant.same
-    ∙ items_end c.loop-code.program (map (InText c.args.line) (into_iter_items c.loop-code.code-iterator)) (ap (map (InText c.args.line)) (no_items (into_iter_items c.loop-code.code-iterator) (let o = c.loop-code.code-iterator.rest.ok.0 in let e = c.in-None.ensures.steps.0 in omega arith)))
+    ∙ items_end c.loop-code.program (map (InText c.args.line) (into_iter_items c.loop-code.code-iterator)) (ap (map (InText c.args.line)) (nil_from_length (into_iter_items c.loop-code.code-iterator) (let o = c.loop-code.code-iterator.rest.ok.0 in let e = c.in-None.ensures.steps.0 in omega arith)))

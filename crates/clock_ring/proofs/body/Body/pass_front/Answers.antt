@@ -1,5 +1,5 @@
-use Rattle.std.specs.Prelude.{◌≡◌, ◌≤◌, [], ◌∷◌, ◌++◌, List, length, refl}
-use Rattle.std.proofs.Common.{arith, sym, ap, ◌∙◌, subst}
+use Rattle.std.specs.Prelude.{◌≤◌, [], List, length, refl}
+use Rattle.std.proofs.Common.{arith, sym, ap, ◌∙◌, subst, append-nil}
 use Rattle.clock_policy.specs.ClockPro.{fallen}
 use Rattle.clock_policy.specs.declared.entry.EntryKind.TheVariants.{Hot, Test, Cold, Shadow}
 use Rattle.clock_policy.specs.SingleMoves.{front_turned}
@@ -8,10 +8,6 @@ use Rattle.page_ring.specs.Chain.{Chain, of_kind}
 use Rattle.clock_ring.specs.BodyState.{state_of}
 use Rattle.clock_ring.proofs.PassLaws.{front_is, passed_one, passed_cells}
 use Rattle.clock_ring.proofs.body.Body.pass_front.Goals as goal
-
-append_nil : (l : List Cell) → l ++ [] ≡ l
-append_nil [] = refl
-append_nil (c ∷ cs) = ap (λ (l : List Cell). c ∷ l) (append_nil cs)
 
 pub mark-requires : goal.mark-requires
 mark-requires c = let b = c.args.self.now in (front_is b.ring.cells c.front-at.result c.node.result c.requires c.front-at.ensures c.node.ensures).holds
@@ -76,4 +72,4 @@ returns-in-Shadow-clause-cells c =
     let b = c.args.self.now in
     let f = front_is b.ring.cells c.front-at.result c.node.result c.requires c.front-at.ensures c.node.ensures in
     let d : Cell = record { at = c.front-at.result; entry = c.node.result.entry } in
-    passed_cells b.ring.cells _ c.front-at.result c.node.result.entry Shadow f c.in-Shadow.is (ap (λ (r : Chain). r.cells) c.fall-in-Shadow.ensures.same ∙ c.remove.ensures.cells [] f.rest d f.parts refl ∙ sym (append_nil f.rest))
+    passed_cells b.ring.cells _ c.front-at.result c.node.result.entry Shadow f c.in-Shadow.is (ap (λ (r : Chain). r.cells) c.fall-in-Shadow.ensures.same ∙ c.remove.ensures.cells [] f.rest d f.parts refl ∙ sym (append-nil f.rest))

@@ -18,6 +18,6 @@ invariant_of-self-2 c =
     let at : c.append.result ≡ c.vacant-at.result = c.append.ensures.vacant ∙ sym c.vacant-at.ensures in
     record {
       indexes = subst (λ (l : List Cell). FindsNodes l (λ k. node_of k c.insert.new.self)) (sym c.append.ensures.cells)
-          (index_append (λ k. node_of k c.self.inside.places) (λ k. node_of k c.insert.new.self) c.self.inside.links.cells (record { at = c.append.result; entry = c.args.entry }) new (λ k. c.in_ok-insert.ensures.put k ∙ ap (λ (n : ℕ). cond (same_key c.args.entry.key k) (Some n) (node_of k c.self.inside.places)) (sym at)) c.self.invariant.indexes);
+          (index_append (λ k. node_of k c.self.inside.index) (λ k. node_of k c.insert.new.self) c.self.inside.links.cells (record { at = c.append.result; entry = c.args.entry }) new (λ k. c.in_ok-insert.ensures.put k ∙ ap (λ (n : ℕ). cond (same_key c.args.entry.key k) (Some n) (node_of k c.self.inside.index)) (sym at)) c.self.invariant.indexes);
       parted = c.insert.ensures.parted;
     }

@@ -19,4 +19,4 @@ invariant_of-self c = record {
         let node : c.node.result ≡ record { entry = e.cell.entry; next = first_at (e.behind ++ e.before) c.args.at; previous = last_at c.args.at (e.behind ++ e.before) } =
         c.node.ensures e.cell (e.behind ++ e.before) (rotates_split c.self.inside.links.cells e.before e.behind e.cell e.parts) e.is in
         subst (λ (l : List Cell). FindsNodes l (λ k. node_of k c.remove-2.new.self)) (sym (c.remove.ensures.cells e.before e.behind e.cell e.parts e.is))
-        (index_remove (λ k. node_of k c.self.inside.places) (λ k. node_of k c.remove-2.new.self) e.before e.behind e.cell (λ k. c.remove-2.ensures.taken k ∙ ap (λ (n : Node). cond (same_key n.entry.key k) None (node_of k c.self.inside.places)) node) (subst (λ (l : List Cell). FindsNodes l (λ k. node_of k c.self.inside.places)) e.parts c.self.invariant.indexes))
+        (index_remove (λ k. node_of k c.self.inside.index) (λ k. node_of k c.remove-2.new.self) e.before e.behind e.cell (λ k. c.remove-2.ensures.taken k ∙ ap (λ (n : Node). cond (same_key n.entry.key k) None (node_of k c.self.inside.index)) node) (subst (λ (l : List Cell). FindsNodes l (λ k. node_of k c.self.inside.index)) e.parts c.self.invariant.indexes))

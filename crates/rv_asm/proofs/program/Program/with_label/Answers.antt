@@ -3,7 +3,7 @@ use Rattle.std.specs.Prelude.{is_some}
 use Rattle.rv_asm.specs.Program.{label_place, size}
 use Rattle.rv_asm.specs.FirstPass.{Progress}
 use Rattle.rv_asm.proofs.Places.{counted_label}
-use Rattle.rv_asm.proofs.FirstSteps.{label_twice, label_added, none_there}
+use Rattle.rv_asm.proofs.FirstSteps.{label_twice, label_added, none_unless_some}
 use Rattle.rv_asm.proofs.program.Program.with_label.Goals as goal
 
 pub returns-then-is_some-clause-refusal : goal.returns-then-is_some-clause-refusal
@@ -14,7 +14,7 @@ returns-then-is_some-clause-refusal c =
 pub invariant_of-self : goal.invariant_of-self
 invariant_of-self c =
     let found = c.place.ensures.place ∙ ap (label_place c.args.self.items) c.bytes.ensures in
-    let none = none_there (label_place c.args.self.items c.args.name) (ap is_some (sym found) ∙ sym c.is_some.ensures ∙ c.if-is_some.false) in
+    let none = none_unless_some (label_place c.args.self.items c.args.name) (ap is_some (sym found) ∙ sym c.is_some.ensures ∙ c.if-is_some.false) in
     let items = ap (λ (p : Progress). p.items) c.self.view_is in
     counted_label _ _ c.self.inside.section c.args.name c.bytes-2.result.now _ _ _ _ c.end-place.result c.self.invariant
     (ap (λ l. label_place l c.args.name) items ∙ none)

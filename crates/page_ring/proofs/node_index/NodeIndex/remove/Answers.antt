@@ -2,7 +2,7 @@
 use Rattle.std.specs.HashMap.{get_by}
 use Rattle.page_ring.specs.Slots.{same_key, in_slot}
 use Rattle.page_ring.proofs.SlotLaws.{take_second_alone}
-use Rattle.page_ring.proofs.places.Places.remove.Goals as goal
+use Rattle.page_ring.proofs.node_index.NodeIndex.remove.Goals as goal
 
 pub returns-else-is_some_and-clause-parted : goal.returns-else-is_some_and-clause-parted
 returns-else-is_some_and-clause-parted c =

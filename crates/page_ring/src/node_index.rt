@@ -9,12 +9,12 @@ use std::collections::HashMap;
 
 /// A page and its node.
 #[derive(Clone, Copy, Debug)]
-pub(crate) struct Place {
+pub(crate) struct IndexedNode {
     key: Key,
     at: u32,
 }
 
-impl Place {
+impl IndexedNode {
     #[inline(always)]
     fn is_of(self, key: Key) -> bool
         ensures { result ≡ same_key self.key key }
@@ -25,23 +25,23 @@ impl Place {
 
 /// A table with a slot for each page, by its number, and a map of the pages whose slot was taken.
 #[derive(Drop)]
-pub(crate) struct Places {
-    slots: Vec<Option<Place>>,
+pub(crate) struct NodeIndex {
+    slots: Vec<Option<IndexedNode>>,
     others: HashMap<Key, usize>,
     ghost some: { 1 ≤ vec_len slots },
 }
 
-impl Places {
+impl NodeIndex {
     ghost use Rattle.page_ring.specs.Index.{node_of, Parted};
 
     /// No page is there. The table has two slots or more for each page that there is room for, up to a bound.
     pub(crate) fn new(alloc: Global, room: usize) -> Result<Self, AllocError>
-        ensures none { IfOk result (λ places. (k : Key) → node_of k places ≡ None) }
+        ensures none { IfOk result (λ index. (k : Key) → node_of k index ≡ None) }
         ensures parted { IfOk result Parted }
     {
         let slots = vec![in alloc; None; (2 * room.min(1 << 20)).next_power_of_two()]?;
         let others = HashMap::with_capacity(alloc, room)?;
-        Ok(Places { slots, others })
+        Ok(NodeIndex { slots, others })
     }
 
     #[inline(always)]
@@ -59,9 +59,9 @@ impl Places {
     pub(crate) fn find(&self, key: Key) -> Option<usize>
         ensures { result ≡ node_of key self.now }
     {
-        if let Some(place) = self.slots[self.slot(key)] {
-            if place.is_of(key) {
-                return Some(place.at as usize);
+        if let Some(indexed) = self.slots[self.slot(key)] {
+            if indexed.is_of(key) {
+                return Some(indexed.at as usize);
             }
         }
         if self.others.is_empty() {
@@ -82,7 +82,7 @@ impl Places {
         let slot = self.slot(key);
         if self.slots[slot].is_none() {
             if let Ok(at) = u32::try_from(at) {
-                self.slots[slot] = Some(Place { key, at });
+                self.slots[slot] = Some(IndexedNode { key, at });
                 return Ok(());
             }
         }
@@ -111,7 +111,7 @@ impl Places {
         ensures parted { Parted self.new }
     {
         let slot = self.slot(key);
-        if self.slots[slot].is_some_and(|place| place.is_of(key)) {
+        if self.slots[slot].is_some_and(|indexed| indexed.is_of(key)) {
             self.slots[slot] = None;
         } else {
             self.others.remove(&key);

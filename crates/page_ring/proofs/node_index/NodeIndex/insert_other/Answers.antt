@@ -2,7 +2,7 @@
 use Rattle.std.specs.HashMap.{get_by}
 use Rattle.page_ring.specs.Slots.{same_key, in_slot}
 use Rattle.page_ring.proofs.SlotLaws.{put_second_alone}
-use Rattle.page_ring.proofs.places.Places.insert_other.Goals as goal
+use Rattle.page_ring.proofs.node_index.NodeIndex.insert_other.Goals as goal
 
 pub returns-in-Ok-clause-parted : goal.returns-in-Ok-clause-parted
 returns-in-Ok-clause-parted c =

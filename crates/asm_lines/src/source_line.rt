@@ -3,7 +3,7 @@ use crate::span::Span;
 
 /// A line by its form: labels, then perhaps a statement's name, then its operands.
 #[derive(Drop)]
-pub struct Line<'a> {
+pub struct SourceLine<'a> {
     pub labels: Vec<Span<'a>>,
     pub name: Option<Span<'a>>,
     pub operands: Vec<Operand<'a>>,

@@ -2,7 +2,7 @@ use asm_statements::Section;
 
 /// Where a label stands: its section, and how many bytes the section has before it.
 #[derive(Clone, Copy, Debug, PartialEq, Eq)]
-pub(crate) struct Place {
+pub(crate) struct LabelPlace {
     pub(crate) section: Section,
     pub(crate) offset: u32,
 }

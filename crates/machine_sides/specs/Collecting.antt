@@ -57,7 +57,7 @@ module _ {S : Type 0} where
     pub leaving : page.place ≡ Leaving frame slot mark
 
   -- a cache holds a translation of it still
-  pub record IsHeld (vpn : ℕ) (space : SpaceValue S) : Type 0 where
+  pub record IsHeldByCache (vpn : ℕ) (space : SpaceValue S) : Type 0 where
     pub page : IsLeaving vpn space
     pub held : is_held vpn space.memory.caches ≡ true
 
@@ -118,7 +118,7 @@ module _ {S : Type 0} where
     -- what a look at a page comes to, before the pager has a part in it
     abbrev pub Finds : Collected L S → Type 0
     Finds answer.NotLeaving = (is_leaving old.space vpn ≡ false) × ((new ≡ old) × (slots' ≡ slots))
-    Finds answer.NotYet = IsHeld vpn old.space × ((new ≡ old) × (slots' ≡ slots))
+    Finds answer.NotYet = IsHeldByCache vpn old.space × ((new ≡ old) × (slots' ≡ slots))
     Finds (answer.Clean frame) = Drops vpn frame old new × (slots' ≡ slots)
     Finds (answer.Dirty job) = StartsSaving vpn job old new slots slots'
     Finds answer.NoSlot = LacksSlot vpn old.space slots × ((new ≡ old) × (slots' ≡ slots))
@@ -132,7 +132,7 @@ module _ {S : Type 0} where
 
     -- a cache holds a translation of the page, which stays
     pub record IsNotYet : Type 0 where
-      pub held : IsHeld vpn old.space
+      pub held : IsHeldByCache vpn old.space
       pub stays : StaysAll
 
     -- the page goes to its backing, and its frame is free

@@ -1,4 +1,4 @@
-ghost use Rattle.std.specs.Prelude.{◌≡◌, length, IsErr, IfErr, OnOk, OnErr};
+ghost use Rattle.std.specs.Prelude.{◌≡◌, ◌↔◌, length, IsErr, IfErr, OnOk, OnErr};
 ghost use Rattle.paged_memory.specs.Paged.{memory_of};
 ghost use Rattle.machine_sides.specs.SavingBack.{is_saving, EndsSave, Ends, FreesFrame};
 
@@ -111,7 +111,7 @@ impl<L: Ledger, C: Clock> PagerSide<L, C> {
     /// handed back.
     fn free_saved(&mut self, frame: Frame<L>) -> Result<(), Frame<L>>
         ensures freed { OnOk result (FreesFrame frame self.old self.new) }
-        ensures full { IsErr result → length self.old.pager.free ≡ self.old.pager.size }
+        ensures full { IsErr result ↔ (length self.old.pager.free ≡ self.old.pager.size) }
         ensures handed_back { IfErr result (λ back. back ≡ frame) }
         ensures err { OnErr result (self.new ≡ self.old) }
     {

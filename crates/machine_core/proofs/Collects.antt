@@ -19,7 +19,7 @@ use Rattle.machine_sides.specs.declared.collecting.Looked.{Looked}
 use Rattle.machine_sides.specs.declared.collecting.Looked.TheVariants.{NotLeaving, NotYet, Freed, Dirty, NoSlot, NotRestored, HandedBack}
 use Rattle.machine_core.specs.declared.error.EventRefusal.TheVariants as refusal
 use Rattle.machine_core.specs.declared.event.Reply.{Reply}
-use Rattle.machine_sides.specs.Collecting.{is_leaving, is_leaving_stage, IsLeaving, Looks, IsDropped, IsCopied, LacksAndReturns, LacksAndLeaves}
+use Rattle.machine_sides.specs.Collecting.{is_leaving_at, is_leaving_stage, IsLeaving, Looks, IsDropped, IsCopied, LacksAndReturns, LacksAndLeaves}
 use Rattle.machine_core.specs.CollectEvent.{leaving_reason, collect_refusal, CollectsTo, not_yet, freed, dirty, no_slot, no_memory, CollectsOnce, LooksAt, IsOwn, jobs_after, looked_reply}
 use Rattle.machine_sides.specs.CollectLaws.{dropped_together, dropped_rest, copied_together, copied_savings, copied_slots, copied_stays, copied_now, copied_place}
 use Rattle.machine_sides.specs.LookLaws.{same_sides}
@@ -45,7 +45,7 @@ only_memory list.NoMemory h = refl
 module _ {S : Type 0} where
   -- ---- a page that is leaving holds a frame, and is neither resident nor being saved
 
-  pub leaving_found : (space : SpaceValue S) (vpn : ℕ) → is_leaving space vpn ≡ true → IsLeaving vpn space
+  pub leaving_found : (space : SpaceValue S) (vpn : ℕ) → is_leaving_at space vpn ≡ true → IsLeaving vpn space
   leaving_found space vpn h =
       elim (nat_lt vpn (2 ^ 20)) as (λ t. nat_lt vpn (2 ^ 20) ≡ t → is_leaving_stage (if t then option_map (λ page. page_state_of page.place) (page_at space.memory.pages vpn) else None) ≡ true → IsLeaving vpn space) [
         | true ↦ λ small is. by_page (ltb-true vpn (2 ^ 20) small) (page_at space.memory.pages vpn) refl is
@@ -190,7 +190,7 @@ module _ {S : Type 0} where
 
   -- ---- what a look comes to in the machine
 
-  module _ (core : CoreValue S) (p : ℕ) (q q' : ProcessSideValue S) (vpn : ℕ) (machine : IsMachine core) (found : slice_get core.processes p ≡ Some q) (leaving : is_leaving q.space vpn ≡ true) where
+  module _ (core : CoreValue S) (p : ℕ) (q q' : ProcessSideValue S) (vpn : ℕ) (machine : IsMachine core) (found : slice_get core.processes p ≡ Some q) (leaving : is_leaving_at q.space vpn ≡ true) where
     holds : HoldsFrame q.space vpn
     holds = leaving_holds q.space vpn (leaving_found q.space vpn leaving)
 
@@ -213,8 +213,8 @@ module _ {S : Type 0} where
 
   -- ---- the event
 
-  allowed_leaving : (vpn : ℕ) (q : ProcessSideValue S) → leaving_reason vpn q ≡ None → is_leaving q.space vpn ≡ true
-  allowed_leaving vpn q h = by_answer (is_leaving q.space vpn) h
+  allowed_leaving : (vpn : ℕ) (q : ProcessSideValue S) → leaving_reason vpn q ≡ None → is_leaving_at q.space vpn ≡ true
+  allowed_leaving vpn q h = by_answer (is_leaving_at q.space vpn) h
     where
       by_answer : (b : Bool) → (if b then None else Some refusal.NotLeaving) ≡ None → b ≡ true
       by_answer true h = refl
@@ -234,7 +234,7 @@ module _ {S : Type 0} where
         let is : new ≡ slice_set items key.process looks.process' = looks.is ∙ ap (λ l. slice_set l key.process looks.process') same in
         lent_back items new n long (ap length is ∙ length-set items key.process looks.process') ∙ is
 
-    leaving : is_leaving looks.process.space key.vpn ≡ true
+    leaving : is_leaving_at looks.process.space key.vpn ≡ true
     leaving = allowed_leaving key.vpn looks.process (ap (of_process (leaving_reason key.vpn)) (sym found) ∙ allowed)
 
     pub own : IsOwn looked

@@ -20,7 +20,7 @@ use Rattle.paged_memory.specs.declared.filling.PageInFault.TheVariants as fault
 use Rattle.space_core.specs.StandsFor.{SpaceValue}
 use Rattle.sv32_table.specs.EntryAt.{has_table}
 use Rattle.swap_slots.specs.PoolValue.{PoolValue}
-use Rattle.machine_sides.specs.Admitting.{is_resident_stage, is_resident, is_absent, bars, told_by, taken_back}
+use Rattle.machine_sides.specs.Admitting.{is_resident_stage, is_resident_at, is_absent_at, bars, told_by, taken_back}
 use Rattle.machine_sides.specs.declared.admission.NotAdmitted.{NotAdmitted}
 use Rattle.machine_sides.specs.declared.admission.NotAdmitted.TheVariants.{Ended, NotAbsent, AlreadyResident, NoFrame, NoMemory}
 use Rattle.machine_core.specs.declared.error.EventRefusal.{EventRefusal}
@@ -79,7 +79,7 @@ module _ {S : Type 0} where
       by_place (Away s) Purged how = absurd how
       by_place Purged new how = absurd how
 
-  away_still : (held : S → List ℕ) (honest : Type 0) (old new : SpaceValue S) (v : ℕ) → v < 2 ^ 20 → ChangesBy (StaysAbsent held honest) old.memory.pages new.memory.pages v → is_resident new v ≡ false
+  away_still : (held : S → List ℕ) (honest : Type 0) (old new : SpaceValue S) (v : ℕ) → v < 2 ^ 20 → ChangesBy (StaysAbsent held honest) old.memory.pages new.memory.pages v → is_resident_at new v ≡ false
   away_still held honest old new v small stays =
       let staged : Option (PageValue S) → Option PageState = λ o. option_map (λ (page : PageValue S). page_state_of page.place) o in
       let self : v == v ≡ true = grind (arith, nat_tests) in
@@ -112,7 +112,7 @@ module _ {S : Type 0} where
           changes = page.changes;
           how = (stays_so held honest failures core key pager' q q' reply machine found taken.fault taken.admission.frame taken.back.frame (has_table q.space.memory.tables key.vpn) page.page page.page' page.how).0;
         } in
-        let away : is_resident q'.space taken.back.key.vpn ≡ false = ap (λ (k : Key). is_resident q'.space k.vpn) key_is ∙ away_still held honest q.space q'.space key.vpn there.small stays in
+        let away : is_resident_at q'.space taken.back.key.vpn ≡ false = ap (λ (k : Key). is_resident_at q'.space k.vpn) key_is ∙ away_still held honest q.space q'.space key.vpn there.small stays in
         record {
           admission = taken.admission;
           back = taken.back.frame;
@@ -194,7 +194,7 @@ module _ {S : Type 0} where
       by_reason : (reason : NotAdmitted) → bars key core.pager.pager q.space ≡ told_by reason → reply ≡ Refused (admit_reason reason) → Outcome
       by_reason Ended why answered = is_refused refusal.Ended (reason_told (Some Ended) why) answered
       by_reason NotAbsent why answered = is_refused refusal.NotAbsent (reason_told (Some NotAbsent) why) answered
-      by_reason AlreadyResident why answered = absurd (not_listed (is_some q.space.running.ending) (is_absent q.space key.vpn) (none_free core.pager.pager.free) (sym (bars_are core key q machine found) ∙ why))
+      by_reason AlreadyResident why answered = absurd (not_listed (is_some q.space.running.ending) (is_absent_at q.space key.vpn) (none_free core.pager.pager.free) (sym (bars_are core key q machine found) ∙ why))
       by_reason NoFrame why answered = is_refused refusal.NoFrame (reason_told (Some NoFrame) why) answered
       by_reason NoMemory why answered = record {
         served = inr (record {

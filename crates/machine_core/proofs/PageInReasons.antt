@@ -22,7 +22,7 @@ use Rattle.paged_memory.specs.Counting.{is_resident_place}
 use Rattle.paged_memory.specs.Filling.{IsAbsent}
 use Rattle.paged_memory.specs.Paged.{page_at}
 use Rattle.space_core.specs.StandsFor.{SpaceValue}
-use Rattle.machine_sides.specs.Admitting.{is_absent_stage, is_absent, page_bars, bars, bars_from, pager_refusal}
+use Rattle.machine_sides.specs.Admitting.{is_absent_stage, is_absent_at, page_bars, bars, bars_from, pager_refusal}
 use Rattle.machine_sides.specs.declared.admission.NotAdmitted.{NotAdmitted}
 use Rattle.machine_sides.specs.declared.admission.NotAdmitted.TheVariants.{Ended, NotAbsent, NoFrame}
 use Rattle.machine_core.specs.declared.error.EventRefusal.TheVariants as refusal
@@ -72,7 +72,7 @@ module _ {S : Type 0} where
   resident_stage Purged h = cc
 
   -- a resident page is not absent
-  resident_there : (space : SpaceValue S) (key : Key) → HasResident space key → is_absent space key.vpn ≡ false
+  resident_there : (space : SpaceValue S) (key : Key) → HasResident space key → is_absent_at space key.vpn ≡ false
   resident_there space key there =
       let staged : Option (PageValue S) → Option PageState = λ o. option_map (λ (page : PageValue S). page_state_of page.place) o in
       ap (λ b. is_absent_stage (if b then staged (page_at space.memory.pages key.vpn) else None)) (lt-ltb key.vpn (2 ^ 20) there.small)
@@ -96,7 +96,7 @@ module _ {S : Type 0} where
       by_place (Away slot) h = tt
       by_place Purged h = cc
 
-  pub absent_there : (space : SpaceValue S) (vpn : ℕ) → is_absent space vpn ≡ true → IsThere space vpn
+  pub absent_there : (space : SpaceValue S) (vpn : ℕ) → is_absent_at space vpn ≡ true → IsThere space vpn
   absent_there space vpn h =
       elim (nat_lt vpn (2 ^ 20)) as (λ t. nat_lt vpn (2 ^ 20) ≡ t → is_absent_stage (if t then option_map (λ (page : PageValue S). page_state_of page.place) (page_at space.memory.pages vpn) else None) ≡ true → IsThere space vpn) [
         | true ↦ λ small is. record { small = ltb-true vpn (2 ^ 20) small; absent = absent_page (page_at space.memory.pages vpn) is }
@@ -105,7 +105,7 @@ module _ {S : Type 0} where
 
   module _ (core : CoreValue S) (key : Key) (q : ProcessSideValue S) (machine : IsMachine core) (found : slice_get core.processes key.process ≡ Some q) where
     -- the list does not have an absent page as a resident one
-    pub absent_unlisted : is_absent q.space key.vpn ≡ true → has_resident key core.pager.pager.list ≡ false
+    pub absent_unlisted : is_absent_at q.space key.vpn ≡ true → has_resident key core.pager.pager.list ≡ false
     absent_unlisted absent = by_kind (has_resident key core.pager.pager.list) refl
       where
         by_kind : (b : Bool) → has_resident key core.pager.pager.list ≡ b → has_resident key core.pager.pager.list ≡ false
@@ -117,7 +117,7 @@ module _ {S : Type 0} where
             let there = resident_of one.item.space key one.some in
             let place : one.place ≡ key.process = sym (machine.numbered one.place one.item one.found) ∙ there.of_process in
             let same : one.item ≡ q = let a = one.found in let b = found in let c = place in cc in
-            let no : is_absent q.space key.vpn ≡ false = resident_there q.space key (subst (λ (r : ProcessSideValue S). HasResident r.space key) same there) in
+            let no : is_absent_at q.space key.vpn ≡ false = resident_there q.space key (subst (λ (r : ProcessSideValue S). HasResident r.space key) same there) in
             cc
 
     -- where a frame is free the list is not full
@@ -150,16 +150,16 @@ module _ {S : Type 0} where
     told false false refused none h = refl
 
     -- what bars a page's admission is the first reason of the process's and the pager's, where a full list is none
-    pub bars_are : bars key core.pager.pager q.space ≡ first_reason (is_some q.space.running.ending) (is_absent q.space key.vpn) (none_free core.pager.pager.free)
+    pub bars_are : bars key core.pager.pager q.space ≡ first_reason (is_some q.space.running.ending) (is_absent_at q.space key.vpn) (none_free core.pager.pager.free)
     unfolding bars page_bars admission_refused
     bars_are =
-        told (is_some q.space.running.ending) (is_absent q.space key.vpn) (admission_refused key core.pager.pager) (none_free core.pager.pager.free)
+        told (is_some q.space.running.ending) (is_absent_at q.space key.vpn) (admission_refused key core.pager.pager) (none_free core.pager.pager.free)
         (λ absent.
         ap (λ b. if b then Some pager_refused.AlreadyResident else (if has_no_frame core.pager.pager then Some pager_refused.NoFrame else None)) (listed_alike key core.pager.pager.list ∙ absent_unlisted absent)
         ∙ ap (λ b. if b then Some pager_refused.NoFrame else None) no_frame_alike)
 
-  pub reason_is : (vpn : ℕ) (free : List FrameValue) (q : ProcessSideValue S) → page_in_reason vpn free q ≡ option_map admit_reason (first_reason (is_some q.space.running.ending) (is_absent q.space vpn) (none_free free))
-  reason_is vpn free q = event_told (is_some q.space.running.ending) (is_absent q.space vpn) (none_free free)
+  pub reason_is : (vpn : ℕ) (free : List FrameValue) (q : ProcessSideValue S) → page_in_reason vpn free q ≡ option_map admit_reason (first_reason (is_some q.space.running.ending) (is_absent_at q.space vpn) (none_free free))
+  reason_is vpn free q = event_told (is_some q.space.running.ending) (is_absent_at q.space vpn) (none_free free)
 
 -- ---- an admission
 
@@ -219,5 +219,5 @@ module _ {S : Type 0} where
   unfolding bars page_bars
   unbarred key state space none =
       let parts = none_from (page_bars space key.vpn) (admission_refused key state) none in
-      let page = page_told (is_some space.running.ending) (is_absent space key.vpn) parts.0 in
+      let page = page_told (is_some space.running.ending) (is_absent_at space key.vpn) parts.0 in
       record { live = page.0; there = absent_there space key.vpn page.1; lists = lists key state parts.1 }

@@ -11,7 +11,7 @@ use Rattle.space_core.specs.StandsFor.{SpaceValue}
 use Rattle.machine_core.specs.declared.error.EventRefusal.TheVariants as refusal
 use Rattle.machine_core.specs.Machine.{CoreValue, IsMachine}
 use Rattle.machine_core.specs.MachineRun.{of_process}
-use Rattle.machine_sides.specs.SavingBack.{is_saving, is_saving_stage}
+use Rattle.machine_sides.specs.SavingBack.{is_saving_at, is_saving_stage}
 use Rattle.machine_core.specs.SavingOut.{saving_reason, saved_refusal, is_save_of}
 use Rattle.machine_sides.specs.Sides.{ProcessSideValue}
 use Rattle.machine_sides.specs.Together.{savings_in, key_of}
@@ -35,7 +35,7 @@ module _ {S : Type 0} where
   saving_place (Away slot) h = cc
   saving_place Purged h = cc
 
-  pub saving_at : (space : SpaceValue S) (vpn : ℕ) → is_saving space vpn ≡ true → IsSavingAt space vpn
+  pub saving_at : (space : SpaceValue S) (vpn : ℕ) → is_saving_at space vpn ≡ true → IsSavingAt space vpn
   saving_at space vpn h = by_test (nat_lt vpn (2 ^ 20)) refl h
     where
       by_page : (o : Option (PageValue S)) → vpn < 2 ^ 20 → page_at space.memory.pages vpn ≡ o → is_saving_stage (option_map (λ (page : PageValue S). page_state_of page.place) o) ≡ true → IsSavingAt space vpn
@@ -55,13 +55,13 @@ module _ {S : Type 0} where
   pub not_refused : (processes : List (ProcessSideValue S)) (key : Key) → saved_refusal key processes ≡ None → SavesPage processes key
   not_refused processes key h = by_process (slice_get processes key.process) refl h
     where
-      by_test : (q : ProcessSideValue S) (b : Bool) → slice_get processes key.process ≡ Some q → is_saving q.space key.vpn ≡ b → (if b then None else Some refusal.NotSaving) ≡ None → SavesPage processes key
+      by_test : (q : ProcessSideValue S) (b : Bool) → slice_get processes key.process ≡ Some q → is_saving_at q.space key.vpn ≡ b → (if b then None else Some refusal.NotSaving) ≡ None → SavesPage processes key
       by_test q true found is h = record { process = q; found = found; saving = saving_at q.space key.vpn is }
       by_test q false found is h = cc
 
       by_process : (o : Option (ProcessSideValue S)) → slice_get processes key.process ≡ o → of_process (saving_reason key.vpn) o ≡ None → SavesPage processes key
       by_process None at h = cc
-      by_process (Some q) at h = by_test q (is_saving q.space key.vpn) at refl h
+      by_process (Some q) at h = by_test q (is_saving_at q.space key.vpn) at refl h
 
   counted_at : (q : ProcessSideValue S) (key : Key) → q.space.memory.process ≡ key.process → IsSavingAt q.space key.vpn → 1 ≤ savings_in q.space (is_key key)
   unfolding savings_in

@@ -143,7 +143,7 @@ module _ {S : Type 0} (held : S → List ℕ) (honest : Type 0) (failures : S �
             }
 
   -- the processes that were lent as a slice
-  pub many_back : (pager : PagerSideValue) (slots : PoolValue S) (jobs : List (JobValue S)) (items lent new : List (ProcessSideValue S)) (n count : ℕ) (last : Option SliceStop)
+  many_back : (pager : PagerSideValue) (slots : PoolValue S) (jobs : List (JobValue S)) (items lent new : List (ProcessSideValue S)) (n count : ℕ) (last : Option SliceStop)
       → None ≡ hart_refusal p hart items → IsFaithful held honest (record { pager = pager; slots = slots; processes = items; jobs = jobs }) → n ≡ length items → lent ≡ items
       → (one : ChangesOne (SlicesMany held honest hart count last) p lent new)
       → (Runs held honest failures (steps_of p hart count (option_map step_reply last)) (replies_of count (option_map step_reply last)) (record { pager = pager; slots = slots; processes = items; jobs = jobs })
@@ -158,4 +158,18 @@ module _ {S : Type 0} (held : S → List ℕ) (honest : Type 0) (failures : S �
       let stepped = many_stepped core one.process found may faithful count last one.process' one.how in (
         subst (λ l. Runs held honest failures (steps_of p hart count (option_map step_reply last)) (replies_of count (option_map step_reply last)) core (record { pager = pager; slots = slots; processes = l; jobs = jobs })) all stepped.runs,
         subst (λ l. IsFaithful held honest (record { pager = pager; slots = slots; processes = l; jobs = jobs })) all stepped.faithful,
+      )
+
+  -- the same of the machine as its caller sees it, and of the reply that it is told
+  pub many_told : (pager : PagerSideValue) (slots : PoolValue S) (jobs : List (JobValue S)) (items lent new : List (ProcessSideValue S)) (n count : ℕ) (last : Option SliceStop) (reply : Option Reply) (old : CoreValue S)
+      → record { pager = pager; slots = slots; processes = items; jobs = jobs } ≡ old → reply ≡ option_map step_reply last
+      → None ≡ hart_refusal p hart items → IsFaithful held honest old → n ≡ length items → lent ≡ items → ChangesOne (SlicesMany held honest hart count last) p lent new
+      → (Runs held honest failures (steps_of p hart count reply) (replies_of count reply) old (record { pager = pager; slots = slots; processes = take n (new ++ drop (length new) items); jobs = jobs }))
+      × IsFaithful held honest (record { pager = pager; slots = slots; processes = take n (new ++ drop (length new) items); jobs = jobs })
+  many_told pager slots jobs items lent new n count last reply old seen told allowed faithful long same one =
+      let left : CoreValue S = record { pager = pager; slots = slots; processes = take n (new ++ drop (length new) items); jobs = jobs } in
+      let back = many_back pager slots jobs items lent new n count last allowed (subst (IsFaithful held honest) (sym seen) faithful) long same one in (
+        subst (λ l. Runs held honest failures (steps_of p hart count l) (replies_of count l) old left) (sym told)
+            (subst (λ k. Runs held honest failures (steps_of p hart count (option_map step_reply last)) (replies_of count (option_map step_reply last)) k left) seen back.0),
+        back.1,
       )

@@ -11,7 +11,7 @@ use Rattle.machine_core.specs.declared.event.Reply.{Reply}
 use Rattle.machine_core.specs.declared.event.Reply.TheVariants as reply
 use Rattle.machine_core.specs.Machine.{CoreValue}
 use Rattle.machine_core.specs.MachineRun.{of_process}
-use Rattle.machine_sides.specs.Collecting.{is_leaving, Looks, IsNotYet, IsDropped, IsCopied, LacksAndReturns, LacksAndLeaves}
+use Rattle.machine_sides.specs.Collecting.{is_leaving_at, Looks, IsNotYet, IsDropped, IsCopied, LacksAndReturns, LacksAndLeaves}
 use Rattle.machine_sides.specs.Sides.{PagerSideValue, ProcessSideValue}
 use Rattle.machine_sides.specs.declared.collecting.Looked.{Looked}
 use Rattle.machine_sides.specs.declared.collecting.Looked.TheVariants.{NotLeaving, NotYet, Freed, Dirty, NoSlot, NotRestored, HandedBack}
@@ -19,7 +19,7 @@ use Rattle.machine_sides.specs.declared.collecting.Looked.TheVariants.{NotLeavin
 module _ {S : Type 0} where
   -- why a look at a page is refused
   abbrev pub leaving_reason : ℕ → ProcessSideValue S → Option EventRefusal
-  leaving_reason vpn process = if is_leaving process.space vpn then None else Some refusal.NotLeaving
+  leaving_reason vpn process = if is_leaving_at process.space vpn then None else Some refusal.NotLeaving
 
   abbrev pub collect_refusal : Key → List (ProcessSideValue S) → Option EventRefusal
   collect_refusal key processes = of_process (leaving_reason key.vpn) (slice_get processes key.process)

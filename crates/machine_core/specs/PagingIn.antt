@@ -15,7 +15,7 @@ use Rattle.machine_core.specs.declared.error.EventRefusal.{EventRefusal}
 use Rattle.machine_core.specs.declared.error.EventRefusal.TheVariants.{Ended, NotAbsent, NoFrame, NoMemory}
 use Rattle.machine_core.specs.declared.event.Reply.{Reply}
 use Rattle.machine_core.specs.declared.event.Reply.TheVariants.{Mapped, Device, Refused}
-use Rattle.machine_sides.specs.Admitting.{AdmissionValue, Admits, DoesNotAdmit, is_absent, is_resident, taken_back}
+use Rattle.machine_sides.specs.Admitting.{AdmissionValue, Admits, DoesNotAdmit, is_absent_at, is_resident_at, taken_back}
 use Rattle.machine_sides.specs.Loading.{Loads, DoesNotLoad, KeepsRest}
 use Rattle.machine_core.specs.Machine.{CoreValue}
 use Rattle.machine_core.specs.MachineRun.{of_process}
@@ -60,7 +60,7 @@ module _ {S : Type 0} where
       pub purged : process'.purged ≡ process.purged
       pub undone : pager' ≡ record between {
         pager = record between.pager {
-          list = taken_back (is_resident process'.space back.key.vpn) back.key between.pager.list;
+          list = taken_back (is_resident_at process'.space back.key.vpn) back.key between.pager.list;
           free = between.pager.free ++ back.frame ∷ [];
         };
       }
@@ -94,7 +94,7 @@ module _ {S : Type 0} where
   -- why a page of a process that is there is not brought in, where these frames are free
   abbrev pub page_in_reason : ℕ → List FrameValue → ProcessSideValue S → Option EventRefusal
   page_in_reason vpn free process =
-      if is_some process.space.running.ending then Some Ended else (if is_absent process.space vpn then (if none_free free then Some NoFrame else None) else Some NotAbsent)
+      if is_some process.space.running.ending then Some Ended else (if is_absent_at process.space vpn then (if none_free free then Some NoFrame else None) else Some NotAbsent)
 
   -- why a page is not brought in
   abbrev pub page_in_refusal : Key → CoreValue S → Option EventRefusal

@@ -15,13 +15,13 @@ use Rattle.machine_sides.specs.declared.saving_back.SaveOutcome.{SaveOutcome}
 use Rattle.machine_sides.specs.declared.saving_back.SaveOutcome.TheVariants.{Freed, HandedBack, WrongPage, ResidentAgain, NotRestored}
 use Rattle.machine_core.specs.Machine.{CoreValue}
 use Rattle.machine_core.specs.MachineRun.{of_process}
-use Rattle.machine_sides.specs.SavingBack.{is_saving, EndsSave, IsFreed, FailsAndReturns, FailsAndLeaves}
+use Rattle.machine_sides.specs.SavingBack.{is_saving_at, EndsSave, IsFreed, FailsAndReturns, FailsAndLeaves}
 use Rattle.machine_sides.specs.Sides.{PagerSideValue, ProcessSideValue}
 use Rattle.machine_sides.specs.Together.{key_of}
 
 module _ {S : Type 0} where
   abbrev pub saving_reason : ℕ → ProcessSideValue S → Option EventRefusal
-  saving_reason vpn process = if is_saving process.space vpn then None else Some refusal.NotSaving
+  saving_reason vpn process = if is_saving_at process.space vpn then None else Some refusal.NotSaving
 
   -- why no save of a page comes back
   abbrev pub saved_refusal : Key → List (ProcessSideValue S) → Option EventRefusal

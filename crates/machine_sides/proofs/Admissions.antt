@@ -12,7 +12,7 @@ use Rattle.space_core.specs.StandsFor.{SpaceValue}
 use Rattle.machine_sides.specs.Sides.{PagerSideValue}
 use Rattle.machine_sides.specs.declared.admission.NotAdmitted.{NotAdmitted}
 use Rattle.machine_sides.specs.declared.admission.NotAdmitted.TheVariants.{Ended, NotAbsent}
-use Rattle.machine_sides.specs.Admitting.{is_absent, page_bars, bars, bars_from, told_by, pager_refusal, Admits, DoesNotAdmit}
+use Rattle.machine_sides.specs.Admitting.{is_absent_at, page_bars, bars, bars_from, told_by, pager_refusal, Admits, DoesNotAdmit}
 
 page_told : (ended absent : Bool) (reason : NotAdmitted) → (if ended then Some Ended else (if absent then None else Some NotAbsent)) ≡ Some reason → Some reason ≡ told_by reason
 page_told true absent reason h = let e : reason ≡ Ended = cc in ap (λ r. Some r) e ∙ sym (ap told_by e)
@@ -28,7 +28,7 @@ module _ {S : Type 0} where
   pub barred : (key : Key) (old : PagerSideValue) (space : SpaceValue S) (reason : NotAdmitted) → Some reason ≡ page_bars space key.vpn → DoesNotAdmit key old old space reason
   unfolding bars page_bars
   barred key old space reason h = record {
-    why = ap (λ o. bars_from o (admission_refused key old.pager)) (sym h) ∙ page_told (is_some space.running.ending) (is_absent space key.vpn) reason (sym h);
+    why = ap (λ o. bars_from o (admission_refused key old.pager)) (sym h) ∙ page_told (is_some space.running.ending) (is_absent_at space key.vpn) reason (sym h);
     stays = refl;
   }
 

@@ -15,11 +15,11 @@ use Rattle.paged_memory.specs.Paged.{page_at, ChangesPage}
 use Rattle.paged_memory.specs.Soundness.{is_held}
 use Rattle.space_core.specs.StandsFor.{SpaceValue}
 use Rattle.swap_slots.specs.PoolValue.{PoolValue}
-use Rattle.machine_sides.specs.Collecting.{is_leaving_stage, is_leaving, counts_changed, IsLeaving, Finds, Drops, StartsSaving, dropped_to, TakesSlot}
+use Rattle.machine_sides.specs.Collecting.{is_leaving_stage, is_leaving_at, counts_changed, IsLeaving, Finds, Drops, StartsSaving, dropped_to, TakesSlot}
 use Rattle.machine_sides.specs.Sides.{ProcessSideValue}
 
 module _ {S : Type 0} where
-  pub leaving_at : (space : SpaceValue S) (vpn : ℕ) (o : Option (PageValue S)) → vpn < 2 ^ 20 → page_at space.memory.pages vpn ≡ o → is_leaving space vpn ≡ is_leaving_stage (option_map (λ page. page_state_of page.place) o)
+  pub leaving_at : (space : SpaceValue S) (vpn : ℕ) (o : Option (PageValue S)) → vpn < 2 ^ 20 → page_at space.memory.pages vpn ≡ o → is_leaving_at space vpn ≡ is_leaving_stage (option_map (λ page. page_state_of page.place) o)
   leaving_at space vpn o small at =
       ap (λ b. is_leaving_stage (if b then option_map (λ page. page_state_of page.place) (page_at space.memory.pages vpn) else None)) (lt-ltb vpn (2 ^ 20) small)
       ∙ ap (λ o. is_leaving_stage (option_map (λ page. page_state_of page.place) o)) at
@@ -53,7 +53,7 @@ module _ (L S : Type 0) (vpn : ℕ) (old new : ProcessSideValue S) (slots slots'
     moved : (place : Place S) → page'.place ≡ place → page' ≡ record page { place = place }
     moved place at = ap (λ o. record { origin = o; place = page'.place }) origin ∙ ap (λ p. record { origin = page.origin; place = p }) at
 
-    not_leaving : (place : Place S) → page.place ≡ place → is_leaving_stage (Some (page_state_of place)) ≡ false → is_leaving old.space vpn ≡ false
+    not_leaving : (place : Place S) → page.place ≡ place → is_leaving_stage (Some (page_state_of place)) ≡ false → is_leaving_at old.space vpn ≡ false
     not_leaving place at apart = leaving_at old.space vpn (Some page) small found ∙ ap (λ p. is_leaving_stage (Some (page_state_of p))) at ∙ apart
 
     leaving : (frame : FrameValue) (slot : Keeping S) (mark : Bool) → page.place ≡ Leaving frame slot mark → IsLeaving vpn old.space

@@ -23,7 +23,7 @@ use Rattle.paged_memory.specs.Seen.{Seen}
 use Rattle.paged_memory.specs.Seen as seen
 use Rattle.sv32_table.specs.EntryAt.{entry_at}
 use Rattle.space_core.specs.StandsFor.{SpaceValue}
-use Rattle.pager_core.specs.Pager.{pager_answered}
+use Rattle.pager_core.specs.Pager.{PagerState, pager_answered}
 use Rattle.machine_sides.specs.Sides.{PagerSideValue, ProcessSideValue}
 use Rattle.machine_sides.specs.Sweeping.{bit_of, bit_at, ReadsBit, Evicts, AnswersQuestion}
 
@@ -56,6 +56,10 @@ seen_resident (Some s) e h = by_standing s.standing h
     by_standing (seen.Resident frame) h = refl
     by_standing (seen.Leaving frame mark) h = cc
     by_standing seen.Elsewhere h = cc
+
+-- the verdict on what the list named
+pub victim_told : (bit : Bit) (list : ClockState) (k : Key) (answer : Result Verdict Refusal) (verdict : Verdict) → answer ≡ (answered bit list).1 → answer ≡ Ok verdict → verdict ≡ Victim k → (answered bit list).1 ≡ Ok (Victim k)
+victim_told bit list k answer verdict exact ok victim = sym exact ∙ ok ∙ ap {B = Result Verdict Refusal} (λ (v : Verdict). Ok v) victim
 
 module _ {S : Type 0} where
   -- a page whose bit was read is resident
@@ -92,7 +96,7 @@ module _ {S : Type 0} where
       let resident = read_resident space vpn (ap is_gone (sym is) ∙ there) in
       (resident.0, ap (λ pages. is_resident (seen_at pages vpn)) (read_pages bit vpn space between there read) ∙ resident.1)
 
-  pub victim_answers : (pager pager' : PagerSideValue) (process process' : ProcessSideValue S) (between : SpaceValue S) (key k : Key) (bit : Bit)
+  victim_answers : (pager pager' : PagerSideValue) (process process' : ProcessSideValue S) (between : SpaceValue S) (key k : Key) (bit : Bit)
       → question_of pager.pager.list ≡ Some key → (answered bit pager.pager.list).1 ≡ Ok (Victim k) → pager' ≡ record pager { pager = pager_answered bit pager.pager }
       → bit ≡ bit_at process.space key.vpn → ReadsBit bit key.vpn process.space between → Evicts key.vpn between process'.space → process'.purged ≡ process.purged
       → AnswersQuestion pager pager' process process' key bit (Victim key)
@@ -108,3 +112,14 @@ module _ {S : Type 0} where
         heeded = evicts;
         purged = purged;
       }
+
+  -- the same of the pager as its caller sees it
+  pub victim_swept : (pager inside : PagerSideValue) (answering : PagerState) (process process' : ProcessSideValue S) (between : SpaceValue S) (key k : Key) (bit : Bit) → inside ≡ pager
+      → question_of pager.pager.list ≡ Some key → (answered bit inside.pager.list).1 ≡ Ok (Victim k) → answering ≡ pager_answered bit inside.pager
+      → bit ≡ bit_at process.space key.vpn → ReadsBit bit key.vpn process.space between → Evicts key.vpn between process'.space → process'.purged ≡ process.purged
+      → AnswersQuestion pager (record inside { pager = answering }) process process' key bit (Victim key)
+  victim_swept pager inside answering process process' between key k bit seen asks told moved is read evicts purged =
+      victim_answers pager (record inside { pager = answering }) process process' between key k bit asks
+      (ap (λ (p : PagerSideValue). (answered bit p.pager.list).1) (sym seen) ∙ told)
+      (ap (λ (p : PagerState). record inside { pager = p }) moved ∙ ap (λ (p : PagerSideValue). record p { pager = pager_answered bit p.pager }) seen)
+      is read evicts purged

@@ -63,15 +63,15 @@ module _ {S : Type 0} where
   abbrev pub stage_at : SpaceValue S → ℕ → Option PageState
   stage_at space vpn = if nat_lt vpn (2 ^ 20) then option_map (λ page. page_state_of page.place) (page_at space.memory.pages vpn) else None
 
-  abbrev pub is_absent : SpaceValue S → ℕ → Bool
-  is_absent space vpn = is_absent_stage (stage_at space vpn)
+  abbrev pub is_absent_at : SpaceValue S → ℕ → Bool
+  is_absent_at space vpn = is_absent_stage (stage_at space vpn)
 
-  abbrev pub is_resident : SpaceValue S → ℕ → Bool
-  is_resident space vpn = is_resident_stage (stage_at space vpn)
+  abbrev pub is_resident_at : SpaceValue S → ℕ → Bool
+  is_resident_at space vpn = is_resident_stage (stage_at space vpn)
 
   -- why a page of a process is not admitted, as the process tells
   unfoldable pub page_bars : SpaceValue S → ℕ → Option NotAdmitted
-  page_bars space vpn = if is_some space.running.ending then Some Ended else (if is_absent space vpn then None else Some NotAbsent)
+  page_bars space vpn = if is_some space.running.ending then Some Ended else (if is_absent_at space vpn then None else Some NotAbsent)
 
   -- the same with what the pager tells, want of memory aside: the first reason that holds
   unfoldable pub bars : Key → PagerState → SpaceValue S → Option NotAdmitted

@@ -39,8 +39,8 @@ pub record FreesDropped (frame : FrameValue) (old new : PagerSideValue) : Type 0
 
 module _ {S : Type 0} where
   -- whether the page of a number is leaving, whatever the number
-  abbrev pub is_leaving : SpaceValue S → ℕ → Bool
-  is_leaving space vpn = is_leaving_stage (stage_at space vpn)
+  abbrev pub is_leaving_at : SpaceValue S → ℕ → Bool
+  is_leaving_at space vpn = is_leaving_stage (stage_at space vpn)
 
   -- whether a page that is leaving counts as changed: by the mark that it took along, or since its slot holds nothing for it yet
   abbrev pub counts_changed : PageValue S → Bool
@@ -57,7 +57,7 @@ module _ {S : Type 0} where
     pub leaving : page.place ≡ Leaving frame slot mark
 
   -- a cache holds a translation of it still
-  pub record IsHeld (vpn : ℕ) (space : SpaceValue S) : Type 0 where
+  pub record IsHeldByCache (vpn : ℕ) (space : SpaceValue S) : Type 0 where
     pub page : IsLeaving vpn space
     pub held : is_held vpn space.memory.caches ≡ true
 
@@ -117,8 +117,8 @@ module _ {S : Type 0} where
   module _ {L : Type 0} (vpn : ℕ) (old new : ProcessSideValue S) (slots slots' : PoolValue S) where
     -- what a look at a page comes to, before the pager has a part in it
     abbrev pub Finds : Collected L S → Type 0
-    Finds answer.NotLeaving = (is_leaving old.space vpn ≡ false) × ((new ≡ old) × (slots' ≡ slots))
-    Finds answer.NotYet = IsHeld vpn old.space × ((new ≡ old) × (slots' ≡ slots))
+    Finds answer.NotLeaving = (is_leaving_at old.space vpn ≡ false) × ((new ≡ old) × (slots' ≡ slots))
+    Finds answer.NotYet = IsHeldByCache vpn old.space × ((new ≡ old) × (slots' ≡ slots))
     Finds (answer.Clean frame) = Drops vpn frame old new × (slots' ≡ slots)
     Finds (answer.Dirty job) = StartsSaving vpn job old new slots slots'
     Finds answer.NoSlot = LacksSlot vpn old.space slots × ((new ≡ old) × (slots' ≡ slots))
@@ -132,7 +132,7 @@ module _ {S : Type 0} where
 
     -- a cache holds a translation of the page, which stays
     pub record IsNotYet : Type 0 where
-      pub held : IsHeld vpn old.space
+      pub held : IsHeldByCache vpn old.space
       pub stays : StaysAll
 
     -- the page goes to its backing, and its frame is free
@@ -168,7 +168,7 @@ module _ {S : Type 0} where
 
     -- what a look at a page comes to, by its answer
     abbrev pub Looks : {L : Type 0} → Looked L S → Type 0
-    Looks NotLeaving = (is_leaving old.space vpn ≡ false) × StaysAll
+    Looks NotLeaving = (is_leaving_at old.space vpn ≡ false) × StaysAll
     Looks NotYet = IsNotYet
     Looks Freed = IsDropped
     Looks (Dirty job) = IsCopied job

@@ -37,8 +37,8 @@ is_saving_stage (Some stage.Purged) = false
 
 module _ {S : Type 0} where
   -- whether the page of a number is being saved, whatever the number
-  abbrev pub is_saving : SpaceValue S → ℕ → Bool
-  is_saving space vpn = is_saving_stage (stage_at space vpn)
+  abbrev pub is_saving_at : SpaceValue S → ℕ → Bool
+  is_saving_at space vpn = is_saving_stage (stage_at space vpn)
 
   -- what shows that a save failed: the frame does not hold what was copied, or it does and the device failed
   abbrev pub ShowsFailure : SaveFailure → SavedValue S → FrameValue → Type 0

@@ -1,6 +1,6 @@
 ghost use Rattle.std.specs.Prelude.{◌≡◌, ◌↔◌, ◌++◌, [], ◌∷◌, length, IfOk, IfErr, IsErr, OnOk, OnErr};
 ghost use Rattle.clock_policy.specs.Lawful.{Lawful};
-ghost use Rattle.machine_sides.specs.Admitting.{Admits, DoesNotAdmit, page_bars, pager_refusal, is_resident, taken_back};
+ghost use Rattle.machine_sides.specs.Admitting.{Admits, DoesNotAdmit, page_bars, pager_refusal, is_resident_at, taken_back};
 
 use crate::pager_side::PagerSide;
 use crate::process_side::ProcessSide;
@@ -103,7 +103,7 @@ pub fn undo<L: Ledger, S: SwapSlot, C: Clock>(
     process: &ProcessSide<L, S>,
     admission: Admission<L>,
 ) -> Result<(), Frame<L>>
-    ensures list { pager.new.pager.list ≡ taken_back (is_resident process.now.space admission.key.vpn) admission.key pager.old.pager.list }
+    ensures list { pager.new.pager.list ≡ taken_back (is_resident_at process.now.space admission.key.vpn) admission.key pager.old.pager.list }
     ensures freed { OnOk result (pager.new ≡ record pager.old { pager = record pager.old.pager { list = pager.new.pager.list; free = pager.old.pager.free ++ admission.frame ∷ [] } }) }
     ensures full { IsErr result ↔ (length pager.old.pager.free ≡ pager.old.pager.size) }
     ensures handed_back { IfErr result (λ back. back ≡ admission.frame) }

@@ -1,7 +1,7 @@
 ghost use Rattle.std.specs.Prelude.{◌≡◌, ◌↔◌, ◌++◌, [], ◌∷◌, length, IsErr, IfErr, OnOk, OnErr};
 ghost use Rattle.pager_core.specs.Pager.{tallied};
 ghost use Rattle.paged_memory.specs.Paged.{memory_of};
-ghost use Rattle.machine_sides.specs.Collecting.{is_leaving, Finds, Looks};
+ghost use Rattle.machine_sides.specs.Collecting.{is_leaving_at, Finds, Looks};
 
 use crate::pager_side::{PagerSide, tally};
 use crate::process_side::ProcessSide;
@@ -76,7 +76,7 @@ impl<L: Ledger, C: Clock> PagerSide<L, C> {
 impl<L: Ledger, S: SwapSlot> ProcessSide<L, S> {
     /// Whether a page is on its way out of its frame.
     pub fn is_leaving(&self, vpn: u32) -> bool
-        ensures { result ≡ is_leaving self.now.space vpn }
+        ensures { result ≡ is_leaving_at self.now.space vpn }
     {
         match self.state(vpn) {
             Some(PageState::Leaving) => true,

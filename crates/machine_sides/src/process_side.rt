@@ -1,6 +1,6 @@
 ghost use Rattle.std.specs.Prelude.{◌≡◌, ◌<◌, ◌^◌, true, false, option_copied, slice_get, slice_index_or};
-ghost use Rattle.paged_memory.specs.Access as access;
-ghost use Rattle.machine_sides.specs.Admitting.{stage_at, is_absent, is_resident};
+ghost use Rattle.paged_memory.specs.Access.{is_resident};
+ghost use Rattle.machine_sides.specs.Admitting.{stage_at, is_absent_at, is_resident_at};
 ghost use Rattle.paged_memory.specs.Paged.{seen_at};
 ghost use Rattle.machine_sides.specs.ProcessCalls.{Slices, StepsOnce, TakesNotices, IsKilled};
 ghost use Rattle.machine_sides.specs.Sweeping.{bit_at, ReadsBit, Evicts};
@@ -51,7 +51,7 @@ impl<L: Ledger, S: SwapSlot> ProcessSide<L, S> {
 
     /// Whether a page is mapped, has no frame and was not given up.
     pub(crate) fn is_absent(&self, vpn: u32) -> bool
-        ensures { result ≡ is_absent self.now.space vpn }
+        ensures { result ≡ is_absent_at self.now.space vpn }
     {
         match self.state(vpn) {
             Some(PageState::Fresh | PageState::Away) => true,
@@ -64,7 +64,7 @@ impl<L: Ledger, S: SwapSlot> ProcessSide<L, S> {
 
     /// Whether a page is mapped to its frame.
     pub(crate) fn is_resident(&self, vpn: u32) -> bool
-        ensures { result ≡ is_resident self.now.space vpn }
+        ensures { result ≡ is_resident_at self.now.space vpn }
     {
         match self.state(vpn) {
             Some(PageState::Resident) => true,
@@ -98,7 +98,7 @@ impl<L: Ledger, S: SwapSlot> ProcessSide<L, S> {
     /// A resident page begins to leave its frame.
     pub(crate) fn evict(&mut self, vpn: u32)
         requires small { vpn < 2 ^ 20 }
-        requires resident { access.is_resident (seen_at self.old.space.memory.pages vpn) ≡ true }
+        requires resident { is_resident (seen_at self.old.space.memory.pages vpn) ≡ true }
         ensures evicts { Evicts vpn self.old.space self.new.space }
         ensures purged { self.new.purged ≡ self.old.purged }
     {

@@ -1,6 +1,6 @@
-ghost use Rattle.std.specs.Prelude.{◌≡◌, length, IsErr, IfErr, OnOk, OnErr};
+ghost use Rattle.std.specs.Prelude.{◌≡◌, ◌↔◌, length, IsErr, IfErr, OnOk, OnErr};
 ghost use Rattle.paged_memory.specs.Paged.{memory_of};
-ghost use Rattle.machine_sides.specs.SavingBack.{is_saving, EndsSave, Ends, FreesFrame};
+ghost use Rattle.machine_sides.specs.SavingBack.{is_saving_at, EndsSave, Ends, FreesFrame};
 
 use crate::pager_side::{PagerSide, tally};
 use crate::process_side::ProcessSide;
@@ -75,7 +75,7 @@ enum SaveEnd<L: Ledger, S: SwapSlot> {
 impl<L: Ledger, S: SwapSlot> ProcessSide<L, S> {
     /// Whether a page is being saved.
     pub fn is_saving(&self, vpn: u32) -> bool
-        ensures { result ≡ is_saving self.now.space vpn }
+        ensures { result ≡ is_saving_at self.now.space vpn }
     {
         match self.state(vpn) {
             Some(PageState::Saving) => true,
@@ -111,7 +111,7 @@ impl<L: Ledger, C: Clock> PagerSide<L, C> {
     /// handed back.
     fn free_saved(&mut self, frame: Frame<L>) -> Result<(), Frame<L>>
         ensures freed { OnOk result (FreesFrame frame self.old self.new) }
-        ensures full { IsErr result → length self.old.pager.free ≡ self.old.pager.size }
+        ensures full { IsErr result ↔ (length self.old.pager.free ≡ self.old.pager.size) }
         ensures handed_back { IfErr result (λ back. back ≡ frame) }
         ensures err { OnErr result (self.new ≡ self.old) }
     {

@@ -1,4 +1,4 @@
-ghost use Rattle.std.specs.Prelude.{◌≡◌, ◌<◌, ◌^◌, ◌%◌, length, is_some, Some, IfSome, IfNone, IfOk, IfErr, OnOk, ◌⊎◌, true, option_map};
+ghost use Rattle.std.specs.Prelude.{◌≡◌, ◌<◌, ◌^◌, ◌%◌, length, is_some, Some, IfSome, IfNone, IfOk, IfErr, OnOk, ◌⊎◌, true, option_map, OnErr};
 ghost use Rattle.page_memory.specs.Words.{page_number, bytes_in};
 ghost use Rattle.page_store.specs.PageValue.{Place};
 ghost use Rattle.sv32_table.specs.EntryAt.{entry_at};
@@ -118,6 +118,7 @@ fn walk<L: Ledger, S: SwapSlot>(
     ensures refused { IfErr result (RefusesAccess pages.now access page) }
     ensures kept { KeepsTranslations pages.now hart tables.old tables.new caches.old caches.new }
     ensures entries { MayWalk access page tables.old tables.new }
+    ensures unmarked { OnErr result (tables.new ≡ tables.old) }
     ensures has { OnOk result (HasPage pages.now (cache_of caches.old hart) page) }
     ensures used { OnOk result (is_used (seen_at pages.now page) (entry_at tables.new page) ≡ true) }
 {
@@ -158,6 +159,7 @@ fn hit_or_walk<L: Ledger, S: SwapSlot>(
     ensures refused { IfErr result (RefusesAccess pages.now access (page_number address)) }
     ensures kept { KeepsTranslations pages.now hart tables.old tables.new caches.old caches.new }
     ensures entries { MayWalk access (page_number address) tables.old tables.new }
+    ensures unmarked { OnErr result (tables.new ≡ tables.old) }
     ensures has { OnOk result (HasPage pages.now (cache_of caches.old hart) (page_number address)) }
     ensures marked { OnOk result (MarksUse pages.now tables.new (cache_of caches.old hart) (page_number address)) }
 {
@@ -184,6 +186,7 @@ pub(crate) fn reach<L: Ledger, S: SwapSlot>(
     ensures refused { IfErr result (RefusesAccess pages.now access (page_number address)) }
     ensures kept { KeepsTranslations pages.now hart tables.old tables.new caches.old caches.new }
     ensures entries { MayWalk access (page_number address) tables.old tables.new }
+    ensures unmarked { OnErr result (tables.new ≡ tables.old) }
     ensures has { OnOk result (HasPage pages.now (cache_of caches.old hart) (page_number address)) }
     ensures marked { OnOk result (MarksUse pages.now tables.new (cache_of caches.old hart) (page_number address)) }
 {

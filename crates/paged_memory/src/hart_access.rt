@@ -27,6 +27,7 @@ impl<L: Ledger, S: SwapSlot> PagedMemory<L, S> {
         ensures pages { self.new.pages ≡ self.old.pages }
         ensures kept { KeepsTranslations self.old.pages hart self.old.tables self.new.tables self.old.caches self.new.caches }
         ensures entries { MayWalk Access.Fetch (page_number address) self.old.tables self.new.tables }
+        ensures unmarked { OnErr result (self.new.tables ≡ self.old.tables) }
     {
         reading::fetch(
             &self.pages,
@@ -46,6 +47,7 @@ impl<L: Ledger, S: SwapSlot> PagedMemory<L, S> {
         ensures pages { self.new.pages ≡ self.old.pages }
         ensures kept { KeepsTranslations self.old.pages hart self.old.tables self.new.tables self.old.caches self.new.caches }
         ensures entries { MayWalk Access.Load (page_number address) self.old.tables self.new.tables }
+        ensures unmarked { OnErr result (self.new.tables ≡ self.old.tables) }
     {
         reading::load(
             &self.pages,
@@ -74,6 +76,7 @@ impl<L: Ledger, S: SwapSlot> PagedMemory<L, S> {
         ensures bare { KeepsBare self.old.pages self.new.pages }
         ensures kept { KeepsTranslations self.old.pages hart self.old.tables self.new.tables self.old.caches self.new.caches }
         ensures entries { MayWalk Access.Store (page_number address) self.old.tables self.new.tables }
+        ensures unmarked { OnErr result (self.new.tables ≡ self.old.tables) }
     {
         writing::store(
             &mut self.pages,
@@ -104,6 +107,7 @@ impl<L: Ledger, S: SwapSlot> PagedMemory<L, S> {
         ensures bare { KeepsBare self.old.pages self.new.pages }
         ensures kept { KeepsTranslations self.old.pages hart self.old.tables self.new.tables self.old.caches self.new.caches }
         ensures entries { MayWalk Access.Store (page_number address) self.old.tables self.new.tables }
+        ensures unmarked { OnErr result (self.new.tables ≡ self.old.tables) }
     {
         writing::amo(
             &mut self.pages,
@@ -127,6 +131,7 @@ impl<L: Ledger, S: SwapSlot> PagedMemory<L, S> {
         ensures pages { self.new.pages ≡ self.old.pages }
         ensures kept { KeepsTranslations self.old.pages hart self.old.tables self.new.tables self.old.caches self.new.caches }
         ensures entries { MayWalk Access.Load (page_number address) self.old.tables self.new.tables }
+        ensures unmarked { OnErr result (self.new.tables ≡ self.old.tables) }
     {
         reading::copy_out(
             &self.pages,
@@ -149,6 +154,7 @@ impl<L: Ledger, S: SwapSlot> PagedMemory<L, S> {
         ensures bare { KeepsBare self.old.pages self.new.pages }
         ensures kept { KeepsTranslations self.old.pages hart self.old.tables self.new.tables self.old.caches self.new.caches }
         ensures entries { MayWalk Access.Store (page_number address) self.old.tables self.new.tables }
+        ensures unmarked { OnErr result (self.new.tables ≡ self.old.tables) }
     {
         writing::copy_in(
             &mut self.pages,

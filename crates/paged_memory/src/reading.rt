@@ -74,6 +74,7 @@ fn read<'a, L: Ledger, S: SwapSlot>(
     ensures refused { IfErr result (BusRefuses (LacksPage pages.now) address (usable (memory_of S.content pages.now) access address)) }
     ensures kept { KeepsTranslations pages.now hart tables.old tables.new caches.old caches.new }
     ensures entries { MayWalk access (page_number address) tables.old tables.new }
+    ensures unmarked { OnErr result (tables.new ≡ tables.old) }
     ensures has { OnOk result (HasPage pages.now (cache_of caches.old hart) (page_number address)) }
     ensures marked { OnOk result (MarksUse pages.now tables.new (cache_of caches.old hart) (page_number address)) }
 {
@@ -99,6 +100,7 @@ pub(crate) fn fetch<L: Ledger, S: SwapSlot>(
     ensures answer { Answers (HasPage pages.now (cache_of caches.old hart)) (MarksUse pages.now tables.new (cache_of caches.old hart)) (LacksPage pages.now) address (fetched (memory_of S.content pages.now) address) result }
     ensures kept { KeepsTranslations pages.now hart tables.old tables.new caches.old caches.new }
     ensures entries { MayWalk Access.Fetch (page_number address) tables.old tables.new }
+    ensures unmarked { OnErr result (tables.new ≡ tables.old) }
 {
     match read_ready(
         pages,
@@ -131,6 +133,7 @@ fn fetch_anew<L: Ledger, S: SwapSlot>(
     ensures answer { Answers (HasPage pages.now (cache_of caches.old hart)) (MarksUse pages.now tables.new (cache_of caches.old hart)) (LacksPage pages.now) address (fetched (memory_of S.content pages.now) address) result }
     ensures kept { KeepsTranslations pages.now hart tables.old tables.new caches.old caches.new }
     ensures entries { MayWalk Access.Fetch (page_number address) tables.old tables.new }
+    ensures unmarked { OnErr result (tables.new ≡ tables.old) }
 {
     if address % 4 != 0 {
         return Err(BusError::Fault(MemoryFault::Misaligned));
@@ -158,6 +161,7 @@ pub(crate) fn load<L: Ledger, S: SwapSlot>(
     ensures answer { Answers (HasPage pages.now (cache_of caches.old hart)) (MarksUse pages.now tables.new (cache_of caches.old hart)) (LacksPage pages.now) address (loaded (memory_of S.content pages.now) width address) result }
     ensures kept { KeepsTranslations pages.now hart tables.old tables.new caches.old caches.new }
     ensures entries { MayWalk Access.Load (page_number address) tables.old tables.new }
+    ensures unmarked { OnErr result (tables.new ≡ tables.old) }
 {
     match read_ready(pages, tables, caches, hart, Access::Load, width, address) {
         Some(page) => Ok(number(page, width, address)),
@@ -183,6 +187,7 @@ fn load_anew<L: Ledger, S: SwapSlot>(
     ensures answer { Answers (HasPage pages.now (cache_of caches.old hart)) (MarksUse pages.now tables.new (cache_of caches.old hart)) (LacksPage pages.now) address (loaded (memory_of S.content pages.now) width address) result }
     ensures kept { KeepsTranslations pages.now hart tables.old tables.new caches.old caches.new }
     ensures entries { MayWalk Access.Load (page_number address) tables.old tables.new }
+    ensures unmarked { OnErr result (tables.new ≡ tables.old) }
 {
     if address % width.bytes() != 0 {
         return Err(BusError::Fault(MemoryFault::Misaligned));
@@ -212,6 +217,7 @@ pub(crate) fn copy_out<L: Ledger, S: SwapSlot>(
     ensures refused { OnErr result (to.new ≡ to.old) }
     ensures kept { KeepsTranslations pages.now hart tables.old tables.new caches.old caches.new }
     ensures entries { MayWalk Access.Load (page_number address) tables.old tables.new }
+    ensures unmarked { OnErr result (tables.new ≡ tables.old) }
 {
     match read(pages, tables, caches, hart, Access::Load, address) {
         Ok(page) => {

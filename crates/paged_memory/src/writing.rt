@@ -92,6 +92,7 @@ pub(crate) fn store<L: Ledger, S: SwapSlot>(
     ensures bare { KeepsBare pages.old pages.new }
     ensures kept { KeepsTranslations pages.old hart tables.old tables.new caches.old caches.new }
     ensures entries { MayWalk Access.Store (page_number address) tables.old tables.new }
+    ensures unmarked { OnErr result (tables.new ≡ tables.old) }
 {
     match at_hand(pages, tables, caches, hart, Access::Store, width, address) {
         Some(place) => {
@@ -123,6 +124,7 @@ fn store_anew<L: Ledger, S: SwapSlot>(
     ensures bare { KeepsBare pages.old pages.new }
     ensures kept { KeepsTranslations pages.old hart tables.old tables.new caches.old caches.new }
     ensures entries { MayWalk Access.Store (page_number address) tables.old tables.new }
+    ensures unmarked { OnErr result (tables.new ≡ tables.old) }
 {
     if address % width.bytes() != 0 {
         return Err(BusError::Fault(MemoryFault::Misaligned));
@@ -155,6 +157,7 @@ pub(crate) fn copy_in<L: Ledger, S: SwapSlot>(
     ensures bare { KeepsBare pages.old pages.new }
     ensures kept { KeepsTranslations pages.old hart tables.old tables.new caches.old caches.new }
     ensures entries { MayWalk Access.Store (page_number address) tables.old tables.new }
+    ensures unmarked { OnErr result (tables.new ≡ tables.old) }
 {
     match reach(pages, tables, caches, hart, Access::Store, address) {
         Ok(place) => {
@@ -185,6 +188,7 @@ pub(crate) fn amo<L: Ledger, S: SwapSlot>(
     ensures bare { KeepsBare pages.old pages.new }
     ensures kept { KeepsTranslations pages.old hart tables.old tables.new caches.old caches.new }
     ensures entries { MayWalk Access.Store (page_number address) tables.old tables.new }
+    ensures unmarked { OnErr result (tables.new ≡ tables.old) }
 {
     match at_hand(
         pages,
@@ -222,6 +226,7 @@ fn amo_anew<L: Ledger, S: SwapSlot>(
     ensures bare { KeepsBare pages.old pages.new }
     ensures kept { KeepsTranslations pages.old hart tables.old tables.new caches.old caches.new }
     ensures entries { MayWalk Access.Store (page_number address) tables.old tables.new }
+    ensures unmarked { OnErr result (tables.new ≡ tables.old) }
 {
     if address % 4 != 0 {
         return Err(BusError::Fault(MemoryFault::Misaligned));

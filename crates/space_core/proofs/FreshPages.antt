@@ -1,5 +1,5 @@
 -- How the pages that a process begins with are mapped, and the memory that they stand for.
-use Rattle.std.proofs.Common.{◌≡◌, ◌+◌, ◌-◌, ◌<◌, ◌∷◌, [], ◌++◌, ℕ, zero, suc, List, length, map, take, slice_index_or, None, arith, refl, sym, ap, ◌∙◌, subst, append-nil}
+use Rattle.std.proofs.Common.{◌≡◌, ◌+◌, ◌-◌, ◌<◌, ◌^◌, ◌∷◌, [], ◌++◌, ℕ, zero, suc, List, length, map, take, slice_index_or, None, arith, refl, sym, ap, ◌∙◌, subst, append-nil}
 use Rattle.std.specs.List.{range_with_len}
 use Rattle.std.specs.FinMap.{from_entries}
 use Rattle.std.proofs.lemmas.List.{map-append}
@@ -13,7 +13,10 @@ use Rattle.page_store.specs.PageValue.{PageValue}
 use Rattle.elf_image.specs.declared.image.ImagePage.{ImagePage}
 use Rattle.elf_image.specs.Image.{ArePages}
 use Rattle.paged_memory.specs.Growth.{fresh_zero_page}
-use Rattle.paged_memory.specs.Paged.{flat_page, memory_of}
+use Rattle.paged_memory.specs.Paged.{PagedValue, flat_page, memory_of}
+use Rattle.tlb_core.specs.declared.translation.Translation.{Translation}
+use Rattle.sv32_table.specs.Entry.{blank}
+use Rattle.sv32_table.specs.EntryAt.{entry_at}
 use Rattle.flat_machine.specs.Process.{image_entry, stack_entry, opening_pages}
 use Rattle.flat_machine.specs.PlainRunLaws.{next_is}
 use Rattle.flat_machine.specs.PagesLaws.{KeysBelow, unmapped, images_below, stack_below, one_more_image, one_more_stack}
@@ -37,12 +40,28 @@ module _ (S : Type 0) where
       above listed.number (map image_entry (take i pages))
       (subst (λ (p : ImagePage). KeysBelow p.number (map image_entry (take i pages))) (sym is) (images_below pages i listed are within))
 
-  pub image_more : (pages : List ImagePage) (i : ℕ) (listed : ImagePage) → i < length pages → listed ≡ slice_index_or pages i listed
+  image_more : (pages : List ImagePage) (i : ℕ) (listed : ImagePage) → i < length pages → listed ≡ slice_index_or pages i listed
       → all_fresh {S = S} (map image_entry (take i pages)) ++ (listed.number, fresh listed.page) ∷ [] ≡ all_fresh (map image_entry (take (i + 1) pages))
   image_more pages i listed within is =
       one_more (map image_entry (take i pages)) listed.number listed.page
       ∙ ap (λ (p : ImagePage). all_fresh (map image_entry (take i pages) ++ image_entry p ∷ [])) is
       ∙ ap all_fresh (one_more_image pages i listed within)
+
+  -- a process's memory with these pages alone, none of them brought in
+  pub record MapsFresh (process : ℕ) (entries : List (ℕ × Page)) (memory : PagedValue S) : Type 0 where
+    pub process_is : memory.process ≡ process
+    pub mapped : memory.pages ≡ all_fresh entries
+    pub tables : (number : ℕ) → number < 2 ^ 20 → entry_at memory.tables number ≡ blank
+    pub caches : memory.caches ≡ []
+
+  pub one_more_mapped : (process : ℕ) (pages : List ImagePage) (i : ℕ) (listed : ImagePage) (page : Page) (old new : PagedValue S) → i < length pages → listed ≡ slice_index_or pages i listed → page ≡ listed.page
+      → new ≡ record old { pages = old.pages ++ (listed.number, fresh page) ∷ [] } → MapsFresh process (map image_entry (take i pages)) old → MapsFresh process (map image_entry (take (i + 1) pages)) new
+  one_more_mapped process pages i listed page old new within is same did before = record {
+    process_is = ap (λ (m : PagedValue S). m.process) did ∙ before.process_is;
+    mapped = ap (λ (m : PagedValue S). m.pages) did ∙ (λ j. before.mapped j ++ (listed.number, fresh (same j)) ∷ []) ∙ image_more pages i listed within is;
+    tables = λ number small. ap (λ (m : PagedValue S). entry_at m.tables number) did ∙ before.tables number small;
+    caches = ap (λ (m : PagedValue S). m.caches) did ∙ before.caches;
+  }
 
   -- the pages of the stack
   zeros_are : fresh_zero_page {S = S} ≡ fresh memory.zero_page
@@ -68,9 +87,17 @@ module _ (S : Type 0) where
   stack_added pages zero are = ap all_fresh (sym (append-nil (map image_entry pages)))
   stack_added pages (suc k) are = ap (added (524224 + k) fresh_zero_page) (stack_added pages k are) ∙ stack_more pages k are ∙ ap (λ n. all_fresh (so_far pages n)) (sym (next_is k))
 
-  pub opening_added : (pages : List ImagePage) → ArePages pages → with_added 524224 64 fresh_zero_page (all_fresh {S = S} (map image_entry pages)) ≡ all_fresh (opening_pages pages)
+  opening_added : (pages : List ImagePage) → ArePages pages → with_added 524224 64 fresh_zero_page (all_fresh {S = S} (map image_entry pages)) ≡ all_fresh (opening_pages pages)
   unfolding so_far
   opening_added pages are = stack_added pages 64 are
+
+  -- once all of an image's pages are mapped, and the stack behind them
+  pub opening_mapped : (process : ℕ) (pages : List ImagePage) (i : ℕ) (imaged stacked opened : PagedValue S) (caches : List (List Translation)) → ArePages pages → take i pages ≡ pages → MapsFresh process (map image_entry (take i pages)) imaged
+      → stacked.pages ≡ with_added 524224 64 fresh_zero_page imaged.pages → opened ≡ record stacked { caches = caches } → opened.pages ≡ all_fresh (opening_pages pages)
+  opening_mapped process pages i imaged stacked opened caches are all maps stack only =
+      ap (λ (m : PagedValue S). m.pages) only ∙ stack
+      ∙ ap (with_added 524224 64 fresh_zero_page) (maps.mapped ∙ ap (λ l. all_fresh (map image_entry l)) all)
+      ∙ opening_added pages are
 
   -- pages that were never brought in show what they began with
   each_shown : (held : S → List ℕ) (entries : List (ℕ × Page)) → map (λ e. (e.0, flat_page held e.1)) (all_fresh entries) ≡ entries

@@ -26,6 +26,13 @@ module _ {S : Type 0} where
     cached = ap length caches ∙ space.cached;
   }
 
+  -- the same where nothing but the pages changed
+  pub pages_moved : (held : S → List ℕ) (honest : Type 0) (old : SpaceValue S) (memory : PagedValue S) → memory ≡ record old.memory { pages = memory.pages }
+      → (honest → memory_of held memory.pages ≡ memory_of held old.memory.pages)
+      → ((number : ℕ) → is_purged (page_at memory.pages number) ≡ false → is_purged (page_at old.memory.pages number) ≡ false)
+      → IsSpace held honest old → IsSpace held honest (record old { memory = memory })
+  pages_moved held honest old memory only same stays space = space_moved held honest old memory (ap (λ (m : PagedValue S). m.caches) only) same stays space
+
   -- no page that was given up is one that was not
   abbrev pub StaysPurged : List (ℕ × PageValue S) → List (ℕ × PageValue S) → Type 0
   StaysPurged old new = (number : ℕ) → is_purged (page_at new number) ≡ false → is_purged (page_at old number) ≡ false

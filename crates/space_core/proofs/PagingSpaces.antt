@@ -106,9 +106,9 @@ module _ {S : Type 0} where
         by_place (place.Away slot) left = whole_purged old new vpn left (absent_whole left.page.place _ _ left.how.place)
         by_place place.Purged left = same_purged old new left
 
-    pub space_peeked : (vpn : ℕ) (old : SpaceValue S) (memory : PagedValue S) → memory.caches ≡ old.memory.caches → LeavesPage held honest old.memory.pages memory.pages vpn (page_at old.memory.pages vpn)
+    pub space_peeked : (vpn : ℕ) (old : SpaceValue S) (memory : PagedValue S) → memory ≡ record old.memory { pages = memory.pages } → LeavesPage held honest old.memory.pages memory.pages vpn (page_at old.memory.pages vpn)
         → (honest → memory_of held memory.pages ≡ memory_of held old.memory.pages) → IsSpace held honest old → IsSpace held honest (record old { memory = memory })
-    space_peeked vpn old memory caches left same space = space_shown old memory caches same (peeked_stays old.memory.pages memory.pages vpn (page_at old.memory.pages vpn) left) space
+    space_peeked vpn old memory only left same space = space_shown old memory (ap (λ (m : PagedValue S). m.caches) only) same (peeked_stays old.memory.pages memory.pages vpn (page_at old.memory.pages vpn) left) space
 
     -- it is the flat process's
     byte_of_flat : (space : SpaceValue S) (address byte : ℕ) (flat : Process) → page_number address < 2 ^ 20 → honest → StandsFor held space → ShowsByte held honest (page_at space.memory.pages (page_number address)) (page_offset address) byte

@@ -1,8 +1,10 @@
 -- What the calls keep of a process on paged memory.
-use Rattle.std.proofs.Common.{◌≡◌, ℕ, Bool, false, cond, List, [], length, map, Option, Some, None, Result, Ok, Err, IfNone, OnSome, OnOk, OnErr, inl, inr, ap, ◌∙◌, refl, sym}
+use Rattle.std.proofs.Common.{◌≡◌, ℕ, Bool, false, cond, List, [], length, map, Option, Some, None, Result, Ok, Err, IfNone, OnSome, OnOk, OnErr, inl, inr, ap, ◌∙◌, refl, sym, subst, length-set, slice_set}
+use Rattle.std.specs.Option.{option_or}
 use Rattle.std.proofs.lemmas.Bool.Decides.{eqb_tells}
 use Rattle.std.proofs.lemmas.List.{length-map}
 use Rattle.tlb_core.specs.Cache.{doomed}
+use Rattle.tlb_core.specs.declared.translation.Translation.{Translation}
 use Rattle.page_store.specs.declared.refusal.LeaveRefusal.{LeaveRefusal}
 use Rattle.page_store.specs.PageValue.{PageValue, Place}
 use Rattle.page_store.specs.PageValue as place
@@ -11,9 +13,12 @@ use Rattle.page_store.specs.declared.state.Keeping.{Keeping}
 use Rattle.page_store.specs.Moves.{IfResident}
 use Rattle.paged_memory.specs.Paged.{PagedValue, page_at, memory_of}
 use Rattle.paged_memory.specs.Calls.{ChangesBy, Leaves}
+use Rattle.flat_machine.specs.declared.end.End.TheVariants.{Killed}
+use Rattle.flat_machine.specs.declared.end.KillCause.{KillCause}
 use Rattle.space_core.specs.StandsFor.{SpaceValue, is_purged, is_purged_place, IsSpace}
 use Rattle.space_core.specs.Caches.{emptied}
-use Rattle.space_core.proofs.Standing.{stands_on}
+use Rattle.space_core.specs.RunningValue.{RecordedValue}
+use Rattle.space_core.proofs.Standing.{stands_on, stands_killed}
 
 module _ {S : Type 0} where
   -- other pages, tables and caches that stand for the same memory
@@ -65,6 +70,23 @@ module _ {S : Type 0} where
   left_stays mark (Err refusal) old new vpn same by number whole = ap (λ (m : PagedValue S). is_purged (page_at m.pages number)) (sym same) ∙ whole
   left_stays mark (Ok done) old new vpn same by number whole = leaving_stays mark old.pages new.pages vpn by number whole
 
+  -- a hart's cache is another
+  pub space_noticed : (held : S → List ℕ) (honest : Type 0) (hart : ℕ) (cache : List Translation) (old : SpaceValue S) (memory : PagedValue S) → memory ≡ record old.memory { caches = slice_set old.memory.caches hart cache }
+      → IsSpace held honest old → IsSpace held honest (record old { memory = memory })
+  space_noticed held honest hart cache old memory only space =
+      space_pages held honest old memory
+      (ap (λ (m : PagedValue S). length m.caches) only ∙ length-set old.memory.caches hart cache) (ap (λ (m : PagedValue S). m.pages) only) space
+
   -- its caches are emptied
   pub space_emptied : (held : S → List ℕ) (honest : Type 0) (old : SpaceValue S) → IsSpace held honest old → IsSpace held honest (record old { memory = emptied old.memory })
   space_emptied held honest old space = space_pages held honest old (emptied old.memory) (length-map old.memory.caches (λ _. [])) refl space
+
+  -- the machine ends it, and its caches are emptied
+  pub space_killed : (held : S → List ℕ) (honest : Type 0) (old : SpaceValue S) (cause : KillCause) (recorded : RecordedValue) (memory : PagedValue S)
+      → recorded ≡ record { running = record old.running { ending = option_or old.running.ending (Some (Killed cause)) }; schedule = old.schedule } → memory ≡ emptied old.memory
+      → IsSpace held honest old → IsSpace held honest (record old { running = recorded.running; schedule = recorded.schedule; memory = memory })
+  space_killed held honest old cause recorded memory ended clear space =
+      let killed : SpaceValue S = record old { running = record old.running { ending = option_or old.running.ending (Some (Killed cause)) } } in
+      let quiet : IsSpace held honest (record killed { memory = emptied old.memory }) = space_emptied held honest killed (record { stands = λ h. stands_killed held old cause (space.stands h); cached = space.cached }) in
+      subst (λ (r : RecordedValue). IsSpace held honest (record old { running = r.running; schedule = r.schedule; memory = memory })) (sym ended)
+      (subst (λ (m : PagedValue S). IsSpace held honest (record killed { memory = m })) (sym clear) quiet)

@@ -1,5 +1,5 @@
 -- A hart's instructions one at a time are slices of one instruction, one after another.
-use Rattle.std.proofs.Common.{◌≡◌, ◌⊎◌, inl, inr, ◌+◌, ◌++◌, ◌≤◌, ◌<◌, ℕ, zero, suc, true, List, length, replicate, slice_set, slice_index_or, Some, refl, sym, ap, ◌∙◌, subst, arith, append_assoc, append-nil, length-set}
+use Rattle.std.proofs.Common.{◌≡◌, inl, inr, ◌+◌, ◌++◌, ◌≤◌, ◌<◌, ℕ, zero, suc, true, List, length, replicate, slice_set, slice_index_or, Some, refl, sym, ap, ◌∙◌, subst, arith, append_assoc, append-nil, length-set}
 use Rattle.std.proofs.lemmas.List.{set-get_or, set-set, get_or-set_same, replicate-append-replicate}
 use Rattle.page_memory.specs.Memory.{Memory}
 use Rattle.rv_exec.specs.Outcomes.{Used}
@@ -10,7 +10,7 @@ use Rattle.flat_machine.specs.Process.{Process, IsWhole, may_step, with_hart, fl
 use Rattle.flat_machine.specs.PlainRunLaws.{plain_none, plain_more, next_is}
 use Rattle.flat_machine.specs.Schedule.{written_out, room}
 use Rattle.flat_machine.specs.StepLaws.{started}
-use Rattle.flat_machine.specs.TurnsLaws.{one_more, OneMore}
+use Rattle.flat_machine.specs.TurnsLaws.{one_more}
 use Rattle.paged_memory.specs.Access.{HasPage, LacksPage, cache_of}
 use Rattle.paged_memory.specs.HartMemory.{KeepsAccess, MarksSince}
 use Rattle.paged_memory.specs.HartMemoryLaws.{access_itself, had, lacked, pages_on}

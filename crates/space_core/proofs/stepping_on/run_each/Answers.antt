@@ -1,4 +1,4 @@
-use Rattle.std.proofs.Common.{◌≡◌, ◌∙◌, refl, subst}
+use Rattle.std.proofs.Common.{◌∙◌, refl, subst}
 use Rattle.flat_machine.specs.PlainRunLaws.{next_is}
 use Rattle.space_core.specs.StepByStep.{RunsEach}
 use Rattle.space_core.proofs.stepping_on.run_each.Goals as goal

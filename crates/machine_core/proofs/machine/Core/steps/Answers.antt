@@ -1,15 +1,12 @@
 -- The slices are steps, one after another.
-use Rattle.std.proofs.Common.{◌<◌, ◌++◌, length, take, drop, option_map, inl, refl, sym, ap, ◌∙◌, arith, subst}
-use Rattle.machine_core.specs.Applying.{Runs}
+use Rattle.std.proofs.Common.{◌<◌, length, inl, refl, sym, ap, ◌∙◌, arith}
 use Rattle.machine_core.specs.ApplyingLaws.{runs_none, runs_one}
-use Rattle.machine_core.specs.Faithful.{IsFaithful}
 use Rattle.machine_core.specs.Machine.{CoreValue}
-use Rattle.machine_core.specs.MachineRun.{hart_refusal, hart_reason, step_reply}
-use Rattle.machine_core.specs.ManySteps.{steps_of, replies_of}
+use Rattle.machine_core.specs.MachineRun.{hart_refusal, hart_reason}
 use Rattle.machine_core.specs.declared.event.Event.TheVariants.{Step}
 use Rattle.machine_core.specs.declared.event.Reply.TheVariants.{Refused}
 use Rattle.machine_core.proofs.Cores.{is_there}
-use Rattle.machine_core.proofs.SingleSteps.{many_back}
+use Rattle.machine_core.proofs.SingleSteps.{many_told}
 use Rattle.machine_core.proofs.machine.Core.steps.Goals as goal
 
 pub returns-then-most-eq0-clause-runs : goal.returns-then-most-eq0-clause-runs
@@ -41,29 +38,16 @@ slices_at-slices-requires g c =
 pub invariant_of-self : goal.invariant_of-self
 invariant_of-self g c = record {
   machine =
-      (many_back g.S.SwapSlot.content g.S.SwapSlot.honest g.S.SwapSlot.failures c.args.process c.args.hart c.self.inside.pager c.self.inside.slots c.self.inside.jobs.items c.self.inside.processes.items
-      c.as_mut_slice.result.now c.slices_at-slices.new.processes c.self.inside.processes.len c.slices_at-slices.result.ran c.slices_at-slices.result.last
+      (many_told g.S.SwapSlot.content g.S.SwapSlot.honest g.S.SwapSlot.failures c.args.process c.args.hart c.self.inside.pager c.self.inside.slots c.self.inside.jobs.items c.self.inside.processes.items
+      c.as_mut_slice.result.now c.slices_at-slices.new.processes c.self.inside.processes.len c.slices_at-slices.result.ran c.slices_at-slices.result.last _ c.args.self.now c.self.view_is refl
       (sym c.in_default.is ∙ c.hart_refusal-refusal.ensures ∙ ap (hart_refusal c.args.process c.args.hart) c.as_slice.ensures.value)
-      (subst (λ (k : CoreValue _). IsFaithful g.S.SwapSlot.content g.S.SwapSlot.honest k) (sym c.self.view_is) c.faithful.ensures)
-      (omega (arith, c.self.inside.processes.ok.0)) c.as_mut_slice.ensures.value c.slices_at-slices.ensures.changes).1.machine;
+      c.faithful.ensures (omega (arith, c.self.inside.processes.ok.0)) c.as_mut_slice.ensures.value c.slices_at-slices.ensures.changes).1.machine;
   roomy = c.self.invariant.roomy;
 }
 
 pub returns-clause-runs : goal.returns-clause-runs
 returns-clause-runs g c =
-    let new : CoreValue _ = record {
-      pager = c.self.inside.pager;
-      slots = c.self.inside.slots;
-      processes = take c.self.inside.processes.len (c.slices_at-slices.new.processes ++ drop (length c.slices_at-slices.new.processes) c.self.inside.processes.items);
-      jobs = c.self.inside.jobs.items;
-    } in
-    let back =
-    many_back g.S.SwapSlot.content g.S.SwapSlot.honest g.S.SwapSlot.failures c.args.process c.args.hart c.self.inside.pager c.self.inside.slots c.self.inside.jobs.items c.self.inside.processes.items
-    c.as_mut_slice.result.now c.slices_at-slices.new.processes c.self.inside.processes.len c.slices_at-slices.result.ran c.slices_at-slices.result.last
+    (many_told g.S.SwapSlot.content g.S.SwapSlot.honest g.S.SwapSlot.failures c.args.process c.args.hart c.self.inside.pager c.self.inside.slots c.self.inside.jobs.items c.self.inside.processes.items
+    c.as_mut_slice.result.now c.slices_at-slices.new.processes c.self.inside.processes.len c.slices_at-slices.result.ran c.slices_at-slices.result.last c.last_reply.result c.args.self.now c.self.view_is c.last_reply.ensures
     (sym c.in_default.is ∙ c.hart_refusal-refusal.ensures ∙ ap (hart_refusal c.args.process c.args.hart) c.as_slice.ensures.value)
-    (subst (λ (k : CoreValue _). IsFaithful g.S.SwapSlot.content g.S.SwapSlot.honest k) (sym c.self.view_is) c.faithful.ensures)
-    (omega (arith, c.self.inside.processes.ok.0)) c.as_mut_slice.ensures.value c.slices_at-slices.ensures.changes in
-    subst (λ l. Runs g.S.SwapSlot.content g.S.SwapSlot.honest g.S.SwapSlot.failures (steps_of c.args.process c.args.hart c.slices_at-slices.result.ran l) (replies_of c.slices_at-slices.result.ran l) c.args.self.now new)
-    (sym c.last_reply.ensures)
-    (subst (λ (k : CoreValue _). Runs g.S.SwapSlot.content g.S.SwapSlot.honest g.S.SwapSlot.failures (steps_of c.args.process c.args.hart c.slices_at-slices.result.ran (option_map step_reply c.slices_at-slices.result.last)) (replies_of c.slices_at-slices.result.ran (option_map step_reply c.slices_at-slices.result.last)) k new)
-    c.self.view_is back.0)
+    c.faithful.ensures (omega (arith, c.self.inside.processes.ok.0)) c.as_mut_slice.ensures.value c.slices_at-slices.ensures.changes).0

@@ -1,12 +1,9 @@
-use Rattle.std.proofs.Common.{◌≡◌, ◌<◌, true, length, arith, ap, ◌∙◌, sym, subst}
+use Rattle.std.proofs.Common.{length, arith, ap}
 use Rattle.paged_memory.specs.Paged.{memory_of}
-use Rattle.flat_machine.specs.Process.{may_step}
-use Rattle.space_core.specs.RunningValue.{RunningValue, with_memory}
-use Rattle.space_core.specs.StepByStep.{HartRuns, RunsShort, RunsEach}
+use Rattle.space_core.specs.RunningValue.{RunningValue}
 use Rattle.space_core.proofs.StepMoves.{is_started}
 use Rattle.space_core.proofs.PlainSteps.{whole_set}
 use Rattle.space_core.proofs.StepsOn.{hart_runs}
-use Rattle.space_core.proofs.running.Running.step_each.Given.{Over}
 use Rattle.space_core.proofs.running.Running.step_each.Goals as goal
 
 pub index_mut-regs-requires : goal.index_mut-regs-requires

@@ -1,9 +1,8 @@
-use Rattle.std.proofs.Common.{◌≡◌, ◌<◌, ◌^◌, Some, ap, subst, arith}
+use Rattle.std.proofs.Common.{◌≡◌, ◌<◌, ◌^◌, Some, subst, arith}
 use Rattle.std.specs.Prelude.{IfOk}
 use Rattle.page_memory.specs.Words.{page_number}
 use Rattle.flat_machine.specs.Process.{Process, flat_run, opening}
 use Rattle.flat_machine.specs.Schedule.{written_out}
-use Rattle.paged_memory.specs.Paged.{PagedValue}
 use Rattle.paged_memory.specs.Peeking.{byte_of}
 use Rattle.space_core.specs.StandsFor.{SpaceValue}
 use Rattle.space_core.proofs.PagingSpaces.{space_peeked, byte_flat}
@@ -13,7 +12,7 @@ pub invariant_of-self : goal.invariant_of-self
 invariant_of-self g c =
     let inside : SpaceValue g.row.S.Denot = record { image = c.self.inside.image; input = c.self.inside.input.items; running = c.self.inside.recorded.running; schedule = c.self.inside.recorded.schedule; memory = c.self.inside.memory } in
     let did = c.peek.ensures in
-    space_peeked g.S.SwapSlot.content g.S.SwapSlot.honest (page_number c.args.address) inside c.peek.new.self (ap (λ (m : PagedValue g.row.S.Denot). m.caches) did.stays) did.left did.memory c.self.invariant
+    space_peeked g.S.SwapSlot.content g.S.SwapSlot.honest (page_number c.args.address) inside c.peek.new.self did.stays did.left did.memory c.self.invariant
 
 pub returns-clause-flat : goal.returns-clause-flat
 returns-clause-flat g c is_honest =

@@ -1,7 +1,7 @@
-use Rattle.std.proofs.Common.{◌≡◌, subst}
+use Rattle.std.proofs.Common.{subst}
 use Rattle.space_core.specs.StandsFor.{SpaceValue}
 use Rattle.space_core.specs.StepByStep.{StepsOn, StepsShort}
-use Rattle.space_core.proofs.StepsOn.{Left, LeftShort, all_on, short_on, with_parts}
+use Rattle.space_core.proofs.StepsOn.{LeftShort, all_on, short_on}
 use Rattle.space_core.proofs.space.Space.step_on.Given.{Over}
 use Rattle.space_core.proofs.space.Space.step_on.Goals as goal
 

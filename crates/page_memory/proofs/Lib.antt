@@ -1,4 +1,3 @@
 pub mod Indexing
 pub mod Overwriting
 pub mod PlacedEntries
-pub mod LeastNumbers

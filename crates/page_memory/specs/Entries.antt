@@ -1,5 +1,5 @@
 -- Entries by page number: a page's place is where its entry stands in the list.
-use Rattle.std.specs.Prelude.{◌≡◌, ℕ, zero, suc, ◌<◌, ◌≤◌, All, Contains, ◌+◌, ◌==◌, List, [], ◌∷◌, ◌++◌, Option, Some, None, map, position}
+use Rattle.std.specs.Prelude.{◌≡◌, ℕ, zero, suc, ◌+◌, ◌==◌, List, [], ◌∷◌, ◌++◌, Option, Some, None, map, position}
 use Rattle.std.specs.List.{slice_get}
 use Rattle.std.specs.Ordering.{nat_cmp}
 use Rattle.std.specs.FinMap.{FinMap, insert, from_entries}
@@ -45,8 +45,3 @@ map_by f entries = from_entries (map (λ e. (e.0, f e.1)) entries)
 -- one page has another value, or gets its first one; every other page is as it was
 pub record ChangesPage {T : Type 0} (old new : List (ℕ × T)) (page : ℕ) (value : T) : Type 0 where
   pub changed : from_entries {R = nat_cmp} new ≡ insert (from_entries old) page value
-
--- the least of these numbers from one on, or none where all are below it
-abbrev pub IsLeastFrom : List ℕ → ℕ → Option ℕ → Type 0
-IsLeastFrom numbers from None = All (λ number. number < from) numbers
-IsLeastFrom numbers from (Some least) = Contains numbers least × ((from ≤ least) × All (λ number. from ≤ number → least ≤ number) numbers)

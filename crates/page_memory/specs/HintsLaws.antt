@@ -1,11 +1,11 @@
 -- How what is remembered of a page serves an access, and how it is kept.
-use Rattle.std.proofs.Common.{◌≡◌, ℕ, zero, suc, ◌+◌, ◌*◌, ◌/◌, ◌%◌, ◌<◌, List, [], ◌∷◌, length, replicate, set, slice_set, Contains, Bool, true, false, ◌≢◌, IsTrue, Option, Some, None, option_map, option_and_then, Result, Ok, Err, arith, refl, sym, ap, ◌∙◌, ne_eqb}
-use Rattle.std.proofs.lemmas.Option.{none-some, same_Some}
+use Rattle.std.proofs.Common.{◌≡◌, ℕ, zero, suc, ◌+◌, ◌*◌, ◌/◌, ◌%◌, ◌<◌, List, [], ◌∷◌, length, replicate, slice_set, Contains, true, ◌≢◌, IsTrue, Option, Some, None, option_map, option_and_then, Ok, Err, arith, refl, sym, ap, ◌∙◌, ne_eqb}
+use Rattle.std.proofs.lemmas.Option.{same_Some}
 use Rattle.std.specs.Ordering.{nat_cmp}
 use Rattle.std.specs.Option.{IsSomeAnd}
 use Rattle.std.specs.FinMap.{get, from_entries}
 use Rattle.page_memory.specs.declared.fault.MemoryFault.{MemoryFault}
-use Rattle.page_memory.specs.declared.fault.MemoryFault.TheVariants.{Misaligned, PageFault}
+use Rattle.page_memory.specs.declared.fault.MemoryFault.TheVariants.{Misaligned}
 use Rattle.page_memory.specs.declared.words.Access.{Access}
 use Rattle.page_memory.specs.declared.words.Access.TheVariants.{Fetch, Load, Store}
 use Rattle.byteorder.specs.Endian.{little_bytes}
@@ -13,10 +13,10 @@ use Rattle.page_memory.specs.declared.words.Width.{Width}
 use Rattle.page_memory.specs.declared.words.Width.TheVariants.{Byte, Half, Word}
 use Rattle.page_memory.specs.Words.{page_number, page_offset, bytes_in}
 use Rattle.page_memory.specs.Rights.{may}
-use Rattle.page_memory.specs.Memory.{Page, Memory, with_right, answer_by, stored, memory_with, overwritten, loaded, number_at, aligned_page, usable, fetched, if_aligned}
+use Rattle.page_memory.specs.Memory.{Page, Memory, with_right, answer_by, stored, overwritten, loaded, number_at, aligned_page, usable, fetched, if_aligned}
 use Rattle.page_memory.specs.Entries.{place_of, value_at, with_value}
-use Rattle.page_memory.specs.EntriesLaws.{value_by_place, replaced_value, place_of-with_value, length-with_value}
-use Rattle.page_memory.specs.AccessLaws.{usable_found, aligned_usable, stored_at, stored_misaligned, not_stored_at}
+use Rattle.page_memory.specs.EntriesLaws.{value_by_place, place_of-with_value, length-with_value}
+use Rattle.page_memory.specs.AccessLaws.{usable_found, aligned_usable, stored_at}
 use Rattle.page_memory.specs.declared.hint.Hint.{Hint}
 use Rattle.page_memory.specs.declared.hint.Hints.{Hints}
 use Rattle.page_memory.specs.Hints.{may_at, StandsAt, Leads, LeadAll, Remembers}

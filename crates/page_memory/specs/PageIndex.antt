@@ -1,5 +1,5 @@
 -- How a page index finds a page number's place: a directory of leaves, as a two-level page table has.
-use Rattle.std.specs.Prelude.{◌≡◌, ℕ, ◌+◌, ◌-◌, ◌/◌, ◌%◌, ◌^◌, ◌<◌, ◌≤◌, List, length, slice_index, slice_index_or, Option, Some, None, position, ◌==◌, if◌then◌else◌}
+use Rattle.std.specs.Prelude.{◌≡◌, ℕ, ◌+◌, ◌-◌, ◌/◌, ◌%◌, ◌^◌, ◌<◌, ◌≤◌, List, length, slice_index, slice_index_or, Option, Some, None, ◌==◌, if◌then◌else◌}
 use Rattle.std.specs.Global.{Box}
 
 -- what a leaf keeps for its n-th page: the page's place and 1, or 0

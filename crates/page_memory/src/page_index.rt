@@ -1,6 +1,5 @@
-ghost use Rattle.std.specs.Prelude.{◌≡◌, slice_index, ◌==◌, ℕ, ◌+◌, ◌-◌, ◌<◌, ◌^◌, List, [], ◌∷◌, ◌++◌, IfOk, OnOk, OnErr, IfSome, length, take, position, ◌/◌};
+ghost use Rattle.std.specs.Prelude.{◌≡◌, slice_index, ◌==◌, ◌+◌, ◌-◌, ◌<◌, ◌^◌, [], ◌∷◌, ◌++◌, IfOk, OnOk, OnErr, IfSome, length, take, position, ◌/◌};
 ghost use Rattle.page_memory.specs.PageIndex.{kept_number, Keeps};
-ghost use Rattle.page_memory.specs.Entries.{IsLeastFrom};
 
 use crate::words::PAGE_COUNT;
 use std::alloc::{AllocError, Global};
@@ -62,13 +61,6 @@ impl PageIndex {
     {
         let _ = &self.directory;
         self.pages[place]
-    }
-
-    /// The least listed page number from a given one on.
-    pub fn next_from(&self, page: u32) -> Option<u32>
-        ensures { IsLeastFrom self.now page result }
-    {
-        least_from(&self.pages, page)
     }
 
     /// The place of a page number in the list.
@@ -164,28 +156,5 @@ fn clear(directory: &mut [Option<Box<[u32; 1024]>>], page: u32)
 {
     if let Some(leaf) = &mut directory[(page / LEAF_PAGES) as usize] {
         leaf[(page % LEAF_PAGES) as usize] = 0;
-    }
-}
-
-/// The least of the numbers from a given one on.
-fn least_from(numbers: &[u32], from: u32) -> Option<u32>
-    ensures { IsLeastFrom numbers.now from result }
-{
-    let mut least = None;
-    for number in numbers {
-        least = lesser(least, from, *number);
-    }
-    least
-}
-
-/// The least number from a given one on, where one more number was seen.
-#[tactic(auto, using(crate::proofs::LeastNumbers::one_more))]
-fn lesser(least: Option<u32>, from: u32, number: u32) -> Option<u32>
-    ensures { (seen : List ℕ) → IsLeastFrom seen from least → IsLeastFrom (seen ++ number ∷ []) from result }
-{
-    match least {
-        _ if number < from => least,
-        Some(before) if before <= number => least,
-        _ => Some(number),
     }
 }

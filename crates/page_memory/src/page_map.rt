@@ -1,8 +1,6 @@
-ghost use Rattle.std.specs.Prelude.{◌≡◌, slice_index, ℕ, ◌<◌, ◌^◌, [], ◌∷◌, ◌++◌, None, Some, IfOk, IfSome, OnErr, length, take};
-ghost use Rattle.std.specs.Ordering.{nat_cmp};
-ghost use Rattle.std.specs.FinMap as map;
+ghost use Rattle.std.specs.Prelude.{◌≡◌, slice_index, ◌<◌, ◌^◌, [], ◌∷◌, ◌++◌, None, Some, IfOk, IfSome, OnErr, length, take};
 ghost use Rattle.std.specs.Borrow.{sem};
-ghost use Rattle.page_memory.specs.Entries.{place_of, pages_of, value_at, IsLeastFrom};
+ghost use Rattle.page_memory.specs.Entries.{place_of, pages_of, value_at};
 ghost use Rattle.page_memory.specs.PageMap.{LendsValue};
 
 use crate::page_index::PageIndex;
@@ -64,15 +62,6 @@ impl<T> PageMap<T> {
     {
         let _ = &self.values;
         self.index.page(place)
-    }
-
-    /// The least page number, from a given one on, that has a value.
-    #[tactic(auto, using(crate::proofs::PlacedEntries::of_values))]
-    pub fn next_from(&self, page: u32) -> Option<u32>
-        ensures { IsLeastFrom (pages_of self.now) page result }
-    {
-        let _ = &self.values;
-        self.index.next_from(page)
     }
 
     /// The place of a page that has a value.

@@ -7,7 +7,7 @@ use Rattle.frame_pool.specs.FrameValue.{zero_bytes}
 use Rattle.page_memory.specs.declared.words.Access.TheVariants.{Load, Store}
 use Rattle.page_memory.specs.declared.rights.Rights.{Rights}
 use Rattle.std.proofs.lemmas.Option.{same_Some, none-some}
-use Rattle.page_memory.specs.Rights.{may}
+use Rattle.page_memory.specs.Rights.{may, read_write}
 use Rattle.page_memory.specs.Memory.{Page, with_zeroed}
 use Rattle.page_memory.specs.Entries.{place_of, added, added_unless, with_added}
 use Rattle.page_memory.specs.EntriesLaws.{inserted, place_stays}
@@ -25,8 +25,8 @@ use Rattle.paged_memory.specs.HartMemoryLaws.{pages_itself, pages_on}
 use Rattle.paged_memory.proofs.SoundnessLaws.{unheld_elsewhere}
 use Rattle.paged_memory.proofs.PagedLaws.{Change, get-page_at, page_at-nowhere, swap_key, changes_no_entry, Holds-unheld}
 
-readable_zero : (rights : Rights) → Some (record { 0 = 3 }) ≡ Some rights → may Load rights ≡ true
-readable_zero rights is = let same : record { 0 = 3 } ≡ rights = same_Some _ _ is in subst (λ r. may Load r ≡ true) same refl
+readable_zero : (rights : Rights) → Some read_write ≡ Some rights → may Load rights ≡ true
+readable_zero rights is = let same : read_write ≡ rights = same_Some _ _ is in subst (λ r. may Load r ≡ true) same refl
 
 module _ {S : Type 0} where
   appended : (pages : List (ℕ × PageValue S)) (number : ℕ) (page : PageValue S) → place_of number pages ≡ None → ChangesPage pages (pages ++ (number, page) ∷ []) number page
@@ -97,6 +97,10 @@ module _ {S : Type 0} where
       → LacksOne first count old
   lacks_one old now first count number above below is none =
       record { number = number; above = above; below = below; absent = absent_before old first (number - first) number fresh_zero_page (ap (place_of number) (sym is) ∙ none) }
+
+  -- in a range where a page is missing there is a page number
+  pub lacking_some : (pages : List (ℕ × PageValue S)) (first count : ℕ) → LacksOne first count pages → 0 < count
+  lacking_some pages first count lacks = let above = lacks.above in let below = lacks.below in omega (arith, above, below)
 
 -- the pages that were there stay, and the others are pages of zeros
 module _ {S : Type 0} where

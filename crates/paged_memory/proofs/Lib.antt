@@ -10,6 +10,7 @@ pub mod LocateLaws
 pub mod ReadLaws
 pub mod GrowthLaws
 pub mod WriteLaws
+pub mod LentLaws
 pub mod HitLaws
 pub mod MovesLaws
 pub mod CollectingLaws

@@ -1,6 +1,6 @@
 -- What is found at a page's place for an access.
-use Rattle.std.specs.Prelude.{◌≡◌, ℕ, true, false, cond, Some, None, option_map, Ok, Err, List, refl}
-use Rattle.std.proofs.Common.{ap, ◌∙◌}
+use Rattle.std.specs.Prelude.{◌≡◌, ℕ, true, false, cond, Option, Some, None, option_map, Ok, Err, List, refl}
+use Rattle.std.proofs.Common.{ap, sym, ◌∙◌}
 use Rattle.page_memory.specs.Memory.{Page}
 use Rattle.page_memory.specs.declared.rights.Rights.{Rights}
 use Rattle.page_memory.specs.declared.words.Access.{Access}
@@ -20,14 +20,15 @@ module _ {S : Type 0} (pages : List (ℕ × PageValue S)) (access : Access) (num
     found : page_at pages number ≡ Some page
     found = page_at-place pages number place page at value
 
-    pub refused_forbidden : may access page.origin.rights ≡ false → page_with_right access (page_at pages number) ≡ Err PageFault
-    refused_forbidden not_allowed = ap (page_with_right access) found ∙ ap (λ b. cond b (Ok page) (Err PageFault)) not_allowed
+    module _ (rights : Rights) (rights_is : rights ≡ page.origin.rights) where
+      pub refused_forbidden : false ≡ may access rights → page_with_right access (page_at pages number) ≡ Err PageFault
+      refused_forbidden not_allowed = ap (page_with_right access) found ∙ ap (λ b. cond b (Ok page) (Err PageFault)) (ap (may access) (sym rights_is) ∙ sym not_allowed)
 
-    pub allowed_absent : may access page.origin.rights ≡ true → page_with_right access (page_at pages number) ≡ Ok page
-    allowed_absent allowed = ap (page_with_right access) found ∙ ap (λ b. cond b (Ok page) (Err PageFault)) allowed
+      pub allowed_absent : true ≡ may access rights → page_with_right access (page_at pages number) ≡ Ok page
+      allowed_absent allowed = ap (page_with_right access) found ∙ ap (λ b. cond b (Ok page) (Err PageFault)) (ap (may access) (sym rights_is) ∙ sym allowed)
 
-    pub lacks_absent : resident_frame page.place ≡ None → LacksPage pages number
-    lacks_absent none = ap (λ o. is_resident (option_map seen_of o)) found ∙ by_place page.origin page.place none
+    pub lacks_absent : (frame : Option ℕ) → frame ≡ resident_frame page.place → frame ≡ None → LacksPage pages number
+    lacks_absent frame frame_is none = ap (λ o. is_resident (option_map seen_of o)) found ∙ by_place page.origin page.place (sym frame_is ∙ none)
       where
         by_place : (origin : Page) (place : Place S) → resident_frame place ≡ None → is_resident (Some (seen_of (record { origin = origin; place = place }))) ≡ false
         by_place origin Fresh none = refl
@@ -37,8 +38,9 @@ module _ {S : Type 0} (pages : List (ℕ × PageValue S)) (access : Access) (num
         by_place origin (Away slot) none = refl
         by_place origin Purged none = refl
 
-    pub located : (frame : ℕ) (rights : Rights) → page.origin.rights ≡ rights → may access page.origin.rights ≡ true → resident_frame page.place ≡ Some frame → Locates pages access number place frame rights
-    located frame rights rights_is allowed is = by_place page.origin page.place found rights_is allowed is
+    pub located : (rights : Rights) → rights ≡ page.origin.rights → true ≡ may access rights → (framed : Option ℕ) (frame : ℕ) → framed ≡ resident_frame page.place → framed ≡ Some frame
+        → Locates pages access number place frame rights
+    located rights rights_is allowed framed frame framed_is some = by_place page.origin page.place found (sym rights_is) (ap (may access) (sym rights_is) ∙ sym allowed) (sym framed_is ∙ some)
       where
         by_place : (origin : Page) (stands : Place S) → page_at pages number ≡ Some (record { origin = origin; place = stands }) → origin.rights ≡ rights → may access origin.rights ≡ true → resident_frame stands ≡ Some frame → Locates pages access number place frame rights
         by_place origin Fresh found rights_is allowed is = cc

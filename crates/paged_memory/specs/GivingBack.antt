@@ -1,7 +1,6 @@
 -- The pages of an ended process give back their frames and slots.
-use Rattle.std.specs.Prelude.{◌≡◌, ℕ, ◌^◌, ◌<◌, Option, Some, None, List, slice_index}
+use Rattle.std.specs.Prelude.{◌≡◌, ℕ, ◌^◌, ◌<◌, Option, Some, None, List}
 use Rattle.frame_pool.specs.FrameValue.{FrameValue}
-use Rattle.page_memory.specs.Entries.{pages_of}
 use Rattle.page_store.specs.PageValue.{PageValue, Purged}
 use Rattle.page_store.specs.Moves.{given_back}
 use Rattle.sv32_table.specs.Entry.{blank}
@@ -19,18 +18,6 @@ module _ {S : Type 0} where
   abbrev pub GivesNothing : Option (PageValue S) → Type 0
   GivesNothing (Some page) = given_back page.place ≡ None
   GivesNothing None = Unit {0}
-
-  -- the first page, by number, that has something to give back, or that there is none
-  abbrev pub IsFirst : List (ℕ × PageValue S) → Option ℕ → Type 0
-  IsFirst pages None = (q : ℕ) → GivesNothing (page_at pages q)
-  IsFirst pages (Some first) = (first < 2 ^ 20) × ((¬ GivesNothing (page_at pages first)) × ((q : ℕ) → q < first → GivesNothing (page_at pages q)))
-
-  -- the same of the pages at so many places alone, the first ones
-  abbrev pub IsFirstOf : List (ℕ × PageValue S) → ℕ → Option ℕ → Type 0
-  IsFirstOf pages count None = (k : ℕ) → k < count → GivesNothing (page_at pages (slice_index (pages_of pages) k))
-  IsFirstOf pages count (Some first) =
-      (first < 2 ^ 20) × ((¬ GivesNothing (page_at pages first))
-      × ((k : ℕ) → k < count → slice_index (pages_of pages) k < first → GivesNothing (page_at pages (slice_index (pages_of pages) k))))
 
   -- the first page that has something gives it back, and is unmapped
   pub record GivesOne (given : Option FrameValue × Option S) (old new : List (ℕ × PageValue S)) (tables tables' : List (List ℕ)) : Type 0 where

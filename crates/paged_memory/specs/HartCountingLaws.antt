@@ -1,5 +1,5 @@
 -- A hart's accesses leave as many pages that are resident or being saved, as many frames and as many slots.
-use Rattle.std.proofs.Common.{◌≡◌, ℕ, Bool, true, false, ◌&&◌, List, [], Option, Some, None, option_map, is_some, refl, ap, ◌∙◌, sym}
+use Rattle.std.proofs.Common.{◌≡◌, ℕ, Bool, false, ◌&&◌, List, [], Option, Some, None, option_map, is_some, refl, ap, ◌∙◌, sym}
 use Rattle.page_store.specs.PageValue.{PageValue, Place, Fresh, Resident, Leaving, Saving, Away, Purged, frame_of, slot_of}
 use Rattle.page_store.specs.Lending.{with_bytes, rewritten}
 use Rattle.paged_memory.specs.Paged.{page_at}

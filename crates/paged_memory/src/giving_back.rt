@@ -1,11 +1,10 @@
-ghost use Rattle.std.specs.Prelude.{◌≡◌, ◌<◌, ◌+◌, ◌^◌, ℕ, [], All, IfSome, IfNone, slice_index};
+ghost use Rattle.std.specs.Prelude.{◌≡◌, ◌<◌, ◌+◌, ◌^◌, ℕ, [], All, IfSome, IfNone};
 ghost use Rattle.std.specs.Bool.{OnTrue, OnFalse};
 ghost use Rattle.sv32_table.specs.Entry.{blank};
 ghost use Rattle.sv32_table.specs.EntryAt.{ChangesEntry};
 ghost use Rattle.paged_memory.specs.Paged.{Holds, page_at};
 ghost use Rattle.paged_memory.specs.Calls.{ChangesBy};
-ghost use Rattle.page_memory.specs.Entries.{pages_of};
-ghost use Rattle.paged_memory.specs.GivingBack.{GivesBack, GivesOne, GivesNothing, IsFirst, IsFirstOf};
+ghost use Rattle.paged_memory.specs.GivingBack.{GivesBack, GivesOne, GivesNothing};
 
 use crate::caches::Caches;
 use crate::eviction::state_in;
@@ -34,37 +33,29 @@ impl<L: Ledger, S: SwapSlot> PagedMemory<L, S> {
 }
 
 /// The first page, by number, that has a frame or a slot and is not being saved.
-#[tactic(auto, using(crate::proofs::FirstGiving::first_of_all))]
+#[tactic(auto, using(crate::proofs::FirstGiving::first_of_all, crate::proofs::FirstGiving::none_of_all))]
 fn first_with_something<L: Ledger, S: SwapSlot>(pages: &PageMap<StoredPage<L, S>>) -> Option<u32>
-    ensures { IsFirst pages.now result }
+    ensures small { IfSome result (λ first. first < 2 ^ 20) }
+    ensures something { IfSome result (λ first. ¬ GivesNothing (page_at pages.now first)) }
+    ensures first { IfSome result (λ first. (q : ℕ) → q < first → GivesNothing (page_at pages.now q)) }
+    ensures none { IfNone result ((q : ℕ) → GivesNothing (page_at pages.now q)) }
 {
     let mut first = None;
     for place in 0..pages.len() {
-        first = lesser(pages, first, pages.page(place));
+        let vpn = pages.page(place);
+        if is_before(vpn, first) && has_something(pages, vpn) {
+            first = Some(vpn);
+        }
     }
     first
 }
 
-/// The first page so far, or one that comes before it and has a frame or a slot and is not being saved.
-#[tactic(auto, using(crate::proofs::FirstGiving::one_more))]
-fn lesser<L: Ledger, S: SwapSlot>(
-    pages: &PageMap<StoredPage<L, S>>,
-    first: Option<u32>,
-    vpn: u32,
-) -> Option<u32>
-    requires { vpn < 2 ^ 20 }
-    ensures { (count : ℕ) → slice_index (pages_of pages.now) count ≡ vpn → IsFirstOf pages.now count first → IsFirstOf pages.now (count + 1) result }
+/// Whether a page comes before another one, or there is no other.
+fn is_before(vpn: u32, other: Option<u32>) -> bool
+    ensures before { OnTrue result (IfSome other (λ other. vpn < other)) }
+    ensures behind { OnFalse result (¬ IfSome other (λ other. vpn < other)) }
 {
-    match first {
-        Some(before) if before <= vpn => first,
-        _ => {
-            if has_something(pages, vpn) {
-                Some(vpn)
-            } else {
-                first
-            }
-        }
-    }
+    other.is_none_or(|other| vpn < other)
 }
 
 /// Whether a page has a frame or a slot, and is not being saved.

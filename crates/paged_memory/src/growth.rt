@@ -40,7 +40,6 @@ impl<L: Ledger, S: SwapSlot> PagedMemory<L, S> {
         ensures ok { OnOk result (self.new.pages ≡ with_added first count fresh_zero_page self.old.pages) }
         ensures memory { OnOk result (memory_of S.content self.new.pages ≡ with_zeroed first count (memory_of S.content self.old.pages)) }
         ensures err { OnErr result (self.new ≡ self.old) }
-        ensures some { IsErr result → 0 < count }
         ensures missing { IsErr result → LacksOne first count self.old.pages }
         ensures process { self.new.process ≡ self.old.process }
         ensures tables { self.new.tables ≡ self.old.tables }
@@ -61,7 +60,6 @@ fn add_all_zeroed<L: Ledger, S: SwapSlot>(
     requires { first + count ≤ 2 ^ 20 }
     ensures ok { OnOk result (pages.new ≡ with_added first count fresh_zero_page pages.old) }
     ensures err { OnErr result (pages.new ≡ pages.old) }
-    ensures some { IsErr result → 0 < count }
     ensures missing { IsErr result → LacksOne first count pages.old }
 {
     let before = pages.len();

@@ -1,4 +1,4 @@
-use Rattle.paged_memory.specs.GivingBack.{IsFirstOf}
+use Rattle.paged_memory.proofs.FirstGiving.{IsFirstOf}
 use Rattle.paged_memory.proofs.giving_back.first_with_something.Given as goal
 
 abbrev pub invariant-loop-place : goal.invariant-loop-place

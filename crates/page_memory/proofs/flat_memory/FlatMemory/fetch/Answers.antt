@@ -1,4 +1,4 @@
-use Rattle.std.proofs.Common.{◌≡◌, ◌+◌, ◌*◌, ◌/◌, ◌%◌, ◌<◌, Ok, sym, ap, ◌∙◌, arith}
+use Rattle.std.proofs.Common.{◌≡◌, ◌+◌, ◌*◌, ◌/◌, ◌%◌, Ok, sym, ap, ◌∙◌, arith}
 use Rattle.page_memory.specs.Words.{page_number}
 use Rattle.page_memory.specs.Memory.{fetched}
 use Rattle.page_memory.specs.HintsLaws.{fetched_led}

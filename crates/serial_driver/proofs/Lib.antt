@@ -1,4 +1,6 @@
+pub mod Closed
 pub mod Counted
 pub mod Endings
+pub mod Limited
 pub mod Reached
 pub mod Told

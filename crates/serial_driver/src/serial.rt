@@ -1,6 +1,9 @@
-ghost use Rattle.std.specs.Prelude.{ℕ, IfOk};
+ghost use Rattle.std.specs.Prelude.{◌≡◌, ◌<◌, ◌≤◌, ℕ, false, IfOk};
 ghost use Rattle.machine_core.specs.Applying.{LeadsTo};
+ghost use Rattle.serial_driver.specs.Closing.{is_limit_kill};
 ghost use Rattle.serial_driver.specs.Endings.{HasEnded};
+ghost use Rattle.serial_driver.specs.Limit.{Closes, DoesSave, EndsByLimit, EndsOne, PlaysOn, PlaysUpTo};
+ghost use Rattle.serial_driver.specs.Nexts.{IsUnlimited, most_events};
 ghost use Rattle.serial_driver.specs.Reporting.{Reports};
 
 use crate::harts::is_running;
@@ -16,8 +19,8 @@ use swap_slots::SwapSlot;
 /// Plays a machine until each process has ended, or so many events have happened, and tells what it has come to. A slice is
 /// so many instructions of a hart (or one, for none).
 ///
-/// Where the limit ends the run, a save that is out is done, and then each process that goes on is killed. Each process that
-/// ended is purged before anything else happens.
+/// Where the limit ends the run, a save that is out is done, and then each process that goes on is killed; for the limit
+/// none is killed before. Each process that ended is purged before anything else happens.
 ///
 /// # Errors
 ///
@@ -30,6 +33,7 @@ pub fn run_serial<L: Ledger, S: SwapSlot, C: Clock>(
     limit: u64,
 ) -> Result<Report, AllocError>
     ensures reached { LeadsTo S.content S.honest S.failures core.old core.new }
+    ensures limited { IfOk result (λ _. EndsByLimit S.content S.honest S.failures limit core.old core.new) }
     ensures ended { IfOk result (λ _. (number : ℕ) → HasEnded core.new number) }
     ensures report { IfOk result (λ report. Reports core.new report) }
 {
@@ -39,36 +43,32 @@ pub fn run_serial<L: Ledger, S: SwapSlot, C: Clock>(
 }
 
 /// Plays a machine to its end.
-#[tactic(auto, using(crate::proofs::Reached::reaches_last))]
 fn play<L: Ledger, S: SwapSlot, C: Clock>(core: &mut Core<L, S, C>, slice: u32, limit: u64)
-    ensures reached { LeadsTo S.content S.honest S.failures core.old core.new }
+    ensures limited { EndsByLimit S.content S.honest S.failures limit core.old core.new }
     ensures ended { (number : ℕ) → HasEnded core.new number }
 {
     let mut turns = Turns::new(core.size(), slice);
-    play_events(core, &mut turns, limit);
-    save(core, turns.unsaved());
+    let unsaved = play_events(core, &mut turns, limit);
+    save(core, unsaved);
     end_all(core);
 }
 
-/// Plays a machine until each process has ended, or so many events have happened.
-#[tactic(auto, using(machine_core::specs::ApplyingLaws::reaches_on, machine_core::specs::ApplyingLaws::reaches_same))]
+/// Plays a machine until each process has ended, or so many events have happened. Tells the page whose save is out then.
 fn play_events<L: Ledger, S: SwapSlot, C: Clock>(
     core: &mut Core<L, S, C>,
     turns: &mut Turns,
     limit: u64,
-)
-    ensures { LeadsTo S.content S.honest S.failures core.old core.new }
+) -> Option<Key>
+    ensures { PlaysUpTo S.content S.honest S.failures limit result core.old core.new }
 {
     let mut left = limit;
-    'turns: for _ in 0..limit {
-        if left == 0 {
-            return;
-        }
+    'turns: while left > 0 {
         let Some(next) = turns.next(core, left) else {
-            return;
+            return None;
         };
-        left = left.saturating_sub(act(core, turns, next));
+        left -= act(core, turns, next);
     }
+    turns.unsaved()
 }
 
 /// Does what comes next, and tells how many events that was.
@@ -77,7 +77,11 @@ fn act<L: Ledger, S: SwapSlot, C: Clock>(
     turns: &mut Turns,
     next: Next,
 ) -> u64
-    ensures { LeadsTo S.content S.honest S.failures core.old core.new }
+    requires some { 0 < most_events next }
+    requires unlimited { IsUnlimited next }
+    ensures plays { PlaysOn S.content S.honest S.failures result core.old core.new }
+    ensures some { 0 < result }
+    ensures within { result ≤ most_events next }
 {
     match next {
         Next::Event(event) => apply(core, turns, event),
@@ -95,7 +99,9 @@ fn apply<L: Ledger, S: SwapSlot, C: Clock>(
     turns: &mut Turns,
     event: Event,
 ) -> u64
-    ensures { LeadsTo S.content S.honest S.failures core.old core.new }
+    requires { is_limit_kill event ≡ false }
+    ensures plays { PlaysOn S.content S.honest S.failures 1 core.old core.new }
+    ensures one { result ≡ 1 }
 {
     let reply = core.apply(event);
     turns.heed(event, reply);
@@ -110,17 +116,22 @@ fn run<L: Ledger, S: SwapSlot, C: Clock>(
     hart: u32,
     most: u32,
 ) -> u64
-    ensures { LeadsTo S.content S.honest S.failures core.old core.new }
+    requires { 0 < most }
+    ensures plays { PlaysOn S.content S.honest S.failures result core.old core.new }
+    ensures some { 0 < result }
+    ensures within { result ≤ most }
 {
     let done = core.steps(process, hart, most);
     turns.heed_steps(done);
-    u64::from(done.ran) + u64::from(done.last.is_some())
+    match done.last {
+        Some(_) => u64::from(done.ran) + 1,
+        None => u64::from(done.ran),
+    }
 }
 
 /// Does the save that is out, if there is one.
-#[tactic(auto, using(machine_core::specs::ApplyingLaws::reaches_same))]
 fn save<L: Ledger, S: SwapSlot, C: Clock>(core: &mut Core<L, S, C>, unsaved: Option<Key>)
-    ensures { LeadsTo S.content S.honest S.failures core.old core.new }
+    ensures { DoesSave S.content S.honest S.failures unsaved core.old core.new }
 {
     let Some(page) = unsaved else {
         return;
@@ -129,9 +140,8 @@ fn save<L: Ledger, S: SwapSlot, C: Clock>(core: &mut Core<L, S, C>, unsaved: Opt
 }
 
 /// Ends each process that goes on, and takes back what the processes have.
-#[tactic(auto, using(machine_core::specs::ApplyingLaws::reaches_same))]
 fn end_all<L: Ledger, S: SwapSlot, C: Clock>(core: &mut Core<L, S, C>)
-    ensures reached { LeadsTo S.content S.honest S.failures core.old core.new }
+    ensures closes { Closes S.content S.honest S.failures core.old core.new }
     ensures ended { (number : ℕ) → HasEnded core.new number }
 {
     'processes: for process in 0..core.processes() as u32 {
@@ -141,9 +151,8 @@ fn end_all<L: Ledger, S: SwapSlot, C: Clock>(core: &mut Core<L, S, C>)
 }
 
 /// Ends a process that goes on.
-#[tactic(auto, using(machine_core::specs::ApplyingLaws::reaches_same))]
 fn end<L: Ledger, S: SwapSlot, C: Clock>(core: &mut Core<L, S, C>, process: u32)
-    ensures reached { LeadsTo S.content S.honest S.failures core.old core.new }
+    ensures ends { EndsOne S.content S.honest S.failures process core.old core.new }
     ensures ended { HasEnded core.new process }
     ensures kept { (number : ℕ) → HasEnded core.old number → HasEnded core.new number }
 {

@@ -1,9 +1,14 @@
 //! Which event comes next.
 
-use crate::harts::{HartOf, live_hart_from, next_live};
+ghost use Rattle.std.specs.Prelude.{◌≡◌, ◌<◌, ◌≤◌, false, ℕ, IfSome, IfNone};
+ghost use Rattle.serial_driver.specs.Closing.{is_limit_kill};
+ghost use Rattle.serial_driver.specs.Endings.{HasEnded};
+ghost use Rattle.serial_driver.specs.Nexts.{IsNext};
+
+use crate::failure::Failure;
+use crate::harts::{HartOf, live_hart_from, next_hart};
 use crate::patience::Patience;
 use clock_policy::{Clock, Key};
-use flat_machine::KillCause;
 use machine_core::{Core, Event, EventRefusal, Reply, Steps};
 use std::sync::ledger::Ledger;
 use swap_slots::SwapSlot;
@@ -23,7 +28,7 @@ enum Stage {
     Clear { victim: Key, hart: u32 },
     /// The victim was copied and is saved.
     Save(Key),
-    Kill { process: u32, cause: KillCause },
+    Kill { process: u32, failure: Failure },
     Purge { process: u32 },
 }
 
@@ -71,11 +76,15 @@ impl Turns {
         &mut self,
         core: &Core<L, S, C>,
         allowed: u64,
-    ) -> Option<Next> {
+    ) -> Option<Next>
+        requires { 0 < allowed }
+        ensures next { IfSome result (IsNext allowed) }
+        ensures none { IfNone result ((number : ℕ) → HasEnded core.now number) }
+    {
         let event = match self.stage {
             Stage::Run => return Some(self.steps(allowed)),
             Stage::Choose(from) => {
-                self.running = next_live(core, from)?;
+                self.running = next_hart(core, from)?;
                 self.left = self.slice;
                 self.stage = Stage::Run;
                 return Some(self.steps(allowed));
@@ -84,7 +93,10 @@ impl Turns {
             Stage::Wait => self.bring(core.counts().pager.free > 0),
             Stage::Clear { victim, hart } => self.clear(core, victim, hart),
             Stage::Save(victim) => Event::Saved(victim),
-            Stage::Kill { process, cause } => Event::Kill { process, cause },
+            Stage::Kill { process, failure } => Event::Kill {
+                process,
+                cause: failure.cause(),
+            },
             Stage::Purge { process } => Event::Purge { process },
         };
         Some(Next::Event(event))
@@ -124,9 +136,14 @@ impl Turns {
     }
 
     /// The rest of the hart's slice, of which so many events may happen still.
-    fn steps(&self, allowed: u64) -> Next {
+    fn steps(&self, allowed: u64) -> Next
+        requires { 0 < allowed }
+        ensures { IsNext allowed result }
+    {
         let HartOf { process, hart } = self.running;
-        let most = u32::try_from(allowed).unwrap_or(u32::MAX).min(self.left);
+        let most = u32::try_from(allowed)
+            .unwrap_or(u32::MAX)
+            .min(self.left.max(1));
         Next::Steps {
             process,
             hart,
@@ -135,7 +152,9 @@ impl Turns {
     }
 
     /// Brings the page in that the hart waits for, or asks the list for a victim.
-    fn bring(&self, is_free: bool) -> Event {
+    fn bring(&self, is_free: bool) -> Event
+        ensures { is_limit_kill result ≡ false }
+    {
         if is_free {
             Event::PageIn(Key {
                 process: self.running.process,
@@ -152,7 +171,9 @@ impl Turns {
         core: &Core<L, S, C>,
         victim: Key,
         hart: u32,
-    ) -> Event {
+    ) -> Event
+        ensures { is_limit_kill result ≡ false }
+    {
         let process = victim.process;
         let Some(hart) = live_hart_from(core, process, hart) else {
             return Event::Collect(victim);
@@ -204,8 +225,8 @@ impl Turns {
     fn stop(&mut self, reply: Reply) {
         let process = self.running.process;
         match reply {
-            Reply::ScheduleFull => self.kill(process, KillCause::ScheduleFull),
-            Reply::Refused(EventRefusal::NoMemory) => self.kill(process, KillCause::NoMemory),
+            Reply::ScheduleFull => self.kill(process, Failure::ScheduleFull),
+            Reply::Refused(EventRefusal::NoMemory) => self.kill(process, Failure::NoMemory),
             _ => self.stage = Stage::Purge { process },
         }
     }
@@ -247,7 +268,7 @@ impl Turns {
         match reply {
             Reply::NoSlot | Reply::Device => self.give_patience(victim.process),
             Reply::Refused(EventRefusal::NoMemory) => {
-                self.kill(victim.process, KillCause::NoMemory)
+                self.kill(victim.process, Failure::NoMemory)
             }
             _ => {}
         }
@@ -260,8 +281,8 @@ impl Turns {
                 self.stage = Stage::Run;
                 self.give_patience(process);
             }
-            Reply::Device if self.patience.fault() => self.kill(process, KillCause::LoadFailed),
-            Reply::Refused(EventRefusal::NoMemory) => self.kill(process, KillCause::NoMemory),
+            Reply::Device if self.patience.fault() => self.kill(process, Failure::LoadFailed),
+            Reply::Refused(EventRefusal::NoMemory) => self.kill(process, Failure::NoMemory),
             _ => self.give_patience(process),
         }
     }
@@ -269,12 +290,12 @@ impl Turns {
     /// A page of the process was brought in, or failed to leave.
     fn give_patience(&mut self, process: u32) {
         if self.patience.try_again(process) {
-            self.kill(process, KillCause::NoSwap);
+            self.kill(process, Failure::NoSwap);
         }
     }
 
-    fn kill(&mut self, process: u32, cause: KillCause) {
-        self.stage = Stage::Kill { process, cause };
+    fn kill(&mut self, process: u32, failure: Failure) {
+        self.stage = Stage::Kill { process, failure };
     }
 
     /// A process is gone: the hart that has the slice is of it, or waits on.
@@ -287,7 +308,9 @@ impl Turns {
     }
 }
 
-fn notice(of: HartOf) -> Event {
+fn notice(of: HartOf) -> Event
+    ensures { is_limit_kill result ≡ false }
+{
     let HartOf { process, hart } = of;
     Event::Notice { process, hart }
 }

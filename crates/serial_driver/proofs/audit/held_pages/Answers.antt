@@ -1,5 +1,5 @@
 -- One more process, up to the last.
-use Rattle.std.proofs.Common.{◌≡◌, ◌≤◌, ◌+◌, suc, true, length, take, refl, sym, ap, ◌∙◌, arith, add-one}
+use Rattle.std.proofs.Common.{◌≤◌, true, length, refl, ap, ◌∙◌, arith, add-one}
 use Rattle.std.proofs.lemmas.List.{take_all}
 use Rattle.machine_core.specs.Machine.{total}
 use Rattle.machine_sides.specs.Sides.{ProcessSideValue}

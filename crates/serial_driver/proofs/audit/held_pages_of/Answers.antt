@@ -1,5 +1,5 @@
 -- One more page number, up to the last.
-use Rattle.std.proofs.Common.{◌≡◌, ℕ, ◌^◌, ◌<◌, cond, Some, slice_get, true, refl, sym, ap, ◌∙◌, arith}
+use Rattle.std.proofs.Common.{◌≡◌, ◌^◌, ◌<◌, cond, refl, ap, ◌∙◌, arith}
 use Rattle.std.specs.Option.{option_and_then}
 use Rattle.paged_memory.specs.Counting.{pages_below, pages_where}
 use Rattle.machine_sides.specs.Admitting.{is_resident_stage, stage_at}

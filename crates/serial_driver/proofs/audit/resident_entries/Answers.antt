@@ -1,5 +1,5 @@
 -- One more entry of the list, up to its end.
-use Rattle.std.proofs.Common.{◌≡◌, ◌&&◌, true, cond, length, ◌≤◌, refl, sym, ap, ◌∙◌, arith}
+use Rattle.std.proofs.Common.{true, cond, length, ◌≤◌, sym, ap, ◌∙◌, arith}
 use Rattle.std.proofs.lemmas.List.{take_all}
 use Rattle.clock_policy.specs.ClockPro.{number}
 use Rattle.clock_policy.specs.Residents.{residents, is_resident_that, in_frame}

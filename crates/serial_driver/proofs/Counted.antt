@@ -34,6 +34,10 @@ module _ {A : Type 0} where
   total_more f (z ∷ zs) zero x h = let same : z ≡ x = cc in let e : f z ≡ f x = ap f same in omega (arith, e)
   total_more f (z ∷ zs) (suc i) x h = omega (arith, total_more f zs i x h)
 
+-- a count by a test is one by what the test is
+pub one_by : (count : ℕ) (test now : Bool) → count ≡ cond test 1 0 → test ≡ now → count ≡ cond now 1 0
+one_by count test now is same = is ∙ ap (λ (t : Bool). cond t 1 0) same
+
 pub and_true : (b : Bool) → (b && true) ≡ b
 and_true true = refl
 and_true false = refl

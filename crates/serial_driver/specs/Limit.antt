@@ -1,5 +1,5 @@
 -- A run of so many events at most, and how it is closed.
-use Rattle.std.specs.Prelude.{◌≡◌, ◌≢◌, ℕ, ◌<◌, ◌≤◌, false, List, All, length, slice_get, Option, Some, None, IsSome}
+use Rattle.std.specs.Prelude.{◌≡◌, ◌≢◌, ℕ, ◌*◌, ◌<◌, ◌≤◌, false, List, All, length, slice_get, Option, Some, None, IsSome}
 use Rattle.clock_policy.specs.declared.key.Key.{Key}
 use Rattle.machine_core.specs.declared.event.Event.{Event}
 use Rattle.machine_core.specs.declared.event.Event.TheVariants.{Saved}
@@ -8,20 +8,29 @@ use Rattle.machine_core.specs.Applying.{Applies, Runs}
 use Rattle.machine_core.specs.Machine.{CoreValue}
 use Rattle.serial_driver.specs.Closing.{is_limit_kill, kill_of, closing_below}
 use Rattle.serial_driver.specs.Endings.{HasEnded}
+use Rattle.serial_driver.specs.Patience.{tries_per_frame, tried_after, AreDue, IsPatient}
+use Rattle.serial_driver.specs.declared.patience.Patience.{Patience}
 
 module _ {S : Type 0} (held : S → List ℕ) (honest : Type 0) (failures : S → ℕ) where
-  -- so many events lead from one machine to the other, and none of them ends a process for the limit
-  pub record PlaysOn (count : ℕ) (old new : CoreValue S) : Type 0 where
+  -- So many events lead from one machine to the other. None of them ends a process for the limit, and one ends a process for want of a
+  -- place only where it was tried for often enough.
+  pub record PlaysOn (most : ℕ) (tried : ℕ → ℕ) (count : ℕ) (old new : CoreValue S) : Type 0 where
     pub events : List Event
     pub replies : List Reply
     pub runs : Runs held honest failures events replies old new
     pub many : length events ≡ count
     pub unlimited : All (λ event. is_limit_kill event ≡ false) events
+    pub due : AreDue most tried events replies
+
+  -- the same, and what the driver remembers then
+  pub record PlaysWith (most : ℕ) (tried : ℕ → ℕ) (count : ℕ) (old new : CoreValue S) (patience : Patience) : Type 0 where
+    pub plays : PlaysOn most tried count old new
+    pub patient : IsPatient most (λ number. tried_after number plays.events plays.replies (tried number)) patience
 
   -- the same of as many events as the limit says, or of fewer where each process has ended; a save is out only at the limit
   pub record PlaysUpTo (limit : ℕ) (unsaved : Option Key) (old new : CoreValue S) : Type 0 where
     pub count : ℕ
-    pub plays : PlaysOn count old new
+    pub plays : PlaysOn (tries_per_frame * old.pager.pager.size) (λ _. 0) count old new
     pub within : count ≤ limit
     pub short : count < limit → (number : ℕ) → HasEnded new number
     pub saves_late : IsSome unsaved → count ≡ limit

@@ -1,15 +1,14 @@
-//! Why a process is ended before the limit ends it.
+//! What a process fails of in one event.
 
 ghost use Rattle.std.specs.Prelude.{◌≡◌, false};
 ghost use Rattle.serial_driver.specs.Closing.{is_limit};
+ghost use Rattle.serial_driver.specs.Patience.{is_no_swap};
 
 use flat_machine::KillCause;
 
-/// What a process fails of.
+/// Why a process is ended for what one event was answered with.
 #[derive(Clone, Copy)]
 pub(crate) enum Failure {
-    /// Its pages found no place, or were brought in again and again.
-    NoSwap,
     /// A saved page could not be loaded.
     LoadFailed,
     /// Its schedule takes no more.
@@ -19,12 +18,12 @@ pub(crate) enum Failure {
 }
 
 impl Failure {
-    /// The cause that the machine records. None is the limit's.
+    /// The cause that the machine records. None is the limit's, and none is want of a place for its pages.
     pub(crate) fn cause(self) -> KillCause
-        ensures { is_limit result ≡ false }
+        ensures limit { is_limit result ≡ false }
+        ensures no_swap { is_no_swap result ≡ false }
     {
         match self {
-            Failure::NoSwap => KillCause::NoSwap,
             Failure::LoadFailed => KillCause::LoadFailed,
             Failure::ScheduleFull => KillCause::ScheduleFull,
             Failure::NoMemory => KillCause::NoMemory,

@@ -1,12 +1,14 @@
-ghost use Rattle.std.specs.Prelude.{◌≡◌, ◌<◌, ◌≤◌, ℕ, false, IfOk};
+ghost use Rattle.std.specs.Prelude.{◌≡◌, ◌<◌, ◌≤◌, ◌*◌, ℕ, false, IfNone, IfOk, IfSome};
 ghost use Rattle.machine_core.specs.Applying.{LeadsTo};
 ghost use Rattle.serial_driver.specs.Closing.{is_limit_kill};
 ghost use Rattle.serial_driver.specs.Endings.{HasEnded};
-ghost use Rattle.serial_driver.specs.Limit.{Closes, DoesSave, EndsByLimit, EndsOne, PlaysOn, PlaysUpTo};
-ghost use Rattle.serial_driver.specs.Nexts.{IsUnlimited, most_events};
+ghost use Rattle.serial_driver.specs.Limit.{Closes, DoesSave, EndsByLimit, EndsOne, PlaysUpTo, PlaysWith};
+ghost use Rattle.serial_driver.specs.Nexts.{IsNext, MayCome, most_events};
+ghost use Rattle.serial_driver.specs.Patience.{IsPatient, IsSpentBy, tries_per_frame};
 ghost use Rattle.serial_driver.specs.Reporting.{Reports};
 
 use crate::harts::is_running;
+use crate::patience::Patience;
 use crate::reporting::report;
 use crate::turns::{Next, Turns};
 use clock_policy::{Clock, Key};
@@ -47,8 +49,9 @@ fn play<L: Ledger, S: SwapSlot, C: Clock>(core: &mut Core<L, S, C>, slice: u32, 
     ensures limited { EndsByLimit S.content S.honest S.failures limit core.old core.new }
     ensures ended { (number : ℕ) → HasEnded core.new number }
 {
-    let mut turns = Turns::new(core.size(), slice);
-    let unsaved = play_events(core, &mut turns, limit);
+    let mut turns = Turns::new(slice);
+    let mut patience = Patience::new(core.size());
+    let unsaved = play_events(core, &mut turns, &mut patience, limit);
     save(core, unsaved);
     end_all(core);
 }
@@ -57,39 +60,67 @@ fn play<L: Ledger, S: SwapSlot, C: Clock>(core: &mut Core<L, S, C>, slice: u32, 
 fn play_events<L: Ledger, S: SwapSlot, C: Clock>(
     core: &mut Core<L, S, C>,
     turns: &mut Turns,
+    patience: &mut Patience,
     limit: u64,
 ) -> Option<Key>
+    requires { IsPatient (tries_per_frame * core.old.pager.pager.size) (λ _. 0) patience.old }
     ensures { PlaysUpTo S.content S.honest S.failures limit result core.old core.new }
 {
     let mut left = limit;
     'turns: while left > 0 {
-        let Some(next) = turns.next(core, left) else {
+        let Some(next) = what_is_next(core, turns, patience, left) else {
             return None;
         };
-        left -= act(core, turns, next);
+        left -= act(core, turns, patience, next);
     }
     turns.unsaved()
+}
+
+/// What comes next where so many events may happen still, or `None` once each process has ended. A process whose pages were
+/// tried for too often is ended.
+#[tactic(auto, using(crate::proofs::Next::spent_next))]
+fn what_is_next<L: Ledger, S: SwapSlot, C: Clock>(
+    core: &Core<L, S, C>,
+    turns: &mut Turns,
+    patience: &Patience,
+    allowed: u64,
+) -> Option<Next>
+    requires { 0 < allowed }
+    ensures next { IfSome result (IsNext allowed patience.now) }
+    ensures none { IfNone result ((number : ℕ) → HasEnded core.now number) }
+{
+    if turns.is_killing() {
+        return turns.next(core, allowed);
+    }
+    let Some(process) = patience.spent() else {
+        return turns.next(core, allowed);
+    };
+    Some(Next::Event(Event::Kill {
+        process,
+        cause: KillCause::NoSwap,
+    }))
 }
 
 /// Does what comes next, and tells how many events that was.
 fn act<L: Ledger, S: SwapSlot, C: Clock>(
     core: &mut Core<L, S, C>,
     turns: &mut Turns,
+    patience: &mut Patience,
     next: Next,
 ) -> u64
     requires some { 0 < most_events next }
-    requires unlimited { IsUnlimited next }
-    ensures plays { PlaysOn S.content S.honest S.failures result core.old core.new }
+    requires may_come { MayCome patience.old next }
+    ensures plays { (most : ℕ) (tried : ℕ → ℕ) → IsPatient most tried patience.old → PlaysWith S.content S.honest S.failures most tried result core.old core.new patience.new }
     ensures some { 0 < result }
     ensures within { result ≤ most_events next }
 {
     match next {
-        Next::Event(event) => apply(core, turns, event),
+        Next::Event(event) => apply(core, turns, patience, event),
         Next::Steps {
             process,
             hart,
             most,
-        } => run(core, turns, process, hart, most),
+        } => run(core, turns, patience, process, hart, most),
     }
 }
 
@@ -97,14 +128,17 @@ fn act<L: Ledger, S: SwapSlot, C: Clock>(
 fn apply<L: Ledger, S: SwapSlot, C: Clock>(
     core: &mut Core<L, S, C>,
     turns: &mut Turns,
+    patience: &mut Patience,
     event: Event,
 ) -> u64
-    requires { is_limit_kill event ≡ false }
-    ensures plays { PlaysOn S.content S.honest S.failures 1 core.old core.new }
+    requires unlimited { is_limit_kill event ≡ false }
+    requires spent { IsSpentBy patience.old event }
+    ensures plays { (most : ℕ) (tried : ℕ → ℕ) → IsPatient most tried patience.old → PlaysWith S.content S.honest S.failures most tried 1 core.old core.new patience.new }
     ensures one { result ≡ 1 }
 {
     let reply = core.apply(event);
     turns.heed(event, reply);
+    patience.heed(event, reply);
     1
 }
 
@@ -112,17 +146,19 @@ fn apply<L: Ledger, S: SwapSlot, C: Clock>(
 fn run<L: Ledger, S: SwapSlot, C: Clock>(
     core: &mut Core<L, S, C>,
     turns: &mut Turns,
+    patience: &mut Patience,
     process: u32,
     hart: u32,
     most: u32,
 ) -> u64
     requires { 0 < most }
-    ensures plays { PlaysOn S.content S.honest S.failures result core.old core.new }
+    ensures plays { (bound : ℕ) (tried : ℕ → ℕ) → IsPatient bound tried patience.old → PlaysWith S.content S.honest S.failures bound tried result core.old core.new patience.new }
     ensures some { 0 < result }
     ensures within { result ≤ most }
 {
     let done = core.steps(process, hart, most);
     turns.heed_steps(done);
+    patience.heed_steps(process, done);
     match done.last {
         Some(_) => u64::from(done.ran) + 1,
         None => u64::from(done.ran),

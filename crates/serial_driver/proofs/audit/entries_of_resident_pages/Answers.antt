@@ -1,10 +1,10 @@
 -- One more entry of the list, up to its end.
-use Rattle.std.proofs.Common.{cond, length, ◌≤◌, sym, ap, ◌∙◌, arith}
+use Rattle.std.proofs.Common.{◌&&◌, length, ◌≤◌, sym, ap, ◌∙◌, arith}
 use Rattle.std.proofs.lemmas.List.{take_all}
 use Rattle.clock_policy.specs.ClockPro.{number}
-use Rattle.clock_policy.specs.Residents.{residents, is_resident_that}
+use Rattle.clock_policy.specs.Residents.{residents, is_resident_that, in_frame}
 use Rattle.serial_driver.specs.Audit.{holds_resident}
-use Rattle.serial_driver.proofs.Counted.{entry_more, entries_end}
+use Rattle.serial_driver.proofs.Counted.{entry_more, entries_end, one_by}
 use Rattle.serial_driver.proofs.audit.entries_of_resident_pages.Goals as goal
 
 pub returns-in_default : goal.returns-in_default
@@ -16,7 +16,8 @@ returns-in_default g c =
 pub entries-preserved : goal.entries-preserved
 entries-preserved g c =
     let more = entry_more (holds_resident c.args.core.now) c.args.core.now.pager.pager.list.entries c.entries.i c.in-Some.key c.in-Some.kind (sym c.entry.ensures.entry ∙ c.in-Some.is) in
-    let one = c.one_if-count.ensures.value ∙ ap (λ t. cond t 1 0) c.is_of_resident_page.ensures in
+    let one =
+    one_by c.one_if-count.result c.is_of_resident_page.result (in_frame c.in-Some.kind && holds_resident c.args.core.now c.in-Some.key) c.one_if-count.ensures.value c.is_of_resident_page.ensures in
     (omega (arith, c.entries.invariant.0, more, one), omega (arith, c.entries.invariant.1, c.one_if-count.ensures.small))
 
 pub returns : goal.returns

@@ -10,6 +10,7 @@ use Rattle.machine_core.specs.declared.event.Event.{Event}
 use Rattle.machine_core.specs.declared.event.Reply.{Reply}
 use Rattle.machine_core.specs.declared.report.Report.{Report}
 use Rattle.scripts.specs.DriveScript.{IsScript}
+use Rattle.serial_driver.specs.Limit.{EndsByLimit}
 use Rattle.serial_driver.specs.Reporting.{Reports}
 
 -- a slot in memory is seen as the page that it holds; it keeps what was saved, and never fails
@@ -36,10 +37,11 @@ pub record Plays (frames slots : ℕ) (starts : List Start) (lines : List (List 
   pub runs : Runs page_of ⊤ never events replies start end
   pub invisible : PagingIsInvisible page_of ⊤ events replies start end
 
--- what is reported of a new machine after some events
-pub record ReportsRun (frames slots : ℕ) (starts : List Start) (report : Report) : Type 0 where
+-- what is reported of a new machine after a run that so many events end
+pub record ReportsRun (frames slots : ℕ) (starts : List Start) (limit : ℕ) (report : Report) : Type 0 where
   pub start : CoreValue Slot
   pub end : CoreValue Slot
   pub new : IsNew frames slots starts start
   pub reached : LeadsTo page_of ⊤ never start end
+  pub limited : EndsByLimit page_of ⊤ never limit start end
   pub told : Reports end report

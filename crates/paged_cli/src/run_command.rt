@@ -48,7 +48,7 @@ pub fn run(
     requires least { 4 ≤ frames }
     requires most { frames ≤ 4096 }
     requires few { length processes.items ≤ 16 }
-    ensures { IfOk result (ReportsRun frames slots (map (λ start. start_of start.0 start.1.items) processes.items)) }
+    ensures { IfOk result (ReportsRun frames slots (map (λ start. start_of start.0 start.1.items) processes.items) limit) }
 {
     let blank = Blank::new(u64::from(frames) + 1);
     run_with::<Brand>(alloc, frames, blank, slots, processes, slice, limit)
@@ -69,7 +69,7 @@ fn run_with<L: Ledger>(
     requires least { 4 ≤ frames }
     requires most { frames ≤ 4096 }
     requires few { length processes.items ≤ 16 }
-    ensures { IfOk result (ReportsRun frames slots (map (λ start. start_of start.0 start.1.items) processes.items)) }
+    ensures { IfOk result (ReportsRun frames slots (map (λ start. start_of start.0 start.1.items) processes.items) limit) }
 {
     let mut machine = new_machine::<L>(alloc, frames, blank, slots, processes)?;
     run_serial(alloc, &mut machine, slice, limit)

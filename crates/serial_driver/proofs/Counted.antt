@@ -1,14 +1,14 @@
 -- Counts over a list, and over pages, one more at a time.
-use Rattle.std.proofs.Common.{◌≡◌, ℕ, zero, suc, ◌+◌, ◌^◌, ◌<◌, ◌≤◌, Bool, true, false, ◌&&◌, cond, nat_lt, List, [], ◌∷◌, ◌++◌, length, take, Option, Some, None, slice_get, option_map, refl, sym, ap, ◌∙◌, arith, add-one}
+use Rattle.std.proofs.Common.{◌≡◌, ◌≤◌, ℕ, zero, suc, ◌+◌, ◌^◌, ◌<◌, Bool, true, false, ◌&&◌, cond, nat_lt, List, [], ◌∷◌, length, take, Option, Some, None, slice_get, option_map, refl, sym, ap, ◌∙◌, arith, add-one}
+use Rattle.std.proofs.lemmas.List.{take_all}
 use Rattle.std.proofs.lemmas.Bool.Decides.{nat_tests}
-use Rattle.std.specs.Prelude.{if◌then◌else◌}
 use Rattle.clock_policy.specs.declared.key.Key.{Key}
 use Rattle.clock_policy.specs.declared.entry.Entry.{Entry}
 use Rattle.clock_policy.specs.declared.entry.EntryKind.{EntryKind}
 use Rattle.clock_policy.specs.ClockPro.{number}
 use Rattle.clock_policy.specs.Residents.{in_frame, is_resident_that}
 use Rattle.page_store.specs.PageValue.{PageValue, Place, Fresh, Resident, Leaving, Saving, Away, Purged, frame_of, page_state_of}
-use Rattle.paged_memory.specs.Counting.{page_passes, pages_below, pages_where, is_resident_place, frame_passes}
+use Rattle.paged_memory.specs.Counting.{page_passes, pages_below, is_resident_place, frame_passes}
 use Rattle.paged_memory.specs.Paged.{page_at}
 use Rattle.space_core.specs.StandsFor.{SpaceValue}
 use Rattle.machine_sides.specs.Admitting.{is_resident_stage, stage_at}
@@ -28,12 +28,20 @@ module _ {A : Type 0} where
   got_below (z ∷ zs) zero h = (z, refl)
   got_below (z ∷ zs) (suc i) h = got_below zs i (omega arith)
 
+  -- a sum over a list's beginning is the whole list's, where that goes on no more
+  pub total_whole : (f : A → ℕ) (xs : List A) (i sum : ℕ) → sum ≡ total f (take i xs) → length xs ≤ i → sum ≡ total f xs
+  total_whole f xs i sum is few = is ∙ ap (total f) (take_all i xs few)
+
   -- one more place of a sum
   pub total_more : (f : A → ℕ) (xs : List A) (i : ℕ) (x : A) → slice_get xs i ≡ Some x → total f (take (suc i) xs) ≡ total f (take i xs) + f x
   unfolding total
   total_more f [] i x h = cc
   total_more f (z ∷ zs) zero x h = let same : z ≡ x = cc in let e : f z ≡ f x = ap f same in omega (arith, e)
   total_more f (z ∷ zs) (suc i) x h = omega (arith, total_more f zs i x h)
+
+-- a count by a test is one by what the test is
+pub one_by : (count : ℕ) (test now : Bool) → count ≡ cond test 1 0 → test ≡ now → count ≡ cond now 1 0
+one_by count test now is same = is ∙ ap (λ (t : Bool). cond t 1 0) same
 
 pub and_true : (b : Bool) → (b && true) ≡ b
 and_true true = refl
@@ -71,12 +79,19 @@ entry_more r es i key kind h = by_entry (slice_get es i) refl h
         rw add-one (omega (arith, more, test))
 
 -- and where there is no further entry
-pub entries_end : (es : List Entry) (i : ℕ) → option_map shown (slice_get es i) ≡ None → take i es ≡ es
+entries_end : (es : List Entry) (i : ℕ) → option_map shown (slice_get es i) ≡ None → take i es ≡ es
 entries_end es i h = by_entry (slice_get es i) refl h
   where
     by_entry : (o : Option Entry) → slice_get es i ≡ o → option_map shown o ≡ None → take i es ≡ es
     by_entry None at told = taken_all es i at
     by_entry (Some e) at told = cc
+
+-- a count of a list's beginning is the whole list's, where that goes on no more
+pub count_whole : (p : Entry → Bool) (es : List Entry) (i count : ℕ) → count ≡ number p (take i es) → length es ≤ i → count ≡ number p es
+count_whole p es i count is few = is ∙ ap (number p) (take_all i es few)
+
+pub count_end : (p : Entry → Bool) (es : List Entry) (i count : ℕ) → count ≡ number p (take i es) → option_map shown (slice_get es i) ≡ None → count ≡ number p es
+count_end p es i count is none = is ∙ ap (number p) (entries_end es i none)
 
 module _ {S : Type 0} where
   -- one more page number

@@ -1,9 +1,9 @@
 -- What has ended stays so, and what the machine ends has ended.
-use Rattle.std.proofs.Common.{◌≡◌, ℕ, zero, suc, ◌+◌, ◌<◌, ◌≤◌, ◌⊎◌, List, [], ◌∷◌, length, Option, Some, None, IsSome, slice_get, inl, inr, refl, sym, ap, ◌∙◌, arith, subst}
-use Rattle.std.specs.Prelude.{slice_set, is_some, option_map, if◌then◌else◌}
+use Rattle.std.proofs.Common.{◌≡◌, ◌≢◌, ℕ, zero, suc, ◌+◌, ◌<◌, ◌≤◌, ◌⊎◌, true, false, List, [], ◌∷◌, length, Option, Some, None, IsSome, slice_get, inl, inr, refl, sym, ap, ◌∙◌, arith, subst}
+use Rattle.std.specs.Prelude.{slice_set, is_some, is_none, option_map, if◌then◌else◌}
 use Rattle.std.specs.Option.{option_or}
 use Rattle.std.proofs.lemmas.Bool.Decides.{leb_tells}
-use Rattle.std.proofs.lemmas.Option.{none-some, same_Some}
+use Rattle.std.proofs.lemmas.Option.{same_Some}
 use Rattle.flat_machine.specs.declared.end.End.{End}
 use Rattle.flat_machine.specs.declared.end.KillCause.{KillCause}
 use Rattle.machine_core.specs.Applying.{Applies}
@@ -14,6 +14,7 @@ use Rattle.machine_core.specs.declared.error.EventRefusal.{EventRefusal}
 use Rattle.machine_core.specs.declared.event.Event.TheVariants.{Kill, Purge}
 use Rattle.machine_core.specs.declared.event.Reply.{Reply}
 use Rattle.space_core.specs.StandsFor.{SpaceValue}
+use Rattle.serial_driver.specs.Closing.{goes_on}
 use Rattle.serial_driver.specs.Endings.{HasEnded}
 
 module _ {A : Type 0} where
@@ -24,6 +25,13 @@ module _ {A : Type 0} where
   got_set (z ∷ zs) zero (suc i) y q h = inr h
   got_set (z ∷ zs) (suc p) zero y q h = inr h
   got_set (z ∷ zs) (suc p) (suc i) y q h = elim (got_set zs p i y q h) [ inl e ↦ inl (ap suc e.0, e.1) | inr e ↦ inr e ]
+
+  pub get_set_other : (xs : List A) (p i : ℕ) (y : A) → i ≢ p → slice_get (slice_set xs p y) i ≡ slice_get xs i
+  get_set_other [] p i y other = refl
+  get_set_other (z ∷ zs) zero zero y other = absurd (other refl)
+  get_set_other (z ∷ zs) zero (suc i) y other = refl
+  get_set_other (z ∷ zs) (suc p) zero y other = refl
+  get_set_other (z ∷ zs) (suc p) (suc i) y other = get_set_other zs p i y (λ same. other (ap suc same))
 
   get_set_same : (xs : List A) (p : ℕ) (x y : A) → slice_get xs p ≡ Some x → slice_get (slice_set xs p y) p ≡ Some y
   get_set_same [] p x y h = cc
@@ -85,6 +93,21 @@ module _ {S : Type 0} where
               (λ _. subst (λ (x : ProcessSideValue S). IsSome x.space.running.ending) (sym kills.one.how) (is_ended kills.one.process.space.running.ending _))
         ]
 
+    -- no other process changes
+    pub kill_others : (cause : KillCause) → Applies held honest failures (Kill p cause) old new reply → (other : ℕ) → other ≢ p → slice_get new.processes other ≡ slice_get old.processes other
+    kill_others cause applies other apart =
+        elim applies.served [
+          | inl refused ↦ ap (λ (c : CoreValue S). slice_get c.processes other) refused.stays
+          | inr kills ↦ ap (λ l. slice_get l other) kills.one.is ∙ get_set_other old.processes p other kills.one.process' apart
+        ]
+
+    pub purge_others : Applies held honest failures (Purge p) old new reply → (other : ℕ) → other ≢ p → slice_get new.processes other ≡ slice_get old.processes other
+    purge_others applies other apart =
+        elim applies.served [
+          | inl refused ↦ ap (λ (c : CoreValue S). slice_get c.processes other) refused.stays
+          | inr purges ↦ ap (λ l. slice_get l other) purges.processes ∙ get_set_other old.processes p other purges.process' apart
+        ]
+
     -- also where a process gives back what it has
     pub purge_keeps : Applies held honest failures (Purge p) old new reply → (number : ℕ) → HasEnded old number → HasEnded new number
     purge_keeps applies =
@@ -106,15 +129,56 @@ module _ {S : Type 0} where
   pub none_behind : (core : CoreValue S) (number : ℕ) → length core.processes ≤ number → HasEnded core number
   none_behind core number behind process at = absurd (nothing_behind core.processes number process behind at)
 
-  -- a process that does not go on is not there, or has ended
-  pub ended_none : (core : CoreValue S) (number : ℕ) (told : Option (Option End)) → told ≡ option_map (λ (p : ProcessSideValue S). p.space.running.ending) (slice_get core.processes number) → told ≡ None
-      → HasEnded core number
-  ended_none core number told is none process at =
-      absurd (none-some _ (sym none ∙ is ∙ ap (option_map (λ (p : ProcessSideValue S). p.space.running.ending)) at))
+  -- all have ended, where those below a number have and none stands behind it
+  pub ended_whole : (old new : CoreValue S) (count : ℕ) → length old.processes ≤ count → ((number : ℕ) → count ≤ number → slice_get new.processes number ≡ slice_get old.processes number)
+      → ((number : ℕ) → number < count → HasEnded new number) → (number : ℕ) → HasEnded new number
+  ended_whole old new count many same before number =
+      elim (leb_tells count number) [
+        | inl high ↦ λ process at. let least = high.1 in none_behind old number (omega (arith, many, least)) process (sym (same number least) ∙ at)
+        | inr low ↦ before number low.1
+      ]
 
-  pub ended_some : (core : CoreValue S) (number : ℕ) (told : Option (Option End)) (e : End) → told ≡ option_map (λ (p : ProcessSideValue S). p.space.running.ending) (slice_get core.processes number)
-      → told ≡ Some (Some e) → HasEnded core number
-  ended_some core number told e is some process at =
-      subst IsSome (same_Some _ _ (sym some ∙ is ∙ ap (option_map (λ (p : ProcessSideValue S). p.space.running.ending)) at)) refl
+  -- what is told of a process's ending tells whether it goes on
+  pub going : (process : Option (ProcessSideValue S)) → Some None ≡ option_map (λ (p : ProcessSideValue S). p.space.running.ending) process → true ≡ goes_on process
+  going None told = cc
+  going (Some process) told = sym (ap is_none (sym (same_Some _ _ told)))
 
-pub ruleset not_running = (ended_none, ended_some)
+  pub gone : (process : Option (ProcessSideValue S)) (e : End) → Some (Some e) ≡ option_map (λ (p : ProcessSideValue S). p.space.running.ending) process → false ≡ goes_on process
+  gone None e told = cc
+  gone (Some process) e told = ap is_none (same_Some _ _ told)
+
+  pub not_there : (process : Option (ProcessSideValue S)) → None ≡ option_map (λ (p : ProcessSideValue S). p.space.running.ending) process → false ≡ goes_on process
+  not_there None told = refl
+  not_there (Some process) told = cc
+
+  -- one that does not go on has ended, if it is there
+  pub ended_off : (core : CoreValue S) (number : ℕ) → goes_on (slice_get core.processes number) ≡ false → HasEnded core number
+  ended_off core number off process at = some_ending process.space.running.ending (ap goes_on (sym at) ∙ off)
+    where
+      some_ending : (o : Option End) → is_none o ≡ false → IsSome o
+      some_ending None h = cc
+      some_ending (Some e) h = refl
+
+  -- one more process of a range has ended
+  pub none_more : (core : CoreValue S) (from number : ℕ) → ((other : ℕ) → from ≤ other → other < number → HasEnded core other) → goes_on (slice_get core.processes number) ≡ false
+      → (other : ℕ) → from ≤ other → other < number + 1 → HasEnded core other
+  none_more core from number before off other high low =
+      elim (leb_tells number other) [
+        | inl least ↦ let at = least.1 in let same : number ≡ other = omega (arith, low, at) in subst (HasEnded core) same (ended_off core number off)
+        | inr below ↦ before other high below.1
+      ]
+
+  -- all have, where those of two ranges have
+  pub all_ended : (core : CoreValue S) (count above least : ℕ) → length core.processes ≤ count → ((other : ℕ) → above ≤ other → other < count → HasEnded core other)
+      → ((other : ℕ) → 0 ≤ other → other < least → HasEnded core other) → (above ≤ least) ⊎ (count ≤ least) → (other : ℕ) → HasEnded core other
+  all_ended core count above least many high low reach other =
+      elim (leb_tells count other) [
+        | inl behind ↦ let at = behind.1 in none_behind core other (omega (arith, many, at))
+        | inr within ↦ elim (leb_tells least other) [
+          | inl over ↦ let at = over.1 in let here = within.1 in
+              elim reach [ inl up ↦ high other (omega (arith, at, up)) here | inr all ↦ absurd (omega (arith, at, all, here)) ]
+          | inr under ↦ low other (omega arith) under.1
+        ]
+      ]
+
+pub ruleset is_going_on = (going, gone, not_there)

@@ -1,4 +1,8 @@
+pub mod Closed
 pub mod Counted
 pub mod Endings
+pub mod Limited
+pub mod Next
 pub mod Reached
 pub mod Told
+pub mod Tried

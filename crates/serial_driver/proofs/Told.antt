@@ -1,6 +1,5 @@
 -- Reports, one more at a time.
-use Rattle.std.proofs.Common.{◌≡◌, ℕ, zero, suc, ◌+◌, ◌*◌, ◌<◌, ◌≤◌, List, [], ◌∷◌, ◌++◌, length, take, map, Option, Some, None, slice_get, option_map, replicate, refl, sym, ap, ◌∙◌, arith, add-one}
-use Rattle.std.specs.Prelude.{flat_map}
+use Rattle.std.proofs.Common.{◌≡◌, ℕ, zero, suc, ◌+◌, List, [], ◌∷◌, ◌++◌, length, take, map, Some, slice_get, option_map, replicate, refl, ap, arith, add-one}
 use Rattle.std.proofs.Math.ListN.{length-replicate, length-append}
 use Rattle.flat_machine.specs.declared.schedule.Turn.{Turn}
 use Rattle.flat_machine.specs.Schedule.{written_out}

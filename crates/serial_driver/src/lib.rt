@@ -7,6 +7,7 @@
 #![tactic(auto)]
 
 mod audit;
+mod failure;
 mod harts;
 mod patience;
 mod reporting;

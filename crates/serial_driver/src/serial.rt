@@ -1,9 +1,14 @@
-ghost use Rattle.std.specs.Prelude.{ℕ, IfOk};
+ghost use Rattle.std.specs.Prelude.{◌≡◌, ◌<◌, ◌≤◌, ◌*◌, ℕ, false, IfNone, IfOk, IfSome};
 ghost use Rattle.machine_core.specs.Applying.{LeadsTo};
+ghost use Rattle.serial_driver.specs.Closing.{is_limit_kill};
 ghost use Rattle.serial_driver.specs.Endings.{HasEnded};
+ghost use Rattle.serial_driver.specs.Limit.{Closes, DoesSave, EndsByLimit, EndsOne, PlaysUpTo, PlaysWith};
+ghost use Rattle.serial_driver.specs.Nexts.{IsNext, MayCome, most_events};
+ghost use Rattle.serial_driver.specs.Patience.{IsPatient, IsSpentBy, tries_per_frame};
 ghost use Rattle.serial_driver.specs.Reporting.{Reports};
 
 use crate::harts::is_running;
+use crate::patience::Patience;
 use crate::reporting::report;
 use crate::turns::{Next, Turns};
 use clock_policy::{Clock, Key};
@@ -16,8 +21,8 @@ use swap_slots::SwapSlot;
 /// Plays a machine until each process has ended, or so many events have happened, and tells what it has come to. A slice is
 /// so many instructions of a hart (or one, for none).
 ///
-/// Where the limit ends the run, a save that is out is done, and then each process that goes on is killed. Each process that
-/// ended is purged before anything else happens.
+/// Where the limit ends the run, a save that is out is done, and then each process that goes on is killed; for the limit
+/// none is killed before. Each process that ended is purged before anything else happens.
 ///
 /// # Errors
 ///
@@ -30,6 +35,7 @@ pub fn run_serial<L: Ledger, S: SwapSlot, C: Clock>(
     limit: u64,
 ) -> Result<Report, AllocError>
     ensures reached { LeadsTo S.content S.honest S.failures core.old core.new }
+    ensures limited { IfOk result (λ _. EndsByLimit S.content S.honest S.failures limit core.old core.new) }
     ensures ended { IfOk result (λ _. (number : ℕ) → HasEnded core.new number) }
     ensures report { IfOk result (λ report. Reports core.new report) }
 {
@@ -39,53 +45,82 @@ pub fn run_serial<L: Ledger, S: SwapSlot, C: Clock>(
 }
 
 /// Plays a machine to its end.
-#[tactic(auto, using(crate::proofs::Reached::reaches_last))]
 fn play<L: Ledger, S: SwapSlot, C: Clock>(core: &mut Core<L, S, C>, slice: u32, limit: u64)
-    ensures reached { LeadsTo S.content S.honest S.failures core.old core.new }
+    ensures limited { EndsByLimit S.content S.honest S.failures limit core.old core.new }
     ensures ended { (number : ℕ) → HasEnded core.new number }
 {
-    let mut turns = Turns::new(core.size(), slice);
-    play_events(core, &mut turns, limit);
-    save(core, turns.unsaved());
+    let mut turns = Turns::new(slice);
+    let mut patience = Patience::new(core.size());
+    let unsaved = play_events(core, &mut turns, &mut patience, limit);
+    save(core, unsaved);
     end_all(core);
 }
 
-/// Plays a machine until each process has ended, or so many events have happened.
-#[tactic(auto, using(machine_core::specs::ApplyingLaws::reaches_on, machine_core::specs::ApplyingLaws::reaches_same))]
+/// Plays a machine until each process has ended, or so many events have happened. Tells the page whose save is out then.
 fn play_events<L: Ledger, S: SwapSlot, C: Clock>(
     core: &mut Core<L, S, C>,
     turns: &mut Turns,
+    patience: &mut Patience,
     limit: u64,
-)
-    ensures { LeadsTo S.content S.honest S.failures core.old core.new }
+) -> Option<Key>
+    requires { IsPatient (tries_per_frame * core.old.pager.pager.size) (λ _. 0) patience.old }
+    ensures { PlaysUpTo S.content S.honest S.failures limit result core.old core.new }
 {
     let mut left = limit;
-    'turns: for _ in 0..limit {
-        if left == 0 {
-            return;
-        }
-        let Some(next) = turns.next(core, left) else {
-            return;
+    'turns: while left > 0 {
+        let Some(next) = what_is_next(core, turns, patience, left) else {
+            return None;
         };
-        left = left.saturating_sub(act(core, turns, next));
+        left -= act(core, turns, patience, next);
     }
+    turns.unsaved()
+}
+
+/// What comes next where so many events may happen still, or `None` once each process has ended. A process whose pages were
+/// tried for too often is ended.
+#[tactic(auto, using(crate::proofs::Next::spent_next))]
+fn what_is_next<L: Ledger, S: SwapSlot, C: Clock>(
+    core: &Core<L, S, C>,
+    turns: &mut Turns,
+    patience: &Patience,
+    allowed: u64,
+) -> Option<Next>
+    requires { 0 < allowed }
+    ensures next { IfSome result (IsNext allowed patience.now) }
+    ensures none { IfNone result ((number : ℕ) → HasEnded core.now number) }
+{
+    if turns.is_killing() {
+        return turns.next(core, allowed);
+    }
+    let Some(process) = patience.spent() else {
+        return turns.next(core, allowed);
+    };
+    Some(Next::Event(Event::Kill {
+        process,
+        cause: KillCause::NoSwap,
+    }))
 }
 
 /// Does what comes next, and tells how many events that was.
 fn act<L: Ledger, S: SwapSlot, C: Clock>(
     core: &mut Core<L, S, C>,
     turns: &mut Turns,
+    patience: &mut Patience,
     next: Next,
 ) -> u64
-    ensures { LeadsTo S.content S.honest S.failures core.old core.new }
+    requires some { 0 < most_events next }
+    requires may_come { MayCome patience.old next }
+    ensures plays { (most : ℕ) (tried : ℕ → ℕ) → IsPatient most tried patience.old → PlaysWith S.content S.honest S.failures most tried result core.old core.new patience.new }
+    ensures some { 0 < result }
+    ensures within { result ≤ most_events next }
 {
     match next {
-        Next::Event(event) => apply(core, turns, event),
+        Next::Event(event) => apply(core, turns, patience, event),
         Next::Steps {
             process,
             hart,
             most,
-        } => run(core, turns, process, hart, most),
+        } => run(core, turns, patience, process, hart, most),
     }
 }
 
@@ -93,12 +128,17 @@ fn act<L: Ledger, S: SwapSlot, C: Clock>(
 fn apply<L: Ledger, S: SwapSlot, C: Clock>(
     core: &mut Core<L, S, C>,
     turns: &mut Turns,
+    patience: &mut Patience,
     event: Event,
 ) -> u64
-    ensures { LeadsTo S.content S.honest S.failures core.old core.new }
+    requires unlimited { is_limit_kill event ≡ false }
+    requires spent { IsSpentBy patience.old event }
+    ensures plays { (most : ℕ) (tried : ℕ → ℕ) → IsPatient most tried patience.old → PlaysWith S.content S.honest S.failures most tried 1 core.old core.new patience.new }
+    ensures one { result ≡ 1 }
 {
     let reply = core.apply(event);
     turns.heed(event, reply);
+    patience.heed(event, reply);
     1
 }
 
@@ -106,21 +146,28 @@ fn apply<L: Ledger, S: SwapSlot, C: Clock>(
 fn run<L: Ledger, S: SwapSlot, C: Clock>(
     core: &mut Core<L, S, C>,
     turns: &mut Turns,
+    patience: &mut Patience,
     process: u32,
     hart: u32,
     most: u32,
 ) -> u64
-    ensures { LeadsTo S.content S.honest S.failures core.old core.new }
+    requires { 0 < most }
+    ensures plays { (bound : ℕ) (tried : ℕ → ℕ) → IsPatient bound tried patience.old → PlaysWith S.content S.honest S.failures bound tried result core.old core.new patience.new }
+    ensures some { 0 < result }
+    ensures within { result ≤ most }
 {
     let done = core.steps(process, hart, most);
     turns.heed_steps(done);
-    u64::from(done.ran) + u64::from(done.last.is_some())
+    patience.heed_steps(process, done);
+    match done.last {
+        Some(_) => u64::from(done.ran) + 1,
+        None => u64::from(done.ran),
+    }
 }
 
 /// Does the save that is out, if there is one.
-#[tactic(auto, using(machine_core::specs::ApplyingLaws::reaches_same))]
 fn save<L: Ledger, S: SwapSlot, C: Clock>(core: &mut Core<L, S, C>, unsaved: Option<Key>)
-    ensures { LeadsTo S.content S.honest S.failures core.old core.new }
+    ensures { DoesSave S.content S.honest S.failures unsaved core.old core.new }
 {
     let Some(page) = unsaved else {
         return;
@@ -129,9 +176,8 @@ fn save<L: Ledger, S: SwapSlot, C: Clock>(core: &mut Core<L, S, C>, unsaved: Opt
 }
 
 /// Ends each process that goes on, and takes back what the processes have.
-#[tactic(auto, using(machine_core::specs::ApplyingLaws::reaches_same))]
 fn end_all<L: Ledger, S: SwapSlot, C: Clock>(core: &mut Core<L, S, C>)
-    ensures reached { LeadsTo S.content S.honest S.failures core.old core.new }
+    ensures closes { Closes S.content S.honest S.failures core.old core.new }
     ensures ended { (number : ℕ) → HasEnded core.new number }
 {
     'processes: for process in 0..core.processes() as u32 {
@@ -141,9 +187,8 @@ fn end_all<L: Ledger, S: SwapSlot, C: Clock>(core: &mut Core<L, S, C>)
 }
 
 /// Ends a process that goes on.
-#[tactic(auto, using(machine_core::specs::ApplyingLaws::reaches_same))]
 fn end<L: Ledger, S: SwapSlot, C: Clock>(core: &mut Core<L, S, C>, process: u32)
-    ensures reached { LeadsTo S.content S.honest S.failures core.old core.new }
+    ensures ends { EndsOne S.content S.honest S.failures process core.old core.new }
     ensures ended { HasEnded core.new process }
     ensures kept { (number : ℕ) → HasEnded core.old number → HasEnded core.new number }
 {

@@ -1,12 +1,19 @@
 //! Which event comes next.
 
-use crate::harts::{HartOf, live_hart_from, next_live};
-use crate::patience::Patience;
+ghost use Rattle.std.specs.Prelude.{◌≡◌, ◌<◌, ◌≤◌, ℕ, IfSome, IfNone};
+ghost use Rattle.serial_driver.specs.Endings.{HasEnded};
+ghost use Rattle.serial_driver.specs.Nexts.{IsNext, IsOrdinary};
+ghost use Rattle.serial_driver.specs.declared.patience.Patience.{Patience};
+
+use crate::failure::Failure;
+use crate::harts::{HartOf, live_hart_from, next_hart};
 use clock_policy::{Clock, Key};
-use flat_machine::KillCause;
 use machine_core::{Core, Event, EventRefusal, Reply, Steps};
 use std::sync::ledger::Ledger;
 use swap_slots::SwapSlot;
+
+/// After so many load faults in a row a process is killed.
+const MOST_LOAD_FAULTS: u32 = 3;
 
 /// What the driver is about to do.
 #[derive(Clone, Copy)]
@@ -23,7 +30,7 @@ enum Stage {
     Clear { victim: Key, hart: u32 },
     /// The victim was copied and is saved.
     Save(Key),
-    Kill { process: u32, cause: KillCause },
+    Kill { process: u32, failure: Failure },
     Purge { process: u32 },
 }
 
@@ -46,12 +53,13 @@ pub(crate) struct Turns {
     /// The page that it waits for.
     wanted: u32,
     slice: u32,
-    patience: Patience,
+    /// Load faults in a row since the last page-in that mapped its page, while one hart waits.
+    load_faults: u32,
 }
 
 impl Turns {
-    /// The start of a machine of so many frames, whose slices are of so many instructions, or of one.
-    pub(crate) fn new(frames: u32, slice: u32) -> Self {
+    /// The start of a machine whose slices are of so many instructions, or of one.
+    pub(crate) fn new(slice: u32) -> Self {
         let first = HartOf {
             process: 0,
             hart: 0,
@@ -62,20 +70,25 @@ impl Turns {
             left: 0,
             wanted: 0,
             slice: slice.max(1),
-            patience: Patience::new(frames),
+            load_faults: 0,
         }
     }
 
     /// What comes next where so many events may happen still, or `None` once each process has ended.
+    #[tactic(auto, using(crate::proofs::Next::ordinary_next))]
     pub(crate) fn next<L: Ledger, S: SwapSlot, C: Clock>(
         &mut self,
         core: &Core<L, S, C>,
         allowed: u64,
-    ) -> Option<Next> {
+    ) -> Option<Next>
+        requires { 0 < allowed }
+        ensures next { (patience : Patience) → IfSome result (IsNext allowed patience) }
+        ensures none { IfNone result ((number : ℕ) → HasEnded core.now number) }
+    {
         let event = match self.stage {
             Stage::Run => return Some(self.steps(allowed)),
             Stage::Choose(from) => {
-                self.running = next_live(core, from)?;
+                self.running = next_hart(core, from)?;
                 self.left = self.slice;
                 self.stage = Stage::Run;
                 return Some(self.steps(allowed));
@@ -84,7 +97,10 @@ impl Turns {
             Stage::Wait => self.bring(core.counts().pager.free > 0),
             Stage::Clear { victim, hart } => self.clear(core, victim, hart),
             Stage::Save(victim) => Event::Saved(victim),
-            Stage::Kill { process, cause } => Event::Kill { process, cause },
+            Stage::Kill { process, failure } => Event::Kill {
+                process,
+                cause: failure.cause(),
+            },
             Stage::Purge { process } => Event::Purge { process },
         };
         Some(Next::Event(event))
@@ -92,9 +108,7 @@ impl Turns {
 
     /// Goes on by how many steps of the hart ran and went on, and by the reply to a further one.
     pub(crate) fn heed_steps(&mut self, steps: Steps) {
-        if steps.ran > 0 {
-            self.ran(steps.ran);
-        }
+        self.ran(steps.ran);
         match steps.last {
             Some(reply) => self.after_step(reply),
             None => self.rest_at_end(),
@@ -124,9 +138,14 @@ impl Turns {
     }
 
     /// The rest of the hart's slice, of which so many events may happen still.
-    fn steps(&self, allowed: u64) -> Next {
+    fn steps(&self, allowed: u64) -> Next
+        requires { 0 < allowed }
+        ensures { (patience : Patience) → IsNext allowed patience result }
+    {
         let HartOf { process, hart } = self.running;
-        let most = u32::try_from(allowed).unwrap_or(u32::MAX).min(self.left);
+        let most = u32::try_from(allowed)
+            .unwrap_or(u32::MAX)
+            .min(self.left.max(1));
         Next::Steps {
             process,
             hart,
@@ -135,7 +154,9 @@ impl Turns {
     }
 
     /// Brings the page in that the hart waits for, or asks the list for a victim.
-    fn bring(&self, is_free: bool) -> Event {
+    fn bring(&self, is_free: bool) -> Event
+        ensures { IsOrdinary result }
+    {
         if is_free {
             Event::PageIn(Key {
                 process: self.running.process,
@@ -152,7 +173,9 @@ impl Turns {
         core: &Core<L, S, C>,
         victim: Key,
         hart: u32,
-    ) -> Event {
+    ) -> Event
+        ensures { IsOrdinary result }
+    {
         let process = victim.process;
         let Some(hart) = live_hart_from(core, process, hart) else {
             return Event::Collect(victim);
@@ -179,7 +202,7 @@ impl Turns {
                 self.choose();
             }
             Reply::Absent(page) => {
-                self.patience.forget_faults();
+                self.load_faults = 0;
                 self.wanted = page;
                 self.stage = Stage::Wait;
             }
@@ -189,7 +212,6 @@ impl Turns {
 
     /// So many instructions of the hart ran.
     fn ran(&mut self, count: u32) {
-        self.patience.renew(self.running.process);
         self.left = self.left.saturating_sub(count);
     }
 
@@ -204,8 +226,8 @@ impl Turns {
     fn stop(&mut self, reply: Reply) {
         let process = self.running.process;
         match reply {
-            Reply::ScheduleFull => self.kill(process, KillCause::ScheduleFull),
-            Reply::Refused(EventRefusal::NoMemory) => self.kill(process, KillCause::NoMemory),
+            Reply::ScheduleFull => self.kill(process, Failure::ScheduleFull),
+            Reply::Refused(EventRefusal::NoMemory) => self.kill(process, Failure::NoMemory),
             _ => self.stage = Stage::Purge { process },
         }
     }
@@ -226,10 +248,8 @@ impl Turns {
     }
 
     fn after_sweep(&mut self, reply: Reply) {
-        match reply {
-            Reply::Victim(victim) => self.stage = Stage::Clear { victim, hart: 0 },
-            Reply::Asked { .. } => {}
-            _ => self.give_patience(self.running.process),
+        if let Reply::Victim(victim) = reply {
+            self.stage = Stage::Clear { victim, hart: 0 };
         }
     }
 
@@ -244,37 +264,36 @@ impl Turns {
     /// The victim has left its frame, or has not.
     fn after_save(&mut self, victim: Key, reply: Reply) {
         self.stage = Stage::Wait;
-        match reply {
-            Reply::NoSlot | Reply::Device => self.give_patience(victim.process),
-            Reply::Refused(EventRefusal::NoMemory) => {
-                self.kill(victim.process, KillCause::NoMemory)
-            }
-            _ => {}
+        if let Reply::Refused(EventRefusal::NoMemory) = reply {
+            self.kill(victim.process, Failure::NoMemory);
         }
     }
 
     fn after_page_in(&mut self, reply: Reply) {
         let process = self.running.process;
         match reply {
-            Reply::Mapped => {
-                self.stage = Stage::Run;
-                self.give_patience(process);
-            }
-            Reply::Device if self.patience.fault() => self.kill(process, KillCause::LoadFailed),
-            Reply::Refused(EventRefusal::NoMemory) => self.kill(process, KillCause::NoMemory),
-            _ => self.give_patience(process),
+            Reply::Mapped => self.stage = Stage::Run,
+            Reply::Device => self.after_load_fault(process),
+            Reply::Refused(EventRefusal::NoMemory) => self.kill(process, Failure::NoMemory),
+            _ => {}
         }
     }
 
-    /// A page of the process was brought in, or failed to leave.
-    fn give_patience(&mut self, process: u32) {
-        if self.patience.try_again(process) {
-            self.kill(process, KillCause::NoSwap);
+    /// The page that the hart waits for could not be loaded.
+    fn after_load_fault(&mut self, process: u32) {
+        self.load_faults = self.load_faults.saturating_add(1);
+        if self.load_faults >= MOST_LOAD_FAULTS {
+            self.kill(process, Failure::LoadFailed);
         }
     }
 
-    fn kill(&mut self, process: u32, cause: KillCause) {
-        self.stage = Stage::Kill { process, cause };
+    /// Whether a process is about to be ended.
+    pub(crate) fn is_killing(&self) -> bool {
+        matches!(self.stage, Stage::Kill { .. })
+    }
+
+    fn kill(&mut self, process: u32, failure: Failure) {
+        self.stage = Stage::Kill { process, failure };
     }
 
     /// A process is gone: the hart that has the slice is of it, or waits on.
@@ -287,7 +306,9 @@ impl Turns {
     }
 }
 
-fn notice(of: HartOf) -> Event {
+fn notice(of: HartOf) -> Event
+    ensures { IsOrdinary result }
+{
     let HartOf { process, hart } = of;
     Event::Notice { process, hart }
 }

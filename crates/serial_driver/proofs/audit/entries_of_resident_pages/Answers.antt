@@ -1,22 +1,21 @@
 -- One more entry of the list, up to its end.
-use Rattle.std.proofs.Common.{◌≡◌, ◌&&◌, cond, length, ◌≤◌, refl, sym, ap, ◌∙◌, arith}
-use Rattle.std.proofs.lemmas.List.{take_all}
-use Rattle.clock_policy.specs.ClockPro.{number}
-use Rattle.clock_policy.specs.Residents.{residents, is_resident_that}
+use Rattle.std.proofs.Common.{◌&&◌, length, ◌≤◌, sym, ◌∙◌, arith}
+use Rattle.clock_policy.specs.Residents.{residents, is_resident_that, in_frame}
 use Rattle.serial_driver.specs.Audit.{holds_resident}
-use Rattle.serial_driver.proofs.Counted.{entry_more, entries_end}
+use Rattle.serial_driver.proofs.Counted.{entry_more, count_end, count_whole, one_by}
 use Rattle.serial_driver.proofs.audit.entries_of_resident_pages.Goals as goal
 
 pub returns-in_default : goal.returns-in_default
 unfolding residents
 returns-in_default g c =
-    c.entries.invariant.0
-    ∙ ap (number (is_resident_that (holds_resident c.args.core.now))) (entries_end c.args.core.now.pager.pager.list.entries c.entries.i (sym c.entry.ensures.entry ∙ c.in_default.is))
+    count_end (is_resident_that (holds_resident c.args.core.now)) c.args.core.now.pager.pager.list.entries c.entries.i c.entries.count c.entries.invariant.0
+    (sym c.entry.ensures.entry ∙ c.in_default.is)
 
 pub entries-preserved : goal.entries-preserved
 entries-preserved g c =
     let more = entry_more (holds_resident c.args.core.now) c.args.core.now.pager.pager.list.entries c.entries.i c.in-Some.key c.in-Some.kind (sym c.entry.ensures.entry ∙ c.in-Some.is) in
-    let one = c.one_if-count.ensures.value ∙ ap (λ t. cond t 1 0) c.is_of_resident_page.ensures in
+    let one =
+    one_by c.one_if-count.result c.is_of_resident_page.result (in_frame c.in-Some.kind && holds_resident c.args.core.now c.in-Some.key) c.one_if-count.ensures.value c.is_of_resident_page.ensures in
     (omega (arith, c.entries.invariant.0, more, one), omega (arith, c.entries.invariant.1, c.one_if-count.ensures.small))
 
 pub returns : goal.returns
@@ -24,4 +23,4 @@ unfolding residents
 returns g c =
     let machine = c.faithful.ensures.machine in
     let few : length c.args.core.now.pager.pager.list.entries ≤ c.entries.i = omega (arith, machine.lawful.within, machine.lawful.most) in
-    c.entries.invariant.0 ∙ ap (number (is_resident_that (holds_resident c.args.core.now))) (take_all c.entries.i c.args.core.now.pager.pager.list.entries few)
+    count_whole (is_resident_that (holds_resident c.args.core.now)) c.args.core.now.pager.pager.list.entries c.entries.i c.entries.count c.entries.invariant.0 few

@@ -1,10 +1,9 @@
 -- One more process, up to the last.
-use Rattle.std.proofs.Common.{◌≡◌, ◌≤◌, ◌+◌, suc, true, length, take, refl, sym, ap, ◌∙◌, arith, add-one}
-use Rattle.std.proofs.lemmas.List.{take_all}
+use Rattle.std.proofs.Common.{◌≤◌, true, length, refl, arith, add-one}
 use Rattle.machine_core.specs.Machine.{total}
 use Rattle.machine_sides.specs.Sides.{ProcessSideValue}
 use Rattle.machine_sides.specs.Together.{residents_in, frames_in}
-use Rattle.serial_driver.proofs.Counted.{total_more}
+use Rattle.serial_driver.proofs.Counted.{total_more, total_whole}
 use Rattle.serial_driver.proofs.audit.held_pages.Goals as goal
 
 pub processes-init : goal.processes-init
@@ -26,9 +25,9 @@ processes-preserved g c =
 pub returns-clause-resident : goal.returns-clause-resident
 returns-clause-resident g c =
     let all : length c.args.core.now.processes ≤ c.processes.process = omega arith in
-    c.processes.invariant.0.0 ∙ ap (total (λ (process : ProcessSideValue _). residents_in process.space (λ _. true))) (take_all c.processes.process c.args.core.now.processes all)
+    total_whole (λ (process : ProcessSideValue _). residents_in process.space (λ _. true)) c.args.core.now.processes c.processes.process _ c.processes.invariant.0.0 all
 
 pub returns-clause-framed : goal.returns-clause-framed
 returns-clause-framed g c =
     let all : length c.args.core.now.processes ≤ c.processes.process = omega arith in
-    c.processes.invariant.0.1 ∙ ap (total (λ (process : ProcessSideValue _). frames_in process.space (λ _. true))) (take_all c.processes.process c.args.core.now.processes all)
+    total_whole (λ (process : ProcessSideValue _). frames_in process.space (λ _. true)) c.args.core.now.processes c.processes.process _ c.processes.invariant.0.1 all

@@ -1,12 +1,12 @@
 -- One more page number, up to the last.
-use Rattle.std.proofs.Common.{◌≡◌, ℕ, ◌^◌, ◌<◌, cond, Some, slice_get, true, refl, sym, ap, ◌∙◌, arith}
+use Rattle.std.proofs.Common.{◌≡◌, ◌^◌, ◌<◌, refl, ap, ◌∙◌, arith}
 use Rattle.std.specs.Option.{option_and_then}
 use Rattle.paged_memory.specs.Counting.{pages_below, pages_where}
 use Rattle.machine_sides.specs.Admitting.{is_resident_stage, stage_at}
 use Rattle.machine_sides.specs.Sides.{ProcessSideValue}
 use Rattle.machine_sides.specs.Together.{residents_in, frames_in}
 use Rattle.serial_driver.specs.Audit.{has_frame_stage}
-use Rattle.serial_driver.proofs.Counted.{residents_to, frames_to, residents_more, frames_more, got_below}
+use Rattle.serial_driver.proofs.Counted.{residents_to, frames_to, residents_more, frames_more, got_below, one_by}
 use Rattle.serial_driver.proofs.audit.held_pages_of.Goals as goal
 
 pub pages-init : goal.pages-init
@@ -19,8 +19,10 @@ pages-preserved g c =
       λ process found.
           let now = c.pages.invariant.0 process found in
           let state = c.state-state.ensures ∙ ap (option_and_then (λ (p : ProcessSideValue _). stage_at p.space c.pages.vpn)) found in
-          let one = c.one_if.ensures.value ∙ ap (λ t. cond t 1 0) (c.is_resident.ensures ∙ ap is_resident_stage state) in
-          let other = c.one_if-in-pages.ensures.value ∙ ap (λ t. cond t 1 0) (c.has_frame.ensures ∙ ap has_frame_stage state) in
+          let one =
+          one_by c.one_if.result c.is_resident.result (is_resident_stage (stage_at process.space c.pages.vpn)) c.one_if.ensures.value (c.is_resident.ensures ∙ ap is_resident_stage state) in
+          let other =
+          one_by c.one_if-in-pages.result c.has_frame.result (has_frame_stage (stage_at process.space c.pages.vpn)) c.one_if-in-pages.ensures.value (c.has_frame.ensures ∙ ap has_frame_stage state) in
           (omega (arith, now.0, one, residents_more process.space c.pages.vpn small), omega (arith, now.1, other, frames_more process.space c.pages.vpn small)),
       (omega (arith, c.pages.invariant.1, c.one_if.ensures.small), omega (arith, c.pages.invariant.1, c.one_if-in-pages.ensures.small)),
     )

@@ -1,19 +1,19 @@
 -- One more entry of the list, up to its end.
-use Rattle.std.proofs.Common.{◌≡◌, ◌&&◌, true, cond, length, ◌≤◌, refl, sym, ap, ◌∙◌, arith}
-use Rattle.std.proofs.lemmas.List.{take_all}
-use Rattle.clock_policy.specs.ClockPro.{number}
+use Rattle.std.proofs.Common.{◌&&◌, true, length, ◌≤◌, sym, ◌∙◌, arith}
 use Rattle.clock_policy.specs.Residents.{residents, is_resident_that, in_frame}
-use Rattle.serial_driver.proofs.Counted.{entry_more, entries_end, and_true}
+use Rattle.serial_driver.proofs.Counted.{entry_more, count_end, count_whole, one_by, and_true}
 use Rattle.serial_driver.proofs.audit.resident_entries.Goals as goal
 
 pub returns-in_default : goal.returns-in_default
 unfolding residents
-returns-in_default g c = c.entries.invariant.0 ∙ ap (number (is_resident_that (λ _. true))) (entries_end c.args.core.now.pager.pager.list.entries c.entries.i (sym c.entry.ensures.entry ∙ c.in_default.is))
+returns-in_default g c =
+    count_end (is_resident_that (λ _. true)) c.args.core.now.pager.pager.list.entries c.entries.i c.entries.count c.entries.invariant.0 (sym c.entry.ensures.entry ∙ c.in_default.is)
 
 pub entries-preserved : goal.entries-preserved
 entries-preserved g c =
     let more = entry_more (λ _. true) c.args.core.now.pager.pager.list.entries c.entries.i c.in-Some.field-0-0 c.in-Some.kind (sym c.entry.ensures.entry ∙ c.in-Some.is) in
-    let one = c.one_if-count.ensures.value ∙ ap (λ t. cond t 1 0) (c.is_in_frame.ensures ∙ sym (and_true (in_frame c.in-Some.kind))) in
+    let one =
+    one_by c.one_if-count.result c.is_in_frame.result (in_frame c.in-Some.kind && true) c.one_if-count.ensures.value (c.is_in_frame.ensures ∙ sym (and_true (in_frame c.in-Some.kind))) in
     (omega (arith, c.entries.invariant.0, more, one), omega (arith, c.entries.invariant.1, c.one_if-count.ensures.small))
 
 pub returns : goal.returns
@@ -21,4 +21,4 @@ unfolding residents
 returns g c =
     let machine = c.faithful.ensures.machine in
     let few : length c.args.core.now.pager.pager.list.entries ≤ c.entries.i = omega (arith, machine.lawful.within, machine.lawful.most) in
-    c.entries.invariant.0 ∙ ap (number (is_resident_that (λ _. true))) (take_all c.entries.i c.args.core.now.pager.pager.list.entries few)
+    count_whole (is_resident_that (λ _. true)) c.args.core.now.pager.pager.list.entries c.entries.i c.entries.count c.entries.invariant.0 few

@@ -1,5 +1,5 @@
 -- One more report, of the next process.
-use Rattle.std.proofs.Common.{◌≡◌, map, take, List, [], ◌∷◌, ◌++◌, sym, ap, ◌∙◌}
+use Rattle.std.proofs.Common.{map, List, [], ◌∷◌, ◌++◌, sym, ap, ◌∙◌}
 use Rattle.serial_driver.specs.Reporting.{Told, told, come_to}
 use Rattle.serial_driver.proofs.Told.{map_more, map_push}
 use Rattle.serial_driver.proofs.reporting.process_reports.Goals as goal

@@ -1,6 +1,13 @@
 -- So many steps.
-use Rattle.serial_driver.proofs.Reached.{reaches_by}
+use Rattle.serial_driver.proofs.Limited.{plays_last, plays_all}
 use Rattle.serial_driver.proofs.serial.run.Goals as goal
 
-pub returns : goal.returns
-returns g c = reaches_by g.S.SwapSlot.content g.S.SwapSlot.honest g.S.SwapSlot.failures _ _ c.args.core.now c.steps-done.new.self c.steps-done.ensures.runs
+pub returns-in-Some-clause-plays : goal.returns-in-Some-clause-plays
+returns-in-Some-clause-plays g c = λ bound tried patient.
+    plays_last g.S.SwapSlot.content g.S.SwapSlot.honest g.S.SwapSlot.failures bound tried c.args.core.now c.steps-done.new.self c.heed_steps-2.new.self c.args.process c.args.hart c.steps-done.result.ran c.steps-done.result.last
+    c.steps-done.ensures.runs (c.heed_steps-2.ensures bound tried c.args.hart patient) _ c.in-Some.is _ c.from.ensures
+
+pub returns-in-None-clause-plays : goal.returns-in-None-clause-plays
+returns-in-None-clause-plays g c = λ bound tried patient.
+    plays_all g.S.SwapSlot.content g.S.SwapSlot.honest g.S.SwapSlot.failures bound tried c.args.core.now c.steps-done.new.self c.heed_steps-2.new.self c.args.process c.args.hart c.steps-done.result.ran c.steps-done.result.last
+    c.steps-done.ensures.runs (c.heed_steps-2.ensures bound tried c.args.hart patient) c.in-None.is _ c.from-in-None.ensures

@@ -1,0 +1,137 @@
+-- Runs of so many events, one after another, and how a run is closed.
+use Rattle.std.proofs.Common.{◌≡◌, ℕ, zero, suc, ◌+◌, false, List, [], ◌∷◌, ◌++◌, length, Option, Some, None, All, replicate, refl, sym, ap, ◌∙◌, arith, subst}
+use Rattle.std.proofs.lemmas.List.Elements.{All-append, All-nil, All-cons}
+use Rattle.std.proofs.Math.ListN.{length-replicate, length-append}
+use Rattle.clock_policy.specs.declared.key.Key.{Key}
+use Rattle.machine_core.specs.declared.event.Event.{Event}
+use Rattle.machine_core.specs.declared.event.Event.TheVariants.{Step, Saved}
+use Rattle.machine_core.specs.declared.event.Reply.{Reply}
+use Rattle.machine_core.specs.Applying.{Applies, Runs, LeadsTo}
+use Rattle.machine_core.specs.ApplyingLaws.{runs_none, runs_one, runs_on, reaches_same}
+use Rattle.machine_core.specs.Machine.{CoreValue}
+use Rattle.machine_core.specs.ManySteps.{steps_of, replies_of}
+use Rattle.serial_driver.specs.Closing.{is_limit_kill}
+use Rattle.serial_driver.specs.Limit.{DoesSave, EndsByLimit, PlaysWith}
+use Rattle.serial_driver.specs.Patience.{AreDue, IsPatient, IsSpentBy, tried_after, tried_with}
+use Rattle.serial_driver.specs.declared.patience.Patience.{Patience}
+use Rattle.serial_driver.proofs.Tried.{after_on, due_on, due_one, patient_same, steps_due}
+use Rattle.serial_driver.proofs.Reached.{reaches_one, reaches_by, reaches_last}
+
+-- an event is none that ends a process for the limit
+abbrev Unlimited : Event → Type 0
+Unlimited event = is_limit_kill event ≡ false
+
+steps_unlimited : (process hart count : ℕ) → All Unlimited (replicate count (Step process hart))
+steps_unlimited process hart zero = All-nil _
+steps_unlimited process hart (suc count) = All-cons Unlimited (Step process hart) _ refl (steps_unlimited process hart count)
+
+-- how many events steps of a hart are
+steps_many : Option Reply → ℕ → ℕ
+steps_many None ran = ran
+steps_many (Some reply) ran = ran + 1
+
+steps_length : (process hart ran : ℕ) (last : Option Reply) → length (steps_of process hart ran last) ≡ steps_many last ran
+unfolding steps_many
+steps_length process hart ran None = length-replicate ran (Step process hart)
+steps_length process hart ran (Some reply) = length-append (replicate ran (Step process hart)) (Step process hart ∷ []) ∙ ap (λ n. n + 1) (length-replicate ran (Step process hart))
+
+steps_each : (process hart ran : ℕ) (last : Option Reply) → All Unlimited (steps_of process hart ran last)
+steps_each process hart ran None = steps_unlimited process hart ran
+steps_each process hart ran (Some reply) =
+    All-append Unlimited (replicate ran (Step process hart)) (Step process hart ∷ []) (steps_unlimited process hart ran) (All-cons Unlimited (Step process hart) [] refl (All-nil _))
+
+module _ {S : Type 0} (held : S → List ℕ) (honest : Type 0) (failures : S → ℕ) where
+  -- each event has its reply
+  runs_many : (events : List Event) (replies : List Reply) (old new : CoreValue S) → Runs held honest failures events replies old new → length events ≡ length replies
+  unfolding Runs
+  runs_many [] [] old new run = refl
+  runs_many [] (r ∷ rs) old new run = absurd run
+  runs_many (e ∷ es) [] old new run = absurd run
+  runs_many (e ∷ es) (r ∷ rs) old new run = ap suc (runs_many es rs run.0 new run.1.1)
+
+  pub plays_none : (most : ℕ) (tried : ℕ → ℕ) (core : CoreValue S) (patience : Patience) → IsPatient most tried patience → PlaysWith held honest failures most tried 0 core core patience
+  unfolding AreDue tried_after
+  plays_none most tried core patience patient = record {
+    plays = record { events = []; replies = []; runs = runs_none held honest failures core; many = refl; unlimited = All-nil _; due = tt {0} };
+    patient = patient;
+  }
+
+  pub plays_one : (most : ℕ) (tried : ℕ → ℕ) (old new : CoreValue S) (old-patience new-patience : Patience) (event : Event) (reply : Reply) → Applies held honest failures event old new reply
+      → is_limit_kill event ≡ false → IsSpentBy old-patience event → IsPatient most tried old-patience
+      → IsPatient most (λ number. tried_with number event reply (tried number)) new-patience → PlaysWith held honest failures most tried 1 old new new-patience
+  unfolding AreDue tried_after
+  plays_one most tried old new old-patience new-patience event reply applies unlimited spent before after = record {
+    plays = record {
+      events = event ∷ [];
+      replies = reply ∷ [];
+      runs = runs_one held honest failures event old new reply applies;
+      many = refl;
+      unlimited = All-cons Unlimited event [] unlimited (All-nil _);
+      due = (due_one most tried old-patience before event spent, tt {0});
+    };
+    patient = after;
+  }
+
+  plays_steps : (most : ℕ) (tried : ℕ → ℕ) (old new : CoreValue S) (patience : Patience) (process hart ran : ℕ) (last : Option Reply)
+      → Runs held honest failures (steps_of process hart ran last) (replies_of ran last) old new
+      → IsPatient most (λ number. tried_after number (steps_of process hart ran last) (replies_of ran last) (tried number)) patience
+      → PlaysWith held honest failures most tried (steps_many last ran) old new patience
+  plays_steps most tried old new patience process hart ran last runs patient = record {
+    plays = record {
+      events = steps_of process hart ran last;
+      replies = replies_of ran last;
+      runs = runs;
+      many = steps_length process hart ran last;
+      unlimited = steps_each process hart ran last;
+      due = steps_due most tried process hart ran last;
+    };
+    patient = patient;
+  }
+
+  -- the last of which was told
+  pub plays_last : (most : ℕ) (tried : ℕ → ℕ) (old new : CoreValue S) (patience : Patience) (process hart ran : ℕ) (last : Option Reply)
+      → Runs held honest failures (steps_of process hart ran last) (replies_of ran last) old new
+      → IsPatient most (λ number. tried_after number (steps_of process hart ran last) (replies_of ran last) (tried number)) patience
+      → (reply : Reply) → last ≡ Some reply → (count : ℕ) → count ≡ ran → PlaysWith held honest failures most tried (count + 1) old new patience
+  unfolding steps_many
+  plays_last most tried old new patience process hart ran last runs patient reply is count same =
+      subst (λ n. PlaysWith held honest failures most tried n old new patience) (ap (λ (l : Option Reply). steps_many l ran) is ∙ ap (λ n. n + 1) (sym same)) (plays_steps most tried old new patience process hart ran last runs patient)
+
+  -- or that all ran
+  pub plays_all : (most : ℕ) (tried : ℕ → ℕ) (old new : CoreValue S) (patience : Patience) (process hart ran : ℕ) (last : Option Reply)
+      → Runs held honest failures (steps_of process hart ran last) (replies_of ran last) old new
+      → IsPatient most (λ number. tried_after number (steps_of process hart ran last) (replies_of ran last) (tried number)) patience
+      → last ≡ None → (count : ℕ) → count ≡ ran → PlaysWith held honest failures most tried count old new patience
+  unfolding steps_many
+  plays_all most tried old new patience process hart ran last runs patient is count same =
+      subst (λ n. PlaysWith held honest failures most tried n old new patience) (ap (λ (l : Option Reply). steps_many l ran) is ∙ sym same) (plays_steps most tried old new patience process hart ran last runs patient)
+
+  pub plays_more : (most : ℕ) (tried : ℕ → ℕ) (first second total : ℕ) (old between new : CoreValue S) (middle patience : Patience)
+      → (a : PlaysWith held honest failures most tried first old between middle)
+      → PlaysWith held honest failures most (λ number. tried_after number a.plays.events a.plays.replies (tried number)) second between new patience → first + second ≡ total
+      → PlaysWith held honest failures most tried total old new patience
+  plays_more most tried first second total old between new middle patience a b sum =
+      let same = runs_many a.plays.events a.plays.replies old between a.plays.runs in
+      record {
+        plays = record {
+          events = a.plays.events ++ b.plays.events;
+          replies = a.plays.replies ++ b.plays.replies;
+          runs = runs_on held honest failures a.plays.events b.plays.events a.plays.replies b.plays.replies old between new a.plays.runs b.plays.runs;
+          many = length-append a.plays.events b.plays.events ∙ omega (arith, a.plays.many, b.plays.many, sum);
+          unlimited = All-append Unlimited a.plays.events b.plays.events a.plays.unlimited b.plays.unlimited;
+          due = due_on most tried a.plays.events b.plays.events a.plays.replies b.plays.replies same a.plays.due b.plays.due;
+        };
+        patient = patient_same most _ _ patience (λ number. sym (after_on number a.plays.events b.plays.events a.plays.replies b.plays.replies (tried number) same)) b.patient;
+      }
+
+  save_reached : (unsaved : Option Key) (old new : CoreValue S) → DoesSave held honest failures unsaved old new → LeadsTo held honest failures old new
+  save_reached None old new is = subst (λ (c : CoreValue S). LeadsTo held honest failures old c) (sym is) (reaches_same held honest failures old)
+  save_reached (Some key) old new saves = reaches_one held honest failures old new (Saved key) saves.0 saves.1
+
+  -- a run that is ended at its limit is one of the machine's
+  pub ends_reached : (limit : ℕ) (old new : CoreValue S) → EndsByLimit held honest failures limit old new → LeadsTo held honest failures old new
+  ends_reached limit old new ends =
+      reaches_last held honest failures old ends.played ends.saved new
+      (reaches_by held honest failures ends.plays.plays.events ends.plays.plays.replies old ends.played ends.plays.plays.runs)
+      (save_reached ends.unsaved ends.played ends.saved ends.saves)
+      (reaches_by held honest failures _ ends.closes.replies ends.saved new ends.closes.runs)

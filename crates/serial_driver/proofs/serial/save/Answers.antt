@@ -1,6 +1,0 @@
--- One event, or none.
-use Rattle.serial_driver.proofs.Reached.{reaches_one}
-use Rattle.serial_driver.proofs.serial.save.Goals as goal
-
-pub returns : goal.returns
-returns g c = reaches_one g.S.SwapSlot.content g.S.SwapSlot.honest g.S.SwapSlot.failures c.args.core.now c.apply.new.self _ _ c.apply.ensures

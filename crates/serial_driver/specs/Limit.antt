@@ -1,0 +1,66 @@
+-- A run of so many events at most, and how it is closed.
+use Rattle.std.specs.Prelude.{◌≡◌, ◌≢◌, ℕ, ◌*◌, ◌<◌, ◌≤◌, false, List, All, length, slice_get, Option, Some, None, IsSome}
+use Rattle.clock_policy.specs.declared.key.Key.{Key}
+use Rattle.machine_core.specs.declared.event.Event.{Event}
+use Rattle.machine_core.specs.declared.event.Event.TheVariants.{Saved}
+use Rattle.machine_core.specs.declared.event.Reply.{Reply}
+use Rattle.machine_core.specs.Applying.{Applies, Runs}
+use Rattle.machine_core.specs.Machine.{CoreValue}
+use Rattle.serial_driver.specs.Closing.{is_limit_kill, kill_of, closing_below}
+use Rattle.serial_driver.specs.Endings.{HasEnded}
+use Rattle.serial_driver.specs.Patience.{tries_per_frame, tried_after, AreDue, IsPatient}
+use Rattle.serial_driver.specs.declared.patience.Patience.{Patience}
+
+module _ {S : Type 0} (held : S → List ℕ) (honest : Type 0) (failures : S → ℕ) where
+  -- So many events lead from one machine to the other. None of them ends a process for the limit, and one ends a process for want of a
+  -- place only where it was tried for often enough.
+  pub record PlaysOn (most : ℕ) (tried : ℕ → ℕ) (count : ℕ) (old new : CoreValue S) : Type 0 where
+    pub events : List Event
+    pub replies : List Reply
+    pub runs : Runs held honest failures events replies old new
+    pub many : length events ≡ count
+    pub unlimited : All (λ event. is_limit_kill event ≡ false) events
+    pub due : AreDue most tried events replies
+
+  -- the same, and what the driver remembers then
+  pub record PlaysWith (most : ℕ) (tried : ℕ → ℕ) (count : ℕ) (old new : CoreValue S) (patience : Patience) : Type 0 where
+    pub plays : PlaysOn most tried count old new
+    pub patient : IsPatient most (λ number. tried_after number plays.events plays.replies (tried number)) patience
+
+  -- the same of as many events as the limit says, or of fewer where each process has ended; a save is out only at the limit
+  pub record PlaysUpTo (limit : ℕ) (unsaved : Option Key) (old new : CoreValue S) : Type 0 where
+    pub count : ℕ
+    pub plays : PlaysOn (tries_per_frame * old.pager.pager.size) (λ _. 0) count old new
+    pub within : count ≤ limit
+    pub short : count < limit → (number : ℕ) → HasEnded new number
+    pub saves_late : IsSome unsaved → count ≡ limit
+
+  -- the save that is out is done, if there is one
+  abbrev pub DoesSave : Option Key → CoreValue S → CoreValue S → Type 0
+  DoesSave None old new = new ≡ old
+  DoesSave (Some key) old new = (reply : Reply) × Applies held honest failures (Saved key) old new reply
+
+  -- a process that goes on is ended for the limit, and no other changes
+  pub record EndsOne (number : ℕ) (old new : CoreValue S) : Type 0 where
+    pub replies : List Reply
+    pub runs : Runs held honest failures (kill_of number (slice_get old.processes number)) replies old new
+    pub others : (other : ℕ) → other ≢ number → slice_get new.processes other ≡ slice_get old.processes other
+
+  -- of the processes below a number, by rising number, each that goes on is ended for the limit, and each gives back what it has
+  pub record ClosesBelow (number : ℕ) (old new : CoreValue S) : Type 0 where
+    pub replies : List Reply
+    pub runs : Runs held honest failures (closing_below old.processes number) replies old new
+
+  -- the same of all processes
+  abbrev pub Closes : CoreValue S → CoreValue S → Type 0
+  Closes old new = ClosesBelow (length old.processes) old new
+
+  -- Processes run until so many events have happened, or until each has ended. Then the save that is out is done, and then the run
+  -- is closed.
+  pub record EndsByLimit (limit : ℕ) (old new : CoreValue S) : Type 0 where
+    pub unsaved : Option Key
+    pub played : CoreValue S
+    pub plays : PlaysUpTo limit unsaved old played
+    pub saved : CoreValue S
+    pub saves : DoesSave unsaved played saved
+    pub closes : Closes saved new

@@ -1,0 +1,32 @@
+//! What a process fails of in one event.
+
+ghost use Rattle.std.specs.Prelude.{◌≡◌, false};
+ghost use Rattle.serial_driver.specs.Closing.{is_limit};
+ghost use Rattle.serial_driver.specs.Patience.{is_no_swap};
+
+use flat_machine::KillCause;
+
+/// Why a process is ended for what one event was answered with.
+#[derive(Clone, Copy)]
+pub(crate) enum Failure {
+    /// A saved page could not be loaded.
+    LoadFailed,
+    /// Its schedule takes no more.
+    ScheduleFull,
+    /// Memory was refused.
+    NoMemory,
+}
+
+impl Failure {
+    /// The cause that the machine records. None is the limit's, and none is want of a place for its pages.
+    pub(crate) fn cause(self) -> KillCause
+        ensures limit { is_limit result ≡ false }
+        ensures no_swap { is_no_swap result ≡ false }
+    {
+        match self {
+            Failure::LoadFailed => KillCause::LoadFailed,
+            Failure::ScheduleFull => KillCause::ScheduleFull,
+            Failure::NoMemory => KillCause::NoMemory,
+        }
+    }
+}

@@ -1,0 +1,50 @@
+//! Runs a guest on flat memory or on paged memory by the plain code: flat GUEST.elf, or serial FRAMES [SLICE] GUEST.elf
+//! [INPUT]. It prints the output's length, the steps, and the time of the run alone.
+use rattle::alloc::Global;
+use rattle::marker::Brand;
+use rattle::prelude::Vec as RoomyVec;
+use rattle::sync::ledger::Blank;
+use std::time::Instant;
+
+fn roomy<T>(items: Vec<T>) -> RoomyVec<T> {
+    let mut all = RoomyVec::new(Global);
+    for item in items {
+        all.push(item).unwrap();
+    }
+    all
+}
+
+fn image(path: &str) -> elf_image::Image {
+    elf_image::read_elf(Global, &std::fs::read(path).unwrap()).unwrap()
+}
+
+fn main() {
+    let words: Vec<String> = std::env::args().skip(1).collect();
+    let words: Vec<&str> = words.iter().map(|word| word.as_str()).collect();
+    let none = || roomy(Vec::<u8>::new());
+    match words[..] {
+        ["flat", guest] => {
+            let mut process = flat_machine::FlatProcess::new(Global, &image(guest), none()).unwrap();
+            let begin = Instant::now();
+            let steps = process.run_for(1_000_000_000).ok().unwrap();
+            let seconds = begin.elapsed().as_secs_f64();
+            println!("flat output {} steps {steps} seconds {seconds:.3}", process.output().len());
+        }
+        ["serial", frames, slice, guest] => {
+            let frames: u32 = frames.parse().unwrap();
+            let slots = roomy((0..4096).map(|_| swap_slots::MemorySlot::new(Global).ok().unwrap()).collect());
+            let processes = roomy(vec![(image(guest), none())]);
+            let mut core: machine_core::Core<Brand, swap_slots::MemorySlot, clock_ring::ClockRing> =
+                machine_core::Core::new(Global, frames, Blank::new(0), slots, processes).ok().unwrap();
+            let begin = Instant::now();
+            let report = serial_driver::run_serial(Global, &mut core, slice.parse().unwrap(), 1_000_000_000).unwrap();
+            let seconds = begin.elapsed().as_secs_f64();
+            let first = &report.processes[0];
+            println!(
+                "serial output {} steps {} page-ins {} victims {} saves {} audit {} seconds {seconds:.3}",
+                first.output.len(), first.steps, report.page_ins, report.victims, report.saves, report.audit
+            );
+        }
+        _ => panic!("flat GUEST | serial FRAMES SLICE GUEST"),
+    }
+}

@@ -1,0 +1,609 @@
+//! What the code of this repository takes of Rattle's library, in plain Rust, so that its speed without proofs can be measured.
+#![allow(dead_code, unused)]
+
+pub mod prelude {
+    pub use crate::boxed::Box;
+    pub use crate::marker::Drop;
+    pub use crate::vec::Vec;
+}
+
+pub mod alloc {
+    #[derive(Clone, Copy, Debug)]
+    pub struct Global;
+
+    #[derive(Clone, Copy, Debug, PartialEq, Eq)]
+    pub struct AllocError;
+
+    #[derive(Clone, Copy, Debug)]
+    pub struct AllocFailed<T> {
+        pub value: T,
+    }
+
+    impl<T> From<AllocFailed<T>> for AllocError {
+        fn from(_: AllocFailed<T>) -> AllocError {
+            AllocError
+        }
+    }
+}
+
+pub mod marker {
+    pub use std::marker::PhantomData;
+
+    pub trait Model {}
+
+    pub trait Drop {}
+
+    impl<T: ?Sized> Drop for T {}
+
+    #[derive(Clone, Copy)]
+    pub struct Brand;
+}
+
+pub mod mem {
+    pub use std::mem::*;
+}
+
+pub mod fmt {
+    pub use std::fmt::*;
+}
+
+pub mod cmp {
+    pub use std::cmp::*;
+}
+
+pub mod collections {
+    use crate::alloc::{AllocError, Global};
+    use std::hash::Hash;
+
+    pub struct HashMap<K, V>(std::collections::HashMap<K, V>);
+
+    impl<K: Hash + Eq, V> HashMap<K, V> {
+        pub fn new(_: Global) -> Self {
+            HashMap(std::collections::HashMap::new())
+        }
+
+        pub fn with_capacity(_: Global, capacity: usize) -> Result<Self, AllocError> {
+            Ok(HashMap(std::collections::HashMap::with_capacity(capacity)))
+        }
+
+        pub fn insert(&mut self, key: K, value: V) -> Result<Option<V>, AllocError> {
+            Ok(self.0.insert(key, value))
+        }
+    }
+
+    impl<K, V> std::ops::Deref for HashMap<K, V> {
+        type Target = std::collections::HashMap<K, V>;
+
+        fn deref(&self) -> &Self::Target {
+            &self.0
+        }
+    }
+
+    impl<K, V> std::ops::DerefMut for HashMap<K, V> {
+        fn deref_mut(&mut self) -> &mut Self::Target {
+            &mut self.0
+        }
+    }
+}
+
+pub mod sync {
+    pub mod ledger {
+        use crate::marker::Brand;
+        use std::marker::PhantomData;
+
+        pub trait Ledger {}
+
+        impl Ledger for Brand {}
+
+        pub struct Book<L>(PhantomData<L>);
+
+        pub struct Share<L>(PhantomData<L>);
+
+        pub struct Blank;
+
+        impl Blank {
+            pub fn new(_: u64) -> Blank {
+                Blank
+            }
+
+            pub fn open<L: Ledger>(self) -> (Book<L>, Share<L>) {
+                (Book(PhantomData), Share(PhantomData))
+            }
+        }
+
+        impl<L> Share<L> {
+            pub fn empty(&self) -> Share<L> {
+                Share(PhantomData)
+            }
+
+            pub fn merge(&mut self, _: Share<L>) {}
+
+            pub fn split_off(&mut self, _: u64, _: u64) -> Share<L> {
+                Share(PhantomData)
+            }
+        }
+    }
+}
+
+mod vec {
+    use crate::alloc::{AllocError, Global};
+    use std::ops::{Deref, DerefMut, Index, IndexMut};
+
+    /// A vector whose indices are not tested: that they are in range is proved.
+    #[derive(Clone, Debug, PartialEq, Eq)]
+    pub struct Vec<T>(pub std::vec::Vec<T>);
+
+    impl<T> Vec<T> {
+        pub fn new(_: Global) -> Self {
+            Vec(std::vec::Vec::new())
+        }
+
+        pub fn with_capacity(_: Global, capacity: usize) -> Result<Self, AllocError> {
+            Ok(Vec(std::vec::Vec::with_capacity(capacity)))
+        }
+
+        pub fn reserve(&mut self, more: usize) -> Result<(), AllocError> {
+            self.0.reserve(more);
+            Ok(())
+        }
+
+        pub fn push_reserved(&mut self, value: T) {
+            self.0.push(value);
+        }
+
+        pub fn push(&mut self, value: T) -> Result<(), AllocError> {
+            self.0.push(value);
+            Ok(())
+        }
+
+        pub fn as_slice(&self) -> &[T] {
+            &self.0
+        }
+
+        pub fn as_mut_slice(&mut self) -> &mut [T] {
+            &mut self.0
+        }
+
+        pub fn retain_mut<F: FnMut(&mut T) -> bool>(&mut self, keep: F) {
+            self.0.retain_mut(keep);
+        }
+    }
+
+    impl<T: Clone> Vec<T> {
+        pub fn from_slice(_: Global, slice: &[T]) -> Result<Self, AllocError> {
+            Ok(Vec(slice.to_vec()))
+        }
+
+        pub fn resize(&mut self, length: usize, value: T) -> Result<(), AllocError> {
+            self.0.resize(length, value);
+            Ok(())
+        }
+
+        pub fn extend_from_slice(&mut self, slice: &[T]) -> Result<(), AllocError> {
+            self.0.extend_from_slice(slice);
+            Ok(())
+        }
+    }
+
+    impl<T> Deref for Vec<T> {
+        type Target = std::vec::Vec<T>;
+
+        #[inline(always)]
+        fn deref(&self) -> &Self::Target {
+            &self.0
+        }
+    }
+
+    impl<T> DerefMut for Vec<T> {
+        #[inline(always)]
+        fn deref_mut(&mut self) -> &mut Self::Target {
+            &mut self.0
+        }
+    }
+
+    impl<T> Index<usize> for Vec<T> {
+        type Output = T;
+
+        #[inline(always)]
+        fn index(&self, at: usize) -> &T {
+            unsafe { self.0.get_unchecked(at) }
+        }
+    }
+
+    impl<T> IndexMut<usize> for Vec<T> {
+        #[inline(always)]
+        fn index_mut(&mut self, at: usize) -> &mut T {
+            unsafe { self.0.get_unchecked_mut(at) }
+        }
+    }
+
+    macro_rules! index_range {
+        ($($range:ty),*) => { $(
+            impl<T> Index<$range> for Vec<T> {
+                type Output = [T];
+
+                fn index(&self, at: $range) -> &[T] {
+                    &self.0[at]
+                }
+            }
+
+            impl<T> IndexMut<$range> for Vec<T> {
+                fn index_mut(&mut self, at: $range) -> &mut [T] {
+                    &mut self.0[at]
+                }
+            }
+        )* };
+    }
+
+    index_range!(std::ops::Range<usize>, std::ops::RangeFrom<usize>, std::ops::RangeTo<usize>);
+
+    impl<T> IntoIterator for Vec<T> {
+        type Item = T;
+        type IntoIter = std::vec::IntoIter<T>;
+
+        fn into_iter(self) -> Self::IntoIter {
+            self.0.into_iter()
+        }
+    }
+
+    impl<'a, T> IntoIterator for &'a Vec<T> {
+        type Item = &'a T;
+        type IntoIter = std::slice::Iter<'a, T>;
+
+        fn into_iter(self) -> Self::IntoIter {
+            self.0.iter()
+        }
+    }
+
+    impl<'a, T> IntoIterator for &'a mut Vec<T> {
+        type Item = &'a mut T;
+        type IntoIter = std::slice::IterMut<'a, T>;
+
+        fn into_iter(self) -> Self::IntoIter {
+            self.0.iter_mut()
+        }
+    }
+}
+
+mod boxed {
+    use crate::alloc::{AllocError, AllocFailed, Global};
+    use std::ops::{Deref, DerefMut};
+
+    pub struct Box<T: ?Sized>(std::boxed::Box<T>);
+
+    impl<T> Box<T> {
+        pub fn new(_: Global, value: T) -> Result<Self, AllocFailed<T>> {
+            Ok(Box(std::boxed::Box::new(value)))
+        }
+    }
+
+    impl<T: ?Sized> Deref for Box<T> {
+        type Target = T;
+
+        #[inline(always)]
+        fn deref(&self) -> &T {
+            &self.0
+        }
+    }
+
+    impl<T: ?Sized> DerefMut for Box<T> {
+        #[inline(always)]
+        fn deref_mut(&mut self) -> &mut T {
+            &mut self.0
+        }
+    }
+}
+
+pub mod bitflags {
+    pub struct Flag<T: 'static>(pub &'static str, pub T);
+
+    pub trait Flags: Sized + Copy {
+        type Bits: Copy
+            + PartialEq
+            + std::ops::BitAnd<Output = Self::Bits>
+            + std::ops::BitOr<Output = Self::Bits>
+            + std::ops::Not<Output = Self::Bits>
+            + Default;
+
+        fn flags<'a>() -> &'a [Flag<Self>];
+
+        fn bits(&self) -> Self::Bits;
+
+        fn from_bits_retain(bits: Self::Bits) -> Self;
+
+        #[inline(always)]
+        fn contains(&self, other: Self) -> bool {
+            self.bits() & other.bits() == other.bits()
+        }
+
+        #[inline(always)]
+        fn intersects(&self, other: Self) -> bool {
+            self.bits() & other.bits() != Self::Bits::default()
+        }
+
+        #[inline(always)]
+        fn intersection(self, other: Self) -> Self {
+            Self::from_bits_retain(self.bits() & other.bits())
+        }
+
+        #[inline(always)]
+        fn union(self, other: Self) -> Self {
+            Self::from_bits_retain(self.bits() | other.bits())
+        }
+
+        #[inline(always)]
+        fn difference(self, other: Self) -> Self {
+            Self::from_bits_retain(self.bits() & !other.bits())
+        }
+
+        fn empty() -> Self {
+            Self::from_bits_retain(Self::Bits::default())
+        }
+
+        fn is_empty(&self) -> bool {
+            self.bits() == Self::Bits::default()
+        }
+
+        #[inline(always)]
+        fn insert(&mut self, other: Self) {
+            *self = self.union(other);
+        }
+
+        #[inline(always)]
+        fn remove(&mut self, other: Self) {
+            *self = self.difference(other);
+        }
+    }
+
+    #[macro_export]
+    macro_rules! bitflag_items {
+        (impl $name:ident : $bits:ty { $($(#[$doc:meta])* const $flag:ident = $value:expr;)* }) => {
+            impl $name {
+                $(pub const $flag: $name = $name($value);)*
+                const FLAGS: &'static [$crate::bitflags::Flag<$name>] = &[];
+            }
+        };
+    }
+
+    pub use crate::bitflag_items;
+}
+
+pub mod byteorder {
+    pub struct LittleEndian;
+
+    pub trait ByteOrder {
+        fn read_u16(bytes: &[u8]) -> u16;
+        fn read_u32(bytes: &[u8]) -> u32;
+        fn write_u16(bytes: &mut [u8], number: u16);
+        fn write_u32(bytes: &mut [u8], number: u32);
+    }
+
+    impl ByteOrder for LittleEndian {
+        #[inline(always)]
+        fn read_u16(bytes: &[u8]) -> u16 {
+            u16::from_le_bytes([bytes[0], bytes[1]])
+        }
+
+        #[inline(always)]
+        fn read_u32(bytes: &[u8]) -> u32 {
+            u32::from_le_bytes([bytes[0], bytes[1], bytes[2], bytes[3]])
+        }
+
+        #[inline(always)]
+        fn write_u16(bytes: &mut [u8], number: u16) {
+            bytes[..2].copy_from_slice(&number.to_le_bytes());
+        }
+
+        #[inline(always)]
+        fn write_u32(bytes: &mut [u8], number: u32) {
+            bytes[..4].copy_from_slice(&number.to_le_bytes());
+        }
+    }
+}
+
+pub mod arrayvec {
+    use std::mem::MaybeUninit;
+    use std::ops::{Deref, DerefMut};
+
+    pub struct ArrayVec<T: Copy, const N: usize> {
+        items: [MaybeUninit<T>; N],
+        length: usize,
+    }
+
+    impl<T: Copy, const N: usize> ArrayVec<T, N> {
+        pub fn new() -> Self {
+            ArrayVec { items: [MaybeUninit::uninit(); N], length: 0 }
+        }
+
+        pub fn push(&mut self, value: T) {
+            self.items[self.length] = MaybeUninit::new(value);
+            self.length += 1;
+        }
+
+        pub fn try_push(&mut self, value: T) -> Result<(), T> {
+            if self.length == N {
+                return Err(value);
+            }
+            self.push(value);
+            Ok(())
+        }
+
+        pub fn is_full(&self) -> bool {
+            self.length == N
+        }
+
+        pub fn remove(&mut self, at: usize) -> T {
+            let value = self[at];
+            self.items.copy_within(at + 1..self.length, at);
+            self.length -= 1;
+            value
+        }
+
+        pub fn clear(&mut self) {
+            self.length = 0;
+        }
+
+        pub fn retain<F: FnMut(&mut T) -> bool>(&mut self, mut keep: F) {
+            let mut kept = 0;
+            for at in 0..self.length {
+                let mut value = unsafe { self.items[at].assume_init() };
+                if keep(&mut value) {
+                    self.items[kept] = MaybeUninit::new(value);
+                    kept += 1;
+                }
+            }
+            self.length = kept;
+        }
+
+        pub fn as_slice(&self) -> &[T] {
+            self
+        }
+
+        pub fn as_mut_slice(&mut self) -> &mut [T] {
+            self
+        }
+    }
+
+    impl<T: Copy, const N: usize> Deref for ArrayVec<T, N> {
+        type Target = [T];
+
+        #[inline(always)]
+        fn deref(&self) -> &[T] {
+            unsafe { std::slice::from_raw_parts(self.items.as_ptr().cast(), self.length) }
+        }
+    }
+
+    impl<T: Copy, const N: usize> DerefMut for ArrayVec<T, N> {
+        #[inline(always)]
+        fn deref_mut(&mut self) -> &mut [T] {
+            unsafe { std::slice::from_raw_parts_mut(self.items.as_mut_ptr().cast(), self.length) }
+        }
+    }
+}
+
+#[macro_export]
+macro_rules! vec_in {
+    ($alloc:expr; $value:expr; $count:expr) => {
+        $crate::vec_of($value, $count)
+    };
+}
+
+pub fn vec_of<T: Clone>(value: T, count: usize) -> Result<prelude::Vec<T>, alloc::AllocError> {
+    let _ = alloc::Global;
+    Ok(vec::Vec(vec![value; count]))
+}
+
+pub mod slab {
+    use crate::alloc::{AllocError, Global};
+    use std::ops::{Index, IndexMut};
+
+    enum Entry<T> {
+        Vacant(usize),
+        Occupied(T),
+    }
+
+    pub struct Slab<T> {
+        entries: Vec<Entry<T>>,
+        length: usize,
+        next: usize,
+    }
+
+    impl<T> Slab<T> {
+        pub fn new(_: Global) -> Self {
+            Slab { entries: Vec::new(), length: 0, next: 0 }
+        }
+
+        pub fn with_capacity(_: Global, capacity: usize) -> Result<Self, AllocError> {
+            Ok(Slab { entries: Vec::with_capacity(capacity), length: 0, next: 0 })
+        }
+
+        pub fn len(&self) -> usize {
+            self.length
+        }
+
+        pub fn is_empty(&self) -> bool {
+            self.length == 0
+        }
+
+        pub fn capacity(&self) -> usize {
+            self.entries.capacity()
+        }
+
+        pub fn reserve(&mut self, more: usize) -> Result<(), AllocError> {
+            if self.entries.len() + more > self.length + self.entries.capacity() {
+                self.entries.reserve(more);
+            }
+            Ok(())
+        }
+
+        #[inline(always)]
+        pub fn vacant_key(&self) -> usize {
+            self.next
+        }
+
+        #[inline(always)]
+        pub fn insert_reserved(&mut self, value: T) -> usize {
+            let key = self.next;
+            self.length += 1;
+            if key == self.entries.len() {
+                self.entries.push(Entry::Occupied(value));
+                self.next = key + 1;
+            } else {
+                self.next = match self.entries[key] {
+                    Entry::Vacant(next) => next,
+                    Entry::Occupied(_) => unreachable!(),
+                };
+                self.entries[key] = Entry::Occupied(value);
+            }
+            key
+        }
+
+        #[inline(always)]
+        pub fn remove(&mut self, key: usize) -> T {
+            match std::mem::replace(&mut self.entries[key], Entry::Vacant(self.next)) {
+                Entry::Occupied(value) => {
+                    self.length -= 1;
+                    self.next = key;
+                    value
+                }
+                Entry::Vacant(_) => panic!("no entry"),
+            }
+        }
+
+        #[inline(always)]
+        pub fn get(&self, key: usize) -> Option<&T> {
+            match self.entries.get(key) {
+                Some(Entry::Occupied(value)) => Some(value),
+                _ => None,
+            }
+        }
+
+        #[inline(always)]
+        pub fn get_mut(&mut self, key: usize) -> Option<&mut T> {
+            match self.entries.get_mut(key) {
+                Some(Entry::Occupied(value)) => Some(value),
+                _ => None,
+            }
+        }
+
+        pub fn contains(&self, key: usize) -> bool {
+            self.get(key).is_some()
+        }
+    }
+
+    impl<T> Index<usize> for Slab<T> {
+        type Output = T;
+
+        #[inline(always)]
+        fn index(&self, key: usize) -> &T {
+            self.get(key).unwrap()
+        }
+    }
+
+    impl<T> IndexMut<usize> for Slab<T> {
+        #[inline(always)]
+        fn index_mut(&mut self, key: usize) -> &mut T {
+            self.get_mut(key).unwrap()
+        }
+    }
+}

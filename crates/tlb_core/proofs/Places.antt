@@ -1,7 +1,7 @@
 -- What stands where in a cache, and that each page keeps at most one entry.
 use Rattle.std.proofs.Common.{◌≡◌, ◌≢◌, ℕ, zero, suc, ◌+◌, ◌<◌, ◌≤◌, Bool, true, false, cond, refl, sym, ap, ◌∙◌, arith, List, [], ◌∷◌, ◌++◌, length, get_or, set, take, drop, map, add-one, Some, None, nat_lt}
-use Rattle.std.specs.Prelude.{find, position, not, slice_get}
-use Rattle.std.specs.List.{position_or_len, refill}
+use Rattle.std.specs.Prelude.{find, position, not, slice_get, filter, ◌||◌}
+use Rattle.std.specs.List.{position_or_len, refill, list_any}
 use Rattle.std.proofs.Math.ListN.{length-set}
 use Rattle.std.proofs.lemmas.List.{get_or-map, length-map, map-set, set-get_or, get_or-drop, length-drop, take_all, drop_all, append-nil}
 use Rattle.std.proofs.lemmas.List.Folds.{find_at}
@@ -12,6 +12,17 @@ use Rattle.std.proofs.lemmas.Option.{slice_get-get_or}
 use Rattle.tlb_core.specs.declared.translation.Translation.{Translation}
 use Rattle.tlb_core.specs.CacheLaws.{first_is_other}
 use Rattle.tlb_core.specs.Cache.{OnePerPage, is_of_page, translation_of, with_room, filled, filled_at, doomed, doomed_entry, undoomed}
+
+-- where no entry is marked, none is dropped
+pub none_dropped : (xs : List Translation) → list_any (λ (e : Translation). e.doomed) xs ≡ false → undoomed xs ≡ xs
+unfolding undoomed
+none_dropped [] none = refl
+none_dropped (x ∷ xs) none = by_mark x.doomed (filter (λ (e : Translation). not e.doomed) xs) none (none_dropped xs)
+  where
+    by_mark : (b : Bool) (left : List Translation) → (b || list_any (λ (e : Translation). e.doomed) xs) ≡ false
+        → (list_any (λ (e : Translation). e.doomed) xs ≡ false → left ≡ xs) → cond (not b) (x ∷ left) left ≡ x ∷ xs
+    by_mark true left none rest = cc
+    by_mark false left none rest = ap (λ l. x ∷ l) (rest none)
 
 -- a search by place is a search
 pub find_at_place : (page : ℕ) (xs : List Translation) (k : ℕ) (d : Translation) → position (is_of_page page) xs ≡ Some k → Some (get_or xs k d) ≡ translation_of page xs

@@ -1,4 +1,5 @@
 ghost use Rattle.std.specs.Prelude.{◌≡◌, ◌<◌, ◌≤◌, ◌%◌, ℕ, [], ◌∷◌, ◌++◌, length, is_some, Some, None, position, slice_set, IfSome};
+ghost use Rattle.std.specs.List.{list_any};
 ghost use Rattle.page_memory.specs.Words.{page_number, bytes_in};
 ghost use Rattle.tlb_core.specs.Cache.{OnePerPage, Hits, translation_of, is_of_page, filled, doomed, undoomed, with_room};
 
@@ -187,8 +188,18 @@ impl Tlb {
         mark(self.entries.as_mut_slice(), page);
     }
 
-    /// Drops each entry that is marked, and no other. The others keep their order.
+    /// Drops each entry that is marked, and no other. The others keep their order. Where none is marked, what is ready
+    /// stays so.
     pub fn drop_doomed(&mut self)
+        ensures { self.new ≡ undoomed self.old }
+    {
+        if any_doomed(self.entries.as_slice()) {
+            self.drop_marked();
+        }
+    }
+
+    /// Drops each entry that is marked. No page is ready any more.
+    fn drop_marked(&mut self)
         ensures { self.new ≡ undoomed self.old }
     {
         keep_undoomed(&mut self.entries);
@@ -213,6 +224,13 @@ fn mark(entries: &mut [Translation], page: u32)
     for entry in entries.iter_mut() {
         entry.doomed |= entry.page == page;
     }
+}
+
+/// Whether an entry is marked.
+fn any_doomed(entries: &[Translation]) -> bool
+    ensures { result ≡ list_any (λ e. e.doomed) entries.now }
+{
+    entries.iter().any(|entry| entry.doomed)
 }
 
 /// Keeps the entries that are not marked.

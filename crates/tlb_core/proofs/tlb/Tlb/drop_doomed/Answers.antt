@@ -1,5 +1,10 @@
-use Rattle.tlb_core.proofs.Places.{one_per_page_undoomed}
+use Rattle.std.proofs.Common.{◌≡◌, false, sym}
+use Rattle.std.specs.List.{list_any}
+use Rattle.tlb_core.specs.declared.translation.Translation.{Translation}
+use Rattle.tlb_core.proofs.Places.{none_dropped}
 use Rattle.tlb_core.proofs.tlb.Tlb.drop_doomed.Goals as goal
 
-pub invariant_of-self : goal.invariant_of-self
-invariant_of-self c = record { one = one_per_page_undoomed _ _ c.self.invariant.one c.keep_undoomed.ensures; shows = c.new-self-inside.ensures _ }
+pub returns-else-any_doomed : goal.returns-else-any_doomed
+returns-else-any_doomed c =
+    let none : list_any (λ (e : Translation). e.doomed) c.args.self.now ≡ false = cc in
+    sym (none_dropped c.args.self.now none)

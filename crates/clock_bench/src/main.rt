@@ -1,5 +1,6 @@
 //! A replacement list that serves page faults: prints how many calls it had and a checksum of its victims, and on standard
-//! error the nanoseconds. Arguments: `ring` or `list`, frames, pages, references.
+//! error the nanoseconds. Arguments: `ring` or `list`, frames, pages, references. With `stride` or `shared` first it is the circle of
+//! links, each page 16 numbers past the one before, or 16 processes with the same page numbers.
 //! With `whole` first, the circle of links is purged of one process of 16 and copied, each as often as there are references: prints
 //! how many entries went, and on standard error the nanoseconds of all purges and of all copies.
 #![tactic(auto)]
@@ -12,9 +13,45 @@ use std::alloc::Global;
 use std::env;
 use std::time::Instant;
 
+/// Which keys the pages have.
+#[derive(Clone, Copy, PartialEq, Eq, Debug)]
+enum Keys {
+    OneProcess,
+    Stride,
+    Shared,
+}
+
+impl Keys {
+    fn key(self, page: u32) -> Key {
+        match self {
+            Keys::OneProcess => Key {
+                process: 0,
+                vpn: page,
+            },
+            Keys::Stride => Key {
+                process: 0,
+                vpn: page.wrapping_mul(16),
+            },
+            Keys::Shared => Key {
+                process: page % 16,
+                vpn: page / 16,
+            },
+        }
+    }
+
+    fn page(self, key: Key) -> u32 {
+        match self {
+            Keys::OneProcess => key.vpn,
+            Keys::Stride => key.vpn / 16,
+            Keys::Shared => key.vpn.wrapping_mul(16).wrapping_add(key.process),
+        }
+    }
+}
+
 /// Pages, those in a frame, and the calls so far.
 #[derive(Drop)]
 struct Load {
+    keys: Keys,
     used: Vec<bool>,
     resident: Vec<bool>,
     free: usize,
@@ -23,7 +60,7 @@ struct Load {
 }
 
 impl Load {
-    fn new(alloc: Global, frames: usize, pages: usize) -> Result<Self> {
+    fn new(alloc: Global, keys: Keys, frames: usize, pages: usize) -> Result<Self> {
         let mut used = Vec::new(alloc);
         let mut resident = Vec::new(alloc);
         for _ in 0..pages {
@@ -31,6 +68,7 @@ impl Load {
             resident.push(false)?;
         }
         Ok(Load {
+            keys,
             used,
             resident,
             free: frames,
@@ -60,26 +98,24 @@ impl Load {
         let Some(asked) = clock.question() else {
             return false;
         };
-        let bit = if self.clear_used(asked.vpn as usize) {
+        let bit = if self.clear_used(self.keys.page(asked) as usize) {
             Bit::One
         } else {
             Bit::Zero
         };
         self.calls = self.calls.wrapping_add(2);
         if let Ok(Verdict::Victim(victim)) = clock.answer(bit) {
-            self.set_resident(victim.vpn as usize, false);
+            let page = self.keys.page(victim);
+            self.set_resident(page as usize, false);
             self.free = self.free.wrapping_add(1);
-            self.sum = self
-                .sum
-                .wrapping_mul(31)
-                .wrapping_add(u64::from(victim.vpn));
+            self.sum = self.sum.wrapping_mul(31).wrapping_add(u64::from(page));
         }
         true
     }
 
     /// A page is used, and comes in where it is not resident.
-    fn touch<C: Clock>(&mut self, clock: &mut C, vpn: u32) {
-        let page = vpn as usize;
+    fn touch<C: Clock>(&mut self, clock: &mut C, number: u32) {
+        let page = number as usize;
         if let Some(used) = self.used.get_mut(page) {
             *used = true;
         }
@@ -92,7 +128,7 @@ impl Load {
             }
         }
         self.calls = self.calls.wrapping_add(1);
-        if clock.admit(Key { process: 0, vpn }).is_ok() {
+        if clock.admit(self.keys.key(number)).is_ok() {
             self.set_resident(page, true);
             self.free = self.free.wrapping_sub(1);
         }
@@ -116,11 +152,12 @@ fn serve<C: Clock>(clock: &mut C, load: &mut Load, frames: usize, references: us
 fn timed<C: Clock>(
     rt: &HostRuntime,
     mut clock: C,
+    keys: Keys,
     frames: usize,
     pages: usize,
     references: usize,
 ) -> Result<()> {
-    let mut load = Load::new(rt.alloc(), frames, pages)?;
+    let mut load = Load::new(rt.alloc(), keys, frames, pages)?;
     let start = Instant::now(rt)?;
     serve(&mut clock, &mut load, frames, references);
     let elapsed = start.elapsed(rt)?;
@@ -168,12 +205,18 @@ fn whole<C: Clock>(rt: &HostRuntime, mut clock: C, frames: usize, rounds: usize)
 fn main(rt: HostRuntime) -> Result<()> {
     let mut list = false;
     let mut through = false;
+    let mut keys = Keys::OneProcess;
     let mut numbers = [64usize, 200, 100_000];
     for (i, argument) in env::args(&rt)?.skip(1).enumerate() {
         match i {
             0 => {
                 list = argument.as_str() == "list";
                 through = argument.as_str() == "whole";
+                keys = match argument.as_str() {
+                    "stride" => Keys::Stride,
+                    "shared" => Keys::Shared,
+                    _ => Keys::OneProcess,
+                };
             }
             1 | 2 | 3 => {
                 numbers[i - 1] = argument
@@ -191,6 +234,7 @@ fn main(rt: HostRuntime) -> Result<()> {
         timed(
             &rt,
             ClockList::new(rt.alloc(), frames)?,
+            keys,
             frames,
             pages,
             references,
@@ -199,6 +243,7 @@ fn main(rt: HostRuntime) -> Result<()> {
         timed(
             &rt,
             ClockRing::new(rt.alloc(), frames)?,
+            keys,
             frames,
             pages,
             references,

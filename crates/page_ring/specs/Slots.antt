@@ -1,14 +1,17 @@
 -- A table of slots: each page has one, which holds its node or another page's.
-use Rattle.std.specs.Prelude.{ℕ, ◌+◌, ◌-◌, ◌*◌, ◌%◌, ◌^◌, ◌==◌, ◌&&◌, Bool, cond, List, length, Option, Some, None, slice_index_or, bit_and}
+use Rattle.std.specs.Prelude.{ℕ, ◌+◌, ◌-◌, ◌*◌, ◌%◌, ◌^◌, ◌==◌, ◌&&◌, Bool, cond, List, length, Option, Some, None, slice_index_or, bit_and, ◌/◌}
+use Rattle.std.specs.Int.{w64, trailing_zeros}
+use Rattle.std.specs.Int.RustNames.{bit_xor}
 use Rattle.clock_policy.specs.declared.key.Key.{Key}
 use Rattle.page_ring.specs.declared.node_index.IndexedNode.{IndexedNode}
 
 abbrev pub same_key : Key → Key → Bool
 same_key k q = (k.process == q.process) && (k.vpn == q.vpn)
 
--- the slot of a page among n, of which the pages of a process take turns
+-- the slot of a page among n, which is a power of two: the pages of a process take turns from its part of the slots on, and
+-- the high bits of a number count where the low ones are alike
 unfoldable pub index_slot : Key → ℕ → ℕ
-index_slot k n = bit_and ((k.vpn + k.process * 0x9E37_79B9 % 2 ^ 32) % 2 ^ 32) (n - 1)
+index_slot k n = bit_and ((k.process * (n / 16) % 2 ^ 64 + bit_xor k.vpn (k.vpn / 2 ^ (trailing_zeros w64 n % 32))) % 2 ^ 64) (n - 1)
 
 -- what a slot tells of a page
 abbrev pub held : Option IndexedNode → Key → Option ℕ

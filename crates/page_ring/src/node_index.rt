@@ -44,14 +44,18 @@ impl NodeIndex {
         Ok(NodeIndex { slots, others })
     }
 
+    /// The slot of a page. Neighbours have slots side by side, and so have pages at a distance that is a power of two, once
+    /// the low bits of their numbers are all alike; each of 16 processes begins in a part of its own.
     #[inline(always)]
     #[tactic(auto, unfolding(crate::specs::Slots::index_slot))]
     fn slot(&self, key: Key) -> usize
         ensures slot { result ≡ index_slot key (length self.now.slots.items) }
         ensures within { result < vec_len self.now.slots }
     {
-        let mixed = key.vpn.wrapping_add(key.process.wrapping_mul(0x9E37_79B9));
-        mixed as usize & (self.slots.len() - 1)
+        let slots = self.slots.len();
+        let high = key.vpn.wrapping_shr(slots.trailing_zeros());
+        let first = (key.process as usize).wrapping_mul(slots / 16);
+        first.wrapping_add((key.vpn ^ high) as usize) & (slots - 1)
     }
 
     /// The node of a page.

@@ -1,6 +1,6 @@
 //! The policy, as every representation of its list owes it.
 
-ghost use Rattle.std.specs.Prelude.{◌≡◌, ◌≢◌, ◌≤◌, ◌<◌, ◌+◌, ◌*◌, ◌++◌, ◌⊎◌, ℕ, IfOk, OnOk, OnErr, IsOk, IsErr, IsNone, ◌↔◌, Ok, Err, length, slice_get, option_map, vec_len, vec_capacity};
+ghost use Rattle.std.specs.Prelude.{◌≡◌, ◌≢◌, ◌≤◌, ◌<◌, ◌+◌, ◌*◌, ◌++◌, ◌⊎◌, ℕ, IfOk, OnOk, OnErr, IsOk, IsErr, IsNone, ◌↔◌, Ok, Err, None, length, slice_get, option_map, vec_len, vec_capacity};
 ghost use Rattle.clock_policy.specs.ClockPro.{ClockState, opening_state, kind_of, question_of, answered, admitted, restored, withdrawn, purged, purge_count};
 ghost use Rattle.clock_policy.specs.FrameCounts.{least_frames, most_frames};
 ghost use Rattle.clock_policy.specs.Lawful.{Lawful};
@@ -22,7 +22,7 @@ pub const MOST_FRAMES: usize = 4096;
 ///
 /// `state` is what the list stands for: each call is that of the definition on it, the refusals in the order of their numbers included.
 /// A refusal changes nothing. `NoMemory` may come from a representation that takes memory for a new entry, where the definition would
-/// refuse nothing.
+/// refuse nothing: an entry that is there already never meets it.
 pub trait Clock: Drop {
     ghost state: { Self → ClockState };
 
@@ -63,6 +63,7 @@ pub trait Clock: Drop {
         ensures moved { OnOk result (state self.new ≡ (admitted key (state self.old)).0) }
         ensures exact { result ≢ Err Refusal.NoMemory → result ≡ (admitted key (state self.old)).1 }
         ensures memory { result ≡ Err Refusal.NoMemory → IsOk (admitted key (state self.old)).1 }
+        ensures grows { result ≡ Err Refusal.NoMemory → kind_of key (state self.old).entries ≡ None }
         ensures err { OnErr result (state self.new ≡ state self.old) }
         ensures frames { (state self.new).frames ≡ (state self.old).frames }
         ensures lawful { Lawful (state self.new) };
@@ -72,6 +73,7 @@ pub trait Clock: Drop {
         ensures moved { OnOk result (state self.new ≡ (restored key (state self.old)).0) }
         ensures exact { result ≢ Err Refusal.NoMemory → result ≡ (restored key (state self.old)).1 }
         ensures memory { result ≡ Err Refusal.NoMemory → IsOk (restored key (state self.old)).1 }
+        ensures grows { result ≡ Err Refusal.NoMemory → kind_of key (state self.old).entries ≡ None }
         ensures err { OnErr result (state self.new ≡ state self.old) }
         ensures frames { (state self.new).frames ≡ (state self.old).frames }
         ensures lawful { Lawful (state self.new) };

@@ -1,5 +1,5 @@
 -- A table of slots: each page has one, which holds its node or another page's.
-use Rattle.std.specs.Prelude.{ℕ, ◌+◌, ◌-◌, ◌*◌, ◌%◌, ◌^◌, ◌==◌, ◌&&◌, Bool, cond, List, length, Option, Some, None, slice_index_or, bit_and, ◌/◌}
+use Rattle.std.specs.Prelude.{ℕ, ◌≡◌, ◌+◌, ◌-◌, ◌*◌, ◌/◌, ◌%◌, ◌^◌, ◌==◌, ◌&&◌, Bool, cond, List, length, Option, Some, None, is_some, true, slice_index_or, bit_and}
 use Rattle.std.specs.Int.{w64, trailing_zeros}
 use Rattle.std.specs.Int.RustNames.{bit_xor}
 use Rattle.clock_policy.specs.declared.key.Key.{Key}
@@ -20,3 +20,7 @@ held (Some p) k = cond (same_key p.key k) (Some p.at) None
 
 abbrev pub in_slot : List (Option IndexedNode) → Key → Option ℕ
 in_slot slots k = held (slice_index_or slots (index_slot k (length slots)) None) k
+
+-- the slot of a page holds a node, of whichever page
+abbrev pub IsSlotTaken : List (Option IndexedNode) → Key → Type 0
+IsSlotTaken slots k = is_some (slice_index_or slots (index_slot k (length slots)) None) ≡ true

@@ -1,7 +1,7 @@
 //! An index from a page to its node.
 
-ghost use Rattle.std.specs.Prelude.{◌≡◌, ◌≤◌, ◌<◌, length, cond, Some, None, IfOk, OnOk, OnErr, vec_len};
-ghost use Rattle.page_ring.specs.Slots.{same_key, index_slot, in_slot};
+ghost use Rattle.std.specs.Prelude.{◌≡◌, ◌≤◌, ◌<◌, ◌^◌, ◌⊎◌, length, cond, Some, None, IfOk, OnOk, OnErr, vec_len};
+ghost use Rattle.page_ring.specs.Slots.{same_key, index_slot, in_slot, IsSlotTaken};
 
 use clock_policy::Key;
 use std::alloc::{AllocError, Global};
@@ -74,13 +74,14 @@ impl NodeIndex {
         self.others.get(&key).map(|at| *at)
     }
 
-    /// Adds a page, to its slot where that is free.
+    /// Adds a page, to its slot where that is free. Memory is taken only where another page has the slot, or for a node beyond 32 bits.
     #[inline(always)]
     pub(crate) fn insert(&mut self, key: Key, at: usize) -> Result<(), AllocError>
         requires new { node_of key self.old ≡ None }
         requires parted { Parted self.old }
         ensures put { OnOk result ((k : Key) → node_of k self.new ≡ cond (same_key key k) (Some at) (node_of k self.old)) }
         ensures err { OnErr result ((k : Key) → node_of k self.new ≡ node_of k self.old) }
+        ensures taken { OnErr result (IsSlotTaken self.old.slots.items key ⊎ 2 ^ 32 ≤ at) }
         ensures parted { Parted self.new }
     {
         let slot = self.slot(key);

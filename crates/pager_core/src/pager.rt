@@ -69,6 +69,7 @@ impl<L: Ledger, C: Clock> Pager<L, C> {
 
         // Memory is wanting only where nothing else is.
         ensures refused { IfErr result (λ refusal. RefusesAdmission refusal key self.old) }
+        ensures grows { result ≡ Err AdmitRefusal.NoMemory → kind_of key self.old.list.entries ≡ None }
         ensures err { OnErr result (self.new ≡ self.old) }
         ensures lawful { OnOk result (Lawful self.new.list) }
     {
@@ -91,7 +92,8 @@ impl<L: Ledger, C: Clock> Pager<L, C> {
     #[tactic(auto, using(crate::proofs::Admission::no_frames))]
     fn refusal_without_frame(&self, key: Key) -> AdmitRefusal
         requires { self.now.free ≡ [] }
-        ensures { RefusesAdmission result key self.now }
+        ensures refused { RefusesAdmission result key self.now }
+        ensures memory { result ≢ AdmitRefusal.NoMemory }
     {
         match self.list.kind_of(key) {
             None | Some(EntryKind::Shadow) => AdmitRefusal::NoFrame,
@@ -138,6 +140,7 @@ impl<L: Ledger, C: Clock> Pager<L, C> {
         ensures moved { OnOk result (self.new ≡ with_list (restored key self.old.list).0 self.old) }
         ensures exact { result ≢ Err Refusal.NoMemory → result ≡ (restored key self.old.list).1 }
         ensures memory { result ≡ Err Refusal.NoMemory → IsOk (restored key self.old.list).1 }
+        ensures grows { result ≡ Err Refusal.NoMemory → kind_of key self.old.list.entries ≡ None }
         ensures err { OnErr result (self.new ≡ self.old) }
         ensures lawful { Lawful self.new.list }
     {

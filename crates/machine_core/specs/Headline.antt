@@ -9,6 +9,7 @@ use Rattle.clock_policy.specs.declared.key.Key.{Key}
 use Rattle.elf_image.specs.Image.{ImageContent}
 use Rattle.flat_machine.specs.Process.{Process, opening, flat_run}
 use Rattle.flat_machine.specs.Schedule.{written_out}
+use Rattle.machine_core.specs.Applying.{Applies}
 use Rattle.machine_core.specs.declared.event.Event.{Event}
 use Rattle.machine_core.specs.declared.event.Event.TheVariants as event
 use Rattle.machine_core.specs.declared.event.Reply.{Reply}
@@ -113,14 +114,20 @@ module _ {S : Type 0} (held : S → List ℕ) (honest : Type 0) where
     pub listed : (test : Key → Bool) → residents new.pager.pager.list test ≡ total (λ (process : ProcessSideValue S). residents_in process.space test) new.processes
     pub victim : (key : Key) → answer ≡ reply.Victim key → IsNamed old new key
 
-  -- the same after every event of a run
+module _ {S : Type 0} (held : S → List ℕ) (honest : Type 0) (failures : S → ℕ) where
+  -- an event of a run does what is written of it, and leaves paging invisible
+  pub record HappensInvisibly (happened : Event) (answer : Reply) (old new : CoreValue S) : Type 0 where
+    pub applies : Applies held honest failures happened old new answer
+    pub invisible : IsInvisible held honest happened answer old new
+
+  -- the same of every event of a run, one after another
   unfoldable pub AfterEach : List Event → List Reply → CoreValue S → CoreValue S → Type 0
   AfterEach [] [] old new = new ≡ old
   AfterEach [] (answer ∷ answers) old new = ⊥
   AfterEach (happened ∷ events) [] old new = ⊥
-  AfterEach (happened ∷ events) (answer ∷ answers) old new = (between : CoreValue S) × (IsInvisible happened answer old between × AfterEach events answers between new)
+  AfterEach (happened ∷ events) (answer ∷ answers) old new = (between : CoreValue S) × (HappensInvisibly happened answer old between × AfterEach events answers between new)
 
-  -- Whatever events come in whatever order: it holds after each; and in a machine that has just begun, each process shows in the
+  -- Whatever events come in whatever order: it holds of each; and in a machine that has just begun, each process shows in the
   -- end what the manual's instructions make of its image and its input on flat memory, in the order of its steps that ran.
   pub record PagingIsInvisible (events : List Event) (answers : List Reply) (old new : CoreValue S) : Type 0 where
     pub each : AfterEach events answers old new

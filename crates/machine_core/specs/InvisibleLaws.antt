@@ -3,7 +3,7 @@ use Rattle.std.proofs.Common.{◌≡◌, ℕ, List, [], ◌∷◌, ◌++◌, Som
 use Rattle.flat_machine.specs.Schedule.{written_out}
 use Rattle.machine_core.specs.Applying.{ServesEvent, Applies, Runs}
 use Rattle.machine_core.specs.Faithful.{EachStands, IsFaithful}
-use Rattle.machine_core.specs.Headline.{adds, order_of, Remains, ShowsFlatRun, ShowsRun, IsInvisible, AfterEach, PagingIsInvisible}
+use Rattle.machine_core.specs.Headline.{adds, order_of, Remains, ShowsFlatRun, ShowsRun, IsInvisible, HappensInvisibly, AfterEach, PagingIsInvisible}
 use Rattle.machine_core.specs.Machine.{CoreValue}
 use Rattle.machine_sides.specs.Starting.{Start, Begins}
 use Rattle.elf_image.specs.Image.{ImageContent}
@@ -47,7 +47,7 @@ module _ {S : Type 0} where
       memory = stands.shown;
     }
 
-    event_invisible : (event : Event) (old new : CoreValue S) (answer : Reply) → Applies held honest failures event old new answer → IsInvisible held honest event answer old new
+    pub event_invisible : (event : Event) (old new : CoreValue S) (answer : Reply) → Applies held honest failures event old new answer → IsInvisible held honest event answer old new
     unfolding EachStands
     event_invisible event old new answer applies =
         let tells = serves_tells event old new answer applies.served in
@@ -58,22 +58,22 @@ module _ {S : Type 0} where
           victim = tells.victim;
         }
 
-    run_each : (events : List Event) (answers : List Reply) (old new : CoreValue S) → Runs held honest failures events answers old new → AfterEach held honest events answers old new
+    run_each : (events : List Event) (answers : List Reply) (old new : CoreValue S) → Runs held honest failures events answers old new → AfterEach held honest failures events answers old new
     unfolding Runs AfterEach
     run_each [] [] old new run = run
     run_each [] (r ∷ rs) old new run = absurd run
     run_each (e ∷ es) [] old new run = absurd run
-    run_each (e ∷ es) (r ∷ rs) old new run = (run.0, (event_invisible e old run.0 r run.1.0, run_each es rs run.0 new run.1.1))
+    run_each (e ∷ es) (r ∷ rs) old new run = (run.0, (record { applies = run.1.0; invisible = event_invisible e old run.0 r run.1.0 }, run_each es rs run.0 new run.1.1))
 
     -- a process's recorded order grows by its steps that ran
-    order_grows : (events : List Event) (answers : List Reply) (old new : CoreValue S) → AfterEach held honest events answers old new → (number : ℕ) (process : ProcessSideValue S)
+    order_grows : (events : List Event) (answers : List Reply) (old new : CoreValue S) → AfterEach held honest failures events answers old new → (number : ℕ) (process : ProcessSideValue S)
         → slice_get old.processes number ≡ Some process → Remains number (order_of number events answers) new.processes process
     unfolding AfterEach order_of
     order_grows [] [] old new each number process at = still_remains old.processes new.processes (ap (λ (c : CoreValue S). c.processes) each) number process at
     order_grows [] (r ∷ rs) old new each number process at = absurd each
     order_grows (e ∷ es) [] old new each number process at = absurd each
     order_grows (e ∷ es) (r ∷ rs) old new each number process at =
-        let first = each.1.0.recorded number process at in
+        let first = each.1.0.invisible.recorded number process at in
         let rest = order_grows es rs each.0 new each.1.1 number first.process first.found in
         record {
           process = rest.process;
@@ -96,7 +96,7 @@ module _ {S : Type 0} where
 
     -- paging is invisible in every run
     pub run_invisible : (events : List Event) (answers : List Reply) (old new : CoreValue S) → Runs held honest failures events answers old new → IsFaithful held honest new
-        → PagingIsInvisible held honest events answers old new
+        → PagingIsInvisible held honest failures events answers old new
     unfolding EachStands
     run_invisible events answers old new run faithful =
         let each = run_each events answers old new run in

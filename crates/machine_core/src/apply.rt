@@ -3,6 +3,7 @@
 ghost use Rattle.std.specs.Prelude.{◌≡◌};
 ghost use Rattle.machine_core.specs.Applying.{ServesEvent, Applies};
 ghost use Rattle.machine_core.specs.Faithful.{EachStands, IsFaithful};
+ghost use Rattle.machine_core.specs.Headline.{IsInvisible};
 
 use crate::event::{Event, Reply};
 use crate::machine::Core;
@@ -30,8 +31,11 @@ impl<L: Ledger, S: SwapSlot, C: Clock> Core<L, S, C> {
     }
 
     /// What an event does: it is refused, and then nothing has changed but for what want of memory leaves, or it is served.
+    /// Paging stays invisible.
+    #[tactic(auto, using(crate::specs::InvisibleLaws::event_invisible))]
     pub fn apply(&mut self, event: Event) -> Reply
-        ensures { Applies S.content S.honest S.failures event self.old self.new result }
+        ensures applies { Applies S.content S.honest S.failures event self.old self.new result }
+        ensures invisible { IsInvisible S.content S.honest event result self.old self.new }
     {
         let reply = self.serve(event);
         self.faithful();

@@ -1,8 +1,12 @@
 //! Events one after another.
 
-ghost use Rattle.std.specs.Prelude.{◌≡◌, IfOk, OnErr};
+ghost use Rattle.std.specs.Prelude.{◌≡◌, ◌++◌, List, IfOk, OnErr};
 ghost use Rattle.machine_core.specs.Applying.{Runs};
+ghost use Rattle.machine_core.specs.ApplyingLaws.{CutRun};
 ghost use Rattle.machine_core.specs.Headline.{PagingIsInvisible};
+ghost use Rattle.machine_core.specs.Machine.{CoreValue};
+ghost use Rattle.machine_core.specs.declared.event.Event as machine_event;
+ghost use Rattle.machine_core.specs.declared.event.Reply as machine_reply;
 
 use crate::event::{Event, Reply};
 use crate::machine::Core;
@@ -16,7 +20,7 @@ impl<L: Ledger, S: SwapSlot, C: Clock> Core<L, S, C> {
     /// Room for the replies is taken first; where it is refused, nothing has changed.
     pub fn run(&mut self, alloc: Global, events: &[Event]) -> Result<Vec<Reply>, AllocError>
         ensures runs { IfOk result (λ replies. Runs S.content S.honest S.failures events.now replies.items self.old self.new) }
-        ensures invisible { IfOk result (λ replies. PagingIsInvisible S.content S.honest events.now replies.items self.old self.new) }
+        ensures invisible { IfOk result (λ replies. PagingIsInvisible S.content S.honest S.failures events.now replies.items self.old self.new) }
         ensures refused { OnErr result (self.new ≡ self.old) }
     {
         let mut replies = Vec::with_capacity(alloc, events.len())?;
@@ -26,4 +30,11 @@ impl<L: Ledger, S: SwapSlot, C: Clock> Core<L, S, C> {
         self.faithful();
         Ok(replies)
     }
+}
+
+/// Each prefix of a run is a run, and what is left goes on from the machine that it leaves. It does nothing.
+#[tactic(auto, using(crate::specs::ApplyingLaws::run_cut))]
+pub fn cut_run<S: SwapSlot>()
+    ensures { (first second : List machine_event.Event) → (replies : List machine_reply.Reply) → (old new : CoreValue S) → Runs S.content S.honest S.failures (first ++ second) replies old new → CutRun S.content S.honest S.failures first second replies old new }
+{
 }

@@ -16,7 +16,7 @@ pub loop-event-preserved : goal.loop-event-preserved
 loop-event-preserved g c = record {
   ran =
       subst (λ l. Runs g.S.SwapSlot.content g.S.SwapSlot.honest g.S.SwapSlot.failures (take (c.loop-event.event-index + 1) c.args.events.now) l c.args.self.now c.apply.new.self) (sym c.push_reserved.ensures.items)
-      (runs_next _ _ _ c.args.events.now c.loop-event.event-index _ c.loop-event.replies.items c.args.self.now c.loop-event.self c.apply.new.self c.apply.result c.loop-event-test.true c.loop-event.invariant.ran c.apply.ensures);
+      (runs_next _ _ _ c.args.events.now c.loop-event.event-index _ c.loop-event.replies.items c.args.self.now c.loop-event.self c.apply.new.self c.apply.result c.loop-event-test.true c.loop-event.invariant.ran c.apply.ensures.applies);
   count = omega (arith, c.push_reserved.ensures.len, c.loop-event.invariant.count);
   room = omega (arith, c.push_reserved.ensures.capacity, c.loop-event.invariant.room);
 }

@@ -1,10 +1,11 @@
 -- The page that a read or a write uses, by memory's answer.
-use Rattle.std.specs.Prelude.{◌≡◌, ℕ, List, Result, Ok, Err, Contains, IsOk, refl}
+use Rattle.std.specs.Prelude.{◌≡◌, ℕ, Bool, List, Result, Ok, Err, Contains, IsOk, refl}
 use Rattle.std.proofs.Common.{subst}
 use Rattle.page_memory.specs.declared.fault.MemoryFault.{MemoryFault}
 use Rattle.page_memory.specs.declared.words.Access.TheVariants.{Store}
 use Rattle.page_memory.specs.Words.{page_number}
 use Rattle.page_memory.specs.Memory.{Memory, answer_by, memory_with, usable, copied_in, copied_out}
+use Rattle.rv_exec.specs.Bounds.{Bounds}
 use Rattle.rv_exec.specs.Outcomes.{Used}
 use Rattle.rv_exec.specs.Uses.{page_of_access}
 use Rattle.rv_exec.specs.AccessLaws.{used_allowed, used_refused, contains_page}
@@ -35,6 +36,12 @@ pub read_lacks : (memory : Memory) (address page : ℕ) (bytes : List ℕ)
     → page ≡ page_number address → IsOk (copied_in memory address bytes) → Contains (page_of_access address (usable memory Store address)) page
 read_lacks memory address page bytes e h =
     subst (λ pages. Contains pages page) (copied_in_page memory address bytes) (contains_page address (copied_in memory address bytes) page e h)
+
+-- what the copy may have marked
+pub read_bound : (before after : (ℕ → Bool) → (ℕ → Bool) → Type 0) (memory : Memory) (address : ℕ) (bytes : List ℕ)
+    → Bounds before after (page_of_access address (copied_in memory address bytes)) (page_of_access address (copied_in memory address bytes))
+    → Bounds before after (page_of_access address (usable memory Store address)) (page_of_access address (usable memory Store address))
+read_bound before after memory address bytes was = subst (λ pages. Bounds before after pages pages) (copied_in_page memory address bytes) was
 
 pub ruleset reading = (read_used, read_uses_none, read_lacks)
 

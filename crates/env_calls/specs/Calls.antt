@@ -192,3 +192,11 @@ called_pages regs memory None = []
 
 unfoldable pub call_pages : Registers → Memory → List ℕ
 call_pages regs memory = called_pages regs memory (call_of (register regs a7))
+
+-- the pages among them that it stores to
+abbrev pub called_stores : Registers → Memory → Option Call → List ℕ
+called_stores regs memory (Some Read) = read_pages memory (register regs a1) (register regs a2)
+called_stores regs memory _ = []
+
+unfoldable pub call_stores : Registers → Memory → List ℕ
+call_stores regs memory = called_stores regs memory (call_of (register regs a7))

@@ -4,10 +4,10 @@ use Rattle.page_memory.specs.Memory.{Memory}
 use Rattle.rv_exec.specs.Registers.{Registers}
 use Rattle.rv_exec.specs.Line as line
 use Rattle.rv_exec.specs.Line.{Line}
-use Rattle.rv_exec.specs.Uses.{pages_used}
+use Rattle.rv_exec.specs.Uses.{pages_used, pages_stored}
 use Rattle.env_calls.specs.Environment.{Environment}
 use Rattle.env_calls.specs.Effect.{Effect, Runs, Traps}
-use Rattle.env_calls.specs.Calls.{call, call_pages}
+use Rattle.env_calls.specs.Calls.{call, call_pages, call_stores}
 
 abbrev pub effect_of : ℕ → Registers → Environment → Memory → Line → Effect
 effect_of hart regs env memory (line.Next regs' memory') = Runs regs' env memory'
@@ -26,3 +26,12 @@ served_pages regs memory (line.Traps cause value) = []
 -- the pages that the step uses: those of the instruction, then those of its call
 unfoldable pub step_pages : Registers → Memory → List ℕ
 step_pages regs memory = pages_used regs memory ++ served_pages regs memory (line.line regs memory)
+
+abbrev pub served_stores : Registers → Memory → Line → List ℕ
+served_stores regs memory (line.Next regs' memory') = []
+served_stores regs memory line.Call = call_stores regs memory
+served_stores regs memory (line.Traps cause value) = []
+
+-- the pages among them that it stores to
+unfoldable pub step_stores : Registers → Memory → List ℕ
+step_stores regs memory = pages_stored regs memory ++ served_stores regs memory (line.line regs memory)

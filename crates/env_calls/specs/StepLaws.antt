@@ -1,22 +1,23 @@
 -- What a step does, and the pages that it uses, by its line.
-use Rattle.std.specs.Prelude.{◌≡◌, ℕ, suc, ◌+◌, List, [], ◌∷◌, ◌++◌, length, Err, All, Contains}
+use Rattle.std.specs.Prelude.{◌≡◌, ℕ, Bool, true, suc, ◌+◌, List, [], ◌∷◌, ◌++◌, length, Err, All, Contains}
 use Rattle.std.proofs.Common.{arith, ap, sym, subst, ◌∙◌, append-nil, length-append}
 use Rattle.std.proofs.lemmas.List.{get_or_append_left, get_or-append-add}
 use Rattle.page_memory.specs.Memory.{Memory}
 use Rattle.rv_exec.specs.declared.cause.Cause.{Cause}
 use Rattle.rv_exec.specs.Registers.{Registers}
 use Rattle.rv_exec.specs.Line as line
-use Rattle.rv_exec.specs.LineLaws.{all_front}
+use Rattle.rv_exec.specs.LineLaws.{all_front, all_none}
+use Rattle.rv_exec.specs.Bounds.{Pass, Bounds}
 use Rattle.rv_exec.specs.Outcomes.{Used}
-use Rattle.rv_exec.specs.Uses.{pages_used}
+use Rattle.rv_exec.specs.Uses.{pages_used, pages_stored}
 use Rattle.env_calls.specs.declared.served.Served.{Served}
 use Rattle.env_calls.specs.declared.served.Served.TheVariants as served
 use Rattle.env_calls.specs.declared.served.ServeStop.{ServeStop}
 use Rattle.env_calls.specs.declared.served.ServeStop.TheVariants.{Absent, NoMemory}
 use Rattle.env_calls.specs.Environment.{Environment}
 use Rattle.env_calls.specs.Effect.{Effect, Runs, Traps}
-use Rattle.env_calls.specs.Calls.{call, call_pages}
-use Rattle.env_calls.specs.Step.{effect, effect_of, step_pages, served_pages}
+use Rattle.env_calls.specs.Calls.{call, call_pages, call_stores}
+use Rattle.env_calls.specs.Step.{effect, effect_of, step_pages, served_pages, step_stores, served_stores}
 use Rattle.env_calls.specs.Serving.{Serves, UsesPages}
 use Rattle.env_calls.specs.Stepping.{IsEffect, served_step}
 
@@ -111,6 +112,45 @@ stopped_call A B has marks lacks has' marks' lacks' regs regs' memory memory' st
       | NoMemory ↦ λ more. used_call has marks has' marks' regs regs' memory memory' e same_regs same_memory had marked first more
     ] rest
 
+-- ---- what the step may have marked
+
+front_passes : (test : ℕ → Bool) (front back : List ℕ) → Pass test (front ++ back) → Pass test front
+front_passes test [] back passes = all_none (λ p. test p ≡ true)
+front_passes test (page ∷ front) back passes =
+    all_front (λ p. test p ≡ true) page front (passes 0 page (omega arith)) (front_passes test front back (λ k d h. passes (suc k) d (omega arith)))
+
+back_passes : (test : ℕ → Bool) (front back : List ℕ) → Pass test (front ++ back) → Pass test back
+back_passes test [] back passes = passes
+back_passes test (page ∷ front) back passes = back_passes test front back (λ k d h. passes (suc k) d (omega arith))
+
+pub bound_first : (before after : (ℕ → Bool) → (ℕ → Bool) → Type 0) (regs : Registers) (memory : Memory)
+    → Bounds before after (pages_used regs memory) (pages_stored regs memory) → Bounds before after (step_pages regs memory) (step_stores regs memory)
+unfolding step_pages step_stores
+bound_first before after regs memory first =
+    let served : List ℕ = served_pages regs memory (line.line regs memory) in
+    let stores : List ℕ = served_stores regs memory (line.line regs memory) in
+    record { bound = λ u s passes stored was. first.bound u s (front_passes u (pages_used regs memory) served passes) (front_passes s (pages_stored regs memory) stores stored) was }
+
+call_stores_after : (regs regs' : Registers) (memory memory' : Memory) → line.line regs memory ≡ line.Call → regs' ≡ regs → memory' ≡ memory
+    → step_stores regs memory ≡ pages_stored regs memory ++ call_stores regs' memory'
+unfolding step_stores
+call_stores_after regs regs' memory memory' e same_regs same_memory =
+    let stored = pages_stored regs memory in
+    ap (λ l. stored ++ served_stores regs memory l) e ∙ ap (λ r. stored ++ call_stores r memory) (sym same_regs) ∙ ap (λ m. stored ++ call_stores regs' m) (sym same_memory)
+
+-- the same where a call followed
+pub bound_call : (before between after : (ℕ → Bool) → (ℕ → Bool) → Type 0) (regs regs' : Registers) (memory memory' : Memory)
+    → line.line regs memory ≡ line.Call → regs' ≡ regs → memory' ≡ memory
+    → Bounds before between (pages_used regs memory) (pages_stored regs memory) → Bounds between after (call_pages regs' memory') (call_stores regs' memory')
+    → Bounds before after (step_pages regs memory) (step_stores regs memory)
+bound_call before between after regs regs' memory memory' e same_regs same_memory first rest = record {
+  bound = λ u s passes stored was.
+      let used : Pass u (pages_used regs memory ++ call_pages regs' memory') = subst (Pass u) (call_pages_after regs regs' memory memory' e same_regs same_memory) passes in
+      let stores : Pass s (pages_stored regs memory ++ call_stores regs' memory') = subst (Pass s) (call_stores_after regs regs' memory memory' e same_regs same_memory) stored in
+      rest.bound u s (back_passes u (pages_used regs memory) (call_pages regs' memory') used) (back_passes s (pages_stored regs memory) (call_stores regs' memory') stores)
+      (first.bound u s (front_passes u (pages_used regs memory) (call_pages regs' memory') used) (front_passes s (pages_stored regs memory) (call_stores regs' memory') stores) was);
+}
+
 -- ---- what became of the hart
 
 pub is_effect : (e : Effect) (served : Served) (regs : Registers) (env : Environment) (memory : Memory)
@@ -121,4 +161,4 @@ is_effect e served.HartDone regs env memory h = h
 is_effect e (served.Ended status) regs env memory h = h
 is_effect e (served.Spawned hart first) regs env memory h = h
 
-pub ruleset stepping = (effect_next, effect_call, effect_traps, used_next, used_traps, step_contains)
+pub ruleset stepping = (effect_next, effect_call, effect_traps, used_next, used_traps, step_contains, bound_first)

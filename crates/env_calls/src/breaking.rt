@@ -1,6 +1,7 @@
 //! The call that moves the break.
-ghost use Rattle.std.specs.Prelude.{◌≡◌, ◌+◌, ◌*◌, ◌^◌, ◌<◌, ◌≤◌, true, Err, IfOk, OnErr};
+ghost use Rattle.std.specs.Prelude.{◌≡◌, ◌+◌, ◌*◌, ◌^◌, ◌<◌, ◌≤◌, [], true, Err, IfOk, OnErr};
 ghost use Rattle.page_memory.specs.MemoryMap.{image_end, most_pages};
+ghost use Rattle.rv_exec.specs.Bounds.{Bounds};
 ghost use Rattle.rv_exec.specs.Registers.{register};
 ghost use Rattle.env_calls.specs.Calls.{move_break, moved_break, pages_to_add, a0};
 ghost use Rattle.env_calls.specs.Serving.{Serves, TakesMemory};
@@ -21,6 +22,7 @@ pub fn serve_break<B: Bus>(env: &mut Env, regs: &mut Regs, bus: &mut B) -> Resul
     ensures stop { OnErr result (result ≡ Err ServeStop.NoMemory) }
     ensures no_memory { let effect = move_break regs.old env.old (B.memory bus.old) (register regs.old a0) in
         result ≡ Err ServeStop.NoMemory → TakesMemory env.old effect }
+    ensures bound { Bounds (B.within bus.old) (B.within bus.new) [] [] }
     ensures kept { B.keeps bus.old bus.new }
 {
     let request = regs.x(A0);
@@ -50,6 +52,7 @@ fn grant_break<B: Bus>(
     ensures stop { OnErr result (result ≡ Err ServeStop.NoMemory) }
     ensures no_memory { let effect = moved_break regs.old env.old (B.memory bus.old) request true in
         result ≡ Err ServeStop.NoMemory → TakesMemory env.old effect }
+    ensures bound { Bounds (B.within bus.old) (B.within bus.new) [] [] }
     ensures kept { B.keeps bus.old bus.new }
 {
     let added = env.pages_to_add(request);

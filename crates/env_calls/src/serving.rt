@@ -1,5 +1,6 @@
 ghost use Rattle.std.specs.Prelude.{◌≡◌, Err, IfOk, OnErr};
-ghost use Rattle.env_calls.specs.Calls.{call, call_pages};
+ghost use Rattle.env_calls.specs.Calls.{call, call_pages, call_stores};
+ghost use Rattle.rv_exec.specs.Bounds.{Bounds};
 ghost use Rattle.env_calls.specs.Serving.{Serves, TakesMemory, UsesPages};
 
 use crate::answering::{A0, A7, NO_SUCH_CALL, answer};
@@ -26,7 +27,7 @@ use rv_exec::{Bus, Regs};
 ///
 /// A read or a write where its page lacks the right answers -14, any other number -38.
 #[cold]
-#[tactic(auto, unfolding(crate::specs::Calls::answers, crate::specs::Calls::call, crate::specs::Calls::call_pages))]
+#[tactic(auto, unfolding(crate::specs::Calls::answers, crate::specs::Calls::call, crate::specs::Calls::call_pages, crate::specs::Calls::call_stores))]
 pub fn serve<B: Bus>(
     env: &mut Env,
     hart: u32,
@@ -42,6 +43,8 @@ pub fn serve<B: Bus>(
     // Absent only for a page that the call uses and the bus lacks; else the bus had all that it used, and marked them.
     ensures pages { let used = call_pages regs.old (B.memory bus.old) in
         UsesPages (B.has bus.old) (B.marks bus.new) (B.lacks bus.old) used result }
+    ensures bound { let memory = B.memory bus.old in
+        Bounds (B.within bus.old) (B.within bus.new) (call_pages regs.old memory) (call_stores regs.old memory) }
 
     // Only output and new pages take memory.
     ensures no_memory { result ≡ Err ServeStop.NoMemory → TakesMemory env.old (call hart regs.old env.old (B.memory bus.old)) }

@@ -1,5 +1,6 @@
 ghost use Rattle.std.specs.Prelude.{◌≡◌, Err, IfOk, OnErr};
-ghost use Rattle.env_calls.specs.Step.{effect, step_pages};
+ghost use Rattle.env_calls.specs.Step.{effect, step_pages, step_stores};
+ghost use Rattle.rv_exec.specs.Bounds.{Bounds};
 ghost use Rattle.env_calls.specs.Serving.{TakesMemory, UsesPages};
 ghost use Rattle.env_calls.specs.Stepping.{IsEffect, Stays, served_step};
 
@@ -48,6 +49,8 @@ pub fn step<B: Bus>(
     // Absent only for a page that the step uses and the bus lacks; else the bus had all that it used, and marked them.
     ensures pages { let used = step_pages regs.old (B.memory bus.old) in
         UsesPages (B.has bus.old) (B.marks bus.new) (B.lacks bus.old) used result }
+    ensures bound { let memory = B.memory bus.old in
+        Bounds (B.within bus.old) (B.within bus.new) (step_pages regs.old memory) (step_stores regs.old memory) }
 
     // Only output and new pages take memory.
     ensures no_memory { result ≡ Err ServeStop.NoMemory → TakesMemory env.old (effect hart regs.old env.old (B.memory bus.old)) }

@@ -1,9 +1,10 @@
 //! Reading the input and writing the output: bytes of one page at once.
-ghost use Rattle.std.specs.Prelude.{◌≡◌, ◌≢◌, ◌+◌, ◌<◌, ◌≤◌, Err, IfOk, OnErr, length, take};
+ghost use Rattle.std.specs.Prelude.{◌≡◌, ◌≢◌, ◌+◌, ◌<◌, ◌≤◌, Err, IfOk, OnErr, [], length, take};
 ghost use Rattle.page_memory.specs.Words.{page_offset};
 ghost use Rattle.page_memory.specs.Memory.{usable, copied_out, copied_in};
 ghost use Rattle.page_memory.specs.declared.words.Access.{Access};
 ghost use Rattle.rv_exec.specs.Registers.{register};
+ghost use Rattle.rv_exec.specs.Bounds.{Bounds};
 ghost use Rattle.rv_exec.specs.Uses.{page_of_access};
 ghost use Rattle.env_calls.specs.Calls.{read, did_read, read_pages, count_to_read, write, wrote, write_pages, count_in_page, a1, a2};
 ghost use Rattle.env_calls.specs.Serving.{Serves, TakesMemory, UsesPages};
@@ -47,6 +48,8 @@ pub fn serve_read<B: Bus>(env: &mut Env, regs: &mut Regs, bus: &mut B) -> Result
     ensures memory_stays { OnErr result (B.memory bus.new ≡ B.memory bus.old) }
     ensures pages { let used = read_pages (B.memory bus.old) (register regs.old a1) (register regs.old a2) in
         UsesPages (B.has bus.old) (B.marks bus.new) (B.lacks bus.old) used result }
+    ensures bound { let used = read_pages (B.memory bus.old) (register regs.old a1) (register regs.old a2) in
+        Bounds (B.within bus.old) (B.within bus.new) used used }
     ensures no_memory { result ≢ Err ServeStop.NoMemory }
     ensures kept { B.keeps bus.old bus.new }
 {
@@ -61,7 +64,7 @@ pub fn serve_read<B: Bus>(env: &mut Env, regs: &mut Regs, bus: &mut B) -> Result
 }
 
 /// Copies so many of the next bytes of the input into one page, and answers their number.
-#[tactic(auto, unfolding(crate::specs::Calls::answers), using(crate::specs::CallLaws::reading))]
+#[tactic(auto, unfolding(crate::specs::Calls::answers), using(crate::specs::CallLaws::reading, crate::specs::CallLaws::read_bound))]
 fn read_in_page<B: Bus>(
     env: &mut Env,
     regs: &mut Regs,
@@ -79,6 +82,8 @@ fn read_in_page<B: Bus>(
     ensures memory_stays { OnErr result (B.memory bus.new ≡ B.memory bus.old) }
     ensures pages { let used = page_of_access address (usable (B.memory bus.old) Access.Store address) in
         UsesPages (B.has bus.old) (B.marks bus.new) (B.lacks bus.old) used result }
+    ensures bound { let used = page_of_access address (usable (B.memory bus.old) Access.Store address) in
+        Bounds (B.within bus.old) (B.within bus.new) used used }
     ensures no_memory { result ≢ Err ServeStop.NoMemory }
     ensures kept { B.keeps bus.old bus.new }
 {
@@ -103,6 +108,8 @@ pub fn serve_write<B: Bus>(env: &mut Env, regs: &mut Regs, bus: &mut B) -> Resul
     ensures memory_stays { OnErr result (B.memory bus.new ≡ B.memory bus.old) }
     ensures pages { let used = write_pages (B.memory bus.old) (register regs.old a1) (register regs.old a2) in
         UsesPages (B.has bus.old) (B.marks bus.new) (B.lacks bus.old) used result }
+    ensures bound { let used = write_pages (B.memory bus.old) (register regs.old a1) (register regs.old a2) in
+        Bounds (B.within bus.old) (B.within bus.new) used [] }
     ensures no_memory { let memory = B.memory bus.old in
         let effect = write regs.old env.old memory (register regs.old a1) (register regs.old a2) in
         result ≡ Err ServeStop.NoMemory → TakesMemory env.old effect }
@@ -136,6 +143,8 @@ fn write_in_page<B: Bus>(
     ensures memory_stays { OnErr result (B.memory bus.new ≡ B.memory bus.old) }
     ensures pages { let used = page_of_access address (copied_out (B.memory bus.old) address count) in
         UsesPages (B.has bus.old) (B.marks bus.new) (B.lacks bus.old) used result }
+    ensures bound { let used = page_of_access address (copied_out (B.memory bus.old) address count) in
+        Bounds (B.within bus.old) (B.within bus.new) used [] }
     ensures no_memory { let bytes = copied_out (B.memory bus.old) address count in
         let effect = wrote regs.old env.old (B.memory bus.old) count bytes in
         result ≡ Err ServeStop.NoMemory → TakesMemory env.old effect }

@@ -18,3 +18,4 @@ pub mod Reading
 pub mod RefusalNumber
 pub mod SavingOut
 pub mod TotalLaws
+pub mod Coherent

@@ -5,6 +5,7 @@
 #![tactic(auto)]
 
 mod apply;
+mod coherence;
 mod core_collect;
 mod core_page_in;
 mod core_purge;

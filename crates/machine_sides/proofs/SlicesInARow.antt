@@ -17,6 +17,7 @@ one_slice held honest hart ran why old new one = record {
   within = one.within;
   stops = one.stops;
   pages = one.pages;
+  bound = one.bound;
   kept = one.kept;
   stands = one.stands;
 }

@@ -1,7 +1,8 @@
-ghost use Rattle.std.specs.Prelude.{◌≡◌, ◌<◌, ◌^◌, true, false, option_copied, slice_get, slice_index_or};
+ghost use Rattle.std.specs.Prelude.{◌≡◌, ◌<◌, ◌^◌, true, false, length, option_copied, slice_get, slice_index_or};
 ghost use Rattle.paged_memory.specs.Access.{is_resident};
 ghost use Rattle.machine_sides.specs.Admitting.{stage_at, is_absent_at, is_resident_at};
-ghost use Rattle.paged_memory.specs.Paged.{seen_at};
+ghost use Rattle.paged_memory.specs.Coherence.{MarksClear, HoldsFramed, WalksLead};
+ghost use Rattle.paged_memory.specs.Paged.{Holds, seen_at};
 ghost use Rattle.machine_sides.specs.ProcessCalls.{Slices, StepsOnce, TakesNotices, IsKilled};
 ghost use Rattle.machine_sides.specs.Sweeping.{bit_at, ReadsBit, Evicts};
 ghost use Rattle.space_core.specs.StandsFor.{StandsFor, own_ending};
@@ -34,7 +35,12 @@ impl<L: Ledger, S: SwapSlot> Model for ProcessSide<L, S> {
 impl<L: Ledger, S: SwapSlot> ProcessSide<L, S> {
     /// What holds of it between any two calls: see [`Space::coherent`]. It does nothing.
     pub fn coherent(&self)
-        ensures { S.honest → StandsFor S.content self.now.space }
+        ensures stands { S.honest → StandsFor S.content self.now.space }
+        ensures harts { length self.now.space.memory.caches ≡ length self.now.space.running.harts }
+        ensures agree { Holds S.content S.honest self.now.space.memory.pages self.now.space.memory.tables self.now.space.memory.caches }
+        ensures accessed { MarksClear self.now.space.memory.pages self.now.space.memory.tables self.now.space.memory.caches }
+        ensures framed { HoldsFramed self.now.space.memory.pages self.now.space.memory.caches }
+        ensures walks { WalksLead self.now.space.memory.pages self.now.space.memory.tables }
     {
         self.space.coherent();
     }

@@ -21,3 +21,4 @@ pub mod GivingBackLaws
 pub mod FirstGiving
 pub mod PeekingLaws
 pub mod CoherenceLaws
+pub mod Marking

@@ -1,5 +1,5 @@
 -- What a hart's accesses keep of a process's memory, beside what it holds.
-use Rattle.std.specs.Prelude.{◌≡◌, ◌≢◌, ℕ, ◌^◌, ◌<◌, ◌⊎◌, true, is_some, Some, None, List, length}
+use Rattle.std.specs.Prelude.{◌≡◌, ◌≢◌, ℕ, ◌^◌, ◌<◌, ◌⊎◌, Bool, true, is_some, Some, None, List, length}
 use Rattle.page_memory.specs.Entries.{place_of}
 use Rattle.page_store.specs.PageValue.{PageValue}
 use Rattle.sv32_table.specs.EntryAt.{entry_at}
@@ -36,3 +36,8 @@ MarksSince memory opening page = (page < 2 ^ 20) × ((is_used (seen_at memory.pa
 pub record InTurn {S : Type 0} (hart : ℕ) (opening : List Translation) (memory : PagedValue S) : Type 0 where
   pub started : hart < length memory.caches
   pub doomed : (page : ℕ) → is_doomed page (cache_of memory.caches hart) ≡ true → is_doomed page opening ≡ true
+
+-- tests hold of pages whose marks are set in the tables: of each page with A the first, and of each with D the second
+pub record MarksWithin (tables : List (List ℕ)) (used stored : ℕ → Bool) : Type 0 where
+  pub accessed : (page : ℕ) → page < 2 ^ 20 → (entry_at tables page).accessed ≡ true → used page ≡ true
+  pub dirty : (page : ℕ) → page < 2 ^ 20 → (entry_at tables page).dirty ≡ true → stored page ≡ true

@@ -56,7 +56,7 @@ impl<'a, L: Ledger, S: SwapSlot, O: Opening> Bus for HartMemory<'a, L, S, O> {
     ghost use Rattle.std.specs.Prelude.{ℕ};
     ghost use Rattle.std.proofs.Common.{refl, ◌∙◌, subst};
     ghost use Rattle.paged_memory.specs.Access.{HasPage, LacksPage};
-    ghost use Rattle.paged_memory.specs.HartMemory.{MarksSince};
+    ghost use Rattle.paged_memory.specs.HartMemory.{MarksSince, MarksWithin};
     ghost use Rattle.paged_memory.specs.HartMemoryLaws.{access_itself, access_on, lacked, had, marked};
 
     ghost memory = { λ m. memory_of S.content m.memory.now.pages };
@@ -66,6 +66,8 @@ impl<'a, L: Ledger, S: SwapSlot, O: Opening> Bus for HartMemory<'a, L, S, O> {
     ghost has = { λ m. HasPage m.memory.now.pages (cache_of m.memory.now.caches m.hart) };
 
     ghost marks = { λ m. MarksSince m.memory.now O.opening };
+
+    ghost within = { λ m. MarksWithin m.memory.now.tables };
 
     ghost keeps = { λ old new. (new.hart ≡ old.hart) × (new.memory.ghost_name ≡ old.memory.ghost_name) × KeepsAccess old.hart old.memory.now new.memory.now };
 
@@ -107,7 +109,7 @@ impl<'a, L: Ledger, S: SwapSlot, O: Opening> Bus for HartMemory<'a, L, S, O> {
         self.memory.copy_in(self.hart, address, from)
     }
 
-    #[tactic(auto, using(crate::proofs::GrowthLaws::kept_grown, crate::proofs::GrowthLaws::lacking_some, crate::specs::HartMemoryLaws::access_grown))]
+    #[tactic(auto, using(crate::proofs::GrowthLaws::kept_grown, crate::proofs::GrowthLaws::lacking_some, crate::specs::HartMemoryLaws::access_grown, crate::proofs::Marking::bounds_same))]
     fn map_zeroed(&mut self, first: u32, count: u32) -> Result<(), AllocError> {
         self.memory.map_zeroed(first, count)
     }

@@ -49,3 +49,24 @@ fetched_pages regs memory (Err fault) = []
 -- the page of the fetch, then those of the data
 unfoldable pub pages_used : Registers → Memory → List ℕ
 pages_used regs memory = fetched_pages regs memory (fetched memory regs.pc)
+
+-- ---- the pages among them that it stores to
+
+-- an atomic operation stores, whatever it leaves
+unfoldable pub data_stores : Registers → Memory → Insn → List ℕ
+data_stores regs memory (Store kind rs1 rs2 offset) =
+    store_pages memory kind (address_at regs rs1 offset) (register regs rs2)
+data_stores regs memory (Amo kind acquire release rd rs1 rs2) =
+    amo_pages memory kind (register regs rs1) (register regs rs2)
+data_stores regs memory _ = []
+
+abbrev pub decoded_stores : Registers → Memory → Option Insn → List ℕ
+decoded_stores regs memory None = []
+decoded_stores regs memory (Some insn) = data_stores regs memory insn
+
+abbrev pub fetched_stores : Registers → Memory → Result ℕ MemoryFault → List ℕ
+fetched_stores regs memory (Ok word) = decoded_stores regs memory (insn_of word)
+fetched_stores regs memory (Err fault) = []
+
+unfoldable pub pages_stored : Registers → Memory → List ℕ
+pages_stored regs memory = fetched_stores regs memory (fetched memory regs.pc)

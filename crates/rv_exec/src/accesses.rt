@@ -1,11 +1,12 @@
 //! Loads, stores and atomic memory operations: one access of the bus each (unprivileged manual, "Load and Store
 //! Instructions" and "Zaamo").
-ghost use Rattle.std.specs.Prelude.{◌≡◌};
+ghost use Rattle.std.specs.Prelude.{◌≡◌, []};
 ghost use Rattle.rv_exec.specs.Access.{load_width, store_width, extended};
 ghost use Rattle.rv_exec.specs.Registers.{register};
 ghost use Rattle.rv_exec.specs.Line.{address_at, load_line, store_line, amo_line};
 ghost use Rattle.rv_exec.specs.Uses.{load_pages, store_pages, amo_pages};
 ghost use Rattle.rv_exec.specs.Outcomes.{Follows, UnlessDone, UsesPages};
+ghost use Rattle.rv_exec.specs.Bounds.{Bounds};
 
 use crate::advance::{advance, compute};
 use crate::arithmetic::add;
@@ -32,6 +33,7 @@ pub fn perform_load<B: Bus>(
     ensures memory_stays { UnlessDone result (B.memory bus.new ≡ B.memory bus.old) }
     ensures pages { let used = load_pages (B.memory bus.old) kind (address_at regs.old rs1 offset) in
         UsesPages (B.has bus.old) (B.marks bus.new) (B.lacks bus.old) used result }
+    ensures bound { Bounds (B.within bus.old) (B.within bus.new) (load_pages (B.memory bus.old) kind (address_at regs.old rs1 offset)) [] }
     ensures kept { B.keeps bus.old bus.new }
 {
     let address = add(regs.read(rs1), offset.word());
@@ -47,6 +49,7 @@ fn load_from<B: Bus>(regs: &mut Regs, bus: &mut B, kind: LoadKind, rd: Reg, addr
     ensures memory_stays { UnlessDone result (B.memory bus.new ≡ B.memory bus.old) }
     ensures pages { let used = load_pages (B.memory bus.old) kind address in
         UsesPages (B.has bus.old) (B.marks bus.new) (B.lacks bus.old) used result }
+    ensures bound { Bounds (B.within bus.old) (B.within bus.new) (load_pages (B.memory bus.old) kind address) [] }
     ensures kept { B.keeps bus.old bus.new }
 {
     match kind {
@@ -60,7 +63,7 @@ fn load_from<B: Bus>(regs: &mut Regs, bus: &mut B, kind: LoadKind, rd: Reg, addr
 
 /// The same in one inlined copy for each kind, which is a constant there.
 #[inline(always)]
-#[tactic(auto, using(crate::specs::AccessLaws::loading))]
+#[tactic(auto, using(crate::specs::AccessLaws::loading), unfolding(crate::specs::Uses::load_pages, crate::specs::Uses::store_pages, crate::specs::Uses::amo_pages))]
 fn load_of_kind<B: Bus>(
     regs: &mut Regs,
     bus: &mut B,
@@ -74,6 +77,7 @@ fn load_of_kind<B: Bus>(
     ensures memory_stays { UnlessDone result (B.memory bus.new ≡ B.memory bus.old) }
     ensures pages { let used = load_pages (B.memory bus.old) kind address in
         UsesPages (B.has bus.old) (B.marks bus.new) (B.lacks bus.old) used result }
+    ensures bound { Bounds (B.within bus.old) (B.within bus.new) (load_pages (B.memory bus.old) kind address) [] }
     ensures kept { B.keeps bus.old bus.new }
 {
     match bus.load(width_of_load(kind), address) {
@@ -99,6 +103,8 @@ pub fn perform_store<B: Bus>(
     ensures memory_stays { UnlessDone result (B.memory bus.new ≡ B.memory bus.old) }
     ensures pages { let used = store_pages (B.memory bus.old) kind (address_at regs.old rs1 offset) (register regs.old rs2) in
         UsesPages (B.has bus.old) (B.marks bus.new) (B.lacks bus.old) used result }
+    ensures bound { let used = store_pages (B.memory bus.old) kind (address_at regs.old rs1 offset) (register regs.old rs2) in
+        Bounds (B.within bus.old) (B.within bus.new) used used }
     ensures kept { B.keeps bus.old bus.new }
 {
     let address = add(regs.read(rs1), offset.word());
@@ -121,6 +127,8 @@ fn store_to<B: Bus>(
     ensures memory_stays { UnlessDone result (B.memory bus.new ≡ B.memory bus.old) }
     ensures pages { let used = store_pages (B.memory bus.old) kind address word in
         UsesPages (B.has bus.old) (B.marks bus.new) (B.lacks bus.old) used result }
+    ensures bound { let used = store_pages (B.memory bus.old) kind address word in
+        Bounds (B.within bus.old) (B.within bus.new) used used }
     ensures kept { B.keeps bus.old bus.new }
 {
     match kind {
@@ -132,7 +140,7 @@ fn store_to<B: Bus>(
 
 /// The same in one inlined copy for each kind, which is a constant there.
 #[inline(always)]
-#[tactic(auto, using(crate::specs::AccessLaws::storing))]
+#[tactic(auto, using(crate::specs::AccessLaws::storing), unfolding(crate::specs::Uses::load_pages, crate::specs::Uses::store_pages, crate::specs::Uses::amo_pages))]
 fn store_of_kind<B: Bus>(
     regs: &mut Regs,
     bus: &mut B,
@@ -146,6 +154,8 @@ fn store_of_kind<B: Bus>(
     ensures memory_stays { UnlessDone result (B.memory bus.new ≡ B.memory bus.old) }
     ensures pages { let used = store_pages (B.memory bus.old) kind address word in
         UsesPages (B.has bus.old) (B.marks bus.new) (B.lacks bus.old) used result }
+    ensures bound { let used = store_pages (B.memory bus.old) kind address word in
+        Bounds (B.within bus.old) (B.within bus.new) used used }
     ensures kept { B.keeps bus.old bus.new }
 {
     match bus.store(width_of_store(kind), address, word) {
@@ -157,7 +167,7 @@ fn store_of_kind<B: Bus>(
 
 /// Replaces the word at an address by the operation's result, and keeps the old word in rd.
 #[inline]
-#[tactic(auto, using(crate::specs::AccessLaws::replacing))]
+#[tactic(auto, using(crate::specs::AccessLaws::replacing), unfolding(crate::specs::Uses::load_pages, crate::specs::Uses::store_pages, crate::specs::Uses::amo_pages))]
 pub fn perform_amo<B: Bus>(
     regs: &mut Regs,
     bus: &mut B,
@@ -172,6 +182,8 @@ pub fn perform_amo<B: Bus>(
     ensures memory_stays { UnlessDone result (B.memory bus.new ≡ B.memory bus.old) }
     ensures pages { let used = amo_pages (B.memory bus.old) kind address operand in
         UsesPages (B.has bus.old) (B.marks bus.new) (B.lacks bus.old) used result }
+    ensures bound { let used = amo_pages (B.memory bus.old) kind address operand in
+        Bounds (B.within bus.old) (B.within bus.new) used used }
     ensures kept { B.keeps bus.old bus.new }
 {
     match bus.amo(address, kind, operand) {

@@ -1,4 +1,4 @@
-ghost use Rattle.std.specs.Prelude.{◌≡◌, ℕ, ◌+◌, ◌^◌, ◌<◌, ◌≤◌, length, OnOk, OnErr, IsErr};
+ghost use Rattle.std.specs.Prelude.{◌≡◌, ℕ, Bool, ◌+◌, ◌^◌, ◌<◌, ◌≤◌, [], length, OnOk, OnErr, IsErr};
 ghost use Rattle.page_memory.specs.Words.{page_offset};
 ghost use Rattle.page_memory.specs.Memory.{Memory, fetched, loaded, stored, replaced, copied_out, copied_in, with_zeroed};
 
@@ -31,6 +31,8 @@ impl From<MemoryFault> for BusError {
 pub trait Bus {
     ghost use Rattle.rv_exec.specs.Answers.{Answers, with_answer};
     ghost use Rattle.rv_exec.specs.Amo.{amo_result};
+    ghost use Rattle.rv_exec.specs.Bounds.{Bounds};
+    ghost use Rattle.rv_exec.specs.Uses.{page_of_access};
 
     /// The memory that the bus stands for.
     ghost memory: { Self → Memory };
@@ -44,6 +46,10 @@ pub trait Bus {
     /// The pages whose use it has marked.
     ghost marks: { Self → ℕ → Type 0 };
 
+    /// That no mark is set but of pages of which tests hold: of each page that is marked as used the first, and of
+    /// each that is marked as stored to the second.
+    ghost within: { Self → (ℕ → Bool) → (ℕ → Bool) → Type 0 };
+
     /// What holds of the bus before and after any calls; `memory` aside, all that stays.
     ghost keeps: { Self → Self → Type 0 };
 
@@ -52,6 +58,7 @@ pub trait Bus {
         ensures answer { let expected = fetched (memory self.old) address in
             Answers (has self.old) (marks self.new) (lacks self.old) address expected result }
         ensures same { memory self.new ≡ memory self.old }
+        ensures bound { let pages = page_of_access address (fetched (memory self.old) address) in Bounds (within self.old) (within self.new) pages [] }
         ensures kept { keeps self.old self.new };
 
     /// The number at an address, not extended.
@@ -59,6 +66,7 @@ pub trait Bus {
         ensures answer { let expected = loaded (memory self.old) width address in
             Answers (has self.old) (marks self.new) (lacks self.old) address expected result }
         ensures same { memory self.new ≡ memory self.old }
+        ensures bound { let pages = page_of_access address (loaded (memory self.old) width address) in Bounds (within self.old) (within self.new) pages [] }
         ensures kept { keeps self.old self.new };
 
     /// Stores the low bytes of a word.
@@ -67,6 +75,7 @@ pub trait Bus {
             let after = with_answer (λ _. memory self.new) result in
             Answers (has self.old) (marks self.new) (lacks self.old) address expected after }
         ensures refused { OnErr result (memory self.new ≡ memory self.old) }
+        ensures bound { let pages = page_of_access address (stored (memory self.old) width address word) in Bounds (within self.old) (within self.new) pages pages }
         ensures kept { keeps self.old self.new };
 
     /// Replaces the word at an address by the operation's result, in one step, and answers the old word.
@@ -76,6 +85,7 @@ pub trait Bus {
             let after = with_answer (λ old. (old, memory self.new)) result in
             Answers (has self.old) (marks self.new) (lacks self.old) address expected after }
         ensures refused { OnErr result (memory self.new ≡ memory self.old) }
+        ensures bound { let pages = page_of_access address (replaced (memory self.old) (λ (old : ℕ). amo_result operation old operand) address) in Bounds (within self.old) (within self.new) pages pages }
         ensures kept { keeps self.old self.new };
 
     /// Copies bytes of one page to a slice.
@@ -86,6 +96,7 @@ pub trait Bus {
             Answers (has self.old) (marks self.new) (lacks self.old) address expected copied }
         ensures refused { OnErr result (to.new ≡ to.old) }
         ensures same { memory self.new ≡ memory self.old }
+        ensures bound { let pages = page_of_access address (copied_out (memory self.old) address (length to.old)) in Bounds (within self.old) (within self.new) pages [] }
         ensures kept { keeps self.old self.new };
 
     /// Copies a slice into one page.
@@ -95,6 +106,7 @@ pub trait Bus {
             let after = with_answer (λ _. memory self.new) result in
             Answers (has self.old) (marks self.new) (lacks self.old) address expected after }
         ensures refused { OnErr result (memory self.new ≡ memory self.old) }
+        ensures bound { let pages = page_of_access address (copied_in (memory self.old) address from.now) in Bounds (within self.old) (within self.new) pages pages }
         ensures kept { keeps self.old self.new };
 
     /// Maps pages of zeros that may be read and written at so many page numbers from the first on, wherever
@@ -104,6 +116,7 @@ pub trait Bus {
         ensures mapped { OnOk result (memory self.new ≡ with_zeroed first count (memory self.old)) }
         ensures refused { OnErr result (memory self.new ≡ memory self.old) }
         ensures some { IsErr result → 0 < count }
+        ensures bound { Bounds (within self.old) (within self.new) [] [] }
         ensures kept { keeps self.old self.new };
 
     // `keeps` is a preorder; no page is lacked or had after it that was not before, and what is marked stays so.

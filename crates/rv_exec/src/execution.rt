@@ -2,7 +2,8 @@ ghost use Rattle.std.specs.Prelude.{◌≡◌, []};
 ghost use Rattle.page_memory.specs.Memory.{Memory};
 ghost use Rattle.rv_isa.specs.Table.{insn_of, jalr_of, branch_of, load_of, store_of, op_immediate_of, shift_of, op_of, fence_of, amo_of, system_of};
 ghost use Rattle.rv_exec.specs.Line.{decoded_line, line};
-ghost use Rattle.rv_exec.specs.Uses.{decoded_pages, pages_used};
+ghost use Rattle.rv_exec.specs.Bounds.{Bounds};
+ghost use Rattle.rv_exec.specs.Uses.{decoded_pages, decoded_stores, pages_used, pages_stored};
 ghost use Rattle.rv_exec.specs.Outcomes.{Follows, UnlessDone, UsesPages, IsPresent};
 
 use crate::accesses::{perform_amo, perform_load, perform_store};
@@ -32,6 +33,8 @@ pub fn execute<B: Bus>(regs: &mut Regs, bus: &mut B) -> Outcome
     // Absent only for a page that the instruction uses and the bus lacks; else the bus has all that it used.
     ensures pages { let used = pages_used regs.old (B.memory bus.old) in
         UsesPages (B.has bus.old) (B.marks bus.new) (B.lacks bus.old) used result }
+    ensures bound { let memory = B.memory bus.old in
+        Bounds (B.within bus.old) (B.within bus.new) (pages_used regs.old memory) (pages_stored regs.old memory) }
     ensures kept { B.keeps bus.old bus.new }
 {
     let pc = regs.pc();
@@ -45,7 +48,7 @@ pub fn execute<B: Bus>(regs: &mut Regs, bus: &mut B) -> Outcome
 /// Does what the table says of a word that was fetched at pc. The word's fields go straight to what is done with them: it is as
 /// if the word was decoded, but no instruction is built, which would take as long as to run it.
 #[inline(always)]
-#[tactic(auto, unfolding(rv_isa::specs::Table::insn_of, rv_isa::specs::Table::operation_of, crate::specs::Line::insn_line, crate::specs::Uses::data_pages))]
+#[tactic(auto, unfolding(rv_isa::specs::Table::insn_of, rv_isa::specs::Table::operation_of, crate::specs::Line::insn_line, crate::specs::Uses::data_pages, crate::specs::Uses::data_stores))]
 fn perform<B: Bus>(regs: &mut Regs, bus: &mut B, word: u32) -> Outcome
     ensures line { let line = decoded_line regs.old (B.memory bus.old) word (insn_of word) in
         Follows line result regs.new (B.memory bus.new) }
@@ -53,6 +56,8 @@ fn perform<B: Bus>(regs: &mut Regs, bus: &mut B, word: u32) -> Outcome
     ensures memory_stays { UnlessDone result (B.memory bus.new ≡ B.memory bus.old) }
     ensures pages { let used = decoded_pages regs.old (B.memory bus.old) (insn_of word) in
         UsesPages (B.has bus.old) (B.marks bus.new) (B.lacks bus.old) used result }
+    ensures bound { let memory = B.memory bus.old in
+        Bounds (B.within bus.old) (B.within bus.new) (decoded_pages regs.old memory (insn_of word)) (decoded_stores regs.old memory (insn_of word)) }
     ensures kept { B.keeps bus.old bus.new }
 {
     match opcode(word) {
@@ -85,7 +90,7 @@ fn illegal(word: u32) -> Outcome
 
 /// Opcode JALR.
 #[inline(always)]
-#[tactic(auto, unfolding(rv_isa::specs::Table::jalr_of, crate::specs::Line::insn_line, crate::specs::Uses::data_pages))]
+#[tactic(auto, unfolding(rv_isa::specs::Table::jalr_of, crate::specs::Line::insn_line, crate::specs::Uses::data_pages, crate::specs::Uses::data_stores))]
 fn jalr(regs: &mut Regs, word: u32) -> Outcome
     ensures line { (memory : Memory) → Follows (decoded_line regs.old memory word (jalr_of word)) result regs.new memory }
     ensures registers_stay { UnlessDone result (regs.new ≡ regs.old) }
@@ -101,7 +106,7 @@ fn jalr(regs: &mut Regs, word: u32) -> Outcome
 
 /// Opcode BRANCH.
 #[inline(always)]
-#[tactic(auto, unfolding(rv_isa::specs::Table::branch_of, crate::specs::Line::insn_line, crate::specs::Uses::data_pages))]
+#[tactic(auto, unfolding(rv_isa::specs::Table::branch_of, crate::specs::Line::insn_line, crate::specs::Uses::data_pages, crate::specs::Uses::data_stores))]
 fn branch(regs: &mut Regs, word: u32) -> Outcome
     ensures line { (memory : Memory) → Follows (decoded_line regs.old memory word (branch_of word)) result regs.new memory }
     ensures registers_stay { UnlessDone result (regs.new ≡ regs.old) }
@@ -116,7 +121,7 @@ fn branch(regs: &mut Regs, word: u32) -> Outcome
 
 /// Opcode LOAD.
 #[inline(always)]
-#[tactic(auto, unfolding(rv_isa::specs::Table::load_of, crate::specs::Line::insn_line, crate::specs::Uses::data_pages))]
+#[tactic(auto, unfolding(rv_isa::specs::Table::load_of, crate::specs::Line::insn_line, crate::specs::Uses::data_pages, crate::specs::Uses::data_stores))]
 fn load<B: Bus>(regs: &mut Regs, bus: &mut B, word: u32) -> Outcome
     ensures line { let line = decoded_line regs.old (B.memory bus.old) word (load_of word) in
         Follows line result regs.new (B.memory bus.new) }
@@ -124,6 +129,8 @@ fn load<B: Bus>(regs: &mut Regs, bus: &mut B, word: u32) -> Outcome
     ensures memory_stays { UnlessDone result (B.memory bus.new ≡ B.memory bus.old) }
     ensures pages { let used = decoded_pages regs.old (B.memory bus.old) (load_of word) in
         UsesPages (B.has bus.old) (B.marks bus.new) (B.lacks bus.old) used result }
+    ensures bound { let memory = B.memory bus.old in
+        Bounds (B.within bus.old) (B.within bus.new) (decoded_pages regs.old memory (load_of word)) (decoded_stores regs.old memory (load_of word)) }
     ensures kept { B.keeps bus.old bus.new }
 {
     match load_kind(word) {
@@ -134,7 +141,7 @@ fn load<B: Bus>(regs: &mut Regs, bus: &mut B, word: u32) -> Outcome
 
 /// Opcode STORE.
 #[inline(always)]
-#[tactic(auto, unfolding(rv_isa::specs::Table::store_of, crate::specs::Line::insn_line, crate::specs::Uses::data_pages))]
+#[tactic(auto, unfolding(rv_isa::specs::Table::store_of, crate::specs::Line::insn_line, crate::specs::Uses::data_pages, crate::specs::Uses::data_stores))]
 fn store<B: Bus>(regs: &mut Regs, bus: &mut B, word: u32) -> Outcome
     ensures line { let line = decoded_line regs.old (B.memory bus.old) word (store_of word) in
         Follows line result regs.new (B.memory bus.new) }
@@ -142,6 +149,8 @@ fn store<B: Bus>(regs: &mut Regs, bus: &mut B, word: u32) -> Outcome
     ensures memory_stays { UnlessDone result (B.memory bus.new ≡ B.memory bus.old) }
     ensures pages { let used = decoded_pages regs.old (B.memory bus.old) (store_of word) in
         UsesPages (B.has bus.old) (B.marks bus.new) (B.lacks bus.old) used result }
+    ensures bound { let memory = B.memory bus.old in
+        Bounds (B.within bus.old) (B.within bus.new) (decoded_pages regs.old memory (store_of word)) (decoded_stores regs.old memory (store_of word)) }
     ensures kept { B.keeps bus.old bus.new }
 {
     match store_kind(word) {
@@ -152,7 +161,7 @@ fn store<B: Bus>(regs: &mut Regs, bus: &mut B, word: u32) -> Outcome
 
 /// Opcode OP-IMM.
 #[inline(always)]
-#[tactic(auto, unfolding(rv_isa::specs::Table::op_immediate_of, crate::specs::Line::insn_line, crate::specs::Uses::data_pages))]
+#[tactic(auto, unfolding(rv_isa::specs::Table::op_immediate_of, crate::specs::Line::insn_line, crate::specs::Uses::data_pages, crate::specs::Uses::data_stores))]
 fn op_immediate(regs: &mut Regs, word: u32) -> Outcome
     ensures line { (memory : Memory) → Follows (decoded_line regs.old memory word (op_immediate_of word)) result regs.new memory }
     ensures registers_stay { UnlessDone result (regs.new ≡ regs.old) }
@@ -167,7 +176,7 @@ fn op_immediate(regs: &mut Regs, word: u32) -> Outcome
 
 /// Opcode OP-IMM, where it is a shift.
 #[inline(always)]
-#[tactic(auto, unfolding(rv_isa::specs::Table::shift_of, crate::specs::Line::insn_line, crate::specs::Uses::data_pages))]
+#[tactic(auto, unfolding(rv_isa::specs::Table::shift_of, crate::specs::Line::insn_line, crate::specs::Uses::data_pages, crate::specs::Uses::data_stores))]
 fn shift(regs: &mut Regs, word: u32) -> Outcome
     ensures line { (memory : Memory) → Follows (decoded_line regs.old memory word (shift_of word)) result regs.new memory }
     ensures registers_stay { UnlessDone result (regs.new ≡ regs.old) }
@@ -182,7 +191,7 @@ fn shift(regs: &mut Regs, word: u32) -> Outcome
 
 /// Opcode OP.
 #[inline(always)]
-#[tactic(auto, unfolding(rv_isa::specs::Table::op_of, crate::specs::Line::insn_line, crate::specs::Uses::data_pages))]
+#[tactic(auto, unfolding(rv_isa::specs::Table::op_of, crate::specs::Line::insn_line, crate::specs::Uses::data_pages, crate::specs::Uses::data_stores))]
 fn op(regs: &mut Regs, word: u32) -> Outcome
     ensures line { (memory : Memory) → Follows (decoded_line regs.old memory word (op_of word)) result regs.new memory }
     ensures registers_stay { UnlessDone result (regs.new ≡ regs.old) }
@@ -197,7 +206,7 @@ fn op(regs: &mut Regs, word: u32) -> Outcome
 
 /// Opcode MISC-MEM. Execution is sequentially consistent: there is nothing left for a fence to order.
 #[inline(always)]
-#[tactic(auto, unfolding(rv_isa::specs::Table::fence_of, crate::specs::Line::insn_line, crate::specs::Uses::data_pages))]
+#[tactic(auto, unfolding(rv_isa::specs::Table::fence_of, crate::specs::Line::insn_line, crate::specs::Uses::data_pages, crate::specs::Uses::data_stores))]
 fn fence(regs: &mut Regs, word: u32) -> Outcome
     ensures line { (memory : Memory) → Follows (decoded_line regs.old memory word (fence_of word)) result regs.new memory }
     ensures registers_stay { UnlessDone result (regs.new ≡ regs.old) }
@@ -213,7 +222,7 @@ fn fence(regs: &mut Regs, word: u32) -> Outcome
 
 /// Opcode AMO.
 #[inline(always)]
-#[tactic(auto, unfolding(rv_isa::specs::Table::amo_of, crate::specs::Line::insn_line, crate::specs::Uses::data_pages))]
+#[tactic(auto, unfolding(rv_isa::specs::Table::amo_of, crate::specs::Line::insn_line, crate::specs::Uses::data_pages, crate::specs::Uses::data_stores))]
 fn amo<B: Bus>(regs: &mut Regs, bus: &mut B, word: u32) -> Outcome
     ensures line { let line = decoded_line regs.old (B.memory bus.old) word (amo_of word) in
         Follows line result regs.new (B.memory bus.new) }
@@ -221,6 +230,8 @@ fn amo<B: Bus>(regs: &mut Regs, bus: &mut B, word: u32) -> Outcome
     ensures memory_stays { UnlessDone result (B.memory bus.new ≡ B.memory bus.old) }
     ensures pages { let used = decoded_pages regs.old (B.memory bus.old) (amo_of word) in
         UsesPages (B.has bus.old) (B.marks bus.new) (B.lacks bus.old) used result }
+    ensures bound { let memory = B.memory bus.old in
+        Bounds (B.within bus.old) (B.within bus.new) (decoded_pages regs.old memory (amo_of word)) (decoded_stores regs.old memory (amo_of word)) }
     ensures kept { B.keeps bus.old bus.new }
 {
     match amo_kind(word) {
@@ -235,7 +246,7 @@ fn amo<B: Bus>(regs: &mut Regs, bus: &mut B, word: u32) -> Outcome
 
 /// Opcode SYSTEM.
 #[inline(always)]
-#[tactic(auto, unfolding(rv_isa::specs::Table::system_of, crate::specs::Line::insn_line, crate::specs::Uses::data_pages))]
+#[tactic(auto, unfolding(rv_isa::specs::Table::system_of, crate::specs::Line::insn_line, crate::specs::Uses::data_pages, crate::specs::Uses::data_stores))]
 fn system(regs: &mut Regs, word: u32) -> Outcome
     ensures line { (memory : Memory) → Follows (decoded_line regs.old memory word (system_of word)) result regs.new memory }
     ensures registers_stay { UnlessDone result (regs.new ≡ regs.old) }

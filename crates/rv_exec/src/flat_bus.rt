@@ -18,6 +18,8 @@ impl Bus for FlatMemory {
 
     ghost marks = { λ _ _. Unit {0} };
 
+    ghost within = { λ _ _ _. Unit {0} };
+
     ghost keeps = { λ _ _. Unit {0} };
 
     ghost keeps_itself = { λ _. tt };

@@ -8,4 +8,5 @@ pub mod LeavingPages
 mod PagingSpaces
 pub mod FreshPages
 pub mod Opened
+pub mod Bounding
 pub mod StepsOn

@@ -49,7 +49,7 @@ pages_stay has marks marked count first memory stays each = λ done at now h e. 
 -- ---- in a process
 
 -- the process with a hart's registers and memory
-here : (hart : ℕ) (process : Process) (registers : Registers) (memory : Memory) → IsWhole process → may_step hart process ≡ true
+pub here : (hart : ℕ) (process : Process) (registers : Registers) (memory : Memory) → IsWhole process → may_step hart process ≡ true
     → hart_registers hart (with_hart hart registers process.environment memory process) ≡ Some registers
 here hart process registers memory whole may =
     let within = started hart process whole may in

@@ -19,7 +19,7 @@ use Rattle.space_core.specs.declared.progress.Progress.{Progress}
 use Rattle.space_core.specs.declared.progress.Progress.TheVariants as progress
 use Rattle.space_core.specs.declared.progress.SliceStop.{SliceStop}
 use Rattle.space_core.specs.declared.progress.SliceStop.TheVariants as stop
-use Rattle.space_core.specs.Next.{next_effect, next_progress, next_pages, progress_of, stop_after, stop_before}
+use Rattle.space_core.specs.Next.{next_effect, next_progress, next_pages, progress_of, stop_after, stop_before, answered}
 use Rattle.space_core.specs.Slices.{EachStep, PassesOn, PassedOn, Stops}
 
 -- ---- what holds before each of so many
@@ -56,6 +56,16 @@ pub pages_still : (has marks marked : ℕ → Type 0) (hart count : ℕ) (before
     → EachStep (λ at. Used has marks (next_pages hart at)) hart count before → EachStep (λ at. Used has marked (next_pages hart at)) hart count before
 pages_still has marks marked hart count before stays each =
     each_map (λ at. Used has marks (next_pages hart at)) (λ at. Used has marked (next_pages hart at)) hart count before (λ at. used_on has marks has marked (next_pages hart at) (λ _ h. h) stays) each
+
+-- before an instruction that is not taken: where memory was wanting for it its pages were had
+pub pages_before : (has marks had marked lacked : ℕ → Type 0) (hart count : ℕ) (before between : Process) (stop : ServeStop)
+    → ((page : ℕ) → had page → has page) → ((page : ℕ) → marks page → marked page)
+    → EachStep (λ at. Used has marks (next_pages hart at)) hart count before → flat_run (replicate count hart) before ≡ Some between
+    → UsesPages {A = Progress} had marked lacked (next_pages hart between) (Err stop)
+    → EachStep (λ at. Used has marked (next_pages hart at)) hart (answered (stop_before stop) count) before
+pages_before has marks had marked lacked hart count before between (serve.Absent page) was_had stays each reached uses = pages_still has marks marked hart count before stays each
+pages_before has marks had marked lacked hart count before between serve.NoMemory was_had stays each reached uses =
+    pages_more has marks had marked hart count before between was_had stays each reached uses
 
 -- ---- the hart goes on
 

@@ -1,30 +1,33 @@
 -- A hart's instructions one at a time are slices of one instruction, one after another.
-use Rattle.std.proofs.Common.{◌≡◌, inl, inr, ◌+◌, ◌++◌, ◌≤◌, ◌<◌, ℕ, zero, suc, true, List, length, replicate, slice_set, slice_index_or, Some, refl, sym, ap, ◌∙◌, subst, arith, append_assoc, append-nil, length-set}
+use Rattle.std.proofs.Common.{◌≡◌, inl, inr, ◌⊎◌, ◌+◌, ◌++◌, ◌≤◌, ◌<◌, ℕ, zero, suc, true, is_some, true≢false, List, length, replicate, slice_set, slice_index_or, Some, refl, sym, ap, ◌∙◌, subst, arith, append_assoc, append-nil, length-set}
 use Rattle.std.proofs.lemmas.List.{set-get_or, set-set, get_or-set_same, replicate-append-replicate}
 use Rattle.page_memory.specs.Memory.{Memory}
 use Rattle.rv_exec.specs.Outcomes.{Used}
+use Rattle.env_calls.specs.StepLaws.{bound_first}
 use Rattle.rv_exec.specs.Registers.{Registers}
 use Rattle.rv_exec.specs.Uses.{pages_used}
 use Rattle.flat_machine.specs.declared.schedule.Turn.{Turn}
-use Rattle.flat_machine.specs.Process.{Process, IsWhole, may_step, with_hart, flat_run}
+use Rattle.flat_machine.specs.Process.{Process, IsWhole, hart_registers, is_live, may_step, with_hart, flat_run}
 use Rattle.flat_machine.specs.PlainRunLaws.{plain_none, plain_more, next_is}
 use Rattle.flat_machine.specs.Schedule.{written_out, room}
-use Rattle.flat_machine.specs.StepLaws.{started}
+use Rattle.flat_machine.specs.StepLaws.{both, has_no_ending, started}
 use Rattle.flat_machine.specs.TurnsLaws.{one_more}
 use Rattle.paged_memory.specs.Access.{HasPage, LacksPage, cache_of}
-use Rattle.paged_memory.specs.HartMemory.{KeepsAccess, MarksSince}
+use Rattle.paged_memory.specs.HartMemory.{KeepsAccess, MarksSince, MarksWithin}
 use Rattle.paged_memory.specs.HartMemoryLaws.{access_itself, had, lacked, pages_on}
 use Rattle.paged_memory.specs.Paged.{PagedValue, memory_of}
 use Rattle.space_core.specs.declared.progress.SliceStop.{SliceStop}
 use Rattle.space_core.specs.declared.progress.SliceStop.TheVariants.{Budget, Absent, Yield, HartDone, Ended, NoHart, ScheduleFull, NoMemory}
-use Rattle.space_core.specs.Next.{next_pages}
+use Rattle.space_core.specs.Next.{next_pages, answered, begun}
 use Rattle.space_core.specs.RunningValue.{RunningValue, RecordedValue, with_memory}
 use Rattle.space_core.specs.Plain.{EachPlain}
-use Rattle.space_core.specs.Slices.{EachStep, PassedOn, StopsShort, StopsRecorded}
+use Rattle.space_core.specs.Slices.{EachStep, BoundsEach, PassedOn, StopsShort, StopsRecorded}
 use Rattle.space_core.specs.Slicing.{shown_process, OthersStay, LeavesCaches}
 use Rattle.space_core.specs.StandsFor.{SpaceValue, StandsFor, IsSpace}
-use Rattle.space_core.specs.StepByStep.{RunsPlain, RunsEach, RunsShort, Tries, HartRuns, IsRecorded, RunsRecorded, SlicesOne, StepsOn, StepsShort, StepsEach}
-use Rattle.space_core.proofs.PlainSteps.{none_plain, pages_plain, passed_plainly, whole_set}
+use Rattle.space_core.specs.StepByStep.{RunsPlain, RunsEach, RunsShort, Tries, MarksOne, MarksTried, HartRuns, IsRecorded, RunsRecorded, SlicesOne, StepsOn, StepsShort, StepsEach}
+use Rattle.space_core.proofs.PlainSteps.{none_plain, pages_plain, passed_plainly, whole_set, here}
+use Rattle.space_core.proofs.Bounding.{next_bound, bound_one, bound_again}
+use Rattle.space_core.proofs.StepMoves.{registers_are}
 use Rattle.space_core.proofs.SliceLaws.{none_back}
 use Rattle.space_core.proofs.SliceMoves.{used_on}
 use Rattle.space_core.proofs.Standing.{stands_on, stands_sliced}
@@ -104,6 +107,10 @@ module _ {S : Type 0} (held : S → List ℕ) (honest : Type 0) (hart : ℕ) whe
           within = omega arith;
           stops = (refl, (λ _. passed.may), passed.on);
           pages = passed.pages;
+          bound = bound_one (MarksWithin old.memory.tables) (MarksWithin new.tables) hart (shown_process held old)
+              (next_bound (MarksWithin old.memory.tables) (MarksWithin new.tables) hart (shown_process held old) regs
+              (registers_are hart old.running old.running memory regs (ready.whole memory) refl ready.may are)
+              (bound_first (MarksWithin old.memory.tables) (MarksWithin new.tables) regs memory plain.bound));
           kept = record {
             image = refl;
             input = refl;
@@ -163,6 +170,26 @@ hart_runs hart how inside now regs regs' same are runs whole =
     subst (λ (v : RunningValue). HartRuns hart how v (record inside { harts = slice_set inside.harts hart regs' })) same
     (record { regs = regs; regs' = regs'; first = are; left = refl; runs = runs; whole = whole })
 
+-- fewer than a limit are fewer than a larger one
+pub wider : {S : Type 0} (held : S → List ℕ) (hart limit limit' n : ℕ) (old new : RunningValue) (memory memory' : PagedValue S) → limit ≤ limit'
+    → HartRuns hart (λ regs regs'. RunsShort held hart limit n regs memory regs' memory') old new → HartRuns hart (λ regs regs'. RunsShort held hart limit' n regs memory regs' memory') old new
+wider held hart limit limit' n old new memory memory' within r = record {
+  regs = r.regs;
+  regs' = r.regs';
+  first = r.first;
+  left = r.left;
+  runs = record {
+    between = r.runs.between;
+    each = r.runs.each;
+    tries = r.runs.tries;
+    marks = elim r.runs.marks [
+      | inl same ↦ inl same
+      | inr tried ↦ inr ((let fewer = tried.0 in omega (arith, fewer, within)), tried.1)
+    ];
+  };
+  whole = r.whole;
+}
+
 -- what ran is recorded
 pub is_recorded : (hart n : ℕ) (how : Registers → Registers → Type 0) (inside now : RecordedValue) (running : RunningValue) (schedule : List Turn) → inside ≡ now → HartRuns hart how inside.running running
     → ((memory : Memory) → may_step hart (with_memory inside.running memory) ≡ true) → written_out schedule ≡ written_out inside.schedule ++ replicate n hart → room schedule hart + n ≡ room inside.schedule hart
@@ -187,8 +214,15 @@ module _ {S : Type 0} (held : S → List ℕ) (honest : Type 0) (hart : ℕ) whe
     pub on : StepsOn held honest hart n old new
     pub is : IsSpace held honest new
 
+  -- the same of a hart that ran, and may step again
+  record LeftRan (n : ℕ) (regs : Registers) (old new : SpaceValue S) : Type 0 where
+    on : StepsOn held honest hart n old new
+    is : IsSpace held honest new
+    may : may_step hart (shown_process held new) ≡ true
+    registers : hart_registers hart (shown_process held new) ≡ Some regs
+
   recorded_on : (n : ℕ) (old : SpaceValue S) (recorded : RecordedValue) (between : PagedValue S) (how : Registers → Registers → Type 0) → IsSpace held honest old → (r : IsRecorded hart n how (recorded_of old) recorded)
-      → RunsEach held hart n r.runs.regs old.memory r.runs.regs' between → Left n old (with_parts old recorded between)
+      → RunsEach held hart n r.runs.regs old.memory r.runs.regs' between → LeftRan n r.runs.regs' old (with_parts old recorded between)
   recorded_on n old recorded between how is r each =
       let ready : Ready held honest hart old = record { whole = r.runs.whole; may = r.may (memory_of held old.memory.pages); cached = is.cached; stands = is.stands } in
       let done = each_on held honest hart n old r.runs.regs r.runs.regs' recorded.schedule between ready r.runs.first each r.recorded r.left r.none in
@@ -197,6 +231,9 @@ module _ {S : Type 0} (held : S → List ℕ) (honest : Type 0) (hart : ℕ) whe
       record {
         on = subst (StepsOn held honest hart n old) same done.on;
         is = subst (IsSpace held honest) same (record { stands = done.ready.stands; cached = done.ready.cached });
+        may = subst (λ (s : SpaceValue S). may_step hart (shown_process held s) ≡ true) same done.ready.may;
+        registers = subst (λ (s : SpaceValue S). hart_registers hart (shown_process held s) ≡ Some r.runs.regs') same
+            (here hart (shown_process held old) r.runs.regs' (memory_of held between.pages) (ready.whole (memory_of held old.memory.pages)) ready.may);
       }
 
   still_on : (old : SpaceValue S) (recorded : RecordedValue) (memory : PagedValue S) → recorded ≡ recorded_of old → memory ≡ old.memory → with_parts old recorded memory ≡ old
@@ -208,7 +245,9 @@ module _ {S : Type 0} (held : S → List ℕ) (honest : Type 0) (hart : ℕ) whe
   all_on n old recorded memory is (inl still) =
       let same = still_on old recorded memory still.1.0 still.1.1 in
       record { on = subst (λ k. StepsOn held honest hart k old (with_parts old recorded memory)) (sym still.0) same; is = subst (IsSpace held honest) (sym same) is }
-  all_on n old recorded memory is (inr r) = recorded_on n old recorded memory (λ regs regs'. RunsEach held hart n regs old.memory regs' memory) is r r.runs.runs
+  all_on n old recorded memory is (inr r) =
+      let left = recorded_on n old recorded memory (λ regs regs'. RunsEach held hart n regs old.memory regs' memory) is r r.runs.runs in
+      record { on = left.on; is = left.is }
 
   -- the pages of one more may have been looked up
   tried_is : (space : SpaceValue S) (memory : PagedValue S) → IsSpace held honest space → Tries held hart space.memory memory → IsSpace held honest (record space { memory = memory })
@@ -222,7 +261,7 @@ module _ {S : Type 0} (held : S → List ℕ) (honest : Type 0) (hart : ℕ) whe
     pub is : IsSpace held honest new
 
   pub short_on : (n : ℕ) (old : SpaceValue S) (recorded : RecordedValue) (memory : PagedValue S) → IsSpace held honest old
-      → RunsRecorded hart n (λ regs regs'. RunsShort held hart n regs old.memory regs' memory) (recorded_of old) recorded old.memory memory → LeftShort n old (with_parts old recorded memory)
+      → RunsRecorded hart n (λ regs regs'. RunsShort held hart (room old.schedule hart) n regs old.memory regs' memory) (recorded_of old) recorded old.memory memory → LeftShort n old (with_parts old recorded memory)
   unfolding StepsOn
   short_on n old recorded memory is (inl still) =
       let same = still_on old recorded memory still.1.0 still.1.1 in
@@ -231,17 +270,35 @@ module _ {S : Type 0} (held : S → List ℕ) (honest : Type 0) (hart : ℕ) whe
           between = old;
           on = subst (λ k. StepsOn held honest hart k old old) (sym still.0) refl;
           tries = record { shown = refl; kept = access_itself hart old.memory };
+          marks = inl refl;
           stays = refl;
         };
         is = is;
       })
   short_on n old recorded memory is (inr r) =
       let between = r.runs.runs.between in
-      let left = recorded_on n old recorded between (λ regs regs'. RunsShort held hart n regs old.memory regs' memory) is r r.runs.runs.each in
+      let left = recorded_on n old recorded between (λ regs regs'. RunsShort held hart (room old.schedule hart) n regs old.memory regs' memory) is r r.runs.runs.each in
       record {
-        short = record { between = with_parts old recorded between; on = left.on; tries = r.runs.runs.tries; stays = refl };
+        short = record { between = with_parts old recorded between; on = left.on; tries = r.runs.runs.tries; marks = marks left.may left.registers r.runs.runs.marks; stays = refl };
         is = tried_is (with_parts old recorded between) memory left.is r.runs.runs.tries;
       }
+    where
+      marks : may_step hart (shown_process held (with_parts old recorded r.runs.runs.between)) ≡ true → hart_registers hart (shown_process held (with_parts old recorded r.runs.runs.between)) ≡ Some r.runs.regs'
+          → (memory.tables ≡ r.runs.runs.between.tables) ⊎ ((n < room old.schedule hart) × MarksOne held hart r.runs.regs' r.runs.runs.between memory)
+          → MarksTried held honest hart (with_parts old recorded r.runs.runs.between) memory
+      marks may registers (inl same) = inl same
+      marks may registers (inr tried) =
+          let between = r.runs.runs.between in
+          let space : SpaceValue S = with_parts old recorded between in
+          let fewer = tried.0 in
+          let fits = r.left in
+          inr (
+            may,
+            omega (arith, fewer, fits),
+            bound_one (MarksWithin between.tables) (MarksWithin memory.tables) hart (shown_process held space)
+                (next_bound (MarksWithin between.tables) (MarksWithin memory.tables) hart (shown_process held space) r.runs.regs' registers
+                (bound_first (MarksWithin between.tables) (MarksWithin memory.tables) r.runs.regs' (memory_of held between.pages) tried.1)),
+          )
 
   -- ---- a slice after a look-up is a slice
 
@@ -281,9 +338,34 @@ module _ {S : Type 0} (held : S → List ℕ) (honest : Type 0) (hart : ℕ) whe
   marks_back : (old between new : PagedValue S) → KeepsAccess hart old between → (page : ℕ) → MarksSince new (cache_of between.caches hart) page → MarksSince new (cache_of old.caches hart) page
   marks_back old between new kept page marks = (marks.0, elim marks.1 [ inl used ↦ inl used | inr doomed ↦ inr (kept.doomed page doomed) ])
 
-  tried_slice : (ran : ℕ) (why : SliceStop) (old : SpaceValue S) (memory : PagedValue S) (new : SpaceValue S) → Tries held hart old.memory memory → SlicesOne held honest hart ran why (record old { memory = memory }) new
-      → SlicesOne held honest hart ran why old new
-  tried_slice ran why old memory new tries slice =
+  -- an instruction that a slice of one tried was begun in it
+  one_begun : (lacks : ℕ → Type 0) (room ran : ℕ) (before after : Process) (why : SliceStop) → may_step hart before ≡ true → 0 < room
+      → StopsRecorded lacks hart 1 room before why ran after → 1 ≤ begun why ran
+  one_begun lacks room ran before after Budget may fits stops = let all = stops.0 in omega (arith, all)
+  one_begun lacks room ran before after (Absent page) may fits stops = omega arith
+  one_begun lacks room ran before after Yield may fits stops = let count = stops.count in omega (arith, count)
+  one_begun lacks room ran before after HartDone may fits stops = let count = stops.count in omega (arith, count)
+  one_begun lacks room ran before after Ended may fits (inl ended) = absurd (true≢false (sym ended.2 ∙ ap is_some (has_no_ending hart before may)))
+  one_begun lacks room ran before after Ended may fits (inr stops) = let count = stops.count in omega (arith, count)
+  one_begun lacks room ran before after NoHart may fits stops = absurd (true≢false (sym (both _ (is_live hart before) may).1 ∙ stops.3))
+  one_begun lacks room ran before after ScheduleFull may fits stops = let full = stops.0 in omega (arith, full, fits)
+  one_begun lacks room ran before after NoMemory may fits stops = omega arith
+
+  tried_bound : (ran : ℕ) (why : SliceStop) (old : SpaceValue S) (memory : PagedValue S) (new : SpaceValue S) → shown_process held (record old { memory = memory }) ≡ shown_process held old
+      → MarksTried held honest hart old memory → StopsRecorded (LacksPage memory.pages) hart 1 (room old.schedule hart) (shown_process held old) why ran (shown_process held new)
+      → BoundsEach (MarksWithin memory.tables) (MarksWithin new.memory.tables) hart (begun why ran) (shown_process held (record old { memory = memory }))
+      → BoundsEach (MarksWithin old.memory.tables) (MarksWithin new.memory.tables) hart (begun why ran) (shown_process held old)
+  tried_bound ran why old memory new same (inl tables) stops bound =
+      subst (λ t. BoundsEach (MarksWithin t) (MarksWithin new.memory.tables) hart (begun why ran) (shown_process held old)) tables
+      (subst (λ p. BoundsEach (MarksWithin memory.tables) (MarksWithin new.memory.tables) hart (begun why ran) p) same bound)
+  tried_bound ran why old memory new same (inr tried) stops bound =
+      bound_again (MarksWithin old.memory.tables) (MarksWithin memory.tables) (MarksWithin new.memory.tables) hart 1 (begun why ran) (shown_process held old)
+      (one_begun (LacksPage memory.pages) (room old.schedule hart) ran (shown_process held old) (shown_process held new) why tried.0 tried.1 stops) tried.2
+      (subst (λ p. BoundsEach (MarksWithin memory.tables) (MarksWithin new.memory.tables) hart (begun why ran) p) same bound)
+
+  tried_slice : (ran : ℕ) (why : SliceStop) (old : SpaceValue S) (memory : PagedValue S) (new : SpaceValue S) → Tries held hart old.memory memory → MarksTried held honest hart old memory
+      → SlicesOne held honest hart ran why (record old { memory = memory }) new → SlicesOne held honest hart ran why old new
+  tried_slice ran why old memory new tries marks slice =
       let same : shown_process held (record old { memory = memory }) ≡ shown_process held old = ap (with_memory old.running) tries.shown in
       record {
         ran_is = subst (λ p. flat_run (replicate ran hart) p ≡ Some (shown_process held new)) same slice.ran_is;
@@ -292,9 +374,11 @@ module _ {S : Type 0} (held : S → List ℕ) (honest : Type 0) (hart : ℕ) whe
         within = slice.within;
         stops = stops_back (LacksPage old.memory.pages) (LacksPage memory.pages) (room old.schedule hart) ran (shown_process held old) (shown_process held (record old { memory = memory })) (shown_process held new) why same
             (λ page lacks. lacked old.memory.pages memory.pages page tries.kept.pages lacks) slice.stops;
-        pages = subst (λ p. EachStep (λ at. Used (HasPage old.memory.pages (cache_of old.memory.caches hart)) (MarksSince new.memory (cache_of old.memory.caches hart)) (next_pages hart at)) hart ran p) same
+        pages = subst (λ p. EachStep (λ at. Used (HasPage old.memory.pages (cache_of old.memory.caches hart)) (MarksSince new.memory (cache_of old.memory.caches hart)) (next_pages hart at)) hart (answered why ran) p) same
             (λ done at h e. used_on (HasPage memory.pages (cache_of memory.caches hart)) (MarksSince new.memory (cache_of memory.caches hart)) (HasPage old.memory.pages (cache_of old.memory.caches hart)) (MarksSince new.memory (cache_of old.memory.caches hart)) (next_pages hart at)
             (λ page has. had hart page old.memory memory tries.kept has) (λ page marks. marks_back old.memory memory new.memory tries.kept page marks) (slice.pages done at h e));
+        bound = tried_bound ran why old memory new same marks
+            (subst (λ p. StopsRecorded (LacksPage memory.pages) hart 1 (room old.schedule hart) p why ran (shown_process held new)) same slice.stops) slice.bound;
         kept = record {
           image = slice.kept.image;
           input = slice.kept.input;
@@ -314,5 +398,5 @@ module _ {S : Type 0} (held : S → List ℕ) (honest : Type 0) (hart : ℕ) whe
   steps_and_one n ran why old tried new short slice = record {
     between = short.between;
     on = short.on;
-    at_last = tried_slice ran why short.between tried.memory new short.tries (subst (λ (s : SpaceValue S). SlicesOne held honest hart ran why s new) short.stays slice);
+    at_last = tried_slice ran why short.between tried.memory new short.tries short.marks (subst (λ (s : SpaceValue S). SlicesOne held honest hart ran why s new) short.stays slice);
   }

@@ -1,9 +1,9 @@
 -- A hart's next instruction in a process: what it does to the process, and the pages that it uses.
-use Rattle.std.specs.Prelude.{ℕ, Bool, true, false, List, [], Option, Some, None, option_map, unwrap_or}
+use Rattle.std.specs.Prelude.{ℕ, ◌+◌, Bool, true, false, List, [], Option, Some, None, option_map, unwrap_or}
 use Rattle.env_calls.specs.declared.served.ServeStop.{ServeStop}
 use Rattle.env_calls.specs.declared.served.ServeStop.TheVariants as serve
 use Rattle.env_calls.specs.Effect.{Effect, Runs, Yields, Spawns, Finishes, Exits, Traps}
-use Rattle.env_calls.specs.Step.{effect, step_pages}
+use Rattle.env_calls.specs.Step.{effect, step_pages, step_stores}
 use Rattle.flat_machine.specs.Process.{Process, hart_registers}
 use Rattle.space_core.specs.declared.progress.Progress.{Progress}
 use Rattle.space_core.specs.declared.progress.Progress.TheVariants.{GoesOn, Yielded, Spawned, HartDone, Ended}
@@ -29,6 +29,32 @@ next_progress hart process = option_map progress_of (next_effect hart process)
 -- the pages that the next step of a hart uses
 unfoldable pub next_pages : ℕ → Process → List ℕ
 next_pages hart process = unwrap_or (option_map (λ registers. step_pages registers process.memory) (hart_registers hart process)) []
+
+-- the pages among them that it stores to
+unfoldable pub next_stores : ℕ → Process → List ℕ
+next_stores hart process = unwrap_or (option_map (λ registers. step_stores registers process.memory) (hart_registers hart process)) []
+
+-- of how many instructions all pages were there: those that ran, and the next where memory was wanting for it
+abbrev pub answered : SliceStop → ℕ → ℕ
+answered stop.Budget ran = ran
+answered (stop.Absent page) ran = ran
+answered stop.Yield ran = ran
+answered stop.HartDone ran = ran
+answered stop.Ended ran = ran
+answered stop.NoHart ran = ran
+answered stop.ScheduleFull ran = ran
+answered stop.NoMemory ran = ran + 1
+
+-- how many were begun: those that ran, and the next where a page of it is absent or memory was wanting for it
+abbrev pub begun : SliceStop → ℕ → ℕ
+begun stop.Budget ran = ran
+begun (stop.Absent page) ran = ran + 1
+begun stop.Yield ran = ran
+begun stop.HartDone ran = ran
+begun stop.Ended ran = ran
+begun stop.NoHart ran = ran
+begun stop.ScheduleFull ran = ran
+begun stop.NoMemory ran = ran + 1
 
 -- why a slice stops after a step, if it does
 abbrev pub stop_after : Progress → Option SliceStop

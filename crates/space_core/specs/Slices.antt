@@ -1,5 +1,6 @@
 -- Slices: a hart runs so many instructions in a row, and stops for the reason that is named.
-use Rattle.std.specs.Prelude.{◌≡◌, ℕ, ◌+◌, ◌<◌, ◌⊎◌, true, false, Some, None, IsSome, replicate, Contains}
+use Rattle.std.specs.Prelude.{◌≡◌, ℕ, Bool, ◌+◌, ◌<◌, ◌⊎◌, true, false, Some, None, IsSome, replicate, Contains}
+use Rattle.rv_exec.specs.Bounds.{Pass}
 use Rattle.rv_exec.specs.Outcomes.{Used}
 use Rattle.flat_machine.specs.Process.{Process, is_live, may_step, flat_run}
 use Rattle.flat_machine.specs.Refusals.{WantsMemory}
@@ -7,11 +8,18 @@ use Rattle.space_core.specs.declared.progress.Progress.{Progress}
 use Rattle.space_core.specs.declared.progress.Progress.TheVariants as progress
 use Rattle.space_core.specs.declared.progress.SliceStop.{SliceStop}
 use Rattle.space_core.specs.declared.progress.SliceStop.TheVariants.{Budget, Absent, Yield, HartDone, Ended, NoHart, ScheduleFull, NoMemory}
-use Rattle.space_core.specs.Next.{next_progress, next_pages}
+use Rattle.space_core.specs.Next.{next_progress, next_pages, next_stores}
 
 -- this holds of the process before each of so many instructions of a hart
 abbrev pub EachStep : (Process → Type 0) → ℕ → ℕ → Process → Type 0
 EachStep P hart count before = (done : ℕ) (at : Process) → done < count → flat_run (replicate done hart) before ≡ Some at → P at
+
+-- whatever tests hold of the pages that were marked, and of those that so many instructions of a hart use and store to, hold
+-- of the pages that are marked now: no other page's mark was set
+pub record BoundsEach (old new : (ℕ → Bool) → (ℕ → Bool) → Type 0) (hart count : ℕ) (before : Process) : Type 0 where
+  pub bound : (use_test store_test : ℕ → Bool)
+      → EachStep (λ at. Pass use_test (next_pages hart at) × Pass store_test (next_stores hart at)) hart count before
+      → old use_test store_test → new use_test store_test
 
 -- the hart's next instruction is no yield and ends neither the hart nor the process
 abbrev pub PassesOn : ℕ → Process → Type 0

@@ -1,28 +1,35 @@
 -- A hart's instructions one at a time: each is a slice of one, and is recorded.
-use Rattle.std.specs.Prelude.{◌≡◌, ◌⊎◌, ℕ, true, zero, suc, ◌+◌, ◌++◌, ◌≤◌, Option, Some, None, List, replicate, slice_set, slice_index_or}
+use Rattle.std.specs.Prelude.{◌≡◌, ◌⊎◌, ℕ, true, zero, suc, ◌+◌, ◌++◌, ◌<◌, ◌≤◌, Option, Some, None, List, replicate, slice_set, slice_index_or}
 use Rattle.page_memory.specs.Memory.{Memory}
+use Rattle.rv_exec.specs.Bounds.{Bounds}
 use Rattle.rv_exec.specs.Line.{Next, line}
 use Rattle.rv_exec.specs.Outcomes.{Used}
 use Rattle.rv_exec.specs.Registers.{Registers}
-use Rattle.rv_exec.specs.Uses.{pages_used}
+use Rattle.rv_exec.specs.Uses.{pages_used, pages_stored}
 use Rattle.flat_machine.specs.Process.{IsWhole, may_step, flat_run}
 use Rattle.flat_machine.specs.Schedule.{written_out, room}
 use Rattle.paged_memory.specs.Access.{HasPage, LacksPage, cache_of}
-use Rattle.paged_memory.specs.HartMemory.{KeepsAccess, MarksSince}
+use Rattle.paged_memory.specs.HartMemory.{KeepsAccess, MarksSince, MarksWithin}
 use Rattle.paged_memory.specs.Paged.{PagedValue, memory_of}
 use Rattle.space_core.specs.declared.progress.SliceStop.{SliceStop}
 use Rattle.space_core.specs.declared.progress.SliceStop.TheVariants.{Budget}
-use Rattle.space_core.specs.Next.{next_pages}
+use Rattle.space_core.specs.Next.{next_pages, answered, begun}
 use Rattle.space_core.specs.RunningValue.{RunningValue, RecordedValue, with_memory}
-use Rattle.space_core.specs.Slices.{EachStep, StopsRecorded}
+use Rattle.space_core.specs.Slices.{EachStep, BoundsEach, StopsRecorded}
 use Rattle.space_core.specs.Slicing.{shown_process, KeepsSpace}
 use Rattle.space_core.specs.StandsFor.{SpaceValue, StandsFor}
 
 module _ {S : Type 0} (held : S → List ℕ) (hart : ℕ) where
+  -- no marks were set but those of the pages that the instruction at these registers uses
+  abbrev pub MarksOne : Registers → PagedValue S → PagedValue S → Type 0
+  MarksOne regs old new =
+      Bounds (MarksWithin old.tables) (MarksWithin new.tables) (pages_used regs (memory_of held old.pages)) (pages_stored regs (memory_of held old.pages))
+
   -- a hart's instruction that neither calls nor traps, on its process's memory
   pub record RunsPlain (regs : Registers) (old : PagedValue S) (regs' : Registers) (new : PagedValue S) : Type 0 where
     pub ran : line regs (memory_of held old.pages) ≡ Next regs' (memory_of held new.pages)
     pub pages : Used (HasPage old.pages (cache_of old.caches hart)) (MarksSince new (cache_of old.caches hart)) (pages_used regs (memory_of held old.pages))
+    pub bound : MarksOne regs old new
     pub kept : KeepsAccess hart old new
 
   -- an instruction that is not run, whose pages may have been looked up
@@ -35,11 +42,12 @@ module _ {S : Type 0} (held : S → List ℕ) (hart : ℕ) where
   RunsEach zero regs old regs' new = (regs' ≡ regs) × (new ≡ old)
   RunsEach (suc n) regs old regs' new = (between : Registers × PagedValue S) × (RunsEach n regs old between.0 between.1 × RunsPlain between.0 between.1 regs' new)
 
-  -- the same, where the next one may have been tried
-  pub record RunsShort (count : ℕ) (regs : Registers) (old : PagedValue S) (regs' : Registers) (new : PagedValue S) : Type 0 where
+  -- the same, where the next one may have been tried if there were fewer than a limit
+  pub record RunsShort (limit count : ℕ) (regs : Registers) (old : PagedValue S) (regs' : Registers) (new : PagedValue S) : Type 0 where
     pub between : PagedValue S
     pub each : RunsEach count regs old regs' between
     pub tries : Tries between new
+    pub marks : (new.tables ≡ between.tables) ⊎ ((count < limit) × MarksOne regs' between new)
 
 -- a hart's registers go on so, in a process whose harts are all there
 pub record HartRuns (hart : ℕ) (how : Registers → Registers → Type 0) (old new : RunningValue) : Type 0 where
@@ -70,7 +78,8 @@ module _ {S : Type 0} (held : S → List ℕ) (honest : Type 0) (hart : ℕ) whe
     pub left : room new.schedule hart + ran ≡ room old.schedule hart
     pub within : ran ≤ 1
     pub stops : StopsRecorded (LacksPage old.memory.pages) hart 1 (room old.schedule hart) (shown_process held old) why ran (shown_process held new)
-    pub pages : EachStep (λ at. Used (HasPage old.memory.pages (cache_of old.memory.caches hart)) (MarksSince new.memory (cache_of old.memory.caches hart)) (next_pages hart at)) hart ran (shown_process held old)
+    pub pages : EachStep (λ at. Used (HasPage old.memory.pages (cache_of old.memory.caches hart)) (MarksSince new.memory (cache_of old.memory.caches hart)) (next_pages hart at)) hart (answered why ran) (shown_process held old)
+    pub bound : BoundsEach (MarksWithin old.memory.tables) (MarksWithin new.memory.tables) hart (begun why ran) (shown_process held old)
     pub kept : KeepsSpace hart why old new
     pub stands : honest → StandsFor held new
 
@@ -89,9 +98,15 @@ module _ {S : Type 0} (held : S → List ℕ) (honest : Type 0) (hart : ℕ) whe
     pub on : StepsOn count old between
     pub at_last : StepsLast last between new
 
+  -- no marks were set; or a hart that may step, and whose next instruction the schedule takes, tried that one
+  abbrev pub MarksTried : SpaceValue S → PagedValue S → Type 0
+  MarksTried space memory = (memory.tables ≡ space.memory.tables)
+      ⊎ ((may_step hart (shown_process held space) ≡ true) × (0 < room space.schedule hart) × BoundsEach (MarksWithin space.memory.tables) (MarksWithin memory.tables) hart 1 (shown_process held space))
+
   -- so many that went on, and then pages may have been looked up
   pub record StepsShort (count : ℕ) (old new : SpaceValue S) : Type 0 where
     pub between : SpaceValue S
     pub on : StepsOn count old between
     pub tries : Tries held hart between.memory new.memory
+    pub marks : MarksTried between new.memory
     pub stays : new ≡ record between { memory = new.memory }

@@ -1,9 +1,9 @@
 //! The inner loop of a hart.
-ghost use Rattle.std.specs.Prelude.{◌≡◌, ◌<◌, ◌≤◌, Some};
+ghost use Rattle.std.specs.Prelude.{◌≡◌, ◌+◌, ◌<◌, ◌≤◌, Some};
 ghost use Rattle.rv_exec.specs.Outcomes.{Used};
 ghost use Rattle.rv_exec.specs.Uses.{pages_used};
 ghost use Rattle.flat_machine.specs.PlainRun.{plain_run};
-ghost use Rattle.space_core.specs.Plain.{EachPlain, StopsPlain};
+ghost use Rattle.space_core.specs.Plain.{EachPlain, StopsPlain, BoundsPlain};
 
 use rv_exec::{Bus, Outcome, Regs, execute};
 
@@ -14,6 +14,8 @@ pub(crate) fn run_plainly<B: Bus>(regs: &mut Regs, bus: &mut B, most: u32) -> u3
     ensures ran { plain_run result regs.old (B.memory bus.old) ≡ Some (regs.new, B.memory bus.new) }
     ensures within { result ≤ most }
     ensures pages { EachPlain (λ at memory. Used (B.has bus.old) (B.marks bus.new) (pages_used at memory)) result regs.old (B.memory bus.old) }
+    ensures bound { BoundsPlain (B.within bus.old) (B.within bus.new) (result + 1) regs.old (B.memory bus.old) }
+    ensures all_bound { result ≡ most → BoundsPlain (B.within bus.old) (B.within bus.new) result regs.old (B.memory bus.old) }
     ensures stopped { result < most → StopsPlain (B.lacks bus.old) regs.new (B.memory bus.new) }
     ensures kept { B.keeps bus.old bus.new }
 {

@@ -4,8 +4,8 @@ ghost use Rattle.flat_machine.specs.Process.{flat_run, opening};
 ghost use Rattle.flat_machine.specs.Schedule.{written_out, room};
 ghost use Rattle.rv_exec.specs.Outcomes.{Used};
 ghost use Rattle.space_core.specs.RunningValue.{with_memory, beside};
-ghost use Rattle.space_core.specs.Next.{next_pages, recorded_stop};
-ghost use Rattle.space_core.specs.Slices.{EachStep, StopsRecorded};
+ghost use Rattle.space_core.specs.Next.{next_pages, answered, begun, recorded_stop};
+ghost use Rattle.space_core.specs.Slices.{EachStep, BoundsEach, StopsRecorded};
 
 use crate::progress::{Slice, SliceStop};
 use crate::running::Running;
@@ -57,7 +57,9 @@ impl Recorded {
         ensures stop { let before = with_memory self.old.running (B.memory bus.old) in
             StopsRecorded (B.lacks bus.old) hart budget (room self.old.schedule hart) before result.stop result.ran (with_memory self.new.running (B.memory bus.new)) }
         ensures pages { let before = with_memory self.old.running (B.memory bus.old) in
-            EachStep (λ at. Used (B.has bus.old) (B.marks bus.new) (next_pages hart at)) hart result.ran before }
+            EachStep (λ at. Used (B.has bus.old) (B.marks bus.new) (next_pages hart at)) hart (answered result.stop result.ran) before }
+        ensures bound { let before = with_memory self.old.running (B.memory bus.old) in
+            BoundsEach (B.within bus.old) (B.within bus.new) hart (begun result.stop result.ran) before }
         ensures kept { B.keeps bus.old bus.new }
     {
         let room = self.schedule.room(hart);

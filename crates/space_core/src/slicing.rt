@@ -2,8 +2,8 @@ ghost use Rattle.std.specs.Prelude.{◌≡◌, ◌≤◌, ◌<◌, Some, true, r
 ghost use Rattle.flat_machine.specs.Process.{may_step, flat_run};
 ghost use Rattle.rv_exec.specs.Outcomes.{Used};
 ghost use Rattle.space_core.specs.RunningValue.{with_memory};
-ghost use Rattle.space_core.specs.Next.{next_pages};
-ghost use Rattle.space_core.specs.Slices.{EachStep, Stops, StopsRecorded};
+ghost use Rattle.space_core.specs.Next.{next_pages, answered, begun};
+ghost use Rattle.space_core.specs.Slices.{EachStep, BoundsEach, Stops, StopsRecorded};
 
 use crate::progress::{Slice, SliceStop, stop_before};
 use crate::running::Running;
@@ -22,7 +22,9 @@ impl Running {
         ensures stop { let before = with_memory self.old (B.memory bus.old) in
             Stops (B.lacks bus.old) hart budget before result.stop result.ran (with_memory self.new (B.memory bus.new)) }
         ensures pages { let before = with_memory self.old (B.memory bus.old) in
-            EachStep (λ at. Used (B.has bus.old) (B.marks bus.new) (next_pages hart at)) hart result.ran before }
+            EachStep (λ at. Used (B.has bus.old) (B.marks bus.new) (next_pages hart at)) hart (answered result.stop result.ran) before }
+        ensures bound { let before = with_memory self.old (B.memory bus.old) in
+            BoundsEach (B.within bus.old) (B.within bus.new) hart (begun result.stop result.ran) before }
         ensures kept { B.keeps bus.old bus.new }
     {
         if budget == 0 {
@@ -49,7 +51,8 @@ impl Running {
     /// Why a slice of some instructions stops at once where the schedule takes no more of the hart.
     pub(crate) fn stop_where_full<B: Bus>(&self, hart: u32, budget: u32, _bus: &B) -> SliceStop
         requires some { 0 < budget }
-        ensures { let now = with_memory self.now (B.memory _bus.now) in
+        ensures none { answered result 0 ≡ 0 }
+        ensures stop { let now = with_memory self.now (B.memory _bus.now) in
             StopsRecorded (B.lacks _bus.now) hart budget 0 now result 0 now }
     {
         if self.end.is_some() {
@@ -70,7 +73,9 @@ impl Running {
         ensures stop { let before = with_memory self.old (B.memory bus.old) in
             Stops (B.lacks bus.old) hart budget before result.stop result.ran (with_memory self.new (B.memory bus.new)) }
         ensures pages { let before = with_memory self.old (B.memory bus.old) in
-            EachStep (λ at. Used (B.has bus.old) (B.marks bus.new) (next_pages hart at)) hart result.ran before }
+            EachStep (λ at. Used (B.has bus.old) (B.marks bus.new) (next_pages hart at)) hart (answered result.stop result.ran) before }
+        ensures bound { let before = with_memory self.old (B.memory bus.old) in
+            BoundsEach (B.within bus.old) (B.within bus.new) hart (begun result.stop result.ran) before }
         ensures kept { B.keeps bus.old bus.new }
     {
         let mut ran = 0;

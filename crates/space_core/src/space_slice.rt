@@ -4,10 +4,10 @@ ghost use Rattle.flat_machine.specs.Process.{flat_run};
 ghost use Rattle.flat_machine.specs.Schedule.{written_out, room};
 ghost use Rattle.paged_memory.specs.Paged.{memory_of};
 ghost use Rattle.paged_memory.specs.Access.{HasPage, LacksPage, cache_of};
-ghost use Rattle.paged_memory.specs.HartMemory.{KeepsAccess, MarksSince};
+ghost use Rattle.paged_memory.specs.HartMemory.{KeepsAccess, MarksSince, MarksWithin};
 ghost use Rattle.space_core.specs.RunningValue.{with_memory};
-ghost use Rattle.space_core.specs.Next.{next_pages};
-ghost use Rattle.space_core.specs.Slices.{EachStep, StopsRecorded};
+ghost use Rattle.space_core.specs.Next.{next_pages, answered, begun};
+ghost use Rattle.space_core.specs.Slices.{EachStep, BoundsEach, StopsRecorded};
 ghost use Rattle.space_core.specs.Slicing.{shown_process, SettlesCaches, KeepsSpace};
 ghost use Rattle.space_core.specs.StandsFor.{StandsFor};
 
@@ -48,7 +48,9 @@ fn run_cached<L: Ledger, S: SwapSlot, O: Opening>(
     ensures stop { let before = with_memory recorded.old.running (memory_of S.content memory.old.pages) in
         StopsRecorded (LacksPage memory.old.pages) hart budget (room recorded.old.schedule hart) before result.stop result.ran (with_memory recorded.new.running (memory_of S.content memory.new.pages)) }
     ensures pages { let before = with_memory recorded.old.running (memory_of S.content memory.old.pages) in
-        EachStep (λ at. Used (HasPage memory.old.pages (cache_of memory.old.caches hart)) (MarksSince memory.new O.opening) (next_pages hart at)) hart result.ran before }
+        EachStep (λ at. Used (HasPage memory.old.pages (cache_of memory.old.caches hart)) (MarksSince memory.new O.opening) (next_pages hart at)) hart (answered result.stop result.ran) before }
+    ensures bound { let before = with_memory recorded.old.running (memory_of S.content memory.old.pages) in
+        BoundsEach (MarksWithin memory.old.tables) (MarksWithin memory.new.tables) hart (begun result.stop result.ran) before }
     ensures kept { KeepsAccess hart memory.old memory.new }
 {
     let mut bus: HartMemory<L, S, O> = HartMemory::new(memory, hart as usize);
@@ -63,7 +65,8 @@ fn stop_unstarted<L: Ledger, S: SwapSlot>(
     budget: u32,
 ) -> SliceStop
     requires unstarted { length recorded.now.running.environment.live ≤ hart }
-    ensures { let now = with_memory recorded.now.running (memory_of S.content memory.now.pages) in
+    ensures none { answered result 0 ≡ 0 }
+    ensures stop { let now = with_memory recorded.now.running (memory_of S.content memory.now.pages) in
         StopsRecorded (LacksPage memory.now.pages) hart budget (room recorded.now.schedule hart) now result 0 now }
 {
     if budget == 0 {
@@ -91,7 +94,9 @@ fn run<L: Ledger, S: SwapSlot>(
     ensures stop { let before = with_memory recorded.old.running (memory_of S.content memory.old.pages) in
         StopsRecorded (LacksPage memory.old.pages) hart budget (room recorded.old.schedule hart) before result.stop result.ran (with_memory recorded.new.running (memory_of S.content memory.new.pages)) }
     ensures pages { let before = with_memory recorded.old.running (memory_of S.content memory.old.pages) in
-        EachStep (λ at. Used (HasPage memory.old.pages (cache_of memory.old.caches hart)) (MarksSince memory.new (cache_of memory.old.caches hart)) (next_pages hart at)) hart result.ran before }
+        EachStep (λ at. Used (HasPage memory.old.pages (cache_of memory.old.caches hart)) (MarksSince memory.new (cache_of memory.old.caches hart)) (next_pages hart at)) hart (answered result.stop result.ran) before }
+    ensures bound { let before = with_memory recorded.old.running (memory_of S.content memory.old.pages) in
+        BoundsEach (MarksWithin memory.old.tables) (MarksWithin memory.new.tables) hart (begun result.stop result.ran) before }
     ensures kept { KeepsAccess hart memory.old memory.new }
 {
     if hart as usize >= recorded.running().started() {
@@ -154,7 +159,8 @@ impl<L: Ledger, S: SwapSlot> Space<L, S> {
         ensures within { result.ran ≤ budget }
         ensures stop { StopsRecorded (LacksPage self.old.memory.pages) hart budget (room self.old.schedule hart) (shown_process S.content self.old) result.stop result.ran (shown_process S.content self.new) }
         ensures pages { let opening = cache_of self.old.memory.caches hart in
-            EachStep (λ at. Used (HasPage self.old.memory.pages opening) (MarksSince self.new.memory opening) (next_pages hart at)) hart result.ran (shown_process S.content self.old) }
+            EachStep (λ at. Used (HasPage self.old.memory.pages opening) (MarksSince self.new.memory opening) (next_pages hart at)) hart (answered result.stop result.ran) (shown_process S.content self.old) }
+        ensures bound { BoundsEach (MarksWithin self.old.memory.tables) (MarksWithin self.new.memory.tables) hart (begun result.stop result.ran) (shown_process S.content self.old) }
         ensures kept { KeepsSpace hart result.stop self.old self.new }
         ensures stands { S.honest → StandsFor S.content self.new }
     {

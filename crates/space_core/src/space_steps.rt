@@ -2,6 +2,7 @@
 
 ghost use Rattle.std.specs.Prelude.{◌≡◌, ◌≤◌, ◌<◌, true, length, option_map, IfNone, IfSome};
 ghost use Rattle.flat_machine.specs.Process.{may_step};
+ghost use Rattle.flat_machine.specs.Schedule.{room};
 ghost use Rattle.paged_memory.specs.Paged.{memory_of};
 ghost use Rattle.page_memory.specs.Memory.{Memory};
 ghost use Rattle.space_core.specs.RunningValue.{with_memory};
@@ -46,7 +47,7 @@ impl Running {
         requires may { may_step hart (with_memory self.old (memory_of S.content memory.old.pages)) ≡ true }
         requires cached { length memory.old.caches ≡ length self.old.harts }
         ensures within { result ≤ most }
-        ensures short { HartRuns hart (λ regs regs'. RunsShort S.content hart result regs memory.old regs' memory.new) self.old self.new }
+        ensures short { HartRuns hart (λ regs regs'. RunsShort S.content hart most result regs memory.old regs' memory.new) self.old self.new }
         ensures all { result ≡ most → HartRuns hart (λ regs regs'. RunsEach S.content hart result regs memory.old regs' memory.new) self.old self.new }
     {
         let regs = &mut self.harts[hart as usize];
@@ -64,7 +65,7 @@ fn record_each<L: Ledger, S: SwapSlot>(
 ) -> u32
     requires cached { length memory.old.caches ≡ length recorded.old.running.harts }
     ensures within { result ≤ most }
-    ensures short { RunsRecorded hart result (λ regs regs'. RunsShort S.content hart result regs memory.old regs' memory.new) recorded.old recorded.new memory.old memory.new }
+    ensures short { RunsRecorded hart result (λ regs regs'. RunsShort S.content hart (room recorded.old.schedule hart) result regs memory.old regs' memory.new) recorded.old recorded.new memory.old memory.new }
     ensures all { result ≡ most → RunsRecorded hart result (λ regs regs'. RunsEach S.content hart result regs memory.old regs' memory.new) recorded.old recorded.new memory.old memory.new }
 {
     let allowed = least(most, recorded.schedule.room(hart));

@@ -1,10 +1,11 @@
-ghost use Rattle.std.specs.Prelude.{◌≡◌, ◌≤◌, Some, Err, true, OnOk, OnErr, IfOk};
+ghost use Rattle.std.specs.Prelude.{◌≡◌, ◌+◌, ◌≤◌, Some, Err, true, OnOk, OnErr, IfOk};
 ghost use Rattle.env_calls.specs.Serving.{UsesPages};
 ghost use Rattle.flat_machine.specs.Process.{may_step, flat_step};
 ghost use Rattle.flat_machine.specs.Refusals.{WantsMemory};
+ghost use Rattle.rv_exec.specs.Bounds.{Bounds};
 ghost use Rattle.space_core.specs.RunningValue.{with_memory};
-ghost use Rattle.space_core.specs.Next.{next_pages, next_progress};
-ghost use Rattle.space_core.specs.Slices.{PassedOn};
+ghost use Rattle.space_core.specs.Next.{next_pages, next_stores, next_progress};
+ghost use Rattle.space_core.specs.Slices.{PassedOn, BoundsEach};
 
 use crate::plain_run::run_plainly;
 use crate::progress::Progress;
@@ -22,6 +23,10 @@ impl Running {
         ensures passed { let before = with_memory self.old (B.memory bus.old) in
             PassedOn (B.has bus.old) (B.marks bus.new) hart result before (with_memory self.new (B.memory bus.new)) }
         ensures within { result ≤ most }
+        ensures bound { let before = with_memory self.old (B.memory bus.old) in
+            BoundsEach (B.within bus.old) (B.within bus.new) hart (result + 1) before }
+        ensures all_bound { let before = with_memory self.old (B.memory bus.old) in
+            result ≡ most → BoundsEach (B.within bus.old) (B.within bus.new) hart result before }
         ensures kept { B.keeps bus.old bus.new }
     {
         let regs = &mut self.harts[hart as usize];
@@ -46,6 +51,8 @@ impl Running {
         // Absent only for a page that the step uses and the bus lacks; else the bus had all that it used, and marked them.
         ensures pages { let used = next_pages hart (with_memory self.old (B.memory bus.old)) in
             UsesPages (B.has bus.old) (B.marks bus.new) (B.lacks bus.old) used result }
+        ensures bound { let before = with_memory self.old (B.memory bus.old) in
+            Bounds (B.within bus.old) (B.within bus.new) (next_pages hart before) (next_stores hart before) }
         ensures no_memory { result ≡ Err ServeStop.NoMemory → WantsMemory hart (with_memory self.old (B.memory bus.old)) }
         ensures err { OnErr result (self.new ≡ self.old) }
         ensures memory_stays { OnErr result (B.memory bus.new ≡ B.memory bus.old) }

@@ -3,7 +3,7 @@
 ghost use Rattle.std.specs.Prelude.{◌≡◌, ◌≤◌, ◌<◌, ◌⊎◌, length};
 ghost use Rattle.std.specs.Bool.{OnTrue, OnFalse};
 ghost use Rattle.paged_memory.specs.Access.{cache_of};
-ghost use Rattle.space_core.specs.StepByStep.{RunsPlain, RunsEach, RunsShort, Tries};
+ghost use Rattle.space_core.specs.StepByStep.{RunsPlain, RunsEach, RunsShort, Tries, MarksOne};
 
 use paged_memory::{HartMemory, Opening, PagedMemory};
 use rv_exec::{Outcome, Regs, execute};
@@ -23,6 +23,7 @@ fn run_one<L: Ledger, S: SwapSlot, O: Opening>(
     requires opening { cache_of memory.old.caches hart ≡ O.opening }
     ensures ran { OnTrue result (RunsPlain S.content hart regs.old memory.old regs.new memory.new) }
     ensures stays { OnFalse result (regs.new ≡ regs.old) }
+    ensures marks { OnFalse result (MarksOne S.content hart regs.old memory.old memory.new) }
     ensures tried { OnFalse result (Tries S.content hart memory.old memory.new) }
 {
     let mut bus: HartMemory<L, S, O> = HartMemory::new(memory, hart);
@@ -40,7 +41,7 @@ pub(crate) fn run_each<L: Ledger, S: SwapSlot>(
 ) -> u32
     requires started { hart < length memory.old.caches }
     ensures within { result ≤ most }
-    ensures ran { RunsShort S.content hart result regs.old memory.old regs.new memory.new }
+    ensures ran { RunsShort S.content hart most result regs.old memory.old regs.new memory.new }
     ensures all { result ≡ most → RunsEach S.content hart result regs.old memory.old regs.new memory.new }
 {
     for done in 0..most {

@@ -1,7 +1,7 @@
 -- The pages of a step are those of its instruction, and then those of its call.
 use Rattle.env_calls.specs.declared.served.Served.{Served}
 use Rattle.env_calls.specs.declared.stepping.Stepped.{Stepped}
-use Rattle.env_calls.specs.StepLaws.{used_next, used_traps, used_call, stopped_call}
+use Rattle.env_calls.specs.StepLaws.{used_next, used_traps, used_call, stopped_call, bound_call}
 use Rattle.env_calls.proofs.stepping.step.Goals as goal
 
 pub returns-in-Done-clause-pages : goal.returns-in-Done-clause-pages
@@ -33,3 +33,17 @@ returns-in-Err-clause-pages g c =
     (λ page h. g.met.B.Bus.lacked_before _ _ page c.execute.ensures.kept h)
     (λ page h. g.met.B.Bus.marked_on _ _ page c.serve.ensures.kept h)
     c.in-Ecall.ensures.pages c.in-Err.ensures.pages
+
+pub returns-in-Ok-clause-bound : goal.returns-in-Ok-clause-bound
+returns-in-Ok-clause-bound g c =
+    bound_call (g.B.Bus.within c.args.bus.now) (g.B.Bus.within c.execute.new.bus) (g.B.Bus.within c.serve.new.bus)
+    c.args.regs.now c.execute.new.regs (g.B.Bus.memory c.args.bus.now) (g.B.Bus.memory c.execute.new.bus)
+    c.in-Ecall.ensures.line c.in-Ecall.ensures.registers_stay c.in-Ecall.ensures.memory_stays
+    c.execute.ensures.bound c.serve.ensures.bound
+
+pub returns-in-Err-clause-bound : goal.returns-in-Err-clause-bound
+returns-in-Err-clause-bound g c =
+    bound_call (g.B.Bus.within c.args.bus.now) (g.B.Bus.within c.execute.new.bus) (g.B.Bus.within c.serve.new.bus)
+    c.args.regs.now c.execute.new.regs (g.B.Bus.memory c.args.bus.now) (g.B.Bus.memory c.execute.new.bus)
+    c.in-Ecall.ensures.line c.in-Ecall.ensures.registers_stay c.in-Ecall.ensures.memory_stays
+    c.execute.ensures.bound c.serve.ensures.bound

@@ -12,7 +12,7 @@ loop-side-preserved g c = λ honest number process small at.
     (λ n below p found. c.loop-side.invariant honest n p below found)
     (λ p found.
     let same = c.side-item.is ∙ get_or_from_slice_get c.args.processes.now c.loop-side.side-index p c.side-item.result found in
-    subst (λ (q : ProcessSideValue _). StandsFor g.S.SwapSlot.content q.space) same (c.coherent.ensures honest))
+    subst (λ (q : ProcessSideValue _). StandsFor g.S.SwapSlot.content q.space) same (c.coherent.ensures.stands honest))
     number small process at
 
 pub returns : goal.returns

@@ -1,11 +1,14 @@
 -- The line and its pages are those that memory's answer to the fetch leads to.
-use Rattle.std.proofs.Common.{◌≡◌, sym, ap, ◌∙◌, subst, Ok, Err, IsOk}
+use Rattle.std.proofs.Common.{◌≡◌, sym, ap, ◌∙◌, subst, [], Ok, Err, IsOk}
 use Rattle.page_memory.specs.Words.{page_number}
 use Rattle.page_memory.specs.Memory.{fetched}
 use Rattle.rv_isa.specs.Table.{insn_of}
 use Rattle.rv_exec.specs.Line.{line, decoded_line}
 use Rattle.rv_exec.specs.LineLaws.{line_fetched, line_fault, uses_fetched, used_fault, contains_fetch}
 use Rattle.rv_exec.specs.Outcomes.{Follows}
+use Rattle.rv_exec.specs.Bounds.{Bounds}
+use Rattle.rv_exec.specs.BoundsLaws.{bounds_fetched, bounds_refused}
+use Rattle.rv_exec.specs.Uses.{page_of_access}
 use Rattle.rv_exec.proofs.execution.execute.Goals as goal
 
 pub returns-in-Ok-clause-line : goal.returns-in-Ok-clause-line
@@ -52,3 +55,29 @@ returns-in-Err-Absent-clause-pages g c =
     let page : c.in-Err-Absent.page ≡ page_number c.args.regs.now.pc = rw (← c.pc-pc.ensures) answer.0 in
     let allowed : IsOk (fetched (g.B.Bus.memory c.args.bus.now) c.args.regs.now.pc) = rw (← c.pc-pc.ensures) answer.2 in
     (contains_fetch c.args.regs.now (g.B.Bus.memory c.args.bus.now) c.in-Err-Absent.page page allowed, answer.1)
+
+pub returns-in-Ok-clause-bound : goal.returns-in-Ok-clause-bound
+returns-in-Ok-clause-bound g c =
+    let regs = c.args.regs.now in
+    let memory = g.B.Bus.memory c.args.bus.now in
+    let fetch : fetched memory regs.pc ≡ Ok c.in-Ok.word = rw (← c.pc-pc.ensures) c.in-Ok.ensures.answer.0 in
+    let first : Bounds (g.B.Bus.within c.args.bus.now) (g.B.Bus.within c.fetch.new.self) (page_of_access regs.pc (fetched memory regs.pc)) [] =
+    rw (← c.pc-pc.ensures) c.in-Ok.ensures.bound in
+    bounds_fetched (g.B.Bus.within c.args.bus.now) (g.B.Bus.within c.fetch.new.self) (g.B.Bus.within c.perform.new.bus)
+    regs memory (g.B.Bus.memory c.fetch.new.self) c.in-Ok.word fetch c.in-Ok.ensures.same first c.perform.ensures.bound
+
+pub returns-in-Err-Fault-clause-bound : goal.returns-in-Err-Fault-clause-bound
+returns-in-Err-Fault-clause-bound g c =
+    let regs = c.args.regs.now in
+    let memory = g.B.Bus.memory c.args.bus.now in
+    let first : Bounds (g.B.Bus.within c.args.bus.now) (g.B.Bus.within c.fetch.new.self) (page_of_access regs.pc (fetched memory regs.pc)) [] =
+    rw (← c.pc-pc.ensures) c.in-Err-Fault.ensures.bound in
+    bounds_refused (g.B.Bus.within c.args.bus.now) (g.B.Bus.within c.fetch.new.self) regs memory first
+
+pub returns-in-Err-Absent-clause-bound : goal.returns-in-Err-Absent-clause-bound
+returns-in-Err-Absent-clause-bound g c =
+    let regs = c.args.regs.now in
+    let memory = g.B.Bus.memory c.args.bus.now in
+    let first : Bounds (g.B.Bus.within c.args.bus.now) (g.B.Bus.within c.fetch.new.self) (page_of_access regs.pc (fetched memory regs.pc)) [] =
+    rw (← c.pc-pc.ensures) c.in-Err-Absent.ensures.bound in
+    bounds_refused (g.B.Bus.within c.args.bus.now) (g.B.Bus.within c.fetch.new.self) regs memory first

@@ -1,6 +1,19 @@
 use Rattle.std.proofs.Common.{refl}
 use Rattle.paged_memory.specs.HartMemoryLaws.{access_written}
+use Rattle.page_memory.specs.declared.words.Access.TheVariants.{Store}
+use Rattle.page_memory.specs.Memory.{copied_in}
+use Rattle.paged_memory.specs.Access.{HasPage, LacksPage, MarksUse, cache_of}
+use Rattle.paged_memory.specs.Paged.{memory_of}
+use Rattle.paged_memory.proofs.Marking.{bounds_access_with}
 use Rattle.paged_memory.proofs.hart_memory.HartMemoryBus.copy_in.Goals as goal
 
 pub returns-clause-kept : goal.returns-clause-kept
 returns-clause-kept g c = (refl, refl, access_written c.args.self.now.hart c.args.self.now.memory.now c.copy_in.new.self c.copy_in.ensures.process c.copy_in.ensures.bare c.copy_in.ensures.kept)
+
+pub returns-clause-bound : goal.returns-clause-bound
+returns-clause-bound g c =
+    let now = c.args.self.now.memory.now in
+    let cache = cache_of now.caches c.args.self.now.hart in
+    let memory = memory_of g.S.SwapSlot.content now.pages in
+    bounds_access_with Store (HasPage now.pages cache) (MarksUse now.pages c.copy_in.new.self.tables cache) (LacksPage now.pages) c.args.address now.tables c.copy_in.new.self.tables
+    (copied_in memory c.args.address c.args.from.now) (λ _. memory_of g.S.SwapSlot.content c.copy_in.new.self.pages) c.copy_in.result c.copy_in.ensures.answer c.copy_in.ensures.entries c.copy_in.ensures.unmarked

@@ -1,6 +1,7 @@
 use Rattle.std.proofs.Common.{arith, ap, sym, ◌∙◌, Some}
 use Rattle.space_core.specs.RunningValue.{RunningValue}
 use Rattle.space_core.proofs.StepMoves.{is_started, registers_are, whole_with, room_to_spawn, settled, settled_as, whole_still, progressed, used_pages, stopped_pages, wants_memory}
+use Rattle.space_core.proofs.Bounding.{next_bound}
 use Rattle.space_core.proofs.running.Running.step.Goals as goal
 
 pub index_mut-regs-requires : goal.index_mut-regs-requires
@@ -76,3 +77,17 @@ returns-in-Err-clause-no_memory g c =
     let memory = g.B.Bus.memory c.args.bus.now in
     let are = registers_are c.args.hart inside c.args.self.now memory c.index_mut-regs.result.now (c.self.invariant.whole memory) c.self.view_is c.requires.may c.index_mut-regs.ensures.value in
     wants_memory c.args.hart inside c.args.self.now memory c.index_mut-regs.result.now c.in-Err.stop c.self.view_is c.requires.may are c.in-Err.ensures.no_memory
+
+pub returns-in-Ok-clause-bound : goal.returns-in-Ok-clause-bound
+returns-in-Ok-clause-bound g c =
+    let inside : RunningValue = record { harts = c.self.inside.harts.items; environment = c.self.inside.env; ending = c.self.inside.end } in
+    let memory = g.B.Bus.memory c.args.bus.now in
+    let are = registers_are c.args.hart inside c.args.self.now memory c.index_mut-regs.result.now (c.self.invariant.whole memory) c.self.view_is c.requires.may c.index_mut-regs.ensures.value in
+    next_bound (g.B.Bus.within c.args.bus.now) (g.B.Bus.within c.step.new.bus) c.args.hart (record { harts = c.args.self.now.harts; environment = c.args.self.now.environment; memory = memory; ending = c.args.self.now.ending }) c.index_mut-regs.result.now are c.step.ensures.bound
+
+pub returns-in-Err-clause-bound : goal.returns-in-Err-clause-bound
+returns-in-Err-clause-bound g c =
+    let inside : RunningValue = record { harts = c.self.inside.harts.items; environment = c.self.inside.env; ending = c.self.inside.end } in
+    let memory = g.B.Bus.memory c.args.bus.now in
+    let are = registers_are c.args.hart inside c.args.self.now memory c.index_mut-regs.result.now (c.self.invariant.whole memory) c.self.view_is c.requires.may c.index_mut-regs.ensures.value in
+    next_bound (g.B.Bus.within c.args.bus.now) (g.B.Bus.within c.step.new.bus) c.args.hart (record { harts = c.args.self.now.harts; environment = c.args.self.now.environment; memory = memory; ending = c.args.self.now.ending }) c.index_mut-regs.result.now are c.step.ensures.bound

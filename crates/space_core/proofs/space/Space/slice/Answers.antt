@@ -1,5 +1,9 @@
-use Rattle.std.proofs.Common.{◌≡◌, ◌∙◌, length, replicate, ap, arith, refl, sym}
+use Rattle.std.proofs.Common.{◌≡◌, ◌∙◌, length, replicate, ap, arith, refl, sym, subst}
 use Rattle.paged_memory.specs.Paged.{PagedValue, page_at, memory_of}
+use Rattle.paged_memory.specs.HartMemory.{MarksWithin}
+use Rattle.space_core.specs.Next.{begun}
+use Rattle.space_core.specs.Slices.{BoundsEach}
+use Rattle.space_core.specs.Slicing.{shown_process}
 use Rattle.space_core.specs.StandsFor.{SpaceValue, StandsFor, is_purged}
 use Rattle.space_core.proofs.Standing.{stands_on, stands_sliced}
 use Rattle.space_core.proofs.SliceLaws.{harts_run, none_back}
@@ -38,3 +42,12 @@ invariant_of-self g c = record {
 
 pub returns-clause-stands : goal.returns-clause-stands
 returns-clause-stands g c = stands g c
+
+pub returns-clause-bound : goal.returns-clause-bound
+returns-clause-bound g c =
+    let inside : SpaceValue g.row.S.Denot = record { image = c.self.inside.image; input = c.self.inside.input.items; running = c.self.inside.recorded.running; schedule = c.self.inside.recorded.schedule; memory = c.self.inside.memory } in
+    let ran = begun c.run-slice.result.stop c.run-slice.result.ran in
+    let tables : c.run-slice.new.memory.tables ≡ c.settle_caches.new.memory.tables =
+    sym (ap (λ (m : PagedValue g.row.S.Denot). m.tables) c.settle_caches.ensures.memory ∙ ap (λ (m : PagedValue g.row.S.Denot). m.tables) c.add_harts.ensures.memory) in
+    subst (λ (s : SpaceValue g.row.S.Denot). BoundsEach (MarksWithin s.memory.tables) (MarksWithin c.settle_caches.new.memory.tables) c.args.hart ran (shown_process g.S.SwapSlot.content s)) c.self.view_is
+    (subst (λ t. BoundsEach (MarksWithin inside.memory.tables) (MarksWithin t) c.args.hart ran (shown_process g.S.SwapSlot.content inside)) tables c.run-slice.ensures.bound)

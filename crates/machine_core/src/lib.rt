@@ -30,3 +30,4 @@ pub use machine_sides::{
 };
 pub use many_steps::Steps;
 pub use report::{ProcessReport, Report};
+pub use running::cut_run;

@@ -36,5 +36,4 @@ impl<L: Ledger, S: SwapSlot, C: Clock> Core<L, S, C> {
 #[tactic(auto, using(crate::specs::ApplyingLaws::run_cut))]
 pub fn cut_run<S: SwapSlot>()
     ensures { (first second : List machine_event.Event) → (replies : List machine_reply.Reply) → (old new : CoreValue S) → Runs S.content S.honest S.failures (first ++ second) replies old new → CutRun S.content S.honest S.failures first second replies old new }
-{
-}
+{}

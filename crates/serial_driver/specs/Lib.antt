@@ -1,7 +1,10 @@
 pub mod Audit
 pub mod Closing
 pub mod Endings
+pub mod FlatLines
 pub mod Limit
 pub mod Nexts
+pub mod Owing
 pub mod Patience
 pub mod Reporting
+pub mod TurnsDuty

@@ -1,9 +1,15 @@
-ghost use Rattle.std.specs.Prelude.{◌≡◌, ◌<◌, ◌≤◌, ◌*◌, ℕ, false, IfNone, IfOk, IfSome};
+ghost use Rattle.std.specs.Prelude.{◌≡◌, ◌<◌, ◌≤◌, ◌*◌, ℕ, List, false, None, IfNone, IfOk, IfSome};
 ghost use Rattle.machine_core.specs.Applying.{LeadsTo};
+ghost use Rattle.machine_core.specs.declared.event.Event.TheVariants.{Step};
 ghost use Rattle.serial_driver.specs.Closing.{is_limit_kill};
+ghost use Rattle.machine_core.specs.Opening.{MachineBegins};
+ghost use Rattle.machine_sides.specs.Starting.{Start};
 ghost use Rattle.serial_driver.specs.Endings.{HasEnded};
+ghost use Rattle.serial_driver.specs.FlatLines.{StandsForRuns};
 ghost use Rattle.serial_driver.specs.Limit.{Closes, DoesSave, EndsByLimit, EndsOne, PlaysUpTo, PlaysWith};
 ghost use Rattle.serial_driver.specs.Nexts.{IsNext, MayCome, most_events};
+ghost use Rattle.serial_driver.specs.Owing.{no_duty, Pays};
+ghost use Rattle.serial_driver.specs.TurnsDuty.{duty_of, stage_owes};
 ghost use Rattle.serial_driver.specs.Patience.{IsPatient, IsSpentBy, tries_per_frame};
 ghost use Rattle.serial_driver.specs.Reporting.{Reports};
 
@@ -38,10 +44,15 @@ pub fn run_serial<L: Ledger, S: SwapSlot, C: Clock>(
     ensures limited { IfOk result (λ _. EndsByLimit S.content S.honest S.failures limit core.old core.new) }
     ensures ended { IfOk result (λ _. (number : ℕ) → HasEnded core.new number) }
     ensures report { IfOk result (λ report. Reports core.new report) }
+
+    // Of a machine that has just begun, each line tells of a flat run of the image and the input that its process was given.
+    ensures flat { IfOk result (λ report. (frames : ℕ) → (free : List S) → (starts : List Start) → MachineBegins frames free starts core.old → S.honest → StandsForRuns starts report) }
 {
     let room = Vec::with_capacity(alloc, core.processes())?;
     play(core, slice, limit);
-    report(alloc, core, room)
+    let told = report(alloc, core, room)?;
+    core.faithful();
+    Ok(told)
 }
 
 /// Plays a machine to its end.
@@ -63,7 +74,8 @@ fn play_events<L: Ledger, S: SwapSlot, C: Clock>(
     patience: &mut Patience,
     limit: u64,
 ) -> Option<Key>
-    requires { IsPatient (tries_per_frame * core.old.pager.pager.size) (λ _. 0) patience.old }
+    requires patient { IsPatient (tries_per_frame * core.old.pager.pager.size) (λ _. 0) patience.old }
+    requires free { duty_of turns.old ≡ no_duty }
     ensures { PlaysUpTo S.content S.honest S.failures limit result core.old core.new }
 {
     let mut left = limit;
@@ -86,10 +98,12 @@ fn what_is_next<L: Ledger, S: SwapSlot, C: Clock>(
     allowed: u64,
 ) -> Option<Next>
     requires { 0 < allowed }
-    ensures next { IfSome result (IsNext allowed patience.now) }
+    ensures next { IfSome result (IsNext allowed patience.now (duty_of turns.new)) }
     ensures none { IfNone result ((number : ℕ) → HasEnded core.now number) }
+    ensures settled { IfNone result (stage_owes turns.new.stage ≡ None) }
+    ensures kept { duty_of turns.new ≡ duty_of turns.old }
 {
-    if turns.is_killing() {
+    if turns.is_settled() {
         return turns.next(core, allowed);
     }
     let Some(process) = patience.spent() else {
@@ -109,8 +123,8 @@ fn act<L: Ledger, S: SwapSlot, C: Clock>(
     next: Next,
 ) -> u64
     requires some { 0 < most_events next }
-    requires may_come { MayCome patience.old next }
-    ensures plays { (most : ℕ) (tried : ℕ → ℕ) → IsPatient most tried patience.old → PlaysWith S.content S.honest S.failures most tried result core.old core.new patience.new }
+    requires may_come { MayCome patience.old (duty_of turns.old) next }
+    ensures plays { (most : ℕ) (tried : ℕ → ℕ) → IsPatient most tried patience.old → PlaysWith S.content S.honest S.failures most tried (duty_of turns.old) result core.old core.new patience.new (duty_of turns.new) }
     ensures some { 0 < result }
     ensures within { result ≤ most_events next }
 {
@@ -133,7 +147,8 @@ fn apply<L: Ledger, S: SwapSlot, C: Clock>(
 ) -> u64
     requires unlimited { is_limit_kill event ≡ false }
     requires spent { IsSpentBy patience.old event }
-    ensures plays { (most : ℕ) (tried : ℕ → ℕ) → IsPatient most tried patience.old → PlaysWith S.content S.honest S.failures most tried 1 core.old core.new patience.new }
+    requires pays { Pays (stage_owes turns.old.stage) event }
+    ensures plays { (most : ℕ) (tried : ℕ → ℕ) → IsPatient most tried patience.old → PlaysWith S.content S.honest S.failures most tried (duty_of turns.old) 1 core.old core.new patience.new (duty_of turns.new) }
     ensures one { result ≡ 1 }
 {
     let reply = core.apply(event);
@@ -151,13 +166,14 @@ fn run<L: Ledger, S: SwapSlot, C: Clock>(
     hart: u32,
     most: u32,
 ) -> u64
-    requires { 0 < most }
-    ensures plays { (bound : ℕ) (tried : ℕ → ℕ) → IsPatient bound tried patience.old → PlaysWith S.content S.honest S.failures bound tried result core.old core.new patience.new }
+    requires some { 0 < most }
+    requires pays { Pays (stage_owes turns.old.stage) (Step process hart) }
+    ensures plays { (bound : ℕ) (tried : ℕ → ℕ) → IsPatient bound tried patience.old → PlaysWith S.content S.honest S.failures bound tried (duty_of turns.old) result core.old core.new patience.new (duty_of turns.new) }
     ensures some { 0 < result }
     ensures within { result ≤ most }
 {
     let done = core.steps(process, hart, most);
-    turns.heed_steps(done);
+    turns.heed_steps(process, done);
     patience.heed_steps(process, done);
     match done.last {
         Some(_) => u64::from(done.ran) + 1,

@@ -1,8 +1,13 @@
 //! Which event comes next.
 
-ghost use Rattle.std.specs.Prelude.{◌≡◌, ◌<◌, ◌≤◌, ℕ, IfSome, IfNone};
+ghost use Rattle.std.specs.Prelude.{◌≡◌, ◌<◌, ◌≤◌, ◌+◌, ℕ, min, nat_le, IfSome, IfNone, Some, None, is_some, if◌then◌else◌};
 ghost use Rattle.serial_driver.specs.Endings.{HasEnded};
+ghost use Rattle.machine_core.specs.ManySteps.{steps_of, replies_of};
 ghost use Rattle.serial_driver.specs.Nexts.{IsNext, IsOrdinary};
+ghost use Rattle.serial_driver.specs.Owing.{no_duty, most_load_faults, duty_with, duty_after, owed_save, step_owes, step_faults, stop_owes, save_owes, collect_owes, load_owes, load_faults, Duty, is_out_of_memory, is_no_memory, is_dirty};
+ghost use Rattle.serial_driver.specs.TurnsDuty.{cause_of, duty_of, stage_owes};
+ghost use Rattle.flat_machine.specs.declared.end.KillCause.TheVariants as cause;
+ghost use Rattle.machine_core.specs.declared.event.Event.TheVariants as machine;
 ghost use Rattle.serial_driver.specs.declared.patience.Patience.{Patience};
 
 use crate::failure::Failure;
@@ -17,7 +22,7 @@ const MOST_LOAD_FAULTS: u32 = 3;
 
 /// What the driver is about to do.
 #[derive(Clone, Copy)]
-enum Stage {
+pub(crate) enum Stage {
     /// The next live hart, from this one on, gets a slice.
     Choose(HartOf),
     /// The hart runs its next instruction.
@@ -59,7 +64,9 @@ pub(crate) struct Turns {
 
 impl Turns {
     /// The start of a machine whose slices are of so many instructions, or of one.
-    pub(crate) fn new(slice: u32) -> Self {
+    pub(crate) fn new(slice: u32) -> Self
+        ensures { duty_of result ≡ no_duty }
+    {
         let first = HartOf {
             process: 0,
             hart: 0,
@@ -75,15 +82,16 @@ impl Turns {
     }
 
     /// What comes next where so many events may happen still, or `None` once each process has ended.
-    #[tactic(auto, using(crate::proofs::Next::ordinary_next))]
     pub(crate) fn next<L: Ledger, S: SwapSlot, C: Clock>(
         &mut self,
         core: &Core<L, S, C>,
         allowed: u64,
     ) -> Option<Next>
         requires { 0 < allowed }
-        ensures next { (patience : Patience) → IfSome result (IsNext allowed patience) }
+        ensures next { (patience : Patience) → IfSome result (IsNext allowed patience (duty_of self.new)) }
         ensures none { IfNone result ((number : ℕ) → HasEnded core.now number) }
+        ensures settled { IfNone result (stage_owes self.new.stage ≡ None) }
+        ensures kept { duty_of self.new ≡ duty_of self.old }
     {
         let event = match self.stage {
             Stage::Run => return Some(self.steps(allowed)),
@@ -106,41 +114,59 @@ impl Turns {
         Some(Next::Event(event))
     }
 
-    /// Goes on by how many steps of the hart ran and went on, and by the reply to a further one.
-    pub(crate) fn heed_steps(&mut self, steps: Steps) {
+    /// Goes on by how many steps of a process's hart ran and went on, and by the reply to a further one.
+    #[tactic(auto, using(crate::proofs::Owed::steps_told, crate::proofs::Owed::steps_all))]
+    pub(crate) fn heed_steps(&mut self, process: u32, steps: Steps)
+        requires some { IfNone steps.last (0 < steps.ran) }
+        ensures { (hart : ℕ) → duty_of self.new ≡ duty_after (steps_of process hart steps.ran steps.last) (replies_of steps.ran steps.last) (duty_of self.old) }
+    {
         self.ran(steps.ran);
         match steps.last {
-            Some(reply) => self.after_step(reply),
+            Some(reply) => self.after_step(process, reply),
             None => self.rest_at_end(),
         }
     }
 
     /// Goes on by what an event was replied with.
-    pub(crate) fn heed(&mut self, event: Event, reply: Reply) {
+    pub(crate) fn heed(&mut self, event: Event, reply: Reply)
+        ensures { duty_of self.new ≡ duty_with event reply (duty_of self.old) }
+    {
         match event {
-            Event::Step { .. } => self.after_step(reply),
+            Event::Step { process, .. } => self.after_step(process, reply),
             Event::Notice { .. } => self.after_notice(),
             Event::Sweep => self.after_sweep(reply),
             Event::Collect(key) => self.after_collect(key, reply),
-            Event::Saved(key) => self.after_save(key, reply),
-            Event::PageIn(_) => self.after_page_in(reply),
+            Event::Saved(key) => self.after_save(key.process, reply),
+            Event::PageIn(key) => self.after_page_in(key.process, reply),
             Event::Kill { process, .. } => self.stage = Stage::Purge { process },
             Event::Purge { process } => self.after_purge(process),
         }
     }
 
     /// The page that is copied and not yet saved, if there is one.
-    pub(crate) fn unsaved(&self) -> Option<Key> {
+    pub(crate) fn unsaved(&self) -> Option<Key>
+        ensures { result ≡ owed_save (stage_owes self.now.stage) }
+    {
         match self.stage {
             Stage::Save(victim) => Some(victim),
             _ => None,
         }
     }
 
+    /// Whether the last reply has settled what comes next: the save of a page, or the end of a process.
+    pub(crate) fn is_settled(&self) -> bool
+        ensures { result ≡ is_some (stage_owes self.now.stage) }
+    {
+        matches!(
+            self.stage,
+            Stage::Save(_) | Stage::Kill { .. } | Stage::Purge { .. }
+        )
+    }
+
     /// The rest of the hart's slice, of which so many events may happen still.
     fn steps(&self, allowed: u64) -> Next
         requires { 0 < allowed }
-        ensures { (patience : Patience) → IsNext allowed patience result }
+        ensures { (patience : Patience) → (duty : Duty) → duty.owed ≡ None → IsNext allowed patience duty result }
     {
         let HartOf { process, hart } = self.running;
         let most = u32::try_from(allowed)
@@ -174,7 +200,8 @@ impl Turns {
         victim: Key,
         hart: u32,
     ) -> Event
-        ensures { IsOrdinary result }
+        ensures ordinary { IsOrdinary result }
+        ensures kept { stage_owes self.old.stage ≡ None → duty_of self.new ≡ duty_of self.old }
     {
         let process = victim.process;
         let Some(hart) = live_hart_from(core, process, hart) else {
@@ -187,7 +214,9 @@ impl Turns {
         notice(HartOf { process, hart })
     }
 
-    fn after_step(&mut self, reply: Reply) {
+    fn after_step(&mut self, process: u32, reply: Reply)
+        ensures { duty_of self.new ≡ record { faults = step_faults reply self.old.load_faults; owed = step_owes process reply } }
+    {
         match reply {
             Reply::Ran => {
                 self.ran(1);
@@ -206,34 +235,45 @@ impl Turns {
                 self.wanted = page;
                 self.stage = Stage::Wait;
             }
-            other => self.stop(other),
+            other => self.stop(process, other),
         }
     }
 
     /// So many instructions of the hart ran.
-    fn ran(&mut self, count: u32) {
+    fn ran(&mut self, count: u32)
+        ensures { duty_of self.new ≡ duty_of self.old }
+    {
         self.left = self.left.saturating_sub(count);
     }
 
     /// The slice is over where nothing is left of it.
-    fn rest_at_end(&mut self) {
-        if self.left == 0 {
-            self.stage = Stage::Rest;
-        }
+    fn rest_at_end(&mut self)
+        ensures { duty_of self.new ≡ record { faults = self.old.load_faults; owed = None } }
+    {
+        self.stage = if self.left == 0 {
+            Stage::Rest
+        } else {
+            Stage::Run
+        };
     }
 
-    /// The process of the hart goes on no more.
-    fn stop(&mut self, reply: Reply) {
-        let process = self.running.process;
-        match reply {
-            Reply::ScheduleFull => self.kill(process, Failure::ScheduleFull),
-            Reply::Refused(EventRefusal::NoMemory) => self.kill(process, Failure::NoMemory),
-            _ => self.stage = Stage::Purge { process },
+    /// A process goes on no more.
+    fn stop(&mut self, process: u32, reply: Reply)
+        ensures { duty_of self.new ≡ record { faults = self.old.load_faults; owed = stop_owes process reply } }
+    {
+        if matches!(reply, Reply::ScheduleFull) {
+            self.kill(process, Failure::ScheduleFull);
+        } else if is_out_of_memory(reply) {
+            self.kill(process, Failure::NoMemory);
+        } else {
+            self.stage = Stage::Purge { process };
         }
     }
 
     /// The hart behind the one that had the slice is next.
-    fn choose(&mut self) {
+    fn choose(&mut self)
+        ensures { duty_of self.new ≡ record { faults = self.old.load_faults; owed = None } }
+    {
         let HartOf { process, hart } = self.running;
         self.stage = Stage::Choose(HartOf {
             process,
@@ -241,69 +281,110 @@ impl Turns {
         });
     }
 
-    fn after_notice(&mut self) {
-        if matches!(self.stage, Stage::Rest) {
-            self.choose();
+    fn after_notice(&mut self)
+        ensures { duty_of self.new ≡ record { faults = self.old.load_faults; owed = None } }
+    {
+        match self.stage {
+            Stage::Clear { .. } => {}
+            _ => self.choose(),
         }
     }
 
-    fn after_sweep(&mut self, reply: Reply) {
-        if let Reply::Victim(victim) = reply {
-            self.stage = Stage::Clear { victim, hart: 0 };
-        }
+    fn after_sweep(&mut self, reply: Reply)
+        ensures { duty_of self.new ≡ record { faults = self.old.load_faults; owed = None } }
+    {
+        self.stage = match reply {
+            Reply::Victim(victim) => Stage::Clear { victim, hart: 0 },
+            _ => Stage::Wait,
+        };
     }
 
-    fn after_collect(&mut self, victim: Key, reply: Reply) {
-        if matches!(reply, Reply::Dirty) {
+    fn after_collect(&mut self, victim: Key, reply: Reply)
+        ensures { duty_of self.new ≡ record { faults = self.old.load_faults; owed = collect_owes victim reply } }
+    {
+        if is_dirty(reply) {
             self.stage = Stage::Save(victim);
         } else {
-            self.after_save(victim, reply);
+            self.after_save(victim.process, reply);
         }
     }
 
-    /// The victim has left its frame, or has not.
-    fn after_save(&mut self, victim: Key, reply: Reply) {
-        self.stage = Stage::Wait;
-        if let Reply::Refused(EventRefusal::NoMemory) = reply {
-            self.kill(victim.process, Failure::NoMemory);
+    /// The victim, of this process, has left its frame, or has not.
+    fn after_save(&mut self, process: u32, reply: Reply)
+        ensures { duty_of self.new ≡ record { faults = self.old.load_faults; owed = save_owes process reply } }
+    {
+        if is_out_of_memory(reply) {
+            self.kill(process, Failure::NoMemory);
+        } else {
+            self.stage = Stage::Wait;
         }
     }
 
-    fn after_page_in(&mut self, reply: Reply) {
-        let process = self.running.process;
+    fn after_page_in(&mut self, process: u32, reply: Reply)
+        ensures { duty_of self.new ≡ record { faults = load_faults reply self.old.load_faults; owed = load_owes self.old.load_faults process reply } }
+    {
         match reply {
-            Reply::Mapped => self.stage = Stage::Run,
+            Reply::Mapped => {
+                self.load_faults = 0;
+                self.stage = Stage::Run;
+            }
             Reply::Device => self.after_load_fault(process),
-            Reply::Refused(EventRefusal::NoMemory) => self.kill(process, Failure::NoMemory),
-            _ => {}
+            other => self.after_save(process, other),
         }
     }
 
     /// The page that the hart waits for could not be loaded.
-    fn after_load_fault(&mut self, process: u32) {
-        self.load_faults = self.load_faults.saturating_add(1);
-        if self.load_faults >= MOST_LOAD_FAULTS {
+    fn after_load_fault(&mut self, process: u32)
+        ensures { duty_of self.new ≡ record { faults = min (self.old.load_faults + 1) most_load_faults; owed = if nat_le most_load_faults (self.old.load_faults + 1) then Some (machine.Kill process cause.LoadFailed) else None } }
+    {
+        let faults = self.load_faults.saturating_add(1).min(MOST_LOAD_FAULTS);
+        self.load_faults = faults;
+        if faults >= MOST_LOAD_FAULTS {
             self.kill(process, Failure::LoadFailed);
+        } else {
+            self.stage = Stage::Wait;
         }
     }
 
-    /// Whether a process is about to be ended.
-    pub(crate) fn is_killing(&self) -> bool {
-        matches!(self.stage, Stage::Kill { .. })
-    }
-
-    fn kill(&mut self, process: u32, failure: Failure) {
+    fn kill(&mut self, process: u32, failure: Failure)
+        ensures { duty_of self.new ≡ record { faults = self.old.load_faults; owed = Some (machine.Kill process (cause_of failure)) } }
+    {
         self.stage = Stage::Kill { process, failure };
     }
 
     /// A process is gone: the hart that has the slice is of it, or waits on.
-    fn after_purge(&mut self, process: u32) {
+    fn after_purge(&mut self, process: u32)
+        ensures { duty_of self.new ≡ record { faults = self.old.load_faults; owed = None } }
+    {
         if process == self.running.process {
             self.choose();
         } else {
             self.stage = Stage::Wait;
         }
     }
+}
+
+/// Whether an event was refused for want of memory.
+fn is_out_of_memory(reply: Reply) -> bool
+    ensures { result ≡ is_out_of_memory reply }
+{
+    match reply {
+        Reply::Refused(refusal) => is_no_memory(refusal),
+        _ => false,
+    }
+}
+
+fn is_no_memory(refusal: EventRefusal) -> bool
+    ensures { result ≡ is_no_memory refusal }
+{
+    matches!(refusal, EventRefusal::NoMemory)
+}
+
+/// Whether a page was copied, to be saved.
+fn is_dirty(reply: Reply) -> bool
+    ensures { result ≡ is_dirty reply }
+{
+    matches!(reply, Reply::Dirty)
 }
 
 fn notice(of: HartOf) -> Event

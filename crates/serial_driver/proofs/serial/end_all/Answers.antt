@@ -13,12 +13,12 @@ processes-init g c = record {
 
 pub processes-preserved : goal.processes-preserved
 processes-preserved g c =
-    let keeps = purge_keeps g.S.SwapSlot.content g.S.SwapSlot.honest g.S.SwapSlot.failures c.end.new.core c.apply.new.self _ _ c.apply.ensures in
+    let keeps = purge_keeps g.S.SwapSlot.content g.S.SwapSlot.honest g.S.SwapSlot.failures c.end.new.core c.apply.new.self _ _ c.apply.ensures.applies in
     record {
       closes = closes_more g.S.SwapSlot.content g.S.SwapSlot.honest g.S.SwapSlot.failures c.args.core.now c.processes.core c.end.new.core c.apply.new.self _ _
-          c.processes.invariant.closes (c.processes.invariant.same _ (omega arith)) c.end.ensures.ends c.apply.ensures;
+          c.processes.invariant.closes (c.processes.invariant.same _ (omega arith)) c.end.ensures.ends c.apply.ensures.applies;
       same = same_behind g.S.SwapSlot.content g.S.SwapSlot.honest g.S.SwapSlot.failures c.args.core.now c.processes.core c.end.new.core c.apply.new.self _ _
-          c.processes.invariant.same c.end.ensures.ends c.apply.ensures;
+          c.processes.invariant.same c.end.ensures.ends c.apply.ensures.applies;
       ended = ended_more c.apply.new.self _ (λ number within. keeps number (c.end.ensures.kept number (c.processes.invariant.ended number within))) (keeps _ c.end.ensures.ended);
     }
 

@@ -1,0 +1,127 @@
+-- What the driver owes: which event has to come next for what the last one was answered with.
+use Rattle.std.specs.Prelude.{◌≡◌, ℕ, ◌+◌, min, not, nat_le, ⊤, Bool, true, false, List, [], ◌∷◌, Option, Some, None, if◌then◌else◌}
+use Rattle.clock_policy.specs.declared.key.Key.{Key}
+use Rattle.flat_machine.specs.declared.end.KillCause.{KillCause}
+use Rattle.flat_machine.specs.declared.end.KillCause.TheVariants as cause
+use Rattle.machine_core.specs.declared.error.EventRefusal.{EventRefusal}
+use Rattle.machine_core.specs.declared.error.EventRefusal.TheVariants as refusal
+use Rattle.machine_core.specs.declared.event.Event.{Event}
+use Rattle.machine_core.specs.declared.event.Event.TheVariants.{Step, Notice, Sweep, Collect, Saved, PageIn, Kill, Purge}
+use Rattle.machine_core.specs.declared.event.Reply.{Reply}
+use Rattle.machine_core.specs.declared.event.Reply.TheVariants as reply
+use Rattle.serial_driver.specs.Patience.{is_no_swap}
+
+-- how many loads failed in a row within one absence, and the event that has to come next, if it is settled
+pub record Duty : Type 0 where
+  pub faults : ℕ
+  pub owed : Option Event
+
+abbrev pub no_duty : Duty
+no_duty = record { faults = 0; owed = None }
+
+-- after so many load faults in a row a process is ended
+abbrev pub most_load_faults : ℕ
+most_load_faults = 3
+
+-- whether an event was refused for want of memory
+abbrev pub is_no_memory : EventRefusal → Bool
+is_no_memory refusal.NoMemory = true
+is_no_memory _ = false
+
+abbrev pub is_out_of_memory : Reply → Bool
+is_out_of_memory (reply.Refused why) = is_no_memory why
+is_out_of_memory _ = false
+
+-- whether a step's hart has its next turn, or waits for its page
+abbrev pub is_going_on : Reply → Bool
+is_going_on reply.Ran = true
+is_going_on reply.Yielded = true
+is_going_on reply.HartDone = true
+is_going_on (reply.Absent page) = true
+is_going_on _ = false
+
+abbrev pub is_absent : Reply → Bool
+is_absent (reply.Absent page) = true
+is_absent _ = false
+
+abbrev pub is_full : Reply → Bool
+is_full reply.ScheduleFull = true
+is_full _ = false
+
+abbrev pub is_dirty : Reply → Bool
+is_dirty reply.Dirty = true
+is_dirty _ = false
+
+abbrev pub is_device : Reply → Bool
+is_device reply.Device = true
+is_device _ = false
+
+abbrev pub is_mapped : Reply → Bool
+is_mapped reply.Mapped = true
+is_mapped _ = false
+
+-- A process whose schedule is full, or for which memory is wanting, is ended for that. One that does not go on gives back what it has.
+abbrev pub stop_owes : ℕ → Reply → Option Event
+stop_owes process answer =
+    if is_full answer then Some (Kill process cause.ScheduleFull) else (if is_out_of_memory answer then Some (Kill process cause.NoMemory) else Some (Purge process))
+
+abbrev pub step_owes : ℕ → Reply → Option Event
+step_owes process answer = if is_going_on answer then None else stop_owes process answer
+
+-- a page that is absent begins the count of load faults anew
+abbrev pub step_faults : Reply → ℕ → ℕ
+step_faults answer faults = if is_absent answer then 0 else faults
+
+-- where memory is wanting to list a page, its process is ended for that
+abbrev pub save_owes : ℕ → Reply → Option Event
+save_owes process answer = if is_out_of_memory answer then Some (Kill process cause.NoMemory) else None
+
+-- a changed page that was copied is saved
+abbrev pub collect_owes : Key → Reply → Option Event
+collect_owes key answer = if is_dirty answer then Some (Saved key) else save_owes key.process answer
+
+-- after the last of so many load faults in a row the process is ended
+abbrev pub load_owes : ℕ → ℕ → Reply → Option Event
+load_owes faults process answer =
+    if is_device answer then (if nat_le most_load_faults (faults + 1) then Some (Kill process cause.LoadFailed) else None) else save_owes process answer
+
+abbrev pub load_faults : Reply → ℕ → ℕ
+load_faults answer faults = if is_device answer then min (faults + 1) most_load_faults else (if is_mapped answer then 0 else faults)
+
+-- what is owed after an event with its reply: a process that was ended gives back what it has
+abbrev pub duty_with : Event → Reply → Duty → Duty
+duty_with (Step process hart) answer duty = record { faults = step_faults answer duty.faults; owed = step_owes process answer }
+duty_with (Notice process hart) answer duty = record { faults = duty.faults; owed = None }
+duty_with Sweep answer duty = record { faults = duty.faults; owed = None }
+duty_with (Collect key) answer duty = record { faults = duty.faults; owed = collect_owes key answer }
+duty_with (Saved key) answer duty = record { faults = duty.faults; owed = save_owes key.process answer }
+duty_with (PageIn key) answer duty = record { faults = load_faults answer duty.faults; owed = load_owes duty.faults key.process answer }
+duty_with (Kill process cause) answer duty = record { faults = duty.faults; owed = Some (Purge process) }
+duty_with (Purge process) answer duty = record { faults = duty.faults; owed = None }
+
+-- the same after events one after another
+unfoldable pub duty_after : List Event → List Reply → Duty → Duty
+duty_after [] answers duty = duty
+duty_after (event ∷ events) [] duty = duty
+duty_after (event ∷ events) (answer ∷ answers) duty = duty_after events answers (duty_with event answer duty)
+
+-- whether an event ends a process for another reason than want of a place
+abbrev pub is_other_kill : Event → Bool
+is_other_kill (Kill process cause) = not (is_no_swap cause)
+is_other_kill _ = false
+
+-- an event that is owed is the next; where none is, no process is ended but for want of a place
+abbrev pub Pays : Option Event → Event → Type 0
+Pays (Some owed) event = event ≡ owed
+Pays None event = is_other_kill event ≡ false
+
+-- the same of events one after another
+unfoldable pub ArePaid : Duty → List Event → List Reply → Type 0
+ArePaid duty [] answers = ⊤
+ArePaid duty (event ∷ events) [] = ⊤
+ArePaid duty (event ∷ events) (answer ∷ answers) = Pays duty.owed event × ArePaid (duty_with event answer duty) events answers
+
+-- the page whose save is owed
+abbrev pub owed_save : Option Event → Option Key
+owed_save (Some (Saved key)) = Some key
+owed_save _ = None

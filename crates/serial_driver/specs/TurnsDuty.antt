@@ -1,0 +1,31 @@
+-- What the driver remembers of what it owes.
+use Rattle.std.specs.Prelude.{Option, Some, None}
+use Rattle.flat_machine.specs.declared.end.KillCause.{KillCause}
+use Rattle.flat_machine.specs.declared.end.KillCause.TheVariants as cause
+use Rattle.machine_core.specs.declared.event.Event as machine
+use Rattle.machine_core.specs.declared.event.Event.TheVariants as event
+use Rattle.serial_driver.specs.declared.failure.Failure.{Failure}
+use Rattle.serial_driver.specs.declared.failure.Failure.TheVariants as failure
+use Rattle.serial_driver.specs.declared.turns.Stage.{Stage}
+use Rattle.serial_driver.specs.declared.turns.Stage.TheVariants.{Choose, Run, Rest, Wait, Clear, Save, Kill, Purge}
+use Rattle.serial_driver.specs.declared.turns.Turns.{Turns}
+use Rattle.serial_driver.specs.Owing.{Duty}
+
+-- the cause that is recorded of a failure
+abbrev pub cause_of : Failure → KillCause
+cause_of failure.LoadFailed = cause.LoadFailed
+cause_of failure.ScheduleFull = cause.ScheduleFull
+cause_of failure.NoMemory = cause.NoMemory
+
+abbrev pub stage_owes : Stage → Option machine.Event
+stage_owes (Choose from) = None
+stage_owes Run = None
+stage_owes Rest = None
+stage_owes Wait = None
+stage_owes (Clear victim hart) = None
+stage_owes (Save victim) = Some (event.Saved victim)
+stage_owes (Kill process failure) = Some (event.Kill process (cause_of failure))
+stage_owes (Purge process) = Some (event.Purge process)
+
+abbrev pub duty_of : Turns → Duty
+duty_of turns = record { faults = turns.load_faults; owed = stage_owes turns.stage }

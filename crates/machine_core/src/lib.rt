@@ -20,6 +20,7 @@ mod paging_in;
 mod reading;
 mod report;
 mod running;
+mod showing;
 
 pub use error::{CoreError, EventRefusal};
 pub use event::{Event, Reply};

@@ -5,6 +5,7 @@ pub mod Collecting
 pub mod Loading
 pub mod LookLaws
 pub mod MoveLaws
+pub mod PageStatusAt
 pub mod ProcessCalls
 pub mod PurgeLaws
 pub mod Purging

@@ -14,6 +14,7 @@ mod process_side;
 mod purging;
 mod returning;
 mod saving_back;
+mod showing;
 mod starting;
 mod sweeping;
 

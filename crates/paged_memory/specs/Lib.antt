@@ -14,3 +14,4 @@ pub mod Peeking
 pub mod GivingBack
 pub mod HartCountingLaws
 pub mod Coherence
+pub mod PageStatus

@@ -17,6 +17,7 @@ mod memory;
 mod peeking;
 mod reading;
 mod saving;
+mod status;
 mod still_saving;
 mod writing;
 
@@ -24,3 +25,4 @@ pub use filling::PageInFault;
 pub use hart_memory::{HartMemory, Opening};
 pub use memory::PagedMemory;
 pub use peeking::PeekFault;
+pub use status::PageStatus;

@@ -4,9 +4,11 @@
 #![tactic(auto)]
 
 mod counts;
+mod hands;
 mod pager;
 mod refusal;
 
 pub use counts::{Counts, Tallies};
+pub use hands::Hands;
 pub use pager::Pager;
 pub use refusal::AdmitRefusal;

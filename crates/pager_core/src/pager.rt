@@ -17,7 +17,7 @@ use std::sync::ledger::{Blank, Ledger};
 #[derive(Drop)]
 pub struct Pager<L: Ledger, C: Clock> {
     frames: FramePool<L>,
-    list: C,
+    pub(crate) list: C,
     tallies: Tallies,
 }
 

@@ -15,6 +15,7 @@ mod space_harts;
 mod space_moves;
 mod space_paging;
 mod space_slice;
+mod space_status;
 mod space_steps;
 mod stepping;
 mod stepping_on;

@@ -203,3 +203,12 @@ none_dirty tables vpn none = by_valid e.valid none
     by_valid : (b : Bool) → ◌≡◌ {A = Option Pte} (cond b (Some (record { 0 = word_of e })) None) None → (b && e.dirty) ≡ false
     by_valid true none = cc
     by_valid false none = refl
+
+-- whether a page's entry has A
+pub accessed_word : (tables : List (List ℕ)) (vpn : ℕ) (pte : Pte) → valid_word (entry_at tables vpn) ≡ Some pte → Some (entry_of pte.0).accessed ≡ accessed_of (entry_at tables vpn)
+accessed_word tables vpn pte found =
+    ap (option_map (λ (pte : Pte). (entry_of pte.0).accessed)) (sym found ∙ sym (found_entry tables vpn)) ∙ accessed_found tables vpn
+
+pub none_accessed : (tables : List (List ℕ)) (vpn : ℕ) → valid_word (entry_at tables vpn) ≡ None → None ≡ accessed_of (entry_at tables vpn)
+none_accessed tables vpn none =
+    ap (option_map (λ (pte : Pte). (entry_of pte.0).accessed)) (sym none ∙ sym (found_entry tables vpn)) ∙ accessed_found tables vpn

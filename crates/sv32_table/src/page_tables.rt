@@ -123,6 +123,18 @@ impl PageTables {
         self.tables.lookup(vpn)
     }
 
+    /// Whether a page's entry has A, or `None` where the page has none with V.
+    #[tactic(auto, using(crate::proofs::TreeCalls::accessed_word, crate::proofs::TreeCalls::none_accessed))]
+    pub fn accessed(&self, vpn: u32) -> Option<bool>
+        requires { vpn < 2 ^ 20 }
+        ensures { result ≡ accessed_of (entry_at self.now vpn) }
+    {
+        match self.lookup(vpn) {
+            Some(pte) => Some(pte.is_accessed()),
+            None => None,
+        }
+    }
+
     /// Whether a page's entry has D. Where the page has none with V, it has not.
     #[tactic(auto, using(crate::proofs::TreeCalls::dirty_found, crate::proofs::TreeCalls::none_dirty))]
     pub fn is_dirty(&self, vpn: u32) -> bool

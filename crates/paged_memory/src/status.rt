@@ -1,0 +1,49 @@
+//! What a process's memory shows of one of its pages.
+
+ghost use Rattle.std.specs.Prelude.{◌≡◌, ◌<◌, ◌^◌, option_map};
+ghost use Rattle.page_store.specs.PageValue.{frame_of};
+ghost use Rattle.paged_memory.specs.PageStatus.{status_in};
+
+use crate::memory::PagedMemory;
+use page_store::{PageState, StoredPage};
+use std::sync::ledger::Ledger;
+use swap_slots::SwapSlot;
+
+/// Where a page is, and what is known of its use.
+#[derive(Clone, Copy, PartialEq, Eq, Debug)]
+pub struct PageStatus {
+    pub state: PageState,
+    /// The number of its frame, if it has one.
+    pub frame: Option<u32>,
+    /// Whether its page-table entry has A, if there is one with V.
+    pub accessed: Option<bool>,
+    /// Whether its page-table entry has D, and V.
+    pub dirty: bool,
+}
+
+impl<L: Ledger, S: SwapSlot> PagedMemory<L, S> {
+    /// What is shown of a page, or `None` where none is mapped.
+    #[tactic(auto, unfolding(crate::specs::Paged::page_at))]
+    pub fn status(&self, vpn: u32) -> Option<PageStatus>
+        requires { vpn < 2 ^ 20 }
+        ensures { result ≡ status_in self.now vpn }
+    {
+        let place = self.pages.place(vpn)?;
+        let page = self.pages.at(place);
+        Some(PageStatus {
+            state: page.state(),
+            frame: frame_number(page),
+            accessed: self.tables.accessed(vpn),
+            dirty: self.tables.is_dirty(vpn),
+        })
+    }
+}
+
+fn frame_number<L: Ledger, S: SwapSlot>(page: &StoredPage<L, S>) -> Option<u32>
+    ensures { result ≡ option_map (λ frame. frame.number) (frame_of page.now.place) }
+{
+    match page.frame() {
+        Some(frame) => Some(frame.number()),
+        None => None,
+    }
+}

@@ -1,0 +1,17 @@
+ghost use Rattle.std.specs.Prelude.{◌≡◌, ◌<◌, ◌^◌};
+ghost use Rattle.paged_memory.specs.PageStatus.{status_in};
+
+use crate::space::Space;
+use paged_memory::PageStatus;
+use std::sync::ledger::Ledger;
+use swap_slots::SwapSlot;
+
+impl<L: Ledger, S: SwapSlot> Space<L, S> {
+    /// What is shown of a page, or `None` where none is mapped.
+    pub fn status(&self, vpn: u32) -> Option<PageStatus>
+        requires { vpn < 2 ^ 20 }
+        ensures { result ≡ status_in self.now.memory vpn }
+    {
+        self.memory.status(vpn)
+    }
+}

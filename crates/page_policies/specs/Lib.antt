@@ -1,0 +1,10 @@
+pub mod Outcomes
+pub mod Strings
+pub mod Queues
+pub mod SecondChance
+pub mod QueueLaws
+pub mod SlotLaws
+pub mod Inclusion
+pub mod InclusionLaws
+pub mod ClockProPlay
+pub mod PlayLaws

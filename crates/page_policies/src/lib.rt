@@ -1,0 +1,20 @@
+//! Page replacement policies side by side: each plays a string of references, and tells which of them miss.
+#![tactic(auto)]
+
+mod clock_pro;
+mod counter;
+mod fifo_policy;
+mod frames;
+mod laws;
+mod lru_policy;
+mod policy;
+mod second_chance;
+
+pub use clock_pro::ClockPro;
+pub use counter::Counter;
+pub use fifo_policy::Fifo;
+pub use frames::Frames;
+pub use laws::more_frames_never_miss_more;
+pub use lru_policy::Lru;
+pub use policy::{Outcome, Policy, misses};
+pub use second_chance::SecondChance;

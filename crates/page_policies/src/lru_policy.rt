@@ -1,0 +1,45 @@
+//! LRU.
+
+ghost use Rattle.std.specs.Prelude.{◌≡◌, refl};
+ghost use Rattle.std.specs.Map.{keys_of};
+ghost use Rattle.page_policies.specs.Strings.{holds, misses as misses_by};
+ghost use Rattle.page_policies.specs.Queues.{lru, lru_misses};
+
+use crate::frames::Frames;
+use crate::policy::{Outcome, Policy};
+use clock_policy::Key;
+use lru::LruCache;
+use std::alloc::{AllocError, Global};
+use std::num::NonZeroUsize;
+
+/// Least recently used: the page whose use is longest ago leaves.
+#[derive(Drop)]
+pub struct Lru {
+    pages: LruCache<Key, ()>,
+}
+
+impl Policy for Lru {
+    ghost misses = { lru_misses };
+
+    ghost to_miss = { λ policy string. misses_by holds (lru policy.pages.cap) (keys_of policy.pages.entries) string };
+
+    ghost none_to_miss = { λ policy. refl };
+
+    #[tactic(auto, unfolding(crate::specs::Queues::lru_misses))]
+    fn new(alloc: Global, frames: Frames) -> Result<Self, AllocError> {
+        let room = NonZeroUsize::new(frames.number()).unwrap_or(NonZeroUsize::MIN);
+        let pages = LruCache::new(alloc, room)?;
+        Ok(Lru { pages })
+    }
+
+    fn refer(&mut self, page: Key) -> Result<Outcome, AllocError> {
+        let _ = self.pages.len();
+        if self.pages.promote(&page) {
+            return Ok(Outcome::Hit);
+        }
+        match self.pages.put(page, ()) {
+            Ok(_) => Ok(Outcome::Miss),
+            Err(_) => Err(AllocError),
+        }
+    }
+}

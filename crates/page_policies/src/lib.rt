@@ -9,6 +9,8 @@ mod laws;
 mod lru_policy;
 mod policy;
 mod second_chance;
+#[cfg(test)]
+mod tests;
 
 pub use clock_pro::ClockPro;
 pub use counter::Counter;

@@ -1,0 +1,20 @@
+use super::*;
+use clock_policy::Key;
+use std::test::Fail;
+
+/// The string on which more frames make FIFO miss more, and its counts at four frames, which textbooks give.
+#[test]
+fn counts_as_textbooks(rt: HostRuntime) -> Result<(), Fail> {
+    let mut string = Vec::new(rt.alloc());
+    for vpn in [1u32, 2, 3, 4, 1, 2, 5, 1, 2, 3, 4, 5] {
+        string.push(Key { process: 0, vpn })?;
+    }
+    let frames = Frames::new(4).unwrap();
+    let fifo = misses::<Fifo>(rt.alloc(), frames, string.as_slice())?;
+    let lru = misses::<Lru>(rt.alloc(), frames, string.as_slice())?;
+    assert_eq!(rt; (fifo, lru), (10, 8));
+    assert!(rt; Frames::new(3).is_none());
+    assert!(rt; Frames::new(4097).is_none());
+    more_frames_never_miss_more();
+    Ok(())
+}

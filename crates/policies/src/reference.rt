@@ -1,0 +1,18 @@
+//! Lines of a trace.
+
+use clock_policy::Key;
+use text_lines::{next_word, number};
+
+/// The page of a line: `P/V`, the numbers of a process and of a page, and where the page was written a `w` behind it.
+pub(crate) fn page_of(line: &str) -> Option<Key> {
+    let (page, rest) = next_word(line.as_bytes())?;
+    if let Some((mark, others)) = next_word(rest) {
+        if mark != b"w".as_slice() || next_word(others).is_some() {
+            return None;
+        }
+    }
+    let bar = page.iter().position(|byte| *byte == b'/')?;
+    let process = number(&page[..bar], u32::MAX)?;
+    let vpn = number(&page[bar + 1..], u32::MAX)?;
+    Some(Key { process, vpn })
+}

@@ -35,7 +35,7 @@ pub record Plays (frames slots : ℕ) (starts : List Start) (lines : List (List 
   pub new : IsNew frames slots starts start
   pub script : IsScript lines events bad_line
   pub runs : Runs page_of ⊤ never events replies start end
-  pub invisible : PagingIsInvisible page_of ⊤ events replies start end
+  pub invisible : PagingIsInvisible page_of ⊤ never events replies start end
 
 -- what is reported of a new machine after a run that so many events end
 pub record ReportsRun (frames slots : ℕ) (starts : List Start) (limit : ℕ) (report : Report) : Type 0 where

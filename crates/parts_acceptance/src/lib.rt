@@ -1,0 +1,19 @@
+//! Tests of lower crates, each by its public calls alone: those crates are not proved a second time with tests of their own.
+#![tactic(auto)]
+
+#[cfg(test)]
+mod elf_reading;
+#[cfg(test)]
+mod elf_writing;
+#[cfg(test)]
+mod frames;
+#[cfg(test)]
+mod instructions;
+#[cfg(test)]
+mod lines;
+#[cfg(test)]
+mod ring;
+#[cfg(test)]
+mod slots;
+#[cfg(test)]
+mod tables;

@@ -13,14 +13,10 @@ mod loading;
 mod parts;
 mod program_header;
 mod read;
-#[cfg(test)]
-mod read_tests;
 mod runs;
 mod segments;
 mod touched;
 mod words;
-#[cfg(test)]
-mod write_tests;
 mod writing;
 mod written_law;
 

@@ -15,6 +15,3 @@ pub use job::{SaveJob, SavedJob};
 pub use page::StoredPage;
 pub use refusal::{FillFault, LeaveRefusal, NotLeaving, ReadFault};
 pub use state::{Keeping, PageState};
-
-#[cfg(test)]
-mod tests;

@@ -14,8 +14,6 @@ mod laws;
 pub mod opcodes;
 mod operands;
 mod split;
-#[cfg(test)]
-mod tests;
 mod text;
 
 pub use decoding::decode;

@@ -1,6 +1,6 @@
 use super::instruction::Insn;
 use super::kinds::{AmoKind, BranchKind, ImmediateKind, LoadKind, OpKind, ShiftKind, StoreKind};
-use super::operands::{FenceBits, Reg};
+use super::operands::{FenceBits, Immediate, Reg};
 use std::fmt;
 use std::fmt::Write;
 
@@ -20,48 +20,57 @@ impl fmt::Display for Reg {
 impl fmt::Display for Insn {
     fn fmt<W: fmt::Write>(&self, f: &mut fmt::Formatter<W>) -> fmt::Result {
         match self {
-            Insn::Lui { rd, immediate } => write!(f, "lui {rd},{}", immediate.value()),
-            Insn::Auipc { rd, immediate } => write!(f, "auipc {rd},{}", immediate.value()),
-            Insn::Jal { rd, offset } => write!(f, "jal {rd},{}", offset.value()),
-            Insn::Jalr { rd, rs1, offset } => write!(f, "jalr {rd},{}({rs1})", offset.value()),
+            Insn::Lui { rd, immediate } => one_and_number(
+                f,
+                "lui",
+                *rd,
+                i64::from(immediate.value()),
+            ),
+            Insn::Auipc { rd, immediate } => one_and_number(
+                f,
+                "auipc",
+                *rd,
+                i64::from(immediate.value()),
+            ),
+            Insn::Jal { rd, offset } => one_and_number(f, "jal", *rd, i64::from(offset.value())),
+            Insn::Jalr { rd, rs1, offset } => one_and_address(f, "jalr", *rd, *offset, *rs1),
             Insn::Branch {
                 kind,
                 rs1,
                 rs2,
                 offset,
-            } => { write!(f, "{} {rs1},{rs2},{}", branch_name(*kind), offset.value()) }
+            } => two_and_number(f, branch_name(*kind), *rs1, *rs2, i64::from(offset.value())),
             Insn::Load {
                 kind,
                 rd,
                 rs1,
                 offset,
-            } => write!(f, "{} {rd},{}({rs1})", load_name(*kind), offset.value()),
+            } => one_and_address(f, load_name(*kind), *rd, *offset, *rs1),
             Insn::Store {
                 kind,
                 rs1,
                 rs2,
                 offset,
-            } => write!(f, "{} {rs2},{}({rs1})", store_name(*kind), offset.value()),
+            } => one_and_address(f, store_name(*kind), *rs2, *offset, *rs1),
             Insn::OpImmediate {
                 kind,
                 rd,
                 rs1,
                 immediate,
-            } => {
-                write!(
-                    f,
-                    "{} {rd},{rs1},{}",
-                    immediate_name(*kind),
-                    immediate.value()
-                )
-            }
+            } => two_and_number(
+                f,
+                immediate_name(*kind),
+                *rd,
+                *rs1,
+                i64::from(immediate.value()),
+            ),
             Insn::Shift {
                 kind,
                 rd,
                 rs1,
                 amount,
-            } => { write!(f, "{} {rd},{rs1},{}", shift_name(*kind), amount.value()) }
-            Insn::Op { kind, rd, rs1, rs2 } => write!(f, "{} {rd},{rs1},{rs2}", op_name(*kind)),
+            } => two_and_number(f, shift_name(*kind), *rd, *rs1, i64::from(amount.value())),
+            Insn::Op { kind, rd, rs1, rs2 } => three(f, op_name(*kind), *rd, *rs1, *rs2),
             Insn::Fence { bits, rd, rs1 } => write_fence(f, *bits, *rd, *rs1),
             Insn::Amo {
                 kind,
@@ -71,13 +80,63 @@ impl fmt::Display for Insn {
                 rs1,
                 rs2,
             } => {
-                let ordering = ordering_name(*acquire, *release);
-                write!(f, "{}.w{ordering} {rd},{rs2},({rs1})", amo_name(*kind))
+                f.write_str(amo_name(*kind))?;
+                f.write_str(".w")?;
+                two_and_base(f, ordering_name(*acquire, *release), *rd, *rs2, *rs1)
             }
             Insn::Ecall => f.write_str("ecall"),
             Insn::Ebreak => f.write_str("ebreak"),
         }
     }
+}
+
+fn one_and_number<W: fmt::Write>(
+    f: &mut fmt::Formatter<W>,
+    name: &str,
+    a: Reg,
+    number: i64,
+) -> fmt::Result {
+    write!(f, "{name} {a},{number}")
+}
+
+fn two_and_number<W: fmt::Write>(
+    f: &mut fmt::Formatter<W>,
+    name: &str,
+    a: Reg,
+    b: Reg,
+    number: i64,
+) -> fmt::Result {
+    write!(f, "{name} {a},{b},{number}")
+}
+
+fn three<W: fmt::Write>(
+    f: &mut fmt::Formatter<W>,
+    name: &str,
+    a: Reg,
+    b: Reg,
+    c: Reg,
+) -> fmt::Result {
+    write!(f, "{name} {a},{b},{c}")
+}
+
+fn one_and_address<W: fmt::Write>(
+    f: &mut fmt::Formatter<W>,
+    name: &str,
+    a: Reg,
+    offset: Immediate,
+    base: Reg,
+) -> fmt::Result {
+    write!(f, "{name} {a},{}({base})", offset.value())
+}
+
+fn two_and_base<W: fmt::Write>(
+    f: &mut fmt::Formatter<W>,
+    name: &str,
+    a: Reg,
+    b: Reg,
+    base: Reg,
+) -> fmt::Result {
+    write!(f, "{name} {a},{b},({base})")
 }
 
 /// The bits of a plain `fence`: all accesses before it, then all after it.

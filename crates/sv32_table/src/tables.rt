@@ -318,6 +318,3 @@ fn physical(superpage: bool, ppn: u32, address: u32) -> u64
         u64::from(ppn) * 0x1000 + u64::from(address % 0x1000)
     }
 }
-
-#[cfg(test)]
-mod tests;

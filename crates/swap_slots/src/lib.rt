@@ -13,6 +13,3 @@ pub use fuse::FuseSlot;
 pub use memory::MemorySlot;
 pub use pool::SlotPool;
 pub use slot::{SlotFault, SwapSlot};
-
-#[cfg(test)]
-mod tests;

@@ -3,8 +3,6 @@
 
 mod lines;
 mod numbers;
-#[cfg(test)]
-mod tests;
 mod words;
 
 pub use lines::next_line;

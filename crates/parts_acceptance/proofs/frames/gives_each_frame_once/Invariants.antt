@@ -1,4 +1,4 @@
-use Rattle.frame_pool.proofs.pool.tests.gives_each_frame_once.Given as goal
+use Rattle.parts_acceptance.proofs.frames.gives_each_frame_once.Given as goal
 
 abbrev pub ghosts-take_all : goal.ghosts-take_all
 ghosts-take_all g a = record { name = a.blank.name; parts = a.blank.parts }

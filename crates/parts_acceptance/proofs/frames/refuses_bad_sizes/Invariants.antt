@@ -1,4 +1,4 @@
-use Rattle.frame_pool.proofs.pool.tests.refuses_bad_sizes.Given as goal
+use Rattle.parts_acceptance.proofs.frames.refuses_bad_sizes.Given as goal
 
 abbrev pub ghosts-refused : goal.ghosts-refused
 ghosts-refused g a = record { name = a.blank.name; parts = a.blank.parts }

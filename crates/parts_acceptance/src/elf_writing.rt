@@ -1,4 +1,6 @@
-use crate::{Image, write_elf};
+//! Writing an ELF file.
+
+use elf_image::{Image, write_elf};
 use std::process::Abort;
 use std::test::Fail;
 

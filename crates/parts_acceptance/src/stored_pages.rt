@@ -1,8 +1,9 @@
+//! A page that goes to its slot and comes back.
 ghost use Rattle.std.specs.Prelude.{◌≡◌, ◌+◌};
 
-use crate::{Collected, FillFault, PageState, ReadFault, SaveRefusal, StoredPage};
 use frame_pool::{Frame, FramePool};
 use page_memory::Rights;
+use page_store::{Collected, FillFault, PageState, ReadFault, SaveRefusal, StoredPage};
 use std::alloc::Global;
 use std::marker::Brand;
 use std::process::Abort;

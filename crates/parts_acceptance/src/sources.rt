@@ -1,6 +1,6 @@
 //! A whole source, and the first fault of some.
 
-use super::*;
+use rv_asm::{AsmError, assemble};
 use std::test::Fail;
 
 /// The line and the number of a source's first fault.

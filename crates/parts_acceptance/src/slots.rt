@@ -1,5 +1,7 @@
-use crate::{FuseSlot, MemorySlot, SlotFault, SlotPool, SwapSlot};
+//! Slots and their pool.
+
 use std::test::Fail;
+use swap_slots::{FuseSlot, MemorySlot, SlotFault, SlotPool, SwapSlot};
 
 /// Saves a page of a byte, and loads what the slot then gives.
 fn through<S: SwapSlot>(slot: &mut S, byte: u8) -> Result<u8, SlotFault> {

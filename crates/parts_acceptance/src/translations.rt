@@ -1,5 +1,7 @@
-use crate::{Tlb, Translation};
+//! A translation cache, and its pages that are ready.
+
 use page_memory::{Access, Rights, Width};
+use tlb_core::{Tlb, Translation};
 
 fn entry(page: u32, frame: u32) -> Translation {
     Translation {

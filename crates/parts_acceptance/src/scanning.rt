@@ -1,4 +1,6 @@
-use super::*;
+//! The parts of a line of a source.
+
+use asm_lines::{FaultKind, Operand, Refusal, scan_line};
 use std::test::Fail;
 
 #[test]

@@ -1,5 +1,7 @@
-use super::*;
+//! Statements and the words that they are.
+
 use asm_lines::{Operand, Refusal, Span};
+use asm_statements::{Code, Datum, Effect, Section, read_statement};
 use rv_isa::encode;
 use std::alloc::{AllocError, Global};
 use std::test::Fail;

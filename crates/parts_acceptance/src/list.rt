@@ -1,5 +1,7 @@
-use crate::ClockList;
-use crate::moves::Walked;
+//! The replacement policy on a plain list.
+
+use crate::walked::Walked;
+use clock_list::ClockList;
 use clock_policy::{
     Bit, Clock, Entry, EntryKind, Key, Kind, NewRefusal, Refusal, Verdict, first_victim,
 };

@@ -1,4 +1,6 @@
-use crate::{next_line, next_word};
+//! Lines and words of a text.
+
+use text_lines::{next_line, next_word};
 
 #[test]
 fn a_text_has_its_lines(rt: HostRuntime) {

@@ -1,4 +1,9 @@
-use super::*;
+//! Words, instructions and their text.
+
+use rv_isa::{
+    BranchOffset, FenceBits, Immediate, JumpOffset, Reg, ShiftAmount, UpperImmediate, decode,
+    encode, write_text,
+};
 use std::test::Fail;
 
 /// Words and their text, from the unprivileged manual's formats.

@@ -1,7 +1,7 @@
 //! Reading ELF files that the tests make.
 ghost use Rattle.std.specs.Prelude.{◌<◌};
 
-use crate::read_elf;
+use elf_image::read_elf;
 use page_memory::{Access, Rights};
 use std::alloc::{AllocError, Global};
 use std::test::Fail;

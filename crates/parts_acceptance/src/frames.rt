@@ -1,0 +1,62 @@
+//! Frames and their pool.
+ghost use Rattle.std.specs.Prelude.{◌≡◌, ◌+◌};
+
+use frame_pool::{FramePool, PoolError, gather};
+use std::alloc::Global;
+use std::marker::Brand;
+use std::process::Abort;
+use std::sync::ledger::{Blank, Ledger};
+use std::test::Fail;
+
+fn take_all<L: Ledger>(rt: &impl Abort, alloc: Global, blank: Blank) -> Result<(), Fail>
+    requires name { blank.name ≡ L.name }
+    requires parts { blank.parts ≡ L.parts }
+    requires one_each { L.parts ≡ 5 }
+{
+    let mut pool = FramePool::<L>::new(alloc, 4, blank)?;
+    let mut taken = Vec::with_capacity(alloc, 4)?;
+    let mut numbers = Vec::new(alloc);
+    for _ in 0..4 {
+        let mut frame = pool.take().ok_or("no frame")?;
+        assert!(rt; frame.bytes() == &[0; 4096]);
+        frame.copy_from(&[7; 4096]);
+        frame.bytes_mut()[1] = 8;
+        assert_eq!(rt; (frame.bytes()[0], frame.bytes()[1]), (7, 8));
+        numbers.push(frame.number())?;
+        taken.push(frame)?;
+    }
+    numbers.sort()?;
+    assert_eq!(rt; numbers.as_slice(), [0, 1, 2, 3].as_slice());
+    assert!(rt; pool.is_empty());
+    assert!(rt; pool.take().is_none());
+    let last = taken.pop().ok_or("none taken")?;
+    assert!(rt; pool.give(last).is_ok());
+    assert_eq!(rt; (pool.len(), pool.size()), (1, 4));
+    let (free, mut all) = pool.into_frames();
+    gather(free, &mut all);
+    gather(taken, &mut all);
+    Ok(())
+}
+
+fn refused<L: Ledger>(alloc: Global, size: u32, blank: Blank) -> Option<PoolError>
+    requires name { blank.name ≡ L.name }
+    requires parts { blank.parts ≡ L.parts }
+    requires one_each { L.parts ≡ size + 1 }
+{
+    FramePool::<L>::new(alloc, size, blank).err()
+}
+
+#[test]
+fn gives_each_frame_once(rt: HostRuntime) -> Result<(), Fail> {
+    take_all::<Brand>(&rt, rt.alloc(), Blank::new(5))
+}
+
+#[test]
+fn refuses_bad_sizes(rt: HostRuntime) {
+    let few = refused::<Brand>(rt.alloc(), 3, Blank::new(4));
+    let many = refused::<Brand>(rt.alloc(), 4097, Blank::new(4098));
+    assert_eq!(rt;
+        (few, many),
+        (Some(PoolError::BadSize), Some(PoolError::BadSize))
+    );
+}

@@ -13,73 +13,17 @@ use std::process::Abort;
 use std::sync::ledger::{Blank, Ledger};
 use std::test::Fail;
 use swap_slots::MemorySlot;
-
-/// Two harts that go at random over eight pages of data, 0x11 to 0x18: each loads a word, and stores another sum in its
-/// place or not.
-const WANDERS: &str = "        la   s0, data
-        li   s1, 0x12345678
-        li   s4, 0x7FFC
-        la   a0, child
-        li   a1, 0
-        li   a2, 0
-        li   a7, 1024
-        ecall
-loop:   slli t0, s1, 13
-        xor  s1, s1, t0
-        srli t0, s1, 17
-        xor  s1, s1, t0
-        slli t0, s1, 5
-        xor  s1, s1, t0
-        srli t1, s1, 3
-        and  t1, t1, s4
-        add  t1, t1, s0
-        lw   t2, 0(t1)
-        add  s2, s2, t2
-        andi t3, s1, 1
-        bnez t3, loop
-        add  t2, t2, s1
-        sw   t2, 0(t1)
-        andi t3, s1, 2
-        bnez t3, loop
-        amoadd.w t4, s1, (t1)
-        j    loop
-child:  la   s0, data
-        li   s1, 0x2468ACE1
-        li   s4, 0x7FFC
-        j    loop
-
-        .data
-data:   .space 32768
-";
+use wandering_guest::{Random, WANDERS};
 
 const PROCESSES: u32 = 3;
 
 const EVENTS: u32 = 10_000;
 
-/// Numbers that look random, the same ones from the same seed.
-#[derive(Drop)]
-struct Random {
-    state: u64,
-}
-
-impl Random {
-    fn below(&mut self, bound: u32) -> u32
-        requires { 0 < bound }
-        ensures { result < bound }
-    {
-        self.state = self
-            .state
-            .wrapping_mul(6_364_136_223_846_793_005)
-            .wrapping_add(1_442_695_040_888_963_407);
-        ((self.state >> 33) % u64::from(bound)) as u32
-    }
-
-    /// Any page of any process, and some that are not there.
-    fn key(&mut self) -> Key {
-        Key {
-            process: self.below(PROCESSES + 1),
-            vpn: 0x10 + self.below(10),
-        }
+/// Any page of any process, and some that are not there.
+fn any_key(random: &mut Random) -> Key {
+    Key {
+        process: random.below(PROCESSES + 1),
+        vpn: 0x10 + random.below(10),
     }
 }
 
@@ -116,11 +60,11 @@ impl Told {
             30..=33 => Event::Notice { process, hart },
             34..=39 => Event::Sweep,
             40..=45 => Event::Collect(self.victim),
-            46 => Event::Collect(random.key()),
+            46 => Event::Collect(any_key(random)),
             47..=51 => Event::Saved(self.dirty),
-            52 => Event::Saved(random.key()),
+            52 => Event::Saved(any_key(random)),
             53..=61 => Event::PageIn(self.absent),
-            62 => Event::PageIn(random.key()),
+            62 => Event::PageIn(any_key(random)),
             _ => Event::Purge { process },
         }
     }
@@ -223,7 +167,7 @@ fn wanders_from<L: Ledger>(
         saved: 0,
         refused: 0,
     };
-    let mut random = Random { state: seed };
+    let mut random = Random::new(seed);
     for _ in 0..EVENTS {
         let event = told.next(&mut random);
         let reply = core.apply(event);

@@ -11,65 +11,9 @@ use std::process::Abort;
 use std::sync::ledger::{Blank, Ledger};
 use std::test::Fail;
 use swap_slots::MemorySlot;
-
-/// Two harts that go at random over eight pages of data, 0x11 to 0x18: each loads a word, and stores another sum in its
-/// place or not.
-const WANDERS: &str = "        la   s0, data
-        li   s1, 0x12345678
-        li   s4, 0x7FFC
-        la   a0, child
-        li   a1, 0
-        li   a2, 0
-        li   a7, 1024
-        ecall
-loop:   slli t0, s1, 13
-        xor  s1, s1, t0
-        srli t0, s1, 17
-        xor  s1, s1, t0
-        slli t0, s1, 5
-        xor  s1, s1, t0
-        srli t1, s1, 3
-        and  t1, t1, s4
-        add  t1, t1, s0
-        lw   t2, 0(t1)
-        add  s2, s2, t2
-        andi t3, s1, 1
-        bnez t3, loop
-        add  t2, t2, s1
-        sw   t2, 0(t1)
-        andi t3, s1, 2
-        bnez t3, loop
-        amoadd.w t4, s1, (t1)
-        j    loop
-child:  la   s0, data
-        li   s1, 0x2468ACE1
-        li   s4, 0x7FFC
-        j    loop
-
-        .data
-data:   .space 32768
-";
+use wandering_guest::{Random, WANDERS};
 
 const CALLS: u32 = 20_000;
-
-/// Numbers that look random, the same ones from the same seed.
-#[derive(Drop)]
-struct Random {
-    state: u64,
-}
-
-impl Random {
-    fn below(&mut self, bound: u32) -> u32
-        requires { 0 < bound }
-        ensures { result < bound }
-    {
-        self.state = self
-            .state
-            .wrapping_mul(6_364_136_223_846_793_005)
-            .wrapping_add(1_442_695_040_888_963_407);
-        ((self.state >> 33) % u64::from(bound)) as u32
-    }
-}
 
 /// A call that is chosen at random.
 fn any_call(random: &mut Random) -> Call {
@@ -181,7 +125,7 @@ fn begin_pair<L: Ledger>(alloc: Global, blank: Blank) -> Result<Pair<L>, Fail>
 
 /// Makes so many calls, and looks at both after each.
 fn wander<L: Ledger>(rt: &impl Abort, pair: &mut Pair<L>, seed: u64) -> Result<(), Fail> {
-    let mut random = Random { state: seed };
+    let mut random = Random::new(seed);
     for call in 0..CALLS {
         let next = any_call(&mut random);
         pair.call(next, &mut random)?;

@@ -16,4 +16,8 @@ mod report_lines;
 mod run_command;
 mod words_file;
 
+pub use fault::Fault;
+pub use files::read_text;
+pub use image_file::read_processes;
+pub use machine::new_machine;
 pub use program::run_paged;

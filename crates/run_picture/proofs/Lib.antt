@@ -1,0 +1,2 @@
+mod Filming
+mod Telling

@@ -9,7 +9,7 @@ use Rattle.machine_core.specs.Opening.{MachineBegins}
 use Rattle.machine_core.specs.declared.event.Event.{Event}
 use Rattle.machine_core.specs.declared.event.Reply.{Reply}
 use Rattle.machine_core.specs.declared.report.Report.{Report}
-use Rattle.scripts.specs.DriveScript.{IsScript}
+use Rattle.event_scripts.specs.DriveScript.{IsScript}
 use Rattle.serial_driver.specs.Limit.{EndsByLimit}
 use Rattle.serial_driver.specs.Reporting.{Reports}
 

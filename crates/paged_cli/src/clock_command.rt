@@ -5,7 +5,7 @@ use crate::files::read_text;
 use clock_policy::{Clock, Entry, Key, Refusal, Verdict};
 use clock_ring::ClockRing;
 use command_line::ClockRequest;
-use scripts::{ClockCall, call_on_line};
+use event_scripts::{ClockCall, call_on_line};
 use std::io::Write;
 use std::rt::Files;
 use std::{fmt, io};

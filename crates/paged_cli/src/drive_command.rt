@@ -13,7 +13,7 @@ use crate::machine::new_machine;
 use command_line::DriveRequest;
 use elf_image::Image;
 use machine_core::Reply;
-use scripts::{ReplyLine, read_drive_script};
+use event_scripts::{ReplyLine, read_drive_script};
 use std::alloc::{AllocError, Global};
 use std::io::Write;
 use std::marker::Brand;

@@ -6,7 +6,7 @@ use crate::scene::{Film, Scene};
 use crate::text::ByteText;
 use clock_policy::{Entry, Key};
 use page_store::PageState;
-use scripts::ReplyLine;
+use event_scripts::ReplyLine;
 use std::io::Write;
 use std::{fmt, io};
 

@@ -8,7 +8,7 @@ use elf_image::Image;
 use machine_core::Event;
 use paged_cli::{Fault, new_machine, read_processes, read_text};
 use run_picture::{Film, film, write_film};
-use scripts::read_drive_script;
+use event_scripts::read_drive_script;
 use std::alloc::{AllocError, Global};
 use std::convert::AsStr;
 use std::io::Write;

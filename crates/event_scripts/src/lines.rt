@@ -1,5 +1,5 @@
 ghost use Rattle.std.specs.Prelude.{◌↔◌, IsTrue};
-ghost use Rattle.scripts.specs.Lines.{IsSkipped};
+ghost use Rattle.event_scripts.specs.Lines.{IsSkipped};
 
 use thiserror::Error;
 

@@ -5,8 +5,8 @@ ghost use Rattle.std.specs.Option.{SomeIff};
 ghost use Rattle.text_lines.specs.Numbers.{IsNumber, number_value};
 ghost use Rattle.text_lines.specs.Text.{words_of};
 ghost use Rattle.machine_core.specs.declared.event.Event.{Event};
-ghost use Rattle.scripts.specs.DriveScript.{WritesEvent};
-ghost use Rattle.scripts.specs.Lines.{IsSkipped};
+ghost use Rattle.event_scripts.specs.DriveScript.{WritesEvent};
+ghost use Rattle.event_scripts.specs.Lines.{IsSkipped};
 
 use crate::lines::{BadLine, is_skipped};
 use clock_policy::Key;

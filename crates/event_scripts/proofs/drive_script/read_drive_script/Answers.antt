@@ -1,9 +1,9 @@
 use Rattle.std.proofs.Common.{arith, rules}
 use Rattle.text_lines.specs.Text.{lines_of, words_of}
-use Rattle.scripts.specs.DriveScript.{WritesEvent}
-use Rattle.scripts.specs.Lines.{IsSkipped}
-use Rattle.scripts.proofs.Passed.{writes, skips}
-use Rattle.scripts.proofs.drive_script.read_drive_script.Goals as goal
+use Rattle.event_scripts.specs.DriveScript.{WritesEvent}
+use Rattle.event_scripts.specs.Lines.{IsSkipped}
+use Rattle.event_scripts.proofs.Passed.{writes, skips}
+use Rattle.event_scripts.proofs.drive_script.read_drive_script.Goals as goal
 
 pub loop-line-preserved-in_ok-push-in-Ok-Some : goal.loop-line-preserved-in_ok-push-in-Ok-Some
 loop-line-preserved-in_ok-push-in-Ok-Some c =

@@ -7,7 +7,7 @@ pub struct ReplyLine(pub Reply);
 
 impl fmt::Display for ReplyLine {
     ghost use Rattle.std.specs.Prelude.{Some};
-    ghost use Rattle.scripts.specs.ReplyText.{reply_text};
+    ghost use Rattle.event_scripts.specs.ReplyText.{reply_text};
 
     ghost output = { λ line. Some (reply_text line.0) };
 

@@ -3,9 +3,9 @@
 ghost use Rattle.std.specs.Prelude.{◌≡◌, ◌↔◌, ◌∷◌, [], IfOk, IfSome, IsErr, None, Ok, Err, position};
 ghost use Rattle.std.specs.Option.{SomeIff};
 ghost use Rattle.text_lines.specs.Text.{words_of};
-ghost use Rattle.scripts.specs.ClockScript.{WritesCall, IsKey, key_value, is_slash};
-ghost use Rattle.scripts.specs.Lines.{IsSkipped};
-ghost use Rattle.scripts.specs.declared.clock_script.ClockCall.{ClockCall};
+ghost use Rattle.event_scripts.specs.ClockScript.{WritesCall, IsKey, key_value, is_slash};
+ghost use Rattle.event_scripts.specs.Lines.{IsSkipped};
+ghost use Rattle.event_scripts.specs.declared.clock_script.ClockCall.{ClockCall};
 
 use crate::lines::{BadLine, is_skipped};
 use clock_policy::{Bit, Key};

@@ -5,7 +5,7 @@ use Rattle.text_lines.specs.Numbers.{IsNumber, number_value}
 use Rattle.flat_machine.specs.Ending.{kill_number}
 use Rattle.machine_core.specs.declared.event.Event.{Event}
 use Rattle.machine_core.specs.declared.event.Event.TheVariants.{Step, Notice, Sweep, Collect, Saved, PageIn, Kill, Purge}
-use Rattle.scripts.specs.Lines.{IsSkipped}
+use Rattle.event_scripts.specs.Lines.{IsSkipped}
 
 -- a word that writes this number, of 32 bits
 abbrev pub Writes : List ℕ → ℕ → Type 0

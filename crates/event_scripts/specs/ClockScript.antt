@@ -6,8 +6,8 @@ use Rattle.clock_policy.specs.declared.key.Key.{Key}
 use Rattle.clock_policy.specs.declared.answer.Bit.{Bit}
 use Rattle.clock_policy.specs.declared.answer.Bit.TheVariants.{Zero, One, Gone}
 use Rattle.text_lines.specs.Numbers.{IsUpTo, IsNumber, number_value}
-use Rattle.scripts.specs.declared.clock_script.ClockCall.{ClockCall}
-use Rattle.scripts.specs.declared.clock_script.ClockCall.TheVariants.{Admit, Ask, Answer, Restore, Withdraw, Purge, Show}
+use Rattle.event_scripts.specs.declared.clock_script.ClockCall.{ClockCall}
+use Rattle.event_scripts.specs.declared.clock_script.ClockCall.TheVariants.{Admit, Ask, Answer, Restore, Withdraw, Purge, Show}
 
 abbrev pub is_slash : ℕ → Bool
 is_slash c = c == 47

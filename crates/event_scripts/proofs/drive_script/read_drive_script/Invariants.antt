@@ -1,7 +1,7 @@
 use Rattle.std.proofs.Common.{◌+◌, ◌≤◌, length}
 use Rattle.text_lines.specs.Text.{lines_of}
-use Rattle.scripts.proofs.Passed.{HavePassed}
-use Rattle.scripts.proofs.drive_script.read_drive_script.Given as goal
+use Rattle.event_scripts.proofs.Passed.{HavePassed}
+use Rattle.event_scripts.proofs.drive_script.read_drive_script.Given as goal
 
 -- A text has no more lines than bytes.
 abbrev pub invariant-loop-line : goal.invariant-loop-line

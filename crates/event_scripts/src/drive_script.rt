@@ -2,7 +2,7 @@
 
 ghost use Rattle.std.specs.Prelude.{IfOk};
 ghost use Rattle.text_lines.specs.Text.{lines_of};
-ghost use Rattle.scripts.specs.DriveScript.{IsScript};
+ghost use Rattle.event_scripts.specs.DriveScript.{IsScript};
 
 use crate::drive_line::event_on_line;
 use machine_core::Event;

@@ -2,8 +2,8 @@
 use Rattle.std.proofs.Common.{◌≡◌, inl, inr, ◌+◌, ℕ, List, [], ◌∷◌, ◌++◌, length, refl, sym, append_assoc, append-nil, arith, length-append}
 use Rattle.text_lines.specs.Text.{words_of}
 use Rattle.machine_core.specs.declared.event.Event.{Event}
-use Rattle.scripts.specs.DriveScript.{WritesEvent, SaysEvents, SayAll}
-use Rattle.scripts.specs.Lines.{IsSkipped}
+use Rattle.event_scripts.specs.DriveScript.{WritesEvent, SaysEvents, SayAll}
+use Rattle.event_scripts.specs.Lines.{IsSkipped}
 
 -- the lines above the rest say these events, and there are `number` of them
 abbrev pub HavePassed : List (List ℕ) → List (List ℕ) → List Event → ℕ → Type 0

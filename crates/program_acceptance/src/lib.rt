@@ -1,0 +1,15 @@
+//! Tests of the program on files that the tests make.
+#![tactic(auto)]
+
+#[cfg(test)]
+mod asm;
+#[cfg(test)]
+mod clock;
+#[cfg(test)]
+mod flat;
+#[cfg(test)]
+mod runs;
+#[cfg(test)]
+mod source;
+#[cfg(test)]
+mod usage;

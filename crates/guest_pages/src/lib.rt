@@ -2,6 +2,8 @@
 #![tactic(auto)]
 
 mod accesses;
+mod calls;
+mod instructions;
 mod step_pages;
 
-pub use step_pages::{PageUse, StepPages};
+pub use step_pages::{PageUse, StepPages, step_pages_of};

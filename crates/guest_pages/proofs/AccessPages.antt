@@ -1,6 +1,6 @@
 -- The page of an access, by whether its page has the right.
-use Rattle.std.specs.Prelude.{◌≡◌, ℕ, ◌+◌, ◌-◌, ◌/◌, ◌%◌, ◌==◌, Bool, true, false, List, [], ◌∷◌, Option, Some, None, Result, Ok, Err, is_ok, cond, refl}
-use Rattle.std.proofs.Common.{arith, ap, sym, ◌∙◌, subst, eq-eqb}
+use Rattle.std.specs.Prelude.{◌≡◌, ℕ, ◌-◌, ◌%◌, ◌==◌, Bool, true, false, [], ◌∷◌, Result, Ok, Err, is_ok, cond, refl}
+use Rattle.std.proofs.Common.{arith, ap, ◌∙◌, eq-eqb}
 use Rattle.page_memory.specs.declared.fault.MemoryFault.{MemoryFault}
 use Rattle.page_memory.specs.declared.words.Access.{Access}
 use Rattle.page_memory.specs.declared.words.Access.TheVariants.{Load, Store}

@@ -11,10 +11,8 @@ use Rattle.rv_isa.specs.Table.{insn_of}
 use Rattle.rv_exec.specs.Registers.{Registers, register}
 use Rattle.rv_exec.specs.Access.{load_width, store_width}
 use Rattle.rv_exec.specs.Amo.{amo_result}
-use Rattle.rv_exec.specs.Arithmetic.{word_sum, word_of_signed, even, is_taken}
 use Rattle.rv_exec.specs.Line.{Line, landed, jumped, branched, after_load, load_line, after_store, store_line, after_amo, amo_line, insn_line, decoded_line, fetched_line, line, address_at}
 use Rattle.rv_exec.specs.Uses.{data_pages, data_stores, decoded_pages, decoded_stores, pages_used, pages_stored, fetched_pages, fetched_stores}
-use Rattle.env_calls.specs.Calls.{call_pages, call_stores}
 use Rattle.env_calls.specs.Step.{served_pages, served_stores, step_pages, step_stores}
 use Rattle.guest_pages.specs.InsnPages.{insn_pages, insn_stores}
 

@@ -1,5 +1,5 @@
 -- The pages of an instruction with those of the call that it makes, in one definition by cases.
-use Rattle.std.specs.Prelude.{ℕ, List, [], Option, Some, None, Result, Ok, Err}
+use Rattle.std.specs.Prelude.{ℕ, List, []}
 use Rattle.page_memory.specs.Memory.{Memory}
 use Rattle.rv_isa.specs.declared.instruction.Insn.{Insn}
 use Rattle.rv_isa.specs.declared.instruction.Insn.TheVariants.{Load, Store, Amo, Ecall}

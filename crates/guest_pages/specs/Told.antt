@@ -1,5 +1,5 @@
 -- The pages of a step, as lists.
-use Rattle.std.specs.Prelude.{ℕ, ◌%◌, ◌==◌, Bool, true, false, List, [], ◌∷◌, ◌++◌, Option, Some, None, cond}
+use Rattle.std.specs.Prelude.{ℕ, ◌%◌, ◌==◌, Bool, List, [], ◌∷◌, ◌++◌, Option, Some, None, cond}
 use Rattle.page_memory.specs.Words.{page_number}
 use Rattle.guest_pages.specs.declared.step_pages.PageUse.{PageUse}
 use Rattle.guest_pages.specs.declared.step_pages.StepPages.{StepPages}

@@ -34,7 +34,11 @@ pub(crate) fn page_where(may_use: bool, bytes: u32, address: u32) -> Option<u32>
     if address % bytes != 0 {
         return None;
     }
-    if may_use { Some(page_of(address)) } else { None }
+    if may_use {
+        Some(page_of(address))
+    } else {
+        None
+    }
 }
 
 /// The page of a load.
@@ -47,7 +51,12 @@ pub(crate) fn page_of_load(memory: &FlatMemory, kind: LoadKind, address: u32) ->
 
 /// The page of a store, whatever the word.
 #[tactic(auto, using(crate::proofs::AccessPages::store_where))]
-pub(crate) fn page_of_store(memory: &FlatMemory, kind: StoreKind, address: u32, word: u32) -> Option<u32>
+pub(crate) fn page_of_store(
+    memory: &FlatMemory,
+    kind: StoreKind,
+    address: u32,
+    word: u32,
+) -> Option<u32>
     ensures { listed result ≡ store_pages memory.now kind address word }
 {
     page_where(may_store(memory, address), bytes_of_store(kind), address)
@@ -55,7 +64,12 @@ pub(crate) fn page_of_store(memory: &FlatMemory, kind: StoreKind, address: u32, 
 
 /// The page of an atomic memory operation, whatever the operation.
 #[tactic(auto, using(crate::proofs::AccessPages::amo_where))]
-pub(crate) fn page_of_amo(memory: &FlatMemory, kind: AmoKind, address: u32, operand: u32) -> Option<u32>
+pub(crate) fn page_of_amo(
+    memory: &FlatMemory,
+    kind: AmoKind,
+    address: u32,
+    operand: u32,
+) -> Option<u32>
     ensures { listed result ≡ amo_pages memory.now kind address operand }
 {
     page_where(may_store(memory, address), 4, address)

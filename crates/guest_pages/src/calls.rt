@@ -39,7 +39,11 @@ fn page_of_read(memory: &FlatMemory, address: u32, length: u32) -> Option<u32>
     if length == 0 {
         return None;
     }
-    if may_store(memory, address) { Some(page_of(address)) } else { None }
+    if may_store(memory, address) {
+        Some(page_of(address))
+    } else {
+        None
+    }
 }
 
 /// The page from which a write copies.
@@ -50,5 +54,9 @@ fn page_of_write(memory: &FlatMemory, address: u32, length: u32) -> Option<u32>
     if length == 0 {
         return None;
     }
-    if may_load(memory, address) { Some(page_of(address)) } else { None }
+    if may_load(memory, address) {
+        Some(page_of(address))
+    } else {
+        None
+    }
 }

@@ -33,7 +33,8 @@ quiet_branched : (regs : Registers) (memory : Memory) (target : ℕ) (taken : Bo
 quiet_branched regs memory target true = quiet_jumped regs memory 0 target
 quiet_branched regs memory target false = (refl, refl)
 
-quiet_load : (regs : Registers) (memory : Memory) (kind : LoadKind) (rd address : ℕ) (found : Result ℕ MemoryFault) → Quiet regs memory (after_load regs memory kind rd address found)
+quiet_load : (regs : Registers) (memory : Memory) (kind : LoadKind) (rd address : ℕ) (found : Result ℕ MemoryFault)
+    → Quiet regs memory (after_load regs memory kind rd address found)
 quiet_load regs memory kind rd address (Ok number) = (refl, refl)
 quiet_load regs memory kind rd address (Err fault) = (refl, refl)
 
@@ -41,7 +42,8 @@ quiet_store : (regs : Registers) (memory : Memory) (address : ℕ) (found : Resu
 quiet_store regs memory address (Ok changed) = (refl, refl)
 quiet_store regs memory address (Err fault) = (refl, refl)
 
-quiet_amo : (regs : Registers) (memory : Memory) (rd address : ℕ) (found : Result (ℕ × Memory) MemoryFault) → Quiet regs memory (after_amo regs rd address found)
+quiet_amo : (regs : Registers) (memory : Memory) (rd address : ℕ) (found : Result (ℕ × Memory) MemoryFault)
+    → Quiet regs memory (after_amo regs rd address found)
 quiet_amo regs memory rd address (Ok answer) = (refl, refl)
 quiet_amo regs memory rd address (Err fault) = (refl, refl)
 
@@ -50,7 +52,8 @@ quiet_amo regs memory rd address (Err fault) = (refl, refl)
 both : (a b : List ℕ) → b ≡ [] → a ++ b ≡ a
 both a b e = ap (λ l. a ++ l) e ∙ append-nil a
 
-pages_insn : (regs : Registers) (memory : Memory) (insn : Insn) → data_pages regs memory insn ++ served_pages regs memory (insn_line regs memory insn) ≡ insn_pages regs memory insn
+pages_insn : (regs : Registers) (memory : Memory) (insn : Insn)
+    → data_pages regs memory insn ++ served_pages regs memory (insn_line regs memory insn) ≡ insn_pages regs memory insn
 unfolding data_pages insn_line load_line store_line amo_line
 pages_insn regs memory (Lui rd immediate) = refl
 pages_insn regs memory (Auipc rd immediate) = refl
@@ -70,7 +73,8 @@ pages_insn regs memory (Amo kind acquire release rd rs1 rs2) =
 pages_insn regs memory Ecall = refl
 pages_insn regs memory Ebreak = refl
 
-stores_insn : (regs : Registers) (memory : Memory) (insn : Insn) → data_stores regs memory insn ++ served_stores regs memory (insn_line regs memory insn) ≡ insn_stores regs memory insn
+stores_insn : (regs : Registers) (memory : Memory) (insn : Insn)
+    → data_stores regs memory insn ++ served_stores regs memory (insn_line regs memory insn) ≡ insn_stores regs memory insn
 unfolding data_stores insn_line load_line store_line amo_line
 stores_insn regs memory (Lui rd immediate) = refl
 stores_insn regs memory (Auipc rd immediate) = refl
@@ -98,11 +102,13 @@ pages_by regs memory found = fetched_pages regs memory found ++ served_pages reg
 abbrev stores_by : Registers → Memory → Result ℕ MemoryFault → List ℕ
 stores_by regs memory found = fetched_stores regs memory found ++ served_stores regs memory (fetched_line regs memory found)
 
-pages_are : (regs : Registers) (memory : Memory) (found : Result ℕ MemoryFault) → found ≡ fetched memory regs.pc → step_pages regs memory ≡ pages_by regs memory found
+pages_are : (regs : Registers) (memory : Memory) (found : Result ℕ MemoryFault) → found ≡ fetched memory regs.pc
+    → step_pages regs memory ≡ pages_by regs memory found
 unfolding step_pages pages_used line
 pages_are regs memory found e = ap (pages_by regs memory) (sym e)
 
-stores_are : (regs : Registers) (memory : Memory) (found : Result ℕ MemoryFault) → found ≡ fetched memory regs.pc → step_stores regs memory ≡ stores_by regs memory found
+stores_are : (regs : Registers) (memory : Memory) (found : Result ℕ MemoryFault) → found ≡ fetched memory regs.pc
+    → step_stores regs memory ≡ stores_by regs memory found
 unfolding step_stores pages_stored line
 stores_are regs memory found e = ap (stores_by regs memory) (sym e)
 

@@ -5,8 +5,8 @@ use crate::picture::{Picture, ShownPage};
 use crate::scene::{Film, Scene};
 use crate::text::ByteText;
 use clock_policy::{Entry, Key};
-use page_store::PageState;
 use event_scripts::ReplyLine;
+use page_store::PageState;
 use std::io::Write;
 use std::{fmt, io};
 

@@ -5,10 +5,10 @@ ghost use Rattle.command_line.specs.Requests.{IsDriveInRange};
 
 use command_line::{DriveRequest, Request, read_request};
 use elf_image::Image;
+use event_scripts::read_drive_script;
 use machine_core::Event;
 use paged_cli::{Fault, new_machine, read_processes, read_text};
 use run_picture::{Film, film, write_film};
-use event_scripts::read_drive_script;
 use std::alloc::{AllocError, Global};
 use std::convert::AsStr;
 use std::io::Write;

@@ -103,7 +103,7 @@ impl FlatProcess {
 
     /// Whose turn it is after a hart's.
     #[tactic(auto, using(crate::proofs::Turning::turning))]
-    fn turn_after(&self, hart: u32) -> u32
+    pub fn turn_after(&self, hart: u32) -> u32
         ensures turn { result ≡ turn_after hart self.now }
         ensures lives { is_live result self.now ≡ true }
     {

@@ -1,0 +1,20 @@
+use Rattle.std.proofs.Common.{◌≡◌, ℕ, ◌≤◌, ◌<◌, length, drop, List, [], Option, None, slice_index_or}
+use Rattle.std.specs.List.{position_from}
+use Rattle.page_memory.specs.Memory.{Memory}
+use Rattle.debug_core.specs.Points.{is_hit}
+use Rattle.debug_core.specs.Seen.{AreSeen, IsSeen}
+use Rattle.debug_core.specs.declared.point.Point.{Point}
+use Rattle.debug_core.proofs.looking.look.Given as goal
+
+-- The watches so far are seen as they are now, and none of them was hit; the others are as before.
+abbrev pub invariant-points : goal.invariant-points
+invariant-points g l =
+    let shown = g.T.Target.shown in
+    let now = (shown l.fn.target).memory in
+    record {
+      room : length l.seen ≡ length l.fn.seen;
+      shown : shown l.target ≡ shown l.fn.target;
+      below : (number : ℕ) → number < l.number → IsSeen (slice_index_or l.points number None) (slice_index_or l.seen number []) now;
+      above : (number : ℕ) → l.number ≤ number → slice_index_or l.seen number [] ≡ slice_index_or l.fn.seen number [];
+      none : (was : Memory) → AreSeen l.points l.fn.seen was → position_from (is_hit was now) 0 l.points ≡ position_from (is_hit was now) l.number (drop l.number l.points);
+    }

@@ -1,0 +1,22 @@
+use Rattle.std.proofs.Common.{◌≡◌, ℕ, ◌+◌, ◌-◌, ◌≤◌, true, length, Some}
+use Rattle.page_memory.specs.Memory.{Memory}
+use Rattle.flat_machine.specs.Process.{is_live}
+use Rattle.debug_core.specs.Debugging.{first_moment}
+use Rattle.debug_core.specs.Seen.{AreSeen}
+use Rattle.debug_core.specs.Stops.{Moment, Passes}
+use Rattle.debug_core.proofs.running.run.Given as goal
+
+-- so many steps were done, after none of them there was a reason to stop, and the watches are seen as before the last
+abbrev pub decreases-steps : goal.decreases-steps
+decreases-steps g l = l.limit - l.done
+
+abbrev pub invariant-steps : goal.invariant-steps
+invariant-steps g l =
+    let shown = g.T.Target.shown in
+    record {
+      was : Memory;
+      passes : Passes l.points l.limit l.done (first_moment (shown l.fn.target) l.fn.turn) (record { process = shown l.target; turn = l.turn; was = was });
+      seen : AreSeen l.points l.seen was;
+      room : length l.seen ≡ 32;
+      live : is_live l.turn (shown l.target) ≡ true;
+    }

@@ -1,0 +1,6 @@
+pub mod Debugging
+pub mod Points
+pub mod Progresses
+pub mod RefusalNumber
+pub mod Seen
+pub mod Stops

@@ -1,0 +1,174 @@
+ghost use Rattle.std.specs.Prelude.{◌≡◌, ◌⊎◌, ℕ, ◌<◌, ◌≤◌, true, false, Some, None, IfSome, IfOk, IfErr, OnOk, OnErr, slice_set, replicate};
+ghost use Rattle.flat_machine.specs.ByTurns.{first_turn};
+ghost use Rattle.flat_machine.specs.Process.{hart_registers, is_live};
+ghost use Rattle.debug_core.specs.Debugging.{first_moment, lowest_free, AddsPoint, RefusesStep, StepsOnce};
+ghost use Rattle.debug_core.specs.Points.{point_at, IsRange};
+ghost use Rattle.debug_core.specs.Stops.{Stops, Wants};
+ghost use Rattle.debug_core.specs.declared.point.Point.TheVariants as point;
+ghost use Rattle.debug_core.specs.declared.refusal.DebugRefusal.TheVariants as refusal;
+
+use crate::point::{MOST_POINTS, MOST_WATCHED, Point, Stepped, Why};
+use crate::refusal::DebugRefusal;
+use crate::running::run;
+use crate::target::{Progress, Target};
+use rv_exec::Regs;
+use std::alloc::AllocError;
+use std::marker::Model;
+
+/// A debugger: a target, the points at which it stops, and whose turn it is.
+#[derive(Drop)]
+pub struct Debugger<T: Target> {
+    pub(crate) target: T,
+    pub(crate) points: [Option<Point>; MOST_POINTS],
+    pub(crate) turn: u32,
+}
+
+impl<T: Target> Model for Debugger<T> {
+    ghost use Rattle.std.specs.Prelude.{◌≡◌, true};
+    ghost use Rattle.flat_machine.specs.Process.{is_live};
+    ghost use Rattle.debug_core.specs.Points.{ArePoints};
+    ghost use Rattle.debug_core.specs.Debugging.{DebuggerValue};
+
+    ghost Value = { DebuggerValue T };
+
+    ghost view = { λ debugger. record { target = debugger.target; points = debugger.points; turn = debugger.turn } };
+
+    ghost invariant = { λ debugger. record {
+      points : ArePoints debugger.points;
+      live : is_live debugger.turn (T.shown debugger.target) ≡ true;
+    } };
+}
+
+impl<T: Target> Debugger<T> {
+    /// A debugger with no point. It is the turn of hart 0.
+    pub fn new(target: T) -> Self
+        ensures { result ≡ record { target = target; points = replicate 32 None; turn = first_turn (T.shown target) } }
+    {
+        let turn = first_turn(&target);
+        Debugger {
+            target,
+            points: [None; MOST_POINTS],
+            turn,
+        }
+    }
+
+    /// Stops before the instruction at an address. The answer is the point's number, the lowest that is free.
+    #[tactic(auto, using(crate::proofs::Points::with_point))]
+    pub fn add_break(&mut self, address: u32) -> Result<u32, DebugRefusal>
+        ensures ok { IfOk result (λ number. AddsPoint (point.Break address) number self.old.points self.new.points) }
+        ensures refused { IfErr result (λ why. (why ≡ refusal.Full) × (lowest_free self.old.points ≡ None)) }
+        ensures err { OnErr result (self.new ≡ self.old) }
+        ensures stays { self.new ≡ record self.old { points = self.new.points } }
+    {
+        let number = self.lowest_free().ok_or(DebugRefusal::Full)?;
+        self.points[number] = Some(Point::Break { address });
+        Ok(number as u32)
+    }
+
+    /// Stops after a step that changes one of so many bytes, 1 to 16, from an address on. The answer is the point's number, the
+    /// lowest that is free.
+    #[tactic(auto, using(crate::proofs::Points::with_point))]
+    pub fn add_watch(&mut self, address: u32, length: u32) -> Result<u32, DebugRefusal>
+        ensures ok { IfOk result (λ number. IsRange 16 address length × AddsPoint (point.Watch address length) number self.old.points self.new.points) }
+        ensures refused { IfErr result (λ why. ((why ≡ refusal.Full) × (lowest_free self.old.points ≡ None)) ⊎ ((why ≡ refusal.BadRange) × ((¬ (lowest_free self.old.points ≡ None)) × (¬ IsRange 16 address length)))) }
+        ensures err { OnErr result (self.new ≡ self.old) }
+        ensures stays { self.new ≡ record self.old { points = self.new.points } }
+    {
+        let number = self.lowest_free().ok_or(DebugRefusal::Full)?;
+        if !is_range(MOST_WATCHED, address, length) {
+            return Err(DebugRefusal::BadRange);
+        }
+        self.points[number] = Some(Point::Watch { address, length });
+        Ok(number as u32)
+    }
+
+    /// Removes a point.
+    #[tactic(auto, using(crate::proofs::Points::with_point))]
+    pub fn remove(&mut self, number: u32) -> Result<(), DebugRefusal>
+        ensures ok { OnOk result ((¬ (point_at self.old.points number ≡ None)) × (self.new.points ≡ slice_set self.old.points number None)) }
+        ensures refused { IfErr result (λ why. (why ≡ refusal.NoPoint) × (point_at self.old.points number ≡ None)) }
+        ensures err { OnErr result (self.new ≡ self.old) }
+        ensures stays { self.new ≡ record self.old { points = self.new.points } }
+    {
+        let place = number as usize;
+        if place >= MOST_POINTS || self.points[place].is_none() {
+            return Err(DebugRefusal::NoPoint);
+        }
+        self.points[place] = None;
+        Ok(())
+    }
+
+    /// Runs one instruction of a hart.
+    pub fn step(&mut self, hart: u32) -> Result<Stepped, DebugRefusal>
+        ensures ok { IfOk result (λ stepped. StepsOnce stepped hart (T.shown self.old.target) self.old.turn (T.shown self.new.target) self.new.turn) }
+        ensures refused { IfErr result (λ why. RefusesStep why hart (T.shown self.old.target) (T.shown self.new.target)) }
+        ensures turn { OnErr result (self.new.turn ≡ self.old.turn) }
+        ensures points { self.new.points ≡ self.old.points }
+    {
+        if !self.target.is_live(hart) {
+            return Err(DebugRefusal::NoHart);
+        }
+        if self.target.end().is_some() {
+            return Err(DebugRefusal::Ended);
+        }
+        match self.target.step(hart) {
+            Ok(Progress::Ran) => {
+                self.turn = self.target.turn_after(hart);
+                Ok(Stepped::Ran)
+            }
+            Ok(Progress::Absent) => Ok(Stepped::Absent),
+            Ok(Progress::Full) => Err(DebugRefusal::Ended),
+            Err(AllocError) => Err(DebugRefusal::NoMemory),
+        }
+    }
+
+    /// Steps the hart whose turn it is, then the next, until there is a reason to stop: the process has ended, a byte that is
+    /// watched was changed, the hart whose turn it is stands at a break, or so many steps were done. Tells the reason, with the
+    /// point's number where there are several the lowest, and how many steps were done.
+    ///
+    /// # Errors
+    ///
+    /// Want of memory for a step; the steps before it stand.
+    pub fn go(&mut self, limit: u64) -> Result<(Why, u64), AllocError>
+        ensures stops { IfOk result (λ stop. Stops self.old.points limit stop.0 stop.1 (first_moment (T.shown self.old.target) self.old.turn) self.new.turn (T.shown self.new.target)) }
+        ensures wants { OnErr result (Wants self.old.points limit (first_moment (T.shown self.old.target) self.old.turn) self.new.turn (T.shown self.new.target)) }
+        ensures points { self.new.points ≡ self.old.points }
+    {
+        let points = self.points;
+        run(&mut self.target, &mut self.turn, &points, limit)
+    }
+
+    /// A hart's registers.
+    pub fn regs(&self, hart: u32) -> Result<&Regs, DebugRefusal>
+        ensures found { IfOk result (λ regs. hart_registers hart (T.shown self.now.target) ≡ Some regs.now) }
+        ensures refused { IfErr result (λ why. (why ≡ refusal.NoHart) × (hart_registers hart (T.shown self.now.target) ≡ None)) }
+    {
+        self.target.regs(hart).ok_or(DebugRefusal::NoHart)
+    }
+
+    fn lowest_free(&self) -> Option<usize>
+        ensures lowest { result ≡ lowest_free self.now.points }
+        ensures within { IfSome result (λ number. number < 32) }
+    {
+        self.points.iter().position(|point| point.is_none())
+    }
+}
+
+/// Whose turn it is at first: hart 0's, where it is live.
+fn first_turn<T: Target>(target: &T) -> u32
+    ensures turn { result ≡ first_turn (T.shown target.now) }
+    ensures live { is_live result (T.shown target.now) ≡ true }
+{
+    if target.is_live(0) {
+        return 0;
+    }
+    target.turn_after(0)
+}
+
+/// Whether so many bytes from an address on are one at least and so many at most, and stay below 2^32.
+pub(crate) fn is_range(most: u32, address: u32, length: u32) -> bool
+    ensures yes { result ≡ true → IsRange most address length }
+    ensures no { result ≡ false → ¬ IsRange most address length }
+{
+    length >= 1 && length <= most && u64::from(address) + u64::from(length) <= 1 << 32
+}

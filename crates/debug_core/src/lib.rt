@@ -1,0 +1,16 @@
+//! A debugger over any target that shows the state of a flat process: points to stop at, steps by turns, and looks at registers
+//! and memory.
+#![tactic(auto)]
+
+mod debugger;
+mod flat_target;
+mod looking;
+mod point;
+mod refusal;
+mod running;
+mod target;
+
+pub use debugger::Debugger;
+pub use point::{MOST_POINTS, MOST_WATCHED, Point, Stepped, Why};
+pub use refusal::DebugRefusal;
+pub use target::{Progress, ReadFault, Target};

@@ -1,0 +1,154 @@
+//! Steps by turns, until there is a reason to stop.
+
+ghost use Rattle.std.specs.Prelude.{◌≡◌, ◌≢◌, ℕ, ◌<◌, ◌≤◌, true, None, Some, IfOk, OnErr, length};
+ghost use Rattle.std.specs.List.{position_from};
+ghost use Rattle.page_memory.specs.Memory.{Memory};
+ghost use Rattle.flat_machine.specs.ByTurns.{turn_after};
+ghost use Rattle.flat_machine.specs.Process.{Process, hart_registers, is_live, may_step};
+ghost use Rattle.debug_core.specs.Debugging.{first_moment};
+ghost use Rattle.debug_core.specs.Points.{is_break_at, ArePoints};
+ghost use Rattle.debug_core.specs.Seen.{AreSeen};
+ghost use Rattle.debug_core.specs.Stops.{break_at, reason, Advances, Stops, Wants};
+ghost use Rattle.debug_core.specs.declared.point.Why.TheVariants as why;
+
+use crate::looking::{NOTHING, Window, look};
+use crate::point::{MOST_POINTS, Point, Why};
+use crate::target::{Progress, ReadFault, Target};
+use std::alloc::AllocError;
+
+/// The number of the first break at which a hart stands.
+pub(crate) fn break_at<T: Target>(target: &T, turn: u32, points: &[Option<Point>]) -> Option<u32>
+    requires few { length points.now ≤ 32 }
+    ensures { result ≡ break_at points.now (hart_registers turn (T.shown target.now)) }
+{
+    let pc = target.regs(turn)?.pc();
+    break_before(pc, points)
+}
+
+/// The number of the first break at an address.
+fn break_before(pc: u32, points: &[Option<Point>]) -> Option<u32>
+    requires few { length points.now ≤ 32 }
+    ensures { result ≡ position_from (is_break_at pc) 0 points.now }
+{
+    'points: for number in 0..points.len() {
+        if is_break_at(pc, points[number]) {
+            return Some(number as u32);
+        }
+    }
+    None
+}
+
+/// Whether a point is a break at an address.
+fn is_break_at(pc: u32, point: Option<Point>) -> bool
+    ensures { result ≡ is_break_at pc point }
+{
+    match point {
+        Some(Point::Break { address }) => address == pc,
+        _ => false,
+    }
+}
+
+/// Why to stop before the next step, after so many of as many as are allowed; `None` to go on. A byte that is watched and can't be
+/// had is told as a fault.
+fn reason_now<T: Target>(
+    target: &mut T,
+    turn: u32,
+    points: &[Option<Point>],
+    seen: &mut [Window],
+    done: u64,
+    limit: u64,
+) -> Result<Option<Why>, ReadFault>
+    requires points { ArePoints points.now }
+    requires room { length points.now ≤ length seen.old }
+    requires few { length points.now ≤ 32 }
+    ensures why { IfOk result (λ why. (was : Memory) → AreSeen points.now seen.old was → why ≡ reason points.now limit done (record { process = T.shown target.old; turn = turn; was = was })) }
+    ensures seen { IfOk result (λ why. why ≡ None → AreSeen points.now seen.new (T.shown target.old).memory) }
+    ensures goes_on { IfOk result (λ why. why ≡ None → ((T.shown target.old).ending ≡ None) × (done ≢ limit)) }
+    ensures room { length seen.new ≡ length seen.old }
+    ensures shown { T.shown target.new ≡ T.shown target.old }
+{
+    if target.end().is_some() {
+        return Ok(Some(Why::Ended));
+    }
+    if let Some(number) = look(target, points, seen)? {
+        return Ok(Some(Why::Watch(number)));
+    }
+    if let Some(number) = break_at(target, turn, points) {
+        return Ok(Some(Why::Break(number)));
+    }
+    if done == limit {
+        return Ok(Some(Why::Limit));
+    }
+    Ok(None)
+}
+
+/// Stops for a reason, or takes the step of the hart whose turn it is.
+///
+/// # Errors
+///
+/// Want of memory for the step; nothing has changed then but what was seen.
+#[tactic(auto, using(flat_machine::specs::StepLaws::may_step_when_live))]
+fn advance<T: Target>(
+    target: &mut T,
+    turn: &mut u32,
+    points: &[Option<Point>],
+    seen: &mut [Window],
+    done: u64,
+    limit: u64,
+) -> Result<Option<Why>, AllocError>
+    requires live { is_live turn.old (T.shown target.old) ≡ true }
+    requires points { ArePoints points.now }
+    requires room { length points.now ≤ length seen.old }
+    requires few { length points.now ≤ 32 }
+    ensures advances { IfOk result (λ why. (was : Memory) → AreSeen points.now seen.old was → Advances why points.now limit done (record { process = T.shown target.old; turn = turn.old; was = was }) turn.new (T.shown target.new)) }
+    ensures seen { IfOk result (λ why. why ≡ None → AreSeen points.now seen.new (T.shown target.old).memory) }
+    ensures goes_on { IfOk result (λ why. why ≡ None → done ≢ limit) }
+    ensures wants { OnErr result ((was : Memory) → AreSeen points.now seen.old was → reason points.now limit done (record { process = T.shown target.old; turn = turn.old; was = was }) ≡ None) }
+    ensures err { OnErr result ((T.shown target.new ≡ T.shown target.old) × (turn.new ≡ turn.old)) }
+    ensures room { length seen.new ≡ length seen.old }
+    ensures live { is_live turn.new (T.shown target.new) ≡ true }
+{
+    match reason_now(target, *turn, points, seen, done, limit) {
+        Err(_) => return Ok(Some(Why::Absent)),
+        Ok(Some(why)) => return Ok(Some(why)),
+        Ok(None) => {}
+    }
+    match target.step(*turn) {
+        Ok(Progress::Ran) => {
+            *turn = target.turn_after(*turn);
+            Ok(None)
+        }
+        Ok(Progress::Absent) => Ok(Some(Why::Absent)),
+        Ok(Progress::Full) => Ok(Some(Why::Ended)),
+        Err(AllocError) => Err(AllocError),
+    }
+}
+
+/// Steps the harts by turns until there is a reason to stop. Tells the reason, and how many steps were done.
+///
+/// # Errors
+///
+/// Want of memory for a step; the steps before it stand.
+pub(crate) fn run<T: Target>(
+    target: &mut T,
+    turn: &mut u32,
+    points: &[Option<Point>],
+    limit: u64,
+) -> Result<(Why, u64), AllocError>
+    requires live { is_live turn.old (T.shown target.old) ≡ true }
+    requires points { ArePoints points.now }
+    requires few { length points.now ≤ 32 }
+    ensures stops { IfOk result (λ stop. Stops points.now limit stop.0 stop.1 (first_moment (T.shown target.old) turn.old) turn.new (T.shown target.new)) }
+    ensures wants { OnErr result (Wants points.now limit (first_moment (T.shown target.old) turn.old) turn.new (T.shown target.new)) }
+    ensures live { is_live turn.new (T.shown target.new) ≡ true }
+{
+    let mut seen = [NOTHING; MOST_POINTS];
+    let mut done: u64 = 0;
+    'steps: loop {
+        match advance(target, turn, points, &mut seen, done, limit) {
+            Ok(None) => done += 1,
+            Ok(Some(why)) => return Ok((why, done)),
+            Err(AllocError) => return Err(AllocError),
+        }
+    }
+}

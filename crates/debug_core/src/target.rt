@@ -1,0 +1,83 @@
+//! What a debugger looks at.
+
+ghost use Rattle.std.specs.Prelude.{◌≡◌, ◌+◌, ◌^◌, ◌≤◌, ℕ, true, is_some, length, option_copied, OnOk, OnErr, IfOk, IfErr};
+ghost use Rattle.flat_machine.specs.ByTurns.{turn_after};
+ghost use Rattle.flat_machine.specs.Process.{Process, hart_registers, is_live, may_step};
+ghost use Rattle.page_memory.specs.Memory.{byte_at};
+ghost use Rattle.debug_core.specs.Points.{bytes_from};
+ghost use Rattle.debug_core.specs.Progresses.{Progresses};
+
+use flat_machine::End;
+use rv_exec::Regs;
+use std::alloc::AllocError;
+
+/// What has come of a step.
+#[derive(Clone, Copy, Debug, PartialEq, Eq)]
+pub enum Progress {
+    /// It was taken.
+    Ran,
+    /// A page that it needs could not be had; it was not taken.
+    Absent,
+    /// No more steps can be recorded; it was not taken, and the process is ended for that.
+    Full,
+}
+
+/// Why bytes can't be read, in the order in which it is tested.
+#[derive(Clone, Copy, Debug, PartialEq, Eq)]
+pub enum ReadFault {
+    /// The process has ended, and a page was given back.
+    Purged,
+    /// A page could not be loaded.
+    Device,
+}
+
+/// A process that a debugger steps and looks at: whatever shows the state of a process on flat memory.
+pub trait Target: Drop {
+    ghost use Rattle.debug_core.specs.declared.target.ReadFault.{ReadFault};
+
+    /// The flat process that it shows.
+    ghost shown: { Self → Process };
+
+    /// When bytes can't be read for this reason: so many, from an address on.
+    ghost fails: { Self → ℕ → ℕ → ReadFault → Type 0 };
+
+    /// Whether a hart was started and is live.
+    fn is_live(&self, hart: u32) -> bool
+        ensures { result ≡ is_live hart (shown self.now) };
+
+    /// The least live hart above one, else the least live one: some hart is live always.
+    fn turn_after(&self, hart: u32) -> u32
+        ensures turn { result ≡ turn_after hart (shown self.now) }
+        ensures live { is_live result (shown self.now) ≡ true };
+
+    /// Whether a page is mapped at an address.
+    fn is_mapped(&self, address: u32) -> bool
+        ensures { result ≡ is_some (byte_at (shown self.now).memory address) };
+
+    /// How the process ended, if it did.
+    fn end(&self) -> Option<End>
+        ensures { result ≡ (shown self.now).ending };
+
+    /// A hart's registers, where the hart was started.
+    fn regs(&self, hart: u32) -> Option<&Regs>
+        ensures { option_copied result ≡ hart_registers hart (shown self.now) };
+
+    /// Runs one instruction of a hart that may step.
+    ///
+    /// # Errors
+    ///
+    /// Want of memory; the process is as before.
+    fn step(&mut self, hart: u32) -> Result<Progress, AllocError>
+        requires { may_step hart (shown self.old) ≡ true }
+        ensures ok { IfOk result (λ progress. Progresses progress hart (shown self.old) (shown self.new)) }
+        ensures err { OnErr result (shown self.new ≡ shown self.old) };
+
+    /// Reads the bytes from an address on, as many as there are places; `None` where no page is mapped. What the process shows
+    /// stays.
+    fn read(&mut self, address: u32, bytes: &mut [Option<u8>]) -> Result<(), ReadFault>
+        requires { address + length bytes.old ≤ 2 ^ 32 }
+        ensures ok { OnOk result (bytes.new ≡ bytes_from (shown self.old).memory address (length bytes.old)) }
+        ensures refused { IfErr result (fails self.old address (length bytes.old)) }
+        ensures err { OnErr result (bytes.new ≡ bytes.old) }
+        ensures shown { shown self.new ≡ shown self.old };
+}

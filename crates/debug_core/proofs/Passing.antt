@@ -1,5 +1,5 @@
 -- Steps that pass with no reason to stop.
-use Rattle.std.proofs.Common.{◌≡◌, ◌≢◌, ℕ, zero, suc, ◌+◌, ◌<◌, ◌≤◌, List, [], ◌∷◌, length, replicate, take, slice_index_or, Option, Some, None, IfSome, option_and_then, option_map, slice_index, nat_cmp, subst, sym, ap, ◌∙◌, refl, below_more, arith}
+use Rattle.std.proofs.Common.{◌≡◌, ◌≢◌, ℕ, zero, suc, ◌+◌, ◌≤◌, List, [], ◌∷◌, length, replicate, take, slice_index_or, Option, Some, None, IfSome, option_and_then, option_map, slice_index, nat_cmp, subst, sym, ap, ◌∙◌, refl, below_more, arith}
 use Rattle.std.specs.FinMap as map
 use Rattle.std.proofs.lemmas.List.{get_or-replicate}
 use Rattle.page_memory.specs.Memory.{Page, byte_at}
@@ -23,7 +23,7 @@ unfolding moment_after
 passes_more points limit count first now next passes none step below =
     let more : suc count ≡ count + 1 = omega arith in
     let here : IfSome (moment_after count first) (λ m. reason points limit count m ≡ None) =
-        subst (λ found. IfSome found (λ m. reason points limit count m ≡ None)) (sym passes.reached) none in
+    subst (λ found. IfSome found (λ m. reason points limit count m ≡ None)) (sym passes.reached) none in
     record {
       reached = ap (λ k. moment_after k first) (sym more) ∙ ap (option_and_then next_moment) passes.reached ∙ step;
       within = let within = passes.within in omega (arith, below);

@@ -1,7 +1,7 @@
 -- Points that are added or removed.
-use Rattle.std.proofs.Common.{◌≡◌, ℕ, zero, suc, refl, ◌<◌, ◌≤◌, List, [], length, replicate, slice_index_or, slice_set, Option, Some, None, subst, sym, inl, inr, ◌∙◌, arith}
-use Rattle.std.proofs.lemmas.Bool.Decides.{eqb_tells, leb_tells}
-use Rattle.std.proofs.lemmas.List.{get_or-set_same, get_or-set_other, get_or-replicate, get_or_past}
+use Rattle.std.proofs.Common.{◌≡◌, ℕ, zero, suc, refl, ◌<◌, List, length, replicate, slice_set, Option, None, subst, sym, inl, inr}
+use Rattle.std.proofs.lemmas.Bool.Decides.{eqb_tells}
+use Rattle.std.proofs.lemmas.List.{get_or-set_same, get_or-set_other}
 use Rattle.debug_core.specs.Points.{point_at, IsPoint, ArePoints}
 use Rattle.debug_core.specs.declared.point.Point.{Point}
 

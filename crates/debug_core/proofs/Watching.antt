@@ -1,5 +1,5 @@
 -- Watches one by one.
-use Rattle.std.proofs.Common.{◌≡◌, ℕ, zero, suc, ◌+◌, ◌<◌, ◌≤◌, ◌||◌, Bool, true, false, List, [], ◌∷◌, length, drop, slice_get, slice_index_or, Option, Some, None, refl, sym, ap, ◌∙◌, arith, cond, subst, slice_set, inl, inr}
+use Rattle.std.proofs.Common.{◌≡◌, ℕ, zero, suc, ◌+◌, ◌<◌, ◌≤◌, ◌||◌, Bool, true, false, List, [], ◌∷◌, length, drop, slice_index_or, Option, Some, None, refl, sym, ap, ◌∙◌, arith, cond, subst, slice_set, inl, inr}
 use Rattle.std.proofs.Math.Seq.{drop-nil}
 use Rattle.std.specs.List.{position_from}
 use Rattle.std.proofs.lemmas.Bool.Decides.{eqb_tells}
@@ -90,7 +90,7 @@ seen_more i points windows window now h below here number within =
     elim (eqb_tells number i) [
       | inl same ↦
           subst (λ k. IsSeen (slice_index_or points k None) (slice_index_or (slice_set windows i window) k []) now) (sym same.1)
-              (subst (λ w. IsSeen (slice_index_or points i None) w now) (sym (get_or-set_same windows i window [] h)) here)
+          (subst (λ w. IsSeen (slice_index_or points i None) w now) (sym (get_or-set_same windows i window [] h)) here)
       | inr other ↦
           subst (λ w. IsSeen (slice_index_or points number None) w now) (sym (get_or-set_other windows i number window [] other.1)) (below number (let differs = other.1 in omega arith))
     ]

@@ -6,6 +6,10 @@ use Rattle.flat_machine.specs.ByTurns.{turn_after}
 use Rattle.flat_machine.specs.Process.{Process, is_live, may_step, flat_step}
 use Rattle.debug_core.specs.Progresses.{ended_full}
 use Rattle.debug_core.specs.Stops.{Moment}
+use Rattle.page_memory.specs.Memory.{Memory}
+use Rattle.debug_core.specs.Points.{all_there, bytes_from, IsRange}
+use Rattle.debug_core.specs.declared.target.ReadFault.{ReadFault}
+use Rattle.debug_core.specs.declared.target.ReadFault.TheVariants as fault
 use Rattle.debug_core.specs.declared.point.Point.{Point}
 use Rattle.debug_core.specs.declared.point.Stepped.{Stepped}
 use Rattle.debug_core.specs.declared.point.Stepped.TheVariants.{Ran, Absent}
@@ -48,3 +52,16 @@ RefusesStep NotMapped hart old new = ⊥
 RefusesStep Purged hart old new = ⊥
 RefusesStep Device hart old new = ⊥
 RefusesStep NoMemory hart old new = (may_step hart old ≡ true) × (new ≡ old)
+
+-- Why a look at so many bytes from an address on is refused: they are no range, or no page is mapped at one of them, or the target
+-- can't read them, or memory is wanting.
+abbrev pub RefusesLook : {T : Type 0} → (T → ℕ → ℕ → ReadFault → Type 0) → DebugRefusal → ℕ → ℕ → T → Memory → Type 0
+RefusesLook fails Full address count target memory = ⊥
+RefusesLook fails BadRange address count target memory = ¬ IsRange 4096 address count
+RefusesLook fails NoPoint address count target memory = ⊥
+RefusesLook fails NoHart address count target memory = ⊥
+RefusesLook fails Ended address count target memory = ⊥
+RefusesLook fails NotMapped address count target memory = IsRange 4096 address count × (all_there (bytes_from memory address count) ≡ false)
+RefusesLook fails Purged address count target memory = IsRange 4096 address count × ((all_there (bytes_from memory address count) ≡ true) × fails target address count fault.Purged)
+RefusesLook fails Device address count target memory = IsRange 4096 address count × ((all_there (bytes_from memory address count) ≡ true) × fails target address count fault.Device)
+RefusesLook fails NoMemory address count target memory = IsRange 4096 address count × (all_there (bytes_from memory address count) ≡ true)

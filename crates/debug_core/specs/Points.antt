@@ -49,3 +49,9 @@ point_at points number = slice_index_or points number None
 
 abbrev pub ArePoints : List (Option Point) → Type 0
 ArePoints points = (number : ℕ) → IsPoint (point_at points number)
+
+-- whether each byte is there
+unfoldable pub all_there : List (Option ℕ) → Bool
+all_there [] = true
+all_there (None ∷ bytes) = false
+all_there (Some byte ∷ bytes) = all_there bytes

@@ -2,7 +2,6 @@
 use Rattle.std.specs.Prelude.{◌≡◌, ℕ, zero, suc, ◌<◌, ◌≤◌, ◌==◌, List, ◌⊎◌, Option, Some, None, IfSome, is_some, option_map, option_and_then, if◌then◌else◌}
 use Rattle.std.specs.Option.{option_or}
 use Rattle.std.specs.List.{position_from}
-use Rattle.std.specs.FinMap as map
 use Rattle.page_memory.specs.Memory.{Memory}
 use Rattle.rv_exec.specs.Registers.{Registers}
 use Rattle.flat_machine.specs.ByTurns.{turn_after}
@@ -43,8 +42,8 @@ abbrev pub reason : List (Option Point) → ℕ → ℕ → Moment → Option Wh
 reason points limit count now =
     if is_some now.process.ending then Some Ended
     else option_or (option_map Watch (watch_hit points now))
-        (option_or (option_map Break (break_at points (hart_registers now.turn now.process)))
-            (if count == limit then Some Limit else None))
+    (option_or (option_map Break (break_at points (hart_registers now.turn now.process)))
+    (if count == limit then Some Limit else None))
 
 -- after none of the steps before this many there is a reason to stop
 abbrev pub GoesOnBefore : List (Option Point) → ℕ → ℕ → Moment → Type 0

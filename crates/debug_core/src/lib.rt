@@ -5,6 +5,7 @@
 mod debugger;
 mod flat_target;
 mod looking;
+mod memory_view;
 mod point;
 mod refusal;
 mod running;

@@ -1,4 +1,4 @@
-use Rattle.std.proofs.Common.{◌≡◌, ℕ, ◌+◌, ◌<◌, ◌≤◌, length, refl, sym, ap, ◌∙◌, slice_set, length-set, arith}
+use Rattle.std.proofs.Common.{refl, ap, ◌∙◌, slice_set, length-set, arith}
 use Rattle.debug_core.proofs.Reading.{bytes_none, bytes_more, bytes_all}
 use Rattle.debug_core.proofs.flat_target.read_all.Goals as goal
 

@@ -1,4 +1,4 @@
-use Rattle.std.proofs.Common.{◌≡◌, ℕ, ◌≤◌, ◌++◌, length, drop}
+use Rattle.std.proofs.Common.{◌≡◌, ◌≤◌, ◌++◌, length, drop}
 use Rattle.debug_core.specs.Points.{bytes_from}
 use Rattle.debug_core.proofs.flat_target.read_all.Given as goal
 

@@ -1,5 +1,4 @@
-use Rattle.std.proofs.Common.{rules, ◌≡◌, ℕ, ◌+◌, ◌<◌, length, Bool, true, false, sym, ap, ◌∙◌, refl, drop, arith}
-use Rattle.debug_core.specs.Points.{any_changed, has_changed}
+use Rattle.std.proofs.Common.{sym, ◌∙◌, arith}
 use Rattle.debug_core.proofs.Watching.{changed_stops, changed_goes_on, changed_ends}
 use Rattle.debug_core.proofs.looking.any_changed.Goals as goal
 

@@ -1,4 +1,4 @@
-use Rattle.std.proofs.Common.{◌≡◌, ℕ, ◌≤◌, length, drop}
+use Rattle.std.proofs.Common.{◌≡◌, drop}
 use Rattle.debug_core.specs.Points.{any_changed}
 use Rattle.debug_core.proofs.looking.any_changed.Given as goal
 

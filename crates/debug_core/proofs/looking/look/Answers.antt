@@ -1,9 +1,7 @@
-use Rattle.std.proofs.Common.{◌≡◌, ℕ, ◌+◌, ◌<◌, ◌≤◌, None, length, Bool, true, false, List, [], slice_index_or, slice_set, length-set, sym, ap, ◌∙◌, subst, arith, inl, inr}
-use Rattle.std.proofs.lemmas.Bool.Decides.{eqb_tells}
-use Rattle.std.proofs.lemmas.List.{get_or-set_same, get_or-set_other}
-use Rattle.page_memory.specs.Memory.{Memory}
+use Rattle.std.proofs.Common.{None, [], slice_index_or, length-set, ◌∙◌, subst, arith}
+use Rattle.std.proofs.lemmas.List.{get_or-set_other}
 use Rattle.debug_core.specs.Points.{is_hit}
-use Rattle.debug_core.specs.Seen.{AreSeen, IsSeen}
+use Rattle.debug_core.specs.Seen.{IsSeen}
 use Rattle.debug_core.proofs.Watching.{position_stops, position_goes_on, position_ends, hit_here, seen_more}
 use Rattle.debug_core.proofs.looking.look.Goals as goal
 
@@ -11,8 +9,8 @@ pub returns-then-branch-clause-hit : goal.returns-then-branch-clause-hit
 returns-then-branch-clause-hit g c was seen =
     let now = (g.T.Target.shown c.args.target.now).memory in
     position_stops (is_hit was now) c.points.number c.args.points.now None c.points-test.true (c.points.invariant.none was seen)
-        (hit_here c.points.number c.args.points.now c.args.seen.now c.points.seen was (g.T.Target.shown c.points.target) (g.T.Target.shown c.args.target.now) c.in_ok-look_at.field-0 c.points-test.true seen
-            c.points.invariant.above c.points.invariant.shown c.in_ok-look_at.ensures.hit ∙ c.if-branch.true)
+    (hit_here c.points.number c.args.points.now c.args.seen.now c.points.seen was (g.T.Target.shown c.points.target) (g.T.Target.shown c.args.target.now) c.in_ok-look_at.field-0 c.points-test.true seen
+    c.points.invariant.above c.points.invariant.shown c.in_ok-look_at.ensures.hit ∙ c.if-branch.true)
 
 pub points-preserved : goal.points-preserved
 points-preserved g c = record {
@@ -23,8 +21,8 @@ points-preserved g c = record {
   above = λ number h. get_or-set_other c.points.seen c.points.number number c.look_at.new.seen [] (omega (arith, h)) ∙ c.points.invariant.above number (omega (arith, h));
   none = λ was seen.
       position_goes_on (is_hit was (g.T.Target.shown c.args.target.now).memory) c.points.number c.args.points.now None c.points-test.true (c.points.invariant.none was seen)
-          (hit_here c.points.number c.args.points.now c.args.seen.now c.points.seen was (g.T.Target.shown c.points.target) (g.T.Target.shown c.args.target.now) c.in_ok-look_at.field-0 c.points-test.true seen
-              c.points.invariant.above c.points.invariant.shown c.in_ok-look_at.ensures.hit ∙ c.if-branch.false);
+      (hit_here c.points.number c.args.points.now c.args.seen.now c.points.seen was (g.T.Target.shown c.points.target) (g.T.Target.shown c.args.target.now) c.in_ok-look_at.field-0 c.points-test.true seen
+      c.points.invariant.above c.points.invariant.shown c.in_ok-look_at.ensures.hit ∙ c.if-branch.false);
 }
 
 pub returns-clause-hit : goal.returns-clause-hit

@@ -1,9 +1,8 @@
-use Rattle.std.proofs.Common.{◌≡◌, ℕ, ◌≤◌, ◌<◌, length, drop, List, [], Option, None, slice_index_or}
+use Rattle.std.proofs.Common.{◌≡◌, ℕ, ◌≤◌, ◌<◌, length, drop, [], None, slice_index_or}
 use Rattle.std.specs.List.{position_from}
 use Rattle.page_memory.specs.Memory.{Memory}
 use Rattle.debug_core.specs.Points.{is_hit}
 use Rattle.debug_core.specs.Seen.{AreSeen, IsSeen}
-use Rattle.debug_core.specs.declared.point.Point.{Point}
 use Rattle.debug_core.proofs.looking.look.Given as goal
 
 -- The watches so far are seen as they are now, and none of them was hit; the others are as before.

@@ -1,4 +1,4 @@
-use Rattle.std.proofs.Common.{◌≡◌, None, sym, ◌∙◌, arith}
+use Rattle.std.proofs.Common.{None, sym, ◌∙◌, arith}
 use Rattle.debug_core.specs.Points.{is_break_at}
 use Rattle.debug_core.proofs.Watching.{position_stops, position_goes_on, position_ends}
 use Rattle.debug_core.proofs.running.break_before.Goals as goal

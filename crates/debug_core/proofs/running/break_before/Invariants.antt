@@ -1,4 +1,4 @@
-use Rattle.std.proofs.Common.{◌≡◌, ℕ, drop}
+use Rattle.std.proofs.Common.{◌≡◌, drop}
 use Rattle.std.specs.List.{position_from}
 use Rattle.debug_core.specs.Points.{is_break_at}
 use Rattle.debug_core.proofs.running.break_before.Given as goal

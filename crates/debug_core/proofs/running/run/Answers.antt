@@ -1,4 +1,4 @@
-use Rattle.std.proofs.Common.{◌≡◌, ℕ, None, Some, refl, ◌∙◌}
+use Rattle.std.proofs.Common.{None, Some, refl, ◌∙◌}
 use Rattle.std.specs.FinMap as map
 use Rattle.debug_core.specs.Debugging.{first_moment}
 use Rattle.debug_core.specs.Stops.{Moment}

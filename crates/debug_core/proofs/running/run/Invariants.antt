@@ -1,9 +1,9 @@
-use Rattle.std.proofs.Common.{◌≡◌, ℕ, ◌+◌, ◌-◌, ◌≤◌, true, length, Some}
+use Rattle.std.proofs.Common.{◌≡◌, ◌-◌, true, length}
 use Rattle.page_memory.specs.Memory.{Memory}
 use Rattle.flat_machine.specs.Process.{is_live}
 use Rattle.debug_core.specs.Debugging.{first_moment}
 use Rattle.debug_core.specs.Seen.{AreSeen}
-use Rattle.debug_core.specs.Stops.{Moment, Passes}
+use Rattle.debug_core.specs.Stops.{Passes}
 use Rattle.debug_core.proofs.running.run.Given as goal
 
 -- so many steps were done, after none of them there was a reason to stop, and the watches are seen as before the last

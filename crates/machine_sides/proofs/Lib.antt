@@ -2,6 +2,5 @@ pub mod Admissions
 pub mod GivenPages
 pub mod Looking
 pub mod PurgeSteps
-pub mod Shown
 pub mod SlicesInARow
 pub mod Sweeps

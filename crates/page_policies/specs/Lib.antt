@@ -13,3 +13,5 @@ pub mod Demand
 pub mod CountLaws
 pub mod DemandLaws
 pub mod PlayedLaws
+pub mod NextUses
+pub mod NextUseLaws

@@ -9,6 +9,7 @@ mod laws;
 mod lru_policy;
 mod policy;
 mod second_chance;
+mod string_uses;
 #[cfg(test)]
 mod tests;
 
@@ -20,3 +21,4 @@ pub use laws::{more_frames_never_miss_more, no_policy_misses_less, optimum_is_a_
 pub use lru_policy::Lru;
 pub use policy::{Outcome, Policy, misses};
 pub use second_chance::SecondChance;
+pub use string_uses::next_uses;

@@ -1,5 +1,5 @@
 -- Which steps let other harts have their turn: those that make the call for it.
-use Rattle.std.specs.Prelude.{ℕ, Bool, true, false, Option, Some, None}
+use Rattle.std.specs.Prelude.{Bool, true, false, Option, Some}
 use Rattle.page_memory.specs.Memory.{Memory}
 use Rattle.rv_exec.specs.Registers.{Registers, register}
 use Rattle.rv_exec.specs.Line as line

@@ -5,7 +5,7 @@ use Rattle.pager_core.specs.Pager.{PagerState, admission_refused, admitted_with}
 use Rattle.pager_core.specs.Refusals.{RefusesAdmission}
 use Rattle.machine_sides.specs.Sides.{PagerSideValue}
 use Rattle.machine_sides.proofs.Admissions.{barred, refused, admits}
-use Rattle.machine_sides.proofs.admission.admit.Goals as goal
+use Rattle.machine_sides.proofs.admission.list_and_take.Goals as goal
 
 pub returns-in-Some-clause-refused : goal.returns-in-Some-clause-refused
 returns-in-Some-clause-refused g c = barred c.args.key c.args.pager.now c.args.process.now.space c.in-Some.reason (sym c.in-Some.is ∙ c.page_bars.ensures)

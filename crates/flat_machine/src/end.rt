@@ -70,6 +70,11 @@ impl KillCause {
 }
 
 impl fmt::Display for KillCause {
+    ghost use Rattle.std.specs.Prelude.{Some};
+    ghost use Rattle.flat_machine.specs.Ending.{kill_text};
+
+    ghost output = { λ cause. Some (kill_text cause) };
+
     fn fmt<W: fmt::Write>(&self, f: &mut fmt::Formatter<W>) -> fmt::Result {
         f.write_str(match self {
             KillCause::NoSwap => "no swap",

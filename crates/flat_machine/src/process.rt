@@ -1,10 +1,10 @@
 ghost use Rattle.std.specs.Prelude.{◌≡◌, option_copied};
 ghost use Rattle.flat_machine.specs.Process.{hart_registers, is_live, IsWhole};
-ghost use Rattle.page_memory.specs.Memory.{byte_at};
+ghost use Rattle.page_memory.specs.Memory.{byte_at, fetched};
 
 use crate::end::End;
 use env_calls::Env;
-use page_memory::FlatMemory;
+use page_memory::{FlatMemory, MemoryFault};
 use rv_exec::Regs;
 use std::marker::Model;
 
@@ -61,6 +61,21 @@ impl FlatProcess {
         ensures { result ≡ byte_at self.now.memory address }
     {
         self.memory.byte(address)
+    }
+
+    /// The memory that all harts share.
+    pub fn memory(&self) -> &FlatMemory
+        ensures { result.now ≡ self.now.memory }
+    {
+        &self.memory
+    }
+
+    /// The word that a fetch at an address gives. The page is remembered, and nothing has changed.
+    pub fn fetch(&mut self, address: u32) -> Result<u32, MemoryFault>
+        ensures word { result ≡ fetched self.old.memory address }
+        ensures same { self.new ≡ self.old }
+    {
+        self.memory.fetch(address)
     }
 
     /// What was written so far.

@@ -4,7 +4,7 @@ use Rattle.std.specs.Prelude.{slice_set, if◌then◌else◌}
 use borrow.Author.Tests.{lt-ltb}
 use Rattle.std.proofs.lemmas.Bool.Decides.{nat_tests}
 use Rattle.std.proofs.lemmas.List.{length-set}
-use Rattle.clock_policy.specs.ClockPro.{withdrawn}
+use Rattle.clock_policy.specs.ClockPro.{kind_of, withdrawn}
 use Rattle.clock_policy.specs.declared.key.Key.{Key}
 use Rattle.frame_pool.specs.FrameValue.{FrameValue}
 use Rattle.page_store.specs.JobValue.{JobValue}
@@ -191,18 +191,18 @@ module _ {S : Type 0} where
       is_refused : (why : EventRefusal) → page_in_refusal key core ≡ Some why → reply ≡ Refused why → Outcome
       is_refused why told answered = record { served = inl (record { refusal = why; reason_is = told; reply_is = answered; stays = unchanged }); is_machine = still_machine; size = still_size }
 
-      by_reason : (reason : NotAdmitted) → bars key core.pager.pager q.space ≡ told_by reason → reply ≡ Refused (admit_reason reason) → Outcome
-      by_reason Ended why answered = is_refused refusal.Ended (reason_told (Some Ended) why) answered
-      by_reason NotAbsent why answered = is_refused refusal.NotAbsent (reason_told (Some NotAbsent) why) answered
-      by_reason AlreadyResident why answered = absurd (not_listed (is_some q.space.running.ending) (is_absent_at q.space key.vpn) (none_free core.pager.pager.free) (sym (bars_are core key q machine found) ∙ why))
-      by_reason NoFrame why answered = is_refused refusal.NoFrame (reason_told (Some NoFrame) why) answered
-      by_reason NoMemory why answered = record {
+      by_reason : (reason : NotAdmitted) → bars key core.pager.pager q.space ≡ told_by reason → (reason ≡ NoMemory → kind_of key core.pager.pager.list.entries ≡ None) → reply ≡ Refused (admit_reason reason) → Outcome
+      by_reason Ended why grows answered = is_refused refusal.Ended (reason_told (Some Ended) why) answered
+      by_reason NotAbsent why grows answered = is_refused refusal.NotAbsent (reason_told (Some NotAbsent) why) answered
+      by_reason AlreadyResident why grows answered = absurd (not_listed (is_some q.space.running.ending) (is_absent_at q.space key.vpn) (none_free core.pager.pager.free) (sym (bars_are core key q machine found) ∙ why))
+      by_reason NoFrame why grows answered = is_refused refusal.NoFrame (reason_told (Some NoFrame) why) answered
+      by_reason NoMemory why grows answered = record {
         served = inr (record {
           allowed = reason_told None why;
           process = q;
           process' = q';
           found = found;
-          how = inr (inr (record { pager_is = same_pager; process_is = same_process; reply_is = answered }));
+          how = inr (inr (record { unlisted = grows refl; pager_is = same_pager; process_is = same_process; reply_is = answered }));
           processes = refl;
           stays = refl;
         });
@@ -213,7 +213,7 @@ module _ {S : Type 0} where
     pub outcome : PagesIn held honest failures key core.pager pager' q q' reply → Outcome
     outcome pages =
         elim pages [
-          | inl barred ↦ by_reason barred.why.stays barred.stays barred.reason barred.why.why barred.reply_is
+          | inl barred ↦ by_reason barred.why.stays barred.stays barred.reason barred.why.why barred.why.grows barred.reply_is
           | inr rest ↦ elim rest [ inl comes ↦ come comes | inr taken ↦ go (goes_back taken) ]
         ]
 

@@ -1,5 +1,5 @@
 -- Paging is invisible: after every event of a run, each process shows what its instructions compute on flat memory.
-use Rattle.std.specs.Prelude.{◌≡◌, ℕ, ◌^◌, ◌<◌, ◌++◌, ◌&&◌, ◌==◌, Bool, true, false, is_some, List, [], ◌∷◌, Some, Ok, slice_get, if◌then◌else◌}
+use Rattle.std.specs.Prelude.{◌≡◌, ℕ, ◌^◌, ◌<◌, ◌++◌, ◌&&◌, ◌==◌, Bool, true, false, List, [], ◌∷◌, Some, Ok, slice_get, if◌then◌else◌}
 use Rattle.std.specs.FinMap.{get}
 use Rattle.clock_policy.specs.ClockPro.{question_of, answered}
 use Rattle.clock_policy.specs.Residents.{residents}
@@ -22,7 +22,7 @@ use Rattle.machine_sides.specs.Sweeping.{bit_at}
 use Rattle.machine_sides.specs.Together.{residents_in}
 use Rattle.page_store.specs.PageValue.{PageValue}
 use Rattle.paged_memory.specs.Paged.{page_at, flat_page}
-use Rattle.space_core.specs.StandsFor.{SpaceValue, own_ending, is_purged}
+use Rattle.space_core.specs.StandsFor.{SpaceValue, own_ending, rights_of, paged_rights, is_purged}
 
 -- whether a step that is answered so ran its instruction
 abbrev pub has_run : Reply → Bool
@@ -88,14 +88,14 @@ module _ {S : Type 0} where
 module _ {S : Type 0} (held : S → List ℕ) where
   -- a process shows the flat process that an image and an input become by instructions of these harts, in this order: its registers;
   -- its output, input left and break; its ending, but that one that the machine killed has none on flat memory; which pages are
-  -- mapped; and the rights and bytes of each page that was not given up
+  -- mapped, and with which rights; and the bytes of each page that was not given up
   pub record ShowsFlatRun (image : ImageContent) (input harts : List ℕ) (space : SpaceValue S) : Type 0 where
     pub flat : Process
     pub ran : flat_run harts (opening image input) ≡ Some flat
     pub registers : space.running.harts ≡ flat.harts
     pub environment : space.running.environment ≡ flat.environment
     pub ending : own_ending space.running.ending ≡ flat.ending
-    pub mapped : (number : ℕ) → number < 2 ^ 20 → is_some (page_at space.memory.pages number) ≡ is_some (get flat.memory number)
+    pub mapped : (number : ℕ) → number < 2 ^ 20 → paged_rights (page_at space.memory.pages number) ≡ rights_of (get flat.memory number)
     pub memory : (number : ℕ) (page : PageValue S) → number < 2 ^ 20 → page_at space.memory.pages number ≡ Some page → is_purged (Some page) ≡ false
         → get flat.memory number ≡ Some (flat_page held page)
 

@@ -1,7 +1,7 @@
 -- A page is brought in: it is admitted and then mapped, or else the admission is taken back.
 use Rattle.std.specs.Prelude.{◌≡◌, ◌⊎◌, ℕ, List, ◌++◌, [], ◌∷◌, is_some, slice_get, slice_set, Option, Some, None, if◌then◌else◌}
 use Rattle.clock_policy.specs.declared.key.Key.{Key}
-use Rattle.clock_policy.specs.ClockPro.{withdrawn}
+use Rattle.clock_policy.specs.ClockPro.{kind_of, withdrawn}
 use Rattle.frame_pool.specs.FrameValue.{FrameValue}
 use Rattle.paged_memory.specs.Calls.{ChangesBy}
 use Rattle.paged_memory.specs.Filling.{RefusesAbsent}
@@ -85,8 +85,9 @@ module _ {S : Type 0} where
       }
       pub reply_is : reply ≡ fault_reply fault
 
-    -- memory is wanting for its entry in the list, and nothing has changed
+    -- the list has no entry of the page, memory is wanting for one, and nothing has changed
     pub record IsNotListed : Type 0 where
+      pub unlisted : kind_of key pager.pager.list.entries ≡ None
       pub pager_is : pager' ≡ pager
       pub process_is : process' ≡ process
       pub reply_is : reply ≡ Refused NoMemory

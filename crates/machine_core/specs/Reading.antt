@@ -4,7 +4,8 @@ use Rattle.flat_machine.specs.Process.{Process}
 use Rattle.paged_memory.specs.declared.peeking.PeekFault.{PeekFault}
 use Rattle.machine_core.specs.Machine.{CoreValue}
 use Rattle.machine_core.specs.MachineRun.{ChangesOne}
-use Rattle.machine_sides.specs.Showing.{OfFlat, Peeks}
+use Rattle.machine_sides.specs.Showing.{Peeks}
+use Rattle.space_core.specs.StandsFor.{OfFlat}
 use Rattle.machine_sides.specs.Sides.{ProcessSideValue}
 
 -- whether a process is there and has such a live hart
@@ -15,7 +16,7 @@ is_live_in (Some process) hart = slice_index_or process.space.running.environmen
 -- where slots are honest, this holds of the flat process that a process's schedule leaves, if there is such a process
 abbrev pub IfThere : {S : Type 0} → Type 0 → (Process → Type 0) → Option (ProcessSideValue S) → Type 0
 IfThere honest P None = Unit {0}
-IfThere honest P (Some process) = OfFlat honest P process
+IfThere honest P (Some process) = OfFlat honest P process.space
 
 module _ {S : Type 0} (held : S → List ℕ) (honest : Type 0) (failures : S → ℕ) where
   -- a look at a byte of a process of the machine

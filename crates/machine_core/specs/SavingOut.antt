@@ -32,7 +32,7 @@ module _ {S : Type 0} where
   is_save_of key job = is_key key (key_of job.process job.vpn)
 
   -- the save of a page is taken from those that are out, and made: its slot holds the copy where the device passed it and
-  -- slots are honest, and where it was not passed the device failed
+  -- slots are honest; and a failure is counted where the device did not pass it, and nowhere else
   pub record MakesSave (held : S → List ℕ) (honest : Type 0) (failures : S → ℕ) (key : Key) (old new : List (JobValue S)) (saved : SavedValue S) : Type 0 where
     pub job : JobValue S
     pub taken : IsPermutation old (job ∷ new)
@@ -42,6 +42,7 @@ module _ {S : Type 0} where
     pub page : saved.vpn ≡ job.vpn
     pub copy : saved.copy ≡ job.copy
     pub kept : honest → IsTrue saved.passed → held saved.slot ≡ job.copy
+    pub passed : IsTrue saved.passed → failures saved.slot ≡ failures job.slot
     pub fault : IsFalse saved.passed → Rose (failures job.slot) (failures saved.slot)
     pub counted : failures job.slot ≤ failures saved.slot
 

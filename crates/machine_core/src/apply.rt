@@ -2,6 +2,7 @@
 
 ghost use Rattle.std.specs.Prelude.{◌≡◌};
 ghost use Rattle.machine_core.specs.Applying.{ServesEvent, Applies};
+ghost use Rattle.machine_core.specs.Coherent.{EachCoherent};
 ghost use Rattle.machine_core.specs.Faithful.{EachStands, IsFaithful};
 ghost use Rattle.machine_core.specs.Headline.{IsInvisible};
 
@@ -36,9 +37,11 @@ impl<L: Ledger, S: SwapSlot, C: Clock> Core<L, S, C> {
     pub fn apply(&mut self, event: Event) -> Reply
         ensures applies { Applies S.content S.honest S.failures event self.old self.new result }
         ensures invisible { IsInvisible S.content S.honest event result self.old self.new }
+        ensures coherent { EachCoherent S.content S.honest self.new.processes }
     {
         let reply = self.serve(event);
         self.faithful();
+        self.coherent();
         reply
     }
 

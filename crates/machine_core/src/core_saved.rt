@@ -72,7 +72,7 @@ fn place_of<S: SwapSlot>(jobs: &[SaveJob<S>], key: Key) -> Option<usize>
 fn is_of_page<S: SwapSlot>(job: &SaveJob<S>, key: Key) -> bool
     ensures { result ≡ is_save_of key job.now }
 {
-    job.process() == key.process && job.vpn() == key.vpn
+    job.key() == key
 }
 
 /// A save comes back to the pager and the process of this number.

@@ -3,6 +3,7 @@
 ghost use Rattle.std.specs.Prelude.{◌≡◌, ◌++◌, List, IfOk, OnErr};
 ghost use Rattle.machine_core.specs.Applying.{Runs};
 ghost use Rattle.machine_core.specs.ApplyingLaws.{CutRun};
+ghost use Rattle.machine_core.specs.Coherent.{EachCoherent};
 ghost use Rattle.machine_core.specs.Headline.{PagingIsInvisible};
 ghost use Rattle.machine_core.specs.Machine.{CoreValue};
 ghost use Rattle.machine_core.specs.declared.event.Event as machine_event;
@@ -21,13 +22,16 @@ impl<L: Ledger, S: SwapSlot, C: Clock> Core<L, S, C> {
     pub fn run(&mut self, alloc: Global, events: &[Event]) -> Result<Vec<Reply>, AllocError>
         ensures runs { IfOk result (λ replies. Runs S.content S.honest S.failures events.now replies.items self.old self.new) }
         ensures invisible { IfOk result (λ replies. PagingIsInvisible S.content S.honest S.failures events.now replies.items self.old self.new) }
+        ensures coherent { EachCoherent S.content S.honest self.new.processes }
         ensures refused { OnErr result (self.new ≡ self.old) }
     {
+        self.coherent();
         let mut replies = Vec::with_capacity(alloc, events.len())?;
         for event in events {
             replies.push_reserved(self.apply(*event));
         }
         self.faithful();
+        self.coherent();
         Ok(replies)
     }
 }

@@ -1,7 +1,7 @@
 pub mod Admissions
+pub mod Agreements
 pub mod GivenPages
 pub mod Looking
 pub mod PurgeSteps
-pub mod Shown
 pub mod SlicesInARow
 pub mod Sweeps

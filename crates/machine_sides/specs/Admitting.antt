@@ -1,7 +1,7 @@
 -- A page is admitted to a frame, and the admission taken back where the page does not come in.
 use Rattle.std.specs.Prelude.{◌≡◌, ℕ, ◌^◌, ◌++◌, [], ◌∷◌, Bool, true, false, is_some, nat_lt, length, Option, Some, None, option_map, if◌then◌else◌}
 use Rattle.clock_policy.specs.declared.key.Key.{Key}
-use Rattle.clock_policy.specs.ClockPro.{ClockState, withdrawn}
+use Rattle.clock_policy.specs.ClockPro.{ClockState, kind_of, withdrawn}
 use Rattle.clock_policy.specs.Lawful.{Lawful}
 use Rattle.frame_pool.specs.FrameValue.{FrameValue}
 use Rattle.page_store.specs.declared.state.PageState.{PageState}
@@ -86,9 +86,11 @@ module _ {S : Type 0} where
     pub pager_is : new ≡ record old { pager = admitted_with key new.pager.free old.pager }
     pub lawful : Lawful new.pager.list
 
-  -- it is refused for the first reason that holds, or, where none does, for want of memory
+  -- it is refused for the first reason that holds, or, where none does and the list has no entry of the page, for want of memory
+  -- for that entry
   pub record DoesNotAdmit (key : Key) (old new : PagerSideValue) (space : SpaceValue S) (refusal : NotAdmitted) : Type 0 where
     pub why : bars key old.pager space ≡ told_by refusal
+    pub grows : refusal ≡ NoMemory → kind_of key old.pager.list.entries ≡ None
     pub stays : new ≡ old
 
 -- the list once an admission was taken back: a page that came in by another way stays

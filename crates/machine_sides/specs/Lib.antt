@@ -1,5 +1,6 @@
 pub mod AdmitLaws
 pub mod Admitting
+pub mod Agreeing
 pub mod CollectLaws
 pub mod Collecting
 pub mod Loading

@@ -55,7 +55,8 @@ neither_entry : (mine test : Key → Bool) (l : List Entry) → number (is_resid
 neither_entry mine test [] = refl
 neither_entry mine test (e ∷ l) = omega (arith, neither_one (in_frame e.kind) (mine e.key) (test e.key), neither_entry mine test l)
 
-neither : (mine test : Key → Bool) (s : ClockState) → residents s (λ q. not (mine q) && (mine q && test q)) ≡ 0
+-- none are of both
+pub neither : (mine test : Key → Bool) (s : ClockState) → residents s (λ q. not (mine q) && (mine q && test q)) ≡ 0
 unfolding residents
 neither mine test s = neither_entry mine test s.entries
 

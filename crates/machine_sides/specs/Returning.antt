@@ -1,9 +1,9 @@
 -- A page that could not leave its frame is resident again: it is listed again, and then mapped again.
-use Rattle.std.specs.Prelude.{◌≡◌, ◌≢◌, ℕ, ◌^◌, ◌<◌, Err, IsOk}
+use Rattle.std.specs.Prelude.{◌≡◌, ◌≢◌, ℕ, ◌^◌, ◌<◌, None, Err, IsOk}
 use Rattle.clock_policy.specs.declared.key.Key.{Key}
 use Rattle.clock_policy.specs.declared.refusal.Refusal.{Refusal}
 use Rattle.clock_policy.specs.declared.refusal.Refusal.TheVariants.{NoMemory}
-use Rattle.clock_policy.specs.ClockPro.{restored}
+use Rattle.clock_policy.specs.ClockPro.{kind_of, restored}
 use Rattle.clock_policy.specs.Lawful.{Lawful}
 use Rattle.pager_core.specs.Pager.{with_list}
 use Rattle.paged_memory.specs.Leaving.{BringsBack}
@@ -16,10 +16,11 @@ pub record ListsAgain (key : Key) (old new : PagerSideValue) : Type 0 where
   pub pager_is : new ≡ record old { pager = with_list (restored key old.pager.list).0 old.pager }
   pub lawful : Lawful new.pager.list
 
--- it does not, for its own reason, or, where it has none, for want of memory
+-- it does not, for its own reason, or, where it has none and no entry of the page, for want of memory for that entry
 pub record DoesNotList (key : Key) (old new : PagerSideValue) (refusal : Refusal) : Type 0 where
   pub why : refusal ≢ NoMemory → (restored key old.pager.list).1 ≡ Err refusal
   pub memory : refusal ≡ NoMemory → IsOk (restored key old.pager.list).1
+  pub grows : refusal ≡ NoMemory → kind_of key old.pager.list.entries ≡ None
   pub stays : new ≡ old
 
 module _ {S : Type 0} where

@@ -8,10 +8,6 @@ use Rattle.paged_memory.specs.Peeking.{byte_of, ShowsByte, LeavesPage, RefusesPe
 use Rattle.paged_memory.specs.declared.peeking.PeekFault.{PeekFault}
 use Rattle.machine_sides.specs.Sides.{ProcessSideValue}
 
--- where slots are honest, this holds of the flat process that a process's schedule leaves, whatever process that is
-abbrev pub OfFlat : {S : Type 0} → Type 0 → (Process → Type 0) → ProcessSideValue S → Type 0
-OfFlat honest P process = honest → (flat : Process) → flat_run (written_out process.space.schedule) (opening process.space.image process.space.input) ≡ Some flat → P flat
-
 module _ {S : Type 0} (held : S → List ℕ) (honest : Type 0) (failures : S → ℕ) where
   -- a look at a byte: where slots are honest it is the flat process's, whatever process the schedule leaves; nothing changes but
   -- a slot that was read

@@ -27,12 +27,12 @@ module _ {S : Type 0} where
     pub pages : new.memory.pages ≡ old.memory.pages
     pub process : new.memory.process ≡ old.memory.process
 
-  read_same : (bit : Bit) (vpn : ℕ) (old new : SpaceValue S) → ReadsBit bit vpn old new → SameSpace old new
+  pub read_same : (bit : Bit) (vpn : ℕ) (old new : SpaceValue S) → ReadsBit bit vpn old new → SameSpace old new
   read_same Gone vpn old new h = record { pages = ap (λ (s : SpaceValue S). s.memory.pages) h; process = ap (λ (s : SpaceValue S). s.memory.process) h }
   read_same Zero vpn old new h = record { pages = h.pages; process = h.process }
   read_same One vpn old new h = record { pages = h.pages; process = h.process }
 
-  same_residents : (old new : SpaceValue S) (test : Key → Bool) → SameSpace old new → residents_in new test ≡ residents_in old test
+  pub same_residents : (old new : SpaceValue S) (test : Key → Bool) → SameSpace old new → residents_in new test ≡ residents_in old test
   unfolding residents_in
   same_residents old new test same =
       ap (λ pages. residents_of pages (λ vpn. test (key_of new.memory.process vpn))) same.pages

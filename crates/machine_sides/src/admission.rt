@@ -1,6 +1,7 @@
-ghost use Rattle.std.specs.Prelude.{◌≡◌, ◌↔◌, ◌++◌, [], ◌∷◌, length, IfOk, IfErr, IsErr, OnOk, OnErr};
+ghost use Rattle.std.specs.Prelude.{◌≡◌, ◌↔◌, ◌++◌, [], ◌∷◌, Some, None, false, length, IfOk, IfErr, IsErr, OnOk, OnErr};
 ghost use Rattle.clock_policy.specs.Lawful.{Lawful};
 ghost use Rattle.machine_sides.specs.Admitting.{Admits, DoesNotAdmit, page_bars, pager_refusal, is_resident_at, taken_back};
+ghost use Rattle.machine_sides.specs.Agreeing.{Agree, AgreeStill};
 
 use crate::pager_side::PagerSide;
 use crate::process_side::ProcessSide;
@@ -52,7 +53,21 @@ pub enum NotAdmitted {
 }
 
 /// Lists an absent page of a process, and takes the frame that it is to have.
+#[tactic(auto, using(crate::proofs::Agreements::admitted_agree))]
 pub fn admit<L: Ledger, S: SwapSlot, C: Clock>(
+    pager: &mut PagerSide<L, C>,
+    process: &ProcessSide<L, S>,
+    key: Key,
+) -> Result<Admission<L>, NotAdmitted>
+    ensures admitted { IfOk result (λ admission. Admits key pager.old pager.new process.now.space admission) }
+    ensures refused { IfErr result (λ refusal. DoesNotAdmit key pager.old pager.new process.now.space refusal) }
+    ensures agree { OnOk result (AgreeStill (Some key) pager.old.pager pager.new.pager process.now.space process.now.space) }
+{
+    list_and_take(pager, process, key)
+}
+
+/// The page is listed, and its frame taken.
+fn list_and_take<L: Ledger, S: SwapSlot, C: Clock>(
     pager: &mut PagerSide<L, C>,
     process: &ProcessSide<L, S>,
     key: Key,
@@ -98,7 +113,25 @@ fn pager_refusal(refusal: AdmitRefusal) -> NotAdmitted
 /// Takes an admission back: its frame comes free, and its page is withdrawn from the list unless it is resident by now.
 ///
 /// Where all frames of the pager are free, the frame is another pager's, and is handed back.
+#[tactic(auto, using(crate::proofs::Agreements::undone_settles))]
 pub fn undo<L: Ledger, S: SwapSlot, C: Clock>(
+    pager: &mut PagerSide<L, C>,
+    process: &ProcessSide<L, S>,
+    admission: Admission<L>,
+) -> Result<(), Frame<L>>
+    ensures list { pager.new.pager.list ≡ taken_back (is_resident_at process.now.space admission.key.vpn) admission.key pager.old.pager.list }
+    ensures freed { OnOk result (pager.new ≡ record pager.old { pager = record pager.old.pager { list = pager.new.pager.list; free = pager.old.pager.free ++ admission.frame ∷ [] } }) }
+    ensures full { IsErr result ↔ (length pager.old.pager.free ≡ pager.old.pager.size) }
+    ensures handed_back { IfErr result (λ back. back ≡ admission.frame) }
+    ensures kept { OnErr result (pager.new ≡ record pager.old { pager = record pager.old.pager { list = pager.new.pager.list } }) }
+    ensures agree { AgreeStill None pager.old.pager pager.new.pager process.now.space process.now.space }
+    ensures settled { Lawful pager.old.pager.list → is_resident_at process.now.space admission.key.vpn ≡ false → Agree pager.new.pager process.now.space admission.key }
+{
+    withdraw_and_free(pager, process, admission)
+}
+
+/// The page is withdrawn, and its frame given back.
+fn withdraw_and_free<L: Ledger, S: SwapSlot, C: Clock>(
     pager: &mut PagerSide<L, C>,
     process: &ProcessSide<L, S>,
     admission: Admission<L>,

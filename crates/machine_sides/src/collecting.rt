@@ -1,6 +1,7 @@
-ghost use Rattle.std.specs.Prelude.{◌≡◌, ◌↔◌, ◌++◌, [], ◌∷◌, length, IsErr, IfErr, OnOk, OnErr};
+ghost use Rattle.std.specs.Prelude.{◌≡◌, None, ◌↔◌, ◌++◌, [], ◌∷◌, length, IsErr, IfErr, OnOk, OnErr};
 ghost use Rattle.pager_core.specs.Pager.{tallied};
 ghost use Rattle.paged_memory.specs.Paged.{memory_of};
+ghost use Rattle.machine_sides.specs.Agreeing.{AgreeStill};
 ghost use Rattle.machine_sides.specs.Collecting.{is_leaving_at, Finds, Looks};
 
 use crate::pager_side::{PagerSide, tally};
@@ -35,7 +36,22 @@ pub enum Looked<L: Ledger, S: SwapSlot> {
 /// Looks whether a page that is leaving can let its frame go: no cache may hold a translation of it. An unchanged page
 /// goes to its backing, and its frame is free. A changed one is copied, to be saved to its slot or to a free one; where it
 /// has none and none is free, it is listed and mapped again.
+#[tactic(auto, using(crate::proofs::Agreements::looks_agree))]
 pub fn collect<L: Ledger, S: SwapSlot, C: Clock>(
+    pager: &mut PagerSide<L, C>,
+    process: &mut ProcessSide<L, S>,
+    vpn: u32,
+    slots: &mut SlotPool<S>,
+) -> Looked<L, S>
+    ensures looked { Looks vpn pager.old pager.new process.old process.new slots.old slots.new result }
+    ensures agree { AgreeStill None pager.old.pager pager.new.pager process.old.space process.new.space }
+    ensures memory { S.honest → memory_of S.content process.new.space.memory.pages ≡ memory_of S.content process.old.space.memory.pages }
+{
+    look_at_page(pager, process, vpn, slots)
+}
+
+/// The look itself, page by page.
+fn look_at_page<L: Ledger, S: SwapSlot, C: Clock>(
     pager: &mut PagerSide<L, C>,
     process: &mut ProcessSide<L, S>,
     vpn: u32,

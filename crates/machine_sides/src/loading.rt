@@ -1,5 +1,8 @@
-ghost use Rattle.std.specs.Prelude.{◌≡◌, IfErr, OnOk};
+ghost use Rattle.std.specs.Prelude.{◌≡◌, Some, IfErr, OnOk};
+ghost use Rattle.machine_sides.specs.Agreeing.{AgreeStill};
 ghost use Rattle.machine_sides.specs.Loading.{Loads, DoesNotLoad};
+ghost use Rattle.machine_sides.specs.Together.{key_of};
+ghost use Rattle.pager_core.specs.Pager.{PagerState};
 
 use crate::admission::Admission;
 use crate::process_side::ProcessSide;
@@ -11,6 +14,16 @@ impl<L: Ledger, S: SwapSlot> ProcessSide<L, S> {
     /// Brings an admitted page into its frame, from its slot or as it began, and maps it with its rights, as used and not
     /// changed. A refusal hands the admission back, to be undone, and leaves the page where it was.
     pub fn load(&mut self, admission: Admission<L>) -> Result<(), (Admission<L>, PageInFault)>
+        ensures loaded { OnOk result (Loads S.content S.honest admission self.old.space self.new.space) }
+        ensures refused { IfErr result (λ back. DoesNotLoad S.content S.honest S.failures admission back.0 back.1 self.old.space self.new.space) }
+        ensures agree { OnOk result ((pager : PagerState) → AgreeStill (Some (key_of self.old.space.memory.process admission.key.vpn)) pager pager self.old.space self.new.space) }
+        ensures purged { self.new.purged ≡ self.old.purged }
+    {
+        self.bring_in(admission)
+    }
+
+    /// The page comes into its frame, or the admission back.
+    fn bring_in(&mut self, admission: Admission<L>) -> Result<(), (Admission<L>, PageInFault)>
         ensures loaded { OnOk result (Loads S.content S.honest admission self.old.space self.new.space) }
         ensures refused { IfErr result (λ back. DoesNotLoad S.content S.honest S.failures admission back.0 back.1 self.old.space self.new.space) }
         ensures purged { self.new.purged ≡ self.old.purged }

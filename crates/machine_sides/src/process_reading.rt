@@ -2,7 +2,8 @@
 
 ghost use Rattle.std.specs.Prelude.{◌≡◌, ◌≢◌};
 ghost use Rattle.std.specs.Bool.{OnTrue, OnFalse};
-ghost use Rattle.machine_sides.specs.Showing.{OfFlat, Peeks};
+ghost use Rattle.machine_sides.specs.Showing.{Peeks};
+ghost use Rattle.space_core.specs.StandsFor.{OfFlat};
 
 use crate::process_side::ProcessSide;
 use elf_image::Image;
@@ -37,9 +38,8 @@ impl<L: Ledger, S: SwapSlot> ProcessSide<L, S> {
     /// What was written, to be kept.
     pub fn into_output(self) -> Vec<u8>
         ensures exact { result.items ≡ self.space.running.environment.output }
-        ensures flat { OfFlat S.honest (λ flat. result.items ≡ flat.environment.output) self }
+        ensures flat { OfFlat S.honest (λ flat. result.items ≡ flat.environment.output) self.space }
     {
-        self.coherent();
         self.space.into_output()
     }
 }

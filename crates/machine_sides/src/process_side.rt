@@ -5,8 +5,7 @@ ghost use Rattle.paged_memory.specs.Coherence.{MarksClear, HoldsFramed, WalksLea
 ghost use Rattle.paged_memory.specs.Paged.{Holds, seen_at};
 ghost use Rattle.machine_sides.specs.ProcessCalls.{Slices, StepsOnce, TakesNotices, IsKilled};
 ghost use Rattle.machine_sides.specs.Sweeping.{bit_at, ReadsBit, Evicts};
-ghost use Rattle.space_core.specs.StandsFor.{StandsFor, own_ending};
-ghost use Rattle.machine_sides.specs.Showing.{OfFlat};
+ghost use Rattle.space_core.specs.StandsFor.{StandsFor, OfFlat, own_ending};
 
 use clock_policy::Bit;
 use flat_machine::{End, KillCause, Schedule};
@@ -152,27 +151,24 @@ impl<L: Ledger, S: SwapSlot> ProcessSide<L, S> {
     /// A hart's registers, where the hart was started.
     pub fn regs(&self, hart: u32) -> Option<&Regs>
         ensures exact { option_copied result ≡ slice_get self.now.space.running.harts hart }
-        ensures flat { OfFlat S.honest (λ flat. option_copied result ≡ slice_get flat.harts hart) self.now }
+        ensures flat { OfFlat S.honest (λ flat. option_copied result ≡ slice_get flat.harts hart) self.now.space }
     {
-        self.coherent();
         self.space.regs(hart)
     }
 
     /// What was written so far.
     pub fn output(&self) -> &[u8]
         ensures exact { result.now ≡ self.now.space.running.environment.output }
-        ensures flat { OfFlat S.honest (λ flat. result.now ≡ flat.environment.output) self.now }
+        ensures flat { OfFlat S.honest (λ flat. result.now ≡ flat.environment.output) self.now.space }
     {
-        self.coherent();
         self.space.output()
     }
 
     /// How the process ended, if it did.
     pub fn end(&self) -> Option<End>
         ensures exact { result ≡ self.now.space.running.ending }
-        ensures flat { OfFlat S.honest (λ flat. own_ending result ≡ flat.ending) self.now }
+        ensures flat { OfFlat S.honest (λ flat. own_ending result ≡ flat.ending) self.now.space }
     {
-        self.coherent();
         self.space.end()
     }
 

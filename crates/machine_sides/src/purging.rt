@@ -1,4 +1,5 @@
 ghost use Rattle.std.specs.Prelude.{◌≡◌, IsSome};
+ghost use Rattle.machine_sides.specs.Agreeing.{AgreesPurged};
 ghost use Rattle.machine_sides.specs.Purging.{Purges, GivesAllBack, FreesAnyFrame, Pools, is_saving_any, purge_bars};
 
 use crate::pager_side::PagerSide;
@@ -38,7 +39,20 @@ pub enum Purging<L: Ledger, S: SwapSlot> {
 }
 
 /// An ended process gives its frames and slots back, and the list forgets its pages.
+#[tactic(auto, using(crate::proofs::Agreements::purge_agrees))]
 pub fn purge<L: Ledger, S: SwapSlot, C: Clock>(
+    pager: &mut PagerSide<L, C>,
+    process: &mut ProcessSide<L, S>,
+    slots: &mut SlotPool<S>,
+) -> Purging<L, S>
+    ensures purges { Purges pager.old pager.new process.old process.new slots.old slots.new result }
+    ensures agree { AgreesPurged pager.old.pager pager.new.pager process.old.space process.new.space result }
+{
+    give_back_and_forget(pager, process, slots)
+}
+
+/// The pages give back what they have, and then the list forgets them.
+fn give_back_and_forget<L: Ledger, S: SwapSlot, C: Clock>(
     pager: &mut PagerSide<L, C>,
     process: &mut ProcessSide<L, S>,
     slots: &mut SlotPool<S>,

@@ -1,5 +1,6 @@
-ghost use Rattle.std.specs.Prelude.{◌≡◌, ◌↔◌, length, IsErr, IfErr, OnOk, OnErr};
+ghost use Rattle.std.specs.Prelude.{◌≡◌, None, ◌↔◌, length, IsErr, IfErr, OnOk, OnErr};
 ghost use Rattle.paged_memory.specs.Paged.{memory_of};
+ghost use Rattle.machine_sides.specs.Agreeing.{AgreeStill};
 ghost use Rattle.machine_sides.specs.SavingBack.{is_saving_at, EndsSave, Ends, FreesFrame};
 
 use crate::pager_side::{PagerSide, tally};
@@ -42,7 +43,21 @@ pub enum SaveOutcome<L: Ledger, S: SwapSlot> {
 /// is resident again, and listed.
 ///
 /// The process is the one of the save's page.
+#[tactic(auto, using(crate::proofs::Agreements::saved_agrees))]
 pub fn saved<L: Ledger, S: SwapSlot, C: Clock>(
+    pager: &mut PagerSide<L, C>,
+    process: &mut ProcessSide<L, S>,
+    job: SavedJob<S>,
+) -> SaveOutcome<L, S>
+    ensures ends { EndsSave job pager.old pager.new process.old process.new result }
+    ensures agree { AgreeStill None pager.old.pager pager.new.pager process.old.space process.new.space }
+    ensures memory { S.honest → memory_of S.content process.new.space.memory.pages ≡ memory_of S.content process.old.space.memory.pages }
+{
+    settle_save(pager, process, job)
+}
+
+/// The page goes to its slot or back to the list.
+fn settle_save<L: Ledger, S: SwapSlot, C: Clock>(
     pager: &mut PagerSide<L, C>,
     process: &mut ProcessSide<L, S>,
     job: SavedJob<S>,

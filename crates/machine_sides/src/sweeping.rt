@@ -1,5 +1,7 @@
-ghost use Rattle.std.specs.Prelude.{◌≡◌, Some};
+ghost use Rattle.std.specs.Prelude.{◌≡◌, Some, None};
 ghost use Rattle.clock_policy.specs.ClockPro.{question_of};
+ghost use Rattle.clock_policy.specs.Lawful.{Lawful};
+ghost use Rattle.machine_sides.specs.Agreeing.{AgreeStill, AsksOf};
 ghost use Rattle.machine_sides.specs.Sweeping.{Sweeps};
 
 use crate::pager_side::PagerSide;
@@ -22,11 +24,24 @@ pub enum Swept {
 /// Asks the list, reads and clears the accessed bit of the page that it names, and answers with it. A victim is unmapped.
 ///
 /// The process is the one of the page that the list names.
+#[tactic(auto, using(crate::proofs::Agreements::sweep_agrees))]
 pub fn sweep<L: Ledger, S: SwapSlot, C: Clock>(
     pager: &mut PagerSide<L, C>,
     process: &mut ProcessSide<L, S>,
 ) -> Swept
     ensures swept { Sweeps pager.old pager.new process.old process.new result }
+    ensures agree { AsksOf pager.old.pager process.old.space → AgreeStill None pager.old.pager pager.new.pager process.old.space process.new.space }
+{
+    ask_and_answer(pager, process)
+}
+
+/// The question, the bit that answers it, and what becomes of the page.
+fn ask_and_answer<L: Ledger, S: SwapSlot, C: Clock>(
+    pager: &mut PagerSide<L, C>,
+    process: &mut ProcessSide<L, S>,
+) -> Swept
+    ensures swept { Sweeps pager.old pager.new process.old process.new result }
+    ensures lawful { Lawful pager.old.pager.list }
 {
     let Some(key) = pager.question() else {
         return Swept::NothingResident;

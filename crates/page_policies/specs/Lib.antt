@@ -8,3 +8,10 @@ pub mod Inclusion
 pub mod InclusionLaws
 pub mod ClockProPlay
 pub mod PlayLaws
+pub mod Optimal
+pub mod Demand
+pub mod CountLaws
+pub mod DemandLaws
+pub mod PlayedLaws
+pub mod NextUses
+pub mod NextUseLaws

@@ -12,7 +12,7 @@ use Rattle.lru.specs.LruCache.{LruCache, lru_cache, promoted, put_entries}
 use Rattle.page_policies.specs.Strings.{is_page, holds, without, misses}
 use Rattle.page_policies.specs.Queues.{fifo, lru}
 
-same : (p q : Key) → is_page p q ≡ true → p ≡ q
+pub same : (p q : Key) → is_page p q ≡ true → p ≡ q
 same p q h = one_key p q (parts h).0 (parts h).1
   where
     parts : is_page p q ≡ true → (p.process ≡ q.process) × (p.vpn ≡ q.vpn)

@@ -1,9 +1,28 @@
 //! Laws of the policies' definitions.
 
 ghost use Rattle.page_policies.specs.Inclusion.{Inclusion};
+ghost use Rattle.page_policies.specs.Queues.{fifo_misses, lru_misses};
+ghost use Rattle.page_policies.specs.Optimal.{optimal_misses};
+ghost use Rattle.page_policies.specs.Demand.{NoneMissesLess, IsPlayed};
 
 /// LRU has the inclusion property: with more frames it never misses more, whatever the string.
 #[tactic(auto, using(crate::specs::InclusionLaws::inclusion))]
 pub fn more_frames_never_miss_more()
     ensures { Inclusion }
+{}
+
+/// No way to serve a string misses less than the optimum: whichever pages leave, and whenever, as long as each page is there when
+/// it is used and no more pages than frames ever are.
+#[tactic(auto, using(crate::specs::DemandLaws::none_misses_less))]
+pub fn no_policy_misses_less()
+    ensures { NoneMissesLess }
+{}
+
+/// The optimum can be reached: what it does is a way to serve the string. FIFO and LRU are such ways too, so that the optimum is
+/// their floor.
+#[tactic(auto, using(crate::specs::PlayedLaws::optimum_played, crate::specs::PlayedLaws::fifo_played, crate::specs::PlayedLaws::lru_played))]
+pub fn optimum_is_a_play()
+    ensures optimum { IsPlayed optimal_misses }
+    ensures fifo { IsPlayed fifo_misses }
+    ensures lru { IsPlayed lru_misses }
 {}

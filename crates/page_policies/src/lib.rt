@@ -9,6 +9,7 @@ mod laws;
 mod lru_policy;
 mod policy;
 mod second_chance;
+mod string_uses;
 #[cfg(test)]
 mod tests;
 
@@ -16,7 +17,8 @@ pub use clock_pro::ClockPro;
 pub use counter::Counter;
 pub use fifo_policy::Fifo;
 pub use frames::Frames;
-pub use laws::more_frames_never_miss_more;
+pub use laws::{more_frames_never_miss_more, no_policy_misses_less, optimum_is_a_play};
 pub use lru_policy::Lru;
 pub use policy::{Outcome, Policy, misses};
 pub use second_chance::SecondChance;
+pub use string_uses::next_uses;

@@ -13,8 +13,15 @@ fn counts_as_textbooks(rt: HostRuntime) -> Result<(), Fail> {
     let fifo = misses::<Fifo>(rt.alloc(), frames, string.as_slice())?;
     let lru = misses::<Lru>(rt.alloc(), frames, string.as_slice())?;
     assert_eq!(rt; (fifo, lru), (10, 8));
+    let uses = next_uses(rt.alloc(), string.as_slice())?;
+    assert_eq!(rt;
+        uses.as_slice(),
+        [3, 3, 6, 6, 2, 2, 4, 4, 3, 2, 1, 0].as_slice()
+    );
     assert!(rt; Frames::new(3).is_none());
     assert!(rt; Frames::new(4097).is_none());
     more_frames_never_miss_more();
+    no_policy_misses_less();
+    optimum_is_a_play();
     Ok(())
 }

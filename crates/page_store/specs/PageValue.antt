@@ -1,9 +1,10 @@
 -- One page of a process: its state, what it shows, and its backing.
-use Rattle.std.specs.Prelude.{◌≡◌, ℕ, Bool, true, false, ◌||◌, List, [], Option, Some, None, IsFalse}
+use Rattle.std.specs.Prelude.{◌≡◌, ℕ, Bool, true, false, ◌||◌, List, [], Option, Some, None, option_map, IsFalse}
 use Rattle.page_memory.specs.Memory.{Page}
 use Rattle.frame_pool.specs.FrameValue.{FrameValue}
 use Rattle.page_store.specs.declared.state.Keeping.{Keeping}
 use Rattle.page_store.specs.declared.state.Keeping.TheVariants.{NoSlot, Unsaved, Saved}
+use Rattle.page_store.specs.Kept.{kept}
 use Rattle.page_store.specs.declared.state.PageState.{PageState}
 use Rattle.page_store.specs.declared.state.PageState.TheVariants as stage
 
@@ -56,6 +57,10 @@ slot_of (Leaving frame slot mark) = slot
 slot_of (Saving frame) = NoSlot
 slot_of (Away slot) = Saved slot
 slot_of Purged = NoSlot
+
+-- how many failures of its device the slot that a page has at hand tells of
+abbrev pub failures_at : {S : Type 0} → (S → ℕ) → Place S → Option ℕ
+failures_at failures place = option_map failures (kept (slot_of place))
 
 -- the bytes that a page shows, where its slot holds those of `held`
 abbrev pub shown : {S : Type 0} → (S → List ℕ) → List ℕ → Place S → List ℕ

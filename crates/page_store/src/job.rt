@@ -1,6 +1,7 @@
 ghost use Rattle.std.specs.Prelude.{◌≡◌, ◌≤◌, ◌↔◌, IsTrue, IsFalse};
 ghost use Rattle.swap_slots.specs.Slot.{Rose};
 
+use clock_policy::Key;
 use std::marker::Model;
 use swap_slots::SwapSlot;
 
@@ -48,12 +49,23 @@ impl<S: SwapSlot> SaveJob<S> {
         self.vpn
     }
 
+    /// The page, with its process.
+    pub fn key(&self) -> Key
+        ensures { result ≡ record { process = self.now.process; vpn = self.now.vpn } }
+    {
+        Key {
+            process: self.process,
+            vpn: self.vpn,
+        }
+    }
+
     /// Writes the copy to the slot. Takes no memory, and waits for nothing but the device.
     pub fn run(self) -> SavedJob<S>
         ensures process { result.process ≡ self.process }
         ensures vpn { result.vpn ≡ self.vpn }
         ensures copy { result.copy ≡ self.copy }
         ensures saved { S.honest → IsTrue result.passed → S.content result.slot ≡ self.copy }
+        ensures passed { IsTrue result.passed → S.failures result.slot ≡ S.failures self.slot }
         ensures fault { IsFalse result.passed → Rose (S.failures self.slot) (S.failures result.slot) }
         ensures counted { S.failures self.slot ≤ S.failures result.slot }
     {
@@ -108,6 +120,16 @@ impl<S: SwapSlot> SavedJob<S> {
         ensures { result ≡ self.now.vpn }
     {
         self.vpn
+    }
+
+    /// The page, with its process.
+    pub fn key(&self) -> Key
+        ensures { result ≡ record { process = self.now.process; vpn = self.now.vpn } }
+    {
+        Key {
+            process: self.process,
+            vpn: self.vpn,
+        }
     }
 
     /// Whether the bytes are those of the copy.

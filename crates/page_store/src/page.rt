@@ -1,6 +1,6 @@
 ghost use Rattle.std.specs.Prelude.{◌≡◌, ◌≢◌, ◌<◌, ◌↔◌, slice_index, ℕ, List, Ok, Err, Some, None, OnOk, OnErr, IfOk, IfErr, IsErr, IsTrue, false, OnSome, IfNone, option_copied, option_map};
 ghost use Rattle.page_store.specs.Moves.{left, brought_back, given_back, collected, collect_leaving, job_of, RefusesSave, Filled, RefusesFill, RefusesRead, IfAway};
-ghost use Rattle.page_store.specs.PageValue.{Leaving, Saving, Away, Purged, Backed, BackedAt, shown, Known, content, page_state_of, frame_of, writable};
+ghost use Rattle.page_store.specs.PageValue.{Leaving, Saving, Away, Purged, Backed, BackedAt, shown, Known, content, page_state_of, frame_of, writable, failures_at};
 ghost use Rattle.page_store.specs.View.{place_in_state};
 
 use crate::answer::{Collected, SaveRefusal};
@@ -103,6 +103,7 @@ impl<L: Ledger, S: SwapSlot> StoredPage<L, S> {
     /// Brings the page into a frame, from its slot or as it began. A refusal hands the frame back and leaves the page.
     pub fn fill(&mut self, mut frame: Frame<L>) -> Result<(), (Frame<L>, FillFault)>
         ensures filled { OnOk result (Filled frame self.old self.new) }
+        ensures passed { OnOk result (failures_at S.failures self.new.place ≡ failures_at S.failures self.old.place) }
         ensures refused { IfErr result (λ back. RefusesFill S.failures frame self.old.place self.new.place back.0 back.1) }
         ensures content { Known S.honest self.old.place → content S.content self.new ≡ content S.content self.old }
         ensures backed { Known S.honest self.old.place → OnOk result (Backed S.content false self.new) }

@@ -10,6 +10,7 @@ use Rattle.machine_core.specs.declared.event.Event.{Event}
 use Rattle.machine_core.specs.declared.event.Reply.{Reply}
 use Rattle.machine_core.specs.declared.report.Report.{Report}
 use Rattle.event_scripts.specs.DriveScript.{IsScript}
+use Rattle.serial_driver.specs.FlatLines.{StandsForRuns}
 use Rattle.serial_driver.specs.Limit.{EndsByLimit}
 use Rattle.serial_driver.specs.Reporting.{Reports}
 
@@ -37,7 +38,7 @@ pub record Plays (frames slots : ℕ) (starts : List Start) (lines : List (List 
   pub runs : Runs page_of ⊤ never events replies start end
   pub invisible : PagingIsInvisible page_of ⊤ never events replies start end
 
--- what is reported of a new machine after a run that so many events end
+-- what is reported of a new machine after a run that so many events end: each line is that of a flat run of its process's image and input
 pub record ReportsRun (frames slots : ℕ) (starts : List Start) (limit : ℕ) (report : Report) : Type 0 where
   pub start : CoreValue Slot
   pub end : CoreValue Slot
@@ -45,3 +46,4 @@ pub record ReportsRun (frames slots : ℕ) (starts : List Start) (limit : ℕ) (
   pub reached : LeadsTo page_of ⊤ never start end
   pub limited : EndsByLimit page_of ⊤ never limit start end
   pub told : Reports end report
+  pub flat : StandsForRuns starts report

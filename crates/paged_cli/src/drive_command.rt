@@ -1,8 +1,9 @@
 //! `paged drive`: a machine that answers the events of a script.
 
-ghost use Rattle.std.specs.Prelude.{◌≡◌, ◌+◌, ◌≤◌, IfOk, length, map};
+ghost use Rattle.std.specs.Prelude.{◌≡◌, ◌+◌, ◌≤◌, IfOk, IsOk, length, map};
 ghost use Rattle.command_line.specs.Requests.{IsDriveInRange};
 ghost use Rattle.machine_sides.specs.Starting.{start_of};
+ghost use Rattle.paged_cli.specs.Asked.{PlaysAsAsked};
 ghost use Rattle.paged_cli.specs.Playing.{Plays};
 ghost use Rattle.text_lines.specs.Text.{lines_of};
 
@@ -28,6 +29,7 @@ pub fn run_drive<'a, R: Files + AllocGlobal, W: Write>(
     out: &mut W,
 ) -> Result<(), Fault<'a>>
     requires { IsDriveInRange request.now }
+    ensures { IsOk result → PlaysAsAsked request.now }
 {
     let script = read_text(rt, request.script)?;
     let processes = read_processes(rt, request.images.as_slice(), None)?;

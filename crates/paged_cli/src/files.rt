@@ -1,6 +1,6 @@
 //! Files that commands read whole.
 
-ghost use Rattle.std.specs.Prelude.{◌≤◌, IfOk, vec_len};
+ghost use Rattle.std.specs.Prelude.{◌≡◌, ◌≤◌, [], false, is_some, IfOk, vec_len};
 
 use crate::fault::Fault;
 use std::alloc::Global;
@@ -35,7 +35,9 @@ pub fn read_file<'a, R: Files + AllocGlobal>(rt: &R, name: &'a str) -> Result<Ve
 pub fn read_input<'a, R: Files + AllocGlobal>(
     rt: &R,
     name: Option<&'a str>,
-) -> Result<Vec<u8>, Fault<'a>> {
+) -> Result<Vec<u8>, Fault<'a>>
+    ensures { IfOk result (λ bytes. is_some name.entry ≡ false → bytes.items ≡ []) }
+{
     match name {
         Some(name) => read_file(rt, name),
         None => Ok(Vec::new(rt.alloc())),

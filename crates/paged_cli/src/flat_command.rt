@@ -1,5 +1,8 @@
 //! `paged flat`: an image run on flat memory.
 
+ghost use Rattle.std.specs.Prelude.{◌≡◌, IfOk};
+ghost use Rattle.paged_cli.specs.Asked.{FlatAsAsked};
+
 use crate::fault::Fault;
 use crate::files::read_input;
 use crate::image_file::read_image;
@@ -14,7 +17,9 @@ pub fn run_flat<'a, R: Files + AllocGlobal, W: Write>(
     rt: &R,
     request: &FlatRequest<'a>,
     out: &mut W,
-) -> Result<u8, Fault<'a>> {
+) -> Result<u8, Fault<'a>>
+    ensures { IfOk result (λ status. FlatAsAsked request.now status) }
+{
     let image = read_image(rt, request.image)?;
     let input = read_input(rt, request.input)?;
     let mut process = FlatProcess::new(rt.alloc(), &image, input)?;

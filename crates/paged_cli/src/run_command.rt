@@ -3,6 +3,7 @@
 ghost use Rattle.std.specs.Prelude.{◌≡◌, ◌+◌, ◌≤◌, IfOk, length, map};
 ghost use Rattle.command_line.specs.Requests.{IsRunInRange};
 ghost use Rattle.machine_sides.specs.Starting.{start_of};
+ghost use Rattle.paged_cli.specs.Asked.{RunsAsAsked};
 ghost use Rattle.paged_cli.specs.Playing.{ReportsRun};
 
 use crate::fault::Fault;
@@ -27,6 +28,7 @@ pub fn run_machine<'a, R: Files + AllocGlobal, W: Write>(
     out: &mut W,
 ) -> Result<u8, Fault<'a>>
     requires { IsRunInRange request.now }
+    ensures { IfOk result (λ status. RunsAsAsked request.now status) }
 {
     let processes = read_processes(rt, request.images.as_slice(), request.input)?;
     let (frames, slots, slice) = (request.frames, request.slots, request.slice);

@@ -12,6 +12,7 @@ use Rattle.page_memory.specs.declared.words.Access.TheVariants.{Load, Store}
 use Rattle.page_store.specs.PageValue.{PageValue}
 use Rattle.sv32_table.specs.Entry.{Entry, page_entry, word_of}
 use Rattle.sv32_table.specs.EntryAt.{entry_at, walk_entry}
+use Rattle.sv32_table.specs.Leading.{LeadsByEntry}
 use Rattle.sv32_table.specs.EntryLaws.{is_store, walk_entry-page_entry, walk_entry-blank}
 use Rattle.sv32_table.specs.declared.fault.WalkFault.{WalkFault}
 use Rattle.sv32_table.specs.declared.fault.WalkFault.TheVariants.{PageFault}
@@ -75,9 +76,10 @@ module _ {S : Type 0} {held : S → List ℕ} {honest : Type 0} {pages : List (�
       list_any_none (λ cache. is_some (translation_of number cache)) caches
       (All-weaker (λ cache. All (λ (t : Translation). t.page ≢ number) cache) (λ cache. is_some (translation_of number cache) ≡ false) (λ cache unheld. ap is_some (none-All number cache unheld)) caches (unheld_elsewhere caches number holds.agree none))
 
-  pub walks_lead : WalksLead pages tables
-  walks_lead address access in_range =
+  pub walks_lead : LeadsByEntry tables → WalksLead pages tables
+  walks_lead by_entry address access in_range =
       let small : page_number address < 2 ^ 20 = omega arith in
       let mapped = holds.agree.mapped (page_number address) small in
-      ap (λ e. result_map_both (λ (leaf : Leaf). leaf.physical) (λ (fault : WalkFault). fault) (walk_entry e address access)) mapped.entry
+      by_entry address access in_range
+      ∙ ap (λ e. result_map_both (λ (leaf : Leaf). leaf.physical) (λ (fault : WalkFault). fault) (walk_entry e address access)) mapped.entry
       ∙ leads (seen_at pages (page_number address)) (entry_at tables (page_number address)).accessed (entry_at tables (page_number address)).dirty address access mapped.readable

@@ -18,7 +18,7 @@ use Rattle.paged_memory.specs.Seen.{Elsewhere, entry_standing, rights_seen}
 use Rattle.paged_memory.specs.Soundness.{IsMapped}
 use Rattle.paged_memory.specs.Paged.{standing_of, seen_of, page_at, flat_page, memory_of, Holds}
 use Rattle.paged_memory.specs.Calls.{ChangesBy}
-use Rattle.paged_memory.specs.Filling.{BroughtIn, StaysAbsent, FailsToLoad, RefusesAbsent, RefusesPageIn}
+use Rattle.paged_memory.specs.Filling.{BroughtIn, StaysAbsent, FailsToLoad, StaysUnmapped, RefusesAbsent, RefusesPageIn}
 use Rattle.paged_memory.specs.declared.filling.PageInFault.{PageInFault}
 use Rattle.paged_memory.specs.declared.filling.PageInFault.TheVariants.{NotAbsent, Device, NoMemory}
 use Rattle.paged_memory.proofs.PagedLaws.{Change, changed_by, Holds-unheld, memory_stays}
@@ -164,6 +164,9 @@ module _ {S : Type 0} (held : S → List ℕ) (honest : Type 0) where
   pub failed_stays : {failures : S → ℕ} {pages pages' : List (ℕ × PageValue S)} {number : ℕ} → ChangesBy (FailsToLoad held honest failures) pages pages' number → ChangesBy (StaysAbsent held honest) pages pages' number
   failed_stays told = record { page = told.page; page' = told.page'; found = told.found; changes = told.changes; how = told.how.stays }
 
+  pub unmapped_stays : {failures : S → ℕ} {pages pages' : List (ℕ × PageValue S)} {number : ℕ} → ChangesBy (StaysUnmapped held honest failures) pages pages' number → ChangesBy (StaysAbsent held honest) pages pages' number
+  unmapped_stays told = record { page = told.page; page' = told.page'; found = told.found; changes = told.changes; how = told.how.stays }
+
   pub memory_absent : {pages pages' : List (ℕ × PageValue S)} {number : ℕ} → ChangesBy (StaysAbsent held honest) pages pages' number → honest → memory_of held pages' ≡ memory_of held pages
   memory_absent {pages} {pages'} {number} told is_honest = memory_stays held pages pages' number told.page told.page' told.found (shows held told.page told.page' told.how.origin (told.how.content is_honest)) told.changes
 
@@ -178,7 +181,7 @@ module _ {S : Type 0} (held : S → List ℕ) (honest : Type 0) where
         by_fault : (fault : PageInFault) → RefusesPageIn held honest failures frame pages pages' tables number back.0 fault → Holds held honest pages' tables' caches
         by_fault NotAbsent how = rw (unmapped, how.1.0) holds
         by_fault Device how = rw unmapped (holds_absent number small holds (failed_stays how.0))
-        by_fault NoMemory how = rw unmapped (holds_absent number small holds how.1.0)
+        by_fault NoMemory how = rw unmapped (holds_absent number small holds (unmapped_stays how.1.0))
 
     -- and the memory shows what it showed, where slots are honest
     pub memory_paged_in : (result : Result U (FrameValue × PageInFault)) → OnOk result (ChangesBy (BroughtIn held honest frame) pages pages' number)
@@ -189,4 +192,4 @@ module _ {S : Type 0} (held : S → List ℕ) (honest : Type 0) where
         by_fault : (fault : PageInFault) → RefusesPageIn held honest failures frame pages pages' tables number back.0 fault → memory_of held pages' ≡ memory_of held pages
         by_fault NotAbsent how = ap (memory_of held) how.1.0
         by_fault Device how = memory_absent (failed_stays how.0) is_honest
-        by_fault NoMemory how = memory_absent how.1.0 is_honest
+        by_fault NoMemory how = memory_absent (unmapped_stays how.1.0) is_honest

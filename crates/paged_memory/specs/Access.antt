@@ -17,7 +17,7 @@ use Rattle.page_store.specs.PageValue as place
 use Rattle.page_store.specs.Lending.{with_bytes}
 use Rattle.sv32_table.specs.EntryAt.{entry_at, ChangesEntry, walked_entry}
 use Rattle.tlb_core.specs.declared.translation.Translation.{Translation}
-use Rattle.tlb_core.specs.Cache.{translation_of, is_of_page}
+use Rattle.tlb_core.specs.Cache.{translation_of, is_of_page, Hits}
 use Rattle.paged_memory.specs.Seen.{Seen, Standing, Resident, Leaving, Elsewhere, is_used, is_changed}
 use Rattle.paged_memory.specs.Paged.{seen_of, page_at, seen_at}
 
@@ -112,6 +112,16 @@ resident_frame (place.Leaving frame slot mark) = None
 resident_frame (place.Saving frame) = None
 resident_frame (place.Away slot) = None
 resident_frame place.Purged = None
+
+-- an answer other than that the page is absent
+abbrev pub IsAnswered : {A : Type 0} → Result A BusError → Type 0
+IsAnswered (Ok answer) = Unit {0}
+IsAnswered (Err (Fault fault)) = Unit {0}
+IsAnswered (Err (Absent page)) = ⊥
+
+-- a page that a hart's cache shows for an access is never absent to it, whether the translation is to be dropped or not
+abbrev pub ServesHeld : {A : Type 0} → List Translation → Access → ℕ → Result A BusError → Type 0
+ServesHeld cache access page result = (place : ℕ) → Hits cache access page place → IsAnswered result
 
 -- the tables are as they were, or the page's entry alone is as a walk for the access leaves it
 abbrev pub MayWalk : Access → ℕ → List (List ℕ) → List (List ℕ) → Type 0

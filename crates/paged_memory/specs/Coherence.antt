@@ -1,12 +1,12 @@
 -- What the pages, tables and caches of a process tell of one another at any time.
 use Rattle.std.specs.Prelude.{◌≡◌, ℕ, ◌+◌, ◌*◌, ◌%◌, ◌^◌, ◌<◌, true, false, if◌then◌else◌, Option, Some, None, Result, Ok, Err, List, All}
-use Rattle.std.specs.Result.{result_map_both}
 use Rattle.page_memory.specs.Words.{page_number}
 use Rattle.page_memory.specs.Rights.{may}
 use Rattle.page_memory.specs.declared.rights.Rights.{Rights}
 use Rattle.page_memory.specs.declared.words.Access.{Access}
 use Rattle.page_store.specs.PageValue.{PageValue}
-use Rattle.sv32_table.specs.EntryAt.{entry_at, walk_entry}
+use Rattle.sv32_table.specs.EntryAt.{entry_at}
+use Rattle.sv32_table.specs.Leading.{walk_leads}
 use Rattle.sv32_table.specs.declared.fault.WalkFault.{WalkFault}
 use Rattle.sv32_table.specs.declared.fault.WalkFault.TheVariants.{PageFault}
 use Rattle.tlb_core.specs.declared.translation.Translation.{Translation}
@@ -36,7 +36,7 @@ module _ {S : Type 0} (pages : List (ℕ × PageValue S)) where
   abbrev pub HoldsFramed : List (List Translation) → Type 0
   HoldsFramed caches = (number : ℕ) → frame_seen (seen_at pages number) ≡ None → is_held number caches ≡ false
 
-  -- a walk of the tables in user mode leads where it is to
+  -- a walk in user mode, by the manual's process over the words that the tables stand for, leads where it is to
   abbrev pub WalksLead : List (List ℕ) → Type 0
   WalksLead tables =
-      (address : ℕ) (access : Access) → address < 2 ^ 32 → result_map_both (λ leaf. leaf.physical) (λ fault. fault) (walk_entry (entry_at tables (page_number address)) address access) ≡ led access address (seen_at pages (page_number address))
+      (address : ℕ) (access : Access) → address < 2 ^ 32 → walk_leads tables address access ≡ led access address (seen_at pages (page_number address))

@@ -2,7 +2,7 @@
 use Rattle.std.specs.Prelude.{◌≡◌, ℕ, Bool, false, IsFalse, Option, Some, None, List}
 use Rattle.frame_pool.specs.FrameValue.{FrameValue}
 use Rattle.swap_slots.specs.Slot.{Rose}
-use Rattle.page_store.specs.PageValue.{PageValue, Place, Fresh, Away, content, is_unsaved, Backed}
+use Rattle.page_store.specs.PageValue.{PageValue, Place, Fresh, Away, content, is_unsaved, Backed, failures_at}
 use Rattle.page_store.specs.Moves.{Filled, IfAbsent, IfAway, IfResident}
 use Rattle.page_store.specs.declared.state.Keeping.{Keeping}
 use Rattle.page_store.specs.declared.state.Keeping.TheVariants.{NoSlot, Unsaved, Saved}
@@ -47,15 +47,20 @@ module _ {S : Type 0} where
       pub stays : StaysAbsent old new
       pub failed : IfAway old.place (λ slot. IfAway new.place (λ after. Rose (failures slot) (failures after)))
 
+    -- a page that was not mapped: its frame was taken back, and no failure of its device was counted
+    pub record StaysUnmapped (failures : S → ℕ) (old new : PageValue S) : Type 0 where
+      pub stays : StaysAbsent old new
+      pub passed : failures_at failures new.place ≡ failures_at failures old.place
+
     -- why an absent page was not brought in, where `tabled` says whether it has a table, with the frame that is handed back
     abbrev pub RefusesAbsent : (S → ℕ) → FrameValue → Bool → PageValue S → PageValue S → FrameValue → PageInFault → Type 0
     RefusesAbsent failures frame tabled old new back NotAbsent = ⊥
     RefusesAbsent failures frame tabled old new back Device = FailsToLoad failures old new × (back.number ≡ frame.number)
-    RefusesAbsent failures frame tabled old new back NoMemory = (tabled ≡ false) × (StaysAbsent old new × (back.number ≡ frame.number))
+    RefusesAbsent failures frame tabled old new back NoMemory = (tabled ≡ false) × (StaysUnmapped failures old new × (back.number ≡ frame.number))
 
     -- why a page was not brought in, with the frame that is handed back
     abbrev pub RefusesPageIn : (S → ℕ) → FrameValue → List (ℕ × PageValue S) → List (ℕ × PageValue S) → List (List ℕ) → ℕ → FrameValue → PageInFault → Type 0
     RefusesPageIn failures frame old new tables vpn back NotAbsent = (¬ IsAbsent (page_at old vpn)) × ((new ≡ old) × (back ≡ frame))
     RefusesPageIn failures frame old new tables vpn back Device = ChangesBy (FailsToLoad failures) old new vpn × (back.number ≡ frame.number)
     RefusesPageIn failures frame old new tables vpn back NoMemory =
-        (has_table tables vpn ≡ false) × (ChangesBy StaysAbsent old new vpn × (back.number ≡ frame.number))
+        (has_table tables vpn ≡ false) × (ChangesBy (StaysUnmapped failures) old new vpn × (back.number ≡ frame.number))

@@ -1,11 +1,11 @@
-ghost use Rattle.std.specs.Prelude.{◌≡◌, ◌<◌, ◌^◌, ◌%◌, length, is_some, Some, IfSome, IfNone, IfOk, IfErr, OnOk, ◌⊎◌, true, option_map, OnErr};
+ghost use Rattle.std.specs.Prelude.{◌≡◌, ℕ, ◌<◌, ◌^◌, ◌%◌, length, is_some, Some, IfSome, IfNone, IfOk, IfErr, OnOk, ◌⊎◌, true, option_map, OnErr};
 ghost use Rattle.page_memory.specs.Words.{page_number, bytes_in};
 ghost use Rattle.page_store.specs.PageValue.{Place};
 ghost use Rattle.sv32_table.specs.EntryAt.{entry_at};
 ghost use Rattle.paged_memory.specs.Paged.{Holds, seen_at, page_at};
 ghost use Rattle.paged_memory.specs.Seen.{is_used};
 ghost use Rattle.tlb_core.specs.Cache.{Hits};
-ghost use Rattle.paged_memory.specs.Access.{Reaches, RefusesAccess, Locates, HasPage, MarksUse, KeepsTranslations, MayWalk, cache_of, is_doomed, resident_frame};
+ghost use Rattle.paged_memory.specs.Access.{Reaches, RefusesAccess, Locates, HasPage, MarksUse, KeepsTranslations, MayWalk, cache_of, is_doomed, resident_frame, ServesHeld};
 
 use crate::caches::Caches;
 use page_memory::{Access, MemoryFault, PageMap, Rights, Width, page_of};
@@ -41,7 +41,8 @@ pub(crate) fn at_hand<L: Ledger, S: SwapSlot>(
 #[inline]
 pub(crate) fn hit(caches: &Caches, hart: usize, access: Access, page: u32) -> Option<usize>
     requires { hart < length caches.now }
-    ensures { IfSome result (λ place. Hits (cache_of caches.now hart) access page place) }
+    ensures hits { IfSome result (λ place. Hits (cache_of caches.now hart) access page place) }
+    ensures none { IfNone result ((place : ℕ) → ¬ Hits (cache_of caches.now hart) access page place) }
 {
     let entry = caches.look(hart, page)?;
     if !entry.rights.allow(access) {
@@ -157,6 +158,7 @@ fn hit_or_walk<L: Ledger, S: SwapSlot>(
     ensures holds { Holds S.content S.honest pages.now tables.new caches.new }
     ensures reaches { IfOk result (λ place. Reaches pages.now tables.new access (page_number address) place) }
     ensures refused { IfErr result (RefusesAccess pages.now access (page_number address)) }
+    ensures held { ServesHeld (cache_of caches.old hart) access (page_number address) result }
     ensures kept { KeepsTranslations pages.now hart tables.old tables.new caches.old caches.new }
     ensures entries { MayWalk access (page_number address) tables.old tables.new }
     ensures unmarked { OnErr result (tables.new ≡ tables.old) }
@@ -184,6 +186,7 @@ pub(crate) fn reach<L: Ledger, S: SwapSlot>(
     ensures holds { Holds S.content S.honest pages.now tables.new caches.new }
     ensures reaches { IfOk result (λ place. Reaches pages.now tables.new access (page_number address) place) }
     ensures refused { IfErr result (RefusesAccess pages.now access (page_number address)) }
+    ensures held { ServesHeld (cache_of caches.old hart) access (page_number address) result }
     ensures kept { KeepsTranslations pages.now hart tables.old tables.new caches.old caches.new }
     ensures entries { MayWalk access (page_number address) tables.old tables.new }
     ensures unmarked { OnErr result (tables.new ≡ tables.old) }

@@ -1,4 +1,5 @@
 ghost use Rattle.std.specs.Prelude.{◌≡◌, ◌<◌, ◌^◌, ◌↔◌, true, false, ℕ, IfOk, OnOk, OnErr, IsErr};
+ghost use Rattle.sv32_table.specs.EntryAt.{SameTables};
 ghost use Rattle.paged_memory.specs.Calls.{ChangesBy};
 ghost use Rattle.paged_memory.specs.Leaving.{BringsBack, ReturnsAs, is_leaving};
 ghost use Rattle.paged_memory.specs.Paged.{page_at, memory_of};
@@ -15,6 +16,7 @@ impl<L: Ledger, S: SwapSlot> PagedMemory<L, S> {
     pub fn bring_back(&mut self, vpn: u32) -> Result<(), NotLeaving>
         requires { vpn < 2 ^ 20 }
         ensures ok { OnOk result (BringsBack self.old.pages self.new.pages self.old.tables self.new.tables vpn) }
+        ensures tabled { SameTables self.old.tables self.new.tables }
         ensures refused { IsErr result ↔ (is_leaving (page_at self.old.pages vpn) ≡ false) }
         ensures err { OnErr result (self.new ≡ self.old) }
         ensures process { self.new.process ≡ self.old.process }

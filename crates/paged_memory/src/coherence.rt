@@ -15,5 +15,6 @@ impl<L: Ledger, S: SwapSlot> PagedMemory<L, S> {
         ensures walks { WalksLead self.now.pages self.now.tables }
     {
         let _ = &self.pages;
+        self.tables.translates();
     }
 }

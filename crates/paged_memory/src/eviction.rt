@@ -1,7 +1,7 @@
 ghost use Rattle.std.specs.Prelude.{◌≡◌, ◌≢◌, ◌<◌, ◌^◌, Some, None, option_map, map, OnSome, IfNone, OnOk, OnErr, IfErr};
 ghost use Rattle.std.specs.Bool.{OnTrue, OnFalse};
 ghost use Rattle.sv32_table.specs.Entry.{blank};
-ghost use Rattle.sv32_table.specs.EntryAt.{entry_at, ChangesEntry, unaccessed_entry, dirty_of};
+ghost use Rattle.sv32_table.specs.EntryAt.{entry_at, ChangesEntry, SameTables, unaccessed_entry, dirty_of};
 ghost use Rattle.tlb_core.specs.Cache.{doomed};
 ghost use Rattle.page_store.specs.PageValue.{page_state_of};
 ghost use Rattle.paged_memory.specs.Paged.{page_at, seen_at, memory_of, Holds};
@@ -33,6 +33,7 @@ impl<L: Ledger, S: SwapSlot> PagedMemory<L, S> {
         ensures process { self.new.process ≡ self.old.process }
         ensures pages { self.new.pages ≡ self.old.pages }
         ensures tables { OnSome result (ChangesEntry self.old.tables self.new.tables vpn (unaccessed_entry (entry_at self.old.tables vpn))) }
+        ensures tabled { SameTables self.old.tables self.new.tables }
         ensures caches { OnSome result (self.new.caches ≡ map (doomed vpn) self.old.caches) }
     {
         clear_accessed(&self.pages, &mut self.tables, &mut self.caches, vpn)
@@ -48,6 +49,7 @@ impl<L: Ledger, S: SwapSlot> PagedMemory<L, S> {
         ensures process { self.new.process ≡ self.old.process }
         ensures memory { memory_of S.content self.new.pages ≡ memory_of S.content self.old.pages }
         ensures entries { OnOk result (ChangesEntry self.old.tables self.new.tables vpn blank) }
+        ensures tabled { SameTables self.old.tables self.new.tables }
         ensures caches { OnOk result (self.new.caches ≡ map (doomed vpn) self.old.caches) }
     {
         evict(&mut self.pages, &mut self.tables, &mut self.caches, vpn)
@@ -88,6 +90,7 @@ fn clear_accessed<L: Ledger, S: SwapSlot>(
     ensures gone_tables { IfNone result (tables.new ≡ tables.old) }
     ensures gone_caches { IfNone result (caches.new ≡ caches.old) }
     ensures entries { OnSome result (ChangesEntry tables.old tables.new vpn (unaccessed_entry (entry_at tables.old vpn))) }
+    ensures tabled { SameTables tables.old tables.new }
     ensures doomed { OnSome result (caches.new ≡ map (doomed vpn) caches.old) }
 {
     if !is_resident(pages, vpn) {
@@ -112,6 +115,7 @@ fn evict<L: Ledger, S: SwapSlot>(
     ensures refused { IfErr result (RefusesLeave (page_at pages.old vpn)) }
     ensures err { OnErr result ((pages.new ≡ pages.old) × ((tables.new ≡ tables.old) × (caches.new ≡ caches.old))) }
     ensures entries { OnOk result (ChangesEntry tables.old tables.new vpn blank) }
+    ensures tabled { SameTables tables.old tables.new }
     ensures caches { OnOk result (caches.new ≡ map (doomed vpn) caches.old) }
 {
     refuse_leave(pages, vpn)?;

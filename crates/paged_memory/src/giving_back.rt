@@ -1,7 +1,7 @@
 ghost use Rattle.std.specs.Prelude.{◌≡◌, ◌<◌, ◌+◌, ◌^◌, ℕ, [], All, IfSome, IfNone};
 ghost use Rattle.std.specs.Bool.{OnTrue, OnFalse};
 ghost use Rattle.sv32_table.specs.Entry.{blank};
-ghost use Rattle.sv32_table.specs.EntryAt.{ChangesEntry};
+ghost use Rattle.sv32_table.specs.EntryAt.{ChangesEntry, SameTables};
 ghost use Rattle.paged_memory.specs.Paged.{Holds, page_at};
 ghost use Rattle.paged_memory.specs.Calls.{ChangesBy};
 ghost use Rattle.paged_memory.specs.GivingBack.{GivesBack, GivesOne, GivesNothing};
@@ -22,6 +22,7 @@ impl<L: Ledger, S: SwapSlot> PagedMemory<L, S> {
     pub fn take_one(&mut self) -> Option<(Option<Frame<L>>, Option<S>)>
         requires quiet { All (λ cache. cache ≡ []) self.old.caches }
         ensures given { IfSome result (λ given. GivesOne given self.old.pages self.new.pages self.old.tables self.new.tables) }
+        ensures tabled { SameTables self.old.tables self.new.tables }
         ensures none { IfNone result ((q : ℕ) → q < 2 ^ 20 → GivesNothing (page_at self.old.pages q)) }
         ensures left { IfNone result (self.new ≡ self.old) }
         ensures process { self.new.process ≡ self.old.process }
@@ -84,6 +85,7 @@ fn give_back<L: Ledger, S: SwapSlot>(
     ensures holds { Holds S.content S.honest pages.new tables.new caches.now }
     ensures given { ChangesBy (GivesBack result) pages.old pages.new vpn }
     ensures entries { ChangesEntry tables.old tables.new vpn blank }
+    ensures tabled { SameTables tables.old tables.new }
 {
     let given = take(pages, vpn);
     tables.unmap(vpn);

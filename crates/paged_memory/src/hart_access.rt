@@ -5,7 +5,7 @@ ghost use Rattle.rv_exec.specs.Amo.{amo_result};
 ghost use Rattle.rv_exec.specs.Answers.{Answers, with_answer};
 ghost use Rattle.page_memory.specs.declared.words.Access.{Access};
 ghost use Rattle.paged_memory.specs.Paged.{memory_of};
-ghost use Rattle.paged_memory.specs.Access.{HasPage, LacksPage, MarksUse, KeepsTranslations, MayWalk, KeepsBare, cache_of};
+ghost use Rattle.paged_memory.specs.Access.{HasPage, LacksPage, MarksUse, KeepsTranslations, MayWalk, KeepsBare, cache_of, ServesHeld};
 
 use crate::memory::PagedMemory;
 use crate::{reading, writing};
@@ -25,6 +25,7 @@ impl<L: Ledger, S: SwapSlot> PagedMemory<L, S> {
         ensures answer { Answers (HasPage self.old.pages (cache_of self.old.caches hart)) (MarksUse self.old.pages self.new.tables (cache_of self.old.caches hart)) (LacksPage self.old.pages) address (fetched (memory_of S.content self.old.pages) address) result }
         ensures process { self.new.process ≡ self.old.process }
         ensures pages { self.new.pages ≡ self.old.pages }
+        ensures held { ServesHeld (cache_of self.old.caches hart) Access.Fetch (page_number address) result }
         ensures kept { KeepsTranslations self.old.pages hart self.old.tables self.new.tables self.old.caches self.new.caches }
         ensures entries { MayWalk Access.Fetch (page_number address) self.old.tables self.new.tables }
         ensures unmarked { OnErr result (self.new.tables ≡ self.old.tables) }
@@ -45,6 +46,7 @@ impl<L: Ledger, S: SwapSlot> PagedMemory<L, S> {
         ensures answer { Answers (HasPage self.old.pages (cache_of self.old.caches hart)) (MarksUse self.old.pages self.new.tables (cache_of self.old.caches hart)) (LacksPage self.old.pages) address (loaded (memory_of S.content self.old.pages) width address) result }
         ensures process { self.new.process ≡ self.old.process }
         ensures pages { self.new.pages ≡ self.old.pages }
+        ensures held { ServesHeld (cache_of self.old.caches hart) Access.Load (page_number address) result }
         ensures kept { KeepsTranslations self.old.pages hart self.old.tables self.new.tables self.old.caches self.new.caches }
         ensures entries { MayWalk Access.Load (page_number address) self.old.tables self.new.tables }
         ensures unmarked { OnErr result (self.new.tables ≡ self.old.tables) }
@@ -74,6 +76,7 @@ impl<L: Ledger, S: SwapSlot> PagedMemory<L, S> {
         ensures refused { OnErr result (self.new.pages ≡ self.old.pages) }
         ensures process { self.new.process ≡ self.old.process }
         ensures bare { KeepsBare self.old.pages self.new.pages }
+        ensures held { ServesHeld (cache_of self.old.caches hart) Access.Store (page_number address) result }
         ensures kept { KeepsTranslations self.old.pages hart self.old.tables self.new.tables self.old.caches self.new.caches }
         ensures entries { MayWalk Access.Store (page_number address) self.old.tables self.new.tables }
         ensures unmarked { OnErr result (self.new.tables ≡ self.old.tables) }
@@ -105,6 +108,7 @@ impl<L: Ledger, S: SwapSlot> PagedMemory<L, S> {
         ensures refused { OnErr result (self.new.pages ≡ self.old.pages) }
         ensures process { self.new.process ≡ self.old.process }
         ensures bare { KeepsBare self.old.pages self.new.pages }
+        ensures held { ServesHeld (cache_of self.old.caches hart) Access.Store (page_number address) result }
         ensures kept { KeepsTranslations self.old.pages hart self.old.tables self.new.tables self.old.caches self.new.caches }
         ensures entries { MayWalk Access.Store (page_number address) self.old.tables self.new.tables }
         ensures unmarked { OnErr result (self.new.tables ≡ self.old.tables) }
@@ -129,6 +133,7 @@ impl<L: Ledger, S: SwapSlot> PagedMemory<L, S> {
         ensures refused { OnErr result (to.new ≡ to.old) }
         ensures process { self.new.process ≡ self.old.process }
         ensures pages { self.new.pages ≡ self.old.pages }
+        ensures held { ServesHeld (cache_of self.old.caches hart) Access.Load (page_number address) result }
         ensures kept { KeepsTranslations self.old.pages hart self.old.tables self.new.tables self.old.caches self.new.caches }
         ensures entries { MayWalk Access.Load (page_number address) self.old.tables self.new.tables }
         ensures unmarked { OnErr result (self.new.tables ≡ self.old.tables) }
@@ -152,6 +157,7 @@ impl<L: Ledger, S: SwapSlot> PagedMemory<L, S> {
         ensures refused { OnErr result (self.new.pages ≡ self.old.pages) }
         ensures process { self.new.process ≡ self.old.process }
         ensures bare { KeepsBare self.old.pages self.new.pages }
+        ensures held { ServesHeld (cache_of self.old.caches hart) Access.Store (page_number address) result }
         ensures kept { KeepsTranslations self.old.pages hart self.old.tables self.new.tables self.old.caches self.new.caches }
         ensures entries { MayWalk Access.Store (page_number address) self.old.tables self.new.tables }
         ensures unmarked { OnErr result (self.new.tables ≡ self.old.tables) }

@@ -8,7 +8,7 @@ ghost use Rattle.rv_exec.specs.Amo.{amo_result};
 ghost use Rattle.rv_exec.specs.Answers.{Answers, with_answer};
 ghost use Rattle.page_memory.specs.declared.words.Access.{Access};
 ghost use Rattle.paged_memory.specs.Paged.{Holds, memory_of};
-ghost use Rattle.paged_memory.specs.Access.{HasPage, LacksPage, MarksUse, KeepsTranslations, MayWalk, KeepsBare, cache_of};
+ghost use Rattle.paged_memory.specs.Access.{HasPage, LacksPage, MarksUse, KeepsTranslations, MayWalk, KeepsBare, cache_of, ServesHeld};
 
 use crate::access::{at_hand, reach};
 use crate::caches::Caches;
@@ -90,6 +90,7 @@ pub(crate) fn store<L: Ledger, S: SwapSlot>(
         Answers (HasPage pages.old (cache_of caches.old hart)) (MarksUse pages.old tables.new (cache_of caches.old hart)) (LacksPage pages.old) address (stored (memory_of S.content pages.old) width address word) after }
     ensures refused { OnErr result (pages.new ≡ pages.old) }
     ensures bare { KeepsBare pages.old pages.new }
+    ensures held { ServesHeld (cache_of caches.old hart) Access.Store (page_number address) result }
     ensures kept { KeepsTranslations pages.old hart tables.old tables.new caches.old caches.new }
     ensures entries { MayWalk Access.Store (page_number address) tables.old tables.new }
     ensures unmarked { OnErr result (tables.new ≡ tables.old) }
@@ -122,6 +123,7 @@ fn store_anew<L: Ledger, S: SwapSlot>(
         Answers (HasPage pages.old (cache_of caches.old hart)) (MarksUse pages.old tables.new (cache_of caches.old hart)) (LacksPage pages.old) address (stored (memory_of S.content pages.old) width address word) after }
     ensures refused { OnErr result (pages.new ≡ pages.old) }
     ensures bare { KeepsBare pages.old pages.new }
+    ensures held { ServesHeld (cache_of caches.old hart) Access.Store (page_number address) result }
     ensures kept { KeepsTranslations pages.old hart tables.old tables.new caches.old caches.new }
     ensures entries { MayWalk Access.Store (page_number address) tables.old tables.new }
     ensures unmarked { OnErr result (tables.new ≡ tables.old) }
@@ -155,6 +157,7 @@ pub(crate) fn copy_in<L: Ledger, S: SwapSlot>(
         Answers (HasPage pages.old (cache_of caches.old hart)) (MarksUse pages.old tables.new (cache_of caches.old hart)) (LacksPage pages.old) address (copied_in (memory_of S.content pages.old) address from.now) after }
     ensures refused { OnErr result (pages.new ≡ pages.old) }
     ensures bare { KeepsBare pages.old pages.new }
+    ensures held { ServesHeld (cache_of caches.old hart) Access.Store (page_number address) result }
     ensures kept { KeepsTranslations pages.old hart tables.old tables.new caches.old caches.new }
     ensures entries { MayWalk Access.Store (page_number address) tables.old tables.new }
     ensures unmarked { OnErr result (tables.new ≡ tables.old) }
@@ -186,6 +189,7 @@ pub(crate) fn amo<L: Ledger, S: SwapSlot>(
         Answers (HasPage pages.old (cache_of caches.old hart)) (MarksUse pages.old tables.new (cache_of caches.old hart)) (LacksPage pages.old) address (replaced (memory_of S.content pages.old) update address) after }
     ensures refused { OnErr result (pages.new ≡ pages.old) }
     ensures bare { KeepsBare pages.old pages.new }
+    ensures held { ServesHeld (cache_of caches.old hart) Access.Store (page_number address) result }
     ensures kept { KeepsTranslations pages.old hart tables.old tables.new caches.old caches.new }
     ensures entries { MayWalk Access.Store (page_number address) tables.old tables.new }
     ensures unmarked { OnErr result (tables.new ≡ tables.old) }
@@ -224,6 +228,7 @@ fn amo_anew<L: Ledger, S: SwapSlot>(
         Answers (HasPage pages.old (cache_of caches.old hart)) (MarksUse pages.old tables.new (cache_of caches.old hart)) (LacksPage pages.old) address (replaced (memory_of S.content pages.old) update address) after }
     ensures refused { OnErr result (pages.new ≡ pages.old) }
     ensures bare { KeepsBare pages.old pages.new }
+    ensures held { ServesHeld (cache_of caches.old hart) Access.Store (page_number address) result }
     ensures kept { KeepsTranslations pages.old hart tables.old tables.new caches.old caches.new }
     ensures entries { MayWalk Access.Store (page_number address) tables.old tables.new }
     ensures unmarked { OnErr result (tables.new ≡ tables.old) }

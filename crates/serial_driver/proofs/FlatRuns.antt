@@ -1,5 +1,5 @@
 -- A report of a machine that a run left tells of flat runs.
-use Rattle.std.proofs.Common.{◌≡◌, ℕ, List, length, map, Option, Some, None, slice_get, option_map, refl, sym, ap, ◌∙◌}
+use Rattle.std.proofs.Common.{◌≡◌, ℕ, List, length, Option, Some, None, slice_get, option_map, refl, sym, ap, ◌∙◌}
 use Rattle.std.proofs.lemmas.Option.{same_Some, slice_get-map}
 use Rattle.flat_machine.specs.Schedule.{written_out}
 use Rattle.machine_core.specs.declared.report.ProcessReport.{ProcessReport}

@@ -12,11 +12,11 @@ use Rattle.machine_core.specs.Machine.{CoreValue}
 use Rattle.machine_core.specs.ManySteps.{steps_of, replies_of}
 use Rattle.serial_driver.specs.Closing.{is_limit_kill}
 use Rattle.serial_driver.specs.Limit.{DoesSave, EndsByLimit, PlaysWith}
-use Rattle.serial_driver.specs.Owing.{Duty, Pays, ArePaid, duty_with, duty_after}
-use Rattle.serial_driver.specs.Patience.{AreDue, IsPatient, IsSpentBy, tried_after, tried_with}
+use Rattle.serial_driver.specs.Owing.{Duty, Pays, ArePaid, duty_with, duty_after, next_owed}
+use Rattle.serial_driver.specs.Patience.{IsPatient, spent_after, spent_with, tried_after, tried_with}
 use Rattle.serial_driver.specs.declared.patience.Patience.{Patience}
 use Rattle.serial_driver.proofs.Owed.{duty_on, paid_on, steps_paid}
-use Rattle.serial_driver.proofs.Tried.{after_on, due_on, due_one, patient_same, steps_due}
+use Rattle.serial_driver.proofs.Tried.{after_on, patient_same, spent_on}
 use Rattle.serial_driver.proofs.Reached.{reaches_one, reaches_by, reaches_last}
 
 -- an event is none that ends a process for the limit
@@ -51,79 +51,85 @@ module _ {S : Type 0} (held : S → List ℕ) (honest : Type 0) (failures : S �
   runs_many (e ∷ es) [] old new run = absurd run
   runs_many (e ∷ es) (r ∷ rs) old new run = ap suc (runs_many es rs run.0 new run.1.1)
 
-  pub plays_none : (most : ℕ) (tried : ℕ → ℕ) (duty left : Duty) (core : CoreValue S) (patience : Patience) → IsPatient most tried patience → left ≡ duty
-      → PlaysWith held honest failures most tried duty 0 core core patience left
-  unfolding AreDue tried_after ArePaid duty_after
-  plays_none most tried duty left core patience patient same = record {
-    plays = record { events = []; replies = []; runs = runs_none held honest failures core; many = refl; unlimited = All-nil _; due = tt {0}; paid = tt {0} };
+  pub plays_none : (most : ℕ) (tried : ℕ → ℕ) (duty left : Duty) (spent : Option ℕ) (core : CoreValue S) (patience : Patience) → IsPatient most tried patience → patience.spent ≡ spent → left ≡ duty
+      → PlaysWith held honest failures most tried duty spent 0 core core patience left
+  unfolding tried_after spent_after ArePaid duty_after
+  plays_none most tried duty left spent core patience patient spends same = record {
+    plays = record { events = []; replies = []; runs = runs_none held honest failures core; many = refl; unlimited = All-nil _; paid = tt {0} };
     patient = patient;
+    spends = spends;
     owes = same;
   }
 
-  pub plays_one : (most : ℕ) (tried : ℕ → ℕ) (duty left : Duty) (old new : CoreValue S) (old-patience new-patience : Patience) (event : Event) (reply : Reply) → Applies held honest failures event old new reply
-      → is_limit_kill event ≡ false → IsSpentBy old-patience event → IsPatient most tried old-patience
-      → IsPatient most (λ number. tried_with number event reply (tried number)) new-patience → Pays duty.owed event → left ≡ duty_with event reply duty
-      → PlaysWith held honest failures most tried duty 1 old new new-patience left
-  unfolding AreDue tried_after ArePaid duty_after
-  plays_one most tried duty left old new old-patience new-patience event reply applies unlimited spent before after pays owes = record {
+  pub plays_one : (most : ℕ) (tried : ℕ → ℕ) (duty left : Duty) (spent : Option ℕ) (old new : CoreValue S) (patience : Patience) (event : Event) (reply : Reply) → Applies held honest failures event old new reply
+      → is_limit_kill event ≡ false → IsPatient most (λ number. tried_with number event reply (tried number)) patience → patience.spent ≡ spent_with most tried event reply
+      → Pays (next_owed duty.owed spent) event → left ≡ duty_with event reply duty → PlaysWith held honest failures most tried duty spent 1 old new patience left
+  unfolding tried_after spent_after ArePaid duty_after
+  plays_one most tried duty left spent old new patience event reply applies unlimited patient spends pays owes = record {
     plays = record {
       events = event ∷ [];
       replies = reply ∷ [];
       runs = runs_one held honest failures event old new reply applies;
       many = refl;
       unlimited = All-cons Unlimited event [] unlimited (All-nil _);
-      due = (due_one most tried old-patience before event spent, tt {0});
       paid = (pays, tt {0});
     };
-    patient = after;
+    patient = patient;
+    spends = spends;
     owes = owes;
   }
 
-  plays_steps : (most : ℕ) (tried : ℕ → ℕ) (duty left : Duty) (old new : CoreValue S) (patience : Patience) (process hart ran : ℕ) (last : Option Reply)
+  plays_steps : (most : ℕ) (tried : ℕ → ℕ) (duty left : Duty) (spent : Option ℕ) (old new : CoreValue S) (patience : Patience) (process hart ran : ℕ) (last : Option Reply)
       → Runs held honest failures (steps_of process hart ran last) (replies_of ran last) old new
       → IsPatient most (λ number. tried_after number (steps_of process hart ran last) (replies_of ran last) (tried number)) patience
-      → ArePaid duty (steps_of process hart ran last) (replies_of ran last) → left ≡ duty_after (steps_of process hart ran last) (replies_of ran last) duty
-      → PlaysWith held honest failures most tried duty (steps_many last ran) old new patience left
-  plays_steps most tried duty left old new patience process hart ran last runs patient paid owes = record {
+      → patience.spent ≡ spent_after most tried (steps_of process hart ran last) (replies_of ran last) spent
+      → ArePaid most tried duty spent (steps_of process hart ran last) (replies_of ran last) → left ≡ duty_after (steps_of process hart ran last) (replies_of ran last) duty
+      → PlaysWith held honest failures most tried duty spent (steps_many last ran) old new patience left
+  plays_steps most tried duty left spent old new patience process hart ran last runs patient spends paid owes = record {
     plays = record {
       events = steps_of process hart ran last;
       replies = replies_of ran last;
       runs = runs;
       many = steps_length process hart ran last;
       unlimited = steps_each process hart ran last;
-      due = steps_due most tried process hart ran last;
       paid = paid;
     };
     patient = patient;
+    spends = spends;
     owes = owes;
   }
 
   -- the last of which was told
-  pub plays_last : (most : ℕ) (tried : ℕ → ℕ) (duty left : Duty) (old new : CoreValue S) (patience : Patience) (process hart ran : ℕ) (last : Option Reply)
+  pub plays_last : (most : ℕ) (tried : ℕ → ℕ) (duty left : Duty) (spent : Option ℕ) (old new : CoreValue S) (patience : Patience) (process hart ran : ℕ) (last : Option Reply)
       → Runs held honest failures (steps_of process hart ran last) (replies_of ran last) old new
       → IsPatient most (λ number. tried_after number (steps_of process hart ran last) (replies_of ran last) (tried number)) patience
-      → Pays duty.owed (Step process hart) → left ≡ duty_after (steps_of process hart ran last) (replies_of ran last) duty
-      → (reply : Reply) → last ≡ Some reply → (count : ℕ) → count ≡ ran → PlaysWith held honest failures most tried duty (count + 1) old new patience left
+      → patience.spent ≡ spent_after most tried (steps_of process hart ran last) (replies_of ran last) spent
+      → Pays (next_owed duty.owed spent) (Step process hart) → left ≡ duty_after (steps_of process hart ran last) (replies_of ran last) duty
+      → (reply : Reply) → last ≡ Some reply → (count : ℕ) → count ≡ ran → PlaysWith held honest failures most tried duty spent (count + 1) old new patience left
   unfolding steps_many
-  plays_last most tried duty left old new patience process hart ran last runs patient pays owes reply is count same =
-      subst (λ n. PlaysWith held honest failures most tried duty n old new patience left) (ap (λ (l : Option Reply). steps_many l ran) is ∙ ap (λ n. n + 1) (sym same)) (plays_steps most tried duty left old new patience process hart ran last runs patient (steps_paid duty process hart ran last pays) owes)
+  plays_last most tried duty left spent old new patience process hart ran last runs patient spends pays owes reply is count same =
+      subst (λ n. PlaysWith held honest failures most tried duty spent n old new patience left) (ap (λ (l : Option Reply). steps_many l ran) is ∙ ap (λ n. n + 1) (sym same))
+      (plays_steps most tried duty left spent old new patience process hart ran last runs patient spends (steps_paid most tried duty spent process hart ran last pays) owes)
 
   -- or that all ran
-  pub plays_all : (most : ℕ) (tried : ℕ → ℕ) (duty left : Duty) (old new : CoreValue S) (patience : Patience) (process hart ran : ℕ) (last : Option Reply)
+  pub plays_all : (most : ℕ) (tried : ℕ → ℕ) (duty left : Duty) (spent : Option ℕ) (old new : CoreValue S) (patience : Patience) (process hart ran : ℕ) (last : Option Reply)
       → Runs held honest failures (steps_of process hart ran last) (replies_of ran last) old new
       → IsPatient most (λ number. tried_after number (steps_of process hart ran last) (replies_of ran last) (tried number)) patience
-      → Pays duty.owed (Step process hart) → left ≡ duty_after (steps_of process hart ran last) (replies_of ran last) duty
-      → last ≡ None → (count : ℕ) → count ≡ ran → PlaysWith held honest failures most tried duty count old new patience left
+      → patience.spent ≡ spent_after most tried (steps_of process hart ran last) (replies_of ran last) spent
+      → Pays (next_owed duty.owed spent) (Step process hart) → left ≡ duty_after (steps_of process hart ran last) (replies_of ran last) duty
+      → last ≡ None → (count : ℕ) → count ≡ ran → PlaysWith held honest failures most tried duty spent count old new patience left
   unfolding steps_many
-  plays_all most tried duty left old new patience process hart ran last runs patient pays owes is count same =
-      subst (λ n. PlaysWith held honest failures most tried duty n old new patience left) (ap (λ (l : Option Reply). steps_many l ran) is ∙ sym same) (plays_steps most tried duty left old new patience process hart ran last runs patient (steps_paid duty process hart ran last pays) owes)
+  plays_all most tried duty left spent old new patience process hart ran last runs patient spends pays owes is count same =
+      subst (λ n. PlaysWith held honest failures most tried duty spent n old new patience left) (ap (λ (l : Option Reply). steps_many l ran) is ∙ sym same)
+      (plays_steps most tried duty left spent old new patience process hart ran last runs patient spends (steps_paid most tried duty spent process hart ran last pays) owes)
 
-  pub plays_more : (most : ℕ) (tried : ℕ → ℕ) (duty midway left : Duty) (first second total : ℕ) (old between new : CoreValue S) (middle patience : Patience)
-      → (a : PlaysWith held honest failures most tried duty first old between middle midway)
-      → PlaysWith held honest failures most (λ number. tried_after number a.plays.events a.plays.replies (tried number)) midway second between new patience left → first + second ≡ total
-      → PlaysWith held honest failures most tried duty total old new patience left
-  plays_more most tried duty midway left first second total old between new middle patience a b sum =
+  pub plays_more : (most : ℕ) (tried : ℕ → ℕ) (duty midway left : Duty) (spent : Option ℕ) (first second total : ℕ) (old between new : CoreValue S) (middle patience : Patience)
+      → (a : PlaysWith held honest failures most tried duty spent first old between middle midway)
+      → PlaysWith held honest failures most (λ number. tried_after number a.plays.events a.plays.replies (tried number)) midway middle.spent second between new patience left → first + second ≡ total
+      → PlaysWith held honest failures most tried duty spent total old new patience left
+  plays_more most tried duty midway left spent first second total old between new middle patience a b sum =
       let same = runs_many a.plays.events a.plays.replies old between a.plays.runs in
+      let later : ℕ → ℕ = λ number. tried_after number a.plays.events a.plays.replies (tried number) in
       record {
         plays = record {
           events = a.plays.events ++ b.plays.events;
@@ -131,18 +137,19 @@ module _ {S : Type 0} (held : S → List ℕ) (honest : Type 0) (failures : S �
           runs = runs_on held honest failures a.plays.events b.plays.events a.plays.replies b.plays.replies old between new a.plays.runs b.plays.runs;
           many = length-append a.plays.events b.plays.events ∙ omega (arith, a.plays.many, b.plays.many, sum);
           unlimited = All-append Unlimited a.plays.events b.plays.events a.plays.unlimited b.plays.unlimited;
-          due = due_on most tried a.plays.events b.plays.events a.plays.replies b.plays.replies same a.plays.due b.plays.due;
-          paid = paid_on duty a.plays.events b.plays.events a.plays.replies b.plays.replies same a.plays.paid
-              (subst (λ (d : Duty). ArePaid d b.plays.events b.plays.replies) a.owes b.plays.paid);
+          paid = paid_on most tried duty spent a.plays.events b.plays.events a.plays.replies b.plays.replies same a.plays.paid
+              (subst (λ (s : Option ℕ). ArePaid most later (duty_after a.plays.events a.plays.replies duty) s b.plays.events b.plays.replies) a.spends
+              (subst (λ (d : Duty). ArePaid most later d middle.spent b.plays.events b.plays.replies) a.owes b.plays.paid));
         };
         patient = patient_same most _ _ patience (λ number. sym (after_on number a.plays.events b.plays.events a.plays.replies b.plays.replies (tried number) same)) b.patient;
+        spends = b.spends ∙ ap (spent_after most later b.plays.events b.plays.replies) a.spends ∙ sym (spent_on most tried a.plays.events b.plays.events a.plays.replies b.plays.replies spent same);
         owes = b.owes ∙ ap (duty_after b.plays.events b.plays.replies) a.owes ∙ sym (duty_on duty a.plays.events b.plays.events a.plays.replies b.plays.replies same);
       }
 
   -- events are played alike from equal duties
-  pub plays_from : {most : ℕ} {tried : ℕ → ℕ} {duty duty' left : Duty} {count : ℕ} {old new : CoreValue S} {patience : Patience} → duty' ≡ duty
-      → PlaysWith held honest failures most tried duty' count old new patience left → PlaysWith held honest failures most tried duty count old new patience left
-  plays_from {most} {tried} {duty} {duty'} {left} {count} {old} {new} {patience} same plays = subst (λ d. PlaysWith held honest failures most tried d count old new patience left) same plays
+  pub plays_from : {most : ℕ} {tried : ℕ → ℕ} {duty duty' left : Duty} {spent : Option ℕ} {count : ℕ} {old new : CoreValue S} {patience : Patience} → duty' ≡ duty
+      → PlaysWith held honest failures most tried duty' spent count old new patience left → PlaysWith held honest failures most tried duty spent count old new patience left
+  plays_from {most} {tried} {duty} {duty'} {left} {spent} {count} {old} {new} {patience} same plays = subst (λ d. PlaysWith held honest failures most tried d spent count old new patience left) same plays
 
   save_reached : (unsaved : Option Key) (old new : CoreValue S) → DoesSave held honest failures unsaved old new → LeadsTo held honest failures old new
   save_reached None old new is = subst (λ (c : CoreValue S). LeadsTo held honest failures old c) (sym is) (reaches_same held honest failures old)

@@ -1,26 +1,38 @@
 -- What comes next may come.
-use Rattle.std.proofs.Common.{◌≡◌, ℕ, ◌<◌, false, Option, Some, None, refl, sym, ◌∙◌, arith, subst}
+use Rattle.std.proofs.Common.{◌≡◌, ℕ, ◌<◌, true, false, Option, Some, None, refl, sym, ap, ◌∙◌, arith, subst}
 use Rattle.std.specs.Prelude.{is_some}
 use Rattle.flat_machine.specs.declared.end.KillCause.TheVariants as cause
 use Rattle.machine_core.specs.declared.event.Event as machine
 use Rattle.machine_core.specs.declared.event.Event.TheVariants.{Kill}
 use Rattle.serial_driver.specs.Nexts.{IsNext, IsOrdinary}
-use Rattle.serial_driver.specs.Owing.{Duty, Pays, is_other_kill}
-use Rattle.serial_driver.specs.declared.patience.Patience.{Patience}
+use Rattle.serial_driver.specs.Owing.{Duty, Pays, is_kill, next_owed}
 use Rattle.serial_driver.specs.declared.turns.Next.TheVariants.{Event}
 
-free_pays : (owed : Option machine.Event) (event : machine.Event) → owed ≡ None → is_other_kill event ≡ false → Pays owed event
+free_pays : (owed : Option machine.Event) (event : machine.Event) → owed ≡ None → is_kill event ≡ false → Pays owed event
 free_pays owed event is none = subst (λ o. Pays o event) (sym is) none
 
-pub ordinary_next : (allowed : ℕ) (event : machine.Event) → 0 < allowed → IsOrdinary event → (patience : Patience) (duty : Duty) → duty.owed ≡ None → IsNext allowed patience duty (Event event)
-ordinary_next allowed event some ordinary patience duty free =
-    (omega arith, (omega (arith, some), ((ordinary.0.0, ordinary.1 patience), free_pays duty.owed event free ordinary.0.1)))
+pub ordinary_next : (allowed : ℕ) (event : machine.Event) → 0 < allowed → IsOrdinary event → (spent : Option ℕ) (duty : Duty) → next_owed duty.owed spent ≡ None → IsNext allowed spent duty (Event event)
+ordinary_next allowed event some ordinary spent duty free =
+    (omega arith, (omega (arith, some), (ordinary.0, free_pays (next_owed duty.owed spent) event free ordinary.1)))
 
-unsettled : (owed : Option machine.Event) → is_some owed ≡ false → owed ≡ None
-unsettled None h = refl
-unsettled (Some event) h = cc
+-- an event that is settled is all that is owed
+pub settled_first : (owed : Option machine.Event) (spent : Option ℕ) → is_some owed ≡ true → next_owed owed spent ≡ owed
+settled_first None spent h = cc
+settled_first (Some event) spent h = refl
 
-pub spent_next : (allowed process : ℕ) (patience : Patience) (duty : Duty) (told : Option ℕ) → 0 < allowed → told ≡ patience.spent → told ≡ Some process → is_some duty.owed ≡ false
-    → IsNext allowed patience duty (Event (Kill process cause.NoSwap))
-spent_next allowed process patience duty told some is at free =
-    (omega arith, (omega (arith, some), ((refl, λ _. sym is ∙ at), free_pays duty.owed (Kill process cause.NoSwap) (unsettled duty.owed free) refl)))
+-- and so it is where none is spent
+pub none_spent : (owed : Option machine.Event) (spent : Option ℕ) → spent ≡ None → next_owed owed spent ≡ owed
+none_spent owed spent is = ap (next_owed owed) is ∙ alone owed
+  where
+    alone : (owed : Option machine.Event) → next_owed owed None ≡ owed
+    alone None = refl
+    alone (Some event) = refl
+
+spent_pays : (process : ℕ) (owed : Option machine.Event) → is_some owed ≡ false → Pays (next_owed owed (Some process)) (Kill process cause.NoSwap)
+spent_pays process None h = refl
+spent_pays process (Some event) h = cc
+
+pub spent_next : (allowed process : ℕ) (spent : Option ℕ) (duty : Duty) → 0 < allowed → spent ≡ Some process → is_some duty.owed ≡ false
+    → IsNext allowed spent duty (Event (Kill process cause.NoSwap))
+spent_next allowed process spent duty some at free =
+    (omega arith, (omega (arith, some), (refl, subst (λ s. Pays (next_owed duty.owed s) (Kill process cause.NoSwap)) (sym at) (spent_pays process duty.owed free))))

@@ -1,11 +1,12 @@
 -- What is owed over events one after another.
-use Rattle.std.proofs.Common.{◌≡◌, ℕ, zero, suc, ◌<◌, List, [], ◌∷◌, ◌++◌, length, Option, Some, None, IfNone, replicate, refl, ap, ◌∙◌, arith}
+use Rattle.std.proofs.Common.{◌≡◌, ℕ, zero, suc, ◌<◌, List, [], ◌∷◌, ◌++◌, length, Option, Some, None, replicate, refl, ap, ◌∙◌, arith}
 use Rattle.machine_core.specs.declared.event.Event.{Event}
 use Rattle.machine_core.specs.declared.event.Event.TheVariants.{Step}
 use Rattle.machine_core.specs.declared.event.Reply.{Reply}
 use Rattle.machine_core.specs.declared.event.Reply.TheVariants.{Ran}
 use Rattle.machine_core.specs.ManySteps.{steps_of, replies_of}
-use Rattle.serial_driver.specs.Owing.{Duty, Pays, ArePaid, duty_with, duty_after, step_faults, step_owes}
+use Rattle.serial_driver.specs.Owing.{Duty, Pays, ArePaid, duty_with, duty_after, next_owed, step_faults, step_owes}
+use Rattle.serial_driver.specs.Patience.{spent_after, spent_with, tried_after, tried_with}
 
 -- after events, and then others
 pub duty_on : (duty : Duty) (first second : List Event) (replies replies' : List Reply) → length first ≡ length replies
@@ -16,13 +17,16 @@ duty_on duty [] second (r ∷ rs) replies' same = absurd (omega (arith, same))
 duty_on duty (e ∷ es) second [] replies' same = absurd (omega (arith, same))
 duty_on duty (e ∷ es) second (r ∷ rs) replies' same = duty_on (duty_with e r duty) es second rs replies' (omega (arith, same))
 
-pub paid_on : (duty : Duty) (first second : List Event) (replies replies' : List Reply) → length first ≡ length replies → ArePaid duty first replies
-    → ArePaid (duty_after first replies duty) second replies' → ArePaid duty (first ++ second) (replies ++ replies')
-unfolding ArePaid duty_after
-paid_on duty [] second [] replies' same a b = b
-paid_on duty [] second (r ∷ rs) replies' same a b = absurd (omega (arith, same))
-paid_on duty (e ∷ es) second [] replies' same a b = absurd (omega (arith, same))
-paid_on duty (e ∷ es) second (r ∷ rs) replies' same a b = (a.0, paid_on (duty_with e r duty) es second rs replies' (omega (arith, same)) a.1 b)
+pub paid_on : (most : ℕ) (tried : ℕ → ℕ) (duty : Duty) (spent : Option ℕ) (first second : List Event) (replies replies' : List Reply) → length first ≡ length replies
+    → ArePaid most tried duty spent first replies
+    → ArePaid most (λ number. tried_after number first replies (tried number)) (duty_after first replies duty) (spent_after most tried first replies spent) second replies'
+    → ArePaid most tried duty spent (first ++ second) (replies ++ replies')
+unfolding ArePaid duty_after spent_after tried_after
+paid_on most tried duty spent [] second [] replies' same a b = b
+paid_on most tried duty spent [] second (r ∷ rs) replies' same a b = absurd (omega (arith, same))
+paid_on most tried duty spent (e ∷ es) second [] replies' same a b = absurd (omega (arith, same))
+paid_on most tried duty spent (e ∷ es) second (r ∷ rs) replies' same a b =
+    (a.0, paid_on most (λ number. tried_with number e r (tried number)) (duty_with e r duty) (spent_with most tried e r) es second rs replies' (omega (arith, same)) a.1 b)
 
 -- steps that go on settle nothing
 ran_duty : (process hart count : ℕ) (duty : Duty) → duty_after (replicate (suc count) (Step process hart)) (replicate (suc count) Ran) duty ≡ record { faults = duty.faults; owed = None }
@@ -34,24 +38,28 @@ same_count : (process hart count : ℕ) → length (replicate count (Step proces
 same_count process hart zero = refl
 same_count process hart (suc count) = ap suc (same_count process hart count)
 
-ran_paid : (duty : Duty) (process hart count : ℕ) → Pays duty.owed (Step process hart) → ArePaid duty (replicate count (Step process hart)) (replicate count Ran)
+ran_paid : (most : ℕ) (tried : ℕ → ℕ) (duty : Duty) (spent : Option ℕ) (process hart count : ℕ) → Pays (next_owed duty.owed spent) (Step process hart)
+    → ArePaid most tried duty spent (replicate count (Step process hart)) (replicate count Ran)
 unfolding ArePaid
-ran_paid duty process hart zero pays = tt {0}
-ran_paid duty process hart (suc count) pays = (pays, ran_paid (duty_with (Step process hart) Ran duty) process hart count refl)
+ran_paid most tried duty spent process hart zero pays = tt {0}
+ran_paid most tried duty spent process hart (suc count) pays =
+    (pays, ran_paid most (λ number. tried_with number (Step process hart) Ran (tried number)) (duty_with (Step process hart) Ran duty) None process hart count refl)
 
 -- the duty before the last of some steps
-before_last : (duty : Duty) (process hart ran : ℕ) → Pays duty.owed (Step process hart)
-    → Pays (duty_after (replicate ran (Step process hart)) (replicate ran Ran) duty).owed (Step process hart)
-unfolding duty_after
-before_last duty process hart zero pays = pays
-before_last duty process hart (suc count) pays = before_last (duty_with (Step process hart) Ran duty) process hart count refl
+before_last : (most : ℕ) (tried : ℕ → ℕ) (duty : Duty) (spent : Option ℕ) (process hart ran : ℕ) → Pays (next_owed duty.owed spent) (Step process hart)
+    → Pays (next_owed (duty_after (replicate ran (Step process hart)) (replicate ran Ran) duty).owed (spent_after most tried (replicate ran (Step process hart)) (replicate ran Ran) spent)) (Step process hart)
+unfolding duty_after spent_after
+before_last most tried duty spent process hart zero pays = pays
+before_last most tried duty spent process hart (suc count) pays =
+    before_last most (λ number. tried_with number (Step process hart) Ran (tried number)) (duty_with (Step process hart) Ran duty) None process hart count refl
 
-pub steps_paid : (duty : Duty) (process hart ran : ℕ) (last : Option Reply) → Pays duty.owed (Step process hart) → ArePaid duty (steps_of process hart ran last) (replies_of ran last)
+pub steps_paid : (most : ℕ) (tried : ℕ → ℕ) (duty : Duty) (spent : Option ℕ) (process hart ran : ℕ) (last : Option Reply) → Pays (next_owed duty.owed spent) (Step process hart)
+    → ArePaid most tried duty spent (steps_of process hart ran last) (replies_of ran last)
 unfolding ArePaid
-steps_paid duty process hart ran None pays = ran_paid duty process hart ran pays
-steps_paid duty process hart ran (Some reply) pays =
-    paid_on duty (replicate ran (Step process hart)) (Step process hart ∷ []) (replicate ran Ran) (reply ∷ []) (same_count process hart ran)
-    (ran_paid duty process hart ran pays) (before_last duty process hart ran pays, tt {0})
+steps_paid most tried duty spent process hart ran None pays = ran_paid most tried duty spent process hart ran pays
+steps_paid most tried duty spent process hart ran (Some reply) pays =
+    paid_on most tried duty spent (replicate ran (Step process hart)) (Step process hart ∷ []) (replicate ran Ran) (reply ∷ []) (same_count process hart ran)
+    (ran_paid most tried duty spent process hart ran pays) (before_last most tried duty spent process hart ran pays, tt {0})
 
 -- what steps leave owed, by the last one's reply
 ran_faults : (process hart count : ℕ) (duty : Duty) → (duty_after (replicate count (Step process hart)) (replicate count Ran) duty).faults ≡ duty.faults

@@ -1,5 +1,5 @@
 -- How a run of so many events comes to its end: each process has ended, or the limit is reached.
-use Rattle.std.proofs.Common.{◌≡◌, ℕ, ◌+◌, ◌*◌, ◌≤◌, List, Option, None, refl, sym, ap, ◌∙◌, arith}
+use Rattle.std.proofs.Common.{◌≡◌, ℕ, ◌+◌, ◌*◌, ◌≤◌, List, Option, None, sym, ap, ◌∙◌, arith}
 use Rattle.clock_policy.specs.declared.key.Key.{Key}
 use Rattle.machine_core.specs.Machine.{CoreValue}
 use Rattle.serial_driver.specs.Endings.{HasEnded}
@@ -10,7 +10,7 @@ use Rattle.serial_driver.specs.declared.patience.Patience.{Patience}
 
 module _ {S : Type 0} (held : S → List ℕ) (honest : Type 0) (failures : S → ℕ) where
   pub plays_to_end : (limit count left : ℕ) (duty duty' : Duty) (old new : CoreValue S) (patience : Patience) → count + left ≡ limit
-      → PlaysWith held honest failures (tries_per_frame * old.pager.pager.size) (λ _. 0) no_duty count old new patience duty
+      → PlaysWith held honest failures (tries_per_frame * old.pager.pager.size) (λ _. 0) no_duty None count old new patience duty
       → duty' ≡ duty → duty'.owed ≡ None → ((number : ℕ) → HasEnded new number) → PlaysUpTo held honest failures limit None old new
   plays_to_end limit count left duty duty' old new patience sum played same free ended = record {
     count = count;
@@ -22,7 +22,7 @@ module _ {S : Type 0} (held : S → List ℕ) (honest : Type 0) (failures : S �
   }
 
   pub plays_to_limit : (limit count left : ℕ) (duty : Duty) (old new : CoreValue S) (patience : Patience) (unsaved : Option Key) → count + left ≡ limit → left ≤ 0
-      → PlaysWith held honest failures (tries_per_frame * old.pager.pager.size) (λ _. 0) no_duty count old new patience duty
+      → PlaysWith held honest failures (tries_per_frame * old.pager.pager.size) (λ _. 0) no_duty None count old new patience duty
       → unsaved ≡ owed_save duty.owed → PlaysUpTo held honest failures limit unsaved old new
   plays_to_limit limit count left duty old new patience unsaved sum none played is = record {
     count = count;

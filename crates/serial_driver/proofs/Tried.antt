@@ -1,16 +1,14 @@
 -- Counts of what was tried, over events one after another.
-use Rattle.std.proofs.Common.{◌≡◌, ◌≢◌, ℕ, zero, suc, ◌+◌, ◌==◌, ◌≤◌, ◌&&◌, ◌||◌, not, inl, inr, Bool, true, false, true≢false, List, [], ◌∷◌, ◌++◌, length, Option, Some, None, replicate, slice_index_or, refl, sym, ap, ◌∙◌, arith, subst}
-use Rattle.std.proofs.lemmas.Bool.{eqb-true}
+use Rattle.std.proofs.Common.{◌≡◌, ℕ, zero, suc, ◌<◌, ◌==◌, inl, inr, Bool, true, false, List, [], ◌∷◌, ◌++◌, length, Option, Some, None, IfNone, replicate, slice_index_or, refl, sym, ap, ◌∙◌, arith, subst}
 use Rattle.std.proofs.lemmas.Bool.Decides.{eqb_tells}
-use Rattle.std.specs.Prelude.{if◌then◌else◌}
-use Rattle.clock_policy.specs.declared.key.Key.{Key}
+use Rattle.std.specs.Prelude.{◌||◌, min, not, if◌then◌else◌}
 use Rattle.machine_core.specs.declared.event.Event.{Event}
-use Rattle.machine_core.specs.declared.event.Event.TheVariants.{Step, Notice, Sweep, Collect, Saved, PageIn, Kill, Purge}
+use Rattle.machine_core.specs.declared.event.Event.TheVariants.{Step}
 use Rattle.machine_core.specs.declared.event.Reply.{Reply}
 use Rattle.machine_core.specs.declared.event.Reply.TheVariants.{Ran}
 use Rattle.machine_core.specs.Headline.{has_run}
 use Rattle.machine_core.specs.ManySteps.{steps_of, replies_of}
-use Rattle.serial_driver.specs.Patience.{AreDue, IsDue, IsPatient, IsSpentBy, any_ran, has_failed, tried_after, tried_with}
+use Rattle.serial_driver.specs.Patience.{IsPatient, any_ran, renewed, run_of, spent_after, spent_of, spent_with, tried_after, tried_again, tried_with, try_of}
 use Rattle.serial_driver.specs.declared.patience.Patience.{Patience}
 
 -- the count after events, and then others
@@ -22,105 +20,80 @@ after_on number [] second (r ∷ rs) replies' tried same = absurd (omega (arith,
 after_on number (e ∷ es) second [] replies' tried same = absurd (omega (arith, same))
 after_on number (e ∷ es) second (r ∷ rs) replies' tried same = after_on number es second rs replies' (tried_with number e r tried) (omega (arith, same))
 
-pub due_on : (most : ℕ) (tried : ℕ → ℕ) (first second : List Event) (replies replies' : List Reply) → length first ≡ length replies → AreDue most tried first replies
-    → AreDue most (λ number. tried_after number first replies (tried number)) second replies' → AreDue most tried (first ++ second) (replies ++ replies')
-unfolding AreDue tried_after
-due_on most tried [] second [] replies' same a b = b
-due_on most tried [] second (r ∷ rs) replies' same a b = absurd (omega (arith, same))
-due_on most tried (e ∷ es) second [] replies' same a b = absurd (omega (arith, same))
-due_on most tried (e ∷ es) second (r ∷ rs) replies' same a b = (a.0, due_on most (λ number. tried_with number e r (tried number)) es second rs replies' (omega (arith, same)) a.1 b)
+pub spent_on : (most : ℕ) (tried : ℕ → ℕ) (first second : List Event) (replies replies' : List Reply) (spent : Option ℕ) → length first ≡ length replies
+    → spent_after most tried (first ++ second) (replies ++ replies') spent
+    ≡ spent_after most (λ number. tried_after number first replies (tried number)) second replies' (spent_after most tried first replies spent)
+unfolding spent_after tried_after
+spent_on most tried [] second [] replies' spent same = refl
+spent_on most tried [] second (r ∷ rs) replies' spent same = absurd (omega (arith, same))
+spent_on most tried (e ∷ es) second [] replies' spent same = absurd (omega (arith, same))
+spent_on most tried (e ∷ es) second (r ∷ rs) replies' spent same =
+    spent_on most (λ number. tried_with number e r (tried number)) es second rs replies' (spent_with most tried e r) (omega (arith, same))
 
 -- what is remembered serves equal counts alike
 pub patient_same : (most : ℕ) (tried later : ℕ → ℕ) (patience : Patience) → ((number : ℕ) → tried number ≡ later number) → IsPatient most tried patience → IsPatient most later patience
 patient_same most tried later patience same patient = record {
   bound = patient.bound;
-  within = λ number. subst (λ n. slice_index_or patience.tries number 0 ≤ n) (same number) (patient.within number);
-  due = λ number spent. subst (λ n. most ≤ n) (same number) (patient.due number spent);
+  exact = λ number small. subst (λ n. slice_index_or patience.tries number 0 ≡ min n most) (same number) (patient.exact number small);
 }
 
--- an event for which none is spent is due
-pub due_one : (most : ℕ) (tried : ℕ → ℕ) (patience : Patience) → IsPatient most tried patience → (event : Event) → IsSpentBy patience event → IsDue most tried event
-due_one most tried patience patient (Step process hart) spent = tt {0}
-due_one most tried patience patient (Notice process hart) spent = tt {0}
-due_one most tried patience patient Sweep spent = tt {0}
-due_one most tried patience patient (Collect key) spent = tt {0}
-due_one most tried patience patient (Saved key) spent = tt {0}
-due_one most tried patience patient (PageIn key) spent = tt {0}
-due_one most tried patience patient (Kill process cause) spent = λ is. patient.due process (spent is)
-due_one most tried patience patient (Purge process) spent = tt {0}
-
--- steps end none
-ran_due : (most process hart count : ℕ) (tried : ℕ → ℕ) → AreDue most tried (replicate count (Step process hart)) (replicate count Ran)
-unfolding AreDue
-ran_due most process hart zero tried = tt {0}
-ran_due most process hart (suc count) tried = (tt {0}, ran_due most process hart count (λ number. tried_with number (Step process hart) Ran (tried number)))
+-- the process that is spent, by which process ran and for which there was a try
+pub spent_same : (most : ℕ) (tried : ℕ → ℕ) (event : Event) (reply : Reply) (ran tries : Option ℕ) → ran ≡ run_of event reply → tries ≡ try_of event reply
+    → spent_of most (λ number. tried_again number tries (renewed number ran (tried number))) tries ≡ spent_with most tried event reply
+spent_same most tried event reply ran tries ran_is tries_is =
+    ap (λ (p : Option ℕ). spent_of most (λ number. tried_again number p (renewed number ran (tried number))) p) tries_is
+    ∙ ap (λ (p : Option ℕ). spent_of most (λ number. tried_again number (try_of event reply) (renewed number p (tried number))) (try_of event reply)) ran_is
 
 same_count : (process hart count : ℕ) → length (replicate count (Step process hart)) ≡ length (replicate count Ran)
 same_count process hart zero = refl
 same_count process hart (suc count) = ap suc (same_count process hart count)
 
-pub steps_due : (most : ℕ) (tried : ℕ → ℕ) (process hart ran : ℕ) (last : Option Reply) → AreDue most tried (steps_of process hart ran last) (replies_of ran last)
-unfolding AreDue
-steps_due most tried process hart ran None = ran_due most process hart ran tried
-steps_due most tried process hart ran (Some reply) =
-    due_on most tried (replicate ran (Step process hart)) (Step process hart ∷ []) (replicate ran Ran) (reply ∷ []) (same_count process hart ran) (ran_due most process hart ran tried) (tt {0}, tt {0})
-
--- a step leaves the counts of other processes
-step_other : (number process hart : ℕ) (reply : Reply) (tried : ℕ) → number ≢ process → tried_with number (Step process hart) reply tried ≡ tried
-step_other number process hart reply tried apart = by_test (has_run reply) (number == process) refl
+-- a count that begins anew twice does so once
+renewed_twice : (number process tried : ℕ) → renewed number (Some process) (renewed number (Some process) tried) ≡ renewed number (Some process) tried
+renewed_twice number process tried = by_test (number == process)
   where
-    by_test : (a b : Bool) → (number == process) ≡ b → (if a && b then 0 else tried) ≡ tried
-    by_test false b is = refl
-    by_test true false is = refl
-    by_test true true is = absurd (apart (eqb-true number process is))
+    by_test : (b : Bool) → (if b then 0 else (if b then 0 else tried)) ≡ (if b then 0 else tried)
+    by_test true = refl
+    by_test false = refl
 
-ran_other : (number process hart count : ℕ) (tried : ℕ) → number ≢ process → tried_after number (replicate count (Step process hart)) (replicate count Ran) tried ≡ tried
+ran_count : (number process hart count tried : ℕ) → tried_after number (replicate (suc count) (Step process hart)) (replicate (suc count) Ran) tried ≡ renewed number (Some process) tried
 unfolding tried_after
-ran_other number process hart zero tried apart = refl
-ran_other number process hart (suc count) tried apart = ap (tried_after number (replicate count (Step process hart)) (replicate count Ran)) (step_other number process hart Ran tried apart) ∙ ran_other number process hart count tried apart
+ran_count number process hart zero tried = refl
+ran_count number process hart (suc count) tried = ran_count number process hart count (renewed number (Some process) tried) ∙ renewed_twice number process tried
 
-pub steps_other : (number process hart ran : ℕ) (last : Option Reply) (tried : ℕ) → number ≢ process → tried_after number (steps_of process hart ran last) (replies_of ran last) tried ≡ tried
+once_more : (number process tried : ℕ) (ran : Bool) → renewed number (if ran then Some process else None) (renewed number (Some process) tried) ≡ renewed number (Some process) tried
+once_more number process tried true = renewed_twice number process tried
+once_more number process tried false = refl
+
+some_not_none : (count : ℕ) → (suc count == 0) ≡ false
+some_not_none count = elim (eqb_tells (suc count) 0) [ inl e ↦ absurd (omega (arith, e.1)) | inr e ↦ e.0 ]
+
+-- steps of which one ran begin the count of their process anew, and others leave it
+pub steps_count : (number process hart ran : ℕ) (last : Option Reply) (tried : ℕ)
+    → renewed number (if any_ran ran last then Some process else None) tried ≡ tried_after number (steps_of process hart ran last) (replies_of ran last) tried
 unfolding tried_after
-steps_other number process hart ran None tried apart = ran_other number process hart ran tried apart
-steps_other number process hart ran (Some reply) tried apart =
-    after_on number (replicate ran (Step process hart)) (Step process hart ∷ []) (replicate ran Ran) (reply ∷ []) tried (same_count process hart ran)
-    ∙ step_other number process hart reply _ apart ∙ ran_other number process hart ran tried apart
+steps_count number process hart zero None tried = refl
+steps_count number process hart (suc count) None tried =
+    ap (λ (b : Bool). renewed number (if not b then Some process else None) tried) (some_not_none count) ∙ sym (ran_count number process hart count tried)
+steps_count number process hart zero (Some reply) tried = refl
+steps_count number process hart (suc count) (Some reply) tried =
+    ap (λ (b : Bool). renewed number (if not b || has_run reply then Some process else None) tried) (some_not_none count)
+    ∙ sym (
+    after_on number (replicate (suc count) (Step process hart)) (Step process hart ∷ []) (replicate (suc count) Ran) (reply ∷ []) tried (same_count process hart (suc count))
+    ∙ ap (renewed number (if has_run reply then Some process else None)) (ran_count number process hart count tried)
+    ∙ once_more number process tried (has_run reply)
+    )
 
--- where none ran, none was told to have run
-idle_count : (ran : ℕ) (last : Option Reply) → any_ran ran last ≡ false → ran ≡ 0
-idle_count ran None idle = elim (eqb_tells ran 0) [ inl e ↦ e.1 | inr e ↦ absurd (true≢false (sym (ap not e.0) ∙ idle)) ]
-idle_count ran (Some reply) idle = elim (eqb_tells ran 0) [ inl e ↦ e.1 | inr e ↦ absurd (true≢false (sym (ap (λ b. not b || has_run reply) e.0) ∙ idle)) ]
+-- steps spend none
+ran_spent : (most : ℕ) (tried : ℕ → ℕ) (process hart count : ℕ) (spent : Option ℕ) → spent_after most tried (replicate (suc count) (Step process hart)) (replicate (suc count) Ran) spent ≡ None
+unfolding spent_after
+ran_spent most tried process hart zero spent = refl
+ran_spent most tried process hart (suc count) spent = ran_spent most (λ number. tried_with number (Step process hart) Ran (tried number)) process hart count None
 
-idle_last : (ran : ℕ) (reply : Reply) → any_ran ran (Some reply) ≡ false → has_run reply ≡ false
-idle_last ran reply idle = sym (ap (λ n. not (n == 0) || has_run reply) (idle_count ran (Some reply) idle)) ∙ idle
-
-idle_one : (number process hart : ℕ) (reply : Reply) (tried : ℕ) → has_run reply ≡ false → tried_with number (Step process hart) reply tried ≡ tried
-idle_one number process hart reply tried idle = ap (λ b. if b && (number == process) then 0 else tried) idle
-
--- and then all counts stay
-pub steps_idle : (number process hart ran : ℕ) (last : Option Reply) (tried : ℕ) → any_ran ran last ≡ false → tried_after number (steps_of process hart ran last) (replies_of ran last) tried ≡ tried
-unfolding tried_after
-steps_idle number process hart ran None tried idle =
-    ap (λ n. tried_after number (steps_of process hart n None) (replies_of n None) tried) (idle_count ran None idle)
-steps_idle number process hart ran (Some reply) tried idle =
-    ap (λ n. tried_after number (steps_of process hart n (Some reply)) (replies_of n (Some reply)) tried) (idle_count ran (Some reply) idle)
-    ∙ idle_one number process hart reply tried (idle_last ran reply idle)
-
--- ---- an event of a kind
-
-pub step_leaves : (number process hart : ℕ) (event : Event) (reply : Reply) (tried : ℕ) → event ≡ Step process hart → number ≢ process → tried_with number event reply tried ≡ tried
-step_leaves number process hart event reply tried is apart = ap (λ e. tried_with number e reply tried) is ∙ step_other number process hart reply tried apart
-
-pub collect_counts : (number : ℕ) (key : Key) (event : Event) (reply : Reply) (tried : ℕ) → event ≡ Collect key → has_failed reply ≡ true
-    → (if number == key.process then tried + 1 else tried) ≡ tried_with number event reply tried
-collect_counts number key event reply tried is failed =
-    sym (ap (λ e. tried_with number e reply tried) is ∙ ap (λ b. if b && (number == key.process) then tried + 1 else tried) failed)
-
-pub save_counts : (number : ℕ) (key : Key) (event : Event) (reply : Reply) (tried : ℕ) → event ≡ Saved key → has_failed reply ≡ true
-    → (if number == key.process then tried + 1 else tried) ≡ tried_with number event reply tried
-save_counts number key event reply tried is failed =
-    sym (ap (λ e. tried_with number e reply tried) is ∙ ap (λ b. if b && (number == key.process) then tried + 1 else tried) failed)
-
-pub page_in_counts : (number : ℕ) (key : Key) (event : Event) (reply : Reply) (tried : ℕ) → event ≡ PageIn key
-    → (if number == key.process then tried + 1 else tried) ≡ tried_with number event reply tried
-page_in_counts number key event reply tried is = sym (ap (λ e. tried_with number e reply tried) is)
+pub steps_spent : (most : ℕ) (tried : ℕ → ℕ) (process hart ran : ℕ) (last : Option Reply) (spent : Option ℕ) (many : ℕ) → IfNone last (ran ≡ many) → 0 < many
+    → spent_after most tried (steps_of process hart ran last) (replies_of ran last) spent ≡ None
+unfolding spent_after
+steps_spent most tried process hart zero None spent many all some = absurd (omega (arith, all, some))
+steps_spent most tried process hart (suc count) None spent many all some = ran_spent most tried process hart count spent
+steps_spent most tried process hart ran (Some reply) spent many all some =
+    spent_on most tried (replicate ran (Step process hart)) (Step process hart ∷ []) (replicate ran Ran) (reply ∷ []) spent (same_count process hart ran)

@@ -9,32 +9,32 @@ use Rattle.machine_core.specs.Machine.{CoreValue}
 use Rattle.serial_driver.specs.Closing.{is_limit_kill, kill_of, closing_below}
 use Rattle.serial_driver.specs.Endings.{HasEnded}
 use Rattle.serial_driver.specs.Owing.{Duty, no_duty, duty_after, owed_save, ArePaid}
-use Rattle.serial_driver.specs.Patience.{tries_per_frame, tried_after, AreDue, IsPatient}
+use Rattle.serial_driver.specs.Patience.{tries_per_frame, tried_after, spent_after, IsPatient}
 use Rattle.serial_driver.specs.declared.patience.Patience.{Patience}
 
 module _ {S : Type 0} (held : S → List ℕ) (honest : Type 0) (failures : S → ℕ) where
-  -- So many events lead from one machine to the other. None of them ends a process for the limit, and one ends a process for want of a
-  -- place only where it was tried for often enough. Each event that is owed for an answer is the next; for another reason none is ended.
-  pub record PlaysOn (most : ℕ) (tried : ℕ → ℕ) (duty : Duty) (count : ℕ) (old new : CoreValue S) : Type 0 where
+  -- So many events lead from one machine to the other. None of them ends a process for the limit. Each event that is owed, for an answer
+  -- or for a process that was tried for too often, is the next; and for no other reason one is ended.
+  pub record PlaysOn (most : ℕ) (tried : ℕ → ℕ) (duty : Duty) (spent : Option ℕ) (count : ℕ) (old new : CoreValue S) : Type 0 where
     pub events : List Event
     pub replies : List Reply
     pub runs : Runs held honest failures events replies old new
     pub many : length events ≡ count
     pub unlimited : All (λ event. is_limit_kill event ≡ false) events
-    pub due : AreDue most tried events replies
-    pub paid : ArePaid duty events replies
+    pub paid : ArePaid most tried duty spent events replies
 
   -- the same, and what the driver remembers then
-  pub record PlaysWith (most : ℕ) (tried : ℕ → ℕ) (duty : Duty) (count : ℕ) (old new : CoreValue S) (patience : Patience) (left : Duty) : Type 0 where
-    pub plays : PlaysOn most tried duty count old new
+  pub record PlaysWith (most : ℕ) (tried : ℕ → ℕ) (duty : Duty) (spent : Option ℕ) (count : ℕ) (old new : CoreValue S) (patience : Patience) (left : Duty) : Type 0 where
+    pub plays : PlaysOn most tried duty spent count old new
     pub patient : IsPatient most (λ number. tried_after number plays.events plays.replies (tried number)) patience
+    pub spends : patience.spent ≡ spent_after most tried plays.events plays.replies spent
     pub owes : left ≡ duty_after plays.events plays.replies duty
 
   -- the same of as many events as the limit says, or of fewer where each process has ended; the save that is out is the one that is
   -- owed, and one is out only at the limit
   pub record PlaysUpTo (limit : ℕ) (unsaved : Option Key) (old new : CoreValue S) : Type 0 where
     pub count : ℕ
-    pub plays : PlaysOn (tries_per_frame * old.pager.pager.size) (λ _. 0) no_duty count old new
+    pub plays : PlaysOn (tries_per_frame * old.pager.pager.size) (λ _. 0) no_duty None count old new
     pub within : count ≤ limit
     pub short : count < limit → (number : ℕ) → HasEnded new number
     pub saves_late : IsSome unsaved → count ≡ limit

@@ -1,7 +1,6 @@
--- What the driver owes: which event has to come next for what the last one was answered with.
-use Rattle.std.specs.Prelude.{◌≡◌, ℕ, ◌+◌, min, not, nat_le, ⊤, Bool, true, false, List, [], ◌∷◌, Option, Some, None, if◌then◌else◌}
+-- What the driver owes: which event has to come next for what the last one was answered with, and for how often pages were tried for.
+use Rattle.std.specs.Prelude.{◌≡◌, ℕ, ◌+◌, min, nat_le, ⊤, Bool, true, false, List, [], ◌∷◌, Option, Some, None, if◌then◌else◌}
 use Rattle.clock_policy.specs.declared.key.Key.{Key}
-use Rattle.flat_machine.specs.declared.end.KillCause.{KillCause}
 use Rattle.flat_machine.specs.declared.end.KillCause.TheVariants as cause
 use Rattle.machine_core.specs.declared.error.EventRefusal.{EventRefusal}
 use Rattle.machine_core.specs.declared.error.EventRefusal.TheVariants as refusal
@@ -9,9 +8,9 @@ use Rattle.machine_core.specs.declared.event.Event.{Event}
 use Rattle.machine_core.specs.declared.event.Event.TheVariants.{Step, Notice, Sweep, Collect, Saved, PageIn, Kill, Purge}
 use Rattle.machine_core.specs.declared.event.Reply.{Reply}
 use Rattle.machine_core.specs.declared.event.Reply.TheVariants as reply
-use Rattle.serial_driver.specs.Patience.{is_no_swap}
+use Rattle.serial_driver.specs.Patience.{tried_with, spent_with}
 
--- how many loads failed in a row within one absence, and the event that has to come next, if it is settled
+-- how many loads failed in a row within one absence, and the event that the last answer settled, if it did
 pub record Duty : Type 0 where
   pub faults : ℕ
   pub owed : Option Event
@@ -105,21 +104,29 @@ duty_after [] answers duty = duty
 duty_after (event ∷ events) [] duty = duty
 duty_after (event ∷ events) (answer ∷ answers) duty = duty_after events answers (duty_with event answer duty)
 
--- whether an event ends a process for another reason than want of a place
-abbrev pub is_other_kill : Event → Bool
-is_other_kill (Kill process cause) = not (is_no_swap cause)
-is_other_kill _ = false
+-- whether an event ends a process
+abbrev pub is_kill : Event → Bool
+is_kill (Kill process cause) = true
+is_kill _ = false
 
--- an event that is owed is the next; where none is, no process is ended but for want of a place
+-- What comes next: the event that is settled; else the end of the process that is spent, at once, for want of a place for its pages.
+abbrev pub next_owed : Option Event → Option ℕ → Option Event
+next_owed (Some owed) spent = Some owed
+next_owed None (Some process) = Some (Kill process cause.NoSwap)
+next_owed None None = None
+
+-- an event that is owed is the next; where none is, no process is ended
 abbrev pub Pays : Option Event → Event → Type 0
 Pays (Some owed) event = event ≡ owed
-Pays None event = is_other_kill event ≡ false
+Pays None event = is_kill event ≡ false
 
--- the same of events one after another
-unfoldable pub ArePaid : Duty → List Event → List Reply → Type 0
-ArePaid duty [] answers = ⊤
-ArePaid duty (event ∷ events) [] = ⊤
-ArePaid duty (event ∷ events) (answer ∷ answers) = Pays duty.owed event × ArePaid (duty_with event answer duty) events answers
+-- the same of events one after another, where a process is spent by so many tries; the counts are those before the first
+unfoldable pub ArePaid : ℕ → (ℕ → ℕ) → Duty → Option ℕ → List Event → List Reply → Type 0
+ArePaid most tried duty spent [] answers = ⊤
+ArePaid most tried duty spent (event ∷ events) [] = ⊤
+ArePaid most tried duty spent (event ∷ events) (answer ∷ answers) =
+    Pays (next_owed duty.owed spent) event
+    × ArePaid most (λ number. tried_with number event answer (tried number)) (duty_with event answer duty) (spent_with most tried event answer) events answers
 
 -- the page whose save is owed
 abbrev pub owed_save : Option Event → Option Key

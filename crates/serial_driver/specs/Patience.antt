@@ -1,7 +1,5 @@
--- How often pages of a process were tried for since it last completed an instruction, and when it may be ended for that.
-use Rattle.std.specs.Prelude.{◌≡◌, ℕ, ◌+◌, ◌≤◌, ◌==◌, ◌&&◌, ◌||◌, not, ⊤, Bool, true, false, List, [], ◌∷◌, Option, Some, None, slice_index_or, if◌then◌else◌}
-use Rattle.flat_machine.specs.declared.end.KillCause.{KillCause}
-use Rattle.flat_machine.specs.declared.end.KillCause.TheVariants as cause
+-- How often pages of a process were tried for since it last completed an instruction, and for which process that was once too often.
+use Rattle.std.specs.Prelude.{◌≡◌, ℕ, ◌+◌, ◌<◌, ◌==◌, ◌||◌, min, nat_le, not, Bool, true, false, List, [], ◌∷◌, Option, Some, None, slice_index_or, if◌then◌else◌}
 use Rattle.machine_core.specs.declared.event.Event.{Event}
 use Rattle.machine_core.specs.declared.event.Event.TheVariants.{Step, Notice, Sweep, Collect, Saved, PageIn, Kill, Purge}
 use Rattle.machine_core.specs.declared.event.Reply.{Reply}
@@ -30,17 +28,40 @@ has_failed reply.Killed = false
 has_failed reply.Purged = false
 has_failed (reply.Refused refusal) = false
 
--- the count of a process after an event with its reply: an instruction that completed begins it anew; a page-in of one of its pages
--- is counted, and so is one of its pages that failed to leave
+-- whether an event was served, whatever came of it
+abbrev pub is_served : Reply → Bool
+is_served (reply.Refused refusal) = false
+is_served _ = true
+
+-- the process for whose page an event was a try: it was to come in, or it failed to leave
+abbrev pub try_of : Event → Reply → Option ℕ
+try_of (Step process hart) answer = None
+try_of (Notice process hart) answer = None
+try_of Sweep answer = None
+try_of (Collect key) answer = if has_failed answer then Some key.process else None
+try_of (Saved key) answer = if has_failed answer then Some key.process else None
+try_of (PageIn key) answer = if is_served answer then Some key.process else None
+try_of (Kill process cause) answer = None
+try_of (Purge process) answer = None
+
+-- the process that completed an instruction
+abbrev pub run_of : Event → Reply → Option ℕ
+run_of (Step process hart) answer = if has_run answer then Some process else None
+run_of _ answer = None
+
+-- a process that completed an instruction begins its count anew
+abbrev pub renewed : ℕ → Option ℕ → ℕ → ℕ
+renewed number None tried = tried
+renewed number (Some process) tried = if number == process then 0 else tried
+
+-- one more try for a page of a process
+abbrev pub tried_again : ℕ → Option ℕ → ℕ → ℕ
+tried_again number None tried = tried
+tried_again number (Some process) tried = if number == process then tried + 1 else tried
+
+-- the count of a process after an event with its reply
 abbrev pub tried_with : ℕ → Event → Reply → ℕ → ℕ
-tried_with number (Step process hart) answer tried = if has_run answer && (number == process) then 0 else tried
-tried_with number (Notice process hart) answer tried = tried
-tried_with number Sweep answer tried = tried
-tried_with number (Collect key) answer tried = if has_failed answer && (number == key.process) then tried + 1 else tried
-tried_with number (Saved key) answer tried = if has_failed answer && (number == key.process) then tried + 1 else tried
-tried_with number (PageIn key) answer tried = if number == key.process then tried + 1 else tried
-tried_with number (Kill process cause) answer tried = tried
-tried_with number (Purge process) answer tried = tried
+tried_with number event answer tried = tried_again number (try_of event answer) (renewed number (run_of event answer) tried)
 
 -- the same after events one after another
 unfoldable pub tried_after : ℕ → List Event → List Reply → ℕ → ℕ
@@ -48,54 +69,32 @@ tried_after number [] answers tried = tried
 tried_after number (event ∷ events) [] tried = tried
 tried_after number (event ∷ events) (answer ∷ answers) tried = tried_after number events answers (tried_with number event answer tried)
 
--- whether a process is ended for want of a place for its pages
-abbrev pub is_no_swap : KillCause → Bool
-is_no_swap cause.NoSwap = true
-is_no_swap cause.LoadFailed = false
-is_no_swap cause.Damaged = false
-is_no_swap cause.ScheduleFull = false
-is_no_swap cause.NoMemory = false
-is_no_swap cause.Limit = false
+-- a process for whose page there was a try, where its count has reached a bound by that
+abbrev pub spent_of : ℕ → (ℕ → ℕ) → Option ℕ → Option ℕ
+spent_of most tried None = None
+spent_of most tried (Some process) = if nat_le most (tried process) then Some process else None
 
--- a process is ended so only where its count has reached a bound
-abbrev pub IsDue : ℕ → (ℕ → ℕ) → Event → Type 0
-IsDue most tried (Step process hart) = ⊤
-IsDue most tried (Notice process hart) = ⊤
-IsDue most tried Sweep = ⊤
-IsDue most tried (Collect key) = ⊤
-IsDue most tried (Saved key) = ⊤
-IsDue most tried (PageIn key) = ⊤
-IsDue most tried (Kill process cause) = is_no_swap cause ≡ true → most ≤ tried process
-IsDue most tried (Purge process) = ⊤
+-- the process that is spent by an event with its reply, from counts as they are before it
+abbrev pub spent_with : ℕ → (ℕ → ℕ) → Event → Reply → Option ℕ
+spent_with most tried event answer = spent_of most (λ number. tried_with number event answer (tried number)) (try_of event answer)
 
--- the same of events one after another, from counts as they are before the first
-unfoldable pub AreDue : ℕ → (ℕ → ℕ) → List Event → List Reply → Type 0
-AreDue most tried [] answers = ⊤
-AreDue most tried (event ∷ events) [] = ⊤
-AreDue most tried (event ∷ events) (answer ∷ answers) = IsDue most tried event × AreDue most (λ number. tried_with number event answer (tried number)) events answers
+-- the one that is spent by the last of events one after another, if there is an event
+unfoldable pub spent_after : ℕ → (ℕ → ℕ) → List Event → List Reply → Option ℕ → Option ℕ
+spent_after most tried [] answers spent = spent
+spent_after most tried (event ∷ events) [] spent = spent
+spent_after most tried (event ∷ events) (answer ∷ answers) spent =
+    spent_after most (λ number. tried_with number event answer (tried number)) events answers (spent_with most tried event answer)
 
 -- a process may be tried for so often, for each frame of the machine
 abbrev pub tries_per_frame : ℕ
 tries_per_frame = 64
 
--- what the driver remembers: no more than was tried, and a process is spent only where its count has reached the bound
+-- what the driver remembers: of each process of a machine, of which there are sixteen at most, how often it was tried for, up to the bound
 pub record IsPatient (most : ℕ) (tried : ℕ → ℕ) (patience : Patience) : Type 0 where
   pub bound : patience.most_tries ≡ most
-  pub within : (number : ℕ) → slice_index_or patience.tries number 0 ≤ tried number
-  pub due : (number : ℕ) → patience.spent ≡ Some number → most ≤ tried number
+  pub exact : (number : ℕ) → number < 16 → slice_index_or patience.tries number 0 ≡ min (tried number) most
 
 -- whether a step of some in a row ran
 abbrev pub any_ran : ℕ → Option Reply → Bool
 any_ran ran None = not (ran == 0)
 any_ran ran (Some answer) = not (ran == 0) || has_run answer
-
--- none is spent for an event, but a process that it ends for want of a place
-abbrev pub IsSpentBy : Patience → Event → Type 0
-IsSpentBy patience (Step process hart) = ⊤
-IsSpentBy patience (Notice process hart) = ⊤
-IsSpentBy patience Sweep = ⊤
-IsSpentBy patience (Collect key) = ⊤
-IsSpentBy patience (Saved key) = ⊤
-IsSpentBy patience (PageIn key) = ⊤
-IsSpentBy patience (Kill process cause) = is_no_swap cause ≡ true → patience.spent ≡ Some process
-IsSpentBy patience (Purge process) = ⊤

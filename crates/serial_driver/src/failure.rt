@@ -2,7 +2,6 @@
 
 ghost use Rattle.std.specs.Prelude.{◌≡◌, false};
 ghost use Rattle.serial_driver.specs.Closing.{is_limit};
-ghost use Rattle.serial_driver.specs.Patience.{is_no_swap};
 ghost use Rattle.serial_driver.specs.TurnsDuty.{cause_of};
 
 use flat_machine::KillCause;
@@ -19,11 +18,10 @@ pub(crate) enum Failure {
 }
 
 impl Failure {
-    /// The cause that the machine records. None is the limit's, and none is want of a place for its pages.
+    /// The cause that the machine records. None is the limit's.
     pub(crate) fn cause(self) -> KillCause
         ensures exact { result ≡ cause_of self }
         ensures limit { is_limit result ≡ false }
-        ensures no_swap { is_no_swap result ≡ false }
     {
         match self {
             Failure::LoadFailed => KillCause::LoadFailed,

@@ -8,9 +8,9 @@ ghost use Rattle.serial_driver.specs.Endings.{HasEnded};
 ghost use Rattle.serial_driver.specs.FlatLines.{StandsForRuns};
 ghost use Rattle.serial_driver.specs.Limit.{Closes, DoesSave, EndsByLimit, EndsOne, PlaysUpTo, PlaysWith};
 ghost use Rattle.serial_driver.specs.Nexts.{IsNext, MayCome, most_events};
-ghost use Rattle.serial_driver.specs.Owing.{no_duty, Pays};
+ghost use Rattle.serial_driver.specs.Owing.{next_owed, no_duty, Pays};
 ghost use Rattle.serial_driver.specs.TurnsDuty.{duty_of, stage_owes};
-ghost use Rattle.serial_driver.specs.Patience.{IsPatient, IsSpentBy, tries_per_frame};
+ghost use Rattle.serial_driver.specs.Patience.{IsPatient, tries_per_frame, try_of};
 ghost use Rattle.serial_driver.specs.Reporting.{Reports};
 
 use crate::harts::is_running;
@@ -75,6 +75,7 @@ fn play_events<L: Ledger, S: SwapSlot, C: Clock>(
     limit: u64,
 ) -> Option<Key>
     requires patient { IsPatient (tries_per_frame * core.old.pager.pager.size) (λ _. 0) patience.old }
+    requires spent { patience.old.spent ≡ None }
     requires free { duty_of turns.old ≡ no_duty }
     ensures { PlaysUpTo S.content S.honest S.failures limit result core.old core.new }
 {
@@ -89,8 +90,7 @@ fn play_events<L: Ledger, S: SwapSlot, C: Clock>(
 }
 
 /// What comes next where so many events may happen still, or `None` once each process has ended. A process whose pages were
-/// tried for too often is ended.
-#[tactic(auto, using(crate::proofs::Next::spent_next))]
+/// tried for too often is ended, once what the last reply has settled is done.
 fn what_is_next<L: Ledger, S: SwapSlot, C: Clock>(
     core: &Core<L, S, C>,
     turns: &mut Turns,
@@ -98,7 +98,7 @@ fn what_is_next<L: Ledger, S: SwapSlot, C: Clock>(
     allowed: u64,
 ) -> Option<Next>
     requires { 0 < allowed }
-    ensures next { IfSome result (IsNext allowed patience.now (duty_of turns.new)) }
+    ensures next { IfSome result (IsNext allowed patience.now.spent (duty_of turns.new)) }
     ensures none { IfNone result ((number : ℕ) → HasEnded core.now number) }
     ensures settled { IfNone result (stage_owes turns.new.stage ≡ None) }
     ensures kept { duty_of turns.new ≡ duty_of turns.old }
@@ -123,8 +123,8 @@ fn act<L: Ledger, S: SwapSlot, C: Clock>(
     next: Next,
 ) -> u64
     requires some { 0 < most_events next }
-    requires may_come { MayCome patience.old (duty_of turns.old) next }
-    ensures plays { (most : ℕ) (tried : ℕ → ℕ) → IsPatient most tried patience.old → PlaysWith S.content S.honest S.failures most tried (duty_of turns.old) result core.old core.new patience.new (duty_of turns.new) }
+    requires may_come { MayCome patience.old.spent (duty_of turns.old) next }
+    ensures plays { (most : ℕ) (tried : ℕ → ℕ) → IsPatient most tried patience.old → PlaysWith S.content S.honest S.failures most tried (duty_of turns.old) patience.old.spent result core.old core.new patience.new (duty_of turns.new) }
     ensures some { 0 < result }
     ensures within { result ≤ most_events next }
 {
@@ -146,9 +146,8 @@ fn apply<L: Ledger, S: SwapSlot, C: Clock>(
     event: Event,
 ) -> u64
     requires unlimited { is_limit_kill event ≡ false }
-    requires spent { IsSpentBy patience.old event }
-    requires pays { Pays (stage_owes turns.old.stage) event }
-    ensures plays { (most : ℕ) (tried : ℕ → ℕ) → IsPatient most tried patience.old → PlaysWith S.content S.honest S.failures most tried (duty_of turns.old) 1 core.old core.new patience.new (duty_of turns.new) }
+    requires pays { Pays (next_owed (stage_owes turns.old.stage) patience.old.spent) event }
+    ensures plays { (most : ℕ) (tried : ℕ → ℕ) → IsPatient most tried patience.old → PlaysWith S.content S.honest S.failures most tried (duty_of turns.old) patience.old.spent 1 core.old core.new patience.new (duty_of turns.new) }
     ensures one { result ≡ 1 }
 {
     let reply = core.apply(event);
@@ -167,8 +166,8 @@ fn run<L: Ledger, S: SwapSlot, C: Clock>(
     most: u32,
 ) -> u64
     requires some { 0 < most }
-    requires pays { Pays (stage_owes turns.old.stage) (Step process hart) }
-    ensures plays { (bound : ℕ) (tried : ℕ → ℕ) → IsPatient bound tried patience.old → PlaysWith S.content S.honest S.failures bound tried (duty_of turns.old) result core.old core.new patience.new (duty_of turns.new) }
+    requires pays { Pays (next_owed (stage_owes turns.old.stage) patience.old.spent) (Step process hart) }
+    ensures plays { (bound : ℕ) (tried : ℕ → ℕ) → IsPatient bound tried patience.old → PlaysWith S.content S.honest S.failures bound tried (duty_of turns.old) patience.old.spent result core.old core.new patience.new (duty_of turns.new) }
     ensures some { 0 < result }
     ensures within { result ≤ most }
 {

@@ -1,14 +1,13 @@
 //! Which event comes next.
 
-ghost use Rattle.std.specs.Prelude.{◌≡◌, ◌<◌, ◌≤◌, ◌+◌, ℕ, min, nat_le, IfSome, IfNone, Some, None, is_some, if◌then◌else◌};
+ghost use Rattle.std.specs.Prelude.{◌≡◌, ◌<◌, ◌≤◌, ◌+◌, ℕ, min, nat_le, IfSome, IfNone, Option, Some, None, is_some, if◌then◌else◌};
 ghost use Rattle.serial_driver.specs.Endings.{HasEnded};
 ghost use Rattle.machine_core.specs.ManySteps.{steps_of, replies_of};
 ghost use Rattle.serial_driver.specs.Nexts.{IsNext, IsOrdinary};
-ghost use Rattle.serial_driver.specs.Owing.{no_duty, most_load_faults, duty_with, duty_after, owed_save, step_owes, step_faults, stop_owes, save_owes, collect_owes, load_owes, load_faults, Duty, is_out_of_memory, is_no_memory, is_dirty};
+ghost use Rattle.serial_driver.specs.Owing.{no_duty, most_load_faults, duty_with, duty_after, owed_save, step_owes, step_faults, stop_owes, save_owes, collect_owes, load_owes, load_faults, next_owed, Duty, is_out_of_memory, is_no_memory, is_dirty};
 ghost use Rattle.serial_driver.specs.TurnsDuty.{cause_of, duty_of, stage_owes};
 ghost use Rattle.flat_machine.specs.declared.end.KillCause.TheVariants as cause;
 ghost use Rattle.machine_core.specs.declared.event.Event.TheVariants as machine;
-ghost use Rattle.serial_driver.specs.declared.patience.Patience.{Patience};
 
 use crate::failure::Failure;
 use crate::harts::{HartOf, live_hart_from, next_hart};
@@ -88,7 +87,7 @@ impl Turns {
         allowed: u64,
     ) -> Option<Next>
         requires { 0 < allowed }
-        ensures next { (patience : Patience) → IfSome result (IsNext allowed patience (duty_of self.new)) }
+        ensures next { (spent : Option ℕ) → next_owed (stage_owes self.old.stage) spent ≡ stage_owes self.old.stage → IfSome result (IsNext allowed spent (duty_of self.new)) }
         ensures none { IfNone result ((number : ℕ) → HasEnded core.now number) }
         ensures settled { IfNone result (stage_owes self.new.stage ≡ None) }
         ensures kept { duty_of self.new ≡ duty_of self.old }
@@ -166,7 +165,7 @@ impl Turns {
     /// The rest of the hart's slice, of which so many events may happen still.
     fn steps(&self, allowed: u64) -> Next
         requires { 0 < allowed }
-        ensures { (patience : Patience) → (duty : Duty) → duty.owed ≡ None → IsNext allowed patience duty result }
+        ensures { (spent : Option ℕ) → (duty : Duty) → next_owed duty.owed spent ≡ None → IsNext allowed spent duty result }
     {
         let HartOf { process, hart } = self.running;
         let most = u32::try_from(allowed)

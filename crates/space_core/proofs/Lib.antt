@@ -1,5 +1,6 @@
 pub mod StepMoves
 pub mod SliceMoves
+pub mod Shown
 pub mod Standing
 pub mod Spaces
 pub mod PlainSteps

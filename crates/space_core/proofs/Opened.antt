@@ -1,5 +1,5 @@
 -- A process that has run nothing stands for its opening.
-use Rattle.std.proofs.Common.{◌≡◌, [], ◌∷◌, ℕ, List, length, Some, is_some, option_map, ap, ◌∙◌, refl, sym}
+use Rattle.std.proofs.Common.{◌≡◌, [], ◌∷◌, ℕ, List, length, Some, option_map, ap, ◌∙◌, refl, sym}
 use Rattle.std.specs.FinMap.{from_entries}
 use Rattle.elf_image.specs.Image.{ImageContent}
 use Rattle.paged_memory.specs.Paged.{flat_page, memory_of}
@@ -7,9 +7,9 @@ use Rattle.flat_machine.specs.Process.{Process, opening, opening_pages, flat_run
 use Rattle.flat_machine.specs.Schedule.{written_out}
 use Rattle.flat_machine.specs.RunLaws.{flat_run_none}
 use Rattle.space_core.specs.RunningValue.{RunningValue, beside}
-use Rattle.space_core.specs.StandsFor.{SpaceValue, StandsFor, IsSpace, flat_with}
+use Rattle.space_core.specs.StandsFor.{SpaceValue, StandsFor, IsSpace, flat_with, rights_of}
 use Rattle.space_core.specs.Fresh.{all_fresh}
-use Rattle.space_core.proofs.Standing.{get-memory_of, some_mapped}
+use Rattle.space_core.proofs.Standing.{get-memory_of, same_rights}
 use Rattle.space_core.proofs.FreshPages.{memory_fresh}
 
 opened : (image : ImageContent) (input : List ℕ) → opening image input ≡ flat_with (beside (opening image input)) (from_entries (opening_pages image.pages))
@@ -29,7 +29,7 @@ module _ {S : Type 0} where
       record {
         memory = memory_of held space.memory.pages;
         ran = ap (λ l. flat_run (written_out l) process) schedule ∙ flat_run_none process ∙ ap Some (opened space.image space.input) ∙ (λ i. Some (flat_with (sym running i) (memory i)));
-        mapped = λ number small. ap is_some (get-memory_of held space.memory.pages number) ∙ some_mapped held _;
+        mapped = λ number small. ap rights_of (get-memory_of held space.memory.pages number) ∙ same_rights held _;
         shown = λ number page small at whole. get-memory_of held space.memory.pages number ∙ ap (option_map (flat_page held)) at;
         still = λ _. refl;
       }

@@ -1,5 +1,5 @@
 -- A page comes into a frame, is looked at, or is given up.
-use Rattle.std.proofs.Common.{◌≡◌, ℕ, ◌^◌, ◌<◌, ◌==◌, true, false, cond, List, [], ◌∷◌, All, length, map, Option, Some, None, Result, Ok, Err, OnOk, is_some, option_map, inl, inr, ap, ◌∙◌, refl, sym, subst, true≢false}
+use Rattle.std.proofs.Common.{◌≡◌, ℕ, ◌^◌, ◌<◌, ◌==◌, true, false, cond, List, [], ◌∷◌, All, length, map, Option, Some, None, Result, Ok, Err, OnOk, option_map, inl, inr, ap, ◌∙◌, refl, sym, subst, true≢false}
 use Rattle.std.specs.Prelude.{IfOk, IfErr, IfSome, IfNone, slice_index}
 use Rattle.std.proofs.lemmas.Bool.Decides.{eqb_tells}
 use Rattle.std.proofs.lemmas.List.{length-map}
@@ -24,7 +24,7 @@ use Rattle.flat_machine.specs.declared.end.End.{End}
 use Rattle.flat_machine.specs.Process.{Process, flat_run, opening}
 use Rattle.flat_machine.specs.Schedule.{written_out}
 use Rattle.space_core.specs.Caches.{emptied}
-use Rattle.space_core.specs.StandsFor.{SpaceValue, is_purged, is_purged_place, StandsFor, IsSpace}
+use Rattle.space_core.specs.StandsFor.{SpaceValue, paged_rights, is_purged, is_purged_place, StandsFor, IsSpace}
 use Rattle.space_core.proofs.Standing.{stands_on}
 use Rattle.space_core.proofs.Spaces.{space_emptied}
 
@@ -85,7 +85,7 @@ module _ {S : Type 0} where
           by_fault : (fault : PageInFault) → RefusesPageIn held honest failures frame old new tables vpn back.0 fault → StaysPurged old new
           by_fault NotAbsent how = same_purged old new how.1.0
           by_fault Device how = whole_purged old new vpn how.0 (absent_whole how.0.page.place _ _ how.0.how.stays.place)
-          by_fault NoMemory how = whole_purged old new vpn how.1.0 (absent_whole how.1.0.page.place _ _ how.1.0.how.place)
+          by_fault NoMemory how = whole_purged old new vpn how.1.0 (absent_whole how.1.0.page.place _ _ how.1.0.how.stays.place)
 
     pub space_paged_in : {U : Type 0} (failures : S → ℕ) (frame : FrameValue) (vpn : ℕ) (old : SpaceValue S) (memory : PagedValue S) (result : Result U (FrameValue × PageInFault)) → memory.caches ≡ old.memory.caches
         → OnOk result (ChangesBy (BroughtIn held honest frame) old.memory.pages memory.pages vpn) → IfErr result (λ back. RefusesPageIn held honest failures frame old.memory.pages memory.pages old.memory.tables vpn back.0 back.1)
@@ -165,11 +165,11 @@ module _ {S : Type 0} where
           at_here : (number : ℕ) → (number == gives.number) ≡ true → page_at memory.pages number ≡ Some gives.pages.page'
           at_here number here = gives.pages.changes.pages number ∙ ap (λ b. cond b (Some gives.pages.page') (page_at old.memory.pages number)) here
 
-          same_mapped : (number : ℕ) → is_some (page_at memory.pages number) ≡ is_some (page_at old.memory.pages number)
+          same_mapped : (number : ℕ) → paged_rights (page_at memory.pages number) ≡ paged_rights (page_at old.memory.pages number)
           same_mapped number =
               elim (eqb_tells number gives.number) [
-                | inl same ↦ ap is_some (at_here number same.0) ∙ sym (ap is_some (ap (page_at old.memory.pages) same.1 ∙ gives.pages.found))
-                | inr other ↦ ap is_some (at_other number other.0)
+                | inl same ↦ ap paged_rights (at_here number same.0 ∙ ap Some gives.pages.how.1) ∙ sym (ap paged_rights (ap (page_at old.memory.pages) same.1 ∙ gives.pages.found))
+                | inr other ↦ ap paged_rights (at_other number other.0)
               ]
 
           shown : (number : ℕ) (page : PageValue S) → number < 2 ^ 20 → page_at memory.pages number ≡ Some page → is_purged (Some page) ≡ false → get stands.memory number ≡ Some (flat_page held page)

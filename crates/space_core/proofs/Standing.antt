@@ -16,7 +16,7 @@ use Rattle.flat_machine.specs.Process.{Process, opening, hart_registers, is_live
 use Rattle.flat_machine.specs.RunLaws.{flat_run_append}
 use Rattle.flat_machine.specs.Schedule.{written_out}
 use Rattle.space_core.specs.RunningValue.{RunningValue, with_memory, beside}
-use Rattle.space_core.specs.StandsFor.{SpaceValue, own_ending, flat_with, is_purged, StandsFor}
+use Rattle.space_core.specs.StandsFor.{SpaceValue, own_ending, flat_with, rights_of, paged_rights, is_purged, StandsFor}
 
 kept_ending : (ending : Option End) (cause : KillCause) → own_ending (option_or ending (Some (Killed cause))) ≡ own_ending ending
 kept_ending None cause = refl
@@ -32,9 +32,9 @@ module _ {S : Type 0} where
   unfolding memory_of page_at
   get-memory_of held pages number = get-map_by-place (flat_page held) pages number
 
-  pub some_mapped : (held : S → List ℕ) (o : Option (PageValue S)) → is_some (option_map (flat_page held) o) ≡ is_some o
-  some_mapped held None = refl
-  some_mapped held (Some page) = refl
+  pub same_rights : (held : S → List ℕ) (o : Option (PageValue S)) → rights_of (option_map (flat_page held) o) ≡ paged_rights o
+  same_rights held None = refl
+  same_rights held (Some page) = refl
 
   -- ---- other pages that stand for the same memory
 
@@ -51,7 +51,7 @@ module _ {S : Type 0} where
     memory = stands.memory;
     ran = subst (λ o. o ≡ Some (flat_with new.running stands.memory)) (λ i. flat_run (sym schedule i) (opening (sym image i) (sym input i)))
         (stands.ran ∙ ap (λ r. Some (flat_with r stands.memory)) (sym running));
-    mapped = λ number small. stands.mapped number small ∙ sym (some_mapped held (page_at old.memory.pages number)) ∙ ap is_some (same_at number) ∙ some_mapped held (page_at new.memory.pages number);
+    mapped = λ number small. stands.mapped number small ∙ sym (same_rights held (page_at old.memory.pages number)) ∙ ap rights_of (same_at number) ∙ same_rights held (page_at new.memory.pages number);
     shown = λ number page small at whole.
         let found = same_flat held (page_at old.memory.pages number) page (same_at number ∙ ap (option_map (flat_page held)) at) (stays number (ap is_purged at ∙ whole)) in
         stands.shown number found.0 small found.1.0 found.1.1.0 ∙ ap Some found.1.1.1;
@@ -128,7 +128,7 @@ module _ {S : Type 0} where
         ran = (λ i. flat_run (recorded i) (opening (image i) (input i)))
             ∙ flat_run_append (written_out old.schedule) (replicate ran hart) (opening old.image old.input) (flat_with old.running stands.memory) stands.ran
             ∙ ap (flat_run (replicate ran hart)) now ∙ step ∙ ap (λ e. Some (with_memory (record new.running { ending = e }) (memory_of held new.memory.pages))) (sym left);
-        mapped = λ number small. ap is_some (get-memory_of held new.memory.pages number) ∙ some_mapped held (page_at new.memory.pages number);
+        mapped = λ number small. ap rights_of (get-memory_of held new.memory.pages number) ∙ same_rights held (page_at new.memory.pages number);
         shown = λ number page small at whole. get-memory_of held new.memory.pages number ∙ ap (option_map (flat_page held)) at;
         still = λ _. refl;
       }

@@ -1,7 +1,8 @@
 -- A process on paged memory stands for a flat process: the one that the flat run of its schedule leaves.
-use Rattle.std.specs.Prelude.{◌≡◌, ℕ, ◌^◌, ◌<◌, Bool, true, false, is_some, Option, Some, None, List, length}
+use Rattle.std.specs.Prelude.{◌≡◌, ℕ, ◌^◌, ◌<◌, Bool, true, false, Option, Some, None, option_map, List, length}
 use Rattle.std.specs.FinMap.{get}
-use Rattle.page_memory.specs.Memory.{Memory}
+use Rattle.page_memory.specs.Memory.{Page, Memory}
+use Rattle.page_memory.specs.declared.rights.Rights.{Rights}
 use Rattle.elf_image.specs.Image.{ImageContent}
 use Rattle.page_store.specs.PageValue.{PageValue, Place}
 use Rattle.page_store.specs.PageValue as place
@@ -32,6 +33,10 @@ own_ending (Some (Killed cause)) = None
 abbrev pub flat_with : RunningValue → Memory → Process
 flat_with running memory = with_memory (record running { ending = own_ending running.ending }) memory
 
+-- the rights of a page, if one is mapped
+abbrev pub rights_of : Option Page → Option Rights
+rights_of page = option_map (λ (p : Page). p.rights) page
+
 module _ {S : Type 0} where
   abbrev pub is_purged_place : Place S → Bool
   is_purged_place place.Fresh = false
@@ -46,15 +51,22 @@ module _ {S : Type 0} where
   is_purged (Some page) = is_purged_place page.place
   is_purged None = false
 
+  abbrev pub paged_rights : Option (PageValue S) → Option Rights
+  paged_rights page = option_map (λ (p : PageValue S). p.origin.rights) page
+
   -- with slots that hold this, it stands for the flat process with this memory: the schedule's run leaves that process; the same
-  -- pages are mapped; each page that was not given up shows what that memory has; and until an ending none is given up
+  -- pages are mapped, with the same rights; each page that was not given up shows what that memory has; and until an ending none is given up
   pub record StandsFor (held : S → List ℕ) (space : SpaceValue S) : Type 0 where
     pub memory : Memory
     pub ran : flat_run (written_out space.schedule) (opening space.image space.input) ≡ Some (flat_with space.running memory)
-    pub mapped : (number : ℕ) → number < 2 ^ 20 → is_some (get memory number) ≡ is_some (page_at space.memory.pages number)
+    pub mapped : (number : ℕ) → number < 2 ^ 20 → rights_of (get memory number) ≡ paged_rights (page_at space.memory.pages number)
     pub shown : (number : ℕ) (page : PageValue S) → number < 2 ^ 20 → page_at space.memory.pages number ≡ Some page → is_purged (Some page) ≡ false
         → get memory number ≡ Some (flat_page held page)
     pub still : space.running.ending ≡ None → memory ≡ memory_of held space.memory.pages
+
+  -- where slots are honest, this holds of the flat process that its schedule leaves, whatever process that is
+  abbrev pub OfFlat : Type 0 → (Process → Type 0) → SpaceValue S → Type 0
+  OfFlat honest P space = honest → (flat : Process) → flat_run (written_out space.schedule) (opening space.image space.input) ≡ Some flat → P flat
 
   -- where slots are honest it stands for a flat process, and each hart that was started has its cache
   pub record IsSpace (held : S → List ℕ) (honest : Type 0) (space : SpaceValue S) : Type 0 where

@@ -1,11 +1,12 @@
 ghost use Rattle.std.specs.Prelude.{◌≡◌, ◌<◌, ◌^◌, Some, option_map, option_copied, map, slice_get, OnSome, IfNone, OnOk, OnErr, IfErr};
 ghost use Rattle.std.specs.Option.{option_or};
 ghost use Rattle.sv32_table.specs.Entry.{blank};
-ghost use Rattle.sv32_table.specs.EntryAt.{entry_at, ChangesEntry, unaccessed_entry, dirty_of};
+ghost use Rattle.sv32_table.specs.EntryAt.{entry_at, ChangesEntry, SameTables, unaccessed_entry, dirty_of};
 ghost use Rattle.tlb_core.specs.Cache.{doomed};
 ghost use Rattle.page_store.specs.PageValue.{page_state_of};
 ghost use Rattle.paged_memory.specs.Paged.{page_at, seen_at, memory_of};
 ghost use Rattle.space_core.specs.Caches.{noticed, if_killed};
+ghost use Rattle.space_core.specs.StandsFor.{OfFlat, own_ending};
 ghost use Rattle.paged_memory.specs.Calls.{accessed_at, ChangesBy, Leaves, RefusesLeave};
 
 use crate::recorded::Recorded;
@@ -56,6 +57,7 @@ impl<L: Ledger, S: SwapSlot> Space<L, S> {
         ensures process { self.new.memory.process ≡ self.old.memory.process }
         ensures pages { self.new.memory.pages ≡ self.old.memory.pages }
         ensures tables { OnSome result (ChangesEntry self.old.memory.tables self.new.memory.tables vpn (unaccessed_entry (entry_at self.old.memory.tables vpn))) }
+        ensures tabled { SameTables self.old.memory.tables self.new.memory.tables }
         ensures caches { OnSome result (self.new.memory.caches ≡ map (doomed vpn) self.old.memory.caches) }
     {
         self.memory.test_and_clear_accessed(vpn)
@@ -72,6 +74,7 @@ impl<L: Ledger, S: SwapSlot> Space<L, S> {
         ensures process { self.new.memory.process ≡ self.old.memory.process }
         ensures memory { memory_of S.content self.new.memory.pages ≡ memory_of S.content self.old.memory.pages }
         ensures entries { OnOk result (ChangesEntry self.old.memory.tables self.new.memory.tables vpn blank) }
+        ensures tabled { SameTables self.old.memory.tables self.new.memory.tables }
         ensures caches { OnOk result (self.new.memory.caches ≡ map (doomed vpn) self.old.memory.caches) }
     {
         self.memory.begin_evict(vpn)
@@ -101,30 +104,42 @@ impl<L: Ledger, S: SwapSlot> Space<L, S> {
     }
 
     /// A hart's registers, where the hart was started.
+    #[tactic(auto, using(crate::proofs::Shown::flat_harts))]
     pub fn regs(&self, hart: u32) -> Option<&Regs>
-        ensures { option_copied result ≡ slice_get self.now.running.harts hart }
+        ensures exact { option_copied result ≡ slice_get self.now.running.harts hart }
+        ensures flat { OfFlat S.honest (λ flat. option_copied result ≡ slice_get flat.harts hart) self.now }
     {
+        self.coherent();
         self.recorded.running().regs(hart)
     }
 
     /// What was written so far.
+    #[tactic(auto, using(crate::proofs::Shown::flat_environment))]
     pub fn output(&self) -> &[u8]
-        ensures { result.now ≡ self.now.running.environment.output }
+        ensures exact { result.now ≡ self.now.running.environment.output }
+        ensures flat { OfFlat S.honest (λ flat. result.now ≡ flat.environment.output) self.now }
     {
+        self.coherent();
         self.recorded.running().output()
     }
 
     /// What was written, to be kept.
+    #[tactic(auto, using(crate::proofs::Shown::flat_environment))]
     pub fn into_output(self) -> Vec<u8>
-        ensures { result.items ≡ self.running.environment.output }
+        ensures exact { result.items ≡ self.running.environment.output }
+        ensures flat { OfFlat S.honest (λ flat. result.items ≡ flat.environment.output) self }
     {
+        self.coherent();
         self.recorded.into_output()
     }
 
     /// How the process ended, if it did.
+    #[tactic(auto, using(crate::proofs::Shown::flat_ending))]
     pub fn end(&self) -> Option<End>
-        ensures { result ≡ self.now.running.ending }
+        ensures exact { result ≡ self.now.running.ending }
+        ensures flat { OfFlat S.honest (λ flat. own_ending result ≡ flat.ending) self.now }
     {
+        self.coherent();
         self.recorded.running().end()
     }
 

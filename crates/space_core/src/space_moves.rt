@@ -1,4 +1,5 @@
 ghost use Rattle.std.specs.Prelude.{◌≡◌, ◌<◌, ◌^◌, ◌↔◌, false, IfOk, IfErr, OnOk, OnErr, IsErr};
+ghost use Rattle.sv32_table.specs.EntryAt.{SameTables};
 ghost use Rattle.paged_memory.specs.Leaving.{CollectsAt, lets_go, ChangesSaved, Frees, RefusesSaved, BringsBack, is_leaving};
 ghost use Rattle.paged_memory.specs.Paged.{page_at, memory_of};
 ghost use Rattle.paged_memory.specs.Soundness.{is_held};
@@ -37,6 +38,7 @@ impl<L: Ledger, S: SwapSlot> Space<L, S> {
     pub fn bring_back(&mut self, vpn: u32) -> Result<(), NotLeaving>
         requires { vpn < 2 ^ 20 }
         ensures ok { OnOk result (BringsBack self.old.memory.pages self.new.memory.pages self.old.memory.tables self.new.memory.tables vpn) }
+        ensures tabled { SameTables self.old.memory.tables self.new.memory.tables }
         ensures refused { IsErr result ↔ (is_leaving (page_at self.old.memory.pages vpn) ≡ false) }
         ensures err { OnErr result (self.new ≡ self.old) }
         ensures stays { self.new ≡ record self.old { memory = self.new.memory } }

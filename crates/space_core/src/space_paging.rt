@@ -2,7 +2,7 @@ ghost use Rattle.std.specs.Prelude.{◌≡◌, ◌<◌, ◌^◌, ℕ, true, fals
 ghost use Rattle.std.specs.Bool.{OnTrue, OnFalse};
 ghost use Rattle.page_memory.specs.Words.{page_number, page_offset};
 ghost use Rattle.sv32_table.specs.Entry.{page_entry};
-ghost use Rattle.sv32_table.specs.EntryAt.{ChangesEntry, AddsTable};
+ghost use Rattle.sv32_table.specs.EntryAt.{ChangesEntry, SameTables, AddsTable};
 ghost use Rattle.flat_machine.specs.Process.{Process, flat_run, opening};
 ghost use Rattle.flat_machine.specs.Schedule.{written_out};
 ghost use Rattle.paged_memory.specs.Paged.{page_at, memory_of};
@@ -72,6 +72,7 @@ impl<L: Ledger, S: SwapSlot> Space<L, S> {
     /// being saved. The page is unmapped, and given up for good. `None` where there is no such page, and before the end.
     pub fn take_one(&mut self) -> Option<(Option<Frame<L>>, Option<S>)>
         ensures given { IfSome result (λ given. GivesOne given self.old.memory.pages self.new.memory.pages self.old.memory.tables self.new.memory.tables) }
+        ensures tabled { SameTables self.old.memory.tables self.new.memory.tables }
         ensures ended { IfSome result (λ _. IsSome self.old.running.ending) }
         ensures none { IfNone result (IsSome self.old.running.ending → (q : ℕ) → q < 2 ^ 20 → GivesNothing (page_at self.old.memory.pages q)) }
         ensures left { IfNone result (self.new ≡ record self.old { memory = if_ended self.old.running.ending self.old.memory }) }

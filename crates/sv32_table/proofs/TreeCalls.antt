@@ -1,6 +1,7 @@
 -- What the calls of `Tables` do to tables that form a tree, as `PageTables` cites it.
 use Rattle.std.proofs.Common.{◌≡◌, ℕ, ◌+◌, ◌/◌, ◌%◌, ◌^◌, ◌<◌, ◌==◌, ◌||◌, ◌&&◌, Bool, true, false, cond, refl, sym, ap, ◌∙◌, subst, arith, lit≤, List, [], ◌∷◌, length, Option, Some, None, option_map, Result, Ok, Err, OnOk, OnErr}
 use Rattle.std.specs.Prelude.{is_some}
+use Rattle.std.specs.Result.{result_map_both}
 use Rattle.std.proofs.lemmas.Bool.Decides.{nat_tests}
 use Rattle.std.proofs.lemmas.List.{get_or-replicate, length-replicate}
 use Rattle.page_memory.specs.declared.words.Access.{Access}
@@ -10,9 +11,12 @@ use Rattle.sv32_table.specs.declared.fault.WalkFault.{WalkFault}
 use Rattle.sv32_table.specs.declared.walk.Leaf.{Leaf as Translation}
 use Rattle.page_memory.specs.declared.rights.Rights.{Rights}
 use Rattle.sv32_table.specs.Entry.{Entry, entry_of, word_of, shape_of, blank, leaf_entry, page_entry}
-use Rattle.sv32_table.specs.Tables.{IsSized, word_in, table_for, zero_table, pointed_by, mapped, marked, found, walked}
+use Rattle.sv32_table.specs.Tables.{IsSized, root_page, word_in, table_for, zero_table, pointed_by, mapped, marked, found, walked}
 use Rattle.sv32_table.specs.EntryAt.{entry_in, entry_at, pointed, IsTree, walk_entry, walked_entry, unmapped_entry, unaccessed_entry, valid_word, accessed_of, dirty_of, ChangesEntry, has_table, SameTables, AddsTable}
 use Rattle.sv32_table.specs.EntryWordLaws.{entry_of-word_of, software_small}
+use Rattle.sv32_table.specs.Leading.{walk_leads, LeadsByEntry}
+use Rattle.sv32_table.specs.TranslationProcess.{Success, Words, FollowsProcess, IsTranslation, physical_words, translate}
+use Rattle.sv32_table.proofs.Translation.{walk_is_translation}
 use Rattle.sv32_table.specs.WriteLaws.{table_for-pointed, few_tables, pointers_below-none}
 use Rattle.sv32_table.specs.EntryChangeLaws.{AddsTable-mapped, SameTables-marked, IsTree-mapped, entry_at-mapped, IsTree-marked, entry_at-marked, found-entry_at, walk_by_entry}
 
@@ -158,6 +162,18 @@ answer_of_walk old address access result tree fits is = is ∙ (walk_by_entry ol
 pub entries_after_walk : (old new : List (List ℕ)) (address : ℕ) (access : Access) → IsTree old → address < 2 ^ 32 → new ≡ (walked old address access).1
     → ChangesEntry old new (address / 0x1000) (walked_entry (entry_at old (address / 0x1000)) access)
 entries_after_walk old new address access tree fits is = rw is ((walk_by_entry old address access tree fits).2)
+
+-- where walks lead
+followed : (outcome : Result Success WalkFault) (old new : Words) (result : Result Translation WalkFault) → FollowsProcess outcome old result new
+    → result_map_both (λ (success : Success). success.physical) (λ (fault : WalkFault). fault) outcome ≡ result_map_both (λ (leaf : Translation). leaf.physical) (λ (fault : WalkFault). fault) result
+followed (Ok success) old new result follows = sym (ap (result_map_both (λ (leaf : Translation). leaf.physical) (λ (fault : WalkFault). fault)) follows.0)
+followed (Err fault) old new result follows = sym (ap (result_map_both (λ (leaf : Translation). leaf.physical) (λ (fault : WalkFault). fault)) follows.0)
+
+pub leads_by_entry : (tables : List (List ℕ)) → IsTree tables → LeadsByEntry tables
+unfolding walk_leads IsTranslation
+leads_by_entry tables tree address access fits =
+    followed (translate (physical_words tables) root_page address access) (physical_words tables) (physical_words (walked tables address access).1) (walked tables address access).0 (walk_is_translation tables address access tree.sized fits)
+    ∙ ap (result_map_both (λ (leaf : Translation). leaf.physical) (λ (fault : WalkFault). fault)) (walk_by_entry tables address access tree fits).0
 
 -- which pages have a table stays
 pub tables_after_mark : (old new : List (List ℕ)) (vpn : ℕ) (change : Entry → ℕ) → IsTree old → vpn < 2 ^ 20 → new ≡ marked old vpn change → SameTables old new

@@ -1,6 +1,7 @@
 ghost use Rattle.std.specs.Prelude.{◌≡◌, ◌<◌, ◌/◌, ◌^◌, List, ℕ, true, false, IfOk, IsErr, OnOk, OnErr};
 ghost use Rattle.sv32_table.specs.Entry.{blank, leaf_entry, page_entry};
 ghost use Rattle.sv32_table.specs.EntryAt.{entry_at, ChangesEntry, walk_entry, walked_entry, valid_word, unmapped_entry, accessed_of, dirty_of, unaccessed_entry, has_table, SameTables, AddsTable};
+ghost use Rattle.sv32_table.specs.Leading.{LeadsByEntry};
 ghost use Rattle.sv32_table.specs.TranslationProcess.{IsTranslation};
 
 use crate::fault::{MapFault, WalkFault};
@@ -50,6 +51,15 @@ impl PageTables {
         ensures manual { IsTranslation self.old address access result self.new }
     {
         self.tables.walk(address, access)
+    }
+
+    /// What the manual's process makes of the words that the tables stand for: each access leads where its page's entry says.
+    /// It does nothing.
+    #[tactic(auto, using(crate::proofs::TreeCalls::leads_by_entry))]
+    pub fn translates(&self)
+        ensures { LeadsByEntry self.now }
+    {
+        let _ = &self.tables;
     }
 
     /// Gives a page the leaf of this physical page with V, U, the rights, and A as given.

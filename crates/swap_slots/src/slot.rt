@@ -22,6 +22,7 @@ pub trait SwapSlot: Drop {
     /// Saves a page. A save that fails leaves open what the slot holds.
     fn save(&mut self, page: &[u8; 4096]) -> Result<(), SlotFault>
         ensures saved { honest → OnOk result (content self.new ≡ page.now) }
+        ensures passed { OnOk result (failures self.new ≡ failures self.old) }
         ensures fault { OnErr result (Rose (failures self.old) (failures self.new)) }
         ensures counted { failures self.old ≤ failures self.new };
 
@@ -29,6 +30,7 @@ pub trait SwapSlot: Drop {
     fn load(&mut self, page: &mut [u8; 4096]) -> Result<(), SlotFault>
         ensures loaded { honest → OnOk result (page.new ≡ content self.old) }
         ensures kept { honest → content self.new ≡ content self.old }
+        ensures passed { OnOk result (failures self.new ≡ failures self.old) }
         ensures fault { OnErr result (Rose (failures self.old) (failures self.new)) }
         ensures counted { failures self.old ≤ failures self.new };
 

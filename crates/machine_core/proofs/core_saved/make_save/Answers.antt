@@ -18,6 +18,7 @@ returns-clause-makes g c =
       page = c.run.ensures.vpn;
       copy = c.run.ensures.copy;
       kept = c.run.ensures.saved;
+      passed = c.run.ensures.passed;
       fault = c.run.ensures.fault;
       counted = c.run.ensures.counted;
     }

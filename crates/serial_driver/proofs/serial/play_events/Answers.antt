@@ -6,7 +6,7 @@ use Rattle.serial_driver.specs.TurnsDuty.{duty_of}
 use Rattle.serial_driver.proofs.serial.play_events.Goals as goal
 
 pub turns-init : goal.turns-init
-turns-init g c = (0, (omega arith, plays_none g.S.SwapSlot.content g.S.SwapSlot.honest g.S.SwapSlot.failures _ _ _ _ c.args.core.now c.args.patience.now c.requires.patient c.requires.free))
+turns-init g c = (0, (omega arith, plays_none g.S.SwapSlot.content g.S.SwapSlot.honest g.S.SwapSlot.failures _ _ _ _ _ c.args.core.now c.args.patience.now c.requires.patient c.requires.spent c.requires.free))
 
 pub turns-preserved : goal.turns-preserved
 turns-preserved g c =
@@ -17,7 +17,7 @@ turns-preserved g c =
       c.turns.invariant.0 + c.act-left.result,
       (
         omega (arith, sum, least, most),
-        plays_more g.S.SwapSlot.content g.S.SwapSlot.honest g.S.SwapSlot.failures _ _ _ _ _ c.turns.invariant.0 c.act-left.result _ c.args.core.now c.turns.core c.act-left.new.core c.turns.patience c.act-left.new.patience
+        plays_more g.S.SwapSlot.content g.S.SwapSlot.honest g.S.SwapSlot.failures _ _ _ _ _ _ c.turns.invariant.0 c.act-left.result _ c.args.core.now c.turns.core c.act-left.new.core c.turns.patience c.act-left.new.patience
             before (plays_from g.S.SwapSlot.content g.S.SwapSlot.honest g.S.SwapSlot.failures c.in-Some.ensures.kept (c.act-left.ensures.plays _ _ before.patient)) refl,
       ),
     )

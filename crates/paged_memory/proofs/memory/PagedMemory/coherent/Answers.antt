@@ -7,4 +7,4 @@ pub returns-clause-framed : goal.returns-clause-framed
 returns-clause-framed g c = subst (λ v. HoldsFramed v.pages v.caches) c.self.view_is (holds_framed c.self.invariant)
 
 pub returns-clause-walks : goal.returns-clause-walks
-returns-clause-walks g c = subst (λ v. WalksLead v.pages v.tables) c.self.view_is (walks_lead c.self.invariant)
+returns-clause-walks g c = subst (λ v. WalksLead v.pages v.tables) c.self.view_is (walks_lead c.self.invariant c.translates.ensures)

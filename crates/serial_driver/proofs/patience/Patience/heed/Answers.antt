@@ -1,28 +1,18 @@
 -- An event counts as it is told to.
-use Rattle.std.proofs.Common.{sym, ◌∙◌}
-use Rattle.serial_driver.specs.Patience.{tried_with}
-use Rattle.serial_driver.proofs.Tried.{patient_same, step_leaves, collect_counts, save_counts, page_in_counts}
+use Rattle.std.proofs.Common.{ℕ, Option, ap, ◌∙◌}
+use Rattle.serial_driver.specs.Patience.{renewed, tried_again, tried_with, try_of}
+use Rattle.serial_driver.proofs.Tried.{patient_same, spent_same}
 use Rattle.serial_driver.proofs.patience.Patience.heed.Goals as goal
 
-pub returns-then-has_run : goal.returns-then-has_run
-returns-then-has_run c = λ most tried patient.
-    c.renew.ensures most tried (λ number. tried_with number c.args.event c.args.reply (tried number)) patient
-    (λ number apart. step_leaves number c.in-Step.process c.in-Step.hart c.args.event c.args.reply (tried number) c.in-Step.is apart)
-
-pub returns-then-has_failed : goal.returns-then-has_failed
-returns-then-has_failed c = λ most tried patient.
+pub returns-clause-tries : goal.returns-clause-tries
+returns-clause-tries c = λ most tried patient.
     patient_same most _ (λ number. tried_with number c.args.event c.args.reply (tried number)) c.try_again.new.self
-    (λ number. collect_counts number c.in-Collect.key c.args.event c.args.reply (tried number) c.in-Collect.is (sym c.has_failed.ensures ∙ c.if-has_failed.true))
-    (c.try_again.ensures most tried patient)
+    (λ number.
+    ap (λ (p : Option ℕ). tried_again number p (renewed number c.run_of.result (tried number))) c.try_of.ensures
+    ∙ ap (λ (p : Option ℕ). tried_again number (try_of c.args.event c.args.reply) (renewed number p (tried number))) c.run_of.ensures)
+    (c.try_again.ensures.tries most _ (c.renew.ensures most tried patient))
 
-pub returns-then-has_failed-2 : goal.returns-then-has_failed-2
-returns-then-has_failed-2 c = λ most tried patient.
-    patient_same most _ (λ number. tried_with number c.args.event c.args.reply (tried number)) c.try_again-then-has_failed-2.new.self
-    (λ number. save_counts number c.in-Saved.key c.args.event c.args.reply (tried number) c.in-Saved.is (sym c.has_failed-in-Saved.ensures ∙ c.if-has_failed-2.true))
-    (c.try_again-then-has_failed-2.ensures most tried patient)
-
-pub returns-in-PageIn : goal.returns-in-PageIn
-returns-in-PageIn c = λ most tried patient.
-    patient_same most _ (λ number. tried_with number c.args.event c.args.reply (tried number)) c.try_again-in-PageIn.new.self
-    (λ number. page_in_counts number c.in-PageIn.key c.args.event c.args.reply (tried number) c.in-PageIn.is)
-    (c.try_again-in-PageIn.ensures most tried patient)
+pub returns-clause-spent : goal.returns-clause-spent
+returns-clause-spent c = λ most tried patient.
+    c.try_again.ensures.spent most _ (c.renew.ensures most tried patient)
+    ∙ spent_same most tried c.args.event c.args.reply c.run_of.result c.try_of.result c.run_of.ensures c.try_of.ensures

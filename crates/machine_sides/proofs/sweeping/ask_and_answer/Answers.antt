@@ -1,7 +1,7 @@
 -- A victim is the page of the question, which is resident.
 use Rattle.std.proofs.Common.{sym, ◌∙◌}
 use Rattle.machine_sides.proofs.Sweeps.{victim_resident, victim_told, victim_swept}
-use Rattle.machine_sides.proofs.sweeping.sweep.Goals as goal
+use Rattle.machine_sides.proofs.sweeping.ask_and_answer.Goals as goal
 
 pub evict-requires-clause-small : goal.evict-requires-clause-small
 evict-requires-clause-small g c =
@@ -19,4 +19,5 @@ returns g c = record {
         c.pager.view_is (sym c.question.ensures.exact ∙ c.in-Some.is) (victim_told c.read_bit-bit.result c.pager.inside.pager.list c.in-Victim.field-0 c.answer.result c.in-Ok.verdict c.answer.ensures.exact c.in-Ok.is c.in-Victim.is)
         c.answer.ensures.moved c.read_bit-bit.ensures.bit c.read_bit-bit.ensures.read c.evict.ensures.evicts (c.evict.ensures.purged ∙ c.read_bit-bit.ensures.purged),
   );
+  lawful = c.question.ensures.lawful;
 }

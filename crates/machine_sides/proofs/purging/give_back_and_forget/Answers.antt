@@ -2,7 +2,7 @@
 use Rattle.std.proofs.Common.{sym, ap, ◌∙◌, is_some}
 use Rattle.machine_sides.specs.Sides.{ProcessSideValue}
 use Rattle.machine_sides.specs.PurgeLaws.{unbarred, some_ended, gave_told}
-use Rattle.machine_sides.proofs.purging.purge.Goals as goal
+use Rattle.machine_sides.proofs.purging.give_back_and_forget.Goals as goal
 
 pub give_all_back-left-requires : goal.give_all_back-left-requires
 give_all_back-left-requires g c =

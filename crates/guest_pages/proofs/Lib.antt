@@ -1,0 +1,3 @@
+pub mod AccessPages
+pub mod CallPages
+pub mod StepParts

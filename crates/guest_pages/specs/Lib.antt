@@ -1,0 +1,3 @@
+pub mod Told
+pub mod InsnPages
+pub mod Yields

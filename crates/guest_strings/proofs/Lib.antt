@@ -1,0 +1,4 @@
+pub mod Places
+pub mod Staying
+pub mod Joining
+pub mod SliceSteps

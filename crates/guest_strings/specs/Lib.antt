@@ -1,0 +1,4 @@
+pub mod References
+pub mod Slices
+pub mod ToCome
+pub mod Wanting

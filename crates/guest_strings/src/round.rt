@@ -1,0 +1,20 @@
+//! Processes side by side, which run by slices.
+
+ghost use Rattle.std.specs.Prelude.{◌≤◌, ◌<◌, length};
+ghost use Rattle.guest_strings.specs.Slices.{place_of};
+
+use crate::turns::Turn;
+use flat_machine::FlatProcess;
+
+/// Processes, and whose turn it is.
+#[derive(Drop)]
+pub(crate) struct Round {
+    pub(crate) processes: Vec<FlatProcess>,
+    pub(crate) turn: Option<Turn>,
+    /// How many instructions a slice has.
+    pub(crate) slice: u32,
+    /// How many more instructions may run.
+    pub(crate) left: u64,
+    ghost few: { length processes.items ≤ 16 },
+    ghost there: { place_of turn < 128 },
+}

@@ -1,0 +1,5 @@
+//! Tests of the debugger on guests.
+#![tactic(auto)]
+
+#[cfg(test)]
+mod flat;

@@ -1,8 +1,7 @@
--- What a look at a page keeps together of the pager and the process, whatever it comes to.
+-- What a look at a page does to the list and to the process's resident pages, whatever it comes to.
 use Rattle.std.proofs.Common.{◌≡◌, ℕ, ◌+◌, Bool, refl, sym, ap, arith, subst}
 use Rattle.clock_policy.specs.declared.key.Key.{Key}
 use Rattle.clock_policy.specs.Residents.{residents}
-use Rattle.frame_pool.specs.FrameValue.{FrameValue}
 use Rattle.swap_slots.specs.PoolValue.{PoolValue}
 use Rattle.machine_sides.specs.Collecting.{Looks}
 use Rattle.machine_sides.specs.CollectLaws.{dropped_residents, dropped_together, copied_together}
@@ -19,16 +18,6 @@ module _ {S : Type 0} where
       (subst (λ (s : PagerSideValue). Together pager.pager s.pager old.space old.space) (sym same_pager) (record { listed = λ test. refl; framed = λ test. refl; size = refl; process = refl }))
 
   module _ (vpn : ℕ) (pager pager' : PagerSideValue) (old new : ProcessSideValue S) (slots slots' : PoolValue S) where
-    -- list, pages and frames go together as before, but for a frame that is handed back
-    pub looks_together : {L : Type 0} (looked : Looked L S) → Looks vpn pager pager' old new slots slots' looked → ((frame : FrameValue) → looked ≡ HandedBack frame → ⊥) → Together pager.pager pager'.pager old.space new.space
-    looks_together NotLeaving how kept = same_sides pager pager' old new how.1.pager_stays how.1.process_stays
-    looks_together NotYet how kept = same_sides pager pager' old new how.stays.pager_stays how.stays.process_stays
-    looks_together Freed how kept = dropped_together vpn pager pager' old new slots slots' how
-    looks_together (Dirty job) how kept = copied_together vpn pager pager' old new slots slots' job how
-    looks_together NoSlot how kept = back_together vpn pager pager' old new how.returns
-    looks_together (NotRestored reason) how kept = same_sides pager pager' old new how.leaves.unlisted.stays how.leaves.stays
-    looks_together (HandedBack frame) how kept = absurd (kept frame refl)
-
     -- the list gains or loses what the process's resident pages do, whatever the look comes to
     pub looks_listed : {L : Type 0} (looked : Looked L S) → Looks vpn pager pager' old new slots slots' looked → (test : Key → Bool) → residents pager'.pager.list test + residents_in old.space test ≡ residents pager.pager.list test + residents_in new.space test
     looks_listed NotLeaving how test = (same_sides pager pager' old new how.1.pager_stays how.1.process_stays).listed test

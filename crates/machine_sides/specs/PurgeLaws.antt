@@ -216,24 +216,11 @@ module _ {S : Type 0} where
   unfolding purge_bars
   unbarred process h = not_barred (is_some process.space.running.ending) (is_saving_any process.space.memory.pages) process.purged h
 
-  -- the pages' frames are free, and no page holds one
-  pub purged_frames : (pager pager' : PagerSideValue) (process process' : ProcessSideValue S) (pool pool' : PoolValue S) → PurgesAll pager pager' process process' pool pool' → (test : ℕ → Bool) → frames_in process'.space test ≡ 0
-  purged_frames pager pager' process process' pool pool' all test = given_frames process.space process'.space all.space (unbarred process all.allowed).1.0 test
-
+  -- no page holds a slot
   pub purged_slots : (pager pager' : PagerSideValue) (process process' : ProcessSideValue S) (pool pool' : PoolValue S) → PurgesAll pager pager' process process' pool pool' → slots_of process'.space.memory.pages ≡ 0
   purged_slots pager pager' process process' pool pool' all = given_slots process.space process'.space all.space (unbarred process all.allowed).1.0
 
-  -- list and pages agree then on all pages of the process
-  pub purged_agrees : (pager pager' : PagerSideValue) (process process' : ProcessSideValue S) (pool pool' : PoolValue S) → PurgesAll pager pager' process process' pool pool' → (test : Key → Bool)
-      → residents pager'.pager.list (λ q. (q.process == process'.space.memory.process) && test q) ≡ residents_in process'.space test
-  purged_agrees pager pager' process process' pool pool' all test =
-      ap (λ (p : PagerSideValue). residents p.pager.list (λ q. (q.process == process'.space.memory.process) && test q)) all.pager_is
-      ∙ purged_residents (λ q. (q.process == process'.space.memory.process) && test q) process.space.memory.process pager.pager.list
-      ∙ ap (λ n. residents pager.pager.list (λ q. not (q.process == process.space.memory.process) && ((q.process == n) && test q))) all.space.process
-      ∙ neither (λ q. q.process == process.space.memory.process) test pager.pager.list
-      ∙ sym (given_residents process.space process'.space all.space (unbarred process all.allowed).1.0 test)
-
-  -- and where they agreed before, nothing is counted on one side alone
+  -- where list and pages agreed on the process's pages, nothing is counted on one side alone
   pub purged_together : (pager pager' : PagerSideValue) (process process' : ProcessSideValue S) (pool pool' : PoolValue S) → PurgesAll pager pager' process process' pool pool'
       → ((test : Key → Bool) → residents pager.pager.list (λ q. (q.process == process.space.memory.process) && test q) ≡ residents_in process.space test)
       → Together pager.pager pager'.pager process.space process'.space

@@ -125,7 +125,7 @@ pub fn undo<L: Ledger, S: SwapSlot, C: Clock>(
     ensures handed_back { IfErr result (λ back. back ≡ admission.frame) }
     ensures kept { OnErr result (pager.new ≡ record pager.old { pager = record pager.old.pager { list = pager.new.pager.list } }) }
     ensures agree { AgreeStill None pager.old.pager pager.new.pager process.now.space process.now.space }
-    ensures settled { Lawful pager.old.pager.list → is_resident_at process.now.space admission.key.vpn ≡ false → Agree pager.new.pager process.now.space admission.key }
+    ensures settled { is_resident_at process.now.space admission.key.vpn ≡ false → Agree pager.new.pager process.now.space admission.key }
 {
     withdraw_and_free(pager, process, admission)
 }
@@ -141,7 +141,10 @@ fn withdraw_and_free<L: Ledger, S: SwapSlot, C: Clock>(
     ensures full { IsErr result ↔ (length pager.old.pager.free ≡ pager.old.pager.size) }
     ensures handed_back { IfErr result (λ back. back ≡ admission.frame) }
     ensures kept { OnErr result (pager.new ≡ record pager.old { pager = record pager.old.pager { list = pager.new.pager.list } }) }
+    ensures lawful { Lawful pager.old.pager.list }
 {
+    // A question tells that the list is lawful, so that its entry of the page is the only one.
+    let _ = pager.question();
     let Admission { key, frame } = admission;
     if !process.is_resident(key.vpn) {
         let _ = pager.pager.withdraw(key);

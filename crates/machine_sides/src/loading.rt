@@ -1,5 +1,5 @@
-ghost use Rattle.std.specs.Prelude.{◌≡◌, Some, IfErr, OnOk};
-ghost use Rattle.machine_sides.specs.Agreeing.{AgreeStill};
+ghost use Rattle.std.specs.Prelude.{◌≡◌, Some, None, IfErr, OnOk, OnErr};
+ghost use Rattle.machine_sides.specs.Agreeing.{AgreeStill, AgreesWhereListed};
 ghost use Rattle.machine_sides.specs.Loading.{Loads, DoesNotLoad};
 ghost use Rattle.machine_sides.specs.Together.{key_of};
 ghost use Rattle.pager_core.specs.Pager.{PagerState};
@@ -17,6 +17,8 @@ impl<L: Ledger, S: SwapSlot> ProcessSide<L, S> {
         ensures loaded { OnOk result (Loads S.content S.honest admission self.old.space self.new.space) }
         ensures refused { IfErr result (λ back. DoesNotLoad S.content S.honest S.failures admission back.0 back.1 self.old.space self.new.space) }
         ensures agree { OnOk result ((pager : PagerState) → AgreeStill (Some (key_of self.old.space.memory.process admission.key.vpn)) pager pager self.old.space self.new.space) }
+        ensures meets { OnOk result (AgreesWhereListed self.new.space (key_of self.old.space.memory.process admission.key.vpn)) }
+        ensures keeps { OnErr result ((pager : PagerState) → AgreeStill None pager pager self.old.space self.new.space) }
         ensures purged { self.new.purged ≡ self.old.purged }
     {
         self.bring_in(admission)

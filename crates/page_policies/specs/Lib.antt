@@ -15,3 +15,6 @@ pub mod DemandLaws
 pub mod PlayedLaws
 pub mod NextUses
 pub mod NextUseLaws
+pub mod NextPlaces
+pub mod NextPlaceLaws
+pub mod PlaceStepLaws

@@ -11,7 +11,7 @@ use Rattle.page_policies.specs.Demand.{number, MayLeave, Plays, IsPlayed}
 use Rattle.page_policies.specs.CountLaws.{Room, room_is}
 use Rattle.page_policies.specs.DemandLaws.{room_fewer}
 
-here : (p : Key) (s : List Key) → holds p (p ∷ s) ≡ true
+pub here : (p : Key) (s : List Key) → holds p (p ∷ s) ≡ true
 here p s = ap (λ (b : Bool). cond b true (holds p s)) (itself p)
   where
     itself : (p : Key) → is_page p p ≡ true

@@ -18,3 +18,4 @@ pub mod NextUseLaws
 pub mod NextPlaces
 pub mod NextPlaceLaws
 pub mod PlaceStepLaws
+pub mod SlotPlayLaws

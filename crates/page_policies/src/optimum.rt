@@ -11,11 +11,21 @@ use crate::string_uses::next_uses;
 use clock_policy::Key;
 use std::alloc::{AllocError, Global};
 use std::collections::BTreeSet;
+use std::marker::Model;
 
 /// A whole string of references, as the optimum needs it: for each how many others come before its page is used again.
 #[derive(Drop)]
 pub struct Optimum {
     uses: Vec<usize>,
+}
+
+/// Seen as these numbers.
+impl Model for Optimum {
+    ghost use Rattle.std.specs.Prelude.{ℕ, List};
+
+    ghost Value = { List ℕ };
+
+    ghost view = { λ optimum. optimum.uses.items };
 }
 
 /// The place of a next use in a string of so many references, from how many others come before it; past the end, and of its own, where
@@ -76,28 +86,33 @@ fn refer(
     }
 }
 
+/// How many references miss with so many frames, from how far ahead each page is used again.
+fn count_misses(uses: &[usize], alloc: Global, frames: Frames) -> Result<usize, AllocError>
+    ensures { IfOk result (λ count. (string : List Key) → uses.now ≡ next_uses string → count ≡ optimal_misses frames.number string) }
+{
+    let mut resident = BTreeSet::new(alloc);
+    let mut count = 0;
+    for at in 0..uses.len() {
+        let next = next_place(uses.len(), at, uses[at]);
+        if !refer(&mut resident, frames.number(), at, next)? {
+            count += 1;
+        }
+    }
+    Ok(count)
+}
+
 impl Optimum {
     pub fn new(alloc: Global, string: &[Key]) -> Result<Optimum, AllocError>
-        ensures { IfOk result (λ optimum. optimum.uses.items ≡ next_uses string.now) }
+        ensures { IfOk result (λ optimum. optimum ≡ next_uses string.now) }
     {
         let uses = next_uses(alloc, string)?;
         Ok(Optimum { uses })
     }
 
     /// How many references of the string miss with so many frames, whichever pages leave.
-    #[tactic(auto, using(crate::specs::PlaceStepLaws::served_last))]
     pub fn misses(&self, alloc: Global, frames: Frames) -> Result<usize, AllocError>
-        ensures { IfOk result (λ count. (string : List Key) → self.now.uses.items ≡ next_uses string → count ≡ optimal_misses frames.number string) }
+        ensures { IfOk result (λ count. (string : List Key) → self.now ≡ next_uses string → count ≡ optimal_misses frames.number string) }
     {
-        let mut resident = BTreeSet::new(alloc);
-        let length = self.uses.len();
-        let mut count = 0;
-        for at in 0..length {
-            let next = next_place(length, at, self.uses[at]);
-            if !refer(&mut resident, frames.number(), at, next)? {
-                count += 1;
-            }
-        }
-        Ok(count)
+        count_misses(self.uses.as_slice(), alloc, frames)
     }
 }

@@ -1,12 +1,11 @@
-use Rattle.std.proofs.Common.{◌≡◌, ℕ, ◌+◌, ◌≤◌, ◌∙◌, Bool, true, false, cond, length, arith, sym, ap}
+use Rattle.std.proofs.Common.{◌≡◌, ℕ, ◌+◌, ◌≤◌, ◌∙◌, Bool, slice_index_or, true, false, cond, length, arith, sym, ap, refl}
 use Rattle.page_policies.specs.PlaceStepLaws.{served_first, served_step, served_last, length_uses}
-use Rattle.page_policies.proofs.optimum.Optimum.misses.Goals as goal
-use Rattle.page_policies.proofs.optimum.Optimum.misses.Goals.{then-not-branch, else-not-branch}
+use Rattle.page_policies.proofs.optimum.count_misses.Goals as goal
+use Rattle.page_policies.proofs.optimum.count_misses.Goals.{then-not-branch, else-not-branch}
 
 pub loop-at-init : goal.loop-at-init
 loop-at-init c = record {
   few = omega arith;
-  length_is = c.len-length.ensures ∙ c.args.self.now.uses.ok.0;
   served = λ string is. served_first c.args.frames.number c.new-resident.result.keys string c.new-resident.ensures.empty;
 }
 
@@ -20,9 +19,8 @@ loop-at-preserved c =
     ] in
     record {
       few = more (c.in_ok-refer.field-0) c.loop-at.count c.if-not-branch.count c.loop-at.at counted few;
-      length_is = c.loop-at.invariant.length_is;
-      served = λ string is. served_step c.args.frames.number c.number.result c.loop-at.at c.len-length.result c.loop-at.count c.if-not-branch.count c.next_place-next.result c.index.result.now c.index.result.now
-          c.loop-at.resident.keys c.refer.new.resident.keys c.args.self.now.uses.items string c.in_ok-refer.field-0 c.number.ensures.number (omega (arith, least)) c.loop-at.invariant.length_is c.loop-at-test.true c.next_place-next.ensures c.index.ensures
+      served = λ string is. served_step c.args.frames.number c.number.result c.loop-at.at (length c.args.uses.now) c.loop-at.count c.if-not-branch.count c.next_place-next.result (slice_index_or c.args.uses.now c.loop-at.at 0) 0
+          c.loop-at.resident.keys c.refer.new.resident.keys c.args.uses.now string c.in_ok-refer.field-0 c.number.ensures.number (omega (arith, least)) refl c.loop-at-test.true c.next_place-next.ensures refl
           is c.in_ok-refer.ensures counted (c.loop-at.invariant.served string is);
     }
   where
@@ -35,7 +33,6 @@ loop-at-preserved c =
 
 pub returns : goal.returns
 returns c = λ string is.
-    let size = c.loop-at.invariant.length_is in
     let past = c.loop-at-test.false in
-    let long : length c.args.self.now.uses.items ≡ length string = ap length is ∙ length_uses string in
-    served_last c.args.frames.number c.loop-at.at c.loop-at.count c.loop-at.resident.keys string (omega (arith, size, past, long)) (c.loop-at.invariant.served string is)
+    let long : length c.args.uses.now ≡ length string = ap length is ∙ length_uses string in
+    served_last c.args.frames.number c.loop-at.at c.loop-at.count c.loop-at.resident.keys string (omega (arith, past, long)) (c.loop-at.invariant.served string is)

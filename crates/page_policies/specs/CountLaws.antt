@@ -115,7 +115,7 @@ pub record Room (m : ℕ) (string s r : List Key) : Type 0 where
   pub least : (t : ℕ) → near string t s ≤ m - 1 → near string t r ≡ near string t s
   pub most : (t : ℕ) → m - 1 < near string t s → near string t r ≡ m - 1
 
-length_but : (string : List Key) (q : Key) (s : List Key) → length (but_farthest string q s) ≡ length s
+pub length_but : (string : List Key) (q : Key) (s : List Key) → length (but_farthest string q s) ≡ length s
 length_but string q [] = refl
 length_but string q (r ∷ s) = elim (nat_lt (next_use q string) (next_use r string)) as (λ b. length (cond b (q ∷ but_farthest string r s) (r ∷ but_farthest string q s)) ≡ suc (length s)) [
   | true ↦ ap suc (length_but string r s)

@@ -25,6 +25,6 @@ Plays m s (p ∷ ps) n = (u : List Key) × ((later : ℕ) × (MayLeave m p s u �
 abbrev pub NoneMissesLess : Type 0
 NoneMissesLess = (frames n : ℕ) (string : List Key) → 1 ≤ frames → Plays frames [] string n → optimal_misses frames string ≤ n
 
--- what the optimum, FIFO and LRU do is such a way
+-- what the policy does is such a way
 abbrev pub IsPlayed : (ℕ → List Key → ℕ) → Type 0
 IsPlayed misses_of = (frames : ℕ) (string : List Key) → 1 ≤ frames → Plays frames [] string (misses_of frames string)

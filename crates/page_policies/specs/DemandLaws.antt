@@ -38,7 +38,7 @@ near_now p ps (q ∷ qs) = elim (is_page p q) as (λ b. one (nat_lt (cond b 0 (s
 abbrev pub Once : List Key → Type 0
 Once s = (q : Key) → number (is_page q) s ≤ 1
 
-once_more : (p : Key) (s : List Key) → Once s → holds p s ≡ false → (q : Key) → number (is_page q) (p ∷ s) ≤ 1
+pub once_more : (p : Key) (s : List Key) → Once s → holds p s ≡ false → (q : Key) → number (is_page q) (p ∷ s) ≤ 1
 once_more p s once h q = elim (is_page q p) as (λ b. is_page q p ≡ b → one b + number (is_page q) s ≤ 1) [
   | true ↦ λ is. let none : number (is_page q) s ≡ 0 = none_number q s (ap (λ (k : Key). holds k s) (same q p is) ∙ h) in omega (arith, none)
   | false ↦ λ is. let o : number (is_page q) s ≤ 1 = once q in omega (arith, o)
@@ -84,10 +84,10 @@ left_few m p ps s u t once left =
     either false false n k l h g = omega (arith, h, g)
 
 -- a hit of the optimum, and a miss
-hit_exact : (p : Key) (ps a : List Key) (t : ℕ) → Once a → holds p a ≡ true → near ps t a + 1 ≡ near (p ∷ ps) (suc t) a + one (is_near ps t p)
+pub hit_exact : (p : Key) (ps a : List Key) (t : ℕ) → Once a → holds p a ≡ true → near ps t a + 1 ≡ near (p ∷ ps) (suc t) a + one (is_near ps t p)
 hit_exact p ps a t once h = subst (λ (b : Bool). near ps t a + one b ≡ near (p ∷ ps) (suc t) a + cond (is_near ps t p) (one b) 0) h (near_stays p ps t a (once p))
 
-miss_exact : (p : Key) (ps a : List Key) (t : ℕ) → Once a → holds p a ≡ false → near ps t a ≡ near (p ∷ ps) (suc t) a
+pub miss_exact : (p : Key) (ps a : List Key) (t : ℕ) → Once a → holds p a ≡ false → near ps t a ≡ near (p ∷ ps) (suc t) a
 miss_exact p ps a t once h =
     let e : near ps t a + 0 ≡ near (p ∷ ps) (suc t) a + cond (is_near ps t p) 0 0 = subst (λ (b : Bool). near ps t a + one b ≡ near (p ∷ ps) (suc t) a + cond (is_near ps t p) (one b) 0) h (near_stays p ps t a (once p)) in
     nothing (is_near ps t p) (near ps t a) (near (p ∷ ps) (suc t) a) e
@@ -160,7 +160,7 @@ room_fewer test m string (r ∷ s) = elim (nat_lt (suc (length s)) m) as (λ b. 
           | false ↦ omega (arith, other)
         ]
 
-holds_none : (p : Key) (s : List Key) → number (is_page p) s ≡ 0 → holds p s ≡ false
+pub holds_none : (p : Key) (s : List Key) → number (is_page p) s ≡ 0 → holds p s ≡ false
 holds_none p s h = elim (holds p s) as (λ b. holds p s ≡ b → b ≡ false) [
   | true ↦ λ is. let some : 1 ≤ number (is_page p) s = some_number p s is in absurd (omega (arith, some, h))
   | false ↦ λ is. refl

@@ -15,3 +15,7 @@ pub mod DemandLaws
 pub mod PlayedLaws
 pub mod NextUses
 pub mod NextUseLaws
+pub mod NextPlaces
+pub mod NextPlaceLaws
+pub mod PlaceStepLaws
+pub mod SlotPlayLaws

@@ -11,14 +11,14 @@ use Rattle.page_policies.specs.Demand.{number, MayLeave, Plays, IsPlayed}
 use Rattle.page_policies.specs.CountLaws.{Room, room_is}
 use Rattle.page_policies.specs.DemandLaws.{room_fewer}
 
-here : (p : Key) (s : List Key) → holds p (p ∷ s) ≡ true
+pub here : (p : Key) (s : List Key) → holds p (p ∷ s) ≡ true
 here p s = ap (λ (b : Bool). cond b true (holds p s)) (itself p)
   where
     itself : (p : Key) → is_page p p ≡ true
     itself p = grind (arith, nat_tests)
 
 -- a hit that changes nothing, and a miss that lets pages go
-stays : (m : ℕ) (p : Key) (s : List Key) → holds p s ≡ true → length s ≤ m → MayLeave m p s s
+pub stays : (m : ℕ) (p : Key) (s : List Key) → holds p s ≡ true → length s ≤ m → MayLeave m p s s
 stays m p s h few = record { there = h; few = few; from = λ test. rw h (omega arith) }
 
 comes : (m : ℕ) (p : Key) (s r : List Key) → holds p s ≡ false → suc (length r) ≤ m → ((test : Key → Bool) → number test r ≤ number test s) → MayLeave m p s (p ∷ r)

@@ -2,6 +2,7 @@
 
 ghost use Rattle.page_policies.specs.Inclusion.{Inclusion};
 ghost use Rattle.page_policies.specs.Queues.{fifo_misses, lru_misses};
+ghost use Rattle.page_policies.specs.SecondChance.{clock_misses};
 ghost use Rattle.page_policies.specs.Optimal.{optimal_misses};
 ghost use Rattle.page_policies.specs.Demand.{NoneMissesLess, IsPlayed};
 
@@ -18,11 +19,12 @@ pub fn no_policy_misses_less()
     ensures { NoneMissesLess }
 {}
 
-/// The optimum can be reached: what it does is a way to serve the string. FIFO and LRU are such ways too, so that the optimum is
-/// their floor.
-#[tactic(auto, using(crate::specs::PlayedLaws::optimum_played, crate::specs::PlayedLaws::fifo_played, crate::specs::PlayedLaws::lru_played))]
+/// The optimum can be reached: what it does is a way to serve the string. FIFO, CLOCK and LRU are such ways too, so that the
+/// optimum is their floor.
+#[tactic(auto, using(crate::specs::PlayedLaws::optimum_played, crate::specs::PlayedLaws::fifo_played, crate::specs::PlayedLaws::lru_played, crate::specs::SlotPlayLaws::clock_played))]
 pub fn optimum_is_a_play()
     ensures optimum { IsPlayed optimal_misses }
     ensures fifo { IsPlayed fifo_misses }
     ensures lru { IsPlayed lru_misses }
+    ensures clock { IsPlayed clock_misses }
 {}

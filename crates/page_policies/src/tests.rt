@@ -20,6 +20,8 @@ fn counts_as_textbooks(rt: HostRuntime) -> Result<(), Fail> {
     );
     assert!(rt; Frames::new(3).is_none());
     assert!(rt; Frames::new(4097).is_none());
+    let optimum = Optimum::new(rt.alloc(), string.as_slice())?;
+    assert_eq!(rt; optimum.misses(rt.alloc(), frames)?, 6);
     more_frames_never_miss_more();
     no_policy_misses_less();
     optimum_is_a_play();

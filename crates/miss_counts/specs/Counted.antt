@@ -1,0 +1,33 @@
+-- What guests miss under each policy.
+use Rattle.std.specs.Prelude.{◌≡◌, ℕ, List, map}
+use Rattle.clock_policy.specs.declared.key.Key.{Key}
+use Rattle.flat_machine.specs.Process.{Process}
+use Rattle.guest_strings.specs.declared.reference.Reference.{Reference}
+use Rattle.guest_strings.specs.Slices.{guest_string}
+use Rattle.page_policies.specs.declared.frames.Frames.{Frames}
+use Rattle.page_policies.specs.Queues.{fifo_misses, lru_misses}
+use Rattle.page_policies.specs.SecondChance.{clock_misses}
+use Rattle.page_policies.specs.ClockProPlay.{clock_pro_misses}
+use Rattle.miss_counts.specs.declared.counts.Counts.{Counts}
+
+abbrev pub pages_of : List Reference → List Key
+pages_of references = map (λ reference. reference.page) references
+
+-- the pages of the string of references of guests by slices of so many instructions, of up to so many instructions in all
+abbrev pub guest_pages : ℕ → ℕ → List Process → List Key
+guest_pages slice limit processes = pages_of (guest_string slice limit processes)
+
+-- what each policy misses of a string with so many frames
+abbrev pub counted : List Key → Frames → Counts
+counted string frames = record {
+  frames = frames;
+  fifo = fifo_misses frames.number string;
+  clock = clock_misses frames.number string;
+  lru = lru_misses frames.number string;
+  clock_pro = clock_pro_misses frames.number string;
+}
+
+-- rows of such counts, for some numbers of frames
+pub record IsTable (string : List Key) (rows : List Counts) : Type 0 where
+  pub frames : List Frames
+  pub counted_each : rows ≡ map (counted string) frames

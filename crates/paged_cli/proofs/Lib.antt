@@ -1,3 +1,4 @@
+pub mod Given
 pub mod Reported
 pub mod Slots
 pub mod WordLines

@@ -1,6 +1,7 @@
 //! Files that commands read whole.
 
-ghost use Rattle.std.specs.Prelude.{◌≡◌, ◌≤◌, [], false, is_some, IfOk, vec_len};
+ghost use Rattle.std.specs.Prelude.{◌≡◌, ◌≤◌, ℕ, ⊤, List, [], false, is_some, IfOk, option_map, vec_len};
+ghost use Rattle.paged_cli.specs.Reading.{GivesInput};
 
 use crate::fault::Fault;
 use std::alloc::Global;
@@ -10,6 +11,25 @@ use std::rt::Files;
 
 /// The most bytes that a file may have.
 const MOST_BYTES: usize = 33_554_432;
+
+/// Where files are read from.
+pub trait Folder {
+    /// Whether a file of this name may be found to hold these bytes.
+    ghost gives: { List ℕ → List ℕ → Type 0 };
+
+    /// The bytes of a file.
+    fn read<'a>(&self, name: &'a str) -> Result<Vec<u8>, Fault<'a>>
+        ensures { IfOk result (λ bytes. gives name.now bytes.items) };
+}
+
+/// Of the system's files nothing is known before they are read.
+impl<R: Files + AllocGlobal> Folder for R {
+    ghost gives = { λ _ _. ⊤ };
+
+    fn read<'a>(&self, name: &'a str) -> Result<Vec<u8>, Fault<'a>> {
+        read_file(self, name)
+    }
+}
 
 /// The bytes of a file.
 pub fn read_file<'a, R: Files + AllocGlobal>(rt: &R, name: &'a str) -> Result<Vec<u8>, Fault<'a>>
@@ -32,14 +52,15 @@ pub fn read_file<'a, R: Files + AllocGlobal>(rt: &R, name: &'a str) -> Result<Ve
 }
 
 /// The input of a process: the bytes of a file, or none where no file is named.
-pub fn read_input<'a, R: Files + AllocGlobal>(
+pub fn read_input<'a, R: Folder + AllocGlobal>(
     rt: &R,
     name: Option<&'a str>,
 ) -> Result<Vec<u8>, Fault<'a>>
-    ensures { IfOk result (λ bytes. is_some name.entry ≡ false → bytes.items ≡ []) }
+    ensures none { IfOk result (λ bytes. is_some name.entry ≡ false → bytes.items ≡ []) }
+    ensures given { IfOk result (λ bytes. GivesInput R.gives (option_map (λ s. s.now) name.entry) bytes.items) }
 {
     match name {
-        Some(name) => read_file(rt, name),
+        Some(name) => rt.read(name),
         None => Ok(Vec::new(rt.alloc())),
     }
 }
@@ -50,6 +71,8 @@ pub fn read_text<'a, R: Files + AllocGlobal>(rt: &R, name: &'a str) -> Result<St
 }
 
 /// The text that a file's bytes are.
-pub fn text_of(bytes: Vec<u8>, name: &str) -> Result<String, Fault<'_>> {
+pub fn text_of(bytes: Vec<u8>, name: &str) -> Result<String, Fault<'_>>
+    ensures { IfOk result (λ text. text.bytes.items ≡ bytes.items) }
+{
     String::from_utf8(bytes).map_err(|_| Fault::CannotRead(name))
 }

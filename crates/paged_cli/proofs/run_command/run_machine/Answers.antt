@@ -13,7 +13,7 @@ returns g c =
     record {
       starts = starts;
       report = c.in_ok-report.report;
-      many = length-map c.in_ok-processes.processes.items _ ∙ c.in_ok-processes.ensures ∙ ap (λ l. length l) c.as_slice.ensures.value;
+      many = length-map c.in_ok-processes.processes.items _ ∙ c.in_ok-processes.ensures.many ∙ ap (λ l. length l) c.as_slice.ensures.value;
       ran = subst (λ limit. ReportsRun c.args.request.now.frames c.args.request.now.slots starts limit c.in_ok-report.report) c.from-limit.ensures c.in_ok-report.ensures;
       status_is = c.status_of_all.ensures ∙ ap (λ (l : List ProcessReport). worst_status 0 (map (λ process. process.end) l)) c.as_slice-2.ensures.value;
     }

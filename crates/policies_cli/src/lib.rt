@@ -1,0 +1,16 @@
+//! The program `policies`: how many references of a guest, or of a trace, miss under each replacement policy.
+#![tactic(auto)]
+
+mod commands;
+mod formats;
+mod guests;
+mod misses_command;
+mod program;
+mod reference_line;
+mod replay_command;
+mod request;
+mod requests;
+mod table;
+mod trace_command;
+
+pub use program::run_policies;

@@ -9,6 +9,8 @@ mod round;
 mod running;
 mod step_use;
 mod stepping;
+#[cfg(test)]
+mod tests;
 mod turns;
 mod uses;
 

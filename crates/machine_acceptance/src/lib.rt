@@ -2,6 +2,8 @@
 #![tactic(auto)]
 
 #[cfg(test)]
+mod driven;
+#[cfg(test)]
 mod failing;
 #[cfg(test)]
 mod image;

@@ -18,6 +18,23 @@ fn image(path: &str) -> elf_image::Image {
     elf_image::read_elf(Global, &std::fs::read(path).unwrap()).unwrap()
 }
 
+/// Goes to the end with no point, with a break that is never met, or with a watch of the stack's last word.
+fn debug<T: debug_core::Target>(name: &str, point: &str, target: T) {
+    let mut debugger = debug_core::Debugger::new(target);
+    match point {
+        "break" => {
+            debugger.add_break(0xFFFF_FFFC).ok().unwrap();
+        }
+        "watch" => {
+            debugger.add_watch(0x7FFF_FFFC, 4).ok().unwrap();
+        }
+        _ => {}
+    }
+    let begin = Instant::now();
+    let (why, steps) = debugger.go(1_000_000_000).unwrap();
+    println!("debug {name} {point} {why:?} steps {steps} seconds {:.3}", begin.elapsed().as_secs_f64());
+}
+
 fn main() {
     let words: Vec<String> = std::env::args().skip(1).collect();
     let words: Vec<&str> = words.iter().map(|word| word.as_str()).collect();
@@ -45,6 +62,17 @@ fn main() {
                 first.output.len(), first.steps, report.page_ins, report.victims, report.saves, report.audit
             );
         }
-        _ => panic!("flat GUEST | serial FRAMES SLICE GUEST"),
+        ["debug", point, guest] => {
+            let process = flat_machine::FlatProcess::new(Global, &image(guest), none()).unwrap();
+            debug("flat", point, process);
+        }
+        ["debug", point, frames, guest] => {
+            let frames: u32 = frames.parse().unwrap();
+            let slots = roomy((0..4096).map(|_| swap_slots::MemorySlot::new(Global).ok().unwrap()).collect());
+            let target: paged_target::PagedTarget<Brand, clock_ring::ClockRing> =
+                paged_target::PagedTarget::new(Global, frames, Blank::new(0), slots, image(guest)).ok().unwrap();
+            debug("paged", point, target);
+        }
+        _ => panic!("flat GUEST | serial FRAMES SLICE GUEST | debug none|break|watch [FRAMES] GUEST"),
     }
 }

@@ -1,6 +1,6 @@
 //! The circle with its other two hands, and the policy's single moves on it.
 
-ghost use Rattle.std.specs.Prelude.{◌≡◌, ◌≤◌, ◌<◌, ◌*◌, ◌++◌, List, [], ◌∷◌, None, cond, ◌==◌, length, IfOk, OnOk, OnErr, IfSome, option_map};
+ghost use Rattle.std.specs.Prelude.{◌≡◌, ◌≤◌, ◌<◌, ◌*◌, ◌++◌, List, [], ◌∷◌, None, cond, ◌==◌, length, IfOk, IfSome, option_map};
 ghost use Rattle.clock_policy.specs.ClockPro.{opening_state, kind_of, removed, appended, marked, sent_to_end, grown, fallen, cold_hand_on, shadowed};
 ghost use Rattle.clock_policy.specs.FrameCounts.{least_frames, most_frames};
 ghost use Rattle.clock_policy.specs.SingleMoves.{front_turned, test_hand_on};
@@ -108,20 +108,18 @@ impl Body {
 
     /// Adds an entry of a new page as the last. Hands that stand on none rest on it.
     #[inline(always)]
-    pub(crate) fn append(&mut self, entry: Entry) -> Result<(), AllocError>
+    pub(crate) fn append(&mut self, entry: Entry)
         requires new { at_of entry.key self.old.ring.cells ≡ None }
         requires room { length self.old.ring.cells < 2 * self.old.frames }
-        ensures moved { OnOk result (state_of self.new ≡ appended entry (state_of self.old)) }
-        ensures err { OnErr result (state_of self.new ≡ state_of self.old) }
+        ensures moved { state_of self.new ≡ appended entry (state_of self.old) }
     {
         let empty = self.ring.len() == 0;
-        let at = self.ring.append(entry)?;
+        let at = self.ring.append(entry);
         self.counts.put(entry.kind);
         if empty {
             self.cold_hand = at;
             self.test_hand = at;
         }
-        Ok(())
     }
 
     /// An entry becomes the last, of this kind. A hand on it goes on to its next.

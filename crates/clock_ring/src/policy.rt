@@ -1,7 +1,7 @@
 //! The policy's calls.
 
-ghost use Rattle.std.specs.Prelude.{◌≡◌, ◌≢◌, Ok, Err, None, IsOk, OnOk, OnErr};
-ghost use Rattle.clock_policy.specs.ClockPro.{kind_of, gone_on, gives_up, heeded, test_answered, cold_answered, answered, is_full, new_admitted, shadow_admitted, admitted, new_restored, shadow_restored, restored, withdrawn};
+ghost use Rattle.std.specs.Prelude.{◌≡◌, ◌≢◌, Ok, Err, None, OnErr};
+ghost use Rattle.clock_policy.specs.ClockPro.{gone_on, gives_up, heeded, test_answered, cold_answered, answered, is_full, new_admitted, shadow_admitted, admitted, new_restored, shadow_restored, restored, withdrawn};
 ghost use Rattle.clock_policy.specs.Lawful.{Lawful, HasFewEntries};
 ghost use Rattle.page_ring.specs.Index.{at_of};
 
@@ -117,9 +117,9 @@ impl Body {
     fn admit_new(&mut self, key: Key) -> Result<Kind, Refusal>
         requires few { HasFewEntries (state_of self.old) }
         requires new { at_of key self.old.ring.cells ≡ None }
-        ensures moved { OnOk result (state_of self.new ≡ (new_admitted key (state_of self.old)).0) }
-        ensures exact { result ≢ Err Refusal.NoMemory → result ≡ (new_admitted key (state_of self.old)).1 }
-        ensures memory { result ≡ Err Refusal.NoMemory → IsOk (new_admitted key (state_of self.old)).1 }
+        ensures moved { state_of self.new ≡ (new_admitted key (state_of self.old)).0 }
+        ensures exact { result ≡ (new_admitted key (state_of self.old)).1 }
+        ensures memory { result ≢ Err Refusal.NoMemory }
         ensures err { OnErr result (state_of self.new ≡ state_of self.old) }
     {
         if self.is_full() {
@@ -129,10 +129,8 @@ impl Body {
             key,
             kind: EntryKind::Test,
         };
-        match self.append(entry) {
-            Ok(()) => Ok(Kind::Test),
-            Err(_) => Err(Refusal::NoMemory),
-        }
+        self.append(entry);
+        Ok(Kind::Test)
     }
 
     #[inline(always)]
@@ -140,6 +138,7 @@ impl Body {
         requires { HoldsEntry self.old shadow }
         ensures moved { state_of self.new ≡ (shadow_admitted shadow.entry.key (state_of self.old)).0 }
         ensures exact { result ≡ (shadow_admitted shadow.entry.key (state_of self.old)).1 }
+        ensures memory { result ≢ Err Refusal.NoMemory }
         ensures err { OnErr result (state_of self.new ≡ state_of self.old) }
     {
         if self.is_full() {
@@ -154,10 +153,9 @@ impl Body {
     #[inline(always)]
     pub(crate) fn admit(&mut self, key: Key) -> Result<Kind, Refusal>
         requires { HasFewEntries (state_of self.old) }
-        ensures moved { OnOk result (state_of self.new ≡ (admitted key (state_of self.old)).0) }
-        ensures exact { result ≢ Err Refusal.NoMemory → result ≡ (admitted key (state_of self.old)).1 }
-        ensures memory { result ≡ Err Refusal.NoMemory → IsOk (admitted key (state_of self.old)).1 }
-        ensures grows { result ≡ Err Refusal.NoMemory → kind_of key (state_of self.old).entries ≡ None }
+        ensures moved { state_of self.new ≡ (admitted key (state_of self.old)).0 }
+        ensures exact { result ≡ (admitted key (state_of self.old)).1 }
+        ensures memory { result ≢ Err Refusal.NoMemory }
         ensures err { OnErr result (state_of self.new ≡ state_of self.old) }
     {
         let Some(found) = self.find(key) else {
@@ -172,9 +170,9 @@ impl Body {
     fn restore_new(&mut self, key: Key) -> Result<(), Refusal>
         requires few { HasFewEntries (state_of self.old) }
         requires new { at_of key self.old.ring.cells ≡ None }
-        ensures moved { OnOk result (state_of self.new ≡ (new_restored key (state_of self.old)).0) }
-        ensures exact { result ≢ Err Refusal.NoMemory → result ≡ (new_restored key (state_of self.old)).1 }
-        ensures memory { result ≡ Err Refusal.NoMemory → IsOk (new_restored key (state_of self.old)).1 }
+        ensures moved { state_of self.new ≡ (new_restored key (state_of self.old)).0 }
+        ensures exact { result ≡ (new_restored key (state_of self.old)).1 }
+        ensures memory { result ≢ Err Refusal.NoMemory }
         ensures err { OnErr result (state_of self.new ≡ state_of self.old) }
     {
         if self.is_full() {
@@ -184,16 +182,15 @@ impl Body {
             key,
             kind: EntryKind::Test,
         };
-        match self.append(entry) {
-            Ok(()) => Ok(()),
-            Err(_) => Err(Refusal::NoMemory),
-        }
+        self.append(entry);
+        Ok(())
     }
 
     fn restore_shadow(&mut self, shadow: Found) -> Result<(), Refusal>
         requires { HoldsEntry self.old shadow }
         ensures moved { state_of self.new ≡ (shadow_restored shadow.entry.key (state_of self.old)).0 }
         ensures exact { result ≡ (shadow_restored shadow.entry.key (state_of self.old)).1 }
+        ensures memory { result ≢ Err Refusal.NoMemory }
         ensures err { OnErr result (state_of self.new ≡ state_of self.old) }
     {
         if self.is_full() {
@@ -206,10 +203,9 @@ impl Body {
     #[tactic(auto, unfolding(clock_policy::specs::ClockPro::restored))]
     pub(crate) fn restore(&mut self, key: Key) -> Result<(), Refusal>
         requires { HasFewEntries (state_of self.old) }
-        ensures moved { OnOk result (state_of self.new ≡ (restored key (state_of self.old)).0) }
-        ensures exact { result ≢ Err Refusal.NoMemory → result ≡ (restored key (state_of self.old)).1 }
-        ensures memory { result ≡ Err Refusal.NoMemory → IsOk (restored key (state_of self.old)).1 }
-        ensures grows { result ≡ Err Refusal.NoMemory → kind_of key (state_of self.old).entries ≡ None }
+        ensures moved { state_of self.new ≡ (restored key (state_of self.old)).0 }
+        ensures exact { result ≡ (restored key (state_of self.old)).1 }
+        ensures memory { result ≢ Err Refusal.NoMemory }
         ensures err { OnErr result (state_of self.new ≡ state_of self.old) }
     {
         let Some(found) = self.find(key) else {

@@ -1,7 +1,7 @@
 //! The list as a circle of links.
 
-ghost use Rattle.std.specs.Prelude.{◌≡◌, ◌≢◌, OnOk, OnErr, IsOk, Err, None};
-ghost use Rattle.clock_policy.specs.ClockPro.{kind_of, admitted, restored};
+ghost use Rattle.std.specs.Prelude.{◌≡◌, ◌≢◌, OnErr, Err};
+ghost use Rattle.clock_policy.specs.ClockPro.{admitted, restored};
 ghost use Rattle.clock_policy.specs.Lawful.{Lawful};
 
 use crate::body::Body;
@@ -15,7 +15,7 @@ use std::marker::Model;
 /// CLOCK-Pro over a circle of links, with an index from a page to its entry and a count of each kind.
 ///
 /// A call takes constant time beside what its hands pass; `purge`, `entry` and `copy_entries` take time in the order of the list's
-/// length. Memory is taken by `new`, and behind it for the index of a new page alone.
+/// length. Memory is taken by `new`, which reserves what the list needs.
 #[derive(Drop)]
 pub struct ClockRing {
     body: Body,
@@ -59,13 +59,12 @@ impl Clock for ClockRing {
         self.body.answer(bit)
     }
 
-    /// Answers `NoMemory` for a new page alone, whose place in the index found no room.
+    /// Never answers `NoMemory`.
     #[inline(always)]
     fn admit(&mut self, key: Key) -> Result<Kind, Refusal>
-        ensures moved { OnOk result (self.new ≡ (admitted key self.old).0) }
-        ensures exact { result ≢ Err Refusal.NoMemory → result ≡ (admitted key self.old).1 }
-        ensures memory { result ≡ Err Refusal.NoMemory → IsOk (admitted key self.old).1 }
-        ensures grows { result ≡ Err Refusal.NoMemory → kind_of key self.old.entries ≡ None }
+        ensures moved { self.new ≡ (admitted key self.old).0 }
+        ensures exact { result ≡ (admitted key self.old).1 }
+        ensures memory { result ≢ Err Refusal.NoMemory }
         ensures err { OnErr result (self.new ≡ self.old) }
         ensures frames { self.new.frames ≡ self.old.frames }
         ensures lawful { Lawful self.new }
@@ -73,12 +72,11 @@ impl Clock for ClockRing {
         self.body.admit(key)
     }
 
-    /// Answers `NoMemory` for a new page alone, whose place in the index found no room.
+    /// Never answers `NoMemory`.
     fn restore(&mut self, key: Key) -> Result<(), Refusal>
-        ensures moved { OnOk result (self.new ≡ (restored key self.old).0) }
-        ensures exact { result ≢ Err Refusal.NoMemory → result ≡ (restored key self.old).1 }
-        ensures memory { result ≡ Err Refusal.NoMemory → IsOk (restored key self.old).1 }
-        ensures grows { result ≡ Err Refusal.NoMemory → kind_of key self.old.entries ≡ None }
+        ensures moved { self.new ≡ (restored key self.old).0 }
+        ensures exact { result ≡ (restored key self.old).1 }
+        ensures memory { result ≢ Err Refusal.NoMemory }
         ensures err { OnErr result (self.new ≡ self.old) }
         ensures frames { self.new.frames ≡ self.old.frames }
         ensures lawful { Lawful self.new }

@@ -48,11 +48,15 @@ run_app = with_rule (with_rule (with_rule (with_rule (with_rule (with_rule (with
     (option_rule (codes "workers"))) (option_rule (codes "slice"))) (option_rule (codes "limit"))) (option_rule (codes "input")))
     (flag_rule (codes "serial"))) (files_rule (codes "image"))
 
+-- `debug [--frames M] IMAGE`
+unfoldable pub debug_app : App
+debug_app = with_rule (with_rule (new_app (codes "debug")) (option_rule (codes "frames"))) (file_rule (codes "image"))
+
 -- the program, with no commands yet
 unfoldable pub bare_app : App
 bare_app = on_top (λ s. record s { no_binary_name = true; subcommand_required = true }) (new_app (codes "paged"))
 
 -- the program with its commands
 unfoldable pub paged_app : App
-paged_app = with_subcommand (with_subcommand (with_subcommand (with_subcommand (with_subcommand bare_app
-    asm_app.top) flat_app.top) clock_app.top) drive_app.top) run_app.top
+paged_app = with_subcommand (with_subcommand (with_subcommand (with_subcommand (with_subcommand (with_subcommand bare_app
+    asm_app.top) flat_app.top) clock_app.top) drive_app.top) run_app.top) debug_app.top

@@ -1,5 +1,5 @@
 -- The request that a command's arguments make: every default and every range.
-use Rattle.std.specs.Prelude.{◌≡◌, ℕ, ◌≤◌, List, Option, Some, None, codes, length, map, option_map, IsSomeAnd, ⊤}
+use Rattle.std.specs.Prelude.{◌≡◌, ℕ, ◌≤◌, List, Option, Some, None, codes, length, map, option_map, IfSome, IsSomeAnd, ⊤}
 use Rattle.std.specs.Str.Parse.{digits_value}
 use Rattle.clap.specs.Walk.{Row, Text, all_of, first_of}
 use Rattle.text_lines.specs.Numbers.{IsUpTo}
@@ -8,8 +8,9 @@ use Rattle.command_line.specs.declared.request.FlatRequest.{FlatRequest}
 use Rattle.command_line.specs.declared.request.ClockRequest.{ClockRequest}
 use Rattle.command_line.specs.declared.request.DriveRequest.{DriveRequest}
 use Rattle.command_line.specs.declared.request.RunRequest.{RunRequest}
+use Rattle.command_line.specs.declared.request.DebugRequest.{DebugRequest}
 use Rattle.command_line.specs.declared.request.Request.{Request}
-use Rattle.command_line.specs.declared.request.Request.TheVariants.{Asm, Flat, Clock, Drive, Run}
+use Rattle.command_line.specs.declared.request.Request.TheVariants.{Asm, Flat, Clock, Drive, Run, Debug}
 
 -- what numbers are where no option tells them, and their bounds: frames and slots of a machine, instructions of a slice and of a
 -- whole run, threads, images
@@ -62,6 +63,11 @@ abbrev pub IsOption : ℕ → ℕ → ℕ → ℕ → Option Text → Type 0
 IsOption default least most number None = number ≡ default
 IsOption default least most number (Some text) = IsNumberFrom least most number text
 
+-- the number of an option, in a range, if the option is given
+abbrev pub IsNumberIfGiven : ℕ → ℕ → Option ℕ → Option Text → Type 0
+IsNumberIfGiven least most number None = number ≡ None
+IsNumberIfGiven least most number (Some text) = IsSomeAnd number (λ given. IsNumberFrom least most given text)
+
 -- the files of the images, in their order
 abbrev pub AreImages : List Row → List Text → Type 0
 AreImages rows names = (all_of (codes "image") rows ≡ Some names) × (length names ≤ most_images)
@@ -99,6 +105,10 @@ pub record AsksRun (rows : List Row) (request : RunRequest) : Type 0 where
   pub serial : IsSerial rows
   pub images_are : AreImages rows (map (λ s. s.now) request.images.items)
 
+abbrev pub AsksDebug : List Row → DebugRequest → Type 0
+AsksDebug rows request = IsNumberIfGiven least_frames most_frames request.frames (first_of (codes "frames") rows)
+    × (first_of (codes "image") rows ≡ Some request.image.now)
+
 -- what a command asks for, by its name and its arguments
 abbrev pub Asks : Text → List Row → Request → Type 0
 Asks name rows (Asm request) = (name ≡ codes "asm") × AsksAsm rows request
@@ -106,6 +116,7 @@ Asks name rows (Flat request) = (name ≡ codes "flat") × AsksFlat rows request
 Asks name rows (Clock request) = (name ≡ codes "clock") × AsksClock rows request
 Asks name rows (Drive request) = (name ≡ codes "drive") × AsksDrive rows request
 Asks name rows (Run request) = (name ≡ codes "run") × AsksRun rows request
+Asks name rows (Debug request) = (name ≡ codes "debug") × AsksDebug rows request
 
 -- of the command that was found among the words, with its arguments
 abbrev pub IsAsked : Option (Text × List Row) → Request → Type 0
@@ -128,9 +139,13 @@ abbrev pub IsRunInRange : RunRequest → Type 0
 IsRunInRange request = IsFrom least_frames most_frames request.frames × (request.slots ≤ most_slots) × IsFrom 1 longest_slice request.slice
     × IsFrom 1 highest_limit request.limit × (length request.images.items ≤ most_images)
 
+abbrev pub IsDebugInRange : DebugRequest → Type 0
+IsDebugInRange request = IfSome request.frames (IsFrom least_frames most_frames)
+
 abbrev pub IsInRange : Request → Type 0
 IsInRange (Asm request) = ⊤
 IsInRange (Flat request) = IsFlatInRange request
 IsInRange (Clock request) = IsClockInRange request
 IsInRange (Drive request) = IsDriveInRange request
 IsInRange (Run request) = IsRunInRange request
+IsInRange (Debug request) = IsDebugInRange request

@@ -4,7 +4,7 @@ ghost use Rattle.std.specs.Prelude.{◌≡◌, IfOk, false};
 ghost use Rattle.clap.specs.Simple.{app_of};
 ghost use Rattle.clap.specs.Walk.{rule_of};
 ghost use Rattle.clap.specs.declared.builder.command.Command.TheViews.{out-Command};
-ghost use Rattle.command_line.specs.Commands.{paged_app, bare_app, asm_app, flat_app, clock_app, drive_app, run_app, file_rule, files_rule, option_rule, flag_rule, with_size};
+ghost use Rattle.command_line.specs.Commands.{paged_app, bare_app, asm_app, flat_app, clock_app, drive_app, run_app, debug_app, file_rule, files_rule, option_rule, flag_rule, with_size};
 
 use clap::{Arg, ArgAction, Command};
 use std::alloc::{AllocError, Global};
@@ -13,13 +13,14 @@ pub fn paged<'a>(alloc: Global) -> Result<Command<'a>, AllocError>
     ensures read_as { IfOk result (λ command. app_of command ≡ paged_app) }
 {
     let (asm, flat, clock) = (asm(alloc)?, flat(alloc)?, clock(alloc)?);
-    let (drive, run) = (drive(alloc)?, run(alloc)?);
+    let (drive, run, debug) = (drive(alloc)?, run(alloc)?, debug(alloc)?);
     bare(alloc)
         .subcommand(asm)?
         .subcommand(flat)?
         .subcommand(clock)?
         .subcommand(drive)?
-        .subcommand(run)
+        .subcommand(run)?
+        .subcommand(debug)
 }
 
 fn bare<'a>(alloc: Global) -> Command<'a>
@@ -79,6 +80,15 @@ fn run<'a>(alloc: Global) -> Result<Command<'a>, AllocError>
         .arg(option(alloc, "input"))?
         .arg(flag(alloc, "serial"))?
         .arg(files(alloc, "image"))
+}
+
+fn debug<'a>(alloc: Global) -> Result<Command<'a>, AllocError>
+    ensures read_as { IfOk result (λ command. app_of command ≡ debug_app) }
+    ensures local { IfOk result (λ command. (out-Command command).has_globals ≡ false) }
+{
+    Command::new(alloc, "debug")
+        .arg(option(alloc, "frames"))?
+        .arg(file(alloc, "image"))
 }
 
 /// The command with options for the size of its machine.

@@ -8,6 +8,7 @@ mod values;
 mod words;
 
 pub use request::{
-    AsmRequest, ClockRequest, DriveRequest, FlatRequest, Request, RunRequest, UsageError,
+    AsmRequest, ClockRequest, DebugRequest, DriveRequest, FlatRequest, Request, RunRequest,
+    UsageError,
 };
 pub use words::read_request;

@@ -9,6 +9,7 @@ pub enum Request<'a> {
     Clock(ClockRequest<'a>),
     Drive(DriveRequest<'a>),
     Run(RunRequest<'a>),
+    Debug(DebugRequest<'a>),
 }
 
 /// Assemble a source into an ELF file.
@@ -57,6 +58,14 @@ pub struct RunRequest<'a> {
     /// The file whose bytes the first process reads, if there is one.
     pub input: Option<&'a str>,
     pub images: Vec<&'a str>,
+}
+
+/// Converse with a debugger of an image.
+#[derive(Clone, Copy, Debug)]
+pub struct DebugRequest<'a> {
+    /// On how many frames it runs; on flat memory where there is no number.
+    pub frames: Option<u32>,
+    pub image: &'a str,
 }
 
 /// Why the words make no request.

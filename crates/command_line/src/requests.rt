@@ -3,15 +3,18 @@
 ghost use Rattle.std.specs.Prelude.{◌≡◌, IfOk, IfErr, IsErr, Err};
 ghost use Rattle.clap.specs.Matches.{found_of};
 ghost use Rattle.clap.specs.Walk.{rows_of};
-ghost use Rattle.command_line.specs.Requests.{AsksAsm, AsksFlat, AsksClock, AsksDrive, AsksRun, IsSerial, IsFlatInRange, IsClockInRange, IsDriveInRange, IsRunInRange};
+ghost use Rattle.command_line.specs.Requests.{AsksAsm, AsksFlat, AsksClock, AsksDrive, AsksRun, AsksDebug, IsSerial, IsFlatInRange, IsClockInRange, IsDriveInRange, IsRunInRange, IsDebugInRange};
 ghost use Rattle.command_line.specs.declared.request.AsmRequest.{AsmRequest};
 ghost use Rattle.command_line.specs.declared.request.FlatRequest.{FlatRequest};
 ghost use Rattle.command_line.specs.declared.request.ClockRequest.{ClockRequest};
 ghost use Rattle.command_line.specs.declared.request.DriveRequest.{DriveRequest};
 ghost use Rattle.command_line.specs.declared.request.RunRequest.{RunRequest};
+ghost use Rattle.command_line.specs.declared.request.DebugRequest.{DebugRequest};
 
-use crate::request::{AsmRequest, ClockRequest, DriveRequest, FlatRequest, RunRequest, UsageError};
-use crate::values::{found, images, in_range, is_given, limit, number_or, value};
+use crate::request::{
+    AsmRequest, ClockRequest, DebugRequest, DriveRequest, FlatRequest, RunRequest, UsageError,
+};
+use crate::values::{found, images, in_range, is_given, limit, number_if_given, number_or, value};
 use clap::ArgMatches;
 use std::alloc::Global;
 
@@ -96,6 +99,17 @@ pub fn run_request<'a>(
         input,
         images,
     })
+}
+
+pub fn debug_request<'a>(matches: &ArgMatches<'a>) -> Result<DebugRequest<'a>, UsageError>
+    ensures in_range { IfOk result IsDebugInRange }
+    ensures asked { IfOk result (AsksDebug (rows_of (found_of matches.now))) }
+    ensures bad { IsErr result → (request : DebugRequest) → ¬ AsksDebug (rows_of (found_of matches.now)) request }
+    ensures refused { IfErr result (λ error. error ≡ UsageError.BadUsage) }
+{
+    let frames = number_if_given(matches, "frames", 4, 4096)?;
+    let image = value(matches, "image")?;
+    Ok(DebugRequest { frames, image })
 }
 
 /// Whether all runs on one thread, as it has to today. A number of workers is looked at all the same.

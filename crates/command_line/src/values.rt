@@ -1,10 +1,10 @@
 //! What the arguments of a command are.
 
-ghost use Rattle.std.specs.Prelude.{ℕ, ◌≡◌, ◌≤◌, ◌↔◌, IfOk, IfErr, IsErr, IsTrue, List, OkIff, Err, None, Some, codes, map, option_map};
+ghost use Rattle.std.specs.Prelude.{ℕ, Option, IfSome, ◌≡◌, ◌≤◌, ◌↔◌, IfOk, IfErr, IsErr, IsTrue, List, OkIff, Err, None, Some, codes, map, option_map};
 ghost use Rattle.std.specs.Str.Parse.{digits_value};
 ghost use Rattle.clap.specs.Matches.{found_of};
 ghost use Rattle.clap.specs.Walk.{all_of, first_of, rows_of};
-ghost use Rattle.command_line.specs.Requests.{AreImages, IsBetween, IsOption, usual_limit, highest_limit};
+ghost use Rattle.command_line.specs.Requests.{AreImages, IsBetween, IsNumberIfGiven, IsOption, usual_limit, highest_limit};
 
 use crate::request::UsageError;
 use clap::ArgMatches;
@@ -94,6 +94,24 @@ pub fn number_or(
     match found(matches, name) {
         Some(text) => in_range(text, least, most),
         None => Ok(default),
+    }
+}
+
+/// The number of an option, in a range, if it is given.
+pub fn number_if_given(
+    matches: &ArgMatches<'_>,
+    name: &str,
+    least: u32,
+    most: u32,
+) -> Result<Option<u32>, UsageError>
+    ensures number { IfOk result (λ number. IsNumberIfGiven least most number (first_of name.now (rows_of (found_of matches.now)))) }
+    ensures bad { IsErr result → (number : Option ℕ) → ¬ IsNumberIfGiven least most number (first_of name.now (rows_of (found_of matches.now))) }
+    ensures within { IfOk result (λ number. IfSome number (λ number. (least ≤ number) × (number ≤ most))) }
+    ensures refused { IfErr result (λ error. error ≡ UsageError.BadUsage) }
+{
+    match found(matches, name) {
+        Some(text) => Ok(Some(in_range(text, least, most)?)),
+        None => Ok(None),
     }
 }
 

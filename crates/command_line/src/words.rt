@@ -12,7 +12,9 @@ ghost use Rattle.command_line.specs.declared.request.Request.{Request};
 
 use crate::commands::paged;
 use crate::request::{Request, UsageError};
-use crate::requests::{asm_request, clock_request, drive_request, flat_request, run_request};
+use crate::requests::{
+    asm_request, clock_request, debug_request, drive_request, flat_request, run_request,
+};
 use clap::ArgMatches;
 use clap::error::ErrorKind;
 use std::alloc::Global;
@@ -76,6 +78,7 @@ fn named_request<'a>(
         "clock" => Ok(Request::Clock(clock_request(matches)?)),
         "drive" => Ok(Request::Drive(drive_request(alloc, matches)?)),
         "run" => Ok(Request::Run(run_request(alloc, matches)?)),
+        "debug" => Ok(Request::Debug(debug_request(matches)?)),
         _ => Err(UsageError::BadUsage),
     }
 }

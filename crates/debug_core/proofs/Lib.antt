@@ -1,4 +1,4 @@
 pub mod Passing
 pub mod Points
-pub mod Reading
+pub mod Trimmed
 pub mod Watching

@@ -1,6 +1,7 @@
 pub mod Debugging
 pub mod Points
 pub mod Progresses
+pub mod ReadingLaws
 pub mod RefusalNumber
 pub mod Seen
 pub mod Stops

@@ -1,4 +1,4 @@
-ghost use Rattle.std.specs.Prelude.{◌≡◌, ◌⊎◌, ℕ, ◌<◌, ◌≤◌, true, false, Some, None, IfSome, IfOk, IfErr, OnOk, OnErr, slice_set, replicate};
+ghost use Rattle.std.specs.Prelude.{◌≡◌, ◌⊎◌, ℕ, ◌<◌, ◌≤◌, length, true, false, Some, None, IfSome, IfOk, IfErr, OnOk, OnErr, slice_set, replicate};
 ghost use Rattle.flat_machine.specs.ByTurns.{first_turn};
 ghost use Rattle.flat_machine.specs.Process.{hart_registers, is_live};
 ghost use Rattle.debug_core.specs.Debugging.{first_moment, lowest_free, AddsPoint, RefusesStep, StepsOnce};
@@ -129,13 +129,22 @@ impl<T: Target> Debugger<T> {
     /// # Errors
     ///
     /// Want of memory for a step; the steps before it stand.
+    #[tactic(auto, using(crate::proofs::Trimmed::points_trimmed))]
     pub fn go(&mut self, limit: u64) -> Result<(Why, u64), AllocError>
         ensures stops { IfOk result (λ stop. Stops self.old.points limit stop.0 stop.1 (first_moment (T.shown self.old.target) self.old.turn) self.new.turn (T.shown self.new.target)) }
         ensures wants { OnErr result (Wants self.old.points limit (first_moment (T.shown self.old.target) self.old.turn) self.new.turn (T.shown self.new.target)) }
         ensures points { self.new.points ≡ self.old.points }
     {
         let points = self.points;
-        run(&mut self.target, &mut self.turn, &points, limit)
+        let used = used(&points);
+        run(&mut self.target, &mut self.turn, &points[..used], limit)
+    }
+
+    /// Whose turn it is.
+    pub fn turn(&self) -> u32
+        ensures { result ≡ self.now.turn }
+    {
+        self.turn
     }
 
     /// A hart's registers.
@@ -163,6 +172,19 @@ fn first_turn<T: Target>(target: &T) -> u32
         return 0;
     }
     target.turn_after(0)
+}
+
+/// How many numbers there are up to the highest that has a point.
+#[tactic(auto, using(crate::proofs::Trimmed::none_past, crate::proofs::Trimmed::none_more))]
+fn used(points: &[Option<Point>]) -> usize
+    ensures within { result ≤ length points.now }
+    ensures none { (number : ℕ) → result ≤ number → point_at points.now number ≡ None }
+{
+    let mut used = points.len();
+    'points: while used > 0 && points[used - 1].is_none() {
+        used -= 1;
+    }
+    used
 }
 
 /// Whether so many bytes from an address on are one at least and so many at most, and stay below 2^32.

@@ -73,11 +73,10 @@ pub trait Target: Drop {
         ensures err { OnErr result (shown self.new ≡ shown self.old) };
 
     /// Reads the bytes from an address on, as many as there are places; `None` where no page is mapped. What the process shows
-    /// stays.
+    /// stays. Where it fails, what is in the places is open.
     fn read(&mut self, address: u32, bytes: &mut [Option<u8>]) -> Result<(), ReadFault>
         requires { address + length bytes.old ≤ 2 ^ 32 }
         ensures ok { OnOk result (bytes.new ≡ bytes_from (shown self.old).memory address (length bytes.old)) }
         ensures refused { IfErr result (fails self.old address (length bytes.old)) }
-        ensures err { OnErr result (bytes.new ≡ bytes.old) }
         ensures shown { shown self.new ≡ shown self.old };
 }

@@ -1,22 +1,11 @@
 -- A drive script: the events that its lines write, and its first bad line.
 use Rattle.std.specs.Prelude.{◌≡◌, ◌⊎◌, ◌+◌, ℕ, List, [], ◌∷◌, ◌++◌, Option, Some, None, codes, length}
 use Rattle.text_lines.specs.Text.{words_of}
-use Rattle.text_lines.specs.Numbers.{IsNumber, number_value}
 use Rattle.flat_machine.specs.Ending.{kill_number}
+use Rattle.script_lines.specs.Calls.{AreNameAndNumber, AreNameAndNumbers}
 use Rattle.machine_core.specs.declared.event.Event.{Event}
 use Rattle.machine_core.specs.declared.event.Event.TheVariants.{Step, Notice, Sweep, Collect, Saved, PageIn, Kill, Purge}
-use Rattle.event_scripts.specs.Lines.{IsSkipped}
-
--- a word that writes this number, of 32 bits
-abbrev pub Writes : List ℕ → ℕ → Type 0
-Writes word number = IsNumber 4294967295 word × (number ≡ number_value word)
-
-abbrev pub AreNameAndNumber : List ℕ → ℕ → List (List ℕ) → Type 0
-AreNameAndNumber name number words = (word : List ℕ) × (words ≡ name ∷ word ∷ []) × Writes word number
-
-abbrev pub AreNameAndNumbers : List ℕ → ℕ → ℕ → List (List ℕ) → Type 0
-AreNameAndNumbers name one two words = (first : List ℕ) × ((second : List ℕ) ×
-    (words ≡ name ∷ first ∷ second ∷ []) × Writes first one × Writes second two)
+use Rattle.script_lines.specs.Lines.{IsSkipped}
 
 -- the words with which an event is written
 abbrev pub WritesEvent : Event → List (List ℕ) → Type 0

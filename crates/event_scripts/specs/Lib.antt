@@ -1,4 +1,3 @@
 pub mod ClockScript
 pub mod DriveScript
-pub mod Lines
 pub mod ReplyText

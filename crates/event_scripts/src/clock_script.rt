@@ -4,11 +4,11 @@ ghost use Rattle.std.specs.Prelude.{◌≡◌, ◌↔◌, ◌∷◌, [], IfOk, I
 ghost use Rattle.std.specs.Option.{SomeIff};
 ghost use Rattle.text_lines.specs.Text.{words_of};
 ghost use Rattle.event_scripts.specs.ClockScript.{WritesCall, IsKey, key_value, is_slash};
-ghost use Rattle.event_scripts.specs.Lines.{IsSkipped};
+ghost use Rattle.script_lines.specs.Lines.{IsSkipped};
 ghost use Rattle.event_scripts.specs.declared.clock_script.ClockCall.{ClockCall};
 
-use crate::lines::{BadLine, is_skipped};
 use clock_policy::{Bit, Key};
+use script_lines::{BadLine, is_skipped};
 use text_lines::{next_word, number, numeral};
 
 /// The highest number of a process in a script.

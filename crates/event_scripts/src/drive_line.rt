@@ -1,18 +1,16 @@
 //! The lines of a drive script.
 
 ghost use Rattle.std.specs.Prelude.{◌≡◌, ◌↔◌, ◌∷◌, [], IfOk, IfSome, IsErr, None, Ok};
-ghost use Rattle.std.specs.Option.{SomeIff};
-ghost use Rattle.text_lines.specs.Numbers.{IsNumber, number_value};
 ghost use Rattle.text_lines.specs.Text.{words_of};
 ghost use Rattle.machine_core.specs.declared.event.Event.{Event};
 ghost use Rattle.event_scripts.specs.DriveScript.{WritesEvent};
-ghost use Rattle.event_scripts.specs.Lines.{IsSkipped};
+ghost use Rattle.script_lines.specs.Lines.{IsSkipped};
 
-use crate::lines::{BadLine, is_skipped};
 use clock_policy::Key;
 use flat_machine::KillCause;
 use machine_core::Event;
-use text_lines::{next_word, number};
+use script_lines::{BadLine, is_skipped, word_number};
+use text_lines::next_word;
 
 /// The event that a line of a drive script writes, if it is not skipped.
 pub fn event_on_line(line: &[u8]) -> Result<Option<Event>, BadLine>
@@ -108,11 +106,4 @@ fn event_of_two(name: &[u8], first: &[u8], second: &[u8]) -> Option<Event>
     } else {
         None
     }
-}
-
-/// The number that a word writes, of 32 bits.
-fn word_number(word: &[u8]) -> Option<u32>
-    ensures { SomeIff result (IsNumber 4294967295 word.now) (number_value word.now) }
-{
-    number(word, u32::MAX)
 }

@@ -4,7 +4,6 @@
 mod clock_script;
 mod drive_line;
 mod drive_script;
-mod lines;
 mod reply_line;
 #[cfg(test)]
 mod tests;
@@ -12,5 +11,4 @@ mod tests;
 pub use clock_script::{ClockCall, call_on_line};
 pub use drive_line::event_on_line;
 pub use drive_script::{DriveScript, read_drive_script};
-pub use lines::BadLine;
 pub use reply_line::ReplyLine;

@@ -1,7 +1,8 @@
-use crate::{BadLine, event_on_line, read_drive_script};
+use crate::{event_on_line, read_drive_script};
 use clock_policy::Key;
 use flat_machine::KillCause;
 use machine_core::Event;
+use script_lines::BadLine;
 use std::test::Fail;
 
 #[test]

@@ -6,7 +6,7 @@ use std::io::Write;
 
 /// The words that each guest is run on, and options for the machine of four frames alone. The harts of `words.elf` wait for
 /// one another, so that its steps are counted alike where they take turns as on flat memory: one instruction each.
-const GUESTS: [(&str, &str); 13] = [
+const GUESTS: [(&str, &str); 14] = [
     ("hi.words", ""),
     ("p8.s", ""),
     ("p11.s", ""),
@@ -16,6 +16,7 @@ const GUESTS: [(&str, &str); 13] = [
     ("columns.s", ""),
     ("by_rows.s", ""),
     ("by_columns.s", ""),
+    ("wrong_sort.s", ""),
     ("c/queens.elf", ""),
     ("c/mandelbrot.elf", ""),
     ("--input c/address.txt c/words.elf", "--slice 1 "),

@@ -5,9 +5,12 @@
 mod guests;
 mod lines;
 mod run;
+mod table_runs;
+mod tables;
 
 use crate::guests::show_guests;
 use crate::lines::show_lines;
+use crate::tables::show_tables;
 use std::io;
 use std::io::{BufWriter, Write};
 use std::process::ExitCode;
@@ -23,5 +26,6 @@ fn show_all(rt: &HostRuntime) -> io::Result<()> {
     let mut out = BufWriter::new(rt.alloc(), io::writer(rt))?;
     show_guests(rt, &mut out)?;
     show_lines(rt, &mut out)?;
+    show_tables(rt, &mut out)?;
     out.flush()
 }

@@ -6,7 +6,8 @@ use Rattle.machine_core.proofs.Cores.{alike_machine, step_alike, lent_back}
 use Rattle.machine_core.specs.TotalLaws.{got_set, get_set_same}
 use Rattle.machine_core.specs.Applying.{Applies, Runs}
 use Rattle.machine_core.specs.ApplyingLaws.{runs_none, runs_more}
-use Rattle.machine_core.specs.Faithful.{EachStands, IsFaithful}
+use Rattle.machine_core.specs.Coherent.{IsCoherent, EachCoherent}
+use Rattle.machine_core.specs.Faithful.{IsFaithful}
 use Rattle.machine_core.specs.Machine.{CoreValue}
 use Rattle.machine_core.specs.MachineRun.{step_reply, hart_reason, hart_refusal, of_process, ChangesOne}
 use Rattle.machine_sides.specs.ProcessCalls.{Slices, StepsOnce, SlicesOn, SliceEnds, SlicesMany}
@@ -15,7 +16,7 @@ use Rattle.machine_core.specs.declared.error.EventRefusal.TheVariants as refusal
 use Rattle.machine_core.specs.declared.event.Event.TheVariants.{Step}
 use Rattle.machine_core.specs.declared.event.Reply.{Reply}
 use Rattle.machine_core.specs.declared.event.Reply.TheVariants.{Ran}
-use Rattle.space_core.specs.StandsFor.{SpaceValue, StandsFor}
+use Rattle.space_core.specs.StandsFor.{SpaceValue}
 use Rattle.space_core.specs.declared.progress.SliceStop.{SliceStop}
 use Rattle.space_core.specs.declared.progress.SliceStop.TheVariants.{Budget}
 use Rattle.machine_core.specs.ManySteps.{steps_of, replies_of}
@@ -50,7 +51,7 @@ module _ {S : Type 0} (held : S → List ℕ) (honest : Type 0) (failures : S �
   one_step : (core : CoreValue S) (q : ProcessSideValue S) (next : SpaceValue S) (ran : ℕ) (why : SliceStop) → slice_get core.processes p ≡ Some q → hart_reason hart q ≡ None
       → IsFaithful held honest core → Slices held honest hart 1 q.space next ran why
       → Applies held honest failures (Step p hart) core (record core { processes = slice_set core.processes p (record q { space = next }) }) (step_reply why)
-  unfolding EachStands
+  unfolding EachCoherent
   one_step core q next ran why found may faithful slice =
       let how : StepsOnce held honest hart why q (record q { space = next }) = record { ran = ran; slice = slice; purged = refl } in
       record {
@@ -62,10 +63,10 @@ module _ {S : Type 0} (held : S → List ℕ) (honest : Type 0) (failures : S �
           reply_is = refl;
         });
         faithful = record {
-          stands = λ is_honest number process at.
+          coherent = λ number process at.
               elim (got_set core.processes p number (record q { space = next }) process at) [
-                | inl here ↦ subst (λ (r : ProcessSideValue S). StandsFor held r.space) (sym here.1) (slice.stands is_honest)
-                | inr there ↦ faithful.stands is_honest number process there
+                | inl here ↦ subst (λ (r : ProcessSideValue S). IsCoherent held honest r.space) (sym here.1) (record { stands = slice.stands; harts = slice.kept.harts; memory = slice.coheres })
+                | inr there ↦ faithful.coherent number process there
               ];
           machine = alike_machine core p q (record q { space = next }) faithful.machine found (step_alike held honest hart why q (record q { space = next }) how);
         };

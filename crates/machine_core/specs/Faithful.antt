@@ -1,15 +1,10 @@
--- A machine whose processes stand for their flat runs, and whose list, pages, frames and slots go together.
-use Rattle.std.specs.Prelude.{◌≡◌, ℕ, List, Some, slice_get}
-use Rattle.space_core.specs.StandsFor.{StandsFor}
+-- A machine whose processes stand for their flat runs, each with pages, tables and caches that go together, and whose list, pages,
+-- frames and slots go together.
+use Rattle.std.specs.Prelude.{ℕ, List}
+use Rattle.machine_core.specs.Coherent.{EachCoherent}
 use Rattle.machine_core.specs.Machine.{CoreValue, IsMachine}
-use Rattle.machine_sides.specs.Sides.{ProcessSideValue}
 
-module _ {S : Type 0} (held : S → List ℕ) where
-  -- each process stands for the flat process that the run of its schedule leaves
-  unfoldable pub EachStands : List (ProcessSideValue S) → Type 0
-  EachStands processes = (number : ℕ) (process : ProcessSideValue S) → slice_get processes number ≡ Some process → StandsFor held process.space
-
-  -- what holds of a machine between any two events, where slots are honest
-  pub record IsFaithful (honest : Type 0) (core : CoreValue S) : Type 0 where
-    pub stands : honest → EachStands core.processes
-    pub machine : IsMachine core
+-- what holds of a machine between any two events
+pub record IsFaithful {S : Type 0} (held : S → List ℕ) (honest : Type 0) (core : CoreValue S) : Type 0 where
+  pub coherent : EachCoherent held honest core.processes
+  pub machine : IsMachine core

@@ -2,8 +2,9 @@
 use Rattle.std.proofs.Common.{◌≡◌, ℕ, List, [], ◌∷◌, ◌++◌, Some, slice_get, inl, inr, refl, sym, ap, ◌∙◌, subst}
 use Rattle.flat_machine.specs.Schedule.{written_out}
 use Rattle.machine_core.specs.Applying.{ServesEvent, Applies, Runs}
-use Rattle.machine_core.specs.Faithful.{EachStands, IsFaithful}
-use Rattle.machine_core.specs.Headline.{adds, order_of, Remains, ShowsFlatRun, ShowsRun, IsInvisible, HappensInvisibly, AfterEach, PagingIsInvisible}
+use Rattle.machine_core.specs.Coherent.{EachCoherent}
+use Rattle.machine_core.specs.Faithful.{IsFaithful}
+use Rattle.machine_core.specs.Headline.{adds, order_of, Remains, ShowsFlatRun, ShowsRun, IsInvisible, AfterEach, PagingIsInvisible}
 use Rattle.machine_core.specs.Machine.{CoreValue}
 use Rattle.machine_sides.specs.Starting.{Start, Begins}
 use Rattle.elf_image.specs.Image.{ImageContent}
@@ -48,11 +49,11 @@ module _ {S : Type 0} where
     }
 
     pub event_invisible : (event : Event) (old new : CoreValue S) (answer : Reply) → Applies held honest failures event old new answer → IsInvisible held honest event answer old new
-    unfolding EachStands
+    unfolding EachCoherent
     event_invisible event old new answer applies =
         let tells = serves_tells event old new answer applies.served in
         record {
-          shown = λ is_honest number process at. stands_shows process.space.image process.space.input (written_out process.space.schedule) process.space (applies.faithful.stands is_honest number process at) refl refl refl;
+          shown = λ is_honest number process at. stands_shows process.space.image process.space.input (written_out process.space.schedule) process.space ((applies.faithful.coherent number process at).stands is_honest) refl refl refl;
           recorded = tells.recorded;
           listed = applies.faithful.machine.listed;
           victim = tells.victim;
@@ -97,7 +98,7 @@ module _ {S : Type 0} where
     -- paging is invisible in every run
     pub run_invisible : (events : List Event) (answers : List Reply) (old new : CoreValue S) → Runs held honest failures events answers old new → IsFaithful held honest new
         → PagingIsInvisible held honest failures events answers old new
-    unfolding EachStands
+    unfolding EachCoherent
     run_invisible events answers old new run faithful =
         let each = run_each events answers old new run in
         record {
@@ -106,7 +107,7 @@ module _ {S : Type 0} where
               let began = begins.processes.each number (slice_get_within starts number start given) in
               let same : began.start ≡ start = let a = began.given in cc in
               let remains = order_grows events answers old new each number began.process began.found in
-              let shows = begun_shows number began.start (order_of number events answers) old.processes new.processes began.process began.begins remains (faithful.stands is_honest number remains.process remains.found) in
+              let shows = begun_shows number began.start (order_of number events answers) old.processes new.processes began.process began.begins remains ((faithful.coherent number remains.process remains.found).stands is_honest) in
               subst (λ (s : Start). ShowsRun held number s events answers new.processes) same
               (record { process = remains.process; found = remains.found; recorded = shows.0; shows = shows.1 });
         }

@@ -3,24 +3,15 @@
 ghost use Rattle.std.specs.Prelude.{◌≡◌};
 ghost use Rattle.machine_core.specs.Applying.{ServesEvent, Applies};
 ghost use Rattle.machine_core.specs.Coherent.{EachCoherent};
-ghost use Rattle.machine_core.specs.Faithful.{EachStands, IsFaithful};
+ghost use Rattle.machine_core.specs.Faithful.{IsFaithful};
 ghost use Rattle.machine_core.specs.Headline.{IsInvisible};
 
+use crate::coherence::each_coheres;
 use crate::event::{Event, Reply};
 use crate::machine::Core;
 use clock_policy::Clock;
-use machine_sides::ProcessSide;
 use std::sync::ledger::Ledger;
 use swap_slots::SwapSlot;
-
-/// Each process stands for the flat process that its schedule leaves, where slots are honest. It does nothing.
-fn each_stands<L: Ledger, S: SwapSlot>(processes: &[ProcessSide<L, S>])
-    ensures { S.honest → EachStands S.content processes.now }
-{
-    for side in processes {
-        side.coherent();
-    }
-}
 
 impl<L: Ledger, S: SwapSlot, C: Clock> Core<L, S, C> {
     /// What holds of it between any two calls. It does nothing.
@@ -28,7 +19,7 @@ impl<L: Ledger, S: SwapSlot, C: Clock> Core<L, S, C> {
         ensures { IsFaithful S.content S.honest self.now }
     {
         let _ = &self.pager;
-        each_stands(self.processes.as_slice());
+        each_coheres(self.processes.as_slice());
     }
 
     /// What an event does: it is refused, and then nothing has changed but for what want of memory leaves, or it is served.

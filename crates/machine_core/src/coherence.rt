@@ -9,7 +9,7 @@ use std::sync::ledger::Ledger;
 use swap_slots::SwapSlot;
 
 /// The pages, tables and caches of each process go together. It does nothing.
-fn each_coheres<L: Ledger, S: SwapSlot>(processes: &[ProcessSide<L, S>])
+pub(crate) fn each_coheres<L: Ledger, S: SwapSlot>(processes: &[ProcessSide<L, S>])
     ensures { EachCoherent S.content S.honest processes.now }
 {
     for side in processes {

@@ -2,6 +2,7 @@
 
 ghost use Rattle.std.specs.Prelude.{◌≡◌, ◌<◌, ◌≤◌, length, option_map, IfSome, IfNone};
 ghost use Rattle.machine_core.specs.Applying.{Runs};
+ghost use Rattle.machine_core.specs.Coherent.{EachCoherent};
 ghost use Rattle.machine_core.specs.MachineRun.{ChangesOne, step_reply};
 ghost use Rattle.machine_core.specs.ManySteps.{steps_of, replies_of};
 ghost use Rattle.machine_sides.specs.ProcessCalls.{SlicesMany};
@@ -32,11 +33,12 @@ impl<L: Ledger, S: SwapSlot, C: Clock> Core<L, S, C> {
         ensures within { result.ran ≤ most }
         ensures all { IfNone result.last (result.ran ≡ most) }
         ensures short { IfSome result.last (λ _. result.ran < most) }
+        ensures coherent { EachCoherent S.content S.honest self.new.processes }
     {
+        self.faithful();
         if most == 0 {
             return Steps { ran: 0, last: None };
         }
-        self.faithful();
         let refusal = hart_refusal(self.processes.as_slice(), process, hart);
         if let Some(refusal) = refusal {
             return Steps {

@@ -20,6 +20,7 @@ one_slice held honest hart ran why old new one = record {
   bound = one.bound;
   kept = one.kept;
   stands = one.stands;
+  coheres = one.coheres;
 }
 
 -- steps of a space in a row, and its slices

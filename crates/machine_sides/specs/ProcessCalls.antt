@@ -9,6 +9,7 @@ use Rattle.rv_exec.specs.Outcomes.{Used}
 use Rattle.paged_memory.specs.Access.{HasPage, LacksPage, cache_of}
 use Rattle.paged_memory.specs.HartMemory.{MarksSince, MarksWithin}
 use Rattle.space_core.specs.Caches.{noticed, if_killed}
+use Rattle.space_core.specs.Coheres.{Coheres}
 use Rattle.space_core.specs.Next.{next_pages, answered, begun}
 use Rattle.space_core.specs.Slices.{EachStep, BoundsEach, StopsRecorded}
 use Rattle.space_core.specs.Slicing.{shown_process, KeepsSpace}
@@ -29,6 +30,7 @@ module _ {S : Type 0} where
     pub bound : BoundsEach (MarksWithin old.memory.tables) (MarksWithin new.memory.tables) hart (begun why ran) (shown_process held old)
     pub kept : KeepsSpace hart why old new
     pub stands : honest → StandsFor held new
+    pub coheres : Coheres held honest new.memory
 
   -- a process's hart runs one instruction, or does not
   pub record StepsOnce (held : S → List ℕ) (honest : Type 0) (hart : ℕ) (why : SliceStop) (old new : ProcessSideValue S) : Type 0 where

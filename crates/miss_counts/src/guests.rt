@@ -1,11 +1,16 @@
 //! What guests miss.
 
-ghost use Rattle.std.specs.Prelude.{◌≡◌, ◌≤◌, IfOk, IfSome, length, map};
+ghost use Rattle.std.specs.Prelude.{◌≡◌, ◌≤◌, IfOk, OnOk, cond, true, length, option_map};
+ghost use Rattle.std.specs.HashSet.{contains};
+ghost use Rattle.clock_policy.specs.declared.key.Key.{Key};
 ghost use Rattle.guest_strings.specs.ToCome.{to_come};
-ghost use Rattle.miss_counts.specs.Counted.{IsTable, counted, guest_pages, pages_of};
+ghost use Rattle.page_policies.specs.Strings.{is_page};
+ghost use Rattle.miss_counts.specs.Counted.{IsTable, IsUsualTable, guest_pages, pages_of};
+ghost use Rattle.miss_counts.specs.FrameNumbers.{page_count};
 
 use crate::counts::{Counts, rows_of};
 use crate::frame_numbers::usual_frames;
+use crate::progress::{Progress, Stage};
 use clock_policy::Key;
 use flat_machine::FlatProcess;
 use guest_strings::{GuestString, MOST_PROCESSES};
@@ -14,44 +19,75 @@ use std::alloc::{AllocError, Global};
 use std::collections::HashSet;
 
 /// The pages of a string, to its end.
-pub fn pages_of(alloc: Global, mut guests: GuestString) -> Result<Vec<Key>, AllocError>
+pub fn pages_of<P: Progress>(
+    alloc: Global,
+    mut guests: GuestString,
+    progress: &mut P,
+) -> Result<Vec<Key>, AllocError>
     ensures { IfOk result (λ pages. pages.items ≡ pages_of (to_come guests)) }
 {
     let mut pages = Vec::new(alloc);
     'references: while let Some(reference) = guests.next()? {
         pages.push(reference.page)?;
+        progress.tell(Stage::References(pages.len() as u64));
     }
     Ok(pages)
 }
 
 /// What the string of guests misses by slices of so many instructions, of up to so many instructions in all: a row for each of these
 /// numbers of frames, or for the usual ones up to the guests' pages.
-pub fn guest_rows(
+pub fn guest_rows<P: Progress>(
     alloc: Global,
     processes: Vec<FlatProcess>,
     slice: u32,
     limit: u64,
     frames: Option<Vec<Frames>>,
+    progress: &mut P,
 ) -> Result<Vec<Counts>, AllocError>
     requires { length processes.items ≤ MOST_PROCESSES }
-    ensures table { IfOk result (λ rows. IsTable (guest_pages slice limit processes.items) rows.items) }
-    ensures asked { IfOk result (λ rows. IfSome frames (λ frames. rows.items ≡ map (counted (guest_pages slice limit processes.items)) frames.items)) }
+    ensures { IfOk result (λ rows. IsTable (guest_pages slice limit processes.items) (option_map (λ f. f.items) frames) rows.items) }
 {
-    let string = pages_of(alloc, GuestString::new(processes, slice, limit))?;
+    let string = pages_of(alloc, GuestString::new(processes, slice, limit), progress)?;
     let Some(frames) = frames else {
-        let usual = usual_frames(alloc, count_pages(alloc, string.as_slice())?)?;
-        return rows_of(alloc, usual.as_slice(), string.as_slice());
+        return usual_rows(alloc, string.as_slice(), progress);
     };
-    rows_of(alloc, frames.as_slice(), string.as_slice())
+    rows_of(alloc, frames.as_slice(), string.as_slice(), progress)
+}
+
+/// What a string misses with the usual numbers of frames.
+fn usual_rows<P: Progress>(
+    alloc: Global,
+    string: &[Key],
+    progress: &mut P,
+) -> Result<Vec<Counts>, AllocError>
+    ensures { IfOk result (λ rows. IsUsualTable string.now rows.items) }
+{
+    let usual = usual_frames(alloc, count_pages(alloc, string)?)?;
+    rows_of(alloc, usual.as_slice(), string, progress)
 }
 
 /// How many pages a string refers to.
-fn count_pages(alloc: Global, string: &[Key]) -> Result<usize, AllocError> {
-    let mut pages = HashSet::new(alloc);
-    for page in string {
-        if pages.insert(*page).is_err() {
-            return Err(AllocError);
-        }
+#[tactic(auto, unfolding(crate::specs::FrameNumbers::page_count), using(crate::proofs::Seen::seen_more))]
+fn count_pages(alloc: Global, string: &[Key]) -> Result<usize, AllocError>
+    ensures { IfOk result (λ count. count ≡ page_count string.now) }
+{
+    let mut seen = HashSet::new(alloc);
+    let mut count = 0;
+    'pages: for page in string {
+        count += note(&mut seen, *page)?;
     }
-    Ok(pages.len())
+    Ok(count)
+}
+
+/// The page is seen. How many pages are seen for the first time: 1 or none.
+fn note(seen: &mut HashSet<Key>, page: Key) -> Result<usize, AllocError>
+    ensures new { IfOk result (λ new. new ≡ cond (contains is_page seen.old page) 0 1) }
+    ensures few { IfOk result (λ new. new ≤ 1) }
+    ensures seen { OnOk result ((q : Key) → contains is_page seen.new q ≡ cond (is_page page q) true (contains is_page seen.old q)) }
+{
+    match seen.insert(page) {
+        Ok(true) => Ok(1),
+        Ok(false) => Ok(0),
+        Err(_) => Err(AllocError),
+    }
 }

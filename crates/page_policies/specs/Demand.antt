@@ -28,3 +28,7 @@ NoneMissesLess = (frames n : ℕ) (string : List Key) → 1 ≤ frames → Plays
 -- what the policy does is such a way
 abbrev pub IsPlayed : (ℕ → List Key → ℕ) → Type 0
 IsPlayed misses_of = (frames : ℕ) (string : List Key) → 1 ≤ frames → Plays frames [] string (misses_of frames string)
+
+-- the same of a policy for so many frames at least, and so many at most
+abbrev pub IsPlayedWithin : ℕ → ℕ → (ℕ → List Key → ℕ) → Type 0
+IsPlayedWithin least most misses_of = (frames : ℕ) (string : List Key) → least ≤ frames → frames ≤ most → Plays frames [] string (misses_of frames string)

@@ -19,3 +19,4 @@ pub mod NextPlaces
 pub mod NextPlaceLaws
 pub mod PlaceStepLaws
 pub mod SlotPlayLaws
+pub mod ClockPlayLaws

@@ -4,7 +4,9 @@ ghost use Rattle.page_policies.specs.Inclusion.{Inclusion};
 ghost use Rattle.page_policies.specs.Queues.{fifo_misses, lru_misses};
 ghost use Rattle.page_policies.specs.SecondChance.{clock_misses};
 ghost use Rattle.page_policies.specs.Optimal.{optimal_misses};
-ghost use Rattle.page_policies.specs.Demand.{NoneMissesLess, IsPlayed};
+ghost use Rattle.page_policies.specs.Demand.{NoneMissesLess, IsPlayed, IsPlayedWithin};
+ghost use Rattle.page_policies.specs.ClockProPlay.{clock_pro_misses};
+ghost use Rattle.clock_policy.specs.FrameCounts.{least_frames, most_frames};
 
 /// LRU has the inclusion property: with more frames it never misses more, whatever the string.
 #[tactic(auto, using(crate::specs::InclusionLaws::inclusion))]
@@ -27,4 +29,11 @@ pub fn optimum_is_a_play()
     ensures fifo { IsPlayed fifo_misses }
     ensures lru { IsPlayed lru_misses }
     ensures clock { IsPlayed clock_misses }
+{}
+
+/// CLOCK-Pro is a way to serve a string too, with 4 to 4096 frames, so that the optimum is its floor. In particular five answers a
+/// frame always make room.
+#[tactic(auto, using(crate::specs::ClockPlayLaws::clock_pro_played))]
+pub fn clock_pro_is_a_play()
+    ensures { IsPlayedWithin least_frames most_frames clock_pro_misses }
 {}

@@ -18,7 +18,9 @@ pub use clock_pro::ClockPro;
 pub use counter::Counter;
 pub use fifo_policy::Fifo;
 pub use frames::Frames;
-pub use laws::{more_frames_never_miss_more, no_policy_misses_less, optimum_is_a_play};
+pub use laws::{
+    clock_pro_is_a_play, more_frames_never_miss_more, no_policy_misses_less, optimum_is_a_play,
+};
 pub use lru_policy::Lru;
 pub use optimum::Optimum;
 pub use policy::{Outcome, Policy, misses};

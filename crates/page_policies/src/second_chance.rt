@@ -1,6 +1,6 @@
 //! CLOCK.
 
-ghost use Rattle.std.specs.Prelude.{◌≡◌, ◌≤◌, ◌<◌, ◌++◌, ◌∷◌, [], refl, drop, length, IfOk, OnOk, None, true, false};
+ghost use Rattle.std.specs.Prelude.{◌≡◌, ◌≤◌, ◌<◌, ◌++◌, ◌∷◌, [], refl, drop, length, IfOk, None, true, false};
 ghost use Rattle.page_ring.specs.Index.{at_of};
 ghost use Rattle.page_policies.specs.Strings.{misses as misses_by};
 ghost use Rattle.page_policies.specs.SecondChance.{in_slots, touched, front_used, turned, one_gone, room_made, second_chance, clock_misses};
@@ -101,12 +101,12 @@ fn make_room(ring: &mut IndexedRing, frames: usize)
 }
 
 /// A page comes in that is nowhere.
-fn bring_in(ring: &mut IndexedRing, frames: usize, page: Key) -> Result<(), AllocError>
+fn bring_in(ring: &mut IndexedRing, frames: usize, page: Key)
     requires some { 1 ≤ frames }
     requires few { length ring.old.cells ≤ frames }
     requires room { frames ≤ ring.old.room }
     requires new { at_of page ring.old.cells ≡ None }
-    ensures slots { OnOk result (slots_of ring.new.cells ≡ room_made frames (slots_of ring.old.cells) ++ record { page = page; used = true } ∷ []) }
+    ensures slots { slots_of ring.new.cells ≡ room_made frames (slots_of ring.old.cells) ++ record { page = page; used = true } ∷ [] }
     ensures few { length ring.new.cells ≤ frames }
     ensures room { ring.new.room ≡ ring.old.room }
 {
@@ -114,8 +114,7 @@ fn bring_in(ring: &mut IndexedRing, frames: usize, page: Key) -> Result<(), Allo
     ring.append(Entry {
         key: page,
         kind: EntryKind::Hot,
-    })?;
-    Ok(())
+    });
 }
 
 impl Policy for SecondChance {
@@ -136,7 +135,7 @@ impl Policy for SecondChance {
         if touch(&mut self.ring, page) {
             return Ok(Outcome::Hit);
         }
-        bring_in(&mut self.ring, self.frames, page)?;
+        bring_in(&mut self.ring, self.frames, page);
         Ok(Outcome::Miss)
     }
 }

@@ -25,5 +25,6 @@ fn counts_as_textbooks(rt: HostRuntime) -> Result<(), Fail> {
     more_frames_never_miss_more();
     no_policy_misses_less();
     optimum_is_a_play();
+    clock_pro_is_a_play();
     Ok(())
 }

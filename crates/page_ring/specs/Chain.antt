@@ -1,4 +1,4 @@
--- What links stand for: their cells from the front on, how many nodes fit, and which node the next cell gets.
+-- What links stand for: their cells from the front on, and how many nodes fit.
 use Rattle.std.specs.Prelude.{◌≡◌, ◌≢◌, ℕ, zero, suc, ◌+◌, ◌≤◌, Bool, true, false, ◌==◌, ◌||◌, cond, List, [], ◌∷◌, ◌++◌, length, Option, Some, None, refl}
 use Rattle.std.proofs.Common.{arith, sym, ap, ◌∙◌, subst, eqb-true, ne_eqb}
 use Rattle.std.proofs.Math.Bool.{or-true}
@@ -12,7 +12,6 @@ use Rattle.page_ring.specs.LinkLaws.{turned, linked_kept, at_self, not_same, fre
 pub record Chain : Type 0 where
   pub cells : List Cell
   pub room : ℕ
-  pub vacant : ℕ
 
 -- the cells told from another one of them on, clockwise
 pub data Rotates (cs : List Cell) : List Cell → Type 0 where

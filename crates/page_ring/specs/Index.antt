@@ -1,7 +1,7 @@
 -- An index from a page to its node.
 use Rattle.std.specs.Prelude.{◌≡◌, ◌≤◌, ◌+◌, ◌==◌, ◌⊎◌, ℕ, Bool, true, false, cond, List, [], ◌∷◌, ◌++◌, Option, Some, None, refl}
 use Rattle.std.specs.Option.{option_or}
-use Rattle.std.proofs.Common.{arith, sym, ap, ◌∙◌, subst}
+use Rattle.std.proofs.Common.{arith, sym, ap, ◌∙◌, subst, inl, inr}
 use Rattle.std.proofs.lemmas.Bool.Decides.{nat_tests}
 use Rattle.std.specs.HashMap.{get_by}
 use Rattle.clock_policy.specs.FindLaws.{option_or-none}
@@ -37,15 +37,43 @@ node_of k p = option_or (in_slot p.slots.items k) (get_by (same_key k) p.others)
 abbrev pub Parted : NodeIndex → Type 0
 Parted p = (k : Key) → in_slot p.slots.items k ≡ None ⊎ get_by (same_key k) p.others ≡ None
 
--- look-ups find each page's node, and nothing else
-pub record FindsNodes (cs : List Cell) (look : Key → Option ℕ) : Type 0 where
-  pub found : (k : Key) → look k ≡ at_of k cs
+-- what a look-up tells of a page is its node; or nothing, where look-ups may lack pages
+abbrev pub Finds : Bool → Option ℕ → Option ℕ → Type 0
+Finds false told is = told ≡ is
+Finds true told is = (told ≡ None) ⊎ (told ≡ is)
+
+-- look-ups find each page's node, but those that they lack, and nothing else
+pub record FindsNodes (cs : List Cell) (lacks : Bool) (look : Key → Option ℕ) : Type 0 where
+  pub found : (k : Key) → Finds lacks (look k) (at_of k cs)
   pub distinct : DistinctPages cs
 
--- the index finds each page's node
-pub record Indexed (cs : List Cell) (p : NodeIndex) : Type 0 where
-  pub indexes : FindsNodes cs (λ k. node_of k p)
+-- the index finds each page's node, but those of pages for which it found no room
+pub record Indexed (cs : List Cell) (lacks : Bool) (p : NodeIndex) : Type 0 where
+  pub indexes : FindsNodes cs lacks (λ k. node_of k p)
   pub parted : Parted p
+
+-- What a look-up tells.
+
+finds_cond : (lacks t : Bool) (a b w : Option ℕ) → Finds lacks a b → Finds lacks (cond t w a) (cond t w b)
+finds_cond false true a b w h = refl
+finds_cond true true a b w h = inr refl
+finds_cond lacks false a b w h = h
+
+-- a node that is told is the page's
+pub told_node : (lacks : Bool) (b : Option ℕ) (n : ℕ) → Finds lacks (Some n) b → Some n ≡ b
+told_node false b n h = h
+told_node true b n (inl h) = cc
+told_node true b n (inr h) = h
+
+-- of a page that is nowhere nothing is told
+pub told_none : (lacks : Bool) (a : Option ℕ) → Finds lacks a None → a ≡ None
+told_none false a h = h
+told_none true a (inl h) = h
+told_none true a (inr h) = h
+
+may_lack : (lacks : Bool) (a b : Option ℕ) → Finds lacks a b → Finds true a b
+may_lack false a b h = inr h
+may_lack true a b h = h
 
 -- Entries of cells.
 
@@ -146,24 +174,26 @@ turn_at k a b one =
 
 -- The index after a change.
 
-pub index_mark : (look : Key → Option ℕ) (kind : EntryKind) (u v : List Cell) (c : Cell) → FindsNodes (u ++ c ∷ v) look → FindsNodes (u ++ of_kind kind c ∷ v) look
-index_mark look kind u v c h = record {
-  found = λ k. h.found k ∙ sym (mark_at k kind u v c);
+pub index_mark : (lacks : Bool) (look : Key → Option ℕ) (kind : EntryKind) (u v : List Cell) (c : Cell) → FindsNodes (u ++ c ∷ v) lacks look → FindsNodes (u ++ of_kind kind c ∷ v) lacks look
+index_mark lacks look kind u v c h = record {
+  found = λ k. subst (Finds lacks (look k)) (sym (mark_at k kind u v c)) (h.found k);
   distinct = λ k. let e : number (has_key k) (entries_of (u ++ of_kind kind c ∷ v)) + cond (has_key k c.entry) 1 0 ≡ number (has_key k) (entries_of (u ++ c ∷ v)) + cond (has_key k c.entry) 1 0 = mark_number (has_key k) kind u v c in omega (arith, e, h.distinct k);
 }
 
-pub index_turn : (look : Key → Option ℕ) (a b : List Cell) → FindsNodes (a ++ b) look → FindsNodes (b ++ a) look
-index_turn look a b h = record {
-  found = λ k. h.found k ∙ sym (turn_at k a b (h.distinct k));
+pub index_turn : (lacks : Bool) (look : Key → Option ℕ) (a b : List Cell) → FindsNodes (a ++ b) lacks look → FindsNodes (b ++ a) lacks look
+index_turn lacks look a b h = record {
+  found = λ k. subst (Finds lacks (look k)) (sym (turn_at k a b (h.distinct k))) (h.found k);
   distinct = λ k.
       let old : number (has_key k) (entries_of (a ++ b)) ≡ number (has_key k) (entries_of a) + number (has_key k) (entries_of b) = number-cells (has_key k) a b in
       let new : number (has_key k) (entries_of (b ++ a)) ≡ number (has_key k) (entries_of b) + number (has_key k) (entries_of a) = number-cells (has_key k) b a in
       omega (arith, old, new, h.distinct k);
 }
 
-pub index_remove : (old new : Key → Option ℕ) (u v : List Cell) (c : Cell) → ((k : Key) → new k ≡ cond (same_key c.entry.key k) None (old k)) → FindsNodes (u ++ c ∷ v) old → FindsNodes (u ++ v) new
-index_remove old new u v c gone h = record {
-  found = λ k. gone k ∙ ap (cond (has_key k c.entry) None) (h.found k) ∙ sym (remove_at k u v c (h.distinct k));
+pub index_remove : (lacks : Bool) (old new : Key → Option ℕ) (u v : List Cell) (c : Cell) → ((k : Key) → new k ≡ cond (same_key c.entry.key k) None (old k)) → FindsNodes (u ++ c ∷ v) lacks old → FindsNodes (u ++ v) lacks new
+index_remove lacks old new u v c gone h = record {
+  found = λ k. subst (λ a. Finds lacks a (at_of k (u ++ v))) (sym (gone k))
+      (subst (Finds lacks (cond (has_key k c.entry) None (old k))) (sym (remove_at k u v c (h.distinct k)))
+      (finds_cond lacks (has_key k c.entry) (old k) (at_of k (u ++ c ∷ v)) None (h.found k)));
   distinct = λ k. let e : number (has_key k) (entries_of (u ++ v)) + cond (has_key k c.entry) 1 0 ≡ number (has_key k) (entries_of (u ++ c ∷ v)) = remove_number (has_key k) u v c in omega (arith, e, h.distinct k);
 }
 
@@ -183,16 +213,36 @@ appended_distinct cs c distinct free k =
     parts : (k : Key) (e : Entry) → has_key k e ≡ true → (k.process ≡ e.key.process) × (k.vpn ≡ e.key.vpn)
     parts k e h = grind (arith, nat_tests)
 
-pub index_append : (old new : Key → Option ℕ) (cs : List Cell) (c : Cell) → at_of c.entry.key cs ≡ None → ((k : Key) → new k ≡ cond (same_key c.entry.key k) (Some c.at) (old k)) → FindsNodes cs old → FindsNodes (cs ++ c ∷ []) new
-index_append old new cs c free put h = record {
-  found = λ k. put k ∙ ap (cond (has_key k c.entry) (Some c.at)) (h.found k) ∙ sym (append_at k cs c free);
+pub index_append : (lacks : Bool) (old new : Key → Option ℕ) (cs : List Cell) (c : Cell) → at_of c.entry.key cs ≡ None → ((k : Key) → new k ≡ cond (same_key c.entry.key k) (Some c.at) (old k)) → FindsNodes cs lacks old → FindsNodes (cs ++ c ∷ []) lacks new
+index_append lacks old new cs c free put h = record {
+  found = λ k. subst (λ a. Finds lacks a (at_of k (cs ++ c ∷ []))) (sym (put k))
+      (subst (Finds lacks (cond (has_key k c.entry) (Some c.at) (old k))) (sym (append_at k cs c free))
+      (finds_cond lacks (has_key k c.entry) (old k) (at_of k cs) (Some c.at) (h.found k)));
   distinct = appended_distinct cs c h.distinct free;
 }
 
+-- a page for which there is no room in the index
+pub index_lacking : (lacks : Bool) (old new : Key → Option ℕ) (cs : List Cell) (c : Cell) → at_of c.entry.key cs ≡ None → ((k : Key) → new k ≡ old k) → FindsNodes cs lacks old → FindsNodes (cs ++ c ∷ []) true new
+index_lacking lacks old new cs c free same h = record {
+  found = λ k. subst (λ a. Finds true a (at_of k (cs ++ c ∷ []))) (sym (same k)) (subst (Finds true (old k)) (sym (append_at k cs c free)) (by_key k));
+  distinct = appended_distinct cs c h.distinct free;
+}
+  where
+    parts : (k : Key) (e : Entry) → has_key k e ≡ true → (k.process ≡ e.key.process) × (k.vpn ≡ e.key.vpn)
+    parts k e h = grind (arith, nat_tests)
+
+    by_key : (k : Key) → Finds true (old k) (cond (has_key k c.entry) (Some c.at) (at_of k cs))
+    by_key k = elim (has_key k c.entry) as (λ t. has_key k c.entry ≡ t → Finds true (old k) (cond t (Some c.at) (at_of k cs))) [
+      | true ↦ λ is.
+          let same : k ≡ c.entry.key = one_key k c.entry.key (parts k c.entry is).0 (parts k c.entry is).1 in
+          inl (told_none lacks (old k) (subst (Finds lacks (old k)) (ap (λ (q : Key). at_of q cs) same ∙ free) (h.found k)))
+      | false ↦ λ is. may_lack lacks (old k) (at_of k cs) (h.found k)
+    ] refl
+
 -- a cell that becomes the last
-pub index_send : (look : Key → Option ℕ) (kind : EntryKind) (u v : List Cell) (c : Cell) → FindsNodes (u ++ c ∷ v) look → FindsNodes ((u ++ v) ++ of_kind kind c ∷ []) look
-index_send look kind u v c h =
-    index_mark look kind (u ++ v) [] c (subst (λ (l : List Cell). FindsNodes l look) (sym (append_again u v (c ∷ []))) (moved u v h))
+pub index_send : (lacks : Bool) (look : Key → Option ℕ) (kind : EntryKind) (u v : List Cell) (c : Cell) → FindsNodes (u ++ c ∷ v) lacks look → FindsNodes ((u ++ v) ++ of_kind kind c ∷ []) lacks look
+index_send lacks look kind u v c h =
+    index_mark lacks look kind (u ++ v) [] c (subst (λ (l : List Cell). FindsNodes l lacks look) (sym (append_again u v (c ∷ []))) (moved u v h))
   where
     append_again : (a b d : List Cell) → (a ++ b) ++ d ≡ a ++ (b ++ d)
     append_again [] b d = refl
@@ -205,10 +255,10 @@ index_send look kind u v c h =
         ∙ ap (option_or (at_of k u)) (at_of-append k (c ∷ []) v ∙ swapped k (c ∷ []) v (omega (arith, old, few)) ∙ sym (at_of-append k v (c ∷ [])))
         ∙ sym (at_of-append k u (v ++ c ∷ []))
 
-    moved : (u v : List Cell) → FindsNodes (u ++ c ∷ v) look → FindsNodes (u ++ (v ++ c ∷ [])) look
+    moved : (u v : List Cell) → FindsNodes (u ++ c ∷ v) lacks look → FindsNodes (u ++ (v ++ c ∷ [])) lacks look
     moved u v g =
         record {
-          found = λ k. g.found k ∙ by_halves k u v (g.distinct k);
+          found = λ k. subst (Finds lacks (look k)) (by_halves k u v (g.distinct k)) (g.found k);
           distinct = λ k.
               let one : number (has_key k) (entries_of (u ++ (v ++ c ∷ []))) ≡ number (has_key k) (entries_of u) + number (has_key k) (entries_of (v ++ c ∷ [])) = number-cells (has_key k) u (v ++ c ∷ []) in
               let two : number (has_key k) (entries_of (v ++ c ∷ [])) ≡ number (has_key k) (entries_of v) + cond (has_key k c.entry) 1 0 = append_number (has_key k) v c in

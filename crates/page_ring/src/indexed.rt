@@ -1,6 +1,6 @@
 //! The links with an index from a page to its node.
 
-ghost use Rattle.std.specs.Prelude.{◌≡◌, ◌≤◌, ◌<◌, ◌+◌, ◌++◌, ℕ, List, [], ◌∷◌, Some, None, true, false, length, IfOk, OnErr, OnOk};
+ghost use Rattle.std.specs.Prelude.{◌≡◌, ◌≤◌, ◌<◌, ◌+◌, ◌++◌, ℕ, List, [], ◌∷◌, Some, None, true, false, length, IfOk};
 ghost use Rattle.page_ring.specs.Linked.{Cell, DistinctNodes, is_at, first_at, last_at};
 ghost use Rattle.page_ring.specs.Chain.{of_kind, Rotates};
 ghost use Rattle.page_ring.specs.Index.{DistinctPages, at_of};
@@ -16,6 +16,8 @@ use std::marker::Model;
 pub struct IndexedRing {
     links: Links,
     index: NodeIndex,
+    /// Whether the index may lack pages: it found no room for one.
+    lacks: bool,
 }
 
 impl Model for IndexedRing {
@@ -26,7 +28,7 @@ impl Model for IndexedRing {
 
     ghost view = { λ r. r.links };
 
-    ghost invariant = { λ r. Indexed r.links.cells r.index };
+    ghost invariant = { λ r. Indexed r.links.cells r.lacks r.index };
 }
 
 impl IndexedRing {
@@ -37,7 +39,11 @@ impl IndexedRing {
     {
         let links = Links::new(alloc, room)?;
         let index = NodeIndex::new(alloc, room)?;
-        Ok(IndexedRing { links, index })
+        Ok(IndexedRing {
+            links,
+            index,
+            lacks: false,
+        })
     }
 
     /// How many entries there are.
@@ -66,12 +72,16 @@ impl IndexedRing {
         self.links.node(at)
     }
 
-    /// The node of a page's entry, in constant time.
+    /// The node of a page's entry: by the index, or by a walk of the circle where the index may lack it.
     #[inline(always)]
     pub fn find(&self, key: Key) -> Option<usize>
         ensures { result ≡ at_of key self.now.cells }
     {
-        self.index.find(key)
+        match self.index.find(key) {
+            Some(at) => Some(at),
+            None if self.lacks => self.links.search(key),
+            None => None,
+        }
     }
 
     /// Gives an entry another kind, where it stands.
@@ -94,21 +104,22 @@ impl IndexedRing {
         self.links.turn();
     }
 
-    /// Adds an entry of a new page as the last, before the front. A refusal changes nothing.
+    /// Adds an entry of a new page as the last, before the front. It takes no memory that has to be there: a page for which the
+    /// index finds no room is found by a walk of the circle.
     #[inline(always)]
-    pub fn append(&mut self, entry: Entry) -> Result<usize, AllocError>
+    pub fn append(&mut self, entry: Entry) -> usize
         requires new { at_of entry.key self.old.cells ≡ None }
         requires room { length self.old.cells < self.old.room }
-        ensures cells { IfOk result (λ at. self.new.cells ≡ self.old.cells ++ record { at = at; entry = entry } ∷ []) }
-        ensures fresh { IfOk result (λ at. is_at self.old.cells at ≡ false) }
-        ensures apart { OnOk result (DistinctNodes self.new.cells) }
+        ensures cells { self.new.cells ≡ self.old.cells ++ record { at = result; entry = entry } ∷ [] }
+        ensures fresh { is_at self.old.cells result ≡ false }
+        ensures apart { DistinctNodes self.new.cells }
         ensures room { self.new.room ≡ self.old.room }
-        ensures err { OnErr result (self.new ≡ self.old) }
     {
-        let at = self.links.vacant();
-        self.index.insert(entry.key, at)?;
-        self.links.append(entry);
-        Ok(at)
+        let at = self.links.append(entry);
+        if self.index.insert(entry.key, at).is_err() {
+            self.lacks = true;
+        }
+        at
     }
 
     /// Takes an entry out. A front that goes is followed by the next.

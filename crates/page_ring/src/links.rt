@@ -2,10 +2,11 @@
 
 ghost use Rattle.std.specs.Prelude.{◌≡◌, ◌≢◌, ◌+◌, ◌<◌, ◌++◌, ℕ, List, [], ◌∷◌, Some, None, true, false, length, IfOk, ◌≤◌, ◌==◌, cond};
 ghost use Rattle.slab.specs.Slab.{get, slab_len, ContainsKey, HasRoomFor};
+ghost use Rattle.clock_policy.specs.ClockPro.{has_key};
 ghost use Rattle.page_ring.specs.declared.links.Node.{Node};
 ghost use Rattle.page_ring.specs.Linked.{Cell, Circle, first_at, last_at, is_at, Changes, with_next, with_previous};
 
-use clock_policy::{Entry, EntryKind};
+use clock_policy::{Entry, EntryKind, Key};
 use slab::Slab;
 use std::alloc::{AllocError, Global};
 use std::marker::Model;
@@ -21,7 +22,6 @@ pub struct Node {
 fn set_next(nodes: &mut Slab<Node>, at: usize, next: usize)
     ensures changes { Changes nodes.old nodes.new at (with_next next) }
     ensures none { get nodes.old at ≡ None → nodes.new ≡ nodes.old }
-    ensures vacant { nodes.new.vacant_key ≡ nodes.old.vacant_key }
     ensures len { slab_len nodes.new ≡ slab_len nodes.old }
     ensures capacity { nodes.new.capacity ≡ nodes.old.capacity }
 {
@@ -33,7 +33,6 @@ fn set_next(nodes: &mut Slab<Node>, at: usize, next: usize)
 fn set_previous(nodes: &mut Slab<Node>, at: usize, previous: usize)
     ensures changes { Changes nodes.old nodes.new at (with_previous previous) }
     ensures none { get nodes.old at ≡ None → nodes.new ≡ nodes.old }
-    ensures vacant { nodes.new.vacant_key ≡ nodes.old.vacant_key }
     ensures len { slab_len nodes.new ≡ slab_len nodes.old }
     ensures capacity { nodes.new.capacity ≡ nodes.old.capacity }
 {
@@ -59,7 +58,6 @@ fn unlink(nodes: &mut Slab<Node>, at: usize) -> usize
     requires { ContainsKey nodes.old at }
     ensures circle { (c : Cell) → (cs : List Cell) → c.at ≡ at → Circle nodes.old (c ∷ cs) → Circle nodes.new cs }
     ensures next { (c : Cell) → (cs : List Cell) → c.at ≡ at → Circle nodes.old (c ∷ cs) → result ≡ first_at cs at }
-    ensures vacant { nodes.new.vacant_key ≡ at }
     ensures len { slab_len nodes.new + 1 ≡ slab_len nodes.old }
     ensures capacity { nodes.new.capacity ≡ nodes.old.capacity }
 {
@@ -75,7 +73,6 @@ fn pass_over(nodes: &mut Slab<Node>, at: usize) -> Node
     ensures node { get nodes.old at ≡ Some result }
     ensures circle { (c : Cell) → (cs : List Cell) → c.at ≡ at → Circle nodes.old (c ∷ cs) → Circle nodes.new cs }
     ensures kept { (k : ℕ) → ContainsKey nodes.old k → ContainsKey nodes.new k }
-    ensures vacant { nodes.new.vacant_key ≡ nodes.old.vacant_key }
     ensures len { slab_len nodes.new ≡ slab_len nodes.old }
     ensures capacity { nodes.new.capacity ≡ nodes.old.capacity }
 {
@@ -88,7 +85,6 @@ fn pass_over(nodes: &mut Slab<Node>, at: usize) -> Node
 fn set_node(nodes: &mut Slab<Node>, at: usize, node: Node)
     ensures set { ContainsKey nodes.old at → get nodes.new at ≡ Some node }
     ensures others { (k : ℕ) → k ≢ at → get nodes.new k ≡ get nodes.old k }
-    ensures vacant { nodes.new.vacant_key ≡ nodes.old.vacant_key }
     ensures len { slab_len nodes.new ≡ slab_len nodes.old }
     ensures capacity { nodes.new.capacity ≡ nodes.old.capacity }
 {
@@ -102,7 +98,6 @@ fn link_again(nodes: &mut Slab<Node>, front: usize, at: usize, entry: Entry)
     requires at { ContainsKey nodes.old at }
     requires front { ContainsKey nodes.old front }
     ensures circle { (d : Cell) → (ds : List Cell) → d.at ≡ front → is_at (d ∷ ds) at ≡ false → Circle nodes.old (d ∷ ds) → Circle nodes.new ((d ∷ ds) ++ record { at = at; entry = entry } ∷ []) }
-    ensures vacant { nodes.new.vacant_key ≡ nodes.old.vacant_key }
     ensures len { slab_len nodes.new ≡ slab_len nodes.old }
     ensures capacity { nodes.new.capacity ≡ nodes.old.capacity }
 {
@@ -127,7 +122,6 @@ fn link_last(nodes: &mut Slab<Node>, front: usize, entry: Entry) -> usize
     requires front { ContainsKey nodes.old front }
     ensures circle { (d : Cell) → (ds : List Cell) → d.at ≡ front → Circle nodes.old (d ∷ ds) → Circle nodes.new ((d ∷ ds) ++ record { at = result; entry = entry } ∷ []) }
     ensures free { get nodes.old result ≡ None }
-    ensures vacant { result ≡ nodes.old.vacant_key }
     ensures len { slab_len nodes.new ≡ slab_len nodes.old + 1 }
     ensures capacity { nodes.new.capacity ≡ nodes.old.capacity }
 {
@@ -146,7 +140,6 @@ fn link_last(nodes: &mut Slab<Node>, front: usize, entry: Entry) -> usize
 fn link_alone(nodes: &mut Slab<Node>, entry: Entry) -> usize
     requires room { HasRoomFor nodes.old 1 }
     ensures circle { Circle nodes.new (record { at = result; entry = entry } ∷ []) }
-    ensures vacant { result ≡ nodes.old.vacant_key }
     ensures len { slab_len nodes.new ≡ slab_len nodes.old + 1 }
     ensures capacity { nodes.new.capacity ≡ nodes.old.capacity }
 {
@@ -156,6 +149,12 @@ fn link_alone(nodes: &mut Slab<Node>, entry: Entry) -> usize
         next: at,
         previous: at,
     })
+}
+
+fn is_of(entry: Entry, key: Key) -> bool
+    ensures { result ≡ has_key key entry }
+{
+    entry.key.process == key.process && entry.key.vpn == key.vpn
 }
 
 /// The circle begins at `front`, where the hot hand stands. With no entry `front` names none.
@@ -170,7 +169,7 @@ impl Model for Links {
 
     ghost Value = { Chain };
 
-    ghost view = { λ l. record { cells = cells_of l.nodes l.front; room = l.nodes.capacity; vacant = l.nodes.vacant_key } };
+    ghost view = { λ l. record { cells = cells_of l.nodes l.front; room = l.nodes.capacity } };
 
     ghost invariant = { λ l. Held l.nodes l.front (cells_of l.nodes l.front) };
 }
@@ -178,6 +177,7 @@ impl Model for Links {
 impl Links {
     ghost use Rattle.page_ring.specs.Chain.{cells_of, of_kind, Rotates};
     ghost use Rattle.page_ring.specs.Linked.{DistinctNodes, is_at};
+    ghost use Rattle.page_ring.specs.Index.{at_of};
 
     /// An empty circle with room for so many entries.
     pub(crate) fn new(alloc: Global, room: usize) -> Result<Self, AllocError>
@@ -203,20 +203,28 @@ impl Links {
         self.front
     }
 
-    /// The node that the next new entry gets.
-    #[inline(always)]
-    pub(crate) fn vacant(&self) -> usize
-        ensures { result ≡ self.now.vacant }
-    {
-        self.nodes.vacant_key()
-    }
-
     #[inline(always)]
     pub(crate) fn node(&self, at: usize) -> Node
         requires { is_at self.now.cells at ≡ true }
         ensures { (c : Cell) → (cs : List Cell) → Rotates self.now.cells (c ∷ cs) → c.at ≡ at → result ≡ record { entry = c.entry; next = first_at cs at; previous = last_at at cs } }
     {
         self.nodes[at]
+    }
+
+    /// The node of a page's entry, by a walk along the circle from the front.
+    #[inline(never)]
+    pub(crate) fn search(&self, key: Key) -> Option<usize>
+        ensures { result ≡ at_of key self.now.cells }
+    {
+        let mut at = self.front;
+        for _passed in 0..self.nodes.len() {
+            let node = self.nodes[at];
+            if is_of(node.entry, key) {
+                return Some(at);
+            }
+            at = node.next;
+        }
+        None
     }
 
     pub(crate) fn mark(&mut self, at: usize, kind: EntryKind)
@@ -244,7 +252,6 @@ impl Links {
         requires { length self.old.cells < self.old.room }
         ensures cells { self.new.cells ≡ self.old.cells ++ record { at = result; entry = entry } ∷ [] }
         ensures fresh { is_at self.old.cells result ≡ false }
-        ensures vacant { result ≡ self.old.vacant }
         ensures apart { DistinctNodes self.new.cells }
         ensures room { self.new.room ≡ self.old.room }
     {
@@ -259,7 +266,6 @@ impl Links {
     pub(crate) fn remove(&mut self, at: usize)
         requires { is_at self.old.cells at ≡ true }
         ensures cells { (u v : List Cell) → (c : Cell) → self.old.cells ≡ u ++ c ∷ v → c.at ≡ at → self.new.cells ≡ u ++ v }
-        ensures vacant { self.new.vacant ≡ at }
         ensures apart { DistinctNodes self.new.cells }
         ensures room { self.new.room ≡ self.old.room }
     {

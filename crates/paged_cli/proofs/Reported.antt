@@ -1,6 +1,6 @@
 -- What a run is reported to have come to, by what its parts say.
-use Rattle.std.proofs.Common.{◌≡◌, ℕ, ◌≤◌, ◌<◌, false, List, [], length, map, replicate, Option, Some, IsSome, refl, sym, ap, ◌∙◌, subst}
-use Rattle.std.specs.Prelude.{⊤, Result, Ok, Err, IfOk, is_some}
+use Rattle.std.proofs.Common.{◌≡◌, ℕ, ◌≤◌, ◌<◌, List, replicate, Option, Some, IsSome, sym, ap, ◌∙◌, subst}
+use Rattle.std.specs.Prelude.{⊤, max, Result, Ok, Err, IfOk, option_map}
 use Rattle.command_line.specs.declared.request.FlatRequest.{FlatRequest}
 use Rattle.elf_image.specs.Image.{ImageContent}
 use Rattle.flat_machine.specs.ByTurns.{by_turns, first_turn}
@@ -15,16 +15,19 @@ use Rattle.serial_driver.specs.FlatLines.{StandsForRuns}
 use Rattle.serial_driver.specs.Limit.{EndsByLimit}
 use Rattle.serial_driver.specs.Reporting.{Reports}
 use Rattle.swap_slots.specs.Slot.{zero_content}
+use Rattle.report_text.specs.ReportText.{process_text}
+use Rattle.std.specs.Io.KnownBytes.{Appends}
 use Rattle.paged_cli.specs.Asked.{FlatAsAsked}
-use Rattle.paged_cli.specs.ExitStatus.{exit_status, ending_of}
+use Rattle.paged_cli.specs.Reading.{GivesImage, GivesInput}
+use Rattle.report_text.specs.ExitStatus.{exit_status, ending_of}
 use Rattle.paged_cli.specs.Playing.{Slot, page_of, never, IsNew, ReportsRun}
 
-pub run_reported : {E : Type 0} (frames slots limit : ℕ) (starts : List Start) (start end : CoreValue Slot) (result : Result Report E) → IsNew frames slots starts start
-    → LeadsTo page_of ⊤ never start end → IfOk result (λ _. EndsByLimit page_of ⊤ never limit start end) → IfOk result (λ report. Reports end report)
+pub run_reported : {E : Type 0} (frames slots slice limit : ℕ) (starts : List Start) (start end : CoreValue Slot) (result : Result Report E) → IsNew frames slots starts start
+    → LeadsTo page_of ⊤ never start end → IfOk result (λ _. EndsByLimit page_of ⊤ never (max slice 1) limit start end) → IfOk result (λ report. Reports end report)
     → IfOk result (λ report. (frames : ℕ) (free : List Slot) (starts : List Start) → MachineBegins frames free starts start → ⊤ → StandsForRuns starts report)
-    → IfOk result (ReportsRun frames slots starts limit)
-run_reported frames slots limit starts start end (Err e) new reached limited told flat = limited
-run_reported frames slots limit starts start end (Ok report) new reached limited told flat = record {
+    → IfOk result (ReportsRun frames slots starts slice limit)
+run_reported frames slots slice limit starts start end (Err e) new reached limited told flat = limited
+run_reported frames slots slice limit starts start end (Ok report) new reached limited told flat = record {
   start = start;
   end = end;
   new = new;
@@ -34,18 +37,24 @@ run_reported frames slots limit starts start end (Ok report) new reached limited
   flat = flat frames (replicate slots zero_content) starts new (tt {0});
 }
 
-pub flat_asked : (request : FlatRequest) (image : ImageContent) (input : List ℕ) (limit steps status : ℕ) (old new : Process) (told : Option End) (ending : End)
-    → (is_some request.input ≡ false → input ≡ []) → old ≡ opening image input → (turn : ℕ) → by_turns steps (first_turn old) old ≡ Some (turn, new) → limit ≡ request.limit
-    → steps ≤ limit → (steps < limit → IsSome new.ending) → told ≡ new.ending → ending ≡ ending_of told → status ≡ exit_status ending → FlatAsAsked request status
-flat_asked request image input limit steps status old new told ending none begins turn ran limit_is within ended told_is ending_is status_is = record {
-  image = image;
-  input = input;
-  none = none;
-  steps = steps;
-  turn = turn;
-  flat = new;
-  ran = ap (λ (p : Process). by_turns steps (first_turn p) p) (sym begins) ∙ ran;
-  within = subst (λ n. steps ≤ n) limit_is within;
-  ended = subst (λ n. steps < n → IsSome new.ending) limit_is ended;
-  status_is = status_is ∙ ap exit_status (ending_is ∙ ap ending_of told_is);
-}
+pub flat_asked : (gives : List ℕ → List ℕ → Type 0) (request : FlatRequest) (out out' : Option (List ℕ)) (image : ImageContent) (input : List ℕ) (limit steps status : ℕ) (old new : Process)
+    (output : List ℕ) (told : Option End) (ending : End) → GivesImage gives request.image.now image → GivesInput gives (option_map (λ s. s.now) request.input) input
+    → old ≡ opening image input → (turn : ℕ) → by_turns steps (first_turn old) old ≡ Some (turn, new) → limit ≡ request.limit
+    → steps ≤ limit → (steps < limit → IsSome new.ending) → output ≡ new.environment.output → told ≡ new.ending → ending ≡ ending_of told
+    → Appends out out' (process_text 0 output ending steps) → status ≡ exit_status ending → FlatAsAsked gives request out out' status
+flat_asked gives request out out' image input limit steps status old new output told ending image_given input_given begins turn ran limit_is within ended output_is told_is ending_is written status_is =
+    let end : ending ≡ ending_of new.ending = ending_is ∙ ap ending_of told_is in
+    record {
+      image = image;
+      input = input;
+      image_given = image_given;
+      input_given = input_given;
+      steps = steps;
+      turn = turn;
+      flat = new;
+      ran = ap (λ (p : Process). by_turns steps (first_turn p) p) (sym begins) ∙ ran;
+      within = subst (λ n. steps ≤ n) limit_is within;
+      ended = subst (λ n. steps < n → IsSome new.ending) limit_is ended;
+      told = subst (λ e. Appends out out' (process_text 0 new.environment.output e steps)) end (subst (λ o. Appends out out' (process_text 0 o ending steps)) output_is written);
+      status_is = status_is ∙ ap exit_status end;
+    }

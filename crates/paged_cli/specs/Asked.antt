@@ -1,5 +1,7 @@
--- What the commands that run images do with what they are asked for.
-use Rattle.std.specs.Prelude.{◌≡◌, ℕ, ◌≤◌, ◌<◌, false, is_some, List, [], Option, Some, None, IsSome, length, map}
+-- What the commands that run images do with what they are asked for. `gives` tells, of a name, the bytes that a file of it may be found to
+-- hold; `old` and `new` are what stands in the output before and after.
+use Rattle.std.specs.Prelude.{◌≡◌, ℕ, ◌≤◌, ◌<◌, List, Option, Some, None, IsSome, map, option_map}
+use Rattle.std.specs.Io.KnownBytes.{Appends}
 use Rattle.command_line.specs.declared.request.DriveRequest.{DriveRequest}
 use Rattle.command_line.specs.declared.request.FlatRequest.{FlatRequest}
 use Rattle.command_line.specs.declared.request.RunRequest.{RunRequest}
@@ -8,37 +10,48 @@ use Rattle.flat_machine.specs.ByTurns.{by_turns, first_turn}
 use Rattle.flat_machine.specs.Process.{Process, opening}
 use Rattle.machine_core.specs.declared.event.Reply.{Reply}
 use Rattle.machine_core.specs.declared.report.Report.{Report}
-use Rattle.machine_sides.specs.Starting.{Start, start_of}
-use Rattle.paged_cli.specs.ExitStatus.{exit_status, ending_of, worst_status}
+use Rattle.machine_sides.specs.Starting.{Start}
+use Rattle.report_text.specs.ExitStatus.{exit_status, ending_of, worst_status}
+use Rattle.report_text.specs.ReportText.{process_text, report_text}
+use Rattle.text_lines.specs.Text.{lines_of}
 use Rattle.paged_cli.specs.Playing.{Plays, ReportsRun}
+use Rattle.paged_cli.specs.Reading.{AreGiven, GivesImage, GivesInput}
+use Rattle.paged_cli.specs.Replies.{replies_text}
 
--- A machine of the frames and slots that were asked for, with a process for each image, ran until each process had ended or as many
--- events had happened as were asked for; the status is that of what is reported of it.
-pub record RunsAsAsked (request : RunRequest) (status : ℕ) : Type 0 where
-  pub starts : List Start
-  pub report : Report
-  pub many : length starts ≡ length request.images.items
-  pub ran : ReportsRun request.frames request.slots starts request.limit report
-  pub status_is : status ≡ worst_status 0 (map (λ process. process.end) report.processes.items)
+module _ (gives : List ℕ → List ℕ → Type 0) where
+  -- A machine of the frames and slots that were asked for, with a process for each image, the first on the input, ran in slices of the length
+  -- that was asked for, until each process had ended or as many events had happened as were asked for; what is reported of it is written, and
+  -- the status is that of the report.
+  pub record RunsAsAsked (request : RunRequest) (old new : Option (List ℕ)) (status : ℕ) : Type 0 where
+    pub starts : List Start
+    pub report : Report
+    pub given : AreGiven gives (option_map (λ s. s.now) request.input) (map (λ s. s.now) request.images.items) starts
+    pub ran : ReportsRun request.frames request.slots starts request.slice request.limit report
+    pub told : Appends old new (report_text report)
+    pub status_is : status ≡ worst_status 0 (map (λ process. process.end) report.processes.items)
 
--- the same of a script that was played to its end
-pub record PlaysAsAsked (request : DriveRequest) : Type 0 where
-  pub starts : List Start
-  pub lines : List (List ℕ)
-  pub replies : List Reply
-  pub many : length starts ≡ length request.images.items
-  pub played : Plays request.frames request.slots starts lines replies None
+  -- the same of a script that was played to its end or to its first bad line, with a line for each reply
+  pub record PlaysAsAsked (request : DriveRequest) (old new : Option (List ℕ)) (bad_line : Option ℕ) : Type 0 where
+    pub starts : List Start
+    pub script : List ℕ
+    pub replies : List Reply
+    pub given : AreGiven gives None (map (λ s. s.now) request.images.items) starts
+    pub read : gives request.script.now script
+    pub played : Plays request.frames request.slots starts (lines_of script) replies bad_line
+    pub told : Appends old new (replies_text replies)
 
--- An image ran on flat memory, its harts by turns, until it had ended or as many instructions had run as were asked for; the status is
--- that of its ending. Where no file is named for it, its input is empty.
-pub record FlatAsAsked (request : FlatRequest) (status : ℕ) : Type 0 where
-  pub image : ImageContent
-  pub input : List ℕ
-  pub none : is_some request.input ≡ false → input ≡ []
-  pub steps : ℕ
-  pub turn : ℕ
-  pub flat : Process
-  pub ran : by_turns steps (first_turn (opening image input)) (opening image input) ≡ Some (turn, flat)
-  pub within : steps ≤ request.limit
-  pub ended : steps < request.limit → IsSome flat.ending
-  pub status_is : status ≡ exit_status (ending_of flat.ending)
+  -- An image ran on flat memory, its harts by turns, until it had ended or as many instructions had run as were asked for; its output, its
+  -- ending and the number of its steps are written, and the status is that of its ending. Where no file is named for it, its input is empty.
+  pub record FlatAsAsked (request : FlatRequest) (old new : Option (List ℕ)) (status : ℕ) : Type 0 where
+    pub image : ImageContent
+    pub input : List ℕ
+    pub image_given : GivesImage gives request.image.now image
+    pub input_given : GivesInput gives (option_map (λ s. s.now) request.input) input
+    pub steps : ℕ
+    pub turn : ℕ
+    pub flat : Process
+    pub ran : by_turns steps (first_turn (opening image input)) (opening image input) ≡ Some (turn, flat)
+    pub within : steps ≤ request.limit
+    pub ended : steps < request.limit → IsSome flat.ending
+    pub told : Appends old new (process_text 0 flat.environment.output (ending_of flat.ending) steps)
+    pub status_is : status ≡ exit_status (ending_of flat.ending)

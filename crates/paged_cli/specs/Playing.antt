@@ -1,5 +1,5 @@
 -- What the commands that run a machine come to.
-use Rattle.std.specs.Prelude.{ℕ, ⊤, List, Option, replicate}
+use Rattle.std.specs.Prelude.{ℕ, ⊤, max, List, Option, replicate}
 use Rattle.swap_slots.specs.Slot.{zero_content}
 use Rattle.machine_core.specs.Applying.{Runs, LeadsTo}
 use Rattle.machine_core.specs.Headline.{PagingIsInvisible}
@@ -38,12 +38,12 @@ pub record Plays (frames slots : ℕ) (starts : List Start) (lines : List (List 
   pub runs : Runs page_of ⊤ never events replies start end
   pub invisible : PagingIsInvisible page_of ⊤ never events replies start end
 
--- what is reported of a new machine after a run that so many events end: each line is that of a flat run of its process's image and input
-pub record ReportsRun (frames slots : ℕ) (starts : List Start) (limit : ℕ) (report : Report) : Type 0 where
+-- what is reported of a new machine after a run in slices of so many instructions (or of one), which so many events end: each line is that of a flat run of its process's image and input
+pub record ReportsRun (frames slots : ℕ) (starts : List Start) (slice limit : ℕ) (report : Report) : Type 0 where
   pub start : CoreValue Slot
   pub end : CoreValue Slot
   pub new : IsNew frames slots starts start
   pub reached : LeadsTo page_of ⊤ never start end
-  pub limited : EndsByLimit page_of ⊤ never limit start end
+  pub limited : EndsByLimit page_of ⊤ never (max slice 1) limit start end
   pub told : Reports end report
   pub flat : StandsForRuns starts report

@@ -1,6 +1,6 @@
 //! `paged drive`: a machine that answers the events of a script.
 
-ghost use Rattle.std.specs.Prelude.{◌≡◌, ◌+◌, ◌≤◌, IfOk, IsOk, length, map};
+ghost use Rattle.std.specs.Prelude.{◌≡◌, ◌+◌, ◌≤◌, IfOk, IsOk, None, length, map};
 ghost use Rattle.command_line.specs.Requests.{IsDriveInRange};
 ghost use Rattle.machine_sides.specs.Starting.{start_of};
 ghost use Rattle.paged_cli.specs.Asked.{PlaysAsAsked};
@@ -8,41 +8,50 @@ ghost use Rattle.paged_cli.specs.Playing.{Plays};
 ghost use Rattle.text_lines.specs.Text.{lines_of};
 
 use crate::fault::Fault;
-use crate::files::read_text;
+use crate::files::{Folder, read_text};
 use crate::image_file::read_processes;
 use crate::machine::new_machine;
+use crate::replies::write_replies;
 use command_line::DriveRequest;
 use elf_image::Image;
-use event_scripts::{ReplyLine, read_drive_script};
+use event_scripts::read_drive_script;
 use machine_core::Reply;
 use std::alloc::{AllocError, Global};
 use std::io::Write;
 use std::marker::Brand;
-use std::rt::Files;
 use std::sync::ledger::{Blank, Ledger};
 
 /// Plays the script in a file on a new machine with a process for each image, and writes a reply for each event. A bad line
 /// ends it behind the replies so far.
-pub fn run_drive<'a, R: Files + AllocGlobal, W: Write>(
+pub fn run_drive<'a, R: Folder + AllocGlobal, W: Write>(
     rt: &R,
     request: &DriveRequest<'a>,
     out: &mut W,
 ) -> Result<(), Fault<'a>>
     requires { IsDriveInRange request.now }
-    ensures { IsOk result → PlaysAsAsked request.now }
+    ensures { IsOk result → PlaysAsAsked R.gives request.now (W.contents out.old) (W.contents out.new) None }
+{
+    match play_file(rt, request, out)? {
+        Some(number) => Err(Fault::BadLine(number)),
+        None => Ok(()),
+    }
+}
+
+/// Plays it, and tells the number of its first bad line.
+fn play_file<'a, R: Folder + AllocGlobal, W: Write>(
+    rt: &R,
+    request: &DriveRequest<'a>,
+    out: &mut W,
+) -> Result<Option<u64>, Fault<'a>>
+    requires { IsDriveInRange request.now }
+    ensures { IfOk result (PlaysAsAsked R.gives request.now (W.contents out.old) (W.contents out.new)) }
 {
     let script = read_text(rt, request.script)?;
     let processes = read_processes(rt, request.images.as_slice(), None)?;
     let script = script.as_str().as_bytes();
     let played = play(rt.alloc(), request.frames, request.slots, processes, script)?;
-    for reply in played.replies.as_slice() {
-        let line = ReplyLine(*reply);
-        writeln!(out, "{line}")?;
-    }
-    match played.bad_line {
-        Some(number) => Err(Fault::BadLine(number)),
-        None => Ok(()),
-    }
+    write_replies(played.replies.as_slice(), out)?;
+    Ok(played.bad_line)
 }
 
 /// What a script comes to.

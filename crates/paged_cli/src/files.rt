@@ -66,8 +66,10 @@ pub fn read_input<'a, R: Folder + AllocGlobal>(
 }
 
 /// The text of a file, which has to be UTF-8.
-pub fn read_text<'a, R: Files + AllocGlobal>(rt: &R, name: &'a str) -> Result<String, Fault<'a>> {
-    text_of(read_file(rt, name)?, name)
+pub fn read_text<'a, R: Folder>(rt: &R, name: &'a str) -> Result<String, Fault<'a>>
+    ensures { IfOk result (λ text. R.gives name.now text.bytes.items) }
+{
+    text_of(rt.read(name)?, name)
 }
 
 /// The text that a file's bytes are.

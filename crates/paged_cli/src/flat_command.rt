@@ -4,21 +4,20 @@ ghost use Rattle.std.specs.Prelude.{◌≡◌, IfOk};
 ghost use Rattle.paged_cli.specs.Asked.{FlatAsAsked};
 
 use crate::fault::Fault;
-use crate::files::read_input;
+use crate::files::{Folder, read_input};
 use crate::image_file::read_image;
-use crate::process_lines::{end_of, status_of_end, write_process};
 use command_line::FlatRequest;
 use flat_machine::FlatProcess;
+use report_text::{end_of, status_of_end, write_process};
 use std::io::Write;
-use std::rt::Files;
 
 /// Runs an image on flat memory, writes how it went, and answers the exit status. The image is read before the input.
-pub fn run_flat<'a, R: Files + AllocGlobal, W: Write>(
+pub fn run_flat<'a, R: Folder + AllocGlobal, W: Write>(
     rt: &R,
     request: &FlatRequest<'a>,
     out: &mut W,
 ) -> Result<u8, Fault<'a>>
-    ensures { IfOk result (λ status. FlatAsAsked request.now status) }
+    ensures { IfOk result (λ status. FlatAsAsked R.gives request.now (W.contents out.old) (W.contents out.new) status) }
 {
     let image = read_image(rt, request.image)?;
     let input = read_input(rt, request.input)?;

@@ -3,6 +3,7 @@
 
 mod asm_command;
 mod clock_command;
+mod debug_command;
 mod drive_command;
 mod fault;
 mod files;
@@ -10,14 +11,13 @@ mod flat_command;
 mod image_file;
 mod image_kind;
 mod machine;
-mod process_lines;
 mod program;
-mod report_lines;
+mod replies;
 mod run_command;
 mod words_file;
 
 pub use fault::Fault;
-pub use files::read_text;
+pub use files::{Folder, read_text};
 pub use image_file::read_processes;
 pub use machine::new_machine;
 pub use program::run_paged;

@@ -37,7 +37,7 @@ pub fn new_machine<L: Ledger>(
 
 /// So many slots in memory.
 #[tactic(auto, using(crate::proofs::Slots::one_more, crate::proofs::Slots::as_many))]
-fn memory_slots(alloc: Global, count: u32) -> Result<Vec<MemorySlot>, AllocError>
+pub(crate) fn memory_slots(alloc: Global, count: u32) -> Result<Vec<MemorySlot>, AllocError>
     ensures { IfOk result (λ slots. slots.items ≡ replicate count zero_content) }
 {
     let wanted = count as usize;

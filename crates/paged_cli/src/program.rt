@@ -2,6 +2,7 @@
 
 use crate::asm_command::run_asm;
 use crate::clock_command::run_clock;
+use crate::debug_command::run_debug;
 use crate::drive_command::run_drive;
 use crate::fault::Fault;
 use crate::flat_command::run_flat;
@@ -15,15 +16,15 @@ use std::rt::Files;
 const FAULT: u8 = 2;
 
 /// Runs the program on the words behind its name, and answers its exit status: 0 or, of processes, how they ended; 2 for a fault,
-/// which is told on `err`. The files that the words name are read by `rt`.
+/// which is told on `err`. The files that the words name are read by `rt`, and the lines for a debugger from `input`.
 pub fn run_paged<R: Files + AllocGlobal, S: AsStr, I: Read, O: Write, E: Write>(
     rt: &R,
     words: &[S],
-    _input: &mut I,
+    input: &mut I,
     out: &mut O,
     err: &mut E,
 ) -> u8 {
-    let done = run_words(rt, words, out);
+    let done = run_words(rt, words, input, out);
     let flushed = out.flush();
     match done {
         Ok(status) => match flushed {
@@ -34,9 +35,10 @@ pub fn run_paged<R: Files + AllocGlobal, S: AsStr, I: Read, O: Write, E: Write>(
     }
 }
 
-fn run_words<'a, R: Files + AllocGlobal, S: AsStr, O: Write>(
+fn run_words<'a, R: Files + AllocGlobal, S: AsStr, I: Read, O: Write>(
     rt: &R,
     words: &'a [S],
+    input: &mut I,
     out: &mut O,
 ) -> Result<u8, Fault<'a>> {
     match read_request(rt.alloc(), words)? {
@@ -54,6 +56,10 @@ fn run_words<'a, R: Files + AllocGlobal, S: AsStr, O: Write>(
             Ok(0)
         }
         Request::Run(request) => run_machine(rt, &request, out),
+        Request::Debug(request) => {
+            run_debug(rt, &request, input, out)?;
+            Ok(0)
+        }
     }
 }
 

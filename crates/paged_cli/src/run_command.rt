@@ -7,28 +7,27 @@ ghost use Rattle.paged_cli.specs.Asked.{RunsAsAsked};
 ghost use Rattle.paged_cli.specs.Playing.{ReportsRun};
 
 use crate::fault::Fault;
+use crate::files::Folder;
 use crate::image_file::read_processes;
 use crate::machine::new_machine;
-use crate::process_lines::status_of_all;
-use crate::report_lines::write_report;
 use command_line::RunRequest;
 use elf_image::Image;
 use machine_core::Report;
+use report_text::{status_of_all, write_report};
 use serial_driver::run_serial;
 use std::alloc::{AllocError, Global};
 use std::io::Write;
 use std::marker::Brand;
-use std::rt::Files;
 use std::sync::ledger::{Blank, Ledger};
 
 /// Runs a process for each image on a new machine until all have ended, writes how it went, and answers the exit status.
-pub fn run_machine<'a, R: Files + AllocGlobal, W: Write>(
+pub fn run_machine<'a, R: Folder + AllocGlobal, W: Write>(
     rt: &R,
     request: &RunRequest<'a>,
     out: &mut W,
 ) -> Result<u8, Fault<'a>>
     requires { IsRunInRange request.now }
-    ensures { IfOk result (λ status. RunsAsAsked request.now status) }
+    ensures { IfOk result (λ status. RunsAsAsked R.gives request.now (W.contents out.old) (W.contents out.new) status) }
 {
     let processes = read_processes(rt, request.images.as_slice(), request.input)?;
     let (frames, slots, slice) = (request.frames, request.slots, request.slice);
@@ -50,7 +49,7 @@ pub fn run(
     requires least { 4 ≤ frames }
     requires most { frames ≤ 4096 }
     requires few { length processes.items ≤ 16 }
-    ensures { IfOk result (ReportsRun frames slots (map (λ start. start_of start.0 start.1.items) processes.items) limit) }
+    ensures { IfOk result (ReportsRun frames slots (map (λ start. start_of start.0 start.1.items) processes.items) slice limit) }
 {
     let blank = Blank::new(u64::from(frames) + 1);
     run_with::<Brand>(alloc, frames, blank, slots, processes, slice, limit)
@@ -71,7 +70,7 @@ fn run_with<L: Ledger>(
     requires least { 4 ≤ frames }
     requires most { frames ≤ 4096 }
     requires few { length processes.items ≤ 16 }
-    ensures { IfOk result (ReportsRun frames slots (map (λ start. start_of start.0 start.1.items) processes.items) limit) }
+    ensures { IfOk result (ReportsRun frames slots (map (λ start. start_of start.0 start.1.items) processes.items) slice limit) }
 {
     let mut machine = new_machine::<L>(alloc, frames, blank, slots, processes)?;
     run_serial(alloc, &mut machine, slice, limit)

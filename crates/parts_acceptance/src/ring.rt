@@ -13,7 +13,7 @@ fn finds_what_was_put_in(rt: HostRuntime) -> Result<(), Fail> {
     let at = ring.append(Entry {
         key,
         kind: EntryKind::Test,
-    })?;
+    });
     assert_eq!(rt; (ring.len(), ring.front()), (1, at));
     assert_eq!(rt; (ring.find(key), ring.find(other)), (Some(at), None));
     Ok(())

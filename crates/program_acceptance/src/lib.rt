@@ -6,6 +6,8 @@ mod asm;
 #[cfg(test)]
 mod clock;
 #[cfg(test)]
+mod debug;
+#[cfg(test)]
 mod flat;
 #[cfg(test)]
 mod runs;

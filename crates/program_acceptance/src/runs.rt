@@ -11,11 +11,17 @@ pub struct Run {
     pub err: String,
 }
 
-/// Runs the program on some words.
+/// Runs the program on some words, with nothing on standard input.
 pub fn run_words(rt: &HostRuntime, words: &[&str]) -> io::Result<Run> {
+    run_words_on(rt, words, b"".as_slice())
+}
+
+/// Runs the program on some words and an input.
+pub fn run_words_on(rt: &HostRuntime, words: &[&str], input: &[u8]) -> io::Result<Run> {
+    let mut input = input;
     let mut out = Vec::new(rt.alloc());
     let mut err = Vec::new(rt.alloc());
-    let status = run_paged(rt, words, &mut io::empty(), &mut out, &mut err);
+    let status = run_paged(rt, words, &mut input, &mut out, &mut err);
     let (Ok(out), Ok(err)) = (String::from_utf8(out), String::from_utf8(err)) else {
         return Err(io::Error::from(io::ErrorKind::InvalidData));
     };
@@ -50,6 +56,14 @@ impl TestFile {
 pub fn run_flat(rt: &HostRuntime, test: &str, content: &[u8]) -> io::Result<Run> {
     let file = TestFile::new(rt, test, content)?;
     let done = run_words(rt, &["flat", file.path.as_str()]);
+    file.remove(rt)?;
+    done
+}
+
+/// Runs `paged debug` on a file of this content and an input.
+pub fn run_debug(rt: &HostRuntime, test: &str, content: &[u8], input: &[u8]) -> io::Result<Run> {
+    let file = TestFile::new(rt, test, content)?;
+    let done = run_words_on(rt, &["debug", file.path.as_str()], input);
     file.remove(rt)?;
     done
 }

@@ -1,3 +1,4 @@
+pub mod Bringing
 pub mod Closed
 pub mod Counted
 pub mod Endings

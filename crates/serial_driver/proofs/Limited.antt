@@ -1,5 +1,5 @@
 -- Runs of so many events, one after another, and how a run is closed.
-use Rattle.std.proofs.Common.{◌≡◌, ℕ, zero, suc, ◌+◌, false, List, [], ◌∷◌, ◌++◌, length, Option, Some, None, All, replicate, refl, sym, ap, ◌∙◌, arith, subst}
+use Rattle.std.proofs.Common.{◌≡◌, ℕ, zero, suc, ◌+◌, ◌≤◌, max, false, List, [], ◌∷◌, ◌++◌, length, Option, Some, None, All, replicate, refl, sym, ap, ◌∙◌, arith, subst}
 use Rattle.std.proofs.lemmas.List.Elements.{All-append, All-nil, All-cons}
 use Rattle.std.proofs.Math.ListN.{length-replicate, length-append}
 use Rattle.clock_policy.specs.declared.key.Key.{Key}
@@ -13,9 +13,10 @@ use Rattle.machine_core.specs.ManySteps.{steps_of, replies_of}
 use Rattle.serial_driver.specs.Closing.{is_limit_kill}
 use Rattle.serial_driver.specs.Limit.{DoesSave, EndsByLimit, PlaysWith}
 use Rattle.serial_driver.specs.Owing.{Duty, Pays, ArePaid, duty_with, duty_after, next_owed}
+use Rattle.serial_driver.specs.Turning.{IsInTurn}
 use Rattle.serial_driver.specs.Patience.{IsPatient, spent_after, spent_with, tried_after, tried_with}
 use Rattle.serial_driver.specs.declared.patience.Patience.{Patience}
-use Rattle.serial_driver.proofs.Owed.{duty_on, paid_on, steps_paid}
+use Rattle.serial_driver.proofs.Owed.{duty_on, paid_on, steps_many, steps_paid}
 use Rattle.serial_driver.proofs.Tried.{after_on, patient_same, spent_on}
 use Rattle.serial_driver.proofs.Reached.{reaches_one, reaches_by, reaches_last}
 
@@ -27,13 +28,7 @@ steps_unlimited : (process hart count : ℕ) → All Unlimited (replicate count 
 steps_unlimited process hart zero = All-nil _
 steps_unlimited process hart (suc count) = All-cons Unlimited (Step process hart) _ refl (steps_unlimited process hart count)
 
--- how many events steps of a hart are
-steps_many : Option Reply → ℕ → ℕ
-steps_many None ran = ran
-steps_many (Some reply) ran = ran + 1
-
 steps_length : (process hart ran : ℕ) (last : Option Reply) → length (steps_of process hart ran last) ≡ steps_many last ran
-unfolding steps_many
 steps_length process hart ran None = length-replicate ran (Step process hart)
 steps_length process hart ran (Some reply) = length-append (replicate ran (Step process hart)) (Step process hart ∷ []) ∙ ap (λ n. n + 1) (length-replicate ran (Step process hart))
 
@@ -63,16 +58,16 @@ module _ {S : Type 0} (held : S → List ℕ) (honest : Type 0) (failures : S �
 
   pub plays_one : (most : ℕ) (tried : ℕ → ℕ) (duty left : Duty) (spent : Option ℕ) (old new : CoreValue S) (patience : Patience) (event : Event) (reply : Reply) → Applies held honest failures event old new reply
       → is_limit_kill event ≡ false → IsPatient most (λ number. tried_with number event reply (tried number)) patience → patience.spent ≡ spent_with most tried event reply
-      → Pays (next_owed duty.owed spent) event → left ≡ duty_with event reply duty → PlaysWith held honest failures most tried duty spent 1 old new patience left
+      → Pays (next_owed duty.owed spent) event → IsInTurn duty.turn event → left ≡ duty_with event reply duty → PlaysWith held honest failures most tried duty spent 1 old new patience left
   unfolding tried_after spent_after ArePaid duty_after
-  plays_one most tried duty left spent old new patience event reply applies unlimited patient spends pays owes = record {
+  plays_one most tried duty left spent old new patience event reply applies unlimited patient spends pays in_turn owes = record {
     plays = record {
       events = event ∷ [];
       replies = reply ∷ [];
       runs = runs_one held honest failures event old new reply applies;
       many = refl;
       unlimited = All-cons Unlimited event [] unlimited (All-nil _);
-      paid = (pays, tt {0});
+      paid = (pays, in_turn, tt {0});
     };
     patient = patient;
     spends = spends;
@@ -104,24 +99,22 @@ module _ {S : Type 0} (held : S → List ℕ) (honest : Type 0) (failures : S �
       → Runs held honest failures (steps_of process hart ran last) (replies_of ran last) old new
       → IsPatient most (λ number. tried_after number (steps_of process hart ran last) (replies_of ran last) (tried number)) patience
       → patience.spent ≡ spent_after most tried (steps_of process hart ran last) (replies_of ran last) spent
-      → Pays (next_owed duty.owed spent) (Step process hart) → left ≡ duty_after (steps_of process hart ran last) (replies_of ran last) duty
+      → Pays (next_owed duty.owed spent) (Step process hart) → IsInTurn duty.turn (Step process hart) → steps_many last ran ≤ max duty.turn.left 1 → left ≡ duty_after (steps_of process hart ran last) (replies_of ran last) duty
       → (reply : Reply) → last ≡ Some reply → (count : ℕ) → count ≡ ran → PlaysWith held honest failures most tried duty spent (count + 1) old new patience left
-  unfolding steps_many
-  plays_last most tried duty left spent old new patience process hart ran last runs patient spends pays owes reply is count same =
+  plays_last most tried duty left spent old new patience process hart ran last runs patient spends pays in_turn few owes reply is count same =
       subst (λ n. PlaysWith held honest failures most tried duty spent n old new patience left) (ap (λ (l : Option Reply). steps_many l ran) is ∙ ap (λ n. n + 1) (sym same))
-      (plays_steps most tried duty left spent old new patience process hart ran last runs patient spends (steps_paid most tried duty spent process hart ran last pays) owes)
+      (plays_steps most tried duty left spent old new patience process hart ran last runs patient spends (steps_paid most tried duty spent process hart ran last pays in_turn few) owes)
 
   -- or that all ran
   pub plays_all : (most : ℕ) (tried : ℕ → ℕ) (duty left : Duty) (spent : Option ℕ) (old new : CoreValue S) (patience : Patience) (process hart ran : ℕ) (last : Option Reply)
       → Runs held honest failures (steps_of process hart ran last) (replies_of ran last) old new
       → IsPatient most (λ number. tried_after number (steps_of process hart ran last) (replies_of ran last) (tried number)) patience
       → patience.spent ≡ spent_after most tried (steps_of process hart ran last) (replies_of ran last) spent
-      → Pays (next_owed duty.owed spent) (Step process hart) → left ≡ duty_after (steps_of process hart ran last) (replies_of ran last) duty
+      → Pays (next_owed duty.owed spent) (Step process hart) → IsInTurn duty.turn (Step process hart) → steps_many last ran ≤ max duty.turn.left 1 → left ≡ duty_after (steps_of process hart ran last) (replies_of ran last) duty
       → last ≡ None → (count : ℕ) → count ≡ ran → PlaysWith held honest failures most tried duty spent count old new patience left
-  unfolding steps_many
-  plays_all most tried duty left spent old new patience process hart ran last runs patient spends pays owes is count same =
+  plays_all most tried duty left spent old new patience process hart ran last runs patient spends pays in_turn few owes is count same =
       subst (λ n. PlaysWith held honest failures most tried duty spent n old new patience left) (ap (λ (l : Option Reply). steps_many l ran) is ∙ sym same)
-      (plays_steps most tried duty left spent old new patience process hart ran last runs patient spends (steps_paid most tried duty spent process hart ran last pays) owes)
+      (plays_steps most tried duty left spent old new patience process hart ran last runs patient spends (steps_paid most tried duty spent process hart ran last pays in_turn few) owes)
 
   pub plays_more : (most : ℕ) (tried : ℕ → ℕ) (duty midway left : Duty) (spent : Option ℕ) (first second total : ℕ) (old between new : CoreValue S) (middle patience : Patience)
       → (a : PlaysWith held honest failures most tried duty spent first old between middle midway)
@@ -156,8 +149,8 @@ module _ {S : Type 0} (held : S → List ℕ) (honest : Type 0) (failures : S �
   save_reached (Some key) old new saves = reaches_one held honest failures old new (Saved key) saves.0 saves.1
 
   -- a run that is ended at its limit is one of the machine's
-  pub ends_reached : (limit : ℕ) (old new : CoreValue S) → EndsByLimit held honest failures limit old new → LeadsTo held honest failures old new
-  ends_reached limit old new ends =
+  pub ends_reached : (slice limit : ℕ) (old new : CoreValue S) → EndsByLimit held honest failures slice limit old new → LeadsTo held honest failures old new
+  ends_reached slice limit old new ends =
       reaches_last held honest failures old ends.played ends.saved new
       (reaches_by held honest failures ends.plays.plays.events ends.plays.plays.replies old ends.played ends.plays.plays.runs)
       (save_reached ends.unsaved ends.played ends.saved ends.saves)

@@ -1,11 +1,13 @@
 -- What is owed over events one after another.
-use Rattle.std.proofs.Common.{◌≡◌, ℕ, zero, suc, ◌<◌, List, [], ◌∷◌, ◌++◌, length, Option, Some, None, replicate, refl, ap, ◌∙◌, arith}
+use Rattle.std.proofs.Common.{◌≡◌, ℕ, zero, suc, ◌+◌, ◌-◌, ◌<◌, ◌≤◌, max, List, [], ◌∷◌, ◌++◌, length, Option, Some, None, replicate, refl, ap, ◌∙◌, arith}
 use Rattle.machine_core.specs.declared.event.Event.{Event}
 use Rattle.machine_core.specs.declared.event.Event.TheVariants.{Step}
 use Rattle.machine_core.specs.declared.event.Reply.{Reply}
 use Rattle.machine_core.specs.declared.event.Reply.TheVariants.{Ran}
 use Rattle.machine_core.specs.ManySteps.{steps_of, replies_of}
 use Rattle.serial_driver.specs.Owing.{Duty, Pays, ArePaid, duty_with, duty_after, next_owed, step_faults, step_owes}
+use Rattle.std.specs.Prelude.{◌==◌, IfSome, Bool, true, false, if◌then◌else◌}
+use Rattle.serial_driver.specs.Turning.{IsInTurn, MayStep, Rests, Runs, ran_turn, step_turn}
 use Rattle.serial_driver.specs.Patience.{spent_after, spent_with, tried_after, tried_with}
 
 -- after events, and then others
@@ -26,24 +28,46 @@ paid_on most tried duty spent [] second [] replies' same a b = b
 paid_on most tried duty spent [] second (r ∷ rs) replies' same a b = absurd (omega (arith, same))
 paid_on most tried duty spent (e ∷ es) second [] replies' same a b = absurd (omega (arith, same))
 paid_on most tried duty spent (e ∷ es) second (r ∷ rs) replies' same a b =
-    (a.0, paid_on most (λ number. tried_with number e r (tried number)) (duty_with e r duty) (spent_with most tried e r) es second rs replies' (omega (arith, same)) a.1 b)
+    (a.0, a.1, paid_on most (λ number. tried_with number e r (tried number)) (duty_with e r duty) (spent_with most tried e r) es second rs replies' (omega (arith, same)) a.2 b)
 
--- steps that go on settle nothing
-ran_duty : (process hart count : ℕ) (duty : Duty) → duty_after (replicate (suc count) (Step process hart)) (replicate (suc count) Ran) duty ≡ record { faults = duty.faults; owed = None }
-unfolding duty_after
-ran_duty process hart zero duty = refl
-ran_duty process hart (suc count) duty = ran_duty process hart count (duty_with (Step process hart) Ran duty)
+-- how many events steps of a hart are
+abbrev pub steps_many : Option Reply → ℕ → ℕ
+steps_many None ran = ran
+steps_many (Some reply) ran = ran + 1
 
 same_count : (process hart count : ℕ) → length (replicate count (Step process hart)) ≡ length (replicate count Ran)
 same_count process hart zero = refl
 same_count process hart (suc count) = ap suc (same_count process hart count)
 
+most_left : (most left : ℕ) → most ≤ max left 1 → 2 ≤ most → most ≤ left
+most_left most left few two = grind (arith, few, two)
+
+-- with more than one instruction left of its slice a hart runs on
+runs_on : (process hart slice left : ℕ) → 1 ≤ left → IsInTurn (ran_turn process hart slice left) (Step process hart)
+runs_on process hart slice left some = by_test (left == 0) refl
+  where
+    by_test : (b : Bool) → (left == 0) ≡ b → MayStep (if b then Rests else Runs) (ran_turn process hart slice left) process hart
+    by_test true is = absurd (grind (arith, is, some))
+    by_test false is = (refl, refl)
+
+next_few : (count left : ℕ) → suc (suc count) ≤ max left 1 → suc count ≤ max (left - 1) 1
+next_few count left few = let most = most_left (suc (suc count)) left few (omega arith) in omega (arith, most)
+
+next_runs : (process hart slice count left : ℕ) → suc (suc count) ≤ max left 1 → IsInTurn (ran_turn process hart slice (left - 1)) (Step process hart)
+next_runs process hart slice count left few = let most = most_left (suc (suc count)) left few (omega arith) in runs_on process hart slice (left - 1) (omega (arith, most))
+
+-- steps that go on settle nothing, and come in turn as long as the slice has instructions left
 ran_paid : (most : ℕ) (tried : ℕ → ℕ) (duty : Duty) (spent : Option ℕ) (process hart count : ℕ) → Pays (next_owed duty.owed spent) (Step process hart)
-    → ArePaid most tried duty spent (replicate count (Step process hart)) (replicate count Ran)
+    → IsInTurn duty.turn (Step process hart) → count ≤ max duty.turn.left 1 → ArePaid most tried duty spent (replicate count (Step process hart)) (replicate count Ran)
 unfolding ArePaid
-ran_paid most tried duty spent process hart zero pays = tt {0}
-ran_paid most tried duty spent process hart (suc count) pays =
-    (pays, ran_paid most (λ number. tried_with number (Step process hart) Ran (tried number)) (duty_with (Step process hart) Ran duty) None process hart count refl)
+ran_paid most tried duty spent process hart zero pays in_turn few = tt {0}
+ran_paid most tried duty spent process hart (suc zero) pays in_turn few = (pays, in_turn, tt {0})
+ran_paid most tried duty spent process hart (suc (suc count)) pays in_turn few = (
+  pays,
+  in_turn,
+  ran_paid most (λ number. tried_with number (Step process hart) Ran (tried number)) (duty_with (Step process hart) Ran duty) None process hart (suc count) refl
+      (next_runs process hart duty.turn.slice count duty.turn.left few) (next_few count duty.turn.left few),
+)
 
 -- the duty before the last of some steps
 before_last : (most : ℕ) (tried : ℕ → ℕ) (duty : Duty) (spent : Option ℕ) (process hart ran : ℕ) → Pays (next_owed duty.owed spent) (Step process hart)
@@ -53,13 +77,23 @@ before_last most tried duty spent process hart zero pays = pays
 before_last most tried duty spent process hart (suc count) pays =
     before_last most (λ number. tried_with number (Step process hart) Ran (tried number)) (duty_with (Step process hart) Ran duty) None process hart count refl
 
+turn_last : (duty : Duty) (process hart ran : ℕ) → IsInTurn duty.turn (Step process hart) → ran + 1 ≤ max duty.turn.left 1
+    → IsInTurn (duty_after (replicate ran (Step process hart)) (replicate ran Ran) duty).turn (Step process hart)
+unfolding duty_after
+turn_last duty process hart zero in_turn few = in_turn
+turn_last duty process hart (suc count) in_turn few =
+    let least : suc (suc count) ≤ max duty.turn.left 1 = omega (arith, few) in
+    turn_last (duty_with (Step process hart) Ran duty) process hart count (next_runs process hart duty.turn.slice count duty.turn.left least)
+    (let next = next_few count duty.turn.left least in omega (arith, next))
+
 pub steps_paid : (most : ℕ) (tried : ℕ → ℕ) (duty : Duty) (spent : Option ℕ) (process hart ran : ℕ) (last : Option Reply) → Pays (next_owed duty.owed spent) (Step process hart)
-    → ArePaid most tried duty spent (steps_of process hart ran last) (replies_of ran last)
+    → IsInTurn duty.turn (Step process hart) → steps_many last ran ≤ max duty.turn.left 1 → ArePaid most tried duty spent (steps_of process hart ran last) (replies_of ran last)
 unfolding ArePaid
-steps_paid most tried duty spent process hart ran None pays = ran_paid most tried duty spent process hart ran pays
-steps_paid most tried duty spent process hart ran (Some reply) pays =
+steps_paid most tried duty spent process hart ran None pays in_turn few = ran_paid most tried duty spent process hart ran pays in_turn few
+steps_paid most tried duty spent process hart ran (Some reply) pays in_turn few =
     paid_on most tried duty spent (replicate ran (Step process hart)) (Step process hart ∷ []) (replicate ran Ran) (reply ∷ []) (same_count process hart ran)
-    (ran_paid most tried duty spent process hart ran pays) (before_last most tried duty spent process hart ran pays, tt {0})
+    (ran_paid most tried duty spent process hart ran pays in_turn (omega (arith, few)))
+    (before_last most tried duty spent process hart ran pays, turn_last duty process hart ran in_turn few, tt {0})
 
 -- what steps leave owed, by the last one's reply
 ran_faults : (process hart count : ℕ) (duty : Duty) → (duty_after (replicate count (Step process hart)) (replicate count Ran) duty).faults ≡ duty.faults
@@ -67,13 +101,48 @@ unfolding duty_after
 ran_faults process hart zero duty = refl
 ran_faults process hart (suc count) duty = ran_faults process hart count (duty_with (Step process hart) Ran duty)
 
+ran_slice : (process hart count : ℕ) (duty : Duty) → (duty_after (replicate count (Step process hart)) (replicate count Ran) duty).turn.slice ≡ duty.turn.slice
+unfolding duty_after
+ran_slice process hart zero duty = refl
+ran_slice process hart (suc count) duty = ran_slice process hart count (duty_with (Step process hart) Ran duty)
+
+less_one : (left count : ℕ) → left - 1 - count ≡ left - suc count
+less_one left count = omega arith
+
+ran_left : (process hart count : ℕ) (duty : Duty) → (duty_after (replicate count (Step process hart)) (replicate count Ran) duty).turn.left ≡ duty.turn.left - count
+unfolding duty_after
+ran_left process hart zero duty = omega arith
+ran_left process hart (suc count) duty = ran_left process hart count (duty_with (Step process hart) Ran duty) ∙ less_one duty.turn.left count
+
 pub steps_told : (process hart ran : ℕ) (reply : Reply) (duty : Duty)
-    → duty_after (steps_of process hart ran (Some reply)) (replies_of ran (Some reply)) duty ≡ record { faults = step_faults reply duty.faults; owed = step_owes process reply }
+    → duty_after (steps_of process hart ran (Some reply)) (replies_of ran (Some reply)) duty
+    ≡ record { faults = step_faults reply duty.faults; owed = step_owes process reply; turn = step_turn process hart reply duty.turn.slice (duty.turn.left - ran) }
 unfolding duty_after
 steps_told process hart ran reply duty =
+    let before : Duty = duty_after (replicate ran (Step process hart)) (replicate ran Ran) duty in
     duty_on duty (replicate ran (Step process hart)) (Step process hart ∷ []) (replicate ran Ran) (reply ∷ []) (same_count process hart ran)
-    ∙ ap (λ n. record { faults = step_faults reply n; owed = step_owes process reply }) (ran_faults process hart ran duty)
+    ∙ ap (λ n. record { faults = step_faults reply n; owed = step_owes process reply; turn = step_turn process hart reply before.turn.slice before.turn.left }) (ran_faults process hart ran duty)
+    ∙ ap (λ n. record { faults = step_faults reply duty.faults; owed = step_owes process reply; turn = step_turn process hart reply n before.turn.left }) (ran_slice process hart ran duty)
+    ∙ ap (λ n. record { faults = step_faults reply duty.faults; owed = step_owes process reply; turn = step_turn process hart reply duty.turn.slice n }) (ran_left process hart ran duty)
 
-pub steps_all : (process hart ran : ℕ) (duty : Duty) → 0 < ran → duty_after (steps_of process hart ran None) (replies_of ran None) duty ≡ record { faults = duty.faults; owed = None }
+ran_duty : (process hart count : ℕ) (duty : Duty) → duty_after (replicate (suc count) (Step process hart)) (replicate (suc count) Ran) duty
+    ≡ record { faults = duty.faults; owed = None; turn = ran_turn process hart duty.turn.slice (duty.turn.left - suc count) }
+unfolding duty_after
+ran_duty process hart zero duty = refl
+ran_duty process hart (suc count) duty =
+    ran_duty process hart count (duty_with (Step process hart) Ran duty)
+    ∙ ap (λ n. record { faults = duty.faults; owed = None; turn = ran_turn process hart duty.turn.slice n }) (less_one duty.turn.left (suc count))
+
+pub steps_all : (process hart ran : ℕ) (duty : Duty) → 0 < ran → duty_after (steps_of process hart ran None) (replies_of ran None) duty
+    ≡ record { faults = duty.faults; owed = None; turn = ran_turn process hart duty.turn.slice (duty.turn.left - ran) }
 steps_all process hart zero duty some = absurd (omega (arith, some))
 steps_all process hart (suc count) duty some = ran_duty process hart count duty
+
+-- so many steps are no more than may be
+pub few_last : (ran most : ℕ) (last : Option Reply) (left : ℕ) (reply : Reply) → last ≡ Some reply → IfSome last (λ _. ran < most) → most ≤ max left 1 → steps_many last ran ≤ max left 1
+few_last ran most None left reply is short few = cc
+few_last ran most (Some answer) left reply is short few = omega (arith, short, few)
+
+pub few_all : (ran most : ℕ) (last : Option Reply) (left : ℕ) → last ≡ None → ran ≤ most → most ≤ max left 1 → steps_many last ran ≤ max left 1
+few_all ran most None left is within few = omega (arith, within, few)
+few_all ran most (Some answer) left is within few = cc

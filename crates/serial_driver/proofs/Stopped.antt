@@ -9,10 +9,10 @@ use Rattle.serial_driver.specs.Patience.{tries_per_frame}
 use Rattle.serial_driver.specs.declared.patience.Patience.{Patience}
 
 module _ {S : Type 0} (held : S → List ℕ) (honest : Type 0) (failures : S → ℕ) where
-  pub plays_to_end : (limit count left : ℕ) (duty duty' : Duty) (old new : CoreValue S) (patience : Patience) → count + left ≡ limit
-      → PlaysWith held honest failures (tries_per_frame * old.pager.pager.size) (λ _. 0) no_duty None count old new patience duty
-      → duty' ≡ duty → duty'.owed ≡ None → ((number : ℕ) → HasEnded new number) → PlaysUpTo held honest failures limit None old new
-  plays_to_end limit count left duty duty' old new patience sum played same free ended = record {
+  pub plays_to_end : (slice limit count left : ℕ) (duty duty' : Duty) (old new : CoreValue S) (patience : Patience) → count + left ≡ limit
+      → PlaysWith held honest failures (tries_per_frame * old.pager.pager.size) (λ _. 0) (no_duty slice) None count old new patience duty
+      → duty' ≡ duty → duty'.owed ≡ None → ((number : ℕ) → HasEnded new number) → PlaysUpTo held honest failures slice limit None old new
+  plays_to_end slice limit count left duty duty' old new patience sum played same free ended = record {
     count = count;
     plays = played.plays;
     within = omega (arith, sum);
@@ -21,10 +21,10 @@ module _ {S : Type 0} (held : S → List ℕ) (honest : Type 0) (failures : S �
     unsaved_is = sym (ap (λ (d : Duty). owed_save d.owed) (sym played.owes ∙ sym same) ∙ ap owed_save free);
   }
 
-  pub plays_to_limit : (limit count left : ℕ) (duty : Duty) (old new : CoreValue S) (patience : Patience) (unsaved : Option Key) → count + left ≡ limit → left ≤ 0
-      → PlaysWith held honest failures (tries_per_frame * old.pager.pager.size) (λ _. 0) no_duty None count old new patience duty
-      → unsaved ≡ owed_save duty.owed → PlaysUpTo held honest failures limit unsaved old new
-  plays_to_limit limit count left duty old new patience unsaved sum none played is = record {
+  pub plays_to_limit : (slice limit count left : ℕ) (duty : Duty) (old new : CoreValue S) (patience : Patience) (unsaved : Option Key) → count + left ≡ limit → left ≤ 0
+      → PlaysWith held honest failures (tries_per_frame * old.pager.pager.size) (λ _. 0) (no_duty slice) None count old new patience duty
+      → unsaved ≡ owed_save duty.owed → PlaysUpTo held honest failures slice limit unsaved old new
+  plays_to_limit slice limit count left duty old new patience unsaved sum none played is = record {
     count = count;
     plays = played.plays;
     within = omega (arith, sum);

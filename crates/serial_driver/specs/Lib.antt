@@ -7,4 +7,6 @@ pub mod Nexts
 pub mod Owing
 pub mod Patience
 pub mod Reporting
+pub mod Serving
+pub mod Turning
 pub mod TurnsDuty

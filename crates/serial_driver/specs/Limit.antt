@@ -13,7 +13,7 @@ use Rattle.serial_driver.specs.Patience.{tries_per_frame, tried_after, spent_aft
 use Rattle.serial_driver.specs.declared.patience.Patience.{Patience}
 
 module _ {S : Type 0} (held : S → List ℕ) (honest : Type 0) (failures : S → ℕ) where
-  -- So many events lead from one machine to the other. None of them ends a process for the limit. Each event that is owed, for an answer
+  -- So many events lead from one machine to the other, each in turn. None of them ends a process for the limit. Each event that is owed, for an answer
   -- or for a process that was tried for too often, is the next; and for no other reason one is ended.
   pub record PlaysOn (most : ℕ) (tried : ℕ → ℕ) (duty : Duty) (spent : Option ℕ) (count : ℕ) (old new : CoreValue S) : Type 0 where
     pub events : List Event
@@ -30,15 +30,15 @@ module _ {S : Type 0} (held : S → List ℕ) (honest : Type 0) (failures : S �
     pub spends : patience.spent ≡ spent_after most tried plays.events plays.replies spent
     pub owes : left ≡ duty_after plays.events plays.replies duty
 
-  -- the same of as many events as the limit says, or of fewer where each process has ended; the save that is out is the one that is
-  -- owed, and one is out only at the limit
-  pub record PlaysUpTo (limit : ℕ) (unsaved : Option Key) (old new : CoreValue S) : Type 0 where
+  -- the same in slices of so many instructions, of as many events as the limit says, or of fewer where each process has ended; the save
+  -- that is out is the one that is owed, and one is out only at the limit
+  pub record PlaysUpTo (slice limit : ℕ) (unsaved : Option Key) (old new : CoreValue S) : Type 0 where
     pub count : ℕ
-    pub plays : PlaysOn (tries_per_frame * old.pager.pager.size) (λ _. 0) no_duty None count old new
+    pub plays : PlaysOn (tries_per_frame * old.pager.pager.size) (λ _. 0) (no_duty slice) None count old new
     pub within : count ≤ limit
     pub short : count < limit → (number : ℕ) → HasEnded new number
     pub saves_late : IsSome unsaved → count ≡ limit
-    pub unsaved_is : unsaved ≡ owed_save (duty_after plays.events plays.replies no_duty).owed
+    pub unsaved_is : unsaved ≡ owed_save (duty_after plays.events plays.replies (no_duty slice)).owed
 
   -- the save that is out is done, if there is one
   abbrev pub DoesSave : Option Key → CoreValue S → CoreValue S → Type 0
@@ -60,12 +60,12 @@ module _ {S : Type 0} (held : S → List ℕ) (honest : Type 0) (failures : S �
   abbrev pub Closes : CoreValue S → CoreValue S → Type 0
   Closes old new = ClosesBelow (length old.processes) old new
 
-  -- Processes run until so many events have happened, or until each has ended. Then the save that is out is done, and then the run
-  -- is closed.
-  pub record EndsByLimit (limit : ℕ) (old new : CoreValue S) : Type 0 where
+  -- Processes run in slices of so many instructions until so many events have happened, or until each has ended. Then the save that is
+  -- out is done, and then the run is closed.
+  pub record EndsByLimit (slice limit : ℕ) (old new : CoreValue S) : Type 0 where
     pub unsaved : Option Key
     pub played : CoreValue S
-    pub plays : PlaysUpTo limit unsaved old played
+    pub plays : PlaysUpTo slice limit unsaved old played
     pub saved : CoreValue S
     pub saves : DoesSave unsaved played saved
     pub closes : Closes saved new

@@ -9,14 +9,17 @@ use Rattle.machine_core.specs.declared.event.Event.TheVariants.{Step, Notice, Sw
 use Rattle.machine_core.specs.declared.event.Reply.{Reply}
 use Rattle.machine_core.specs.declared.event.Reply.TheVariants as reply
 use Rattle.serial_driver.specs.Patience.{tried_with, spent_with}
+use Rattle.serial_driver.specs.Turning.{Turn, IsInTurn, first_turn, noticed_in, paged_in, purged_in, step_turn, waiting}
 
--- how many loads failed in a row within one absence, and the event that the last answer settled, if it did
+-- how many loads failed in a row within one absence, the event that the last answer settled, if it did, and whose turn it is
 pub record Duty : Type 0 where
   pub faults : ℕ
   pub owed : Option Event
+  pub turn : Turn
 
-abbrev pub no_duty : Duty
-no_duty = record { faults = 0; owed = None }
+-- the same at first, where slices are of so many instructions
+abbrev pub no_duty : ℕ → Duty
+no_duty slice = record { faults = 0; owed = None; turn = first_turn slice }
 
 -- after so many load faults in a row a process is ended
 abbrev pub most_load_faults : ℕ
@@ -89,14 +92,16 @@ load_faults answer faults = if is_device answer then min (faults + 1) most_load_
 
 -- what is owed after an event with its reply: a process that was ended gives back what it has
 abbrev pub duty_with : Event → Reply → Duty → Duty
-duty_with (Step process hart) answer duty = record { faults = step_faults answer duty.faults; owed = step_owes process answer }
-duty_with (Notice process hart) answer duty = record { faults = duty.faults; owed = None }
-duty_with Sweep answer duty = record { faults = duty.faults; owed = None }
-duty_with (Collect key) answer duty = record { faults = duty.faults; owed = collect_owes key answer }
-duty_with (Saved key) answer duty = record { faults = duty.faults; owed = save_owes key.process answer }
-duty_with (PageIn key) answer duty = record { faults = load_faults answer duty.faults; owed = load_owes duty.faults key.process answer }
-duty_with (Kill process cause) answer duty = record { faults = duty.faults; owed = Some (Purge process) }
-duty_with (Purge process) answer duty = record { faults = duty.faults; owed = None }
+duty_with (Step process hart) answer duty =
+    record { faults = step_faults answer duty.faults; owed = step_owes process answer; turn = step_turn process hart answer duty.turn.slice duty.turn.left }
+duty_with (Notice process hart) answer duty = record { faults = duty.faults; owed = None; turn = noticed_in duty.turn.phase duty.turn }
+duty_with Sweep answer duty = record { faults = duty.faults; owed = None; turn = waiting duty.turn }
+duty_with (Collect key) answer duty = record { faults = duty.faults; owed = collect_owes key answer; turn = waiting duty.turn }
+duty_with (Saved key) answer duty = record { faults = duty.faults; owed = save_owes key.process answer; turn = waiting duty.turn }
+duty_with (PageIn key) answer duty =
+    record { faults = load_faults answer duty.faults; owed = load_owes duty.faults key.process answer; turn = paged_in (is_mapped answer) duty.turn }
+duty_with (Kill process cause) answer duty = record { faults = duty.faults; owed = Some (Purge process); turn = waiting duty.turn }
+duty_with (Purge process) answer duty = record { faults = duty.faults; owed = None; turn = purged_in process duty.turn }
 
 -- the same after events one after another
 unfoldable pub duty_after : List Event → List Reply → Duty → Duty
@@ -120,12 +125,13 @@ abbrev pub Pays : Option Event → Event → Type 0
 Pays (Some owed) event = event ≡ owed
 Pays None event = is_kill event ≡ false
 
--- the same of events one after another, where a process is spent by so many tries; the counts are those before the first
+-- the same of events one after another, each in turn, where a process is spent by so many tries; the counts are those before the first
 unfoldable pub ArePaid : ℕ → (ℕ → ℕ) → Duty → Option ℕ → List Event → List Reply → Type 0
 ArePaid most tried duty spent [] answers = ⊤
 ArePaid most tried duty spent (event ∷ events) [] = ⊤
 ArePaid most tried duty spent (event ∷ events) (answer ∷ answers) =
     Pays (next_owed duty.owed spent) event
+    × IsInTurn duty.turn event
     × ArePaid most (λ number. tried_with number event answer (tried number)) (duty_with event answer duty) (spent_with most tried event answer) events answers
 
 -- the page whose save is owed

@@ -10,6 +10,7 @@ use Rattle.serial_driver.specs.declared.turns.Stage.{Stage}
 use Rattle.serial_driver.specs.declared.turns.Stage.TheVariants.{Choose, Run, Rest, Wait, Clear, Save, Kill, Purge}
 use Rattle.serial_driver.specs.declared.turns.Turns.{Turns}
 use Rattle.serial_driver.specs.Owing.{Duty}
+use Rattle.serial_driver.specs.Turning.{Phase, Begins, Runs, Rests, Waits, Turn}
 
 -- the cause that is recorded of a failure
 abbrev pub cause_of : Failure → KillCause
@@ -27,5 +28,18 @@ stage_owes (Save victim) = Some (event.Saved victim)
 stage_owes (Kill process failure) = Some (event.Kill process (cause_of failure))
 stage_owes (Purge process) = Some (event.Purge process)
 
+abbrev pub phase_of : Stage → Phase
+phase_of (Choose from) = Begins
+phase_of Run = Runs
+phase_of Rest = Rests
+phase_of Wait = Waits
+phase_of (Clear victim hart) = Waits
+phase_of (Save victim) = Waits
+phase_of (Kill process failure) = Waits
+phase_of (Purge process) = Waits
+
+abbrev pub turn_of : Turns → Turn
+turn_of turns = record { slice = turns.slice; process = turns.running.process; hart = turns.running.hart; left = turns.left; phase = phase_of turns.stage }
+
 abbrev pub duty_of : Turns → Duty
-duty_of turns = record { faults = turns.load_faults; owed = stage_owes turns.stage }
+duty_of turns = record { faults = turns.load_faults; owed = stage_owes turns.stage; turn = turn_of turns }

@@ -12,6 +12,8 @@ mod harts;
 mod patience;
 mod reporting;
 mod serial;
+mod serving;
 mod turns;
 
 pub use serial::run_serial;
+pub use serving::{Served, serve_step};

@@ -157,7 +157,7 @@ fn any_ran(steps: Steps) -> bool
 }
 
 /// Whether a step that is answered so ran its instruction.
-fn has_run(reply: Reply) -> bool
+pub(crate) fn has_run(reply: Reply) -> bool
     ensures { result ≡ has_run reply }
 {
     matches!(
@@ -174,7 +174,7 @@ fn has_failed(reply: Reply) -> bool
 }
 
 /// Whether an event was served, whatever came of it.
-fn is_served(reply: Reply) -> bool
+pub(crate) fn is_served(reply: Reply) -> bool
     ensures { result ≡ is_served reply }
 {
     !matches!(reply, Reply::Refused(_))

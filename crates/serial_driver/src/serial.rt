@@ -1,4 +1,4 @@
-ghost use Rattle.std.specs.Prelude.{◌≡◌, ◌<◌, ◌≤◌, ◌*◌, ℕ, List, false, None, IfNone, IfOk, IfSome};
+ghost use Rattle.std.specs.Prelude.{◌≡◌, ◌<◌, ◌≤◌, ◌*◌, ℕ, max, List, false, None, IfNone, IfOk, IfSome};
 ghost use Rattle.machine_core.specs.Applying.{LeadsTo};
 ghost use Rattle.machine_core.specs.declared.event.Event.TheVariants.{Step};
 ghost use Rattle.serial_driver.specs.Closing.{is_limit_kill};
@@ -9,7 +9,8 @@ ghost use Rattle.serial_driver.specs.FlatLines.{StandsForRuns};
 ghost use Rattle.serial_driver.specs.Limit.{Closes, DoesSave, EndsByLimit, EndsOne, PlaysUpTo, PlaysWith};
 ghost use Rattle.serial_driver.specs.Nexts.{IsNext, MayCome, most_events};
 ghost use Rattle.serial_driver.specs.Owing.{next_owed, no_duty, Pays};
-ghost use Rattle.serial_driver.specs.TurnsDuty.{duty_of, stage_owes};
+ghost use Rattle.serial_driver.specs.Turning.{IsInTurn};
+ghost use Rattle.serial_driver.specs.TurnsDuty.{duty_of, stage_owes, turn_of};
 ghost use Rattle.serial_driver.specs.Patience.{IsPatient, tries_per_frame, try_of};
 ghost use Rattle.serial_driver.specs.Reporting.{Reports};
 
@@ -41,7 +42,7 @@ pub fn run_serial<L: Ledger, S: SwapSlot, C: Clock>(
     limit: u64,
 ) -> Result<Report, AllocError>
     ensures reached { LeadsTo S.content S.honest S.failures core.old core.new }
-    ensures limited { IfOk result (λ _. EndsByLimit S.content S.honest S.failures limit core.old core.new) }
+    ensures limited { IfOk result (λ _. EndsByLimit S.content S.honest S.failures (max slice 1) limit core.old core.new) }
     ensures ended { IfOk result (λ _. (number : ℕ) → HasEnded core.new number) }
     ensures report { IfOk result (λ report. Reports core.new report) }
 
@@ -57,7 +58,7 @@ pub fn run_serial<L: Ledger, S: SwapSlot, C: Clock>(
 
 /// Plays a machine to its end.
 fn play<L: Ledger, S: SwapSlot, C: Clock>(core: &mut Core<L, S, C>, slice: u32, limit: u64)
-    ensures limited { EndsByLimit S.content S.honest S.failures limit core.old core.new }
+    ensures limited { EndsByLimit S.content S.honest S.failures (max slice 1) limit core.old core.new }
     ensures ended { (number : ℕ) → HasEnded core.new number }
 {
     let mut turns = Turns::new(slice);
@@ -76,8 +77,8 @@ fn play_events<L: Ledger, S: SwapSlot, C: Clock>(
 ) -> Option<Key>
     requires patient { IsPatient (tries_per_frame * core.old.pager.pager.size) (λ _. 0) patience.old }
     requires spent { patience.old.spent ≡ None }
-    requires free { duty_of turns.old ≡ no_duty }
-    ensures { PlaysUpTo S.content S.honest S.failures limit result core.old core.new }
+    requires free { duty_of turns.old ≡ no_duty turns.old.slice }
+    ensures { PlaysUpTo S.content S.honest S.failures turns.old.slice limit result core.old core.new }
 {
     let mut left = limit;
     'turns: while left > 0 {
@@ -147,12 +148,13 @@ fn apply<L: Ledger, S: SwapSlot, C: Clock>(
 ) -> u64
     requires unlimited { is_limit_kill event ≡ false }
     requires pays { Pays (next_owed (stage_owes turns.old.stage) patience.old.spent) event }
+    requires in_turn { IsInTurn (turn_of turns.old) event }
     ensures plays { (most : ℕ) (tried : ℕ → ℕ) → IsPatient most tried patience.old → PlaysWith S.content S.honest S.failures most tried (duty_of turns.old) patience.old.spent 1 core.old core.new patience.new (duty_of turns.new) }
     ensures one { result ≡ 1 }
 {
     let reply = core.apply(event);
-    turns.heed(event, reply);
     patience.heed(event, reply);
+    turns.heed(event, reply);
     1
 }
 
@@ -167,12 +169,14 @@ fn run<L: Ledger, S: SwapSlot, C: Clock>(
 ) -> u64
     requires some { 0 < most }
     requires pays { Pays (next_owed (stage_owes turns.old.stage) patience.old.spent) (Step process hart) }
+    requires in_turn { IsInTurn (turn_of turns.old) (Step process hart) }
+    requires few { most ≤ max turns.old.left 1 }
     ensures plays { (bound : ℕ) (tried : ℕ → ℕ) → IsPatient bound tried patience.old → PlaysWith S.content S.honest S.failures bound tried (duty_of turns.old) patience.old.spent result core.old core.new patience.new (duty_of turns.new) }
     ensures some { 0 < result }
     ensures within { result ≤ most }
 {
     let done = core.steps(process, hart, most);
-    turns.heed_steps(process, done);
+    turns.heed_steps(process, hart, done);
     patience.heed_steps(process, done);
     match done.last {
         Some(_) => u64::from(done.ran) + 1,

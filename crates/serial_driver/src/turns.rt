@@ -1,11 +1,12 @@
 //! Which event comes next.
 
-ghost use Rattle.std.specs.Prelude.{◌≡◌, ◌<◌, ◌≤◌, ◌+◌, ℕ, min, nat_le, IfSome, IfNone, Option, Some, None, is_some, if◌then◌else◌};
+ghost use Rattle.std.specs.Prelude.{◌≡◌, ◌<◌, ◌≤◌, ◌+◌, ◌-◌, ℕ, max, min, nat_le, IfSome, IfNone, Option, Some, None, is_some, if◌then◌else◌};
 ghost use Rattle.serial_driver.specs.Endings.{HasEnded};
 ghost use Rattle.machine_core.specs.ManySteps.{steps_of, replies_of};
 ghost use Rattle.serial_driver.specs.Nexts.{IsNext, IsOrdinary};
-ghost use Rattle.serial_driver.specs.Owing.{no_duty, most_load_faults, duty_with, duty_after, owed_save, step_owes, step_faults, stop_owes, save_owes, collect_owes, load_owes, load_faults, next_owed, Duty, is_out_of_memory, is_no_memory, is_dirty};
-ghost use Rattle.serial_driver.specs.TurnsDuty.{cause_of, duty_of, stage_owes};
+ghost use Rattle.serial_driver.specs.Owing.{no_duty, most_load_faults, duty_with, duty_after, owed_save, step_owes, step_faults, stop_owes, save_owes, collect_owes, load_owes, load_faults, next_owed, Duty, is_out_of_memory, is_no_memory, is_dirty, is_mapped};
+ghost use Rattle.serial_driver.specs.Turning.{IsInTurn, Runs, Waits, begun, noticed_in, paged_in, purged_in, ran_turn, step_turn, waiting};
+ghost use Rattle.serial_driver.specs.TurnsDuty.{cause_of, duty_of, phase_of, stage_owes, turn_of};
 ghost use Rattle.flat_machine.specs.declared.end.KillCause.TheVariants as cause;
 ghost use Rattle.machine_core.specs.declared.event.Event.TheVariants as machine;
 
@@ -50,9 +51,9 @@ pub(crate) enum Next {
 #[derive(Drop)]
 pub(crate) struct Turns {
     stage: Stage,
-    /// The hart that has the slice.
+    /// The hart that has the slice, or had the last one.
     running: HartOf,
-    /// How many more instructions it may run.
+    /// How many more instructions it may run, or the next one.
     left: u32,
     /// The page that it waits for.
     wanted: u32,
@@ -64,18 +65,33 @@ pub(crate) struct Turns {
 impl Turns {
     /// The start of a machine whose slices are of so many instructions, or of one.
     pub(crate) fn new(slice: u32) -> Self
-        ensures { duty_of result ≡ no_duty }
+        ensures { duty_of result ≡ no_duty (max slice 1) }
     {
         let first = HartOf {
             process: 0,
             hart: 0,
         };
+        let slice = slice.max(1);
         Turns {
             stage: Stage::Choose(first),
             running: first,
-            left: 0,
+            left: slice,
             wanted: 0,
-            slice: slice.max(1),
+            slice,
+            load_faults: 0,
+        }
+    }
+
+    /// A hart that runs its next instruction, and no more.
+    pub(crate) fn at(running: HartOf) -> Self
+        ensures { duty_of result ≡ record { faults = 0; owed = None; turn = record { slice = 1; process = running.process; hart = running.hart; left = 1; phase = Runs } } }
+    {
+        Turns {
+            stage: Stage::Run,
+            running,
+            left: 1,
+            wanted: 0,
+            slice: 1,
             load_faults: 0,
         }
     }
@@ -93,12 +109,10 @@ impl Turns {
         ensures kept { duty_of self.new ≡ duty_of self.old }
     {
         let event = match self.stage {
-            Stage::Run => return Some(self.steps(allowed)),
+            Stage::Run => return Some(self.steps(self.running, allowed)),
             Stage::Choose(from) => {
-                self.running = next_hart(core, from)?;
-                self.left = self.slice;
-                self.stage = Stage::Run;
-                return Some(self.steps(allowed));
+                let next = next_hart(core, from)?;
+                return Some(self.steps(next, allowed));
             }
             Stage::Rest => notice(self.running),
             Stage::Wait => self.bring(core.counts().pager.free > 0),
@@ -115,14 +129,14 @@ impl Turns {
 
     /// Goes on by how many steps of a process's hart ran and went on, and by the reply to a further one.
     #[tactic(auto, using(crate::proofs::Owed::steps_told, crate::proofs::Owed::steps_all))]
-    pub(crate) fn heed_steps(&mut self, process: u32, steps: Steps)
+    pub(crate) fn heed_steps(&mut self, process: u32, hart: u32, steps: Steps)
         requires some { IfNone steps.last (0 < steps.ran) }
-        ensures { (hart : ℕ) → duty_of self.new ≡ duty_after (steps_of process hart steps.ran steps.last) (replies_of steps.ran steps.last) (duty_of self.old) }
+        ensures { duty_of self.new ≡ duty_after (steps_of process hart steps.ran steps.last) (replies_of steps.ran steps.last) (duty_of self.old) }
     {
         self.ran(steps.ran);
         match steps.last {
-            Some(reply) => self.after_step(process, reply),
-            None => self.rest_at_end(),
+            Some(reply) => self.after_step(process, hart, reply),
+            None => self.rest_at_end(process, hart),
         }
     }
 
@@ -131,13 +145,13 @@ impl Turns {
         ensures { duty_of self.new ≡ duty_with event reply (duty_of self.old) }
     {
         match event {
-            Event::Step { process, .. } => self.after_step(process, reply),
+            Event::Step { process, hart } => self.after_step(process, hart, reply),
             Event::Notice { .. } => self.after_notice(),
             Event::Sweep => self.after_sweep(reply),
             Event::Collect(key) => self.after_collect(key, reply),
             Event::Saved(key) => self.after_save(key.process, reply),
             Event::PageIn(key) => self.after_page_in(key.process, reply),
-            Event::Kill { process, .. } => self.stage = Stage::Purge { process },
+            Event::Kill { process, .. } => self.purge(process),
             Event::Purge { process } => self.after_purge(process),
         }
     }
@@ -162,12 +176,12 @@ impl Turns {
         )
     }
 
-    /// The rest of the hart's slice, of which so many events may happen still.
-    fn steps(&self, allowed: u64) -> Next
+    /// Steps of a hart, as many as its slice has left and as may happen still.
+    fn steps(&self, of: HartOf, allowed: u64) -> Next
         requires { 0 < allowed }
-        ensures { (spent : Option ℕ) → (duty : Duty) → next_owed duty.owed spent ≡ None → IsNext allowed spent duty result }
+        ensures { (spent : Option ℕ) → next_owed (stage_owes self.now.stage) spent ≡ None → IsInTurn (turn_of self.now) (machine.Step of.process of.hart) → IsNext allowed spent (duty_of self.now) result }
     {
-        let HartOf { process, hart } = self.running;
+        let HartOf { process, hart } = of;
         let most = u32::try_from(allowed)
             .unwrap_or(u32::MAX)
             .min(self.left.max(1));
@@ -180,7 +194,7 @@ impl Turns {
 
     /// Brings the page in that the hart waits for, or asks the list for a victim.
     fn bring(&self, is_free: bool) -> Event
-        ensures { IsOrdinary result }
+        ensures { phase_of self.now.stage ≡ Waits → IsOrdinary (turn_of self.now) result }
     {
         if is_free {
             Event::PageIn(Key {
@@ -199,7 +213,8 @@ impl Turns {
         victim: Key,
         hart: u32,
     ) -> Event
-        ensures ordinary { IsOrdinary result }
+        requires { phase_of self.old.stage ≡ Waits }
+        ensures ordinary { IsOrdinary (turn_of self.old) result }
         ensures kept { stage_owes self.old.stage ≡ None → duty_of self.new ≡ duty_of self.old }
     {
         let process = victim.process;
@@ -213,22 +228,21 @@ impl Turns {
         notice(HartOf { process, hart })
     }
 
-    fn after_step(&mut self, process: u32, reply: Reply)
-        ensures { duty_of self.new ≡ record { faults = step_faults reply self.old.load_faults; owed = step_owes process reply } }
+    /// A step of a hart was replied with.
+    fn after_step(&mut self, process: u32, hart: u32, reply: Reply)
+        ensures { duty_of self.new ≡ record { faults = step_faults reply self.old.load_faults; owed = step_owes process reply; turn = step_turn process hart reply self.old.slice self.old.left } }
     {
+        self.running = HartOf { process, hart };
         match reply {
             Reply::Ran => {
                 self.ran(1);
-                self.rest_at_end();
+                self.rest_at_end(process, hart);
             }
             Reply::Yielded => {
                 self.ran(1);
                 self.stage = Stage::Rest;
             }
-            Reply::HartDone => {
-                self.ran(1);
-                self.choose();
-            }
+            Reply::HartDone => self.choose(),
             Reply::Absent(page) => {
                 self.load_faults = 0;
                 self.wanted = page;
@@ -240,15 +254,16 @@ impl Turns {
 
     /// So many instructions of the hart ran.
     fn ran(&mut self, count: u32)
-        ensures { duty_of self.new ≡ duty_of self.old }
+        ensures { self.new ≡ record self.old { left = self.old.left - count } }
     {
         self.left = self.left.saturating_sub(count);
     }
 
-    /// The slice is over where nothing is left of it.
-    fn rest_at_end(&mut self)
-        ensures { duty_of self.new ≡ record { faults = self.old.load_faults; owed = None } }
+    /// The hart's slice is over where nothing is left of it.
+    fn rest_at_end(&mut self, process: u32, hart: u32)
+        ensures { duty_of self.new ≡ record { faults = self.old.load_faults; owed = None; turn = ran_turn process hart self.old.slice self.old.left } }
     {
+        self.running = HartOf { process, hart };
         self.stage = if self.left == 0 {
             Stage::Rest
         } else {
@@ -258,22 +273,29 @@ impl Turns {
 
     /// A process goes on no more.
     fn stop(&mut self, process: u32, reply: Reply)
-        ensures { duty_of self.new ≡ record { faults = self.old.load_faults; owed = stop_owes process reply } }
+        ensures { duty_of self.new ≡ record { faults = self.old.load_faults; owed = stop_owes process reply; turn = waiting (turn_of self.old) } }
     {
         if matches!(reply, Reply::ScheduleFull) {
             self.kill(process, Failure::ScheduleFull);
         } else if is_out_of_memory(reply) {
             self.kill(process, Failure::NoMemory);
         } else {
-            self.stage = Stage::Purge { process };
+            self.purge(process);
         }
     }
 
-    /// The hart behind the one that had the slice is next.
+    fn purge(&mut self, process: u32)
+        ensures { duty_of self.new ≡ record { faults = self.old.load_faults; owed = Some (machine.Purge process); turn = waiting (turn_of self.old) } }
+    {
+        self.stage = Stage::Purge { process };
+    }
+
+    /// The hart behind the one that had the slice is next, with a slice of its own.
     fn choose(&mut self)
-        ensures { duty_of self.new ≡ record { faults = self.old.load_faults; owed = None } }
+        ensures { duty_of self.new ≡ record { faults = self.old.load_faults; owed = None; turn = begun (turn_of self.old) } }
     {
         let HartOf { process, hart } = self.running;
+        self.left = self.slice;
         self.stage = Stage::Choose(HartOf {
             process,
             hart: hart.saturating_add(1),
@@ -281,16 +303,22 @@ impl Turns {
     }
 
     fn after_notice(&mut self)
-        ensures { duty_of self.new ≡ record { faults = self.old.load_faults; owed = None } }
+        ensures { duty_of self.new ≡ record { faults = self.old.load_faults; owed = None; turn = noticed_in (phase_of self.old.stage) (turn_of self.old) } }
     {
         match self.stage {
             Stage::Clear { .. } => {}
-            _ => self.choose(),
+            Stage::Choose(_) => self.choose(),
+            Stage::Run => self.choose(),
+            Stage::Rest => self.choose(),
+            Stage::Wait => {}
+            Stage::Save(_) => self.stage = Stage::Wait,
+            Stage::Kill { .. } => self.stage = Stage::Wait,
+            Stage::Purge { .. } => self.stage = Stage::Wait,
         }
     }
 
     fn after_sweep(&mut self, reply: Reply)
-        ensures { duty_of self.new ≡ record { faults = self.old.load_faults; owed = None } }
+        ensures { duty_of self.new ≡ record { faults = self.old.load_faults; owed = None; turn = waiting (turn_of self.old) } }
     {
         self.stage = match reply {
             Reply::Victim(victim) => Stage::Clear { victim, hart: 0 },
@@ -299,7 +327,7 @@ impl Turns {
     }
 
     fn after_collect(&mut self, victim: Key, reply: Reply)
-        ensures { duty_of self.new ≡ record { faults = self.old.load_faults; owed = collect_owes victim reply } }
+        ensures { duty_of self.new ≡ record { faults = self.old.load_faults; owed = collect_owes victim reply; turn = waiting (turn_of self.old) } }
     {
         if is_dirty(reply) {
             self.stage = Stage::Save(victim);
@@ -310,7 +338,7 @@ impl Turns {
 
     /// The victim, of this process, has left its frame, or has not.
     fn after_save(&mut self, process: u32, reply: Reply)
-        ensures { duty_of self.new ≡ record { faults = self.old.load_faults; owed = save_owes process reply } }
+        ensures { duty_of self.new ≡ record { faults = self.old.load_faults; owed = save_owes process reply; turn = waiting (turn_of self.old) } }
     {
         if is_out_of_memory(reply) {
             self.kill(process, Failure::NoMemory);
@@ -320,7 +348,7 @@ impl Turns {
     }
 
     fn after_page_in(&mut self, process: u32, reply: Reply)
-        ensures { duty_of self.new ≡ record { faults = load_faults reply self.old.load_faults; owed = load_owes self.old.load_faults process reply } }
+        ensures { duty_of self.new ≡ record { faults = load_faults reply self.old.load_faults; owed = load_owes self.old.load_faults process reply; turn = paged_in (is_mapped reply) (turn_of self.old) } }
     {
         match reply {
             Reply::Mapped => {
@@ -334,7 +362,7 @@ impl Turns {
 
     /// The page that the hart waits for could not be loaded.
     fn after_load_fault(&mut self, process: u32)
-        ensures { duty_of self.new ≡ record { faults = min (self.old.load_faults + 1) most_load_faults; owed = if nat_le most_load_faults (self.old.load_faults + 1) then Some (machine.Kill process cause.LoadFailed) else None } }
+        ensures { duty_of self.new ≡ record { faults = min (self.old.load_faults + 1) most_load_faults; owed = if nat_le most_load_faults (self.old.load_faults + 1) then Some (machine.Kill process cause.LoadFailed) else None; turn = waiting (turn_of self.old) } }
     {
         let faults = self.load_faults.saturating_add(1).min(MOST_LOAD_FAULTS);
         self.load_faults = faults;
@@ -346,14 +374,14 @@ impl Turns {
     }
 
     fn kill(&mut self, process: u32, failure: Failure)
-        ensures { duty_of self.new ≡ record { faults = self.old.load_faults; owed = Some (machine.Kill process (cause_of failure)) } }
+        ensures { duty_of self.new ≡ record { faults = self.old.load_faults; owed = Some (machine.Kill process (cause_of failure)); turn = waiting (turn_of self.old) } }
     {
         self.stage = Stage::Kill { process, failure };
     }
 
     /// A process is gone: the hart that has the slice is of it, or waits on.
     fn after_purge(&mut self, process: u32)
-        ensures { duty_of self.new ≡ record { faults = self.old.load_faults; owed = None } }
+        ensures { duty_of self.new ≡ record { faults = self.old.load_faults; owed = None; turn = purged_in process (turn_of self.old) } }
     {
         if process == self.running.process {
             self.choose();
@@ -364,7 +392,7 @@ impl Turns {
 }
 
 /// Whether an event was refused for want of memory.
-fn is_out_of_memory(reply: Reply) -> bool
+pub(crate) fn is_out_of_memory(reply: Reply) -> bool
     ensures { result ≡ is_out_of_memory reply }
 {
     match reply {
@@ -387,7 +415,7 @@ fn is_dirty(reply: Reply) -> bool
 }
 
 fn notice(of: HartOf) -> Event
-    ensures { IsOrdinary result }
+    ensures { result ≡ machine.Notice of.process of.hart }
 {
     let HartOf { process, hart } = of;
     Event::Notice { process, hart }

@@ -1,5 +1,5 @@
 -- Which marks instructions in a row may set.
-use Rattle.std.proofs.Common.{◌≡◌, ◌+◌, ◌<◌, ◌≤◌, [], ℕ, Bool, true, false, List, replicate, slice_index_or, Option, Some, None, option_map, unwrap_or, ap, ◌∙◌, refl, sym, subst, arith}
+use Rattle.std.proofs.Common.{◌≡◌, ◌+◌, ◌≤◌, [], ℕ, Bool, true, false, replicate, slice_index_or, Some, option_map, unwrap_or, ap, ◌∙◌, refl, sym, subst, arith}
 use Rattle.std.proofs.lemmas.Option.{none-some}
 use Rattle.std.proofs.lemmas.List.{replicate-append-replicate}
 use Rattle.page_memory.specs.Memory.{Memory}

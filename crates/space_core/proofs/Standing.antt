@@ -1,5 +1,5 @@
 -- What keeps a process on paged memory standing for a flat process.
-use Rattle.std.proofs.Common.{◌≡◌, ◌≢◌, ◌++◌, ◌&&◌, ◌∷◌, [], ℕ, zero, suc, Bool, true, false, cond, List, replicate, Option, Some, None, is_some, is_none, option_map, option_and_then, unwrap_or, ap, ◌∙◌, refl, sym, subst, append-nil}
+use Rattle.std.proofs.Common.{◌≡◌, ◌≢◌, ◌++◌, ◌&&◌, ◌∷◌, [], ℕ, zero, suc, Bool, true, false, cond, List, replicate, Option, Some, None, is_none, option_map, option_and_then, unwrap_or, ap, ◌∙◌, refl, sym, subst, append-nil}
 use Rattle.std.specs.FinMap.{get}
 use Rattle.std.specs.Option.{option_or}
 use Rattle.std.proofs.lemmas.Option.{none-some}

@@ -84,7 +84,7 @@ module _ {S : Type 0} (held : S → List ℕ) (honest : Type 0) (hart : ℕ) whe
     ready : Ready new
 
   one_on : (old : SpaceValue S) (regs regs' : Registers) (schedule : List Turn) (new : PagedValue S) → Ready old → regs ≡ slice_index_or old.running.harts hart regs
-      → RunsPlain held hart regs old.memory regs' new → written_out schedule ≡ written_out old.schedule ++ replicate 1 hart → room schedule hart + 1 ≡ room old.schedule hart
+      → RunsPlain held honest hart regs old.memory regs' new → written_out schedule ≡ written_out old.schedule ++ replicate 1 hart → room schedule hart + 1 ≡ room old.schedule hart
       → OneOn old (ran_as old regs' schedule new)
   one_on old regs regs' schedule new ready are plain recorded left =
       let has = HasPage old.memory.pages (cache_of old.memory.caches hart) in
@@ -122,6 +122,7 @@ module _ {S : Type 0} (held : S → List ℕ) (honest : Type 0) (hart : ℕ) whe
             caches = (plain.kept.others, record { held = plain.kept.held; doomed = plain.kept.doomed });
           };
           stands = stands;
+          coheres = plain.coheres;
         };
         ready = record {
           whole = λ any. whole_set hart old.running regs' any (ready.whole any);
@@ -137,7 +138,7 @@ module _ {S : Type 0} (held : S → List ℕ) (honest : Type 0) (hart : ℕ) whe
 
   -- so many instructions are so many slices
   pub each_on : (n : ℕ) (old : SpaceValue S) (regs regs' : Registers) (schedule : List Turn) (new : PagedValue S) → Ready old → regs ≡ slice_index_or old.running.harts hart regs
-      → RunsEach held hart n regs old.memory regs' new → written_out schedule ≡ written_out old.schedule ++ replicate n hart → room schedule hart + n ≡ room old.schedule hart
+      → RunsEach held honest hart n regs old.memory regs' new → written_out schedule ≡ written_out old.schedule ++ replicate n hart → room schedule hart + n ≡ room old.schedule hart
       → (n ≡ 0 → schedule ≡ old.schedule) → EachOn n old (ran_as old regs' schedule new)
   unfolding RunsEach StepsOn
   each_on zero old regs regs' schedule new ready are each recorded left none =
@@ -171,9 +172,9 @@ hart_runs hart how inside now regs regs' same are runs whole =
     (record { regs = regs; regs' = regs'; first = are; left = refl; runs = runs; whole = whole })
 
 -- fewer than a limit are fewer than a larger one
-pub wider : {S : Type 0} (held : S → List ℕ) (hart limit limit' n : ℕ) (old new : RunningValue) (memory memory' : PagedValue S) → limit ≤ limit'
-    → HartRuns hart (λ regs regs'. RunsShort held hart limit n regs memory regs' memory') old new → HartRuns hart (λ regs regs'. RunsShort held hart limit' n regs memory regs' memory') old new
-wider held hart limit limit' n old new memory memory' within r = record {
+pub wider : {S : Type 0} (held : S → List ℕ) (honest : Type 0) (hart limit limit' n : ℕ) (old new : RunningValue) (memory memory' : PagedValue S) → limit ≤ limit'
+    → HartRuns hart (λ regs regs'. RunsShort held honest hart limit n regs memory regs' memory') old new → HartRuns hart (λ regs regs'. RunsShort held honest hart limit' n regs memory regs' memory') old new
+wider held honest hart limit limit' n old new memory memory' within r = record {
   regs = r.regs;
   regs' = r.regs';
   first = r.first;
@@ -222,7 +223,7 @@ module _ {S : Type 0} (held : S → List ℕ) (honest : Type 0) (hart : ℕ) whe
     registers : hart_registers hart (shown_process held new) ≡ Some regs
 
   recorded_on : (n : ℕ) (old : SpaceValue S) (recorded : RecordedValue) (between : PagedValue S) (how : Registers → Registers → Type 0) → IsSpace held honest old → (r : IsRecorded hart n how (recorded_of old) recorded)
-      → RunsEach held hart n r.runs.regs old.memory r.runs.regs' between → LeftRan n r.runs.regs' old (with_parts old recorded between)
+      → RunsEach held honest hart n r.runs.regs old.memory r.runs.regs' between → LeftRan n r.runs.regs' old (with_parts old recorded between)
   recorded_on n old recorded between how is r each =
       let ready : Ready held honest hart old = record { whole = r.runs.whole; may = r.may (memory_of held old.memory.pages); cached = is.cached; stands = is.stands } in
       let done = each_on held honest hart n old r.runs.regs r.runs.regs' recorded.schedule between ready r.runs.first each r.recorded r.left r.none in
@@ -240,13 +241,13 @@ module _ {S : Type 0} (held : S → List ℕ) (honest : Type 0) (hart : ℕ) whe
   still_on old recorded memory same stays = λ i. with_parts old (same i) (stays i)
 
   pub all_on : (n : ℕ) (old : SpaceValue S) (recorded : RecordedValue) (memory : PagedValue S) → IsSpace held honest old
-      → RunsRecorded hart n (λ regs regs'. RunsEach held hart n regs old.memory regs' memory) (recorded_of old) recorded old.memory memory → Left n old (with_parts old recorded memory)
+      → RunsRecorded hart n (λ regs regs'. RunsEach held honest hart n regs old.memory regs' memory) (recorded_of old) recorded old.memory memory → Left n old (with_parts old recorded memory)
   unfolding StepsOn
   all_on n old recorded memory is (inl still) =
       let same = still_on old recorded memory still.1.0 still.1.1 in
       record { on = subst (λ k. StepsOn held honest hart k old (with_parts old recorded memory)) (sym still.0) same; is = subst (IsSpace held honest) (sym same) is }
   all_on n old recorded memory is (inr r) =
-      let left = recorded_on n old recorded memory (λ regs regs'. RunsEach held hart n regs old.memory regs' memory) is r r.runs.runs in
+      let left = recorded_on n old recorded memory (λ regs regs'. RunsEach held honest hart n regs old.memory regs' memory) is r r.runs.runs in
       record { on = left.on; is = left.is }
 
   -- the pages of one more may have been looked up
@@ -261,7 +262,7 @@ module _ {S : Type 0} (held : S → List ℕ) (honest : Type 0) (hart : ℕ) whe
     pub is : IsSpace held honest new
 
   pub short_on : (n : ℕ) (old : SpaceValue S) (recorded : RecordedValue) (memory : PagedValue S) → IsSpace held honest old
-      → RunsRecorded hart n (λ regs regs'. RunsShort held hart (room old.schedule hart) n regs old.memory regs' memory) (recorded_of old) recorded old.memory memory → LeftShort n old (with_parts old recorded memory)
+      → RunsRecorded hart n (λ regs regs'. RunsShort held honest hart (room old.schedule hart) n regs old.memory regs' memory) (recorded_of old) recorded old.memory memory → LeftShort n old (with_parts old recorded memory)
   unfolding StepsOn
   short_on n old recorded memory is (inl still) =
       let same = still_on old recorded memory still.1.0 still.1.1 in
@@ -277,7 +278,7 @@ module _ {S : Type 0} (held : S → List ℕ) (honest : Type 0) (hart : ℕ) whe
       })
   short_on n old recorded memory is (inr r) =
       let between = r.runs.runs.between in
-      let left = recorded_on n old recorded between (λ regs regs'. RunsShort held hart (room old.schedule hart) n regs old.memory regs' memory) is r r.runs.runs.each in
+      let left = recorded_on n old recorded between (λ regs regs'. RunsShort held honest hart (room old.schedule hart) n regs old.memory regs' memory) is r r.runs.runs.each in
       record {
         short = record { between = with_parts old recorded between; on = left.on; tries = r.runs.runs.tries; marks = marks left.may left.registers r.runs.runs.marks; stays = refl };
         is = tried_is (with_parts old recorded between) memory left.is r.runs.runs.tries;
@@ -390,6 +391,7 @@ module _ {S : Type 0} (held : S → List ℕ) (honest : Type 0) (hart : ℕ) whe
           caches = caches_back why old.memory memory new.memory tries.kept slice.kept.caches;
         };
         stands = slice.stands;
+        coheres = slice.coheres;
       }
 
   -- so many steps, and then one more slice of one instruction

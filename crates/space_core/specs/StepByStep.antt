@@ -13,6 +13,7 @@ use Rattle.paged_memory.specs.HartMemory.{KeepsAccess, MarksSince, MarksWithin}
 use Rattle.paged_memory.specs.Paged.{PagedValue, memory_of}
 use Rattle.space_core.specs.declared.progress.SliceStop.{SliceStop}
 use Rattle.space_core.specs.declared.progress.SliceStop.TheVariants.{Budget}
+use Rattle.space_core.specs.Coheres.{Coheres}
 use Rattle.space_core.specs.Next.{next_pages, answered, begun}
 use Rattle.space_core.specs.RunningValue.{RunningValue, RecordedValue, with_memory}
 use Rattle.space_core.specs.Slices.{EachStep, BoundsEach, StopsRecorded}
@@ -25,17 +26,19 @@ module _ {S : Type 0} (held : S → List ℕ) (hart : ℕ) where
   MarksOne regs old new =
       Bounds (MarksWithin old.tables) (MarksWithin new.tables) (pages_used regs (memory_of held old.pages)) (pages_stored regs (memory_of held old.pages))
 
-  -- a hart's instruction that neither calls nor traps, on its process's memory
-  pub record RunsPlain (regs : Registers) (old : PagedValue S) (regs' : Registers) (new : PagedValue S) : Type 0 where
-    pub ran : line regs (memory_of held old.pages) ≡ Next regs' (memory_of held new.pages)
-    pub pages : Used (HasPage old.pages (cache_of old.caches hart)) (MarksSince new (cache_of old.caches hart)) (pages_used regs (memory_of held old.pages))
-    pub bound : MarksOne regs old new
-    pub kept : KeepsAccess hart old new
-
   -- an instruction that is not run, whose pages may have been looked up
   pub record Tries (old new : PagedValue S) : Type 0 where
     pub shown : memory_of held new.pages ≡ memory_of held old.pages
     pub kept : KeepsAccess hart old new
+
+module _ {S : Type 0} (held : S → List ℕ) (honest : Type 0) (hart : ℕ) where
+  -- a hart's instruction that neither calls nor traps, on its process's memory
+  pub record RunsPlain (regs : Registers) (old : PagedValue S) (regs' : Registers) (new : PagedValue S) : Type 0 where
+    pub ran : line regs (memory_of held old.pages) ≡ Next regs' (memory_of held new.pages)
+    pub pages : Used (HasPage old.pages (cache_of old.caches hart)) (MarksSince new (cache_of old.caches hart)) (pages_used regs (memory_of held old.pages))
+    pub bound : MarksOne held hart regs old new
+    pub kept : KeepsAccess hart old new
+    pub coheres : Coheres held honest new
 
   -- so many that are run
   unfoldable pub RunsEach : ℕ → Registers → PagedValue S → Registers → PagedValue S → Type 0
@@ -46,8 +49,8 @@ module _ {S : Type 0} (held : S → List ℕ) (hart : ℕ) where
   pub record RunsShort (limit count : ℕ) (regs : Registers) (old : PagedValue S) (regs' : Registers) (new : PagedValue S) : Type 0 where
     pub between : PagedValue S
     pub each : RunsEach count regs old regs' between
-    pub tries : Tries between new
-    pub marks : (new.tables ≡ between.tables) ⊎ ((count < limit) × MarksOne regs' between new)
+    pub tries : Tries held hart between new
+    pub marks : (new.tables ≡ between.tables) ⊎ ((count < limit) × MarksOne held hart regs' between new)
 
 -- a hart's registers go on so, in a process whose harts are all there
 pub record HartRuns (hart : ℕ) (how : Registers → Registers → Type 0) (old new : RunningValue) : Type 0 where
@@ -82,6 +85,7 @@ module _ {S : Type 0} (held : S → List ℕ) (honest : Type 0) (hart : ℕ) whe
     pub bound : BoundsEach (MarksWithin old.memory.tables) (MarksWithin new.memory.tables) hart (begun why ran) (shown_process held old)
     pub kept : KeepsSpace hart why old new
     pub stands : honest → StandsFor held new
+    pub coheres : Coheres held honest new.memory
 
   -- so many slices of one instruction each, that all ran and went on
   unfoldable pub StepsOn : ℕ → SpaceValue S → SpaceValue S → Type 0

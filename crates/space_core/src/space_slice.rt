@@ -5,6 +5,7 @@ ghost use Rattle.flat_machine.specs.Schedule.{written_out, room};
 ghost use Rattle.paged_memory.specs.Paged.{memory_of};
 ghost use Rattle.paged_memory.specs.Access.{HasPage, LacksPage, cache_of};
 ghost use Rattle.paged_memory.specs.HartMemory.{KeepsAccess, MarksSince, MarksWithin};
+ghost use Rattle.space_core.specs.Coheres.{Coheres};
 ghost use Rattle.space_core.specs.RunningValue.{with_memory};
 ghost use Rattle.space_core.specs.Next.{next_pages, answered, begun};
 ghost use Rattle.space_core.specs.Slices.{EachStep, BoundsEach, StopsRecorded};
@@ -163,10 +164,12 @@ impl<L: Ledger, S: SwapSlot> Space<L, S> {
         ensures bound { BoundsEach (MarksWithin self.old.memory.tables) (MarksWithin self.new.memory.tables) hart (begun result.stop result.ran) (shown_process S.content self.old) }
         ensures kept { KeepsSpace hart result.stop self.old self.new }
         ensures stands { S.honest → StandsFor S.content self.new }
+        ensures coheres { Coheres S.content S.honest self.new.memory }
     {
         let slice = run(&mut self.recorded, &mut self.memory, hart, budget);
         add_harts(&mut self.memory, self.recorded.running().started());
         settle_caches(&mut self.memory, hart as usize, slice.stop);
+        self.memory.coherent();
         slice
     }
 }

@@ -47,8 +47,8 @@ impl Running {
         requires may { may_step hart (with_memory self.old (memory_of S.content memory.old.pages)) ≡ true }
         requires cached { length memory.old.caches ≡ length self.old.harts }
         ensures within { result ≤ most }
-        ensures short { HartRuns hart (λ regs regs'. RunsShort S.content hart most result regs memory.old regs' memory.new) self.old self.new }
-        ensures all { result ≡ most → HartRuns hart (λ regs regs'. RunsEach S.content hart result regs memory.old regs' memory.new) self.old self.new }
+        ensures short { HartRuns hart (λ regs regs'. RunsShort S.content S.honest hart most result regs memory.old regs' memory.new) self.old self.new }
+        ensures all { result ≡ most → HartRuns hart (λ regs regs'. RunsEach S.content S.honest hart result regs memory.old regs' memory.new) self.old self.new }
     {
         let regs = &mut self.harts[hart as usize];
         run_each(regs, memory, hart as usize, most)
@@ -65,8 +65,8 @@ fn record_each<L: Ledger, S: SwapSlot>(
 ) -> u32
     requires cached { length memory.old.caches ≡ length recorded.old.running.harts }
     ensures within { result ≤ most }
-    ensures short { RunsRecorded hart result (λ regs regs'. RunsShort S.content hart (room recorded.old.schedule hart) result regs memory.old regs' memory.new) recorded.old recorded.new memory.old memory.new }
-    ensures all { result ≡ most → RunsRecorded hart result (λ regs regs'. RunsEach S.content hart result regs memory.old regs' memory.new) recorded.old recorded.new memory.old memory.new }
+    ensures short { RunsRecorded hart result (λ regs regs'. RunsShort S.content S.honest hart (room recorded.old.schedule hart) result regs memory.old regs' memory.new) recorded.old recorded.new memory.old memory.new }
+    ensures all { result ≡ most → RunsRecorded hart result (λ regs regs'. RunsEach S.content S.honest hart result regs memory.old regs' memory.new) recorded.old recorded.new memory.old memory.new }
 {
     let allowed = least(most, recorded.schedule.room(hart));
     if allowed == 0 {

@@ -21,13 +21,15 @@ fn run_one<L: Ledger, S: SwapSlot, O: Opening>(
 ) -> bool
     requires started { hart < length memory.old.caches }
     requires opening { cache_of memory.old.caches hart ≡ O.opening }
-    ensures ran { OnTrue result (RunsPlain S.content hart regs.old memory.old regs.new memory.new) }
+    ensures ran { OnTrue result (RunsPlain S.content S.honest hart regs.old memory.old regs.new memory.new) }
     ensures stays { OnFalse result (regs.new ≡ regs.old) }
     ensures marks { OnFalse result (MarksOne S.content hart regs.old memory.old memory.new) }
     ensures tried { OnFalse result (Tries S.content hart memory.old memory.new) }
 {
     let mut bus: HartMemory<L, S, O> = HartMemory::new(memory, hart);
-    matches!(execute(regs, &mut bus), Outcome::Done)
+    let done = matches!(execute(regs, &mut bus), Outcome::Done);
+    memory.coherent();
+    done
 }
 
 /// Runs a hart's next instructions one by one, up to so many, until one calls, traps or uses a page that is absent, and
@@ -41,8 +43,8 @@ pub(crate) fn run_each<L: Ledger, S: SwapSlot>(
 ) -> u32
     requires started { hart < length memory.old.caches }
     ensures within { result ≤ most }
-    ensures ran { RunsShort S.content hart most result regs.old memory.old regs.new memory.new }
-    ensures all { result ≡ most → RunsEach S.content hart result regs.old memory.old regs.new memory.new }
+    ensures ran { RunsShort S.content S.honest hart most result regs.old memory.old regs.new memory.new }
+    ensures all { result ≡ most → RunsEach S.content S.honest hart result regs.old memory.old regs.new memory.new }
 {
     for done in 0..most {
         if !run_one::<L, S, Brand>(regs, memory, hart) {

@@ -15,9 +15,11 @@ returns c =
     ∙ ap₂ with_subcommand with_flat (ap (λ (app : App). app.top) c.in_ok-clock.ensures.read_as) in
     let with_drive = c.in_ok-subcommand-4.ensures.shape c.in_ok-drive.ensures.local
     ∙ ap₂ with_subcommand with_clock (ap (λ (app : App). app.top) c.in_ok-drive.ensures.read_as) in
+    let with_run = c.in_ok-subcommand-5.ensures.shape c.in_ok-run.ensures.local
+    ∙ ap₂ with_subcommand with_drive (ap (λ (app : App). app.top) c.in_ok-run.ensures.read_as) in
     record {
-      read_as = IfOk-weaker c.subcommand-5.result _ _
-          (λ _ added. added.shape c.in_ok-run.ensures.local
-          ∙ ap₂ with_subcommand with_drive (ap (λ (app : App). app.top) c.in_ok-run.ensures.read_as))
-          c.subcommand-5.ensures;
+      read_as = IfOk-weaker c.subcommand-6.result _ _
+          (λ _ added. added.shape c.in_ok-debug.ensures.local
+          ∙ ap₂ with_subcommand with_run (ap (λ (app : App). app.top) c.in_ok-debug.ensures.read_as))
+          c.subcommand-6.ensures;
     }

@@ -1,15 +1,15 @@
 use Rattle.std.proofs.Common.{ap, map, refl, sym, true, ◌≡◌, ◌∙◌}
 use Rattle.clap.specs.Faults.{fault_of, is_simple_and_free}
 use Rattle.clap.specs.Simple.{App, is_simple, subcommand_of}
-use Rattle.command_line.specs.Commands.{asm_app, bare_app, clock_app, drive_app, flat_app, paged_app, run_app}
+use Rattle.command_line.specs.Commands.{asm_app, bare_app, clock_app, debug_app, drive_app, flat_app, paged_app, run_app}
 use Rattle.command_line.proofs.words.parse.Goals as goal
 
 simple : is_simple paged_app ≡ true
-unfolding paged_app bare_app asm_app flat_app clock_app drive_app run_app
+unfolding paged_app bare_app asm_app flat_app clock_app drive_app run_app debug_app
 simple = refl
 
 free : is_simple_and_free paged_app ≡ true
-unfolding paged_app bare_app asm_app flat_app clock_app drive_app run_app
+unfolding paged_app bare_app asm_app flat_app clock_app drive_app run_app debug_app
 free = refl
 
 pub returns-in-Ok-clause-rows : goal.returns-in-Ok-clause-rows

@@ -13,7 +13,7 @@ loop-side-preserved g c = λ number process small at.
     let same = c.side-item.is ∙ get_or_from_slice_get c.args.processes.now c.loop-side.side-index p c.side-item.result found in
     let told = c.coherent.ensures in
     subst (λ (q : ProcessSideValue _). IsCoherent g.S.SwapSlot.content g.S.SwapSlot.honest q.space) same
-    (record { stands = told.stands; harts = told.harts; agree = told.agree; accessed = told.accessed; framed = told.framed; walks = told.walks }))
+    (record { stands = told.stands; harts = told.harts; memory = record { agree = told.agree; accessed = told.accessed; framed = told.framed; walks = told.walks } }))
     number small process at
 
 pub returns : goal.returns

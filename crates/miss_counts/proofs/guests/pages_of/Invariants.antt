@@ -4,7 +4,7 @@ use Rattle.miss_counts.specs.Counted.{pages_of}
 use Rattle.miss_counts.proofs.guests.pages_of.Given as goal
 
 abbrev pub invariant-references : goal.invariant-references
-invariant-references l = pages_of (to_come l.initial.guests) ≡ l.pages.items ++ pages_of (to_come l.guests)
+invariant-references g l = pages_of (to_come l.initial.guests) ≡ l.pages.items ++ pages_of (to_come l.guests)
 
 abbrev pub decreases-references : goal.decreases-references
-decreases-references l = length (to_come l.guests)
+decreases-references g l = length (to_come l.guests)

@@ -12,20 +12,14 @@ append-requires-clause-room c =
     let less : length c.make_room.new.ring.cells < c.args.frames = made_few c.args.frames c.args.ring.now.cells c.make_room.new.ring.cells c.requires.some c.requires.few c.make_room.ensures.slots in
     omega (arith, less, c.make_room.ensures.room, c.requires.room)
 
-pub returns-in_err-append-clause-few : goal.returns-in_err-append-clause-few
-returns-in_err-append-clause-few c =
-    let less : length c.make_room.new.ring.cells < c.args.frames = made_few c.args.frames c.args.ring.now.cells c.make_room.new.ring.cells c.requires.some c.requires.few c.make_room.ensures.slots in
-    let same : length c.append.new.self.cells ≡ length c.make_room.new.ring.cells = ap (λ r. length r.cells) c.in_err-append.ensures.err in
-    omega (arith, less, same)
-
 pub returns-clause-slots : goal.returns-clause-slots
 returns-clause-slots c =
-    ap slots_of c.in_ok-append.ensures.cells
-    ∙ slots-append c.make_room.new.ring.cells (record { at = c.in_ok-append.field-0; entry = record { key = c.args.page; kind = Hot } } ∷ [])
+    ap slots_of c.append.ensures.cells
+    ∙ slots-append c.make_room.new.ring.cells (record { at = c.append.result; entry = record { key = c.args.page; kind = Hot } } ∷ [])
     ∙ ap (λ (l : List Slot). l ++ record { page = c.args.page; used = true } ∷ []) c.make_room.ensures.slots
 
 pub returns-clause-few : goal.returns-clause-few
 returns-clause-few c =
     let less : length c.make_room.new.ring.cells < c.args.frames = made_few c.args.frames c.args.ring.now.cells c.make_room.new.ring.cells c.requires.some c.requires.few c.make_room.ensures.slots in
-    let more : length c.append.new.self.cells ≡ length c.make_room.new.ring.cells + 1 = ap length c.in_ok-append.ensures.cells ∙ length_more c.make_room.new.ring.cells (record { at = c.in_ok-append.field-0; entry = record { key = c.args.page; kind = Hot } }) in
+    let more : length c.append.new.self.cells ≡ length c.make_room.new.ring.cells + 1 = ap length c.append.ensures.cells ∙ length_more c.make_room.new.ring.cells (record { at = c.append.result; entry = record { key = c.args.page; kind = Hot } }) in
     omega (arith, less, more)

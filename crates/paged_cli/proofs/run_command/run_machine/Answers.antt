@@ -1,10 +1,10 @@
--- What was asked for reaches the machine.
-use Rattle.std.proofs.Common.{List, length, map, ap, subst, ◌∙◌}
-use Rattle.std.proofs.lemmas.List.{length-map}
+-- What was asked for reaches the machine, and what it came to is written.
+use Rattle.std.proofs.Common.{List, map, ap, option_map, subst, ◌∙◌}
 use Rattle.machine_core.specs.declared.report.ProcessReport.{ProcessReport}
 use Rattle.machine_sides.specs.Starting.{Start, start_of}
-use Rattle.paged_cli.specs.ExitStatus.{worst_status}
+use Rattle.report_text.specs.ExitStatus.{worst_status}
 use Rattle.paged_cli.specs.Playing.{ReportsRun}
+use Rattle.paged_cli.specs.Reading.{AreGiven}
 use Rattle.paged_cli.proofs.run_command.run_machine.Goals as goal
 
 pub returns : goal.returns
@@ -13,7 +13,8 @@ returns g c =
     record {
       starts = starts;
       report = c.in_ok-report.report;
-      many = length-map c.in_ok-processes.processes.items _ ∙ c.in_ok-processes.ensures.many ∙ ap (λ l. length l) c.as_slice.ensures.value;
-      ran = subst (λ limit. ReportsRun c.args.request.now.frames c.args.request.now.slots starts limit c.in_ok-report.report) c.from-limit.ensures c.in_ok-report.ensures;
+      given = subst (λ l. AreGiven g.R.Folder.gives (option_map (λ s. s.now) c.args.request.now.input) (map (λ s. s.now) l) starts) c.as_slice.ensures.value c.in_ok-processes.ensures.given;
+      ran = subst (λ limit. ReportsRun c.args.request.now.frames c.args.request.now.slots starts c.args.request.now.slice limit c.in_ok-report.report) c.from-limit.ensures c.in_ok-report.ensures;
+      told = c.in_ok-write_report.ensures;
       status_is = c.status_of_all.ensures ∙ ap (λ (l : List ProcessReport). worst_status 0 (map (λ process. process.end) l)) c.as_slice-2.ensures.value;
     }

@@ -24,10 +24,10 @@ turns-preserved g c =
 
 pub returns-in_default : goal.returns-in_default
 returns-in_default g c =
-    plays_to_end g.S.SwapSlot.content g.S.SwapSlot.honest g.S.SwapSlot.failures c.args.limit c.turns.invariant.0 c.turns.left (duty_of c.turns.turns) (duty_of c.what_is_next.new.turns) c.args.core.now c.turns.core c.turns.patience
+    plays_to_end g.S.SwapSlot.content g.S.SwapSlot.honest g.S.SwapSlot.failures c.args.turns.now.slice c.args.limit c.turns.invariant.0 c.turns.left (duty_of c.turns.turns) (duty_of c.what_is_next.new.turns) c.args.core.now c.turns.core c.turns.patience
     c.turns.invariant.1.0 c.turns.invariant.1.1 c.in_default.ensures.kept c.in_default.ensures.settled c.in_default.ensures.none
 
 pub returns : goal.returns
 returns g c =
-    plays_to_limit g.S.SwapSlot.content g.S.SwapSlot.honest g.S.SwapSlot.failures c.args.limit c.turns.invariant.0 c.turns.left (duty_of c.turns.turns) c.args.core.now c.turns.core c.turns.patience c.unsaved.result
+    plays_to_limit g.S.SwapSlot.content g.S.SwapSlot.honest g.S.SwapSlot.failures c.args.turns.now.slice c.args.limit c.turns.invariant.0 c.turns.left (duty_of c.turns.turns) c.args.core.now c.turns.core c.turns.patience c.unsaved.result
     c.turns.invariant.1.0 c.turns-test.false c.turns.invariant.1.1 c.unsaved.ensures

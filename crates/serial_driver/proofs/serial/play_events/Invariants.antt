@@ -7,7 +7,7 @@ use Rattle.serial_driver.proofs.serial.play_events.Given as goal
 
 abbrev pub invariant-turns : goal.invariant-turns
 invariant-turns g l = (count : ℕ) × ((count + l.left ≡ l.limit)
-    × PlaysWith g.S.SwapSlot.content g.S.SwapSlot.honest g.S.SwapSlot.failures (tries_per_frame * l.initial.core.pager.pager.size) (λ _. 0) no_duty None count l.initial.core l.core l.patience (duty_of l.turns))
+    × PlaysWith g.S.SwapSlot.content g.S.SwapSlot.honest g.S.SwapSlot.failures (tries_per_frame * l.initial.core.pager.pager.size) (λ _. 0) (no_duty l.fn.turns.slice) None count l.initial.core l.core l.patience (duty_of l.turns))
 
 abbrev pub decreases-turns : goal.decreases-turns
 decreases-turns g l = l.left

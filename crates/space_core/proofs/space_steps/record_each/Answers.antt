@@ -14,7 +14,7 @@ returns-then-ran-gt0-clause-short g c =
     let least = c.least-allowed.ensures in
     let fits = c.room.ensures in
     let same = ap (λ (r : RecordedValue). room r.schedule c.args.hart) c.recorded.view_is in
-    let short = wider g.S.SwapSlot.content c.args.hart c.least-allowed.result (room c.args.recorded.now.schedule c.args.hart) c.step_each-ran.result _ _ c.args.memory.now c.step_each-ran.new.memory (omega (arith, least, fits, same)) c.step_each-ran.ensures.short in
+    let short = wider g.S.SwapSlot.content g.S.SwapSlot.honest c.args.hart c.least-allowed.result (room c.args.recorded.now.schedule c.args.hart) c.step_each-ran.result _ _ c.args.memory.now c.step_each-ran.new.memory (omega (arith, least, fits, same)) c.step_each-ran.ensures.short in
     inr (is_recorded c.args.hart c.step_each-ran.result _ (record { running = c.recorded.inside.running; schedule = c.recorded.inside.schedule }) c.args.recorded.now c.step_each-ran.new.self c.record.new.self c.recorded.view_is short
     (λ memory. sym (c.may_step.ensures memory) ∙ c.if-not-may_step.false) c.record.ensures.recorded c.record.ensures.left (λ e. absurd (omega (arith, e, c.if-ran-gt0.true))))
 
@@ -33,7 +33,7 @@ returns-else-ran-gt0-clause-short g c =
     let least = c.least-allowed.ensures in
     let fits = c.room.ensures in
     let same = ap (λ (r : RecordedValue). room r.schedule c.args.hart) c.recorded.view_is in
-    let short = wider g.S.SwapSlot.content c.args.hart c.least-allowed.result (room c.args.recorded.now.schedule c.args.hart) c.step_each-ran.result _ _ c.args.memory.now c.step_each-ran.new.memory (omega (arith, least, fits, same)) c.step_each-ran.ensures.short in
+    let short = wider g.S.SwapSlot.content g.S.SwapSlot.honest c.args.hart c.least-allowed.result (room c.args.recorded.now.schedule c.args.hart) c.step_each-ran.result _ _ c.args.memory.now c.step_each-ran.new.memory (omega (arith, least, fits, same)) c.step_each-ran.ensures.short in
     let none : c.step_each-ran.result ≡ 0 = omega (arith, c.if-ran-gt0.false) in
     inr (is_recorded c.args.hart c.step_each-ran.result _ (record { running = c.recorded.inside.running; schedule = c.recorded.inside.schedule }) c.args.recorded.now c.step_each-ran.new.self c.recorded.inside.schedule c.recorded.view_is short
     (λ memory. sym (c.may_step.ensures memory) ∙ c.if-not-may_step.false) (none_recorded c.recorded.inside.schedule c.args.hart c.step_each-ran.result none) (omega (arith, none)) (λ _. refl))

@@ -12,7 +12,7 @@ unfolding RunsEach
 loop-done-preserved g c =
     let one = c.if-not-run_one.ensures.ran in
     record {
-      each = subst (λ n. RunsEach g.S.SwapSlot.content c.args.hart n c.args.regs.now c.args.memory.now c.run_one.new.regs c.run_one.new.memory) (next_is c.loop-done.done)
+      each = subst (λ n. RunsEach g.S.SwapSlot.content g.S.SwapSlot.honest c.args.hart n c.args.regs.now c.args.memory.now c.run_one.new.regs c.run_one.new.memory) (next_is c.loop-done.done)
           ((c.loop-done.regs, c.loop-done.memory), (c.loop-done.invariant.each, one));
       started = one.kept.harts ∙ c.loop-done.invariant.started;
     }

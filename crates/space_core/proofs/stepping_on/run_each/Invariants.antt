@@ -5,7 +5,7 @@ use Rattle.space_core.proofs.stepping_on.run_each.Given as goal
 
 abbrev pub invariant-loop-done : goal.invariant-loop-done
 invariant-loop-done g l = record {
-  each : RunsEach g.S.SwapSlot.content l.hart l.done l.initial.regs l.initial.memory l.regs l.memory;
+  each : RunsEach g.S.SwapSlot.content g.S.SwapSlot.honest l.hart l.done l.initial.regs l.initial.memory l.regs l.memory;
   started : length l.memory.caches ≡ length l.initial.memory.caches;
 }
 

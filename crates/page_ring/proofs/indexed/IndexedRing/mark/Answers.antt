@@ -12,5 +12,5 @@ invariant_of-self c = record {
   parted = c.self.invariant.parted;
 }
   where
-    at_split : Split c.self.inside.links.cells c.args.at → FindsNodes c.mark.new.self.cells (λ k. node_of k c.self.inside.index)
-    at_split e = subst (λ (l : List Cell). FindsNodes l (λ k. node_of k c.self.inside.index)) (sym (c.mark.ensures.cells e.before e.behind e.cell e.parts e.is)) (index_mark (λ k. node_of k c.self.inside.index) c.args.kind e.before e.behind e.cell (subst (λ (l : List Cell). FindsNodes l (λ k. node_of k c.self.inside.index)) e.parts c.self.invariant.indexes))
+    at_split : Split c.self.inside.links.cells c.args.at → FindsNodes c.mark.new.self.cells c.self.inside.lacks (λ k. node_of k c.self.inside.index)
+    at_split e = subst (λ (l : List Cell). FindsNodes l c.self.inside.lacks (λ k. node_of k c.self.inside.index)) (sym (c.mark.ensures.cells e.before e.behind e.cell e.parts e.is)) (index_mark c.self.inside.lacks (λ k. node_of k c.self.inside.index) c.args.kind e.before e.behind e.cell (subst (λ (l : List Cell). FindsNodes l c.self.inside.lacks (λ k. node_of k c.self.inside.index)) e.parts c.self.invariant.indexes))

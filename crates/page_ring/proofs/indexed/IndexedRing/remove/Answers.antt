@@ -14,9 +14,9 @@ invariant_of-self c = record {
   parted = c.remove-2.ensures.parted;
 }
   where
-    at_split : Split c.self.inside.links.cells c.args.at → FindsNodes c.remove.new.self.cells (λ k. node_of k c.remove-2.new.self)
+    at_split : Split c.self.inside.links.cells c.args.at → FindsNodes c.remove.new.self.cells c.self.inside.lacks (λ k. node_of k c.remove-2.new.self)
     at_split e =
         let node : c.node.result ≡ record { entry = e.cell.entry; next = first_at (e.behind ++ e.before) c.args.at; previous = last_at c.args.at (e.behind ++ e.before) } =
         c.node.ensures e.cell (e.behind ++ e.before) (rotates_split c.self.inside.links.cells e.before e.behind e.cell e.parts) e.is in
-        subst (λ (l : List Cell). FindsNodes l (λ k. node_of k c.remove-2.new.self)) (sym (c.remove.ensures.cells e.before e.behind e.cell e.parts e.is))
-        (index_remove (λ k. node_of k c.self.inside.index) (λ k. node_of k c.remove-2.new.self) e.before e.behind e.cell (λ k. c.remove-2.ensures.taken k ∙ ap (λ (n : Node). cond (same_key n.entry.key k) None (node_of k c.self.inside.index)) node) (subst (λ (l : List Cell). FindsNodes l (λ k. node_of k c.self.inside.index)) e.parts c.self.invariant.indexes))
+        subst (λ (l : List Cell). FindsNodes l c.self.inside.lacks (λ k. node_of k c.remove-2.new.self)) (sym (c.remove.ensures.cells e.before e.behind e.cell e.parts e.is))
+        (index_remove c.self.inside.lacks (λ k. node_of k c.self.inside.index) (λ k. node_of k c.remove-2.new.self) e.before e.behind e.cell (λ k. c.remove-2.ensures.taken k ∙ ap (λ (n : Node). cond (same_key n.entry.key k) None (node_of k c.self.inside.index)) node) (subst (λ (l : List Cell). FindsNodes l c.self.inside.lacks (λ k. node_of k c.self.inside.index)) e.parts c.self.invariant.indexes))

@@ -12,5 +12,5 @@ invariant_of-self c = record {
   parted = c.self.invariant.parted;
 }
   where
-    at_split : Split c.self.inside.links.cells c.args.at → FindsNodes c.send_to_end.new.self.cells (λ k. node_of k c.self.inside.index)
-    at_split e = subst (λ (l : List Cell). FindsNodes l (λ k. node_of k c.self.inside.index)) (sym (c.send_to_end.ensures.cells e.before e.behind e.cell e.parts e.is)) (index_send (λ k. node_of k c.self.inside.index) c.args.kind e.before e.behind e.cell (subst (λ (l : List Cell). FindsNodes l (λ k. node_of k c.self.inside.index)) e.parts c.self.invariant.indexes))
+    at_split : Split c.self.inside.links.cells c.args.at → FindsNodes c.send_to_end.new.self.cells c.self.inside.lacks (λ k. node_of k c.self.inside.index)
+    at_split e = subst (λ (l : List Cell). FindsNodes l c.self.inside.lacks (λ k. node_of k c.self.inside.index)) (sym (c.send_to_end.ensures.cells e.before e.behind e.cell e.parts e.is)) (index_send c.self.inside.lacks (λ k. node_of k c.self.inside.index) c.args.kind e.before e.behind e.cell (subst (λ (l : List Cell). FindsNodes l c.self.inside.lacks (λ k. node_of k c.self.inside.index)) e.parts c.self.invariant.indexes))

@@ -12,6 +12,6 @@ invariant_of-self c = record {
   parted = c.self.invariant.parted;
 }
   where
-    at_front : (l : List Cell) → c.self.inside.links.cells ≡ l → 1 ≤ length l → FindsNodes c.turn.new.self.cells (λ k. node_of k c.self.inside.index)
+    at_front : (l : List Cell) → c.self.inside.links.cells ≡ l → 1 ≤ length l → FindsNodes c.turn.new.self.cells c.self.inside.lacks (λ k. node_of k c.self.inside.index)
     at_front [] is few = absurd (omega (arith, few))
-    at_front (d ∷ ds) is few = subst (λ (l : List Cell). FindsNodes l (λ k. node_of k c.self.inside.index)) (sym (c.turn.ensures.cells d ds is)) (index_turn (λ k. node_of k c.self.inside.index) (d ∷ []) ds (subst (λ (l : List Cell). FindsNodes l (λ k. node_of k c.self.inside.index)) is c.self.invariant.indexes))
+    at_front (d ∷ ds) is few = subst (λ (l : List Cell). FindsNodes l c.self.inside.lacks (λ k. node_of k c.self.inside.index)) (sym (c.turn.ensures.cells d ds is)) (index_turn c.self.inside.lacks (λ k. node_of k c.self.inside.index) (d ∷ []) ds (subst (λ (l : List Cell). FindsNodes l c.self.inside.lacks (λ k. node_of k c.self.inside.index)) is c.self.invariant.indexes))

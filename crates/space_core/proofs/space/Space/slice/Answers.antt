@@ -20,13 +20,13 @@ add_harts-requires-clause-more g c =
     omega (arith, more, count, ap (λ r. length r.harts) same, caches, cached)
 
 -- the pages are those that the run left
-pages_are : (g : Over) (c : goal.After-settle_caches g) → c.settle_caches.new.memory.pages ≡ c.run-slice.new.memory.pages
+pages_are : (g : Over) (c : goal.After-coherent g) → c.settle_caches.new.memory.pages ≡ c.run-slice.new.memory.pages
 pages_are g c = ap (λ (m : PagedValue g.row.S.Denot). m.pages) c.settle_caches.ensures.memory ∙ ap (λ (m : PagedValue g.row.S.Denot). m.pages) c.add_harts.ensures.memory
 
-abbrev left : (g : Over) (c : goal.After-settle_caches g) → PagedValue g.row.S.Denot → SpaceValue g.row.S.Denot
+abbrev left : (g : Over) (c : goal.After-coherent g) → PagedValue g.row.S.Denot → SpaceValue g.row.S.Denot
 left g c memory = record { image = c.self.inside.image; input = c.self.inside.input.items; running = c.run-slice.new.recorded.running; schedule = c.run-slice.new.recorded.schedule; memory = memory }
 
-stands : (g : Over) (c : goal.After-settle_caches g) → g.S.SwapSlot.honest → StandsFor g.S.SwapSlot.content (left g c c.settle_caches.new.memory)
+stands : (g : Over) (c : goal.After-coherent g) → g.S.SwapSlot.honest → StandsFor g.S.SwapSlot.content (left g c c.settle_caches.new.memory)
 stands g c h =
     let inside : SpaceValue g.row.S.Denot = record { image = c.self.inside.image; input = c.self.inside.input.items; running = c.self.inside.recorded.running; schedule = c.self.inside.recorded.schedule; memory = c.self.inside.memory } in
     let did = c.run-slice.ensures in

@@ -5,4 +5,4 @@ pub returns-clause-each : goal.returns-clause-each
 returns-clause-each g c =
     let did = c.slice-slice.ensures in
     steps_and_one g.S.SwapSlot.content g.S.SwapSlot.honest c.args.hart c.step_on-ran.result c.slice-slice.result.ran c.slice-slice.result.stop c.args.self.now c.step_on-ran.new.self c.slice-slice.new.self c.step_on-ran.ensures.short
-    (record { ran_is = did.ran; recorded = did.recorded; left = did.left; within = did.within; stops = did.stop; pages = did.pages; bound = did.bound; kept = did.kept; stands = did.stands })
+    (record { ran_is = did.ran; recorded = did.recorded; left = did.left; within = did.within; stops = did.stop; pages = did.pages; bound = did.bound; kept = did.kept; stands = did.stands; coheres = did.coheres })

@@ -1,0 +1,122 @@
+-- Points of which the last ones are none count as those before them.
+use Rattle.std.proofs.Common.{◌≡◌, ℕ, zero, suc, ◌+◌, ◌<◌, ◌≤◌, ◌==◌, Bool, true, false, List, [], ◌∷◌, length, take, Option, Some, None, IfSome, IfOk, OnErr, Ok, Err, is_some, option_map, slice_index_or, inl, inr, refl, sym, ap, ◌∙◌, ◌-◌, subst, arith}
+use Rattle.std.specs.Prelude.{◌⊎◌, if◌then◌else◌, Result}
+use Rattle.std.specs.Option.{option_or}
+use Rattle.std.proofs.lemmas.Bool.Decides.{leb_tells}
+use Rattle.std.specs.List.{position_from}
+use Rattle.rv_exec.specs.Registers.{Registers}
+use Rattle.flat_machine.specs.Process.{Process, hart_registers}
+use Rattle.debug_core.specs.Points.{point_at, is_break_at, is_hit, ArePoints, IsPoint}
+use Rattle.debug_core.specs.Progresses.{ended_full}
+use Rattle.debug_core.specs.Stops.{break_at, moment_after, reason, watch_hit, GoesOnBefore, Moment, Passes, Stops, StopsFor, Wants}
+use Rattle.debug_core.specs.declared.point.Point.{Point}
+use Rattle.debug_core.specs.declared.point.Why.{Why}
+use Rattle.debug_core.specs.declared.point.Why.TheVariants.{Ended, Watch, Break, Limit, Absent}
+
+none_behind : (test : Option Point → Bool) → test None ≡ false → (n : ℕ) (points : List (Option Point)) → ((number : ℕ) → point_at points number ≡ None) → position_from test n points ≡ None
+none_behind test unset n [] none = refl
+none_behind test unset n (point ∷ points) none =
+    ap (λ p. if test p then Some n else position_from test (n + 1) points) (none 0) ∙ ap (λ b. if b then Some n else position_from test (n + 1) points) unset
+    ∙ none_behind test unset (n + 1) points (λ number. none (suc number))
+
+position_trimmed : (test : Option Point → Bool) → test None ≡ false → (used n : ℕ) (points : List (Option Point)) → ((number : ℕ) → used ≤ number → point_at points number ≡ None)
+    → position_from test n (take used points) ≡ position_from test n points
+position_trimmed test unset zero n [] none = refl
+position_trimmed test unset (suc used) n [] none = refl
+position_trimmed test unset zero n (point ∷ points) none = sym (none_behind test unset n (point ∷ points) (λ number. none number (omega arith)))
+position_trimmed test unset (suc used) n (point ∷ points) none =
+    ap (λ o. if test point then Some n else o) (position_trimmed test unset used (n + 1) points (λ number behind. none (suc number) (omega (arith, behind))))
+
+-- what stands among the first points
+taken_at : (used number : ℕ) (points : List (Option Point)) → (point_at (take used points) number ≡ point_at points number) ⊎ (point_at (take used points) number ≡ None)
+taken_at zero number points = inr refl
+taken_at (suc used) number [] = inr refl
+taken_at (suc used) zero (point ∷ points) = inl refl
+taken_at (suc used) (suc number) (point ∷ points) = taken_at used number points
+
+pub points_trimmed : (used : ℕ) (points : List (Option Point)) → ArePoints points → ArePoints (take used points)
+points_trimmed used points are number =
+    elim (taken_at used number points) [
+      | inl same ↦ subst IsPoint (sym same) (are number)
+      | inr none ↦ subst IsPoint (sym none) (tt {0})
+    ]
+
+if_some : {A : Type 0} (o : Option A) (P Q : A → Type 0) → ((x : A) → P x → Q x) → IfSome o P → IfSome o Q
+if_some None P Q to p = p
+if_some (Some x) P Q to p = to x p
+
+module _ (used : ℕ) (points : List (Option Point)) (none : (number : ℕ) → used ≤ number → point_at points number ≡ None) where
+  break_trimmed : (registers : Option Registers) → break_at (take used points) registers ≡ break_at points registers
+  break_trimmed None = refl
+  break_trimmed (Some registers) = position_trimmed (is_break_at registers.pc) refl used 0 points none
+
+  reason_trimmed : (limit count : ℕ) (now : Moment) → reason (take used points) limit count now ≡ reason points limit count now
+  reason_trimmed limit count now =
+      ap (λ hit. if is_some now.process.ending then Some Ended else option_or (option_map Watch hit)
+      (option_or (option_map Break (break_at (take used points) (hart_registers now.turn now.process))) (if count == limit then Some Limit else None)))
+      (position_trimmed (is_hit now.was now.process.memory) refl used 0 points none)
+      ∙ ap (λ met. if is_some now.process.ending then Some Ended else option_or (option_map Watch (watch_hit points now))
+      (option_or (option_map Break met) (if count == limit then Some Limit else None)))
+      (break_trimmed (hart_registers now.turn now.process))
+
+  passes_trimmed : (limit count : ℕ) (first now : Moment) → Passes (take used points) limit count first now → Passes points limit count first now
+  passes_trimmed limit count first now passes = record {
+    reached = passes.reached;
+    within = passes.within;
+    before = λ earlier below.
+        if_some (moment_after earlier first) (λ at. reason (take used points) limit earlier at ≡ None) (λ at. reason points limit earlier at ≡ None)
+        (λ at e. sym (reason_trimmed limit earlier at) ∙ e) (passes.before earlier below);
+  }
+
+  stops_for : (why : Why) (limit count : ℕ) (now : Moment) (process : Process) → StopsFor why (take used points) limit count now process → StopsFor why points limit count now process
+  stops_for Ended limit count now process stops =
+      elim stops [
+        | inl ended ↦ inl (ended.0, sym (reason_trimmed limit count now) ∙ ended.1)
+        | inr full ↦ inr (full.0, sym (reason_trimmed limit count now) ∙ full.1)
+      ]
+  stops_for (Watch number) limit count now process stops = (stops.0, sym (reason_trimmed limit count now) ∙ stops.1)
+  stops_for (Break number) limit count now process stops = (stops.0, sym (reason_trimmed limit count now) ∙ stops.1)
+  stops_for Limit limit count now process stops = (stops.0, sym (reason_trimmed limit count now) ∙ stops.1)
+  stops_for Absent limit count now process stops = stops
+
+  stops_trimmed : (limit : ℕ) (why : Why) (count : ℕ) (first : Moment) (turn : ℕ) (process : Process) → Stops (take used points) limit why count first turn process → Stops points limit why count first turn process
+  stops_trimmed limit why count first turn process stops = record {
+    now = stops.now;
+    passes = passes_trimmed limit count first stops.now stops.passes;
+    stops = stops_for why limit count stops.now process stops.stops;
+    turn_is = stops.turn_is;
+  }
+
+  wants_trimmed : (limit : ℕ) (first : Moment) (turn : ℕ) (process : Process) → Wants (take used points) limit first turn process → Wants points limit first turn process
+  wants_trimmed limit first turn process wants = record {
+    count = wants.count;
+    now = wants.now;
+    passes = passes_trimmed limit wants.count first wants.now wants.passes;
+    none = sym (reason_trimmed limit wants.count wants.now) ∙ wants.none;
+    process_is = wants.process_is;
+    turn_is = wants.turn_is;
+  }
+
+  pub stops_answered : (limit : ℕ) (first : Moment) (turn : ℕ) (process : Process) {E : Type 0} (answer : Result (Why × ℕ) E)
+      → IfOk answer (λ stop. Stops (take used points) limit stop.0 stop.1 first turn process) → IfOk answer (λ stop. Stops points limit stop.0 stop.1 first turn process)
+  stops_answered limit first turn process (Ok stop) stops = stops_trimmed limit stop.0 stop.1 first turn process stops
+  stops_answered limit first turn process (Err error) stops = stops
+
+  pub wants_answered : (limit : ℕ) (first : Moment) (turn : ℕ) (process : Process) {E : Type 0} (answer : Result (Why × ℕ) E)
+      → OnErr answer (Wants (take used points) limit first turn process) → OnErr answer (Wants points limit first turn process)
+  wants_answered limit first turn process (Ok stop) wants = wants
+  wants_answered limit first turn process (Err error) wants = wants_trimmed limit first turn process wants
+
+-- ---- counting the points in use
+
+pub none_past : (points : List (Option Point)) (number : ℕ) → length points ≤ number → point_at points number ≡ None
+none_past [] number past = refl
+none_past (point ∷ points) zero past = absurd (omega (arith, past))
+none_past (point ∷ points) (suc number) past = none_past points number (omega (arith, past))
+
+pub none_more : (points : List (Option Point)) (used number : ℕ) → ((n : ℕ) → used ≤ n → point_at points n ≡ None) → point_at points (used - 1) ≡ None → used - 1 ≤ number → point_at points number ≡ None
+none_more points used number none here at =
+    elim (leb_tells used number) [
+      | inl behind ↦ none number behind.1
+      | inr before ↦ let same : number ≡ used - 1 = let b = before.1 in omega (arith, b, at) in ap (point_at points) same ∙ here
+    ]

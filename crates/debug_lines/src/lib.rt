@@ -1,0 +1,14 @@
+//! What users write to a debugger, line by line, and what it replies.
+#![tactic(auto)]
+
+mod answers;
+mod hexadecimal;
+mod lines;
+mod reply;
+mod reply_text;
+#[cfg(test)]
+mod tests;
+
+pub use answers::answer;
+pub use lines::{DebugLine, debug_line};
+pub use reply::DebugReply;

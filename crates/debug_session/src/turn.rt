@@ -1,0 +1,56 @@
+//! What is done for one line.
+
+ghost use Rattle.std.specs.Prelude.{ℕ, ◌++◌, ◌∷◌, [], List, IfOk, OnErr, OnOk};
+ghost use Rattle.std.specs.Io.KnownBytes.{Appends};
+ghost use Rattle.debug_lines.specs.ReplyText.{reply_text};
+ghost use Rattle.debug_session.specs.Conversation.{IsAnswered, TakesTurn};
+
+use debug_core::{Debugger, Target};
+use debug_lines::{DebugReply, answer, debug_line};
+use std::alloc::Global;
+use std::io;
+use std::io::Write;
+
+/// What a line comes to.
+#[derive(Clone, Copy, Debug, PartialEq, Eq)]
+pub(crate) enum Turn {
+    /// It was skipped, or answered.
+    GoesOn,
+    /// It was `quit`.
+    Quits,
+    /// It says nothing that may be said.
+    Bad,
+}
+
+/// Does what a line asks for, and writes the reply at once.
+pub(crate) fn take_turn<T: Target, O: Write>(
+    alloc: Global,
+    debugger: &mut Debugger<T>,
+    line: &[u8],
+    out: &mut O,
+) -> io::Result<Turn>
+    ensures taken { IfOk result (λ turn. TakesTurn T.shown T.fails turn line.now debugger.old (O.contents out.old) debugger.new (O.contents out.new)) }
+    ensures err { OnErr result ((told : List ℕ) × IsAnswered T.shown T.fails line.now debugger.old told debugger.new) }
+{
+    let Ok(asked) = debug_line(line) else {
+        return Ok(Turn::Bad);
+    };
+    let Some(asked) = asked else {
+        return Ok(Turn::GoesOn);
+    };
+    let Some(reply) = answer(alloc, debugger, asked) else {
+        return Ok(Turn::Quits);
+    };
+    match say(&reply, out) {
+        Ok(()) => Ok(Turn::GoesOn),
+        Err(error) => Err(error),
+    }
+}
+
+/// Writes a reply with a line end, at once.
+fn say<O: Write>(reply: &DebugReply, out: &mut O) -> io::Result<()>
+    ensures { OnOk result (Appends (O.contents out.old) (O.contents out.new) (reply_text reply.now ++ 10 ∷ [])) }
+{
+    writeln!(out, "{reply}")?;
+    out.flush()
+}

@@ -1,0 +1,3 @@
+mod Doublings
+mod Powers
+mod Seen

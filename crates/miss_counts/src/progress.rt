@@ -1,0 +1,23 @@
+//! How far a count is.
+
+/// What a long count has come to.
+#[derive(Clone, Copy, Debug, PartialEq, Eq)]
+pub enum Stage {
+    /// So many references are known.
+    References(u64),
+    /// So many rows are counted of so many.
+    Rows(usize, usize),
+}
+
+/// Who is told how far a count is. It has no say in what is counted.
+pub trait Progress: Drop {
+    fn tell(&mut self, stage: Stage);
+}
+
+/// Nobody.
+#[derive(Drop)]
+pub struct Quiet;
+
+impl Progress for Quiet {
+    fn tell(&mut self, _: Stage) {}
+}

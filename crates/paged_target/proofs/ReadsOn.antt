@@ -1,0 +1,28 @@
+-- Reads one after another.
+use Rattle.std.proofs.Common.{◌≡◌, ◌<◌, ℕ, ◌+◌, IsSome, Some, slice_get, refl, ap, ◌∙◌, arith}
+use Rattle.page_memory.specs.Words.{page_number}
+use Rattle.page_store.specs.PageValue.{Purged}
+use Rattle.machine_core.specs.Machine.{CoreValue}
+use Rattle.debug_core.specs.declared.target.ReadFault.{ReadFault}
+use Rattle.debug_core.specs.declared.target.ReadFault.TheVariants as fault
+use Rattle.paged_target.specs.Reads.{FailsToReadFrom, KeepsShown}
+use Rattle.paged_target.specs.Shown.{place_at, IsGivenBack}
+
+module _ {S : Type 0} where
+  pub keeps_same : (core : CoreValue S) → IsSome (slice_get core.processes 0) → KeepsShown core core
+  keeps_same core there = record { there = there; flat = refl; purged = λ number e. e }
+
+  pub keeps_then : (old between new : CoreValue S) → KeepsShown old between → KeepsShown between new → KeepsShown old new
+  keeps_then old between new first second = record {
+    there = second.there;
+    flat = second.flat ∙ first.flat;
+    purged = λ number e. first.purged number (second.purged number e);
+  }
+
+  -- a byte among others that can't be read
+  pub fails_among : (address count i : ℕ) (old now : CoreValue S) (why : ReadFault) → i < count → KeepsShown old now → FailsToReadFrom (address + i) 1 now why → FailsToReadFrom address count old why
+  fails_among address count i old now fault.Purged within keeps fails =
+      let first = fails.within in
+      let same : address + i ≡ address + i + fails.offset = omega (arith, first) in
+      record { offset = i; within = within; purged = keeps.purged (page_number (address + i)) (ap (λ a. place_at now (page_number a)) same ∙ fails.purged) }
+  fails_among address count i old now fault.Device within keeps fails = absurd fails

@@ -1,0 +1,14 @@
+use Rattle.std.proofs.Common.{◌∙◌, ◌++◌, ◌∷◌, [], ap, map}
+use Rattle.machine_sides.specs.Starting.{start_of}
+use Rattle.paged_target.proofs.Showing.{begins_flat}
+use Rattle.paged_target.proofs.paged_target.PagedTarget.new.Goals as goal
+
+pub returns-in-Ok : goal.returns-in-Ok
+returns-in-Ok g c =
+    record {
+      opens = begins_flat c.args.image (map (λ start. start_of start.0 start.1.items) c.push.new.self.items) c.in-Ok.core
+          (ap (map (λ start. start_of start.0 start.1.items)) c.in_ok-push.ensures.items
+          ∙ ap (λ l. map (λ start. start_of start.0 start.1.items) (l ++ (c.args.image, c.new.result) ∷ [])) c.new-processes.ensures.items
+          ∙ ap (λ l. start_of c.args.image l ∷ []) c.new.ensures.items)
+          c.in-Ok.ensures.begins.processes;
+    }

@@ -1,0 +1,4 @@
+pub mod Marks
+pub mod Reads
+pub mod Serving
+pub mod Shown

@@ -1,0 +1,54 @@
+-- What a machine of one process shows of it: the flat process that its recorded instructions leave.
+use Rattle.std.specs.Prelude.{◌≡◌, ℕ, ◌+◌, ◌<◌, Bool, true, false, List, [], slice_get, option_map, option_and_then, Option, Some, None, unwrap_or}
+use Rattle.page_memory.specs.Words.{page_number}
+use Rattle.page_store.specs.PageValue.{Place, Purged}
+use Rattle.paged_memory.specs.Paged.{page_at}
+use Rattle.flat_machine.specs.Process.{Process, opening, flat_run}
+use Rattle.flat_machine.specs.Schedule.{written_out}
+use Rattle.space_core.specs.StandsFor.{SpaceValue}
+use Rattle.machine_sides.specs.Sides.{ProcessSideValue}
+use Rattle.machine_core.specs.Machine.{CoreValue}
+use Rattle.debug_core.specs.Progresses.{ended_full}
+
+-- a machine, and whether its process was ended because no more steps can be recorded
+pub record TargetValue : Type 0 where
+  pub core : CoreValue (List ℕ)
+  pub full : Bool
+
+-- what a machine of no process would show
+abbrev pub no_process : Process
+no_process = opening (record { entry = 0; pages = [] }) []
+
+module _ {S : Type 0} where
+  -- the flat process that recorded instructions leave
+  abbrev pub flat_of : SpaceValue S → Process
+  flat_of space = unwrap_or (flat_run (written_out space.schedule) (opening space.image space.input)) no_process
+
+  abbrev pub flat_in : Option (ProcessSideValue S) → Process
+  flat_in None = no_process
+  flat_in (Some side) = flat_of side.space
+
+  -- the same of the process of number 0
+  abbrev pub flat_at : CoreValue S → Process
+  flat_at core = flat_in (slice_get core.processes 0)
+
+  -- where a page of that process is
+  abbrev pub place_in : ℕ → ProcessSideValue S → Option (Place S)
+  place_in number side = option_map (λ page. page.place) (page_at side.space.memory.pages number)
+
+  abbrev pub place_at : CoreValue S → ℕ → Option (Place S)
+  place_at core number = option_and_then (place_in number) (slice_get core.processes 0)
+
+  -- one of so many bytes from an address on lies in a page that was given back
+  pub record IsGivenBack (address count : ℕ) (core : CoreValue S) : Type 0 where
+    pub offset : ℕ
+    pub within : offset < count
+    pub purged : place_at core (page_number (address + offset)) ≡ Some Purged
+
+abbrev pub shown_as : Bool → Process → Process
+shown_as false flat = flat
+shown_as true flat = ended_full flat
+
+-- what it shows: the flat process, which ends where no more steps can be recorded
+abbrev pub shown_of : TargetValue → Process
+shown_of target = shown_as target.full (flat_at target.core)

@@ -1,0 +1,160 @@
+ghost use Rattle.std.specs.Prelude.{◌≡◌, ◌≢◌, ◌+◌, ◌<◌, ◌≤◌, ◌↔◌, ◌⊎◌, [], false, true, None, Some, IfOk, IsErrOf, IsSome, slice_get};
+ghost use Rattle.debug_core.specs.declared.target.Progress.TheVariants.{Ran as HasRun};
+ghost use Rattle.flat_machine.specs.Process.{flat_step, opening};
+ghost use Rattle.space_core.specs.StandsFor.{own_ending};
+ghost use Rattle.paged_target.specs.Reads.{FailsToReadFrom};
+ghost use Rattle.paged_target.specs.Serving.{ServesFlat};
+ghost use Rattle.paged_target.specs.Shown.{flat_at, shown_of, TargetValue};
+
+use crate::harts::next_live;
+use crate::reading::read;
+use clock_policy::Clock;
+use debug_core::{Progress, ReadFault, Target};
+use elf_image::Image;
+use flat_machine::{End, KillCause};
+use machine_core::{Core, CoreError, Event};
+use page_memory::page_of;
+use rv_exec::Regs;
+use serial_driver::{Served, serve_step};
+use std::alloc::{AllocError, Global};
+use std::marker::Model;
+use std::sync::ledger::{Blank, Ledger};
+use swap_slots::MemorySlot;
+
+/// A process on paged memory, alone on its machine, which brings its pages in by itself.
+#[derive(Drop)]
+pub struct PagedTarget<L: Ledger, C: Clock> {
+    core: Core<L, MemorySlot, C>,
+    /// Whether it was ended because no more steps can be recorded.
+    full: bool,
+}
+
+impl<L: Ledger, C: Clock> Model for PagedTarget<L, C> {
+    ghost use Rattle.std.specs.Prelude.{IsSome, slice_get};
+    ghost use Rattle.paged_target.specs.Shown.{TargetValue};
+
+    ghost Value = { TargetValue };
+
+    ghost view = { λ target. record { core = target.core; full = target.full } };
+
+    ghost invariant = { λ target. IsSome (slice_get target.core.processes 0) };
+}
+
+impl<L: Ledger, C: Clock> PagedTarget<L, C> {
+    /// A process that is to run an image, without input, on 4 to 4096 frames and on these slots. The ledger has one part for each
+    /// frame, and one for the pager itself.
+    pub fn new(
+        alloc: Global,
+        frames: u32,
+        blank: Blank,
+        slots: Vec<MemorySlot>,
+        image: Image,
+    ) -> Result<Self, AllocError>
+        requires name { blank.name ≡ L.name }
+        requires parts { blank.parts ≡ L.parts }
+        requires one_each { L.parts ≡ frames + 1 }
+        requires least { 4 ≤ frames }
+        requires most { frames ≤ 4096 }
+        ensures opens { IfOk result (λ target. shown_of target ≡ opening image []) }
+    {
+        let mut processes = Vec::new(alloc);
+        processes.push((image, Vec::new(alloc)))?;
+        match Core::new(alloc, frames, blank, slots, processes) {
+            Ok(core) => Ok(PagedTarget { core, full: false }),
+            Err(_) => Err(AllocError),
+        }
+    }
+
+    /// The process is ended because no more steps can be recorded.
+    fn end_full(&mut self)
+        ensures flat { flat_at self.new.core ≡ flat_at self.old.core }
+        ensures full { self.new.full ≡ true }
+    {
+        self.core.faithful();
+        self.core.apply(Event::Kill {
+            process: 0,
+            cause: KillCause::ScheduleFull,
+        });
+        self.full = true;
+    }
+}
+
+impl<L: Ledger, C: Clock> Target for PagedTarget<L, C> {
+    ghost shown = { shown_of };
+
+    ghost fails = { λ target address count fault. FailsToReadFrom address count target.core fault };
+
+    fn is_live(&self, hart: u32) -> bool {
+        self.core.faithful();
+        self.core.is_live(0, hart)
+    }
+
+    fn turn_after(&self, hart: u32) -> u32 {
+        self.core.faithful();
+        match next_live(&self.core, hart) {
+            Some(next) => next,
+            None => unreachable!(),
+        }
+    }
+
+    fn is_mapped(&self, address: u32) -> bool {
+        self.core.faithful();
+        self.core.state(0, page_of(address)).is_some()
+    }
+
+    fn end(&self) -> Option<End> {
+        self.core.faithful();
+        if self.full {
+            return Some(End::Killed(KillCause::ScheduleFull));
+        }
+        match self.core.end(0) {
+            Some(end) => own_ending(end),
+            None => None,
+        }
+    }
+
+    fn regs(&self, hart: u32) -> Option<&Regs> {
+        self.core.faithful();
+        self.core.regs(0, hart)
+    }
+
+    fn step(&mut self, hart: u32) -> Result<Progress, AllocError> {
+        match serve(&mut self.core, hart) {
+            Served::Ran => Ok(Progress::Ran),
+            Served::Absent => Ok(Progress::Absent),
+            Served::NoMemory => Err(AllocError),
+            Served::Full => {
+                self.end_full();
+                Ok(Progress::Full)
+            }
+        }
+    }
+
+    fn read(&mut self, address: u32, bytes: &mut [Option<u8>]) -> Result<(), ReadFault> {
+        read(&mut self.core, address, bytes)
+    }
+}
+
+/// Runs one instruction of a hart of process 0.
+fn serve<L: Ledger, C: Clock>(core: &mut Core<L, MemorySlot, C>, hart: u32) -> Served
+    requires there { IsSome (slice_get core.old.processes 0) }
+    ensures serves { ServesFlat result hart (flat_at core.old) (flat_at core.new) }
+    ensures there { IsSome (slice_get core.new.processes 0) }
+{
+    core.faithful();
+    let served = serve_step(core, 0, hart);
+    core.faithful();
+    served
+}
+
+/// How a process ended by its own instructions, if it did.
+fn own_ending(end: Option<End>) -> Option<End>
+    ensures { result ≡ own_ending end }
+{
+    match end {
+        None => None,
+        Some(End::Exited(_)) => end,
+        Some(End::Trapped { .. }) => end,
+        Some(End::Killed(_)) => None,
+    }
+}

@@ -1,0 +1,28 @@
+-- What the commands that run guests do with what they are asked for.
+use Rattle.std.specs.Prelude.{◌≡◌, ℕ, List, map, option_map}
+use Rattle.flat_machine.specs.Process.{Process, opening}
+use Rattle.machine_sides.specs.Starting.{Start}
+use Rattle.miss_counts.specs.Counted.{IsTable, guest_pages}
+use Rattle.miss_counts.specs.declared.counts.Counts.{Counts}
+use Rattle.paged_cli.specs.Reading.{AreGiven}
+use Rattle.policies_cli.specs.declared.request.GuestRequest.{GuestRequest}
+use Rattle.policies_cli.specs.declared.request.MissesRequest.{MissesRequest}
+
+-- the process that begins so
+abbrev pub opened : Start → Process
+opened start = opening start.image start.input
+
+-- `gives` tells, of a name, the bytes that a file of it may be found to hold
+module _ (gives : List ℕ → List ℕ → Type 0) where
+  -- the guests that are asked for: by their order the images of the files, the first on the named input, the others on none
+  pub record AreGuests (request : GuestRequest) (processes : List Process) : Type 0 where
+    pub starts : List Start
+    pub given : AreGiven gives (option_map (λ s. s.now) request.input) (map (λ s. s.now) request.images.items) starts
+    pub begin : processes ≡ map opened starts
+
+  -- Each row has the misses of the guests' string, by slices of so many instructions as were asked for, to the limit that was asked
+  -- for, for the numbers of frames that were asked for, or for the usual ones.
+  pub record CountsAsAsked (request : MissesRequest) (rows : List Counts) : Type 0 where
+    pub processes : List Process
+    pub guests : AreGuests request.guest processes
+    pub table : IsTable (guest_pages request.guest.slice request.guest.limit processes) (option_map (λ f. f.items) request.frames) rows

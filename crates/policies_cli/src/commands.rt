@@ -1,0 +1,60 @@
+//! The commands and what each takes.
+
+use clap::{Arg, ArgAction, Command};
+use std::alloc::{AllocError, Global};
+
+pub(crate) fn policies<'a>(alloc: Global) -> Result<Command<'a>, AllocError> {
+    let (misses, trace, replay) = (misses(alloc)?, trace(alloc)?, replay(alloc)?);
+    Command::new(alloc, "policies")
+        .no_binary_name(true)
+        .subcommand_required(true)
+        .subcommand(misses)?
+        .subcommand(trace)?
+        .subcommand(replay)
+}
+
+fn misses<'a>(alloc: Global) -> Result<Command<'a>, AllocError> {
+    guest(alloc, table(alloc, Command::new(alloc, "misses"))?)
+}
+
+fn trace<'a>(alloc: Global) -> Result<Command<'a>, AllocError> {
+    guest(alloc, Command::new(alloc, "trace"))?.arg(option(alloc, "format"))
+}
+
+fn replay<'a>(alloc: Global) -> Result<Command<'a>, AllocError> {
+    table(alloc, Command::new(alloc, "replay"))?
+        .arg(option(alloc, "format"))?
+        .arg(flag(alloc, "optimum"))?
+        .arg(Arg::new(alloc, "trace").required(true))
+}
+
+/// The command with what says which table is printed, and whether it is told how far the count is.
+fn table<'a>(alloc: Global, command: Command<'a>) -> Result<Command<'a>, AllocError> {
+    command
+        .arg(option(alloc, "frames"))?
+        .arg(flag(alloc, "csv"))?
+        .arg(flag(alloc, "progress"))
+}
+
+/// The command with what says which guests run, and how.
+fn guest<'a>(alloc: Global, command: Command<'a>) -> Result<Command<'a>, AllocError> {
+    command
+        .arg(option(alloc, "slice"))?
+        .arg(option(alloc, "limit"))?
+        .arg(option(alloc, "input"))?
+        .arg(
+            Arg::new(alloc, "image")
+                .required(true)
+                .action(ArgAction::Append),
+        )
+}
+
+/// An option with a value.
+fn option<'a>(alloc: Global, name: &'a str) -> Arg<'a> {
+    Arg::new(alloc, name).long(name)
+}
+
+/// An option that has no value.
+fn flag<'a>(alloc: Global, name: &'a str) -> Arg<'a> {
+    Arg::new(alloc, name).long(name).action(ArgAction::SetTrue)
+}

@@ -1,0 +1,100 @@
+//! Strings of references as libCacheSim reads them. An object is a page: its id is the process's number times 2^20, and the page's
+//! number; its size is 1, so that the size of a cache is its number of frames. Times count references from 1.
+
+use byteorder::{ByteOrder, LittleEndian, WriteBytesExt};
+use clock_policy::Key;
+use page_policies::next_uses;
+use paged_cli::Fault;
+use std::alloc::Global;
+use std::io;
+use std::io::Write;
+
+/// The columns of the text.
+pub(crate) const CSV_HEADER: &str = "time,id,size";
+
+/// How many pages a process may have numbers for.
+const PAGE_NUMBERS: u64 = 1 << 20;
+
+/// The next use of a page that is not used again: -1 in two's complement.
+const NO_NEXT: u64 = u64::MAX;
+
+fn id_of(page: Key) -> u64 {
+    u64::from(page.process) * PAGE_NUMBERS + u64::from(page.vpn)
+}
+
+/// A page that stands for an object: each id has its own.
+fn page_of_id(id: u64) -> Key {
+    Key {
+        process: (id >> 32) as u32,
+        vpn: (id % (1 << 32)) as u32,
+    }
+}
+
+/// Writes a reference as a line of text.
+pub(crate) fn write_csv<W: Write>(time: u64, page: Key, out: &mut W) -> io::Result<()> {
+    let id = id_of(page);
+    writeln!(out, "{time},{id},1")
+}
+
+/// The page of such a line: its id is its second field, and what else stands there is not looked at.
+pub(crate) fn page_of_csv(line: &[u8]) -> Option<Key> {
+    let comma = line.iter().position(|byte| *byte == b',')?;
+    let rest = &line[comma + 1..];
+    let end = rest
+        .iter()
+        .position(|byte| *byte == b',')
+        .unwrap_or(rest.len());
+    Some(page_of_id(id_in(&rest[..end])?))
+}
+
+/// The number that decimal digits write, where it is below 2^64.
+fn id_in(digits: &[u8]) -> Option<u64> {
+    if digits.is_empty() {
+        return None;
+    }
+    let mut id = 0u64;
+    for byte in digits {
+        let digit = char::from(*byte).to_digit(10)?;
+        id = id.checked_mul(10)?.checked_add(u64::from(digit))?;
+    }
+    Some(id)
+}
+
+/// The page of a record of 24 bytes.
+pub(crate) fn page_of_record(record: &[u8]) -> Option<Key> {
+    if record.len() != 24 {
+        return None;
+    }
+    Some(page_of_id(LittleEndian::read_u64(&record[4..12])))
+}
+
+/// Writes a string as records of 24 bytes, little endian: time (4 bytes), id (8), size (4), and the time of the page's next use, or
+/// -1 (8).
+pub(crate) fn write_oracle<'a, W: Write>(
+    alloc: Global,
+    string: &[Key],
+    out: &mut W,
+) -> Result<(), Fault<'a>> {
+    let ahead = next_uses(alloc, string)?;
+    for (i, page) in string.iter().enumerate() {
+        let time = u32::try_from(i + 1).unwrap_or(u32::MAX);
+        out.write_u32::<LittleEndian>(time)?;
+        out.write_u64::<LittleEndian>(id_of(*page))?;
+        out.write_u32::<LittleEndian>(1)?;
+        let next = match ahead.get(i) {
+            Some(ahead) => time_of_next(i, *ahead, string.len()),
+            None => NO_NEXT,
+        };
+        out.write_u64::<LittleEndian>(next)?;
+    }
+    Ok(())
+}
+
+/// The time of the next use of the page at a place, of which so many references come before; none where all the others do.
+fn time_of_next(at: usize, ahead: usize, references: usize) -> u64 {
+    let time = (at as u64).saturating_add(ahead as u64).saturating_add(2);
+    if time > references as u64 {
+        return NO_NEXT;
+    }
+    time
+}

@@ -1,0 +1,18 @@
+//! The program `policies`: how many references of a guest, or of a trace, miss under each replacement policy.
+#![tactic(auto)]
+
+mod commands;
+mod formats;
+mod guests;
+mod misses_command;
+mod program;
+mod reference_line;
+mod replay_command;
+mod request;
+mod requests;
+mod table;
+mod teller;
+mod trace_command;
+mod trace_file;
+
+pub use program::run_policies;

@@ -1,0 +1,50 @@
+//! `policies misses`: what guests miss.
+
+ghost use Rattle.std.specs.Prelude.{IfOk};
+ghost use Rattle.policies_cli.specs.Asked.{CountsAsAsked};
+
+use crate::guests::read_guests;
+use crate::request::MissesRequest;
+use crate::table::write_table;
+use crate::teller::Teller;
+use miss_counts::{Counts, Progress, guest_rows};
+use paged_cli::{Fault, Folder};
+use std::io::Write;
+use std::rt::Files;
+
+/// Plays the string of references of guests on each policy, and writes the table.
+pub(crate) fn run_misses<'a, R: Files + AllocGlobal, W: Write, E: Write>(
+    rt: &R,
+    request: MissesRequest<'a>,
+    out: &mut W,
+    err: &mut E,
+) -> Result<(), Fault<'a>> {
+    let printing = request.printing;
+    let mut teller = Teller::new(err, printing.is_told);
+    let counted = count_misses(rt, request, &mut teller);
+    teller.erase();
+    let rows = counted?;
+    write_table(rows.as_slice(), printing.is_csv, out)?;
+    Ok(())
+}
+
+/// The rows of the table.
+pub fn count_misses<'a, R: Folder + AllocGlobal, P: Progress>(
+    rt: &R,
+    request: MissesRequest<'a>,
+    progress: &mut P,
+) -> Result<Vec<Counts>, Fault<'a>>
+    ensures { IfOk result (λ rows. CountsAsAsked R.gives request.entry rows.items) }
+{
+    let processes = read_guests(rt, &request.guest)?;
+    let (slice, limit) = (request.guest.slice, u64::from(request.guest.limit));
+    let rows = guest_rows(
+        rt.alloc(),
+        processes,
+        slice,
+        limit,
+        request.frames,
+        progress,
+    )?;
+    Ok(rows)
+}

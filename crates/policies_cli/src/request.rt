@@ -1,0 +1,69 @@
+//! What is asked for.
+
+use page_policies::Frames;
+
+/// What is asked for on the command line.
+#[derive(Drop)]
+pub enum Request<'a> {
+    Misses(MissesRequest<'a>),
+    Trace(TraceRequest<'a>),
+    Replay(ReplayRequest<'a>),
+}
+
+/// Which guests run, and how.
+#[derive(Drop)]
+pub struct GuestRequest<'a> {
+    /// How many instructions a slice has.
+    pub slice: u32,
+    /// The most instructions that are run.
+    pub limit: u32,
+    /// The file whose bytes the first process reads, if there is one.
+    pub input: Option<&'a str>,
+    pub images: Vec<&'a str>,
+}
+
+/// How a table is printed.
+#[derive(Clone, Copy, Debug, PartialEq, Eq)]
+pub struct Printing {
+    pub is_csv: bool,
+    /// Whether it is told on standard error how far the count is.
+    pub is_told: bool,
+}
+
+/// Count what guests miss.
+#[derive(Drop)]
+pub struct MissesRequest<'a> {
+    pub guest: GuestRequest<'a>,
+    /// None: as many rows as the guests have pages for.
+    pub frames: Option<Vec<Frames>>,
+    pub printing: Printing,
+}
+
+/// Write the string of references of guests.
+#[derive(Drop)]
+pub struct TraceRequest<'a> {
+    pub guest: GuestRequest<'a>,
+    pub format: Format,
+}
+
+/// Count what a trace misses.
+#[derive(Drop)]
+pub struct ReplayRequest<'a> {
+    pub frames: Vec<Frames>,
+    pub format: Format,
+    /// Whether the optimum is counted too, for which the whole string is kept.
+    pub wants_optimum: bool,
+    pub printing: Printing,
+    pub trace: &'a str,
+}
+
+/// How a string of references is written.
+#[derive(Clone, Copy, Debug, PartialEq, Eq)]
+pub enum Format {
+    /// A page a line: the numbers of a process and of a page.
+    Text,
+    /// `time,id,size`.
+    Csv,
+    /// The binary format of libCacheSim whose records know the next use.
+    OracleGeneral,
+}

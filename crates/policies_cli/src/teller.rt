@@ -1,0 +1,46 @@
+//! How far a command is, told on standard error.
+
+use miss_counts::{Progress, Stage};
+use std::io::Write;
+
+/// A line that each stage writes anew, and that is erased at the end. What can't be told is left out.
+#[derive(Drop)]
+pub(crate) struct Teller<'e, E: Write> {
+    err: &'e mut E,
+    is_shown: bool,
+}
+
+/// How many references pass until it is told again.
+const STEP: u64 = 1 << 20;
+
+impl<'e, E: Write> Teller<'e, E> {
+    pub(crate) fn new(err: &'e mut E, is_shown: bool) -> Self {
+        Teller { err, is_shown }
+    }
+
+    /// Erases the line.
+    pub(crate) fn erase(&mut self) {
+        if self.is_shown {
+            let _ = write!(self.err, "\r\x1b[K");
+            let _ = self.err.flush();
+        }
+    }
+}
+
+impl<'e, E: Write> Progress for Teller<'e, E> {
+    fn tell(&mut self, stage: Stage) {
+        if !self.is_shown {
+            return;
+        }
+        match stage {
+            Stage::References(count) if count % STEP == 0 => {
+                let _ = write!(self.err, "\r\x1b[K{count} references");
+            }
+            Stage::References(_) => return,
+            Stage::Rows(done, all) => {
+                let _ = write!(self.err, "\r\x1b[K{done} of {all} numbers of frames");
+            }
+        }
+        let _ = self.err.flush();
+    }
+}

@@ -1,0 +1,54 @@
+//! `policies trace`: the string of references of guests.
+
+use crate::formats::{CSV_HEADER, write_csv, write_oracle};
+use crate::guests::read_guests;
+use crate::reference_line::write_line;
+use crate::request::{Format, TraceRequest};
+use guest_strings::GuestString;
+use miss_counts::{Quiet, pages_of};
+use paged_cli::Fault;
+use std::alloc::Global;
+use std::io::Write;
+use std::rt::Files;
+
+/// Writes the string, reference by reference; with its next uses once it is whole.
+pub(crate) fn run_trace<'a, R: Files + AllocGlobal, W: Write>(
+    rt: &R,
+    request: &TraceRequest<'a>,
+    out: &mut W,
+) -> Result<(), Fault<'a>> {
+    let guest = &request.guest;
+    let processes = read_guests(rt, guest)?;
+    let mut guests = GuestString::new(processes, guest.slice, u64::from(guest.limit));
+    match request.format {
+        Format::Text => write_text(&mut guests, out),
+        Format::Csv => write_all_csv(&mut guests, out),
+        Format::OracleGeneral => write_all_oracle(rt.alloc(), guests, out),
+    }
+}
+
+fn write_text<'a, W: Write>(guests: &mut GuestString, out: &mut W) -> Result<(), Fault<'a>> {
+    'references: while let Some(reference) = guests.next()? {
+        write_line(reference, out)?;
+    }
+    Ok(())
+}
+
+fn write_all_csv<'a, W: Write>(guests: &mut GuestString, out: &mut W) -> Result<(), Fault<'a>> {
+    writeln!(out, "{CSV_HEADER}")?;
+    let mut time = 0u64;
+    'references: while let Some(reference) = guests.next()? {
+        time = time.saturating_add(1);
+        write_csv(time, reference.page, out)?;
+    }
+    Ok(())
+}
+
+fn write_all_oracle<'a, W: Write>(
+    alloc: Global,
+    guests: GuestString,
+    out: &mut W,
+) -> Result<(), Fault<'a>> {
+    let string = pages_of(alloc, guests, &mut Quiet)?;
+    write_oracle(alloc, string.as_slice(), out)
+}

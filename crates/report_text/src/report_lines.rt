@@ -1,0 +1,78 @@
+//! What is told of a machine that has run.
+
+ghost use Rattle.std.specs.Prelude.{◌≡◌, OnOk};
+ghost use Rattle.std.specs.Io.KnownBytes.{Appends};
+ghost use Rattle.report_text.specs.ReportText.{report_text, processes_text, line_text, counts_text, places_text, savings_text, audit_text};
+
+use crate::exit_status::end_of;
+use crate::process_lines::write_process;
+use machine_core::{ProcessReport, Report};
+use std::io;
+use std::io::Write;
+
+/// Writes what each process has come to, by their numbers, then what was counted, and whether an audit found nothing amiss.
+pub fn write_report<W: Write>(report: &Report, out: &mut W) -> io::Result<()>
+    ensures { OnOk result (Appends (W.contents out.old) (W.contents out.new) (report_text report.now)) }
+{
+    write_processes(report.processes.as_slice(), out)?;
+    write_counts(report, out)?;
+    write_audit(report.audit, out)
+}
+
+/// Writes what each process has come to, by their numbers.
+fn write_processes<W: Write>(processes: &[ProcessReport], out: &mut W) -> io::Result<()>
+    ensures { OnOk result (Appends (W.contents out.old) (W.contents out.new) (processes_text 0 processes.now)) }
+{
+    let mut number = 0;
+    let mut rest = processes;
+    while let Some((process, others)) = rest.split_first() {
+        write_line(number, process, out)?;
+        number += 1;
+        rest = others;
+    }
+    Ok(())
+}
+
+fn write_line<W: Write>(number: usize, process: &ProcessReport, out: &mut W) -> io::Result<()>
+    ensures { OnOk result (Appends (W.contents out.old) (W.contents out.new) (line_text number process.now)) }
+{
+    let end = end_of(process.end);
+    write_process(number, process.output.as_slice(), end, process.steps, out)
+}
+
+/// Writes the count line.
+fn write_counts<W: Write>(report: &Report, out: &mut W) -> io::Result<()>
+    ensures { OnOk result (Appends (W.contents out.old) (W.contents out.new) (counts_text report.now)) }
+{
+    write_places(report, out)?;
+    write_savings(report, out)
+}
+
+/// Writes its first half: frames, and pages that came and that were to go.
+#[tactic(auto, unfolding(crate::specs::ReportText::places_text))]
+fn write_places<W: Write>(report: &Report, out: &mut W) -> io::Result<()>
+    ensures { OnOk result (Appends (W.contents out.old) (W.contents out.new) (places_text report.now)) }
+{
+    let (frames, page_ins, victims) = (report.frames, report.page_ins, report.victims);
+    write!(out, "frames {frames} page-ins {page_ins} victims {victims}")
+}
+
+/// Writes its second half: pages that went, and questions of the list.
+#[tactic(auto, unfolding(crate::specs::ReportText::savings_text))]
+fn write_savings<W: Write>(report: &Report, out: &mut W) -> io::Result<()>
+    ensures { OnOk result (Appends (W.contents out.old) (W.contents out.new) (savings_text report.now)) }
+{
+    let (saves, drops, questions) = (report.saves, report.drops, report.questions);
+    writeln!(out, " saves {saves} drops {drops} questions {questions}")
+}
+
+/// Writes whether an audit found nothing amiss.
+fn write_audit<W: Write>(is_sound: bool, out: &mut W) -> io::Result<()>
+    ensures { OnOk result (Appends (W.contents out.old) (W.contents out.new) (audit_text is_sound)) }
+{
+    if is_sound {
+        writeln!(out, "audit ok")
+    } else {
+        writeln!(out, "audit fault")
+    }
+}

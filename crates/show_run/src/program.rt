@@ -40,9 +40,11 @@ fn run_words<'a, R: Files + AllocGlobal, S: AsStr, O: Write>(
 ) -> Result<(), Fault<'a>> {
     match read_request(rt.alloc(), words)? {
         Request::Drive(request) => show_drive(rt, &request, out),
-        Request::Run(_) | Request::Asm(_) | Request::Flat(_) | Request::Clock(_) => {
-            Err(Fault::BadUsage)
-        }
+        Request::Run(_)
+        | Request::Asm(_)
+        | Request::Flat(_)
+        | Request::Clock(_)
+        | Request::Debug(_) => Err(Fault::BadUsage),
     }
 }
 

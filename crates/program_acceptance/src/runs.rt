@@ -60,10 +60,20 @@ pub fn run_flat(rt: &HostRuntime, test: &str, content: &[u8]) -> io::Result<Run>
     done
 }
 
-/// Runs `paged debug` on a file of this content and an input.
-pub fn run_debug(rt: &HostRuntime, test: &str, content: &[u8], input: &[u8]) -> io::Result<Run> {
+/// Runs `paged debug` on a file of this content and an input: on flat memory, or on so many frames.
+pub fn run_debug(
+    rt: &HostRuntime,
+    test: &str,
+    frames: Option<&str>,
+    content: &[u8],
+    input: &[u8],
+) -> io::Result<Run> {
     let file = TestFile::new(rt, test, content)?;
-    let done = run_words_on(rt, &["debug", file.path.as_str()], input);
+    let image = file.path.as_str();
+    let done = match frames {
+        None => run_words_on(rt, &["debug", image], input),
+        Some(frames) => run_words_on(rt, &["debug", "--frames", frames, image], input),
+    };
     file.remove(rt)?;
     done
 }

@@ -2,3 +2,4 @@ pub mod Given
 pub mod Reported
 pub mod Slots
 pub mod WordLines
+mod LinesEnd

@@ -1,5 +1,5 @@
 -- What a debugger that the program starts tells.
-use Rattle.std.specs.Prelude.{◌≡◌, ℕ, List, [], Option, Some, None, Ok, replicate}
+use Rattle.std.specs.Prelude.{◌≡◌, ⊤, ℕ, List, [], Option, Some, None, Result, Ok, Err, replicate}
 use Rattle.command_line.specs.declared.request.DebugRequest.{DebugRequest}
 use Rattle.elf_image.specs.Image.{ImageContent}
 use Rattle.flat_machine.specs.ByTurns.{first_turn}
@@ -7,29 +7,58 @@ use Rattle.flat_machine.specs.Process.{Process, opening}
 use Rattle.debug_core.specs.Debugging.{DebuggerValue}
 use Rattle.debug_core.specs.declared.target.ReadFault.{ReadFault}
 use Rattle.debug_session.specs.Conversation.{HasConversed}
+use Rattle.debug_session.specs.declared.conversation.SessionFault.{SessionFault}
+use Rattle.debug_session.specs.declared.conversation.SessionFault.TheVariants as session
 use Rattle.paged_target.specs.Reads.{FailsToReadFrom}
 use Rattle.paged_target.specs.Shown.{TargetValue, shown_of}
 use Rattle.paged_cli.specs.Reading.{GivesImage}
+use Rattle.paged_cli.specs.declared.fault.Fault.{Fault}
+use Rattle.paged_cli.specs.declared.fault.Fault.TheVariants as fault
 
 -- a debugger of a target, before its first call
 abbrev pub new_debugger : {T : Type 0} → (T → Process) → T → DebuggerValue T
 new_debugger shown target = record { target = target; points = replicate 32 None; turn = first_turn (shown target) }
 
--- A new debugger of a target that shows the process that an image and no input begin conversed over an input. `input` is what there is to
--- read, `old` and `new` are what stands in the output before and after.
-pub record Converses {T : Type 0} (shown : T → Process) (fails : T → ℕ → ℕ → ReadFault → Type 0) (image : ImageContent) (input old new : Option (List ℕ)) : Type 0 where
+-- A new debugger of a target that shows the process that an image and no input begin conversed over an input, with this result. `input` is
+-- what there is to read, `old` and `new` are what stands in the output before and after.
+pub record Converses {T : Type 0} (shown : T → Process) (fails : T → ℕ → ℕ → ReadFault → Type 0) (image : ImageContent) (input old new : Option (List ℕ)) (result : Result (Unit {0}) SessionFault) : Type 0 where
   pub target : T
   pub opens : shown target ≡ opening image []
   pub end : DebuggerValue T
-  pub conversed : HasConversed shown fails (Ok tt) input (new_debugger shown target) old end new
+  pub conversed : HasConversed shown fails result input (new_debugger shown target) old end new
 
 -- the same on flat memory, or on as many frames as are asked for
-abbrev pub ConversesOver : Option ℕ → ImageContent → Option (List ℕ) → Option (List ℕ) → Option (List ℕ) → Type 0
-ConversesOver None image input old new = Converses {T = Process} (λ process. process) (λ process address count fault. ⊥) image input old new
-ConversesOver (Some frames) image input old new = Converses {T = TargetValue} shown_of (λ target address count fault. FailsToReadFrom address count target.core fault) image input old new
+abbrev pub ConversesOver : Option ℕ → ImageContent → Option (List ℕ) → Option (List ℕ) → Option (List ℕ) → Result (Unit {0}) SessionFault → Type 0
+ConversesOver None image input old new result = Converses {T = Process} (λ process. process) (λ process address count fault. ⊥) image input old new result
+ConversesOver (Some frames) image input old new result =
+    Converses {T = TargetValue} shown_of (λ target address count fault. FailsToReadFrom address count target.core fault) image input old new result
+
+-- what is told of a conversation that came to its end, or to a bad line
+abbrev pub IfLinesEnd : Result (Unit {0}) SessionFault → (Result (Unit {0}) SessionFault → Type 0) → Type 0
+IfLinesEnd (Ok done) P = P (Ok done)
+IfLinesEnd (Err (session.BadLine number)) P = P (Err (session.BadLine number))
+IfLinesEnd (Err session.NoMemory) P = ⊤
+IfLinesEnd (Err session.CannotRead) P = ⊤
+IfLinesEnd (Err session.CannotWrite) P = ⊤
 
 -- `gives` tells, of a name, the bytes that a file of it may be found to hold
-pub record DebugsAsAsked (gives : List ℕ → List ℕ → Type 0) (request : DebugRequest) (input old new : Option (List ℕ)) : Type 0 where
+pub record DebugsAsAsked (gives : List ℕ → List ℕ → Type 0) (request : DebugRequest) (input old new : Option (List ℕ)) (result : Result (Unit {0}) SessionFault) : Type 0 where
   pub image : ImageContent
   pub image_given : GivesImage gives request.image.now image
-  pub conversed : ConversesOver request.frames image input old new
+  pub conversed : ConversesOver request.frames image input old new result
+
+-- what a bad line tells, where one is the fault
+abbrev pub IfBadLine : Fault → (ℕ → Type 0) → Type 0
+IfBadLine (fault.BadLine number) P = P number
+IfBadLine _ P = ⊤
+
+-- a fault of no line
+abbrev pub IsOfNoLine : Fault → Type 0
+IsOfNoLine why = IfBadLine why (λ number. ⊥)
+
+-- a conversation's fault as one of the command: a bad line is one, of the same number, and no other is
+abbrev pub IsTold : SessionFault → Fault → Type 0
+IsTold (session.BadLine number) why = why ≡ fault.BadLine number
+IsTold session.NoMemory why = why ≡ fault.NoMemory
+IsTold session.CannotRead why = IsOfNoLine why
+IsTold session.CannotWrite why = why ≡ fault.CannotWrite

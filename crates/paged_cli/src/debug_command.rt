@@ -1,10 +1,11 @@
 //! `paged debug`: a debugger that answers the lines of its input.
 
-ghost use Rattle.std.specs.Prelude.{◌≡◌, ◌+◌, ◌≤◌, None, Some, IfOk, IfSome};
+ghost use Rattle.std.specs.Prelude.{◌≡◌, ◌+◌, ◌≤◌, None, Some, Ok, Err, IfErr, IfOk, IfSome};
 ghost use Rattle.command_line.specs.Requests.{IsDebugInRange, IsFrom, least_frames, most_frames};
 ghost use Rattle.debug_core.specs.Debugging.{DebuggerValue};
 ghost use Rattle.debug_session.specs.Conversation.{HasConversed};
-ghost use Rattle.paged_cli.specs.Debugged.{new_debugger, ConversesOver, DebugsAsAsked};
+ghost use Rattle.debug_session.specs.declared.conversation.SessionFault.TheVariants.{BadLine};
+ghost use Rattle.paged_cli.specs.Debugged.{new_debugger, ConversesOver, DebugsAsAsked, IfBadLine, IfLinesEnd, IsTold};
 
 use crate::fault::Fault;
 use crate::files::Folder;
@@ -26,7 +27,7 @@ use std::sync::ledger::{Blank, Ledger};
 const SLOTS: u32 = 4096;
 
 /// Answers the lines of an input with a debugger of a new process, which runs an image on no input: on flat memory, or on as many
-/// frames as are asked for.
+/// frames as are asked for. It ends with the lines, or at one that is bad, which is then the fault.
 pub fn run_debug<'a, R: Folder + AllocGlobal, I: Read + Drop, W: Write>(
     rt: &R,
     request: &DebugRequest<'a>,
@@ -34,11 +35,26 @@ pub fn run_debug<'a, R: Folder + AllocGlobal, I: Read + Drop, W: Write>(
     out: &mut W,
 ) -> Result<(), Fault<'a>>
     requires { IsDebugInRange request.now }
-    ensures { IfOk result (λ _. DebugsAsAsked R.gives request.now (I.remaining input) (W.contents out.old) (W.contents out.new)) }
+    ensures done { IfOk result (λ _. DebugsAsAsked R.gives request.now (I.remaining input) (W.contents out.old) (W.contents out.new) (Ok tt)) }
+    ensures bad_line { IfErr result (λ fault. IfBadLine fault (λ number. DebugsAsAsked R.gives request.now (I.remaining input) (W.contents out.old) (W.contents out.new) (Err (BadLine number)))) }
 {
     let image = read_image(rt, request.image)?;
-    debug_on(rt.alloc(), request.frames, image, input, out)?;
-    Ok(())
+    match debug_on(rt.alloc(), request.frames, image, input, out) {
+        Ok(()) => Ok(()),
+        Err(fault) => Err(fault_of(fault)),
+    }
+}
+
+/// The fault of a conversation as one of the command.
+fn fault_of<'a>(fault: SessionFault) -> Fault<'a>
+    ensures { IsTold fault result }
+{
+    match fault {
+        SessionFault::BadLine(number) => Fault::BadLine(number),
+        SessionFault::NoMemory => Fault::NoMemory,
+        SessionFault::CannotRead => Fault::CannotRead("standard input"),
+        SessionFault::CannotWrite => Fault::CannotWrite,
+    }
 }
 
 /// On flat memory, or on so many frames.
@@ -50,7 +66,7 @@ fn debug_on<I: Read + Drop, W: Write>(
     out: &mut W,
 ) -> Result<(), SessionFault>
     requires { IfSome frames (IsFrom least_frames most_frames) }
-    ensures { IfOk result (λ _. ConversesOver frames image (I.remaining input) (W.contents out.old) (W.contents out.new)) }
+    ensures { IfLinesEnd result (ConversesOver frames image (I.remaining input) (W.contents out.old) (W.contents out.new)) }
 {
     match frames {
         None => debug_flat(alloc, &image, input, out),
@@ -67,13 +83,12 @@ fn debug_flat<I: Read + Drop, W: Write>(
     input: I,
     out: &mut W,
 ) -> Result<(), SessionFault>
-    ensures { IfOk result (λ _. ConversesOver None image.now (I.remaining input) (W.contents out.old) (W.contents out.new)) }
+    ensures { IfLinesEnd result (ConversesOver None image.now (I.remaining input) (W.contents out.old) (W.contents out.new)) }
 {
     let Ok(process) = FlatProcess::new(alloc, image, Vec::new(alloc)) else {
         return Err(SessionFault::NoMemory);
     };
-    debug(alloc, process, input, out)?;
-    Ok(())
+    debug(alloc, process, input, out)
 }
 
 fn debug_paged<L: Ledger, I: Read + Drop, W: Write>(
@@ -89,7 +104,7 @@ fn debug_paged<L: Ledger, I: Read + Drop, W: Write>(
     requires one_each { L.parts ≡ frames + 1 }
     requires least { 4 ≤ frames }
     requires most { frames ≤ 4096 }
-    ensures { IfOk result (λ _. ConversesOver (Some frames) image (I.remaining input) (W.contents out.old) (W.contents out.new)) }
+    ensures { IfLinesEnd result (ConversesOver (Some frames) image (I.remaining input) (W.contents out.old) (W.contents out.new)) }
 {
     let Ok(slots) = memory_slots(alloc, SLOTS) else {
         return Err(SessionFault::NoMemory);
@@ -97,8 +112,7 @@ fn debug_paged<L: Ledger, I: Read + Drop, W: Write>(
     let Ok(target) = PagedTarget::<L, ClockRing>::new(alloc, frames, blank, slots, image) else {
         return Err(SessionFault::NoMemory);
     };
-    debug(alloc, target, input, out)?;
-    Ok(())
+    debug(alloc, target, input, out)
 }
 
 /// Answers the lines of an input with a new debugger of a target.

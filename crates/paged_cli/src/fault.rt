@@ -1,5 +1,4 @@
 use command_line::UsageError;
-use debug_session::SessionFault;
 use std::alloc::AllocError;
 use std::io;
 use thiserror::Error;
@@ -44,17 +43,6 @@ impl From<UsageError> for Fault<'_> {
         match error {
             UsageError::BadUsage => Fault::BadUsage,
             UsageError::NoMemory => Fault::NoMemory,
-        }
-    }
-}
-
-impl From<SessionFault> for Fault<'_> {
-    fn from(fault: SessionFault) -> Self {
-        match fault {
-            SessionFault::BadLine(number) => Fault::BadLine(number),
-            SessionFault::NoMemory => Fault::NoMemory,
-            SessionFault::CannotRead => Fault::CannotRead("standard input"),
-            SessionFault::CannotWrite => Fault::CannotWrite,
         }
     }
 }

@@ -1,6 +1,7 @@
 //! Files that commands read whole.
 
-ghost use Rattle.std.specs.Prelude.{◌≡◌, ◌≤◌, ℕ, ⊤, List, [], false, is_some, IfOk, option_map, vec_len};
+ghost use Rattle.std.specs.Prelude.{◌≡◌, ◌≤◌, ℕ, ⊤, List, [], false, is_some, IfErr, IfOk, option_map, vec_len};
+ghost use Rattle.paged_cli.specs.Debugged.{IsOfNoLine};
 ghost use Rattle.paged_cli.specs.Reading.{GivesInput};
 
 use crate::fault::Fault;
@@ -19,7 +20,8 @@ pub trait Folder {
 
     /// The bytes of a file.
     fn read<'a>(&self, name: &'a str) -> Result<Vec<u8>, Fault<'a>>
-        ensures { IfOk result (λ bytes. gives name.now bytes.items) };
+        ensures bytes { IfOk result (λ bytes. gives name.now bytes.items) }
+        ensures fault { IfErr result IsOfNoLine };
 }
 
 /// Of the system's files nothing is known before they are read.
@@ -33,7 +35,8 @@ impl<R: Files + AllocGlobal> Folder for R {
 
 /// The bytes of a file.
 pub fn read_file<'a, R: Files + AllocGlobal>(rt: &R, name: &'a str) -> Result<Vec<u8>, Fault<'a>>
-    ensures { IfOk result (λ bytes. vec_len bytes ≤ MOST_BYTES) }
+    ensures few { IfOk result (λ bytes. vec_len bytes ≤ MOST_BYTES) }
+    ensures fault { IfErr result IsOfNoLine }
 {
     let Ok(file) = fs::open(rt, name) else {
         return Err(Fault::CannotRead(name));
@@ -74,7 +77,8 @@ pub fn read_text<'a, R: Folder>(rt: &R, name: &'a str) -> Result<String, Fault<'
 
 /// The text that a file's bytes are.
 pub fn text_of(bytes: Vec<u8>, name: &str) -> Result<String, Fault<'_>>
-    ensures { IfOk result (λ text. text.bytes.items ≡ bytes.items) }
+    ensures text { IfOk result (λ text. text.bytes.items ≡ bytes.items) }
+    ensures fault { IfErr result IsOfNoLine }
 {
     String::from_utf8(bytes).map_err(|_| Fault::CannotRead(name))
 }

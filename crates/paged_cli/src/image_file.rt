@@ -1,8 +1,9 @@
 //! Images and sources in files.
 
-ghost use Rattle.std.specs.Prelude.{◌≡◌, None, Ok, IfOk, length, map, option_map};
+ghost use Rattle.std.specs.Prelude.{◌≡◌, None, Ok, IfErr, IfOk, length, map, option_map};
 ghost use Rattle.elf_image.specs.Image.{image_of_words};
 ghost use Rattle.machine_sides.specs.Starting.{start_of};
+ghost use Rattle.paged_cli.specs.Debugged.{IsOfNoLine};
 ghost use Rattle.paged_cli.specs.Reading.{AreGiven, GivesImage, HoldsImage};
 ghost use Rattle.paged_cli.specs.WordsFile.{words_in};
 ghost use Rattle.rv_asm.specs.Assembly.{Assembles};
@@ -18,7 +19,8 @@ use std::rt::Files;
 
 /// The image that a file holds.
 pub fn read_image<'a, R: Folder + AllocGlobal>(rt: &R, name: &'a str) -> Result<Image, Fault<'a>>
-    ensures { IfOk result (GivesImage R.gives name.now) }
+    ensures image { IfOk result (GivesImage R.gives name.now) }
+    ensures fault { IfErr result IsOfNoLine }
 {
     let file = rt.read(name)?;
     image_in(rt.alloc(), file, name)
@@ -26,7 +28,8 @@ pub fn read_image<'a, R: Folder + AllocGlobal>(rt: &R, name: &'a str) -> Result<
 
 /// The image that the bytes of a file are.
 fn image_in<'a>(alloc: Global, file: Vec<u8>, name: &'a str) -> Result<Image, Fault<'a>>
-    ensures { IfOk result (HoldsImage file.items) }
+    ensures image { IfOk result (HoldsImage file.items) }
+    ensures fault { IfErr result IsOfNoLine }
 {
     match kind_of_file(file.as_slice()) {
         ImageKind::Elf => image_or_fault(read_elf(alloc, file.as_slice()), name),
@@ -80,7 +83,8 @@ pub fn read_source<'a, R: Files + AllocGlobal>(
 }
 
 fn listing_of<'a>(alloc: Global, file: Vec<u8>, name: &'a str) -> Result<Listing, Fault<'a>>
-    ensures { IfOk result (Assembles file.items) }
+    ensures listing { IfOk result (Assembles file.items) }
+    ensures fault { IfErr result IsOfNoLine }
 {
     let source = text_of(file, name)?;
     match assemble(alloc, source.as_str()) {
@@ -91,7 +95,8 @@ fn listing_of<'a>(alloc: Global, file: Vec<u8>, name: &'a str) -> Result<Listing
 }
 
 fn image_of_words<'a>(alloc: Global, file: &[u8], name: &'a str) -> Result<Image, Fault<'a>>
-    ensures { IfOk result (λ image. image ≡ image_of_words (words_in file.now)) }
+    ensures image { IfOk result (λ image. image ≡ image_of_words (words_in file.now)) }
+    ensures fault { IfErr result IsOfNoLine }
 {
     match words_of_file(alloc, file) {
         Ok(words) => image_or_fault(Image::from_words(alloc, words.as_slice()), name),
@@ -101,7 +106,8 @@ fn image_of_words<'a>(alloc: Global, file: &[u8], name: &'a str) -> Result<Image
 }
 
 fn image_or_fault(made: Result<Image, ElfFault>, name: &str) -> Result<Image, Fault<'_>>
-    ensures { IfOk result (λ image. made ≡ Ok image) }
+    ensures image { IfOk result (λ image. made ≡ Ok image) }
+    ensures fault { IfErr result IsOfNoLine }
 {
     match made {
         Ok(image) => Ok(image),

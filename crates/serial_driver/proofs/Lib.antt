@@ -10,3 +10,4 @@ pub mod Reached
 pub mod Stopped
 pub mod Told
 pub mod Tried
+mod OutOwed

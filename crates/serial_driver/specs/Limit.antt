@@ -1,6 +1,9 @@
 -- A run of so many events at most, and how it is closed.
-use Rattle.std.specs.Prelude.{◌≡◌, ◌≢◌, ℕ, ◌*◌, ◌<◌, ◌≤◌, false, List, All, length, slice_get, Option, Some, None, IsSome}
+use Rattle.std.specs.Prelude.{◌≡◌, ◌≢◌, ℕ, ◌*◌, ◌^◌, ◌<◌, ◌≤◌, false, List, All, length, slice_get, Option, Some, None, IsSome}
 use Rattle.clock_policy.specs.declared.key.Key.{Key}
+use Rattle.paged_memory.specs.Leaving.{IsSaving}
+use Rattle.paged_memory.specs.Paged.{page_at}
+use Rattle.machine_sides.specs.Sides.{ProcessSideValue}
 use Rattle.machine_core.specs.declared.event.Event.{Event}
 use Rattle.machine_core.specs.declared.event.Event.TheVariants.{Saved}
 use Rattle.machine_core.specs.declared.event.Reply.{Reply}
@@ -11,6 +14,11 @@ use Rattle.serial_driver.specs.Endings.{HasEnded}
 use Rattle.serial_driver.specs.Owing.{Duty, no_duty, duty_after, owed_save, ArePaid}
 use Rattle.serial_driver.specs.Patience.{tries_per_frame, tried_after, spent_after, IsPatient}
 use Rattle.serial_driver.specs.declared.patience.Patience.{Patience}
+
+module _ {S : Type 0} where
+  -- no page of the machine is being saved
+  abbrev pub SavesNone : CoreValue S → Type 0
+  SavesNone core = (number : ℕ) (process : ProcessSideValue S) → slice_get core.processes number ≡ Some process → (q : ℕ) → q < 2 ^ 20 → ¬ IsSaving (page_at process.space.memory.pages q)
 
 module _ {S : Type 0} (held : S → List ℕ) (honest : Type 0) (failures : S → ℕ) where
   -- So many events lead from one machine to the other, each in turn. None of them ends a process for the limit. Each event that is owed, for an answer
@@ -61,11 +69,12 @@ module _ {S : Type 0} (held : S → List ℕ) (honest : Type 0) (failures : S �
   Closes old new = ClosesBelow (length old.processes) old new
 
   -- Processes run in slices of so many instructions until so many events have happened, or until each has ended. Then the save that is
-  -- out is done, and then the run is closed.
+  -- out is done, so that none is being saved where none was at first; and then the run is closed.
   pub record EndsByLimit (slice limit : ℕ) (old new : CoreValue S) : Type 0 where
     pub unsaved : Option Key
     pub played : CoreValue S
     pub plays : PlaysUpTo slice limit unsaved old played
     pub saved : CoreValue S
     pub saves : DoesSave unsaved played saved
+    pub settled : SavesNone old → SavesNone saved
     pub closes : Closes saved new

@@ -61,6 +61,7 @@ fn play<L: Ledger, S: SwapSlot, C: Clock>(core: &mut Core<L, S, C>, slice: u32, 
     ensures limited { EndsByLimit S.content S.honest S.failures (max slice 1) limit core.old core.new }
     ensures ended { (number : ℕ) → HasEnded core.new number }
 {
+    core.faithful();
     let mut turns = Turns::new(slice);
     let mut patience = Patience::new(core.size());
     let unsaved = play_events(core, &mut turns, &mut patience, limit);

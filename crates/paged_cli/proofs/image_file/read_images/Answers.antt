@@ -12,7 +12,7 @@ pub loop-name-preserved : goal.loop-name-preserved
 loop-name-preserved g c =
     let pushed : c.push.new.self.items ≡ c.loop-name.processes.items ++ (c.in_ok-image.image, c.new.result) ∷ [] = grind (arith, common_steps) in
     one_read g.R.Folder.gives (λ s. s.now) (λ start. start_of start.0 start.1.items) c.args.images.now c.loop-name.name-index _ c.loop-name.processes.items c.push.new.self.items
-    (c.in_ok-image.image, c.new.result) c.loop-name-test.true c.loop-name.invariant c.in_ok-image.ensures c.new.ensures.items pushed
+    (c.in_ok-image.image, c.new.result) c.loop-name-test.true c.loop-name.invariant c.in_ok-image.ensures.image c.new.ensures.items pushed
 
 pub returns : goal.returns
 returns g c =

@@ -1,0 +1,272 @@
+-- A save is out exactly while it is owed.
+use Rattle.std.proofs.Common.{◌≡◌, ℕ, suc, ◌+◌, ◌<◌, ◌≤◌, ◌^◌, ◌==◌, Bool, true, false, not, nat_le, nat_lt, List, [], ◌∷◌, ◌++◌, length, Option, Some, None, option_map, All, IsPermutation, slice_get, inl, inr, refl, sym, ap, ◌∙◌, arith, subst}
+use Rattle.std.specs.Prelude.{if◌then◌else◌}
+use Rattle.std.proofs.lemmas.List.Elements.{All-head}
+use Rattle.std.proofs.lemmas.List.Sorted.{length_permutation}
+use borrow.Author.Tests.{lt-ltb}
+use Rattle.clock_policy.specs.declared.key.Key.{Key}
+use Rattle.flat_machine.specs.declared.end.KillCause.{KillCause}
+use Rattle.flat_machine.specs.declared.end.KillCause.TheVariants as cause
+use Rattle.page_store.specs.JobValue.{JobValue}
+use Rattle.page_store.specs.Moves.{IfSaving}
+use Rattle.page_store.specs.PageValue.{PageValue, Place, Saving, page_state_of}
+use Rattle.paged_memory.specs.Leaving.{IsSaving}
+use Rattle.paged_memory.specs.Paged.{page_at}
+use Rattle.space_core.specs.StandsFor.{SpaceValue}
+use Rattle.machine_sides.specs.PurgeLaws.{is_saving_some}
+use Rattle.machine_sides.specs.Purging.{is_saving_any}
+use Rattle.machine_sides.specs.SavingBack.{is_saving_at, is_saving_stage}
+use Rattle.machine_sides.specs.Sides.{ProcessSideValue}
+use Rattle.machine_sides.specs.Together.{key_of, savings_in}
+use Rattle.machine_core.specs.declared.error.EventRefusal.{EventRefusal}
+use Rattle.machine_core.specs.declared.error.EventRefusal.TheVariants as refusal
+use Rattle.machine_core.specs.declared.event.Event.{Event}
+use Rattle.machine_core.specs.declared.event.Event.TheVariants.{Step, Notice, Sweep, Collect, Saved, PageIn, Kill, Purge}
+use Rattle.machine_core.specs.declared.event.Reply.{Reply}
+use Rattle.machine_core.specs.declared.event.Reply.TheVariants as reply
+use Rattle.machine_core.specs.Applying.{Applies, Runs}
+use Rattle.machine_core.specs.CollectEvent.{CollectsTo, not_yet, freed, dirty, no_slot, no_memory}
+use Rattle.machine_core.specs.Faithful.{IsFaithful}
+use Rattle.machine_core.specs.Machine.{CoreValue, IsMachine, IsSaveOut, jobs_where, total}
+use Rattle.machine_core.specs.MachineRun.{of_process}
+use Rattle.machine_core.specs.SavingOut.{saved_refusal, saving_reason}
+use Rattle.machine_core.specs.TotalLaws.{total_at}
+use Rattle.serial_driver.specs.Limit.{DoesSave, PlaysUpTo, SavesNone}
+use Rattle.serial_driver.specs.Owing.{Duty, Pays, ArePaid, collect_owes, duty_after, duty_with, is_device, is_dirty, is_full, is_going_on, is_out_of_memory, load_owes, most_load_faults, next_owed, no_duty, owed_save, save_owes, step_owes, stop_owes}
+
+-- ---- what is owed but a save
+
+one_kill : (b : Bool) (process : ℕ) (why : KillCause) → owed_save (if b then Some (Kill process why) else None) ≡ None
+one_kill true process why = refl
+one_kill false process why = refl
+
+no_save_stopped : (process : ℕ) (answer : Reply) → owed_save (stop_owes process answer) ≡ None
+no_save_stopped process answer = by_tests (is_full answer) (is_out_of_memory answer)
+  where
+    by_tests : (a b : Bool) → owed_save (if a then Some (Kill process cause.ScheduleFull) else (if b then Some (Kill process cause.NoMemory) else Some (Purge process))) ≡ None
+    by_tests true b = refl
+    by_tests false true = refl
+    by_tests false false = refl
+
+no_save_stepped : (process : ℕ) (answer : Reply) → owed_save (step_owes process answer) ≡ None
+no_save_stepped process answer = by_test (is_going_on answer)
+  where
+    by_test : (b : Bool) → owed_save (if b then None else stop_owes process answer) ≡ None
+    by_test true = refl
+    by_test false = no_save_stopped process answer
+
+no_save_saved : (process : ℕ) (answer : Reply) → owed_save (save_owes process answer) ≡ None
+no_save_saved process answer = one_kill (is_out_of_memory answer) process cause.NoMemory
+
+no_save_loaded : (faults process : ℕ) (answer : Reply) → owed_save (load_owes faults process answer) ≡ None
+no_save_loaded faults process answer = by_tests (is_device answer) (nat_le most_load_faults (faults + 1))
+  where
+    by_tests : (a b : Bool) → owed_save (if a then (if b then Some (Kill process cause.LoadFailed) else None) else save_owes process answer) ≡ None
+    by_tests true true = refl
+    by_tests true false = refl
+    by_tests false b = no_save_saved process answer
+
+no_save_collected : (key : Key) (answer : Reply) → is_dirty answer ≡ false → owed_save (collect_owes key answer) ≡ None
+no_save_collected key answer clean = by_test (is_dirty answer) clean
+  where
+    by_test : (b : Bool) → b ≡ false → owed_save (if b then Some (Saved key) else save_owes key.process answer) ≡ None
+    by_test true h = cc
+    by_test false h = no_save_saved key.process answer
+
+module _ {S : Type 0} where
+  -- the saves that are out: of this page alone, or none
+  abbrev AreOut : Option Key → List (JobValue S) → Type 0
+  AreOut None jobs = jobs ≡ []
+  AreOut (Some key) jobs = (job : JobValue S) × ((jobs ≡ job ∷ []) × (key_of job.process job.vpn ≡ key))
+
+  out_none : (owed : Option Key) (jobs jobs' : List (JobValue S)) → owed ≡ None → jobs ≡ [] → jobs' ≡ jobs → AreOut owed jobs'
+  out_none owed jobs jobs' nothing none same = subst (λ o. AreOut o jobs') (sym nothing) (same ∙ none)
+
+  -- ---- pages that are being saved, and the saves that are out
+
+  empty : (l : List (JobValue S)) → length l ≡ 0 → l ≡ []
+  empty [] h = refl
+  empty (x ∷ l) h = absurd (omega (arith, h))
+
+  -- where none is out, none comes back
+  none_taken : (job : JobValue S) (jobs jobs' : List (JobValue S)) → IsPermutation jobs (job ∷ jobs') → jobs ≡ [] → ⊥
+  none_taken job jobs jobs' moved none =
+      let count = length_permutation jobs (job ∷ jobs') moved in
+      let nothing : length jobs ≡ 0 = ap (λ (l : List (JobValue S)). length l) none in
+      omega (arith, count, nothing)
+
+  -- where one is out, none is once it comes back
+  last_taken : (job one : JobValue S) (jobs jobs' : List (JobValue S)) → IsPermutation jobs (job ∷ jobs') → jobs ≡ one ∷ [] → jobs' ≡ []
+  last_taken job one jobs jobs' moved same =
+      let count = length_permutation jobs (job ∷ jobs') moved in
+      let single : length jobs ≡ 1 = ap (λ (l : List (JobValue S)). length l) same in
+      empty jobs' (omega (arith, count, single))
+
+  stage_saving : (processes : List (ProcessSideValue S)) (job : JobValue S) (out : IsSaveOut processes job) → is_saving_at out.process.space job.vpn ≡ true
+  stage_saving processes job out =
+      let inside : nat_lt job.vpn (2 ^ 20) ≡ true = lt-ltb job.vpn (2 ^ 20) out.small in
+      ap (λ b. is_saving_stage (if b then option_map (λ (p : PageValue S). page_state_of p.place) (page_at out.process.space.memory.pages job.vpn) else None)) inside
+      ∙ ap (λ o. is_saving_stage (option_map (λ (p : PageValue S). page_state_of p.place) o)) out.at
+      ∙ ap (λ p. is_saving_stage (Some (page_state_of p))) out.saving
+
+  reason_none : (vpn : ℕ) (process : ProcessSideValue S) → is_saving_at process.space vpn ≡ true → saving_reason vpn process ≡ None
+  reason_none vpn process saving = ap (λ (b : Bool). if b then None else Some refusal.NotSaving) saving
+
+  -- the save that is out can come back
+  not_refused : (processes : List (ProcessSideValue S)) (job : JobValue S) → IsSaveOut processes job → saved_refusal (key_of job.process job.vpn) processes ≡ None
+  not_refused processes job out =
+      ap (of_process (saving_reason job.vpn)) out.found ∙ reason_none job.vpn out.process (stage_saving processes job out)
+
+  first_out : (processes : List (ProcessSideValue S)) (jobs : List (JobValue S)) (job : JobValue S) → All (IsSaveOut processes) jobs → jobs ≡ job ∷ [] → IsSaveOut processes job
+  first_out processes jobs job all same = All-head (IsSaveOut processes) job [] (subst (λ l. All (IsSaveOut processes) l) same all)
+
+  -- where no page is being saved, no save is out
+  pub none_out : (core : CoreValue S) → IsMachine core → SavesNone core → core.jobs ≡ []
+  none_out core machine none = by_jobs core.jobs machine.out
+    where
+      by_jobs : (jobs : List (JobValue S)) → All (IsSaveOut core.processes) jobs → jobs ≡ []
+      by_jobs [] all = refl
+      by_jobs (job ∷ jobs) all =
+          let out = All-head (IsSaveOut core.processes) job jobs all in
+          let saving : IsSaving (page_at out.process.space.memory.pages job.vpn) =
+          subst (λ o. IsSaving o) (sym out.at) (subst (λ place. IfSaving place (λ _. Unit {0})) (sym out.saving) tt) in
+          absurd (none job.process out.process out.found job.vpn out.small saving)
+
+  nothing_saved : (space : SpaceValue S) (q : ℕ) → q < 2 ^ 20 → IsSaving (page_at space.memory.pages q) → savings_in space (λ _. true) ≡ 0 → ⊥
+  unfolding savings_in is_saving_any
+  nothing_saved space q small saving none =
+      let some = is_saving_some space.memory.pages (record { number = q; small = small; saving = saving }) in
+      let no = ap (λ n. not (n == 0)) none in
+      cc
+
+  no_jobs : (jobs : List (JobValue S)) → jobs ≡ [] → jobs_where (λ _. true) jobs ≡ 0
+  unfolding jobs_where total
+  no_jobs [] e = refl
+  no_jobs (job ∷ jobs) e = cc
+
+  -- where no save is out, no page is being saved
+  pub none_saving : (core : CoreValue S) → IsMachine core → core.jobs ≡ [] → SavesNone core
+  none_saving core machine none = λ number process found q small saving.
+      let most = total_at (λ (p : ProcessSideValue S). savings_in p.space (λ _. true)) core.processes number process found in
+      let same = machine.saved (λ _. true) in
+      let zero = no_jobs core.jobs none in
+      nothing_saved process.space q small saving (omega (arith, most, same, zero))
+
+module _ {S : Type 0} (held : S → List ℕ) (honest : Type 0) (failures : S → ℕ) where
+  -- ---- one event
+
+  collected_out : (key : Key) (old new : CoreValue S) (process process' : ProcessSideValue S) (answer : Reply) → process.space.memory.process ≡ key.process → old.jobs ≡ [] → CollectsTo key.vpn old new process process' answer
+      → AreOut (owed_save (collect_owes key answer)) new.jobs
+  collected_out key old new process process' answer number none (not_yet how jobs told) =
+      out_none _ old.jobs new.jobs (no_save_collected key answer (ap is_dirty told)) none jobs
+  collected_out key old new process process' answer number none (freed how jobs told) =
+      out_none _ old.jobs new.jobs (no_save_collected key answer (ap is_dirty told)) none jobs
+  collected_out key old new process process' answer number none (dirty job how jobs told) =
+      let page : key_of job.process job.vpn ≡ key = ap (λ p. key_of p job.vpn) (how.saving.process ∙ number) ∙ ap (λ v. key_of key.process v) how.saving.vpn_is in
+      subst (λ a. AreOut (owed_save (collect_owes key a)) new.jobs) (sym told) (job, (jobs ∙ ap (λ l. l ++ job ∷ []) none, page))
+  collected_out key old new process process' answer number none (no_slot how jobs told) =
+      out_none _ old.jobs new.jobs (no_save_collected key answer (ap is_dirty told)) none jobs
+  collected_out key old new process process' answer number none (no_memory how jobs told) =
+      out_none _ old.jobs new.jobs (no_save_collected key answer (ap is_dirty told)) none jobs
+
+  -- where none is out, one is after a look at a changed page alone
+  quiet : (event : Event) (answer : Reply) (old new : CoreValue S) (duty : Duty) → Applies held honest failures event old new answer → IsFaithful held honest old → old.jobs ≡ []
+      → AreOut (owed_save (duty_with event answer duty).owed) new.jobs
+  quiet (Step process hart) answer old new duty applies faithful none =
+      elim applies.served [
+        | inl refuses ↦ out_none _ old.jobs new.jobs (no_save_stepped process answer) none (ap (λ (c : CoreValue S). c.jobs) refuses.stays)
+        | inr steps ↦ out_none _ old.jobs new.jobs (no_save_stepped process answer) none (ap (λ (c : CoreValue S). c.jobs) steps.stays)
+      ]
+  quiet (Notice process hart) answer old new duty applies faithful none =
+      elim applies.served [
+        | inl refuses ↦ out_none _ old.jobs new.jobs refl none (ap (λ (c : CoreValue S). c.jobs) refuses.stays)
+        | inr notices ↦ out_none _ old.jobs new.jobs refl none (ap (λ (c : CoreValue S). c.jobs) notices.stays)
+      ]
+  quiet Sweep answer old new duty applies faithful none =
+      elim applies.served [
+        | inl refuses ↦ out_none _ old.jobs new.jobs refl none (ap (λ (c : CoreValue S). c.jobs) refuses.stays)
+        | inr sweeps ↦ out_none _ old.jobs new.jobs refl none (ap (λ (c : CoreValue S). c.jobs) sweeps.stays)
+      ]
+  quiet (Collect key) answer old new duty applies faithful none =
+      elim applies.served [
+        | inl refuses ↦ out_none _ old.jobs new.jobs (no_save_collected key answer (ap is_dirty refuses.reply_is)) none (ap (λ (c : CoreValue S). c.jobs) refuses.stays)
+        | inr collects ↦ collected_out key old new collects.process collects.process' answer (faithful.machine.numbered key.process collects.process collects.found) none collects.comes_to
+      ]
+  quiet (Saved key) answer old new duty applies faithful none =
+      elim applies.served [
+        | inl refuses ↦ out_none _ old.jobs new.jobs (no_save_saved key.process answer) none (ap (λ (c : CoreValue S). c.jobs) refuses.stays)
+        | inr saves ↦ absurd (none_taken saves.makes.job old.jobs new.jobs saves.makes.taken none)
+      ]
+  quiet (PageIn key) answer old new duty applies faithful none =
+      elim applies.served [
+        | inl refuses ↦ out_none _ old.jobs new.jobs (no_save_loaded duty.faults key.process answer) none (ap (λ (c : CoreValue S). c.jobs) refuses.stays)
+        | inr pages ↦ out_none _ old.jobs new.jobs (no_save_loaded duty.faults key.process answer) none (ap (λ (c : CoreValue S). c.jobs) pages.stays)
+      ]
+  quiet (Kill process why) answer old new duty applies faithful none =
+      elim applies.served [
+        | inl refuses ↦ out_none _ old.jobs new.jobs refl none (ap (λ (c : CoreValue S). c.jobs) refuses.stays)
+        | inr kills ↦ out_none _ old.jobs new.jobs refl none (ap (λ (c : CoreValue S). c.jobs) kills.stays)
+      ]
+  quiet (Purge process) answer old new duty applies faithful none =
+      elim applies.served [
+        | inl refuses ↦ out_none _ old.jobs new.jobs refl none (ap (λ (c : CoreValue S). c.jobs) refuses.stays)
+        | inr purges ↦ out_none _ old.jobs new.jobs refl none (ap (λ (c : CoreValue S). c.jobs) purges.stays)
+      ]
+
+  -- the save that is out is done by its event
+  done : (key : Key) (answer : Reply) (old new : CoreValue S) → Applies held honest failures (Saved key) old new answer → IsFaithful held honest old → AreOut (Some key) old.jobs → new.jobs ≡ []
+  done key answer old new applies faithful out =
+      elim applies.served [
+        | inl refuses ↦
+            let may : saved_refusal key old.processes ≡ None =
+            subst (λ k. saved_refusal k old.processes ≡ None) out.1.1 (not_refused old.processes out.0 (first_out old.processes old.jobs out.0 faithful.machine.out out.1.0)) in
+            let why = refuses.reason_is in
+            absurd (some_none (saved_refusal key old.processes) refuses.refusal why may)
+        | inr saves ↦ last_taken saves.makes.job out.0 old.jobs new.jobs saves.makes.taken out.1.0
+      ]
+    where
+      some_none : (o : Option EventRefusal) (why : EventRefusal) → o ≡ Some why → o ≡ None → ⊥
+      some_none None why a b = cc
+      some_none (Some x) why a b = cc
+
+  out_after : (event : Event) (answer : Reply) (old new : CoreValue S) (duty : Duty) (spent : Option ℕ) → Applies held honest failures event old new answer → IsFaithful held honest old
+      → AreOut (owed_save duty.owed) old.jobs → Pays (next_owed duty.owed spent) event → AreOut (owed_save (duty_with event answer duty).owed) new.jobs
+  out_after event answer old new duty spent applies faithful out pays = by_owed duty.owed out pays
+    where
+      by_owed : (owed : Option Event) → AreOut (owed_save owed) old.jobs → Pays (next_owed owed spent) event → AreOut (owed_save (duty_with event answer duty).owed) new.jobs
+      by_owed None out pays = quiet event answer old new duty applies faithful out
+      by_owed (Some (Step p h)) out pays = quiet event answer old new duty applies faithful out
+      by_owed (Some (Notice p h)) out pays = quiet event answer old new duty applies faithful out
+      by_owed (Some Sweep) out pays = quiet event answer old new duty applies faithful out
+      by_owed (Some (Collect key)) out pays = quiet event answer old new duty applies faithful out
+      by_owed (Some (Saved key)) out pays =
+          let saves = subst (λ e. Applies held honest failures e old new answer) pays applies in
+          subst (λ e. AreOut (owed_save (duty_with e answer duty).owed) new.jobs) (sym pays)
+          (out_none _ [] new.jobs (no_save_saved key.process answer) refl (done key answer old new saves faithful out))
+      by_owed (Some (PageIn key)) out pays = quiet event answer old new duty applies faithful out
+      by_owed (Some (Kill p why)) out pays = quiet event answer old new duty applies faithful out
+      by_owed (Some (Purge p)) out pays = quiet event answer old new duty applies faithful out
+
+  -- ---- a run of events
+
+  played_out : (events : List Event) (replies : List Reply) (old new : CoreValue S) (most : ℕ) (tried : ℕ → ℕ) (duty : Duty) (spent : Option ℕ) → Runs held honest failures events replies old new
+      → ArePaid most tried duty spent events replies → IsFaithful held honest old → AreOut (owed_save duty.owed) old.jobs
+      → AreOut (owed_save (duty_after events replies duty).owed) new.jobs × IsFaithful held honest new
+  unfolding Runs ArePaid duty_after
+  played_out [] [] old new most tried duty spent run paid faithful out =
+      (subst (λ (c : CoreValue S). AreOut (owed_save duty.owed) c.jobs) (sym run) out, subst (λ c. IsFaithful held honest c) (sym run) faithful)
+  played_out [] (r ∷ rs) old new most tried duty spent run paid faithful out = absurd run
+  played_out (e ∷ es) [] old new most tried duty spent run paid faithful out = absurd run
+  played_out (e ∷ es) (r ∷ rs) old new most tried duty spent run paid faithful out =
+      played_out es rs run.0 new most _ (duty_with e r duty) _ run.1.1 paid.2 run.1.0.faithful (out_after e r old run.0 duty spent run.1.0 faithful out paid.0)
+
+  saved_out : (unsaved : Option Key) (old new : CoreValue S) → DoesSave held honest failures unsaved old new → IsFaithful held honest old → AreOut unsaved old.jobs → SavesNone new
+  saved_out None old new is faithful out = subst (λ (c : CoreValue S). SavesNone c) (sym is) (none_saving old faithful.machine out)
+  saved_out (Some key) old new saves faithful out = none_saving new saves.1.faithful.machine (done key saves.0 old new saves.1 faithful out)
+
+  -- where no page is being saved at first, none is once the save that is out is done
+  pub all_saved : (slice limit : ℕ) (unsaved : Option Key) (old played saved : CoreValue S) → PlaysUpTo held honest failures slice limit unsaved old played → DoesSave held honest failures unsaved played saved
+      → IsFaithful held honest old → SavesNone old → SavesNone saved
+  all_saved slice limit unsaved old played saved plays saves faithful none =
+      let after = played_out plays.plays.events plays.plays.replies old played _ _ (no_duty slice) None plays.plays.runs plays.plays.paid faithful (none_out old faithful.machine none) in
+      saved_out unsaved played saved saves after.1 (subst (λ o. AreOut o played.jobs) (sym plays.unsaved_is) after.0)

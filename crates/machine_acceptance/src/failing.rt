@@ -87,7 +87,9 @@ fn stays_where_its_save_fails<L: Ledger>(
     assert_eq!(rt; core.state(0, DATA.vpn), Some(PageState::Resident));
     let listed = (0..4).any(|place| core.entry(place) == Some((DATA, EntryKind::Test)));
     assert!(rt; listed);
-    assert_eq!(rt; core.peek(0, 0x1_1003), Some(Ok(5)));
+    let mut bytes = [None];
+    assert_eq!(rt; core.peek(0, 0x1_1003, &mut bytes), Some(Ok(())));
+    assert_eq!(rt; bytes, [Some(5)]);
     let answered = core.apply(Event::Sweep) != Reply::Refused(EventRefusal::NothingResident);
     assert!(rt; answered);
     Ok(())

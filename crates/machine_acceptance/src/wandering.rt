@@ -1,6 +1,6 @@
 //! Three processes on four frames do what flat processes do, whatever events come.
 
-ghost use Rattle.std.specs.Prelude.{◌≡◌, ◌<◌};
+ghost use Rattle.std.specs.Prelude.{◌≡◌, ◌<◌, ◌^◌};
 
 use crate::image::image_of;
 use clock_policy::Key;
@@ -127,12 +127,32 @@ fn stands_for_its_run<L: Ledger>(
     if core.output(process) != Some(flat.output()) || core.end(process) != Some(flat.end()) {
         return Ok(false);
     }
-    for address in 0x1_0000..0x1_9000 {
-        if core.peek(process, address).and_then(|byte| byte.ok()) != flat.byte(address) {
+    for vpn in 0x10..0x19 {
+        if !shows_its_page(core, process, &flat, vpn) {
             return Ok(false);
         }
     }
     Ok(true)
+}
+
+/// Whether a process shows the bytes of a page that the flat process has.
+fn shows_its_page<L: Ledger>(
+    core: &mut Core<L, MemorySlot, ClockRing>,
+    process: u32,
+    flat: &FlatProcess,
+    vpn: u32,
+) -> bool
+    requires { vpn < 2 ^ 20 }
+{
+    let mut bytes = [None; 4096];
+    // Where the page is not shown the bytes stay none.
+    let _ = core.peek(process, vpn * 4096, &mut bytes);
+    for i in 0..4096 {
+        if bytes[i as usize] != flat.byte(vpn * 4096 + i) {
+            return false;
+        }
+    }
+    true
 }
 
 fn wanders_from<L: Ledger>(

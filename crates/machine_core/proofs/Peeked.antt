@@ -1,4 +1,4 @@
--- A look at a byte leaves the counts: a page that is away stays so.
+-- A look at bytes leaves the counts: a page that is away stays so.
 use Rattle.std.proofs.Common.{◌≡◌, ℕ, ◌^◌, ◌<◌, List, Option, Some, None, refl, ap, ◌∙◌, arith, subst}
 use Rattle.page_memory.specs.Words.{page_number}
 use Rattle.page_store.specs.Moves.{IfAbsent, IfAway}
@@ -57,6 +57,6 @@ module _ {S : Type 0} (held : S → List ℕ) (honest : Type 0) where
           stays_away old new v slot small process left (ap (λ (p : PageValue S). p.place) this ∙ is)
       by_place Purged is left = same_pages old new process left
 
-  pub peek_alike : (failures : S → ℕ) (address : ℕ) → address < 2 ^ 32 → (result : Result ℕ PeekFault) (q q' : ProcessSideValue S) → Peeks held honest failures address result q q' → CountAlike q.space q'.space
-  peek_alike failures address small result q q' how =
+  pub peek_alike : (failures : S → ℕ) (address : ℕ) → address < 2 ^ 32 → (room bytes : List (Option ℕ)) (result : Result (Unit {0}) PeekFault) (q q' : ProcessSideValue S) → Peeks held honest failures address room bytes result q q' → CountAlike q.space q'.space
+  peek_alike failures address small room bytes result q q' how =
       left_alike q.space q'.space (page_number address) (omega (arith, small)) (ap (λ (p : ProcessSideValue S). p.space.memory.process) how.stays) (page_at q.space.memory.pages (page_number address)) refl how.left

@@ -1,4 +1,4 @@
--- What the machine shows of a process, and what a look at a byte leaves.
+-- What the machine shows of a process, and what a look at bytes leaves.
 use Rattle.std.specs.Prelude.{◌≡◌, ℕ, Bool, false, List, Option, Some, None, Result, slice_get, slice_index_or}
 use Rattle.flat_machine.specs.Process.{Process}
 use Rattle.paged_memory.specs.declared.peeking.PeekFault.{PeekFault}
@@ -19,12 +19,12 @@ IfThere honest P None = Unit {0}
 IfThere honest P (Some process) = OfFlat honest P process.space
 
 module _ {S : Type 0} (held : S → List ℕ) (honest : Type 0) (failures : S → ℕ) where
-  -- a look at a byte of a process of the machine
-  pub record PeeksOne (process address : ℕ) (result : Result ℕ PeekFault) (old new : CoreValue S) : Type 0 where
-    pub one : ChangesOne (Peeks held honest failures address result) process old.processes new.processes
+  -- a look at bytes of a process of the machine
+  pub record PeeksOne (process address : ℕ) (room bytes : List (Option ℕ)) (result : Result (Unit {0}) PeekFault) (old new : CoreValue S) : Type 0 where
+    pub one : ChangesOne (Peeks held honest failures address room bytes result) process old.processes new.processes
     pub stays : new ≡ record old { processes = new.processes }
 
   -- of one that is there, or of none
-  abbrev pub PeeksAt : ℕ → ℕ → Option (Result ℕ PeekFault) → CoreValue S → CoreValue S → Type 0
-  PeeksAt process address None old new = (slice_get old.processes process ≡ None) × (new ≡ old)
-  PeeksAt process address (Some result) old new = PeeksOne process address result old new
+  abbrev pub PeeksAt : ℕ → ℕ → List (Option ℕ) → List (Option ℕ) → Option (Result (Unit {0}) PeekFault) → CoreValue S → CoreValue S → Type 0
+  PeeksAt process address room bytes None old new = (slice_get old.processes process ≡ None) × ((bytes ≡ room) × (new ≡ old))
+  PeeksAt process address room bytes (Some result) old new = PeeksOne process address room bytes result old new

@@ -1,7 +1,8 @@
 //! What the machine shows of its processes.
 
-ghost use Rattle.std.specs.Prelude.{◌≡◌, ◌≢◌, ◌↔◌, ◌*◌, ◌<◌, ◌≤◌, Some, true, false, IsNone, IfSome, length, slice_get, option_copied, option_map};
+ghost use Rattle.std.specs.Prelude.{◌≡◌, ◌≢◌, ◌↔◌, ◌+◌, ◌*◌, ◌<◌, ◌≤◌, Some, true, false, IsNone, IfSome, length, slice_get, option_copied, option_map};
 ghost use Rattle.std.specs.Option.{option_and_then};
+ghost use Rattle.page_memory.specs.Words.{page_offset};
 ghost use Rattle.machine_sides.specs.Admitting.{stage_at};
 ghost use Rattle.machine_core.specs.MachineRun.{ChangesOne};
 ghost use Rattle.machine_core.specs.Reading.{is_live_in, IfThere, PeeksAt};
@@ -115,15 +116,27 @@ impl<L: Ledger, S: SwapSlot, C: Clock> Core<L, S, C> {
         )
     }
 
-    /// The byte that a process's memory shows at an address, where there is such a process; see [`ProcessSide::peek`].
-    pub fn peek(&mut self, process: u32, address: u32) -> Option<Result<u8, PeekFault>>
-        ensures { PeeksAt S.content S.honest S.failures process address result self.old self.new }
+    /// Reads the bytes that a process's memory shows from an address on, where there is such a process; see
+    /// [`ProcessSide::peek`].
+    pub fn peek(
+        &mut self,
+        process: u32,
+        address: u32,
+        bytes: &mut [Option<u8>],
+    ) -> Option<Result<(), PeekFault>>
+        requires { page_offset address + length bytes.old ≤ 4096 }
+        ensures { PeeksAt S.content S.honest S.failures process address bytes.old bytes.new result self.old self.new }
     {
         if process as usize >= self.processes.len() {
             return None;
         }
-        let byte = peek_at(self.processes.as_mut_slice(), process as usize, address);
-        Some(byte)
+        let read = peek_at(
+            self.processes.as_mut_slice(),
+            process as usize,
+            address,
+            bytes,
+        );
+        Some(read)
     }
 }
 
@@ -131,9 +144,11 @@ fn peek_at<L: Ledger, S: SwapSlot>(
     processes: &mut [ProcessSide<L, S>],
     process: usize,
     address: u32,
-) -> Result<u8, PeekFault>
-    requires { process < length processes.old }
-    ensures { ChangesOne (Peeks S.content S.honest S.failures address result) process processes.old processes.new }
+    bytes: &mut [Option<u8>],
+) -> Result<(), PeekFault>
+    requires there { process < length processes.old }
+    requires within { page_offset address + length bytes.old ≤ 4096 }
+    ensures { ChangesOne (Peeks S.content S.honest S.failures address bytes.old bytes.new result) process processes.old processes.new }
 {
-    processes[process].peek(address)
+    processes[process].peek(address, bytes)
 }

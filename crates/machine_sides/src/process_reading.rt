@@ -1,7 +1,8 @@
 //! What a process shows beside its pages' places.
 
-ghost use Rattle.std.specs.Prelude.{◌≡◌, ◌≢◌};
+ghost use Rattle.std.specs.Prelude.{◌≡◌, ◌≢◌, ◌+◌, ◌≤◌, length};
 ghost use Rattle.std.specs.Bool.{OnTrue, OnFalse};
+ghost use Rattle.page_memory.specs.Words.{page_offset};
 ghost use Rattle.machine_sides.specs.Showing.{Peeks};
 ghost use Rattle.space_core.specs.StandsFor.{OfFlat};
 
@@ -27,12 +28,14 @@ impl<L: Ledger, S: SwapSlot> ProcessSide<L, S> {
         self.space.started_from(image, input)
     }
 
-    /// The byte that the memory shows at an address, wherever its page is: the flat process's, if slots are honest. No page
-    /// is brought in, and no hart's use of it is marked.
-    pub fn peek(&mut self, address: u32) -> Result<u8, PeekFault>
-        ensures { Peeks S.content S.honest S.failures address result self.old self.new }
+    /// Reads the bytes that the memory shows from an address on, as many as there is room for, all in one page, wherever it
+    /// is: the flat process's, if slots are honest. No page is brought in, and no hart's use of it is marked. A refusal
+    /// leaves the room as it was.
+    pub fn peek(&mut self, address: u32, bytes: &mut [Option<u8>]) -> Result<(), PeekFault>
+        requires { page_offset address + length bytes.old ≤ 4096 }
+        ensures { Peeks S.content S.honest S.failures address bytes.old bytes.new result self.old self.new }
     {
-        self.space.peek(address)
+        self.space.peek(address, bytes)
     }
 
     /// What was written, to be kept.

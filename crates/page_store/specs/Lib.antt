@@ -1,4 +1,5 @@
 pub mod PageValue
+pub mod Reading
 pub mod Kept
 pub mod Moves
 pub mod View

@@ -7,6 +7,7 @@
 mod answer;
 mod job;
 mod page;
+mod reading;
 mod refusal;
 mod state;
 

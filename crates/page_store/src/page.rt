@@ -1,10 +1,12 @@
-ghost use Rattle.std.specs.Prelude.{◌≡◌, ◌≢◌, ◌<◌, ◌↔◌, slice_index, ℕ, List, Ok, Err, Some, None, OnOk, OnErr, IfOk, IfErr, IsErr, IsTrue, false, OnSome, IfNone, option_copied, option_map};
+ghost use Rattle.std.specs.Prelude.{◌≡◌, ◌≢◌, ◌+◌, ◌≤◌, ◌↔◌, length, ℕ, List, Ok, Err, Some, None, OnOk, OnErr, IfOk, IfErr, IsErr, IsTrue, false, OnSome, IfNone, option_copied, option_map};
 ghost use Rattle.page_store.specs.Moves.{left, brought_back, given_back, collected, collect_leaving, job_of, RefusesSave, Filled, RefusesFill, RefusesRead, IfAway};
 ghost use Rattle.page_store.specs.PageValue.{Leaving, Saving, Away, Purged, Backed, BackedAt, shown, Known, content, page_state_of, frame_of, writable, failures_at};
+ghost use Rattle.page_store.specs.Reading.{some_from};
 ghost use Rattle.page_store.specs.View.{place_in_state};
 
 use crate::answer::{Collected, SaveRefusal};
 use crate::job::{SaveJob, SavedJob};
+use crate::reading::read_bytes;
 use crate::refusal::{FillFault, LeaveRefusal, NotLeaving, ReadFault};
 use crate::state::{Keeping, Origin, PageState, State};
 use frame_pool::Frame;
@@ -241,10 +243,12 @@ impl<L: Ledger, S: SwapSlot> StoredPage<L, S> {
         }
     }
 
-    /// The byte at an offset in the page, which is loaded from the slot where the page is away.
-    pub fn read(&mut self, offset: usize) -> Result<u8, ReadFault>
-        requires { offset < 4096 }
-        ensures byte { Known S.honest self.old.place → IfOk result (λ byte. byte ≡ slice_index (content S.content self.old) offset) }
+    /// Reads the page's bytes from an offset on, as many as there is room for. They are loaded from the slot where the page
+    /// is away. A refusal leaves the room as it was.
+    pub fn read(&mut self, offset: usize, bytes: &mut [Option<u8>]) -> Result<(), ReadFault>
+        requires { offset + length bytes.old ≤ 4096 }
+        ensures bytes { Known S.honest self.old.place → OnOk result (bytes.new ≡ some_from (content S.content self.old) offset (length bytes.old)) }
+        ensures unread { OnErr result (bytes.new ≡ bytes.old) }
         ensures mapped { OnOk result (self.old.place ≢ Purged) }
         ensures refused { IfErr result (RefusesRead S.failures self.old.place self.new.place) }
         ensures state { page_state_of self.new.place ≡ page_state_of self.old.place }
@@ -253,31 +257,34 @@ impl<L: Ledger, S: SwapSlot> StoredPage<L, S> {
         ensures origin { self.new.origin ≡ self.old.origin }
     {
         let State::Away(slot) = &mut self.state else {
-            return self.byte_at_hand(offset);
+            return self.read_at_hand(offset, bytes);
         };
         let mut page = [0; 4096];
         if slot.load(&mut page).is_err() {
             return Err(ReadFault::Device);
         }
-        Ok(page[offset])
+        read_bytes(&page, offset, bytes);
+        Ok(())
     }
 
     /// The same for a page that is not away.
-    fn byte_at_hand(&self, offset: usize) -> Result<u8, ReadFault>
-        requires within { offset < 4096 }
+    fn read_at_hand(&self, offset: usize, bytes: &mut [Option<u8>]) -> Result<(), ReadFault>
+        requires within { offset + length bytes.old ≤ 4096 }
         requires at_hand { ¬ IfAway self.now.place (λ _. Unit {0}) }
-        ensures byte { IfOk result (λ byte. byte ≡ slice_index (content S.content self.now) offset) }
+        ensures bytes { OnOk result (bytes.new ≡ some_from (content S.content self.now) offset (length bytes.old)) }
+        ensures unread { OnErr result (bytes.new ≡ bytes.old) }
         ensures purged { IsErr result ↔ (self.now.place ≡ Purged) }
         ensures refused { IfErr result (λ fault. fault ≡ ReadFault.Purged) }
     {
         match &self.state {
-            State::Fresh => Ok(self.origin.byte(offset)),
-            State::Resident(frame, _) => Ok(frame.bytes()[offset]),
-            State::Leaving(frame, _, _) => Ok(frame.bytes()[offset]),
-            State::Saving(frame) => Ok(frame.bytes()[offset]),
+            State::Fresh => self.origin.read(offset, bytes),
+            State::Resident(frame, _) => read_bytes(frame.bytes(), offset, bytes),
+            State::Leaving(frame, _, _) => read_bytes(frame.bytes(), offset, bytes),
+            State::Saving(frame) => read_bytes(frame.bytes(), offset, bytes),
             State::Away(_) => unreachable!(),
-            State::Purged => Err(ReadFault::Purged),
+            State::Purged => return Err(ReadFault::Purged),
         }
+        Ok(())
     }
 
     /// Gives up the frame and the slot, for good. A page that has neither, or is being saved, is left.

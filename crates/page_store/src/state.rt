@@ -1,6 +1,7 @@
-ghost use Rattle.std.specs.Prelude.{◌≡◌, ◌<◌, length, slice_index};
+ghost use Rattle.std.specs.Prelude.{◌≡◌, length};
 ghost use Rattle.frame_pool.specs.FrameValue.{zero_bytes};
 
+use crate::reading::{read_bytes, read_zeros};
 use frame_pool::Frame;
 use page_memory::{Page, Rights};
 use std::sync::ledger::Ledger;
@@ -56,7 +57,8 @@ pub(crate) enum Origin {
 }
 
 impl Origin {
-    ghost use Rattle.std.specs.Prelude.{◌≡◌, ◌<◌, length, slice_index};
+    ghost use Rattle.std.specs.Prelude.{◌≡◌, ◌+◌, ◌≤◌, length};
+    ghost use Rattle.page_store.specs.Reading.{some_from};
     ghost use Rattle.page_store.specs.View.{origin_of};
 
     /// What the page may be used for.
@@ -69,14 +71,14 @@ impl Origin {
         }
     }
 
-    /// A byte of the page.
-    pub(crate) fn byte(&self, offset: usize) -> u8
-        requires { offset < 4096 }
-        ensures { result ≡ slice_index (origin_of self.now).bytes offset }
+    /// Reads the bytes from an offset on.
+    pub(crate) fn read(&self, offset: usize, bytes: &mut [Option<u8>])
+        requires { offset + length bytes.old ≤ 4096 }
+        ensures { bytes.new ≡ some_from (origin_of self.now).bytes offset (length bytes.old) }
     {
         match self {
-            Origin::Image(page) => page.bytes()[offset],
-            Origin::Zeros(_) => zero_at(offset),
+            Origin::Image(page) => read_bytes(page.bytes(), offset, bytes),
+            Origin::Zeros(_) => read_zeros(offset, bytes),
         }
     }
 
@@ -89,16 +91,6 @@ impl Origin {
             Origin::Zeros(_) => write_zeros(frame),
         }
     }
-}
-
-/// A byte of a page of zeros.
-#[tactic(auto, using(crate::proofs::Zeros::all_zeros))]
-fn zero_at(offset: usize) -> u8
-    requires { offset < 4096 }
-    ensures { result ≡ slice_index zero_bytes offset }
-{
-    let _ = offset;
-    0
 }
 
 /// Makes the bytes of a frame zeros.

@@ -22,6 +22,18 @@ fn changed_page<L: Ledger, S: SwapSlot>(frame: Frame<L>) -> Result<Page<L, S>, F
     Ok(page)
 }
 
+/// The byte that was stored, between the two beside it.
+const STORED: [Option<u8>; 3] = [Some(0), Some(7), Some(0)];
+
+/// Where the page is, and what it shows of those bytes.
+fn shown<L: Ledger, S: SwapSlot>(
+    page: &mut Page<L, S>,
+) -> (PageState, Result<[Option<u8>; 3], ReadFault>) {
+    let mut bytes = [None; 3];
+    let read = page.read(2, &mut bytes);
+    (page.state(), read.map(|()| bytes))
+}
+
 fn goes_and_comes<L: Ledger>(rt: &impl Abort, alloc: Global, blank: Blank) -> Result<(), Fail>
     requires name { blank.name ≡ L.name }
     requires parts { blank.parts ≡ L.parts }
@@ -42,16 +54,16 @@ fn goes_and_comes<L: Ledger>(rt: &impl Abort, alloc: Global, blank: Blank) -> Re
     );
     assert!(rt; spare.is_none());
     let frame = page.saved(job.run()).map_err(|_| "not saved")?;
-    assert_eq!(rt; (page.state(), page.read(3)), (PageState::Away, Ok(7)));
+    assert_eq!(rt; shown(&mut page), (PageState::Away, Ok(STORED)));
     page.fill(frame).map_err(|_| "not filled")?;
-    assert_eq!(rt; (page.state(), page.read(3)), (PageState::Resident, Ok(7)));
+    assert_eq!(rt; shown(&mut page), (PageState::Resident, Ok(STORED)));
     page.leave(false).map_err(|_| "not left")?;
     assert!(rt; matches!(page.collect(0, 16, false, &mut spare), Collected::Clean(_)));
     let Some((None, Some(_))) = page.give_back() else {
         return Err("no slot".into());
     };
     assert_eq!(rt;
-        (page.state(), page.read(3)),
+        shown(&mut page),
         (PageState::Purged, Err(ReadFault::Purged))
     );
     Ok(())
@@ -74,7 +86,7 @@ fn fails_to_save<L: Ledger>(rt: &impl Abort, alloc: Global, blank: Blank) -> Res
         (page.state(), page.bring_back()),
         (PageState::Leaving, Ok(true))
     );
-    assert_eq!(rt; (page.state(), page.read(3)), (PageState::Resident, Ok(7)));
+    assert_eq!(rt; shown(&mut page), (PageState::Resident, Ok(STORED)));
     let other = pool.take().ok_or("no frame")?;
     assert!(rt; matches!(page.fill(other), Err((_, FillFault::NotAbsent))));
     Ok(())

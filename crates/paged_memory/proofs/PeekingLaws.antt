@@ -1,5 +1,5 @@
--- A look at a byte of a page.
-use Rattle.std.specs.Prelude.{◌≡◌, ℕ, zero, suc, ◌^◌, ◌<◌, Option, Some, None, option_map, Result, Ok, Err, IfOk, List, [], ◌∷◌, slice_index, refl}
+-- A look at bytes of a page.
+use Rattle.std.specs.Prelude.{◌≡◌, ℕ, zero, suc, ◌^◌, ◌<◌, Option, Some, None, option_map, Result, Ok, Err, OnOk, List, [], ◌∷◌, refl}
 use Rattle.std.proofs.Common.{sym, ap, ◌∙◌, subst, unwrap_or}
 use Rattle.std.specs.FinMap.{get}
 use Rattle.page_memory.specs.Words.{page_number, page_offset}
@@ -8,12 +8,13 @@ use Rattle.page_memory.specs.StandsForLaws.{get-map_by-place}
 use Rattle.page_store.specs.declared.refusal.ReadFault.TheVariants as read
 use Rattle.page_store.specs.PageValue.{PageValue, Place, Fresh, Resident, Leaving, Saving, Away, Purged, content, page_state_of, Known}
 use Rattle.page_store.specs.Moves.{IfAbsent, IfAway, RefusesRead}
+use Rattle.page_store.specs.Reading.{some_from}
 use Rattle.swap_slots.specs.Slot.{Rose}
 use Rattle.tlb_core.specs.declared.translation.Translation.{Translation}
 use Rattle.paged_memory.specs.Paged.{page_at, flat_page, memory_of, Holds}
 use Rattle.paged_memory.specs.Calls.{ChangesBy}
 use Rattle.paged_memory.specs.Filling.{StaysAbsent, FailsToLoad}
-use Rattle.paged_memory.specs.Peeking.{byte_of, ShowsByte, LeavesPlace, LeavesPage}
+use Rattle.paged_memory.specs.Peeking.{bytes_of, ShowsBytes, LeavesPlace, LeavesPage}
 use Rattle.paged_memory.proofs.PagedLaws.{changed_by, page_at-place}
 use Rattle.paged_memory.proofs.FillingLaws.{holds_absent, memory_absent}
 
@@ -111,7 +112,7 @@ module _ {S : Type 0} (held : S → List ℕ) (honest : Type 0) where
   pub memory_peeked : (pages pages' : List (ℕ × PageValue S)) (number : ℕ) (was : Option (PageValue S)) → LeavesPage held honest pages pages' number was → honest → memory_of held pages' ≡ memory_of held pages
   memory_peeked pages pages' number was left is_honest = left_stays pages pages' number was left _ (λ same. ap (memory_of held) same) (λ told. memory_absent held honest told is_honest)
 
-  -- ---- the byte
+  -- ---- the bytes
 
   all_known : (place : Place S) → honest → Known honest place
   all_known Fresh is_honest = tt
@@ -125,13 +126,13 @@ module _ {S : Type 0} (held : S → List ℕ) (honest : Type 0) where
   unfolding memory_of page_at
   get-memory_of pages number = get-map_by-place (flat_page held) pages number
 
-  pub byte_shown : {E : Type 0} (pages : List (ℕ × PageValue S)) (address number offset : ℕ) (result : Result ℕ E) → number ≡ page_number address → offset ≡ page_offset address → IfOk result (λ byte. ShowsByte held honest (page_at pages number) offset byte) → honest
-      → IfOk result (λ byte. byte_of (memory_of held pages) address ≡ Some byte)
-  byte_shown pages address number offset (Err e) is_number is_offset shows is_honest = tt
-  byte_shown pages address number offset (Ok byte) is_number is_offset shows is_honest =
-      ap (option_map (λ page. slice_index page.bytes (page_offset address))) (get-memory_of pages (page_number address))
-      ∙ by_page (page_at pages (page_number address)) (subst (λ o. ShowsByte held honest (page_at pages (page_number address)) o byte) is_offset (subst (λ n. ShowsByte held honest (page_at pages n) offset byte) is_number shows))
+  pub bytes_shown : {U E : Type 0} (pages : List (ℕ × PageValue S)) (address number offset count : ℕ) (bytes : List (Option ℕ)) (result : Result U E) → number ≡ page_number address → offset ≡ page_offset address
+      → OnOk result (ShowsBytes held honest (page_at pages number) offset count bytes) → honest → OnOk result (bytes_of (memory_of held pages) address count ≡ Some bytes)
+  bytes_shown pages address number offset count bytes (Err e) is_number is_offset shows is_honest = tt
+  bytes_shown pages address number offset count bytes (Ok u) is_number is_offset shows is_honest =
+      ap (option_map (λ page. some_from page.bytes (page_offset address) count)) (get-memory_of pages (page_number address))
+      ∙ by_page (page_at pages (page_number address)) (subst (λ o. ShowsBytes held honest (page_at pages (page_number address)) o count bytes) is_offset (subst (λ n. ShowsBytes held honest (page_at pages n) offset count bytes) is_number shows))
     where
-      by_page : (o : Option (PageValue S)) → ShowsByte held honest o (page_offset address) byte → option_map (λ page. slice_index page.bytes (page_offset address)) (option_map (flat_page held) o) ≡ Some byte
+      by_page : (o : Option (PageValue S)) → ShowsBytes held honest o (page_offset address) count bytes → option_map (λ page. some_from page.bytes (page_offset address) count) (option_map (flat_page held) o) ≡ Some bytes
       by_page None shows = absurd shows
       by_page (Some page) shows = ap Some (sym (shows.1 (all_known page.place is_honest)))

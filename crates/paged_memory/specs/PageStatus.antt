@@ -1,5 +1,5 @@
 -- What is shown of a page: where it is, the number of its frame, and the A and D bits of its page-table entry.
-use Rattle.std.specs.Prelude.{ℕ, Option, option_map, List}
+use Rattle.std.specs.Prelude.{ℕ, Option, option_map}
 use Rattle.page_store.specs.PageValue.{PageValue, page_state_of, frame_of}
 use Rattle.sv32_table.specs.Entry.{Entry}
 use Rattle.sv32_table.specs.EntryAt.{entry_at, accessed_of, dirty_of}

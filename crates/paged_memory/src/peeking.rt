@@ -1,7 +1,7 @@
-ghost use Rattle.std.specs.Prelude.{◌≡◌, ◌<◌, ◌^◌, Some, IfOk, IfErr};
+ghost use Rattle.std.specs.Prelude.{◌≡◌, ◌+◌, ◌<◌, ◌≤◌, ◌^◌, Some, IfErr, OnErr, OnOk, length};
 ghost use Rattle.page_memory.specs.Words.{page_number, page_offset};
 ghost use Rattle.paged_memory.specs.Paged.{page_at, memory_of};
-ghost use Rattle.paged_memory.specs.Peeking.{byte_of, ShowsByte, LeavesPage, RefusesPeek};
+ghost use Rattle.paged_memory.specs.Peeking.{bytes_of, ShowsBytes, LeavesPage, RefusesPeek};
 
 use crate::memory::PagedMemory;
 use page_memory::{PageMap, offset_in_page, page_of};
@@ -10,7 +10,7 @@ use std::sync::ledger::Ledger;
 use swap_slots::SwapSlot;
 use thiserror::Error;
 
-/// Why a byte can't be shown, in the order of their numbers.
+/// Why bytes can't be shown, in the order of their numbers.
 #[derive(Clone, Copy, PartialEq, Eq, Debug, Error)]
 pub enum PeekFault {
     #[error("the page is not mapped")]
@@ -22,37 +22,46 @@ pub enum PeekFault {
 }
 
 impl<L: Ledger, S: SwapSlot> PagedMemory<L, S> {
-    /// The byte that the memory shows at an address, wherever its page is. No page is brought in, and no hart's use of it
-    /// is marked.
-    pub fn peek(&mut self, address: u32) -> Result<u8, PeekFault>
-        ensures byte { IfOk result (λ byte. ShowsByte S.content S.honest (page_at self.old.pages (page_number address)) (page_offset address) byte) }
-        ensures shown { S.honest → IfOk result (λ byte. byte_of (memory_of S.content self.old.pages) address ≡ Some byte) }
+    /// Reads the bytes that the memory shows from an address on, as many as there is room for, all in one page, wherever it
+    /// is. No page is brought in, and no hart's use of it is marked. A refusal leaves the room as it was.
+    pub fn peek(&mut self, address: u32, bytes: &mut [Option<u8>]) -> Result<(), PeekFault>
+        requires { page_offset address + length bytes.old ≤ 4096 }
+        ensures bytes { OnOk result (ShowsBytes S.content S.honest (page_at self.old.pages (page_number address)) (page_offset address) (length bytes.old) bytes.new) }
+        ensures shown { S.honest → OnOk result (bytes_of (memory_of S.content self.old.pages) address (length bytes.old) ≡ Some bytes.new) }
+        ensures unread { OnErr result (bytes.new ≡ bytes.old) }
         ensures refused { IfErr result (RefusesPeek S.content S.honest S.failures self.old.pages self.new.pages (page_number address)) }
         ensures left { LeavesPage S.content S.honest self.old.pages self.new.pages (page_number address) (page_at self.old.pages (page_number address)) }
         ensures memory { S.honest → memory_of S.content self.new.pages ≡ memory_of S.content self.old.pages }
         ensures stays { self.new ≡ record self.old { pages = self.new.pages } }
     {
-        read_byte(&mut self.pages, page_of(address), offset_in_page(address))
+        read_page(
+            &mut self.pages,
+            page_of(address),
+            offset_in_page(address),
+            bytes,
+        )
     }
 }
 
-/// The byte that a page shows at an offset in it.
-fn read_byte<L: Ledger, S: SwapSlot>(
+/// Reads the bytes that a page shows from an offset on.
+fn read_page<L: Ledger, S: SwapSlot>(
     pages: &mut PageMap<StoredPage<L, S>>,
     vpn: u32,
     offset: usize,
-) -> Result<u8, PeekFault>
+    bytes: &mut [Option<u8>],
+) -> Result<(), PeekFault>
     requires vpn { vpn < 2 ^ 20 }
-    requires offset { offset < 4096 }
-    ensures byte { IfOk result (λ byte. ShowsByte S.content S.honest (page_at pages.old vpn) offset byte) }
+    requires within { offset + length bytes.old ≤ 4096 }
+    ensures bytes { OnOk result (ShowsBytes S.content S.honest (page_at pages.old vpn) offset (length bytes.old) bytes.new) }
+    ensures unread { OnErr result (bytes.new ≡ bytes.old) }
     ensures refused { IfErr result (RefusesPeek S.content S.honest S.failures pages.old pages.new vpn) }
     ensures left { LeavesPage S.content S.honest pages.old pages.new vpn (page_at pages.old vpn) }
 {
     let Some(place) = pages.place(vpn) else {
         return Err(PeekFault::NotMapped);
     };
-    match pages.at_mut(place).read(offset) {
-        Ok(byte) => Ok(byte),
+    match pages.at_mut(place).read(offset, bytes) {
+        Ok(()) => Ok(()),
         Err(ReadFault::Purged) => Err(PeekFault::Purged),
         Err(ReadFault::Device) => Err(PeekFault::Device),
     }

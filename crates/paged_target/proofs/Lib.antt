@@ -1,3 +1,4 @@
+pub mod PageBytes
 pub mod Peeked
 pub mod ReadsOn
 pub mod Showing

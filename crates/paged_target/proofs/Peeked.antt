@@ -1,7 +1,6 @@
--- A look at a byte leaves what the machine shows.
-use Rattle.std.proofs.Common.{◌≡◌, ◌<◌, ℕ, ◌+◌, ◌==◌, Bool, true, false, List, Option, Some, None, IsSome, is_some, Ok, Err, option_map, slice_get, slice_set, inl, inr, refl, sym, ap, ◌∙◌, subst, arith}
+-- A look at bytes of a page leaves what the machine shows.
+use Rattle.std.proofs.Common.{◌≡◌, ◌<◌, ◌≤◌, ℕ, ◌+◌, length, replicate, false, List, Option, Some, None, IsSome, is_some, Ok, Err, option_map, slice_get, inl, inr, refl, sym, ap, ◌∙◌, subst, arith}
 use Rattle.std.specs.Prelude.{◌^◌, if◌then◌else◌, option_and_then, Result}
-use Rattle.std.specs.FinMap.{get}
 use Rattle.std.proofs.lemmas.Bool.Decides.{eqb_tells}
 use Rattle.swap_slots.specs.Slot.{Rose}
 use Rattle.page_memory.specs.Memory.{byte_at}
@@ -17,14 +16,14 @@ use Rattle.paged_memory.specs.declared.peeking.PeekFault.TheVariants as fault
 use Rattle.flat_machine.specs.Process.{Process, flat_run, opening}
 use Rattle.flat_machine.specs.Schedule.{written_out}
 use Rattle.space_core.specs.StandsFor.{flat_with}
-use Rattle.machine_sides.specs.Showing.{Peeks}
 use Rattle.machine_sides.specs.Sides.{ProcessSideValue}
 use Rattle.machine_core.specs.Machine.{CoreValue}
-use Rattle.machine_core.specs.MachineRun.{ChangesOne}
 use Rattle.machine_core.specs.Reading.{PeeksAt}
 use Rattle.machine_core.specs.TotalLaws.{get_set_same}
+use Rattle.debug_core.specs.Points.{bytes_from}
 use Rattle.paged_target.specs.Reads.{KeepsShown}
 use Rattle.paged_target.specs.Shown.{flat_at, flat_in, flat_of, place_at, place_in, IsGivenBack}
+use Rattle.paged_target.proofs.PageBytes.{in_page, no_page}
 use Rattle.paged_target.proofs.Showing.{ShowsFlat, page_shown, byte_shown}
 
 -- an address lies in one of 2^20 pages
@@ -83,7 +82,7 @@ module _ {S : Type 0} (held : S → List ℕ) (honest : Type 0) where
   page_left old new at number None is left e = pages_same old new number left e
   page_left old new at number (Some page) is left e = place_left old new at number page.place (ap (option_map (λ (page : PageValue S). page.place)) is) left e
 
-  module _ (failures : S → ℕ) (address : ℕ) (answer : Result ℕ PeekFault) (old new : CoreValue S) (peeks : PeeksAt held honest failures 0 address (Some answer) old new) where
+  module _ (failures : S → ℕ) (address : ℕ) (room bytes : List (Option ℕ)) (answer : Result (Unit {0}) PeekFault) (old new : CoreValue S) (peeks : PeeksAt held honest failures 0 address room bytes (Some answer) old new) where
     left_at : slice_get new.processes 0 ≡ Some peeks.one.process'
     left_at = ap (λ l. slice_get l 0) peeks.one.is ∙ get_set_same old.processes 0 peeks.one.process peeks.one.process' peeks.one.found
 
@@ -99,40 +98,42 @@ module _ {S : Type 0} (held : S → List ℕ) (honest : Type 0) where
     pub peek_keeps : KeepsShown old new
     peek_keeps = record { there = subst IsSome (sym left_at) cc; flat = flat_stays; purged = purged_stays }
 
-  module _ (failures : S → ℕ) (address : ℕ) (old new : CoreValue S) where
+  module _ (failures : S → ℕ) (address : ℕ) (room bytes : List (Option ℕ)) (old new : CoreValue S) where
     side_is : (shows : ShowsFlat held old) (side : ProcessSideValue S) → slice_get old.processes 0 ≡ Some side → shows.side ≡ side
     side_is shows side at = let a = shows.found in cc
 
-    -- the byte is the flat process's
-    pub byte_is : honest → (shows : ShowsFlat held old) (byte : ℕ) (answer : Result ℕ PeekFault) → answer ≡ Ok byte → PeeksAt held honest failures 0 address (Some answer) old new → Some byte ≡ byte_at (flat_at old).memory address
-    unfolding byte_at
-    byte_is is_honest shows byte answer is given =
-        let peeks = subst (λ r. PeeksAt held honest failures 0 address (Some r) old new) is given in
+    -- the bytes are the flat process's
+    pub bytes_are : honest → (shows : ShowsFlat held old) → page_offset address + length room ≤ 4096 → length bytes ≡ length room → (answer : Result (Unit {0}) PeekFault) → answer ≡ Ok (tt {0})
+        → PeeksAt held honest failures 0 address room bytes (Some answer) old new → bytes ≡ bytes_from (flat_at old).memory address (length room)
+    bytes_are is_honest shows within size answer is given =
+        let peeks = subst (λ r. PeeksAt held honest failures 0 address room bytes (Some r) old new) is given in
         let ran = subst (λ (p : ProcessSideValue S). flat_run (written_out p.space.schedule) (opening p.space.image p.space.input) ≡ Some (flat_with shows.side.space.running shows.stands.memory))
         (side_is shows peeks.one.process peeks.one.found) shows.stands.ran in
-        sym (peeks.one.how.flat is_honest (flat_with shows.side.space.running shows.stands.memory) ran) ∙ ap (λ (p : Process). byte_at p.memory address) (sym shows.flat)
+        in_page (flat_with shows.side.space.running shows.stands.memory).memory address (length room) bytes within size (peeks.one.how.flat is_honest (flat_with shows.side.space.running shows.stands.memory) ran)
+        ∙ ap (λ (p : Process). bytes_from p.memory address (length room)) (sym shows.flat)
 
     -- where none is mapped the flat process has none
-    pub none_is : (shows : ShowsFlat held old) → page_number address < 2 ^ 20 → (answer : Result ℕ PeekFault) → answer ≡ Err fault.NotMapped → PeeksAt held honest failures 0 address (Some answer) old new → None ≡ byte_at (flat_at old).memory address
-    none_is shows small answer is given =
-        let peeks = subst (λ r. PeeksAt held honest failures 0 address (Some r) old new) is given in
+    pub none_are : (shows : ShowsFlat held old) → page_number address < 2 ^ 20 → page_offset address + length room ≤ 4096 → (answer : Result (Unit {0}) PeekFault) → answer ≡ Err fault.NotMapped
+        → PeeksAt held honest failures 0 address room bytes (Some answer) old new → replicate (length room) None ≡ bytes_from (flat_at old).memory address (length room)
+    none_are shows small within answer is given =
+        let peeks = subst (λ r. PeeksAt held honest failures 0 address room bytes (Some r) old new) is given in
         let none : page_at shows.side.space.memory.pages (page_number address) ≡ None = subst (λ (p : ProcessSideValue S). page_at p.space.memory.pages (page_number address) ≡ None)
         (sym (side_is shows peeks.one.process peeks.one.found)) peeks.one.how.refused in
         let missing : is_some (byte_at (flat_at old).memory address) ≡ false =
         byte_shown held old shows address ∙ sym (page_shown held old shows (page_number address) small) ∙ ap is_some none in
-        sym (no_byte (byte_at (flat_at old).memory address) missing)
+        no_page (flat_at old).memory address (length room) within (no_byte (byte_at (flat_at old).memory address) missing)
 
     -- the page was given back
-    pub given_back_is : PeeksAt held honest failures 0 address (Some (Err fault.Purged)) old new → IsGivenBack address 1 old
-    given_back_is peeks =
+    pub given_back_is : 0 < length room → PeeksAt held honest failures 0 address room bytes (Some (Err fault.Purged)) old new → IsGivenBack address (length room) old
+    given_back_is some peeks =
         let same : address + 0 ≡ address = omega arith in
         record {
           offset = 0;
-          within = omega arith;
+          within = some;
           purged = ap (λ a. place_at old (page_number a)) same ∙ ap (option_and_then (place_in (page_number address))) peeks.one.found ∙ peeks.one.how.refused;
         }
 
-    pub process_there : IsSome (slice_get old.processes 0) → PeeksAt held honest failures 0 address None old new → ⊥
+    pub process_there : IsSome (slice_get old.processes 0) → PeeksAt held honest failures 0 address room bytes None old new → ⊥
     process_there there peeks = missing_there (slice_get old.processes 0) there peeks.0
 
   -- a slot that counts no failures fails never
@@ -159,5 +160,5 @@ module _ {S : Type 0} (held : S → List ℕ) (honest : Type 0) where
       by (Away slot) place' failed = after place' failed
       by Purged place' failed = absurd failed
 
-  pub device_fails_never : (address : ℕ) (old new : CoreValue S) → PeeksAt held honest (λ _. 0) 0 address (Some (Err fault.Device)) old new → ⊥
-  device_fails_never address old new peeks = fails_never peeks.one.how.refused.page peeks.one.how.refused.page' peeks.one.how.refused.how
+  pub device_fails_never : (address : ℕ) (room bytes : List (Option ℕ)) (old new : CoreValue S) → PeeksAt held honest (λ _. 0) 0 address room bytes (Some (Err fault.Device)) old new → ⊥
+  device_fails_never address room bytes old new peeks = fails_never peeks.one.how.refused.page peeks.one.how.refused.page' peeks.one.how.refused.how

@@ -1,12 +1,11 @@
 -- Reads one after another.
-use Rattle.std.proofs.Common.{◌≡◌, ◌<◌, ℕ, ◌+◌, IsSome, Some, slice_get, refl, ap, ◌∙◌, arith}
+use Rattle.std.proofs.Common.{◌≡◌, ◌≤◌, ℕ, ◌+◌, IsSome, slice_get, refl, ap, ◌∙◌, arith}
 use Rattle.page_memory.specs.Words.{page_number}
-use Rattle.page_store.specs.PageValue.{Purged}
 use Rattle.machine_core.specs.Machine.{CoreValue}
 use Rattle.debug_core.specs.declared.target.ReadFault.{ReadFault}
 use Rattle.debug_core.specs.declared.target.ReadFault.TheVariants as fault
 use Rattle.paged_target.specs.Reads.{FailsToReadFrom, KeepsShown}
-use Rattle.paged_target.specs.Shown.{place_at, IsGivenBack}
+use Rattle.paged_target.specs.Shown.{place_at}
 
 module _ {S : Type 0} where
   pub keeps_same : (core : CoreValue S) → IsSome (slice_get core.processes 0) → KeepsShown core core
@@ -19,10 +18,14 @@ module _ {S : Type 0} where
     purged = λ number e. first.purged number (second.purged number e);
   }
 
-  -- a byte among others that can't be read
-  pub fails_among : (address count i : ℕ) (old now : CoreValue S) (why : ReadFault) → i < count → KeepsShown old now → FailsToReadFrom (address + i) 1 now why → FailsToReadFrom address count old why
-  fails_among address count i old now fault.Purged within keeps fails =
+  -- bytes among others that can't be read
+  pub fails_among : (address count i some : ℕ) (old now : CoreValue S) (why : ReadFault) → i + some ≤ count → KeepsShown old now → FailsToReadFrom (address + i) some now why → FailsToReadFrom address count old why
+  fails_among address count i some old now fault.Purged within keeps fails =
       let first = fails.within in
-      let same : address + i ≡ address + i + fails.offset = omega (arith, first) in
-      record { offset = i; within = within; purged = keeps.purged (page_number (address + i)) (ap (λ a. place_at now (page_number a)) same ∙ fails.purged) }
-  fails_among address count i old now fault.Device within keeps fails = absurd fails
+      let same : address + (i + fails.offset) ≡ address + i + fails.offset = omega arith in
+      record {
+        offset = i + fails.offset;
+        within = omega (arith, first, within);
+        purged = keeps.purged (page_number (address + (i + fails.offset))) (ap (λ a. place_at now (page_number a)) same ∙ fails.purged);
+      }
+  fails_among address count i some old now fault.Device within keeps fails = absurd fails

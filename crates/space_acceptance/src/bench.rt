@@ -49,7 +49,7 @@ pub(crate) enum Answer {
     Clean,
     Dirty,
     Word(Option<u32>),
-    Byte(Result<u8, PeekFault>),
+    Byte(Result<Option<u8>, PeekFault>),
     /// Whether there was a frame, and a slot.
     Given { frame: bool, slot: bool },
     Nothing,
@@ -87,7 +87,7 @@ impl<L: Ledger, S: SwapSlot> Bench<L, S> {
             Call::TakeNotices(hart) => self.take_notices(hart),
             Call::Save => self.save(),
             Call::TakeOne => self.take_one(),
-            Call::Peek(address) => Answer::Byte(self.space.peek(address)),
+            Call::Peek(address) => self.peek(address),
             Call::Register { hart, register } => Answer::Word(self.register(hart, register)),
             Call::Schedule => self.schedule(),
             Call::State(vpn)
@@ -117,6 +117,12 @@ impl<L: Ledger, S: SwapSlot> Bench<L, S> {
             Call::TestAndClear(_) => done(self.space.test_and_clear(vpn).is_some()),
             _ => Answer::Nothing,
         }
+    }
+
+    fn peek(&mut self, address: u32) -> Answer {
+        let mut bytes = [None];
+        let read = self.space.peek(address, &mut bytes);
+        Answer::Byte(read.map(|()| bytes[0]))
     }
 
     fn take_notices(&mut self, hart: u32) -> Answer {

@@ -73,7 +73,7 @@ fn runs_over_two_pages<L: Ledger>(rt: &impl Abort, alloc: Global, blank: Blank) 
         (Call::PageIn(0x11), Answer::Done),
         (slice(0, 10), ran(4, SliceStop::Ended)),
         (Call::Schedule, Answer::Turns(1, 7)),
-        (Call::Peek(0x1_1003), Answer::Byte(Ok(5))),
+        (Call::Peek(0x1_1003), Answer::Byte(Ok(Some(5)))),
         (Call::TakeOne, GIVEN),
         (Call::TakeOne, GIVEN),
         (Call::TakeOne, Answer::Nothing),
@@ -107,7 +107,7 @@ fn stores_while_it_leaves<L: Ledger>(
         (slice(1, 1), ran(1, SliceStop::Budget)),
         (Call::BeginEvict(0x11), Answer::Done),
         (slice(1, 1), ran(1, SliceStop::Budget)),
-        (Call::Peek(0x1_1000), Answer::Byte(Ok(7))),
+        (Call::Peek(0x1_1000), Answer::Byte(Ok(Some(7)))),
         (Call::Collect(0x11), Answer::NotYet),
         (Call::TakeNotices(1), Answer::Done),
         (Call::Collect(0x11), Answer::Dirty),
@@ -144,8 +144,8 @@ fn drops_a_clean_page<L: Ledger>(rt: &impl Abort, alloc: Global, blank: Blank) -
         (Call::State(0x10), Answer::State(Some(PageState::Fresh))),
 
         // lui s0, 0x11
-        (Call::Peek(0x1_0000), Answer::Byte(Ok(0x37))),
-        (Call::Peek(0x1_0001), Answer::Byte(Ok(0x14))),
+        (Call::Peek(0x1_0000), Answer::Byte(Ok(Some(0x37)))),
+        (Call::Peek(0x1_0001), Answer::Byte(Ok(Some(0x14)))),
     ];
     for _ in 0..2 {
         expect(rt, &mut bench, &calls);
@@ -176,7 +176,7 @@ fn keeps_what_is_not_saved<L: Ledger>(
         (Call::State(0x11), Answer::State(Some(PageState::Leaving))),
         (Call::BringBack(0x11), Answer::Done),
         (Call::State(0x11), Answer::State(Some(PageState::Resident))),
-        (Call::Peek(0x1_1003), Answer::Byte(Ok(5))),
+        (Call::Peek(0x1_1003), Answer::Byte(Ok(Some(5)))),
     ];
     expect(rt, &mut bench, &calls);
     Ok(())

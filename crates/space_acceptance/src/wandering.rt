@@ -89,7 +89,7 @@ impl<L: Ledger> Pair<L> {
             return false;
         }
         match self.bench.call(Call::Peek(address)) {
-            Answer::Byte(byte) => byte.ok() == self.flat.byte(address),
+            Answer::Byte(byte) => byte.unwrap_or(None) == self.flat.byte(address),
             _ => false,
         }
     }

@@ -1,6 +1,6 @@
 -- A page comes into a frame, is looked at, or is given up.
 use Rattle.std.proofs.Common.{◌≡◌, ℕ, ◌^◌, ◌<◌, ◌==◌, true, false, cond, List, [], ◌∷◌, All, length, map, Option, Some, None, Result, Ok, Err, OnOk, option_map, inl, inr, ap, ◌∙◌, refl, sym, subst, true≢false}
-use Rattle.std.specs.Prelude.{IfOk, IfErr, IfSome, IfNone, slice_index}
+use Rattle.std.specs.Prelude.{IfErr, IfSome, IfNone}
 use Rattle.std.proofs.lemmas.Bool.Decides.{eqb_tells}
 use Rattle.std.proofs.lemmas.List.{length-map}
 use Rattle.std.proofs.lemmas.List.Elements.{All-nil, All-cons}
@@ -12,12 +12,13 @@ use Rattle.page_memory.specs.Words.{page_number, page_offset}
 use Rattle.page_store.specs.PageValue.{PageValue, Place, content, Known}
 use Rattle.page_store.specs.PageValue as place
 use Rattle.page_store.specs.Moves.{Filled, IfAbsent}
+use Rattle.page_store.specs.Reading.{some_from}
 use Rattle.tlb_core.specs.declared.translation.Translation.{Translation}
 use Rattle.paged_memory.specs.Paged.{PagedValue, page_at, flat_page, memory_of}
 use Rattle.paged_memory.specs.Calls.{ChangesBy}
 use Rattle.paged_memory.specs.Filling.{BroughtIn, RefusesPageIn}
 use Rattle.paged_memory.specs.GivingBack.{GivesOne}
-use Rattle.paged_memory.specs.Peeking.{byte_of, ShowsByte, LeavesPage, LeavesPlace}
+use Rattle.paged_memory.specs.Peeking.{bytes_of, ShowsBytes, LeavesPage, LeavesPlace}
 use Rattle.paged_memory.specs.declared.filling.PageInFault.{PageInFault}
 use Rattle.paged_memory.specs.declared.filling.PageInFault.TheVariants.{NotAbsent, Device, NoMemory}
 use Rattle.flat_machine.specs.declared.end.End.{End}
@@ -92,7 +93,7 @@ module _ {S : Type 0} where
         → (honest → memory_of held memory.pages ≡ memory_of held old.memory.pages) → IsSpace held honest old → IsSpace held honest (record old { memory = memory })
     space_paged_in failures frame vpn old memory result caches ok refused same space = space_shown old memory caches same (paged_in_stays failures frame vpn old.memory.tables old.memory.pages memory.pages result ok refused) space
 
-    -- ---- a byte is looked at
+    -- ---- bytes are looked at
 
     peeked_stays : (old new : List (ℕ × PageValue S)) (vpn : ℕ) (was : Option (PageValue S)) → LeavesPage held honest old new vpn was → StaysPurged old new
     peeked_stays old new vpn None left = same_purged old new left
@@ -110,10 +111,10 @@ module _ {S : Type 0} where
         → (honest → memory_of held memory.pages ≡ memory_of held old.memory.pages) → IsSpace held honest old → IsSpace held honest (record old { memory = memory })
     space_peeked vpn old memory only left same space = space_shown old memory (ap (λ (m : PagedValue S). m.caches) only) same (peeked_stays old.memory.pages memory.pages vpn (page_at old.memory.pages vpn) left) space
 
-    -- it is the flat process's
-    byte_of_flat : (space : SpaceValue S) (address byte : ℕ) (flat : Process) → page_number address < 2 ^ 20 → honest → StandsFor held space → ShowsByte held honest (page_at space.memory.pages (page_number address)) (page_offset address) byte
-        → flat_run (written_out space.schedule) (opening space.image space.input) ≡ Some flat → byte_of flat.memory address ≡ Some byte
-    byte_of_flat space address byte flat small is_honest stands shows ran = by_page (page_at space.memory.pages (page_number address)) refl shows
+    -- they are the flat process's
+    bytes_of_flat : (space : SpaceValue S) (address count : ℕ) (bytes : List (Option ℕ)) (flat : Process) → page_number address < 2 ^ 20 → honest → StandsFor held space → ShowsBytes held honest (page_at space.memory.pages (page_number address)) (page_offset address) count bytes
+        → flat_run (written_out space.schedule) (opening space.image space.input) ≡ Some flat → bytes_of flat.memory address count ≡ Some bytes
+    bytes_of_flat space address count bytes flat small is_honest stands shows ran = by_page (page_at space.memory.pages (page_number address)) refl shows
       where
         same : stands.memory ≡ flat.memory
         same = ap (λ (p : Process). p.memory) (same_Some _ _ (sym stands.ran ∙ ran))
@@ -134,18 +135,18 @@ module _ {S : Type 0} where
         whole (place.Away slot) apart = refl
         whole place.Purged apart = absurd (apart refl)
 
-        by_page : (o : Option (PageValue S)) → page_at space.memory.pages (page_number address) ≡ o → ShowsByte held honest o (page_offset address) byte → byte_of flat.memory address ≡ Some byte
+        by_page : (o : Option (PageValue S)) → page_at space.memory.pages (page_number address) ≡ o → ShowsBytes held honest o (page_offset address) count bytes → bytes_of flat.memory address count ≡ Some bytes
         by_page None at shows = absurd shows
         by_page (Some page) at shows =
-            ap (λ m. byte_of m address) (sym same)
-            ∙ ap (option_map (λ (p : Page). slice_index p.bytes (page_offset address))) (stands.shown (page_number address) page small at (whole page.place shows.0))
+            ap (λ m. bytes_of m address count) (sym same)
+            ∙ ap (option_map (λ (p : Page). some_from p.bytes (page_offset address) count)) (stands.shown (page_number address) page small at (whole page.place shows.0))
             ∙ ap Some (sym (shows.1 (known page.place)))
 
-    pub byte_flat : {E : Type 0} (space : SpaceValue S) (address : ℕ) (result : Result ℕ E) → page_number address < 2 ^ 20 → honest → IsSpace held honest space
-        → IfOk result (λ byte. ShowsByte held honest (page_at space.memory.pages (page_number address)) (page_offset address) byte)
-        → IfOk result (λ byte. (flat : Process) → flat_run (written_out space.schedule) (opening space.image space.input) ≡ Some flat → byte_of flat.memory address ≡ Some byte)
-    byte_flat space address (Err e) small is_honest stands shows = tt
-    byte_flat space address (Ok byte) small is_honest stands shows = λ flat ran. byte_of_flat space address byte flat small is_honest (stands.stands is_honest) shows ran
+    pub bytes_flat : {U E : Type 0} (space : SpaceValue S) (address count : ℕ) (bytes : List (Option ℕ)) (result : Result U E) → page_number address < 2 ^ 20 → honest → IsSpace held honest space
+        → OnOk result (ShowsBytes held honest (page_at space.memory.pages (page_number address)) (page_offset address) count bytes)
+        → OnOk result ((flat : Process) → flat_run (written_out space.schedule) (opening space.image space.input) ≡ Some flat → bytes_of flat.memory address count ≡ Some bytes)
+    bytes_flat space address count bytes (Err e) small is_honest stands shows = tt
+    bytes_flat space address count bytes (Ok u) small is_honest stands shows = λ flat ran. bytes_of_flat space address count bytes flat small is_honest (stands.stands is_honest) shows ran
 
     -- ---- a page is given up
 

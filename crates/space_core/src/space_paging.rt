@@ -1,4 +1,4 @@
-ghost use Rattle.std.specs.Prelude.{◌≡◌, ◌<◌, ◌^◌, ℕ, true, false, Some, IsSome, IfSome, IfNone, OnOk, OnErr, IfOk, IfErr};
+ghost use Rattle.std.specs.Prelude.{◌≡◌, ◌+◌, ◌<◌, ◌≤◌, ◌^◌, ℕ, length, true, false, Some, IsSome, IfSome, IfNone, OnOk, OnErr, IfErr};
 ghost use Rattle.std.specs.Bool.{OnTrue, OnFalse};
 ghost use Rattle.page_memory.specs.Words.{page_number, page_offset};
 ghost use Rattle.sv32_table.specs.Entry.{page_entry};
@@ -10,7 +10,7 @@ ghost use Rattle.paged_memory.specs.Calls.{ChangesBy};
 ghost use Rattle.paged_memory.specs.Filling.{BroughtIn, RefusesPageIn};
 ghost use Rattle.paged_memory.specs.GivingBack.{GivesOne, GivesNothing, SavesOne};
 ghost use Rattle.paged_memory.specs.Leaving.{IsSaving};
-ghost use Rattle.paged_memory.specs.Peeking.{byte_of, ShowsByte, LeavesPage, RefusesPeek};
+ghost use Rattle.paged_memory.specs.Peeking.{bytes_of, ShowsBytes, LeavesPage, RefusesPeek};
 ghost use Rattle.space_core.specs.Caches.{if_ended};
 
 use crate::space::Space;
@@ -46,18 +46,21 @@ impl<L: Ledger, S: SwapSlot> Space<L, S> {
         self.memory.page_in(vpn, frame)
     }
 
-    /// The byte that the memory shows at an address, wherever its page is: the flat process's, if slots are honest. No page
-    /// is brought in, and no hart's use of it is marked.
-    pub fn peek(&mut self, address: u32) -> Result<u8, PeekFault>
-        ensures byte { IfOk result (λ byte. ShowsByte S.content S.honest (page_at self.old.memory.pages (page_number address)) (page_offset address) byte) }
-        ensures shown { S.honest → IfOk result (λ byte. byte_of (memory_of S.content self.old.memory.pages) address ≡ Some byte) }
-        ensures flat { S.honest → IfOk result (λ byte. (flat : Process) → flat_run (written_out self.old.schedule) (opening self.old.image self.old.input) ≡ Some flat → byte_of flat.memory address ≡ Some byte) }
+    /// Reads the bytes that the memory shows from an address on, as many as there is room for, all in one page, wherever it
+    /// is: the flat process's, if slots are honest. No page is brought in, and no hart's use of it is marked. A refusal
+    /// leaves the room as it was.
+    pub fn peek(&mut self, address: u32, bytes: &mut [Option<u8>]) -> Result<(), PeekFault>
+        requires { page_offset address + length bytes.old ≤ 4096 }
+        ensures bytes { OnOk result (ShowsBytes S.content S.honest (page_at self.old.memory.pages (page_number address)) (page_offset address) (length bytes.old) bytes.new) }
+        ensures shown { S.honest → OnOk result (bytes_of (memory_of S.content self.old.memory.pages) address (length bytes.old) ≡ Some bytes.new) }
+        ensures flat { S.honest → OnOk result ((flat : Process) → flat_run (written_out self.old.schedule) (opening self.old.image self.old.input) ≡ Some flat → bytes_of flat.memory address (length bytes.old) ≡ Some bytes.new) }
+        ensures unread { OnErr result (bytes.new ≡ bytes.old) }
         ensures refused { IfErr result (RefusesPeek S.content S.honest S.failures self.old.memory.pages self.new.memory.pages (page_number address)) }
         ensures left { LeavesPage S.content S.honest self.old.memory.pages self.new.memory.pages (page_number address) (page_at self.old.memory.pages (page_number address)) }
         ensures memory { S.honest → memory_of S.content self.new.memory.pages ≡ memory_of S.content self.old.memory.pages }
         ensures stays { self.new ≡ record self.old { memory = record self.old.memory { pages = self.new.memory.pages } } }
     {
-        self.memory.peek(address)
+        self.memory.peek(address, bytes)
     }
 
     /// Whether a page is being saved.

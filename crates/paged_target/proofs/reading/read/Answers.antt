@@ -1,25 +1,48 @@
-use Rattle.std.proofs.Common.{◌≡◌, ◌+◌, refl, ap, ◌∙◌, slice_set, length-set, arith}
-use Rattle.page_memory.specs.Memory.{byte_at}
+use Rattle.std.proofs.Common.{◌≡◌, ◌+◌, ◌-◌, ◌≤◌, length, refl, ap, ◌∙◌, arith}
+use Rattle.std.proofs.lemmas.Result.{err_from_is_err_and}
 use Rattle.flat_machine.specs.Process.{Process}
-use Rattle.debug_core.specs.ReadingLaws.{bytes_none, bytes_more}
+use Rattle.debug_core.specs.Points.{bytes_from}
+use Rattle.debug_core.specs.ReadingLaws.{bytes_none}
 use Rattle.paged_target.specs.Shown.{flat_at}
-use Rattle.paged_target.proofs.ReadsOn.{keeps_same, keeps_then}
+use Rattle.paged_target.proofs.PageBytes.{page_more, page_size, part_size}
+use Rattle.paged_target.proofs.ReadsOn.{fails_among, keeps_same, keeps_then}
 use Rattle.paged_target.proofs.reading.read.Goals as goal
 
-pub bytes-init : goal.bytes-init
-bytes-init g c = record {
+pub pages-init : goal.pages-init
+pages-init g c = record {
   here = bytes_none (flat_at c.args.core.now).memory c.args.address c.args.bytes.now;
   size = refl;
   within = omega arith;
   kept = keeps_same c.args.core.now c.requires.there;
 }
 
-pub bytes-preserved : goal.bytes-preserved
-bytes-preserved g c = record {
-  here =
-      ap (λ x. slice_set c.bytes.bytes c.bytes.i x) (c.in_ok-bytes.ensures.ok ∙ ap (λ (p : Process). byte_at p.memory (c.args.address + c.bytes.i)) c.bytes.invariant.kept.flat)
-      ∙ bytes_more (flat_at c.args.core.now).memory c.args.address c.bytes.i c.bytes.bytes c.args.bytes.now (omega (arith, c.bytes-test.true)) c.bytes.invariant.here;
-  size = length-set c.bytes.bytes c.bytes.i _ ∙ c.bytes.invariant.size;
-  within = omega (arith, c.bytes-test.true);
-  kept = keeps_then c.args.core.now c.bytes.core c.read_byte.new.core c.bytes.invariant.kept c.read_byte.ensures.kept;
-}
+pub pages-preserved : goal.pages-preserved
+pages-preserved g c =
+    let most = c.min-count.ensures in
+    let as_many : c.pages.done + c.min-count.result - c.pages.done ≡ c.min-count.result = omega arith in
+    let within : c.pages.done + c.min-count.result ≤ length c.pages.bytes = omega (arith, most, c.pages-test.true) in
+    let same = c.pages.invariant.size in
+    let inside : c.pages.done + c.min-count.result ≤ length c.args.bytes.now = omega (arith, within, same) in
+    let read =
+    c.in_ok-read_page.ensures.ok
+    ∙ ap (λ n. bytes_from (flat_at c.pages.core).memory (c.args.address + c.pages.done) n) (part_size c.pages.bytes c.pages.done c.min-count.result _ as_many within)
+    ∙ ap (λ (p : Process). bytes_from p.memory (c.args.address + c.pages.done) c.min-count.result) c.pages.invariant.kept.flat in
+    let here =
+    page_more (flat_at c.args.core.now).memory c.args.address c.pages.done c.min-count.result (c.pages.done + c.min-count.result - c.pages.done) c.pages.bytes c.args.bytes.now c.read_page.new.bytes as_many c.pages.invariant.here read in
+    record {
+      here = here;
+      size = ap length here ∙ page_size (flat_at c.args.core.now).memory c.args.address (c.pages.done + c.min-count.result) c.args.bytes.now inside;
+      within = inside;
+      kept = keeps_then c.args.core.now c.pages.core c.read_page.new.core c.pages.invariant.kept c.read_page.ensures.kept;
+    }
+
+pub returns-in_err-read_page-clause-refused : goal.returns-in_err-read_page-clause-refused
+returns-in_err-read_page-clause-refused g c =
+    let p = err_from_is_err_and c.from_residual.result c.from_residual.ensures.1 in
+    let most = c.min-count.ensures in
+    let as_many : c.pages.done + c.min-count.result - c.pages.done ≡ c.min-count.result = omega arith in
+    let within : c.pages.done + c.min-count.result ≤ length c.pages.bytes = omega (arith, most, c.pages-test.true) in
+    let size = part_size c.pages.bytes c.pages.done c.min-count.result _ as_many within in
+    let same = c.pages.invariant.size in
+    rw (p.1, p.2)
+    (fails_among c.args.address (length c.args.bytes.now) c.pages.done _ c.args.core.now c.pages.core _ (omega (arith, size, within, same)) c.pages.invariant.kept c.in_err-read_page.ensures.refused)

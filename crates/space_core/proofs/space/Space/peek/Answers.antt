@@ -1,11 +1,11 @@
 use Rattle.std.proofs.Common.{◌≡◌, ◌<◌, ◌^◌, Some, subst, arith}
-use Rattle.std.specs.Prelude.{IfOk}
+use Rattle.std.specs.Prelude.{OnOk, length}
 use Rattle.page_memory.specs.Words.{page_number}
 use Rattle.flat_machine.specs.Process.{Process, flat_run, opening}
 use Rattle.flat_machine.specs.Schedule.{written_out}
-use Rattle.paged_memory.specs.Peeking.{byte_of}
+use Rattle.paged_memory.specs.Peeking.{bytes_of}
 use Rattle.space_core.specs.StandsFor.{SpaceValue}
-use Rattle.space_core.proofs.PagingSpaces.{space_peeked, byte_flat}
+use Rattle.space_core.proofs.PagingSpaces.{space_peeked, bytes_flat}
 use Rattle.space_core.proofs.space.Space.peek.Goals as goal
 
 pub invariant_of-self : goal.invariant_of-self
@@ -18,5 +18,5 @@ pub returns-clause-flat : goal.returns-clause-flat
 returns-clause-flat g c is_honest =
     let inside : SpaceValue g.row.S.Denot = record { image = c.self.inside.image; input = c.self.inside.input.items; running = c.self.inside.recorded.running; schedule = c.self.inside.recorded.schedule; memory = c.self.inside.memory } in
     let small : page_number c.args.address < 2 ^ 20 = omega arith in
-    subst (λ (v : SpaceValue g.row.S.Denot). IfOk c.peek.result (λ byte. (flat : Process) → flat_run (written_out v.schedule) (opening v.image v.input) ≡ Some flat → byte_of flat.memory c.args.address ≡ Some byte)) c.self.view_is
-    (byte_flat g.S.SwapSlot.content g.S.SwapSlot.honest inside c.args.address c.peek.result small is_honest c.self.invariant c.peek.ensures.byte)
+    subst (λ (v : SpaceValue g.row.S.Denot). OnOk c.peek.result ((flat : Process) → flat_run (written_out v.schedule) (opening v.image v.input) ≡ Some flat → bytes_of flat.memory c.args.address (length c.args.bytes.now) ≡ Some c.peek.new.bytes)) c.self.view_is
+    (bytes_flat g.S.SwapSlot.content g.S.SwapSlot.honest inside c.args.address (length c.args.bytes.now) c.peek.new.bytes c.peek.result small is_honest c.self.invariant c.peek.ensures.bytes)

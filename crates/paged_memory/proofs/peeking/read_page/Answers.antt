@@ -1,9 +1,9 @@
-use Rattle.std.proofs.Common.{◌≡◌, refl, Some, option_map, sym, ap, ◌∙◌, subst}
+use Rattle.std.proofs.Common.{◌≡◌, refl, length, Some, option_map, sym, ap, ◌∙◌, subst}
 use Rattle.page_memory.specs.Entries.{place_of}
-use Rattle.paged_memory.specs.Peeking.{ShowsByte, LeavesPage}
+use Rattle.paged_memory.specs.Peeking.{ShowsBytes, LeavesPage}
 use Rattle.paged_memory.proofs.PagedLaws.{page_at-place, page_at-nowhere}
 use Rattle.paged_memory.proofs.PeekingLaws.{page_left, page_failed}
-use Rattle.paged_memory.proofs.peeking.read_byte.Goals as goal
+use Rattle.paged_memory.proofs.peeking.read_page.Goals as goal
 
 pub returns-in_default-clause-refused : goal.returns-in_default-clause-refused
 returns-in_default-clause-refused g c = page_at-nowhere c.args.pages.now c.args.vpn (sym c.place.ensures.place ∙ c.in_default.is)
@@ -12,11 +12,11 @@ pub returns-in_default-clause-left : goal.returns-in_default-clause-left
 returns-in_default-clause-left g c =
     subst (LeavesPage g.S.SwapSlot.content g.S.SwapSlot.honest c.args.pages.now c.args.pages.now c.args.vpn) (sym (page_at-nowhere c.args.pages.now c.args.vpn (sym c.place.ensures.place ∙ c.in_default.is))) refl
 
-pub returns-in-Ok-clause-byte : goal.returns-in-Ok-clause-byte
-returns-in-Ok-clause-byte g c =
+pub returns-in-Ok-clause-bytes : goal.returns-in-Ok-clause-bytes
+returns-in-Ok-clause-bytes g c =
     let at : place_of c.args.vpn c.args.pages.now ≡ Some c.in-Some.place = sym c.place.ensures.place ∙ c.in-Some.is in
-    subst (λ o. ShowsByte g.S.SwapSlot.content g.S.SwapSlot.honest o c.args.offset c.in-Ok.byte) (sym (page_at-place c.args.pages.now c.args.vpn c.in-Some.place c.at_mut.result.now at c.at_mut.ensures.value))
-    (c.in-Ok.ensures.mapped, c.in-Ok.ensures.byte)
+    subst (λ o. ShowsBytes g.S.SwapSlot.content g.S.SwapSlot.honest o c.args.offset (length c.args.bytes.now) c.read.new.bytes) (sym (page_at-place c.args.pages.now c.args.vpn c.in-Some.place c.at_mut.result.now at c.at_mut.ensures.value))
+    (c.in-Ok.ensures.mapped, c.in-Ok.ensures.bytes)
 
 pub returns-in-Ok-clause-left : goal.returns-in-Ok-clause-left
 returns-in-Ok-clause-left g c =

@@ -1,0 +1,78 @@
+//! Guests that need more pages than the machine has frames, and one that never ends.
+
+/// Stores 8, 7 down to 1 in eight pages of data, and then exits with the sum of what it loads from them.
+pub(crate) const SPREADS: &str = "        la   s0, data
+        li   s1, 8
+        li   s2, 0x1000
+store:  sw   s1, 0(s0)
+        add  s0, s0, s2
+        addi s1, s1, -1
+        bnez s1, store
+        la   s0, data
+        li   s1, 8
+        li   a0, 0
+load:   lw   t0, 0(s0)
+        add  a0, a0, t0
+        add  s0, s0, s2
+        addi s1, s1, -1
+        bnez s1, load
+        li   a7, 94
+        ecall
+
+        .data
+data:   .space 32768
+";
+
+/// Adds 6, 5 down to 1 to words of six pages, three times, and exits with the sum of what it loads from them.
+pub(crate) const ROUNDS: &str = "        li   s1, 3
+        li   s2, 0x1000
+        li   a0, 0
+round:  la   s0, data
+        li   s3, 6
+page:   lw   t0, 0(s0)
+        add  a0, a0, t0
+        add  t0, t0, s3
+        sw   t0, 0(s0)
+        add  s0, s0, s2
+        addi s3, s3, -1
+        bnez s3, page
+        addi s1, s1, -1
+        bnez s1, round
+        li   a7, 94
+        ecall
+
+        .data
+data:   .space 24576
+";
+
+/// Two harts that each add 1 to words of six pages. The last to end exits with what it found in the last of them.
+pub(crate) const SHARES: &str = "        la   a0, count
+        lui  a1, 0x80000
+        li   a2, 0
+        li   a7, 1024
+        ecall
+count:  la   s0, data
+        li   s1, 6
+        li   s2, 0x1000
+        li   t1, 1
+add:    amoadd.w t0, t1, (s0)
+        add  s0, s0, s2
+        addi s1, s1, -1
+        bnez s1, add
+        li   a7, 93
+        mv   a0, t0
+        ecall
+
+        .data
+data:   .space 24576
+";
+
+/// Two harts that go round for ever.
+pub(crate) const SPINS: &str = "        la   a0, child
+        li   a1, 0
+        li   a2, 0
+        li   a7, 1024
+        ecall
+loop:   j    loop
+child:  j    child
+";

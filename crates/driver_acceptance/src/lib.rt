@@ -1,0 +1,11 @@
+//! Tests of how runs of the serial driver end.
+#![tactic(auto)]
+
+#[cfg(test)]
+mod endings;
+#[cfg(test)]
+mod guests;
+#[cfg(test)]
+mod machine;
+#[cfg(test)]
+mod no_loads;

@@ -1,0 +1,51 @@
+ghost use Rattle.std.specs.Prelude.{◌≡◌, ◌-◌, ◌+◌, ◌^◌, ◌<◌, ◌≤◌, ⊤, min, IfOk, IsOk, IsErr, OnOk, OnErr};
+ghost use Rattle.swap_slots.specs.Slot.{Rose};
+
+use std::alloc::{AllocError, Global};
+use swap_slots::{MemorySlot, SlotFault, SwapSlot};
+
+/// A slot in memory whose saves succeed, and whose loads fail.
+#[derive(Drop)]
+pub(crate) struct NoLoads {
+    slot: MemorySlot,
+    failures: u64,
+}
+
+impl NoLoads {
+    fn new(alloc: Global) -> Result<NoLoads, AllocError> {
+        Ok(NoLoads {
+            slot: MemorySlot::new(alloc)?,
+            failures: 0,
+        })
+    }
+}
+
+impl SwapSlot for NoLoads {
+    ghost content = { λ slot. slot.slot };
+
+    ghost failures = { λ slot. slot.failures };
+
+    ghost honest = { ⊤ };
+
+    fn save(&mut self, page: &[u8; 4096]) -> Result<(), SlotFault> {
+        self.slot.save(page)
+    }
+
+    fn load(&mut self, _page: &mut [u8; 4096]) -> Result<(), SlotFault> {
+        self.failures = self.failures.saturating_add(1);
+        Err(SlotFault)
+    }
+
+    fn failures(&self) -> u64 {
+        self.failures
+    }
+}
+
+/// So many such slots.
+pub(crate) fn slots_without_loads(alloc: Global, count: u32) -> Result<Vec<NoLoads>, AllocError> {
+    let mut slots = Vec::new(alloc);
+    for _ in 0..count {
+        slots.push(NoLoads::new(alloc)?)?;
+    }
+    Ok(slots)
+}

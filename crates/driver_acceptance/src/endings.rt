@@ -58,6 +58,7 @@ fn processes_take_turns(rt: HostRuntime) -> Result<(), Fail> {
     tells(&rt, alloc, &report, &[(Some(End::Exited(36)), 83); 3])
 }
 
+/// While one hart waits, the other holds a translation of a page that is to leave.
 #[test]
 fn harts_share_pages(rt: HostRuntime) -> Result<(), Fail> {
     let alloc = rt.alloc();
@@ -65,7 +66,7 @@ fn harts_share_pages(rt: HostRuntime) -> Result<(), Fail> {
         alloc,
         sound(alloc, 6)?,
         processes(alloc, 1, SHARES)?,
-        3,
+        5,
         AMPLE,
     )?;
     tells(&rt, alloc, &report, &[(Some(End::Exited(1)), 72)])

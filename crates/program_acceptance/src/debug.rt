@@ -18,6 +18,7 @@ buf:    .word 0
 /// Every kind of line that is answered.
 const LINES: &[u8] =
     b"break 0x10000\ngo 100\nstep 0\nwatch 0x11000 4\ngo 100\nmem 0x11000 4\ngo 0\ngo 100\nstep 0\n";
+
 const ANSWERS: &str =
     "point 0\nbreak 0 hart 0 after 0\nran\npoint 1\nwatch 1 after 3\n00 00 00 05\nlimit after 0\nended after 3\nrefused 5\n";
 

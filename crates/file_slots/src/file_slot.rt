@@ -65,6 +65,7 @@ impl<F> FileSlot<F> {
 }
 
 impl<F: Read + Write + Seek + Drop> SwapSlot for FileSlot<F> {
+    // What a file holds is not known. Nothing follows from what stands here, since the kind is not honest.
     ghost content = { λ _. [] };
 
     ghost failures = { λ slot. slot.failures };

@@ -1,0 +1,4 @@
+pub mod Counts
+pub mod Views
+pub mod WriterValue
+pub mod ViewerValue

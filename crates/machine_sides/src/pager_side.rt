@@ -5,11 +5,11 @@ ghost use Rattle.clock_policy.specs.Bound.{answers_left, NothingResident};
 ghost use Rattle.pager_core.specs.Pager.{full_pager, tallied};
 
 use clock_policy::{Clock, EntryKind, Key};
-use frame_pool::PoolError;
+use frame_pool::{Frame, PoolError};
 use pager_core::{Counts, Pager};
 use std::alloc::Global;
 use std::marker::Model;
-use std::sync::ledger::{Blank, Ledger};
+use std::sync::ledger::{Blank, Ledger, Share};
 
 /// The pager, with the counts of the pages that left their frames.
 #[derive(Drop)]
@@ -92,6 +92,19 @@ impl<L: Ledger, C: Clock> PagerSide<L, C> {
         ensures { result ≡ self.now.pager.size }
     {
         self.pager.size()
+    }
+
+    /// Gives up the pager: its free frames, and a share with the ledger's one part that is no frame's, to gather them with.
+    pub fn into_frames(self) -> (Vec<Frame<L>>, Share<L>)
+        ensures frames { result.0.items ≡ self.pager.free }
+        ensures share { result.1.parts ≡ 1 }
+    {
+        let PagerSide {
+            pager,
+            saves: _,
+            drops: _,
+        } = self;
+        pager.into_frames()
     }
 }
 

@@ -11,7 +11,7 @@ use clock_policy::{Bit, Clock, Entry, EntryKind, Key, NewRefusal, Refusal, Verdi
 use frame_pool::{Frame, FramePool, PoolError};
 use std::alloc::{AllocError, Global};
 use std::marker::Model;
-use std::sync::ledger::{Blank, Ledger};
+use std::sync::ledger::{Blank, Ledger, Share};
 
 /// The free frames of a machine and its replacement list.
 #[derive(Drop)]
@@ -218,6 +218,19 @@ impl<L: Ledger, C: Clock> Pager<L, C> {
         ensures { result ≡ self.now.size }
     {
         self.frames.size()
+    }
+
+    /// Gives up the pager: its free frames, and a share with the ledger's one part that is no frame's.
+    pub fn into_frames(self) -> (Vec<Frame<L>>, Share<L>)
+        ensures frames { result.0.items ≡ self.free }
+        ensures share { result.1.parts ≡ 1 }
+    {
+        let Pager {
+            frames,
+            list: _,
+            tallies: _,
+        } = self;
+        frames.into_frames()
     }
 }
 

@@ -146,7 +146,7 @@ RefusesFill honest failures frame old new back fault.NotAbsent =
 RefusesFill honest failures frame old new back fault.Device =
     (back.number ≡ frame.number) × IfAway old (λ copy. IfAway new (λ after. Rose (failures copy.slot) (failures after.slot)))
 RefusesFill honest failures frame old new back fault.Damaged =
-    (¬ honest) × ((¬ Matches old back.bytes) × ((back.number ≡ frame.number) × (IfAway new (λ _. Unit {0}) × (failures_at failures new ≡ failures_at failures old))))
+    (¬ honest) × ((¬ Matches old back.bytes) × ((back.number ≡ frame.number) × (IfAway old (λ _. IfAway new (λ _. Unit {0})) × (failures_at failures new ≡ failures_at failures old))))
 
 -- why a byte of a page is not read
 abbrev pub RefusesRead : {S : Type 0} → (S → ℕ) → Place S → Place S → ReadFault → Type 0

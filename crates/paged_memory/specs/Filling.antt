@@ -42,10 +42,10 @@ module _ {S : Type 0} where
     pub record BroughtIn (frame : FrameValue) (old new : PageValue S) : Type 0 where
       pub filled : Filled frame old new
       pub origin : new.origin ≡ old.origin
-      pub content : honest → content held new ≡ content held old
-      pub backed : honest → Backed held false new
       pub whole : Matches old.place (content held new)
       pub digest : kept_digest new.place ≡ kept_digest old.place
+      pub content : honest → content held new ≡ content held old
+      pub backed : honest → Backed held false new
 
     -- a page that was not brought in: it is as it began, or in its slot, as it was
     pub record StaysAbsent (old new : PageValue S) : Type 0 where

@@ -94,6 +94,7 @@ module _ {S : Type 0} where
         → ChangesBy (λ page page'. RefusesAbsent held honest failures frame (has_table q.space.memory.tables v) page page' back why) q.space.memory.pages q'.space.memory.pages v
     page_back fault.NotAbsent frame back v absent how = absurd (how.0 absent)
     page_back fault.Device frame back v absent how = record { page = how.0.page; page' = how.0.page'; found = how.0.found; changes = how.0.changes; how = (how.0.how, how.1) }
+    page_back fault.Damaged frame back v absent how = record { page = how.0.page; page' = how.0.page'; found = how.0.found; changes = how.0.changes; how = (how.0.how, how.1) }
     page_back fault.NoMemory frame back v absent how = record { page = how.1.0.page; page' = how.1.0.page'; found = how.1.0.found; changes = how.1.0.changes; how = (how.0, (how.1.0.how, how.1.1)) }
 
     goes_back : IsTakenBack held honest failures key core.pager pager' q q' reply → GoesBack held honest failures key core.pager pager' q q' reply

@@ -146,6 +146,7 @@ module _ {S : Type 0} where
     pub stays_so : (why : PageInFault) (frame back : FrameValue) (tabled : Bool) (page page' : PageValue S) → RefusesAbsent held honest failures frame tabled page page' back why → StaysAbsent held honest page page' × (back.number ≡ frame.number)
     stays_so fault.NotAbsent frame back tabled page page' h = absurd h
     stays_so fault.Device frame back tabled page page' h = (h.0.stays, h.1)
+    stays_so fault.Damaged frame back tabled page page' h = (h.0.stays, h.1)
     stays_so fault.NoMemory frame back tabled page page' h = (h.1.0.stays, h.1.1)
 
     module _ (goes : GoesBack held honest failures key core.pager pager' q q' reply) where

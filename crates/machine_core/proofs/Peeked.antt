@@ -1,6 +1,7 @@
 -- A look at bytes leaves the counts: a page that is away stays so.
 use Rattle.std.proofs.Common.{◌≡◌, ℕ, ◌^◌, ◌<◌, List, Option, Some, None, refl, ap, ◌∙◌, arith, subst}
 use Rattle.page_memory.specs.Words.{page_number}
+use Rattle.page_store.specs.CopyValue.{CopyValue}
 use Rattle.page_store.specs.Moves.{IfAbsent, IfAway}
 use Rattle.page_store.specs.PageValue.{PageValue, Place, Fresh, Resident, Leaving, Saving, Away, Purged}
 use Rattle.paged_memory.specs.Calls.{ChangesBy}
@@ -17,7 +18,7 @@ use Rattle.machine_core.proofs.Kept.{SavingsStay}
 use Rattle.machine_core.proofs.KeptPages.{CountAlike, same_pages}
 
 module _ {S : Type 0} (held : S → List ℕ) (honest : Type 0) where
-  away_alike : (old new : SpaceValue S) (v : ℕ) (slot slot' : S) → v < 2 ^ 20 → new.memory.process ≡ old.memory.process
+  away_alike : (old new : SpaceValue S) (v : ℕ) (slot slot' : CopyValue S) → v < 2 ^ 20 → new.memory.process ≡ old.memory.process
       → (told : ChangesBy (StaysAbsent held honest) old.memory.pages new.memory.pages v) → told.page.place ≡ Away slot → told.page'.place ≡ Away slot' → CountAlike old new
   unfolding SavingsStay
   away_alike old new v slot slot' small process told was is = record {
@@ -29,7 +30,7 @@ module _ {S : Type 0} (held : S → List ℕ) (honest : Type 0) where
     stay = λ q page frame below at saving. moved_stays (StaysAbsent held honest) old new v small told (Away slot) (Away slot') was is process refl q page frame at saving;
   }
 
-  stays_away : (old new : SpaceValue S) (v : ℕ) (slot : S) → v < 2 ^ 20 → new.memory.process ≡ old.memory.process
+  stays_away : (old new : SpaceValue S) (v : ℕ) (slot : CopyValue S) → v < 2 ^ 20 → new.memory.process ≡ old.memory.process
       → (told : ChangesBy (StaysAbsent held honest) old.memory.pages new.memory.pages v) → told.page.place ≡ Away slot → CountAlike old new
   stays_away old new v slot small process told was =
       by_place told.page'.place refl (subst (λ (p : Place S). IfAbsent p (told.page'.place ≡ Fresh) (λ _. IfAway told.page'.place (λ _. Unit {0}))) was told.how.place)

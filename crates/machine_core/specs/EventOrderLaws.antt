@@ -46,6 +46,7 @@ told_victim key bit (verdict.Victim x) k h = record { victim = x; is = refl; sam
 no_fault_victim : (f : PageInFault) (key : Key) → fault_reply f ≡ reply.Victim key → ⊥
 no_fault_victim fault.NotAbsent key is = cc
 no_fault_victim fault.Device key is = cc
+no_fault_victim fault.Damaged key is = cc
 no_fault_victim fault.NoMemory key is = cc
 
 module _ {S : Type 0} where

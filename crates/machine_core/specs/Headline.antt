@@ -40,6 +40,7 @@ has_run reply.Freed = false
 has_run reply.Dirty = false
 has_run reply.NoSlot = false
 has_run reply.Device = false
+has_run reply.Damaged = false
 has_run reply.Mapped = false
 has_run reply.Killed = false
 has_run reply.Purged = false

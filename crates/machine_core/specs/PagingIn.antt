@@ -14,7 +14,7 @@ use Rattle.machine_sides.specs.declared.admission.NotAdmitted.TheVariants as una
 use Rattle.machine_core.specs.declared.error.EventRefusal.{EventRefusal}
 use Rattle.machine_core.specs.declared.error.EventRefusal.TheVariants.{Ended, NotAbsent, NoFrame, NoMemory}
 use Rattle.machine_core.specs.declared.event.Reply.{Reply}
-use Rattle.machine_core.specs.declared.event.Reply.TheVariants.{Mapped, Device, Refused}
+use Rattle.machine_core.specs.declared.event.Reply.TheVariants.{Mapped, Device, Damaged, Refused}
 use Rattle.machine_sides.specs.Admitting.{AdmissionValue, Admits, DoesNotAdmit, is_absent_at, is_resident_at, taken_back}
 use Rattle.machine_sides.specs.Loading.{Loads, DoesNotLoad, KeepsRest}
 use Rattle.machine_core.specs.Machine.{CoreValue}
@@ -33,6 +33,7 @@ admit_reason unadmitted.NoMemory = NoMemory
 abbrev pub fault_reply : PageInFault → Reply
 fault_reply fault.NotAbsent = Refused NotAbsent
 fault_reply fault.Device = Device
+fault_reply fault.Damaged = Damaged
 fault_reply fault.NoMemory = Refused NoMemory
 
 module _ {S : Type 0} where

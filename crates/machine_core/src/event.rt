@@ -54,6 +54,8 @@ pub enum Reply {
     NoSlot,
     /// The device failed: a page that was to be saved is resident again, one that was to be loaded is where it was.
     Device,
+    /// What was loaded is not what was saved, by its digest. The page is where it was.
+    Damaged,
     /// The page is in a frame.
     Mapped,
     /// The process is ended.

@@ -52,6 +52,7 @@ fn fault_reply(fault: PageInFault) -> Reply
     match fault {
         PageInFault::NotAbsent => Reply::Refused(EventRefusal::NotAbsent),
         PageInFault::Device => Reply::Device,
+        PageInFault::Damaged => Reply::Damaged,
         PageInFault::NoMemory => Reply::Refused(EventRefusal::NoMemory),
     }
 }

@@ -22,6 +22,7 @@ use Rattle.pager_core.specs.Pager.{PagerState, pager_answered, admitted_with}
 use Rattle.space_core.specs.StandsFor.{SpaceValue}
 use Rattle.swap_slots.specs.PoolValue.{PoolValue}
 use Rattle.page_store.specs.JobValue.{SavedValue}
+use Rattle.page_store.specs.Moves.{copy_of}
 use Rattle.machine_sides.specs.Admitting.{AdmissionValue, Admits, is_resident_at, is_resident_stage, taken_back}
 use Rattle.machine_sides.specs.Agreeing.{Agree, AgreeStill, AsksOf, AgreesPurged}
 use Rattle.machine_sides.specs.CollectLaws.{dropped_process, copied_process}
@@ -288,7 +289,7 @@ module _ {S : Type 0} where
     saved_agrees saved.Freed how = together_agree pager.pager pager'.pager process.space process'.space (freed_ends job pager pager' process process' how).together
     saved_agrees (saved.HandedBack frame) how =
         let told = how.settles.page.1.1 in
-        let is : told.page'.place ≡ Away job.slot = ap (λ (p : PageValue S). p.place) told.how.is in
+        let is : told.page'.place ≡ Away (copy_of job) = ap (λ (p : PageValue S). p.place) told.how.is in
         let same : process'.space.memory.process ≡ process.space.memory.process = ap (λ (q : ProcessSideValue S). q.space.memory.process) how.settles.stays in
         listed_agree pager.pager pager'.pager process.space process'.space same
         (λ test.

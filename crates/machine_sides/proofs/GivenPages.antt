@@ -42,9 +42,9 @@ module _ {S : Type 0} where
     given_up = refl;
   }
   gives_at given (Saving frame) h = cc
-  gives_at given (Away slot) h = record {
-    frame = let e : ◌≡◌ {A = Option FrameValue × Option S} (None, Some slot) given = cc in ap (λ (g : Option FrameValue × Option S). g.0) e;
-    slot = let e : ◌≡◌ {A = Option FrameValue × Option S} (None, Some slot) given = cc in ap (λ (g : Option FrameValue × Option S). is_some g.1) e;
+  gives_at given (Away copy) h = record {
+    frame = let e : ◌≡◌ {A = Option FrameValue × Option S} (None, Some copy.slot) given = cc in ap (λ (g : Option FrameValue × Option S). g.0) e;
+    slot = let e : ◌≡◌ {A = Option FrameValue × Option S} (None, Some copy.slot) given = cc in ap (λ (g : Option FrameValue × Option S). is_some g.1) e;
     given_up = refl;
   }
   gives_at given Purged h = cc

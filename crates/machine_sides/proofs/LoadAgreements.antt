@@ -8,6 +8,7 @@ use Rattle.clock_policy.specs.AdmitLaws.{is_key_self, key_residents}
 use Rattle.clock_policy.specs.Residents.{is_key}
 use Rattle.frame_pool.specs.FrameValue.{FrameValue}
 use Rattle.page_store.specs.declared.state.Keeping.TheVariants.{NoSlot}
+use Rattle.page_store.specs.CopyValue.{CopyValue}
 use Rattle.page_store.specs.Moves.{Filled, IfAbsent, IfAway, IfSaved, IfResident}
 use Rattle.page_store.specs.PageValue.{PageValue, Place, Fresh, Resident, Leaving, Saving, Away, Purged, page_state_of}
 use Rattle.page_store.specs.declared.state.PageState.{PageState}
@@ -16,7 +17,7 @@ use Rattle.paged_memory.specs.Counting.{is_resident_place}
 use Rattle.paged_memory.specs.Filling.{StaysAbsent, RefusesPageIn}
 use Rattle.paged_memory.specs.Paged.{page_at}
 use Rattle.paged_memory.specs.declared.filling.PageInFault.{PageInFault}
-use Rattle.paged_memory.specs.declared.filling.PageInFault.TheVariants.{NotAbsent, Device, NoMemory}
+use Rattle.paged_memory.specs.declared.filling.PageInFault.TheVariants.{NotAbsent, Device, Damaged, NoMemory}
 use Rattle.pager_core.specs.Pager.{PagerState}
 use Rattle.space_core.specs.StandsFor.{SpaceValue}
 use Rattle.machine_sides.specs.Admitting.{AdmissionValue, is_resident_at, is_resident_stage}
@@ -35,7 +36,7 @@ counts_one a b h k = ap (λ t. cond {A = ℕ} (t && b) 1 0) h ∙ ap (λ t. cond
 
 module _ {S : Type 0} where
   -- an absent page is not resident, as its place and as its stage tells
-  absent_place : (place : Place S) (fresh : Type 0) (away : S → Type 0) → IfAbsent place fresh away → (is_resident_place place ≡ false) × (is_resident_stage (Some (page_state_of place)) ≡ false)
+  absent_place : (place : Place S) (fresh : Type 0) (away : CopyValue S → Type 0) → IfAbsent place fresh away → (is_resident_place place ≡ false) × (is_resident_stage (Some (page_state_of place)) ≡ false)
   absent_place Fresh fresh away h = (refl, refl)
   absent_place (Resident frame slot) fresh away h = absurd h
   absent_place (Leaving frame slot mark) fresh away h = absurd h
@@ -125,6 +126,7 @@ module _ {S : Type 0} where
       refused_residents : (fault : PageInFault) → RefusesPageIn held honest failures admission.frame old.memory.pages new.memory.pages old.memory.tables admission.key.vpn back.frame fault → (test : Key → Bool) → residents_in new test ≡ residents_in old test
       refused_residents NotAbsent how test = same_residents old new test (record { pages = how.1.0; process = same })
       refused_residents Device how test = stayed same small (record { page = how.0.page; page' = how.0.page'; found = how.0.found; changes = how.0.changes; how = how.0.how.stays }) test
+      refused_residents Damaged how test = stayed same small (record { page = how.0.page; page' = how.0.page'; found = how.0.found; changes = how.0.changes; how = how.0.how.stays }) test
       refused_residents NoMemory how test = stayed same small (record { page = how.1.0.page; page' = how.1.0.page'; found = how.1.0.found; changes = how.1.0.changes; how = how.1.0.how.stays }) test
 
     refusal_keeps : (failures : S → ℕ) (back : AdmissionValue) (fault : PageInFault) → DoesNotLoad held honest failures admission back fault old new → (pager : PagerState) → AgreeStill None pager pager old new

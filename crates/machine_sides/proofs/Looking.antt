@@ -101,8 +101,8 @@ module _ (L S : Type 0) (vpn : ℕ) (old new : ProcessSideValue S) (slots slots'
       first_gone frame NoSlot false held at is same = (drops frame NoSlot false held at refl is, same_slots)
       first_gone frame NoSlot true held at is same = (record { page = leaving frame NoSlot true at; held = held; changed = counts frame NoSlot true true at refl; slotless = refl }, same refl)
       first_gone frame (Unsaved slot) mark held at is same = saves frame (Unsaved slot) mark slot held at (always mark) is (refl, ap (λ (p : PoolValue S). p.free) same_slots) (ap (λ (p : PoolValue S). p.size) same_slots)
-      first_gone frame (Saved slot) false held at is same = (drops frame (Saved slot) false held at refl is, same_slots)
-      first_gone frame (Saved slot) true held at is same = saves frame (Saved slot) true slot held at refl is (refl, ap (λ (p : PoolValue S). p.free) same_slots) (ap (λ (p : PoolValue S). p.size) same_slots)
+      first_gone frame (Saved copy) false held at is same = (drops frame (Saved copy) false held at refl is, same_slots)
+      first_gone frame (Saved copy) true held at is same = saves frame (Saved copy) true copy.slot held at refl is (refl, ap (λ (p : PoolValue S). p.free) same_slots) (ap (λ (p : PoolValue S). p.size) same_slots)
 
       first_leaving : (frame : FrameValue) (slot : Keeping S) (mark b : Bool) → cached ≡ b → page.place ≡ Leaving frame slot mark → page'.place ≡ (collect_leaving {L = L} number vpn frame slot mark b None).0
           → (lets_go (collect_leaving {L = L} number vpn frame slot mark b None).1.1 ≡ false → new ≡ old) → Begins (collect_leaving {L = L} number vpn frame slot mark b None).1.1

@@ -69,11 +69,12 @@ module _ {S : Type 0} where
     pub slotless : page.slot ≡ keeping.NoSlot
     pub empty : slots.free ≡ []
 
-  -- where an unchanged page goes that lets its frame go: to its slot, or to what it began with
+  -- where an unchanged page goes that lets its frame go: to its slot, or to what it began with; one whose slot holds nothing for it counts as changed, and
+  -- goes nowhere
   abbrev pub dropped_to : Keeping S → Place S
   dropped_to keeping.NoSlot = Fresh
-  dropped_to (keeping.Unsaved slot) = Away slot
-  dropped_to (keeping.Saved slot) = Away slot
+  dropped_to (keeping.Unsaved slot) = Away (record { slot = slot; digest = [] })
+  dropped_to (keeping.Saved copy) = Away copy
 
   pub record GoesToBacking (frame : FrameValue) (page page' : PageValue S) : Type 0 where
     pub slot : Keeping S

@@ -8,6 +8,7 @@ use Rattle.clock_policy.specs.Residents.{residents}
 use Rattle.frame_pool.specs.FrameValue.{FrameValue}
 use Rattle.page_store.specs.declared.state.Keeping.TheVariants.{Unsaved}
 use Rattle.page_store.specs.JobValue.{SavedValue}
+use Rattle.page_store.specs.Moves.{copy_of}
 use Rattle.page_store.specs.PageValue.{PageValue, Leaving, Away, Resident}
 use Rattle.paged_memory.specs.Calls.{ChangesBy}
 use Rattle.paged_memory.specs.Counting.{is_saving_place, slots_of}
@@ -62,7 +63,7 @@ module _ {S : Type 0} where
     freed_ends freed =
         let told = freed.settles.page.1.1 in
         let small = freed.settles.page.1.0 in
-        let is : told.page'.place ≡ Away job.slot = ap (λ (p : PageValue S). p.place) told.how.is in
+        let is : told.page'.place ≡ Away (copy_of job) = ap (λ (p : PageValue S). p.place) told.how.is in
         let same : process'.space.memory.process ≡ process.space.memory.process = ap (λ (q : ProcessSideValue S). q.space.memory.process) freed.settles.stays in
         let list : pager'.pager.list ≡ pager.pager.list = ap (λ (p : PagerSideValue). p.pager.list) freed.frees.freed in
         record {

@@ -6,4 +6,4 @@ use Rattle.page_store.specs.declared.state.Keeping.TheVariants.{NoSlot, Unsaved,
 abbrev pub kept : {S : Type 0} → Keeping S → Option S
 kept NoSlot = None
 kept (Unsaved slot) = Some slot
-kept (Saved slot) = Some slot
+kept (Saved copy) = Some copy.slot

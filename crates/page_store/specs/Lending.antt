@@ -12,7 +12,7 @@ rewritten bytes Fresh = Fresh
 rewritten bytes (Resident frame slot) = Resident (record frame { bytes = bytes }) slot
 rewritten bytes (Leaving frame slot mark) = Leaving (record frame { bytes = bytes }) slot mark
 rewritten bytes (Saving frame) = Saving frame
-rewritten bytes (Away slot) = Away slot
+rewritten bytes (Away copy) = Away copy
 rewritten bytes Purged = Purged
 
 abbrev pub with_bytes : {S : Type 0} → PageValue S → List ℕ → PageValue S

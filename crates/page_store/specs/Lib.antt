@@ -1,3 +1,4 @@
+pub mod CopyValue
 pub mod PageValue
 pub mod Reading
 pub mod Kept

@@ -1,5 +1,6 @@
 -- What a page becomes by each move, and what the move gives.
 use Rattle.std.specs.Prelude.{◌≡◌, ◌≢◌, ℕ, Bool, true, false, Option, Some, None, Result, Ok, Err, IsFalse}
+use Rattle.sha2.specs.Sha256.{sha256}
 use Rattle.swap_slots.specs.Slot.{Rose}
 use Rattle.frame_pool.specs.FrameValue.{FrameValue}
 use Rattle.page_store.specs.JobValue.{JobValue, SavedValue}
@@ -7,7 +8,8 @@ use Rattle.page_store.specs.declared.refusal.ReadFault.{ReadFault}
 use Rattle.page_store.specs.declared.refusal.ReadFault.TheVariants as read_fault
 use Rattle.page_store.specs.declared.refusal.FillFault.{FillFault}
 use Rattle.page_store.specs.declared.refusal.FillFault.TheVariants as fault
-use Rattle.page_store.specs.PageValue.{PageValue, Place, Fresh, Resident, Leaving, Saving, Away, Purged}
+use Rattle.page_store.specs.CopyValue.{CopyValue}
+use Rattle.page_store.specs.PageValue.{PageValue, Place, Fresh, Resident, Leaving, Saving, Away, Purged, Matches, failures_at}
 use Rattle.page_store.specs.Kept.{kept}
 use Rattle.page_store.specs.declared.state.Keeping.{Keeping}
 use Rattle.page_store.specs.declared.state.Keeping.TheVariants as keeping
@@ -24,7 +26,7 @@ left mark Fresh = Err NotResident
 left mark (Resident frame slot) = Ok (Leaving frame slot mark)
 left mark (Leaving frame slot old) = Err AlreadyLeaving
 left mark (Saving frame) = Err AlreadyLeaving
-left mark (Away slot) = Err NotResident
+left mark (Away copy) = Err NotResident
 left mark Purged = Err NotResident
 
 -- a page that is leaving, mapped again, with the mark that it counts as changed
@@ -33,7 +35,7 @@ brought_back Fresh = None
 brought_back (Resident frame slot) = None
 brought_back (Leaving frame slot mark) = Some (Resident frame slot, mark)
 brought_back (Saving frame) = None
-brought_back (Away slot) = None
+brought_back (Away copy) = None
 brought_back Purged = None
 
 -- what an ended process's page gives back: its frame and its slot; a page that is being saved, or has neither, is left
@@ -42,7 +44,7 @@ given_back Fresh = None
 given_back (Resident frame slot) = Some (Some frame, kept slot)
 given_back (Leaving frame slot mark) = Some (Some frame, kept slot)
 given_back (Saving frame) = None
-given_back (Away slot) = Some (None, Some slot)
+given_back (Away copy) = Some (None, Some copy.slot)
 given_back Purged = None
 
 -- a page, the spare slot that is left, and the answer
@@ -64,8 +66,8 @@ module _ {L : Type 0} {S : Type 0} (process vpn : ℕ) where
   let_go frame keeping.NoSlot false spare = (Fresh, (spare, answer.Clean frame))
   let_go frame keeping.NoSlot true spare = with_spare frame true spare
   let_go frame (keeping.Unsaved slot) mark spare = (Saving frame, (spare, answer.Dirty (job_of process vpn frame slot)))
-  let_go frame (keeping.Saved slot) false spare = (Away slot, (spare, answer.Clean frame))
-  let_go frame (keeping.Saved slot) true spare = (Saving frame, (spare, answer.Dirty (job_of process vpn frame slot)))
+  let_go frame (keeping.Saved copy) false spare = (Away copy, (spare, answer.Clean frame))
+  let_go frame (keeping.Saved copy) true spare = (Saving frame, (spare, answer.Dirty (job_of process vpn frame copy.slot)))
 
   abbrev pub collect_leaving : FrameValue → Keeping S → Bool → Bool → Option S → CollectedPage L S
   collect_leaving frame slot mark true spare = (Leaving frame slot mark, (spare, answer.NotYet))
@@ -77,8 +79,12 @@ module _ {L : Type 0} {S : Type 0} (process vpn : ℕ) where
   collected cached (Resident frame slot) spare = (Resident frame slot, (spare, answer.NotLeaving))
   collected cached (Leaving frame slot mark) spare = collect_leaving frame slot mark cached spare
   collected cached (Saving frame) spare = (Saving frame, (spare, answer.NotLeaving))
-  collected cached (Away slot) spare = (Away slot, (spare, answer.NotLeaving))
+  collected cached (Away copy) spare = (Away copy, (spare, answer.NotLeaving))
   collected cached Purged spare = (Purged, (spare, answer.NotLeaving))
+
+-- the page in its slot that a save made
+abbrev pub copy_of : {S : Type 0} → SavedValue S → CopyValue S
+copy_of job = record { slot = job.slot; digest = sha256 job.copy }
 
 -- of a page that is being saved, with its frame
 abbrev pub IfSaving : {S : Type 0} → Place S → (FrameValue → Type 0) → Type 0
@@ -86,7 +92,7 @@ IfSaving Fresh P = ⊥
 IfSaving (Resident frame slot) P = ⊥
 IfSaving (Leaving frame slot mark) P = ⊥
 IfSaving (Saving frame) P = P frame
-IfSaving (Away slot) P = ⊥
+IfSaving (Away copy) P = ⊥
 IfSaving Purged P = ⊥
 
 -- why a save that comes back does not free the frame, and what the page is then
@@ -96,12 +102,12 @@ RefusesSave job old new Mismatch = IfSaving old (λ frame. (frame.bytes ≢ job.
 RefusesSave job old new Device = IfSaving old (λ frame. (frame.bytes ≡ job.copy) × (IsFalse job.passed) × (new ≡ Leaving frame (keeping.Unsaved job.slot) true))
 
 -- of a page that is not in memory, where `fresh` says what holds of one that is as it began, and `away` of one in its slot
-abbrev pub IfAbsent : {S : Type 0} → Place S → Type 0 → (S → Type 0) → Type 0
+abbrev pub IfAbsent : {S : Type 0} → Place S → Type 0 → (CopyValue S → Type 0) → Type 0
 IfAbsent Fresh fresh away = fresh
 IfAbsent (Resident frame slot) fresh away = ⊥
 IfAbsent (Leaving frame slot mark) fresh away = ⊥
 IfAbsent (Saving frame) fresh away = ⊥
-IfAbsent (Away slot) fresh away = away slot
+IfAbsent (Away copy) fresh away = away copy
 IfAbsent Purged fresh away = ⊥
 
 -- of a resident page, with its frame and what it keeps
@@ -110,23 +116,23 @@ IfResident Fresh P = ⊥
 IfResident (Resident frame slot) P = P frame slot
 IfResident (Leaving frame slot mark) P = ⊥
 IfResident (Saving frame) P = ⊥
-IfResident (Away slot) P = ⊥
+IfResident (Away copy) P = ⊥
 IfResident Purged P = ⊥
 
 -- of a page in its slot
-abbrev pub IfAway : {S : Type 0} → Place S → (S → Type 0) → Type 0
+abbrev pub IfAway : {S : Type 0} → Place S → (CopyValue S → Type 0) → Type 0
 IfAway Fresh P = ⊥
 IfAway (Resident frame slot) P = ⊥
 IfAway (Leaving frame slot mark) P = ⊥
 IfAway (Saving frame) P = ⊥
-IfAway (Away slot) P = P slot
+IfAway (Away copy) P = P copy
 IfAway Purged P = ⊥
 
 -- of what a page keeps, where it is a slot that it was loaded from
-abbrev pub IfSaved : {S : Type 0} → Keeping S → (S → Type 0) → Type 0
+abbrev pub IfSaved : {S : Type 0} → Keeping S → (CopyValue S → Type 0) → Type 0
 IfSaved keeping.NoSlot P = ⊥
 IfSaved (keeping.Unsaved slot) P = ⊥
-IfSaved (keeping.Saved slot) P = P slot
+IfSaved (keeping.Saved copy) P = P copy
 
 -- a page that was brought into a frame: one that was as it began keeps no slot, one that was away the slot that it was loaded from
 abbrev pub Filled : {S : Type 0} → FrameValue → PageValue S → PageValue S → Type 0
@@ -134,13 +140,15 @@ Filled frame old new =
     IfResident new.place (λ filled slot. (filled.number ≡ frame.number) × IfAbsent old.place ((filled.bytes ≡ old.origin.bytes) × (slot ≡ keeping.NoSlot)) (λ _. IfSaved slot (λ _. Unit {0})))
 
 -- why a page was not brought in, with the frame that is handed back
-abbrev pub RefusesFill : {S : Type 0} → (S → ℕ) → FrameValue → Place S → Place S → FrameValue → FillFault → Type 0
-RefusesFill failures frame old new back fault.NotAbsent =
+abbrev pub RefusesFill : {S : Type 0} → Type 0 → (S → ℕ) → FrameValue → Place S → Place S → FrameValue → FillFault → Type 0
+RefusesFill honest failures frame old new back fault.NotAbsent =
     (¬ IfAbsent old (Unit {0}) (λ _. Unit {0})) × (new ≡ old) × (back ≡ frame)
-RefusesFill failures frame old new back fault.Device =
-    (back.number ≡ frame.number) × IfAway old (λ slot. IfAway new (λ after. Rose (failures slot) (failures after)))
+RefusesFill honest failures frame old new back fault.Device =
+    (back.number ≡ frame.number) × IfAway old (λ copy. IfAway new (λ after. Rose (failures copy.slot) (failures after.slot)))
+RefusesFill honest failures frame old new back fault.Damaged =
+    (¬ honest) × ((¬ Matches old back.bytes) × ((back.number ≡ frame.number) × (IfAway old (λ _. IfAway new (λ _. Unit {0})) × (failures_at failures new ≡ failures_at failures old))))
 
 -- why a byte of a page is not read
 abbrev pub RefusesRead : {S : Type 0} → (S → ℕ) → Place S → Place S → ReadFault → Type 0
 RefusesRead failures old new read_fault.Purged = (old ≡ Purged) × (new ≡ old)
-RefusesRead failures old new read_fault.Device = IfAway old (λ slot. IfAway new (λ after. Rose (failures slot) (failures after)))
+RefusesRead failures old new read_fault.Device = IfAway old (λ copy. IfAway new (λ after. Rose (failures copy.slot) (failures after.slot)))

@@ -1,10 +1,12 @@
 -- One page of a process: its state, what it shows, and its backing.
 use Rattle.std.specs.Prelude.{◌≡◌, ℕ, Bool, true, false, ◌||◌, List, [], Option, Some, None, option_map, IsFalse}
+use Rattle.sha2.specs.Sha256.{sha256}
 use Rattle.page_memory.specs.Memory.{Page}
 use Rattle.frame_pool.specs.FrameValue.{FrameValue}
 use Rattle.page_store.specs.declared.state.Keeping.{Keeping}
 use Rattle.page_store.specs.declared.state.Keeping.TheVariants.{NoSlot, Unsaved, Saved}
 use Rattle.page_store.specs.Kept.{kept}
+use Rattle.page_store.specs.CopyValue.{CopyValue}
 use Rattle.page_store.specs.declared.state.PageState.{PageState}
 use Rattle.page_store.specs.declared.state.PageState.TheVariants as stage
 
@@ -15,7 +17,7 @@ pub data Place (S : Type 0) : Type 0 where
   Resident : FrameValue → Keeping S → Place S
   Leaving : FrameValue → Keeping S → Bool → Place S
   Saving : FrameValue → Place S
-  Away : S → Place S
+  Away : CopyValue S → Place S
   Purged : Place S
 
 -- a page: what it began with (its rights and bytes), and where it is
@@ -28,7 +30,7 @@ page_state_of Fresh = stage.Fresh
 page_state_of (Resident frame slot) = stage.Resident
 page_state_of (Leaving frame slot mark) = stage.Leaving
 page_state_of (Saving frame) = stage.Saving
-page_state_of (Away slot) = stage.Away
+page_state_of (Away copy) = stage.Away
 page_state_of Purged = stage.Purged
 
 -- the frame that a page holds
@@ -37,7 +39,7 @@ frame_of Fresh = None
 frame_of (Resident frame slot) = Some frame
 frame_of (Leaving frame slot mark) = Some frame
 frame_of (Saving frame) = Some frame
-frame_of (Away slot) = None
+frame_of (Away copy) = None
 frame_of Purged = None
 
 -- the frame whose bytes may be written: of a page that is mapped, or that caches may hold still
@@ -46,7 +48,7 @@ writable Fresh = None
 writable (Resident frame slot) = Some frame
 writable (Leaving frame slot mark) = Some frame
 writable (Saving frame) = None
-writable (Away slot) = None
+writable (Away copy) = None
 writable Purged = None
 
 -- the slot that a page has at hand
@@ -55,12 +57,31 @@ slot_of Fresh = NoSlot
 slot_of (Resident frame slot) = slot
 slot_of (Leaving frame slot mark) = slot
 slot_of (Saving frame) = NoSlot
-slot_of (Away slot) = Saved slot
+slot_of (Away copy) = Saved copy
 slot_of Purged = NoSlot
+
+-- the page in a slot, where one was saved there
+abbrev pub copy_in : {S : Type 0} → Keeping S → Option (CopyValue S)
+copy_in NoSlot = None
+copy_in (Unsaved slot) = None
+copy_in (Saved copy) = Some copy
 
 -- how many failures of its device the slot that a page has at hand tells of
 abbrev pub failures_at : {S : Type 0} → (S → ℕ) → Place S → Option ℕ
 failures_at failures place = option_map failures (kept (slot_of place))
+
+-- the digest that a page keeps of what was saved in its slot
+abbrev pub kept_digest : {S : Type 0} → Place S → Option (List ℕ)
+kept_digest place = option_map (λ copy. copy.digest) (copy_in (slot_of place))
+
+-- bytes have the digest that a page in its slot keeps
+abbrev pub Matches : {S : Type 0} → Place S → List ℕ → Type 0
+Matches Fresh bytes = Unit {0}
+Matches (Resident frame slot) bytes = Unit {0}
+Matches (Leaving frame slot mark) bytes = Unit {0}
+Matches (Saving frame) bytes = Unit {0}
+Matches (Away copy) bytes = sha256 bytes ≡ copy.digest
+Matches Purged bytes = Unit {0}
 
 -- the bytes that a page shows, where its slot holds those of `held`
 abbrev pub shown : {S : Type 0} → (S → List ℕ) → List ℕ → Place S → List ℕ
@@ -68,7 +89,7 @@ shown held origin Fresh = origin
 shown held origin (Resident frame slot) = frame.bytes
 shown held origin (Leaving frame slot mark) = frame.bytes
 shown held origin (Saving frame) = frame.bytes
-shown held origin (Away slot) = held slot
+shown held origin (Away copy) = held copy.slot
 shown held origin Purged = []
 
 abbrev pub content : {S : Type 0} → (S → List ℕ) → PageValue S → List ℕ
@@ -78,7 +99,7 @@ content held page = shown held page.origin.bytes page.place
 abbrev pub backed : {S : Type 0} → (S → List ℕ) → List ℕ → Keeping S → List ℕ
 backed held origin NoSlot = origin
 backed held origin (Unsaved slot) = origin
-backed held origin (Saved slot) = held slot
+backed held origin (Saved copy) = held copy.slot
 
 -- the backing of a page: the bytes that it would show if it lost its frame now
 abbrev pub backing_at : {S : Type 0} → (S → List ℕ) → List ℕ → Place S → List ℕ
@@ -86,14 +107,14 @@ backing_at held origin Fresh = origin
 backing_at held origin (Resident frame slot) = backed held origin slot
 backing_at held origin (Leaving frame slot mark) = backed held origin slot
 backing_at held origin (Saving frame) = origin
-backing_at held origin (Away slot) = held slot
+backing_at held origin (Away copy) = held copy.slot
 backing_at held origin Purged = []
 
 -- a slot that holds nothing for its page yet
 abbrev pub is_unsaved : {S : Type 0} → Keeping S → Bool
 is_unsaved NoSlot = false
 is_unsaved (Unsaved slot) = true
-is_unsaved (Saved slot) = false
+is_unsaved (Saved copy) = false
 
 -- whether a page counts as changed: by the dirty bit of its table entry while it is resident, by the mark that it took
 -- along while it leaves, and always while it is saved or has a slot that holds nothing for it yet
@@ -102,7 +123,7 @@ changed dirty Fresh = false
 changed dirty (Resident frame slot) = dirty || is_unsaved slot
 changed dirty (Leaving frame slot mark) = mark || is_unsaved slot
 changed dirty (Saving frame) = true
-changed dirty (Away slot) = false
+changed dirty (Away copy) = false
 changed dirty Purged = false
 
 -- that the bytes of a page are known: those in a slot are if slots are honest
@@ -111,7 +132,7 @@ Known honest Fresh = Unit {0}
 Known honest (Resident frame slot) = Unit {0}
 Known honest (Leaving frame slot mark) = Unit {0}
 Known honest (Saving frame) = Unit {0}
-Known honest (Away slot) = honest
+Known honest (Away copy) = honest
 Known honest Purged = Unit {0}
 
 -- a page that does not count as changed equals its backing

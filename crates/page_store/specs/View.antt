@@ -15,5 +15,5 @@ place_in_state state.Fresh = Fresh
 place_in_state (state.Resident frame slot) = Resident frame slot
 place_in_state (state.Leaving frame slot mark) = Leaving frame slot mark
 place_in_state (state.Saving frame) = Saving frame
-place_in_state (state.Away slot) = Away slot
+place_in_state (state.Away copy) = Away copy
 place_in_state state.Purged = Purged

@@ -1,6 +1,9 @@
-ghost use Rattle.std.specs.Prelude.{◌≡◌, ◌≤◌, ◌↔◌, IsTrue, IsFalse};
+ghost use Rattle.std.specs.Prelude.{◌≡◌, ◌≤◌, ◌↔◌, IsTrue, IsFalse, IfOk, IfErr, OnOk};
+ghost use Rattle.sha2.specs.Sha256.{sha256};
 ghost use Rattle.swap_slots.specs.Slot.{Rose};
+ghost use Rattle.page_store.specs.Moves.{copy_of};
 
+use crate::page_copy::{PageCopy, digest_of};
 use clock_policy::Key;
 use std::marker::Model;
 use swap_slots::SwapSlot;
@@ -59,7 +62,7 @@ impl<S: SwapSlot> SaveJob<S> {
         }
     }
 
-    /// Writes the copy to the slot. Takes no memory, and waits for nothing but the device.
+    /// Writes the copy to the slot, and takes its digest. Takes no memory, and waits for nothing but the device.
     pub fn run(self) -> SavedJob<S>
         ensures process { result.process ≡ self.process }
         ensures vpn { result.vpn ≡ self.vpn }
@@ -75,11 +78,13 @@ impl<S: SwapSlot> SaveJob<S> {
             copy,
             mut slot,
         } = self;
+        let digest = digest_of(&copy);
         let passed = slot.save(&copy).is_ok();
         SavedJob {
             process,
             vpn,
             copy,
+            digest,
             slot,
             passed,
         }
@@ -92,19 +97,21 @@ pub struct SavedJob<S: SwapSlot> {
     process: u32,
     vpn: u32,
     copy: [u8; 4096],
+    digest: [u8; 32],
     slot: S,
     passed: bool,
 }
 
 impl<S: SwapSlot> Model for SavedJob<S> {
     ghost use Rattle.std.specs.Prelude.{◌≡◌, IsTrue};
+    ghost use Rattle.sha2.specs.Sha256.{sha256};
     ghost use Rattle.page_store.specs.JobValue.{SavedValue};
 
     ghost Value = { SavedValue S };
 
     ghost view = { λ j. record { process = j.process; vpn = j.vpn; copy = j.copy; slot = j.slot; passed = j.passed } };
 
-    ghost invariant = { λ j. S.honest → IsTrue j.passed → S.content j.slot ≡ j.copy };
+    ghost invariant = { λ j. (j.digest ≡ sha256 j.copy) × (S.honest → IsTrue j.passed → S.content j.slot ≡ j.copy) };
 }
 
 impl<S: SwapSlot> SavedJob<S> {
@@ -139,19 +146,38 @@ impl<S: SwapSlot> SavedJob<S> {
         *bytes == self.copy
     }
 
-    /// The slot, and whether it holds the copy.
-    pub(crate) fn into_slot(self) -> (S, bool)
-        ensures slot { result.0 ≡ self.slot }
-        ensures passed { result.1 ≡ self.passed }
-        ensures saved { S.honest → IsTrue self.passed → S.content self.slot ≡ self.copy }
+    /// The page in its slot, where the device passed it, else the slot.
+    pub(crate) fn into_copy(self) -> Result<PageCopy<S>, S>
+        ensures passed { IfOk result (λ copy. (copy ≡ copy_of self) × IsTrue self.passed) }
+        ensures failed { IfErr result (λ slot. (slot ≡ self.slot) × IsFalse self.passed) }
+        ensures saved { S.honest → OnOk result (S.content self.slot ≡ self.copy) }
     {
         let SavedJob {
             process: _,
             vpn: _,
             copy: _,
+            digest,
             slot,
             passed,
         } = self;
-        (slot, passed)
+        if !passed {
+            return Err(slot);
+        }
+        Ok(PageCopy::new(slot, digest))
+    }
+
+    /// The slot, whatever it holds.
+    pub(crate) fn into_slot(self) -> S
+        ensures { result ≡ self.slot }
+    {
+        let SavedJob {
+            process: _,
+            vpn: _,
+            copy: _,
+            digest: _,
+            slot,
+            passed: _,
+        } = self;
+        slot
     }
 }

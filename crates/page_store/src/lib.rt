@@ -7,6 +7,7 @@
 mod answer;
 mod job;
 mod page;
+mod page_copy;
 mod reading;
 mod refusal;
 mod state;
@@ -14,6 +15,7 @@ mod state;
 pub use answer::{Collected, SaveRefusal};
 pub use job::{SaveJob, SavedJob};
 pub use page::StoredPage;
+pub use page_copy::PageCopy;
 pub use refusal::{FillFault, LeaveRefusal, NotLeaving, ReadFault};
 pub use state::{Keeping, PageState};
 

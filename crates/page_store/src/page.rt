@@ -1,6 +1,6 @@
 ghost use Rattle.std.specs.Prelude.{◌≡◌, ◌≢◌, ◌+◌, ◌≤◌, ◌↔◌, length, ℕ, List, Ok, Err, Some, None, OnOk, OnErr, IfOk, IfErr, IsErr, IsTrue, false, OnSome, IfNone, option_copied, option_map};
-ghost use Rattle.page_store.specs.Moves.{left, brought_back, given_back, collected, collect_leaving, job_of, RefusesSave, Filled, RefusesFill, RefusesRead, IfAway};
-ghost use Rattle.page_store.specs.PageValue.{Leaving, Saving, Away, Purged, Backed, BackedAt, shown, Known, content, page_state_of, frame_of, writable, failures_at};
+ghost use Rattle.page_store.specs.Moves.{left, brought_back, given_back, collected, collect_leaving, job_of, copy_of, RefusesSave, Filled, RefusesFill, RefusesRead, IfAway};
+ghost use Rattle.page_store.specs.PageValue.{Leaving, Saving, Away, Purged, Backed, BackedAt, shown, Known, content, page_state_of, frame_of, writable, failures_at, kept_digest, Matches};
 ghost use Rattle.page_store.specs.Reading.{some_from};
 ghost use Rattle.page_store.specs.View.{place_in_state};
 
@@ -102,11 +102,14 @@ impl<L: Ledger, S: SwapSlot> StoredPage<L, S> {
         self.state.bytes_mut()
     }
 
-    /// Brings the page into a frame, from its slot or as it began. A refusal hands the frame back and leaves the page.
+    /// Brings the page into a frame, from its slot or as it began. From its slot it comes only with the digest of what was
+    /// saved. A refusal hands the frame back and leaves the page.
     pub fn fill(&mut self, mut frame: Frame<L>) -> Result<(), (Frame<L>, FillFault)>
         ensures filled { OnOk result (Filled frame self.old self.new) }
+        ensures whole { OnOk result (Matches self.old.place (content S.content self.new)) }
+        ensures digest { kept_digest self.new.place ≡ kept_digest self.old.place }
         ensures passed { OnOk result (failures_at S.failures self.new.place ≡ failures_at S.failures self.old.place) }
-        ensures refused { IfErr result (λ back. RefusesFill S.failures frame self.old.place self.new.place back.0 back.1) }
+        ensures refused { IfErr result (λ back. RefusesFill S.honest S.failures frame self.old.place self.new.place back.0 back.1) }
         ensures content { Known S.honest self.old.place → content S.content self.new ≡ content S.content self.old }
         ensures backed { Known S.honest self.old.place → OnOk result (Backed S.content false self.new) }
         ensures origin { self.new.origin ≡ self.old.origin }
@@ -117,12 +120,12 @@ impl<L: Ledger, S: SwapSlot> StoredPage<L, S> {
                 self.state = State::Resident(frame, Keeping::NoSlot);
                 Ok(())
             }
-            State::Away(mut slot) => {
-                if slot.load(frame.bytes_mut()).is_err() {
-                    self.state = State::Away(slot);
-                    return Err((frame, FillFault::Device));
+            State::Away(mut copy) => {
+                if let Err(fault) = copy.load_whole(frame.bytes_mut()) {
+                    self.state = State::Away(copy);
+                    return Err((frame, fault));
                 }
-                self.state = State::Resident(frame, Keeping::Saved(slot));
+                self.state = State::Resident(frame, Keeping::Saved(copy));
                 Ok(())
             }
             other => {
@@ -216,25 +219,28 @@ impl<L: Ledger, S: SwapSlot> StoredPage<L, S> {
 
     /// Ends the save of the page, where the frame holds what was saved.
     pub fn saved(&mut self, job: SavedJob<S>) -> Result<Frame<L>, SaveRefusal<S>>
-        ensures freed { IfOk result (λ frame. (self.old.place ≡ Saving frame) × (self.new.place ≡ Away job.slot) × (frame.bytes ≡ job.copy) × IsTrue job.passed) }
+        ensures freed { IfOk result (λ frame. (self.old.place ≡ Saving frame) × (self.new.place ≡ Away (copy_of job)) × (frame.bytes ≡ job.copy) × IsTrue job.passed) }
         ensures refused { IfErr result (RefusesSave job self.old.place self.new.place) }
         ensures content { S.honest → content S.content self.new ≡ content S.content self.old }
         ensures origin { self.new.origin ≡ self.old.origin }
     {
         match mem::replace(&mut self.state, State::Purged) {
             State::Saving(frame) => {
-                let same = job.is_copy(frame.bytes());
-                let (slot, passed) = job.into_slot();
-                if !same {
-                    self.state = State::Leaving(frame, Keeping::Unsaved(slot), true);
+                if !job.is_copy(frame.bytes()) {
+                    let slot = Keeping::Unsaved(job.into_slot());
+                    self.state = State::Leaving(frame, slot, true);
                     return Err(SaveRefusal::Mismatch);
                 }
-                if !passed {
-                    self.state = State::Leaving(frame, Keeping::Unsaved(slot), true);
-                    return Err(SaveRefusal::Device);
+                match job.into_copy() {
+                    Ok(copy) => {
+                        self.state = State::Away(copy);
+                        Ok(frame)
+                    }
+                    Err(slot) => {
+                        self.state = State::Leaving(frame, Keeping::Unsaved(slot), true);
+                        Err(SaveRefusal::Device)
+                    }
                 }
-                self.state = State::Away(slot);
-                Ok(frame)
             }
             other => {
                 self.state = other;
@@ -252,15 +258,16 @@ impl<L: Ledger, S: SwapSlot> StoredPage<L, S> {
         ensures mapped { OnOk result (self.old.place ≢ Purged) }
         ensures refused { IfErr result (RefusesRead S.failures self.old.place self.new.place) }
         ensures state { page_state_of self.new.place ≡ page_state_of self.old.place }
+        ensures digest { kept_digest self.new.place ≡ kept_digest self.old.place }
         ensures at_hand { (¬ IfAway self.old.place (λ _. Unit {0})) → self.new ≡ self.old }
         ensures content { Known S.honest self.old.place → content S.content self.new ≡ content S.content self.old }
         ensures origin { self.new.origin ≡ self.old.origin }
     {
-        let State::Away(slot) = &mut self.state else {
+        let State::Away(copy) = &mut self.state else {
             return self.read_at_hand(offset, bytes);
         };
         let mut page = [0; 4096];
-        if slot.load(&mut page).is_err() {
+        if copy.load(&mut page).is_err() {
             return Err(ReadFault::Device);
         }
         read_bytes(&page, offset, bytes);
@@ -297,7 +304,7 @@ impl<L: Ledger, S: SwapSlot> StoredPage<L, S> {
         match mem::replace(&mut self.state, State::Purged) {
             State::Resident(frame, slot) => Some((Some(frame), slot.into_slot())),
             State::Leaving(frame, slot, _) => Some((Some(frame), slot.into_slot())),
-            State::Away(slot) => Some((None, Some(slot))),
+            State::Away(copy) => Some((None, Some(copy.into_slot()))),
             other => {
                 self.state = other;
                 None
@@ -335,11 +342,11 @@ fn collect_leaving<L: Ledger, S: SwapSlot>(
             }
         }
         Keeping::Unsaved(slot) => start_saving(process, vpn, frame, slot),
-        Keeping::Saved(slot) => {
+        Keeping::Saved(copy) => {
             if changed {
-                start_saving(process, vpn, frame, slot)
+                start_saving(process, vpn, frame, copy.into_slot())
             } else {
-                (State::Away(slot), Collected::Clean(frame))
+                (State::Away(copy), Collected::Clean(frame))
             }
         }
     }

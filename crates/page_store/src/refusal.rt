@@ -7,6 +7,9 @@ pub enum FillFault {
     NotAbsent,
     #[error("the device failed")]
     Device,
+    /// What was loaded has another digest than what was saved.
+    #[error("the page is damaged")]
+    Damaged,
 }
 
 /// Why a page does not begin to leave its frame, in the order in which the reasons are tested.

@@ -1,10 +1,12 @@
 ghost use Rattle.std.specs.Prelude.{◌≡◌, length};
 ghost use Rattle.frame_pool.specs.FrameValue.{zero_bytes};
 
+use crate::page_copy::PageCopy;
 use crate::reading::{read_bytes, read_zeros};
 use frame_pool::Frame;
 use page_memory::{Page, Rights};
 use std::sync::ledger::Ledger;
+use swap_slots::SwapSlot;
 
 /// Where a page is.
 #[derive(Clone, Copy, PartialEq, Eq, Debug)]
@@ -25,16 +27,16 @@ pub enum PageState {
 
 /// The slot that a page with a frame keeps.
 #[derive(Drop)]
-pub enum Keeping<S> {
+pub enum Keeping<S: SwapSlot> {
     /// It has none.
     NoSlot,
     /// It has one that holds nothing for it: its last save failed, or was in vain.
     Unsaved(S),
     /// It has one that holds the bytes which were last saved.
-    Saved(S),
+    Saved(PageCopy<S>),
 }
 
-impl<S> Keeping<S> {
+impl<S: SwapSlot> Keeping<S> {
     ghost use Rattle.std.specs.Prelude.{◌≡◌};
     ghost use Rattle.page_store.specs.Kept.{kept};
 
@@ -44,7 +46,8 @@ impl<S> Keeping<S> {
     {
         match self {
             Keeping::NoSlot => None,
-            Keeping::Unsaved(slot) | Keeping::Saved(slot) => Some(slot),
+            Keeping::Unsaved(slot) => Some(slot),
+            Keeping::Saved(copy) => Some(copy.into_slot()),
         }
     }
 }
@@ -111,17 +114,17 @@ fn write_page(to: &mut [u8; 4096], from: &[u8])
 
 /// Where a page is, with its frame and its slot.
 #[derive(Drop)]
-pub(crate) enum State<L: Ledger, S> {
+pub(crate) enum State<L: Ledger, S: SwapSlot> {
     Fresh,
     Resident(Frame<L>, Keeping<S>),
     /// With the mark whether it counts as changed.
     Leaving(Frame<L>, Keeping<S>, bool),
     Saving(Frame<L>),
-    Away(S),
+    Away(PageCopy<S>),
     Purged,
 }
 
-impl<L: Ledger, S> State<L, S> {
+impl<L: Ledger, S: SwapSlot> State<L, S> {
     ghost use Rattle.std.specs.Prelude.{◌≡◌};
     ghost use Rattle.std.specs.Borrow.{sem};
     ghost use Rattle.std.specs.Option.{option_copied_mut};
@@ -130,7 +133,7 @@ impl<L: Ledger, S> State<L, S> {
     /// Lends the bytes of the page's frame to be written, where the page has one and is not being saved.
     #[inline]
     pub(crate) fn bytes_mut(&mut self) -> Option<&mut [u8; 4096]>
-        ensures* writes_back { sem 𝓛 (LendsState L.row S.row L.Ledger self.entry result) }
+        ensures* writes_back { sem 𝓛 (LendsState L.row S.row L.Ledger S.SwapSlot self.entry result) }
         ensures bytes { option_copied_mut result ≡ lent_frame self.old }
     {
         match self {

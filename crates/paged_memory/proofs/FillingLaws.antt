@@ -6,6 +6,7 @@ use Rattle.page_memory.specs.Entries.{place_of, value_at, with_value}
 use Rattle.page_store.specs.declared.state.Keeping.{Keeping}
 use Rattle.page_store.specs.declared.state.Keeping.TheVariants.{NoSlot}
 use Rattle.page_memory.specs.Memory.{Page}
+use Rattle.page_store.specs.CopyValue.{CopyValue}
 use Rattle.page_store.specs.PageValue.{BackedAt, PageValue, Place, Fresh, Resident, Leaving, Saving, Away, Purged, frame_of, content, Backed}
 use Rattle.page_store.specs.Moves.{Filled, IfAbsent, IfResident, IfAway, IfSaved}
 use Rattle.page_memory.specs.declared.words.Access.TheVariants.{Load, Store}
@@ -18,9 +19,9 @@ use Rattle.paged_memory.specs.Seen.{Elsewhere, entry_standing, rights_seen}
 use Rattle.paged_memory.specs.Soundness.{IsMapped}
 use Rattle.paged_memory.specs.Paged.{standing_of, seen_of, page_at, flat_page, memory_of, Holds}
 use Rattle.paged_memory.specs.Calls.{ChangesBy}
-use Rattle.paged_memory.specs.Filling.{BroughtIn, StaysAbsent, FailsToLoad, StaysUnmapped, RefusesAbsent, RefusesPageIn}
+use Rattle.paged_memory.specs.Filling.{BroughtIn, StaysAbsent, FailsToLoad, ComesDamaged, StaysUnmapped, RefusesAbsent, RefusesPageIn}
 use Rattle.paged_memory.specs.declared.filling.PageInFault.{PageInFault}
-use Rattle.paged_memory.specs.declared.filling.PageInFault.TheVariants.{NotAbsent, Device, NoMemory}
+use Rattle.paged_memory.specs.declared.filling.PageInFault.TheVariants.{NotAbsent, Device, Damaged, NoMemory}
 use Rattle.paged_memory.proofs.PagedLaws.{Change, changed_by, Holds-unheld, memory_stays}
 use Rattle.paged_memory.proofs.CallLaws.{mapped_resident}
 use Rattle.paged_memory.proofs.MovesLaws.{holds_moved, unheld_page}
@@ -45,7 +46,7 @@ module _ {S : Type 0} where
     pub is : page'.place ≡ Resident filled slot
     pub number : filled.number ≡ frame.number
 
-  absent_elsewhere : (place : Place S) (fresh : Type 0) (away : S → Type 0) → IfAbsent place fresh away → standing_of place ≡ Elsewhere
+  absent_elsewhere : (place : Place S) (fresh : Type 0) (away : CopyValue S → Type 0) → IfAbsent place fresh away → standing_of place ≡ Elsewhere
   absent_elsewhere Fresh fresh away how = refl
   absent_elsewhere (Resident frame slot) fresh away how = absurd how
   absent_elsewhere (Leaving frame slot mark) fresh away how = absurd how
@@ -83,6 +84,7 @@ module _ {S : Type 0} (held : S → List ℕ) (honest : Type 0) where
         by_fault : (fault : PageInFault) → RefusesAbsent held honest failures frame (has_table tables number) page page' back.0 fault → RefusesPageIn held honest failures frame pages (with_value pages place page') tables number back.0 fault
         by_fault NotAbsent how = absurd how
         by_fault Device how = (changed_by pages number place page page' at is how.0, how.1)
+        by_fault Damaged how = (changed_by pages number place page page' at is how.0, how.1)
         by_fault NoMemory how = (how.0, (changed_by pages number place page page' at is how.1.0, how.1.1))
 
   -- ---- a page that stays absent
@@ -164,7 +166,10 @@ module _ {S : Type 0} (held : S → List ℕ) (honest : Type 0) where
   pub failed_stays : {failures : S → ℕ} {pages pages' : List (ℕ × PageValue S)} {number : ℕ} → ChangesBy (FailsToLoad held honest failures) pages pages' number → ChangesBy (StaysAbsent held honest) pages pages' number
   failed_stays told = record { page = told.page; page' = told.page'; found = told.found; changes = told.changes; how = told.how.stays }
 
-  pub unmapped_stays : {failures : S → ℕ} {pages pages' : List (ℕ × PageValue S)} {number : ℕ} → ChangesBy (StaysUnmapped held honest failures) pages pages' number → ChangesBy (StaysAbsent held honest) pages pages' number
+  pub damaged_stays : {failures : S → ℕ} {back : FrameValue} {pages pages' : List (ℕ × PageValue S)} {number : ℕ} → ChangesBy (ComesDamaged held honest failures back) pages pages' number → ChangesBy (StaysAbsent held honest) pages pages' number
+  damaged_stays told = record { page = told.page; page' = told.page'; found = told.found; changes = told.changes; how = told.how.stays }
+
+  pub unmapped_stays : {failures : S → ℕ} {back : FrameValue} {pages pages' : List (ℕ × PageValue S)} {number : ℕ} → ChangesBy (StaysUnmapped held honest failures back) pages pages' number → ChangesBy (StaysAbsent held honest) pages pages' number
   unmapped_stays told = record { page = told.page; page' = told.page'; found = told.found; changes = told.changes; how = told.how.stays }
 
   pub memory_absent : {pages pages' : List (ℕ × PageValue S)} {number : ℕ} → ChangesBy (StaysAbsent held honest) pages pages' number → honest → memory_of held pages' ≡ memory_of held pages
@@ -181,6 +186,7 @@ module _ {S : Type 0} (held : S → List ℕ) (honest : Type 0) where
         by_fault : (fault : PageInFault) → RefusesPageIn held honest failures frame pages pages' tables number back.0 fault → Holds held honest pages' tables' caches
         by_fault NotAbsent how = rw (unmapped, how.1.0) holds
         by_fault Device how = rw unmapped (holds_absent number small holds (failed_stays how.0))
+        by_fault Damaged how = rw unmapped (holds_absent number small holds (damaged_stays how.0))
         by_fault NoMemory how = rw unmapped (holds_absent number small holds (unmapped_stays how.1.0))
 
     -- and the memory shows what it showed, where slots are honest
@@ -192,4 +198,5 @@ module _ {S : Type 0} (held : S → List ℕ) (honest : Type 0) where
         by_fault : (fault : PageInFault) → RefusesPageIn held honest failures frame pages pages' tables number back.0 fault → memory_of held pages' ≡ memory_of held pages
         by_fault NotAbsent how = ap (memory_of held) how.1.0
         by_fault Device how = memory_absent (failed_stays how.0) is_honest
+        by_fault Damaged how = memory_absent (damaged_stays how.0) is_honest
         by_fault NoMemory how = memory_absent (unmapped_stays how.1.0) is_honest

@@ -6,7 +6,7 @@ use Rattle.page_memory.specs.Words.{page_number, page_offset}
 use Rattle.page_memory.specs.Entries.{place_of, value_at, with_value}
 use Rattle.page_memory.specs.StandsForLaws.{get-map_by-place}
 use Rattle.page_store.specs.declared.refusal.ReadFault.TheVariants as read
-use Rattle.page_store.specs.PageValue.{PageValue, Place, Fresh, Resident, Leaving, Saving, Away, Purged, content, page_state_of, Known}
+use Rattle.page_store.specs.PageValue.{PageValue, Place, Fresh, Resident, Leaving, Saving, Away, Purged, content, page_state_of, Known, kept_digest}
 use Rattle.page_store.specs.Moves.{IfAbsent, IfAway, RefusesRead}
 use Rattle.page_store.specs.Reading.{some_from}
 use Rattle.swap_slots.specs.Slot.{Rose}
@@ -45,9 +45,9 @@ module _ {S : Type 0} (held : S → List ℕ) (honest : Type 0) where
     away_still (Away slot) state away (Away after) at = tt
     away_still (Away slot) state away Purged at = let clash = ap page_state_of at in cc
 
-    pub page_left : page_state_of page'.place ≡ page_state_of page.place → ((¬ IfAway page.place (λ _. Unit {0})) → page' ≡ page) → page'.origin ≡ page.origin → (Known honest page.place → content held page' ≡ content held page)
+    pub page_left : page_state_of page'.place ≡ page_state_of page.place → ((¬ IfAway page.place (λ _. Unit {0})) → page' ≡ page) → page'.origin ≡ page.origin → (Known honest page.place → content held page' ≡ content held page) → kept_digest page'.place ≡ kept_digest page.place
         → LeavesPage held honest pages (with_value pages place page') number (page_at pages number)
-    page_left state at_hand origin kept = subst (LeavesPage held honest pages (with_value pages place page') number) (sym (page_at-place pages number place page at is)) (by_place page.place refl)
+    page_left state at_hand origin kept digest = subst (LeavesPage held honest pages (with_value pages place page') number) (sym (page_at-place pages number place page at is)) (by_place page.place refl)
       where
         by_place : (was : Place S) → page.place ≡ was → LeavesPlace held honest pages (with_value pages place page') number was
         by_place Fresh here = pages_same (at_hand (λ away. subst (λ p. IfAway p (λ _. Unit {0})) here away))
@@ -61,14 +61,15 @@ module _ {S : Type 0} (held : S → List ℕ) (honest : Type 0) where
               origin = origin;
               place = subst (λ p. IfAbsent p (page'.place ≡ Fresh) (λ _. IfAway page'.place (λ _. Unit {0}))) (sym here) (away_still (Away slot) (state ∙ ap page_state_of here) tt page'.place refl);
               content = λ is_honest. kept (subst (Known honest) (sym here) is_honest);
+              digest = digest;
             })
 
-    pub page_failed : (failures : S → ℕ) → RefusesRead failures page.place page'.place read.Device → page'.origin ≡ page.origin → (Known honest page.place → content held page' ≡ content held page)
+    pub page_failed : (failures : S → ℕ) → RefusesRead failures page.place page'.place read.Device → page'.origin ≡ page.origin → (Known honest page.place → content held page' ≡ content held page) → kept_digest page'.place ≡ kept_digest page.place
         → ChangesBy (FailsToLoad held honest failures) pages (with_value pages place page') number
-    page_failed failures failed origin kept =
-        changed_by pages number place page page' at is (record { stays = record { origin = origin; place = stays page.place failed; content = λ is_honest. kept (known page.place failed is_honest) }; failed = failed })
+    page_failed failures failed origin kept digest =
+        changed_by pages number place page page' at is (record { stays = record { origin = origin; place = stays page.place failed; content = λ is_honest. kept (known page.place failed is_honest); digest = digest }; failed = failed })
       where
-        weaker : (failures' : ℕ) (new : Place S) → IfAway new (λ after. Rose failures' (failures after)) → IfAway new (λ _. Unit {0})
+        weaker : (failures' : ℕ) (new : Place S) → IfAway new (λ after. Rose failures' (failures after.slot)) → IfAway new (λ _. Unit {0})
         weaker failures' Fresh how = absurd how
         weaker failures' (Resident frame slot) how = absurd how
         weaker failures' (Leaving frame slot mark) how = absurd how
@@ -81,7 +82,7 @@ module _ {S : Type 0} (held : S → List ℕ) (honest : Type 0) where
         stays (Resident frame slot) how = absurd how
         stays (Leaving frame slot mark) how = absurd how
         stays (Saving frame) how = absurd how
-        stays (Away slot) how = weaker (failures slot) page'.place how
+        stays (Away copy) how = weaker (failures copy.slot) page'.place how
         stays Purged how = absurd how
 
         known : (was : Place S) → RefusesRead failures was page'.place read.Device → honest → Known honest was

@@ -8,7 +8,7 @@ use Rattle.page_store.specs.JobValue.{SavedValue}
 use Rattle.page_store.specs.declared.state.Keeping.TheVariants.{Unsaved}
 use Rattle.page_store.specs.declared.answer.SaveRefusal.{SaveRefusal}
 use Rattle.page_store.specs.declared.answer.SaveRefusal.TheVariants.{WrongPage, Mismatch, Device}
-use Rattle.page_store.specs.Moves.{IfSaving, RefusesSave}
+use Rattle.page_store.specs.Moves.{IfSaving, RefusesSave, copy_of}
 use Rattle.page_store.specs.PageValue.{PageValue, Place, Fresh, Resident, Leaving, Saving, Away, Purged, frame_of, content, BackedAt}
 use Rattle.tlb_core.specs.declared.translation.Translation.{Translation}
 use Rattle.paged_memory.specs.Leaving.{IsSaving, IsOut, ChangesSaved, Frees, RefusesSaved}
@@ -28,7 +28,7 @@ module _ {S : Type 0} where
 
     -- what a page's answer to a save says of all pages
     pub freed_there : (result : Result FrameValue (SaveRefusal S)) → job.process ≡ process → job.vpn < 2 ^ 20
-        → IfOk result (λ frame. (page.place ≡ Saving frame) × (page'.place ≡ Away job.slot) × (frame.bytes ≡ job.copy) × IsTrue job.passed)
+        → IfOk result (λ frame. (page.place ≡ Saving frame) × (page'.place ≡ Away (copy_of job)) × (frame.bytes ≡ job.copy) × IsTrue job.passed)
         → IfOk result (λ frame. ChangesSaved process job (Frees job frame) pages (with_value pages place page'))
     freed_there (Err refusal) its small freed = freed
     freed_there (Ok frame) its small freed = (
@@ -91,7 +91,7 @@ module _ {S : Type 0} where
     pub holds_saved : (result : Result FrameValue (SaveRefusal S)) → IfOk result (λ frame. ChangesSaved process job (Frees job frame) pages pages') → IfErr result (RefusesSaved process job pages pages') → Holds held honest pages' tables caches
     holds_saved (Ok frame) ok err =
         let told = ok.1.1 in
-        moves job.vpn ok.1.0 told frame (Away job.slot) told.how.was (ap (λ (p : PageValue S). p.place) told.how.is) (ap (λ (p : PageValue S). p.origin) told.how.is) (λ r a d. refl) (λ h. refl)
+        moves job.vpn ok.1.0 told frame (Away (copy_of job)) told.how.was (ap (λ (p : PageValue S). p.place) told.how.is) (ap (λ (p : PageValue S). p.origin) told.how.is) (λ r a d. refl) (λ h. refl)
     holds_saved (Err (WrongPage back)) ok err = subst (λ p. Holds held honest p tables caches) (sym err.1.0) holds
     holds_saved (Err Mismatch) ok err =
         let told = err.1.1 in

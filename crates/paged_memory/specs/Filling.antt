@@ -2,15 +2,23 @@
 use Rattle.std.specs.Prelude.{◌≡◌, ℕ, Bool, false, IsFalse, Option, Some, None, List}
 use Rattle.frame_pool.specs.FrameValue.{FrameValue}
 use Rattle.swap_slots.specs.Slot.{Rose}
-use Rattle.page_store.specs.PageValue.{PageValue, Place, Fresh, Away, content, is_unsaved, Backed, failures_at}
+use Rattle.page_store.specs.PageValue.{PageValue, Place, Fresh, Away, content, is_unsaved, Backed, failures_at, kept_digest, Matches}
 use Rattle.page_store.specs.Moves.{Filled, IfAbsent, IfAway, IfResident}
 use Rattle.page_store.specs.declared.state.Keeping.{Keeping}
 use Rattle.page_store.specs.declared.state.Keeping.TheVariants.{NoSlot, Unsaved, Saved}
+use Rattle.page_store.specs.declared.refusal.FillFault.{FillFault}
+use Rattle.page_store.specs.declared.refusal.FillFault.TheVariants as fill
 use Rattle.sv32_table.specs.EntryAt.{has_table}
 use Rattle.paged_memory.specs.Paged.{page_at}
 use Rattle.paged_memory.specs.Calls.{ChangesBy}
 use Rattle.paged_memory.specs.declared.filling.PageInFault.{PageInFault}
-use Rattle.paged_memory.specs.declared.filling.PageInFault.TheVariants.{NotAbsent, Device, NoMemory}
+use Rattle.paged_memory.specs.declared.filling.PageInFault.TheVariants.{NotAbsent, Device, Damaged, NoMemory}
+
+-- the same reason, of a page among its process's
+abbrev pub fault_of : FillFault → PageInFault
+fault_of fill.NotAbsent = NotAbsent
+fault_of fill.Device = Device
+fault_of fill.Damaged = Damaged
 
 module _ {S : Type 0} where
   -- a page is mapped, and has neither a frame nor was given up
@@ -26,13 +34,16 @@ module _ {S : Type 0} where
   abbrev pub dropped : Keeping S → Option (Place S)
   dropped NoSlot = Some Fresh
   dropped (Unsaved slot) = None
-  dropped (Saved slot) = Some (Away slot)
+  dropped (Saved copy) = Some (Away copy)
 
   module _ (held : S → List ℕ) (honest : Type 0) where
-    -- a page in the frame that it was brought into: where slots are honest it shows what it showed, and what backs it
+    -- a page in the frame that it was brought into, from its slot with the digest that was kept: where slots are honest it shows what it showed, and what
+    -- backs it
     pub record BroughtIn (frame : FrameValue) (old new : PageValue S) : Type 0 where
       pub filled : Filled frame old new
       pub origin : new.origin ≡ old.origin
+      pub whole : Matches old.place (content held new)
+      pub digest : kept_digest new.place ≡ kept_digest old.place
       pub content : honest → content held new ≡ content held old
       pub backed : honest → Backed held false new
 
@@ -41,26 +52,37 @@ module _ {S : Type 0} where
       pub origin : new.origin ≡ old.origin
       pub place : IfAbsent old.place (new.place ≡ Fresh) (λ _. IfAway new.place (λ _. Unit {0}))
       pub content : honest → content held new ≡ content held old
+      pub digest : kept_digest new.place ≡ kept_digest old.place
 
     -- a page that was not loaded from its slot
     pub record FailsToLoad (failures : S → ℕ) (old new : PageValue S) : Type 0 where
       pub stays : StaysAbsent old new
-      pub failed : IfAway old.place (λ slot. IfAway new.place (λ after. Rose (failures slot) (failures after)))
+      pub failed : IfAway old.place (λ copy. IfAway new.place (λ after. Rose (failures copy.slot) (failures after.slot)))
 
-    -- a page that was not mapped: its frame was taken back, and no failure of its device was counted
-    pub record StaysUnmapped (failures : S → ℕ) (old new : PageValue S) : Type 0 where
+    -- a page that was loaded with another digest than the kept one, as only a slot that lies gives it
+    pub record ComesDamaged (failures : S → ℕ) (back : FrameValue) (old new : PageValue S) : Type 0 where
       pub stays : StaysAbsent old new
       pub passed : failures_at failures new.place ≡ failures_at failures old.place
+      pub differs : ¬ Matches old.place back.bytes
+      pub lies : ¬ honest
+
+    -- a page that was not mapped: its frame was taken back, and no failure of its device was counted
+    pub record StaysUnmapped (failures : S → ℕ) (back : FrameValue) (old new : PageValue S) : Type 0 where
+      pub stays : StaysAbsent old new
+      pub passed : failures_at failures new.place ≡ failures_at failures old.place
+      pub whole : Matches old.place back.bytes
 
     -- why an absent page was not brought in, where `tabled` says whether it has a table, with the frame that is handed back
     abbrev pub RefusesAbsent : (S → ℕ) → FrameValue → Bool → PageValue S → PageValue S → FrameValue → PageInFault → Type 0
     RefusesAbsent failures frame tabled old new back NotAbsent = ⊥
     RefusesAbsent failures frame tabled old new back Device = FailsToLoad failures old new × (back.number ≡ frame.number)
-    RefusesAbsent failures frame tabled old new back NoMemory = (tabled ≡ false) × (StaysUnmapped failures old new × (back.number ≡ frame.number))
+    RefusesAbsent failures frame tabled old new back Damaged = ComesDamaged failures back old new × (back.number ≡ frame.number)
+    RefusesAbsent failures frame tabled old new back NoMemory = (tabled ≡ false) × (StaysUnmapped failures back old new × (back.number ≡ frame.number))
 
     -- why a page was not brought in, with the frame that is handed back
     abbrev pub RefusesPageIn : (S → ℕ) → FrameValue → List (ℕ × PageValue S) → List (ℕ × PageValue S) → List (List ℕ) → ℕ → FrameValue → PageInFault → Type 0
     RefusesPageIn failures frame old new tables vpn back NotAbsent = (¬ IsAbsent (page_at old vpn)) × ((new ≡ old) × (back ≡ frame))
     RefusesPageIn failures frame old new tables vpn back Device = ChangesBy (FailsToLoad failures) old new vpn × (back.number ≡ frame.number)
+    RefusesPageIn failures frame old new tables vpn back Damaged = ChangesBy (ComesDamaged failures back) old new vpn × (back.number ≡ frame.number)
     RefusesPageIn failures frame old new tables vpn back NoMemory =
-        (has_table tables vpn ≡ false) × (ChangesBy (StaysUnmapped failures) old new vpn × (back.number ≡ frame.number))
+        (has_table tables vpn ≡ false) × (ChangesBy (StaysUnmapped failures back) old new vpn × (back.number ≡ frame.number))

@@ -8,7 +8,7 @@ use Rattle.page_store.specs.declared.answer.Collected.{Collected}
 use Rattle.page_store.specs.declared.answer.Collected.TheVariants.{NotLeaving, NotYet, Clean, Dirty, NoSlot}
 use Rattle.page_store.specs.declared.answer.SaveRefusal.{SaveRefusal}
 use Rattle.page_store.specs.declared.answer.SaveRefusal.TheVariants.{WrongPage, Mismatch, Device}
-use Rattle.page_store.specs.Moves.{collected, IfSaving, RefusesSave}
+use Rattle.page_store.specs.Moves.{collected, copy_of, IfSaving, RefusesSave}
 use Rattle.page_store.specs.PageValue.{PageValue, Place, Saving, Away}
 use Rattle.page_store.specs.PageValue as place
 use Rattle.sv32_table.specs.Entry.{page_entry}
@@ -51,7 +51,7 @@ module _ {S : Type 0} where
   -- a page that was saved goes to its slot, and lets this frame go, which holds what was saved
   pub record Frees (job : SavedValue S) (frame : FrameValue) (page page' : PageValue S) : Type 0 where
     pub was : page.place ≡ Saving frame
-    pub is : page' ≡ record page { place = Away job.slot }
+    pub is : page' ≡ record page { place = Away (copy_of job) }
     pub same : frame.bytes ≡ job.copy
     pub passed : IsTrue job.passed
 

@@ -4,21 +4,21 @@ ghost use Rattle.sv32_table.specs.Entry.{page_entry};
 ghost use Rattle.sv32_table.specs.EntryAt.{has_table, ChangesEntry, AddsTable};
 ghost use Rattle.paged_memory.specs.Paged.{page_at, memory_of};
 ghost use Rattle.paged_memory.specs.Calls.{ChangesBy};
-ghost use Rattle.page_store.specs.PageValue.{content, Backed};
+ghost use Rattle.page_store.specs.PageValue.{content, Backed, kept_digest};
 ghost use Rattle.page_store.specs.Moves.{IfResident};
-ghost use Rattle.paged_memory.specs.Filling.{IsAbsent, IsUnchanged, dropped, BroughtIn, RefusesAbsent, RefusesPageIn};
+ghost use Rattle.paged_memory.specs.Filling.{IsAbsent, IsUnchanged, dropped, fault_of, BroughtIn, RefusesAbsent, RefusesPageIn};
 
 use crate::eviction::state_in;
 use crate::memory::PagedMemory;
 use frame_pool::Frame;
 use page_memory::PageMap;
-use page_store::{Collected, PageState, StoredPage};
+use page_store::{Collected, FillFault, PageState, StoredPage};
 use std::sync::ledger::Ledger;
 use sv32_table::PageTables;
 use swap_slots::SwapSlot;
 use thiserror::Error;
 
-/// Why a page was not brought in, in the order of their numbers.
+/// Why a page was not brought in, in the order in which the reasons are tested.
 #[derive(Clone, Copy, PartialEq, Eq, Debug, Error)]
 pub enum PageInFault {
     /// It is not mapped, has a frame, or was given up.
@@ -26,13 +26,17 @@ pub enum PageInFault {
     NotAbsent,
     #[error("the device failed")]
     Device,
+    /// What was loaded has another digest than what was saved.
+    #[error("the page is damaged")]
+    Damaged,
     /// There is no memory for the page's table.
     #[error("out of memory")]
     NoMemory,
 }
 
 impl<L: Ledger, S: SwapSlot> PagedMemory<L, S> {
-    /// Brings a page into a frame, from its slot or as it began, and maps it with its rights, as used and not changed.
+    /// Brings a page into a frame, from its slot or as it began, and maps it with its rights, as used and not changed. From
+    /// its slot it comes only with the digest of what was saved.
     ///
     /// A refusal hands the frame back and leaves the page where it was. It takes memory, and can be refused for want of
     /// it, only where the page has no table yet.
@@ -102,8 +106,8 @@ fn bring_page_in<L: Ledger, S: SwapSlot>(
     ensures unmapped { OnErr result (tables.new ≡ tables.old) }
 {
     let number = frame.number();
-    if let Err((frame, _)) = page.fill(frame) {
-        return Err((frame, PageInFault::Device));
+    if let Err((frame, fault)) = page.fill(frame) {
+        return Err((frame, fault_of(fault)));
     }
     match tables.map(vpn, number, page.rights(), true) {
         Ok(()) => Ok(()),
@@ -111,10 +115,22 @@ fn bring_page_in<L: Ledger, S: SwapSlot>(
     }
 }
 
+/// The same reason, of a page among its process's.
+fn fault_of(fault: FillFault) -> PageInFault
+    ensures { result ≡ fault_of fault }
+{
+    match fault {
+        FillFault::NotAbsent => PageInFault::NotAbsent,
+        FillFault::Device => PageInFault::Device,
+        FillFault::Damaged => PageInFault::Damaged,
+    }
+}
+
 /// Takes the frame back from a page that was just brought into it.
 fn unfill<L: Ledger, S: SwapSlot>(page: &mut StoredPage<L, S>) -> Frame<L>
     requires { IsUnchanged page.old }
     ensures place { IfResident page.old.place (λ frame slot. (result ≡ frame) × (Some page.new.place ≡ dropped slot)) }
+    ensures digest { kept_digest page.new.place ≡ kept_digest page.old.place }
     ensures content { Backed S.content false page.old → content S.content page.new ≡ content S.content page.old }
     ensures origin { page.new.origin ≡ page.old.origin }
 {

@@ -9,6 +9,7 @@ use Rattle.std.specs.FinMap.{get}
 use Rattle.frame_pool.specs.FrameValue.{FrameValue}
 use Rattle.page_memory.specs.Memory.{Page}
 use Rattle.page_memory.specs.Words.{page_number, page_offset}
+use Rattle.page_store.specs.CopyValue.{CopyValue}
 use Rattle.page_store.specs.PageValue.{PageValue, Place, content, Known}
 use Rattle.page_store.specs.PageValue as place
 use Rattle.page_store.specs.Moves.{Filled, IfAbsent}
@@ -20,7 +21,7 @@ use Rattle.paged_memory.specs.Filling.{BroughtIn, RefusesPageIn}
 use Rattle.paged_memory.specs.GivingBack.{GivesOne}
 use Rattle.paged_memory.specs.Peeking.{bytes_of, ShowsBytes, LeavesPage, LeavesPlace}
 use Rattle.paged_memory.specs.declared.filling.PageInFault.{PageInFault}
-use Rattle.paged_memory.specs.declared.filling.PageInFault.TheVariants.{NotAbsent, Device, NoMemory}
+use Rattle.paged_memory.specs.declared.filling.PageInFault.TheVariants.{NotAbsent, Device, Damaged, NoMemory}
 use Rattle.flat_machine.specs.declared.end.End.{End}
 use Rattle.flat_machine.specs.Process.{Process, flat_run, opening}
 use Rattle.flat_machine.specs.Schedule.{written_out}
@@ -51,7 +52,7 @@ module _ {S : Type 0} where
         | inr other ↦ ap is_purged (sym (told.changes.pages number ∙ ap (λ b. cond b (Some told.page') (page_at old number)) other.0)) ∙ whole
       ]
 
-  absent_whole : (p : Place S) (fresh : Type 0) (away : S → Type 0) → IfAbsent p fresh away → is_purged_place p ≡ false
+  absent_whole : (p : Place S) (fresh : Type 0) (away : CopyValue S → Type 0) → IfAbsent p fresh away → is_purged_place p ≡ false
   absent_whole place.Fresh fresh away h = refl
   absent_whole (place.Resident frame slot) fresh away h = refl
   absent_whole (place.Leaving frame slot mark) fresh away h = refl
@@ -86,6 +87,7 @@ module _ {S : Type 0} where
           by_fault : (fault : PageInFault) → RefusesPageIn held honest failures frame old new tables vpn back.0 fault → StaysPurged old new
           by_fault NotAbsent how = same_purged old new how.1.0
           by_fault Device how = whole_purged old new vpn how.0 (absent_whole how.0.page.place _ _ how.0.how.stays.place)
+          by_fault Damaged how = whole_purged old new vpn how.0 (absent_whole how.0.page.place _ _ how.0.how.stays.place)
           by_fault NoMemory how = whole_purged old new vpn how.1.0 (absent_whole how.1.0.page.place _ _ how.1.0.how.stays.place)
 
     pub space_paged_in : {U : Type 0} (failures : S → ℕ) (frame : FrameValue) (vpn : ℕ) (old : SpaceValue S) (memory : PagedValue S) (result : Result U (FrameValue × PageInFault)) → memory.caches ≡ old.memory.caches

@@ -21,7 +21,7 @@ returns-in-Ok-clause-bytes g c =
 pub returns-in-Ok-clause-left : goal.returns-in-Ok-clause-left
 returns-in-Ok-clause-left g c =
     let at : place_of c.args.vpn c.args.pages.now ≡ Some c.in-Some.place = sym c.place.ensures.place ∙ c.in-Some.is in
-    page_left g.S.SwapSlot.content g.S.SwapSlot.honest c.args.pages.now c.args.vpn c.in-Some.place c.at_mut.result.now c.read.new.self at c.at_mut.ensures.value c.read.ensures.state c.read.ensures.at_hand c.read.ensures.origin c.read.ensures.content
+    page_left g.S.SwapSlot.content g.S.SwapSlot.honest c.args.pages.now c.args.vpn c.in-Some.place c.at_mut.result.now c.read.new.self at c.at_mut.ensures.value c.read.ensures.state c.read.ensures.at_hand c.read.ensures.origin c.read.ensures.content c.read.ensures.digest
 
 pub returns-in-Err-Purged-clause-refused : goal.returns-in-Err-Purged-clause-refused
 returns-in-Err-Purged-clause-refused g c =
@@ -32,14 +32,14 @@ returns-in-Err-Purged-clause-refused g c =
 pub returns-in-Err-Purged-clause-left : goal.returns-in-Err-Purged-clause-left
 returns-in-Err-Purged-clause-left g c =
     let at : place_of c.args.vpn c.args.pages.now ≡ Some c.in-Some.place = sym c.place.ensures.place ∙ c.in-Some.is in
-    page_left g.S.SwapSlot.content g.S.SwapSlot.honest c.args.pages.now c.args.vpn c.in-Some.place c.at_mut.result.now c.read.new.self at c.at_mut.ensures.value c.read.ensures.state c.read.ensures.at_hand c.read.ensures.origin c.read.ensures.content
+    page_left g.S.SwapSlot.content g.S.SwapSlot.honest c.args.pages.now c.args.vpn c.in-Some.place c.at_mut.result.now c.read.new.self at c.at_mut.ensures.value c.read.ensures.state c.read.ensures.at_hand c.read.ensures.origin c.read.ensures.content c.read.ensures.digest
 
 pub returns-in-Err-Device-clause-refused : goal.returns-in-Err-Device-clause-refused
 returns-in-Err-Device-clause-refused g c =
     let at : place_of c.args.vpn c.args.pages.now ≡ Some c.in-Some.place = sym c.place.ensures.place ∙ c.in-Some.is in
-    page_failed g.S.SwapSlot.content g.S.SwapSlot.honest c.args.pages.now c.args.vpn c.in-Some.place c.at_mut.result.now c.read.new.self at c.at_mut.ensures.value g.S.SwapSlot.failures (rw c.in-Err-Device.field-0-is at c.in-Err-Device.ensures.refused) c.read.ensures.origin c.read.ensures.content
+    page_failed g.S.SwapSlot.content g.S.SwapSlot.honest c.args.pages.now c.args.vpn c.in-Some.place c.at_mut.result.now c.read.new.self at c.at_mut.ensures.value g.S.SwapSlot.failures (rw c.in-Err-Device.field-0-is at c.in-Err-Device.ensures.refused) c.read.ensures.origin c.read.ensures.content c.read.ensures.digest
 
 pub returns-in-Err-Device-clause-left : goal.returns-in-Err-Device-clause-left
 returns-in-Err-Device-clause-left g c =
     let at : place_of c.args.vpn c.args.pages.now ≡ Some c.in-Some.place = sym c.place.ensures.place ∙ c.in-Some.is in
-    page_left g.S.SwapSlot.content g.S.SwapSlot.honest c.args.pages.now c.args.vpn c.in-Some.place c.at_mut.result.now c.read.new.self at c.at_mut.ensures.value c.read.ensures.state c.read.ensures.at_hand c.read.ensures.origin c.read.ensures.content
+    page_left g.S.SwapSlot.content g.S.SwapSlot.honest c.args.pages.now c.args.vpn c.in-Some.place c.at_mut.result.now c.read.new.self at c.at_mut.ensures.value c.read.ensures.state c.read.ensures.at_hand c.read.ensures.origin c.read.ensures.content c.read.ensures.digest

@@ -4,7 +4,7 @@ use Rattle.std.specs.Fmt.{decimal}
 use Rattle.clock_policy.specs.Text.{key_text}
 use Rattle.machine_core.specs.RefusalNumber.{refusal_number}
 use Rattle.machine_core.specs.declared.event.Reply.{Reply}
-use Rattle.machine_core.specs.declared.event.Reply.TheVariants.{Ran, Yielded, HartDone, Ended, Absent, ScheduleFull, Noticed, Asked, Victim, NotYet, Freed, Dirty, NoSlot, Device, Mapped, Killed, Purged, Refused}
+use Rattle.machine_core.specs.declared.event.Reply.TheVariants.{Ran, Yielded, HartDone, Ended, Absent, ScheduleFull, Noticed, Asked, Victim, NotYet, Freed, Dirty, NoSlot, Device, Damaged, Mapped, Killed, Purged, Refused}
 
 abbrev pub reply_text : Reply → List ℕ
 reply_text Ran = codes "ran"
@@ -21,6 +21,7 @@ reply_text Freed = codes "freed"
 reply_text Dirty = codes "dirty"
 reply_text NoSlot = codes "no slot"
 reply_text Device = codes "device"
+reply_text Damaged = codes "damaged"
 reply_text Mapped = codes "mapped"
 reply_text Killed = codes "killed"
 reply_text Purged = codes "purged"

@@ -28,6 +28,7 @@ impl fmt::Display for ReplyLine {
             Reply::Dirty => f.write_str("dirty"),
             Reply::NoSlot => f.write_str("no slot"),
             Reply::Device => f.write_str("device"),
+            Reply::Damaged => f.write_str("damaged"),
             Reply::Mapped => f.write_str("mapped"),
             Reply::Killed => f.write_str("killed"),
             Reply::Purged => f.write_str("purged"),

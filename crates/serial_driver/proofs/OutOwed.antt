@@ -32,7 +32,7 @@ use Rattle.machine_core.specs.MachineRun.{of_process}
 use Rattle.machine_core.specs.SavingOut.{saved_refusal, saving_reason}
 use Rattle.machine_core.specs.TotalLaws.{total_at}
 use Rattle.serial_driver.specs.Limit.{DoesSave, PlaysUpTo, SavesNone}
-use Rattle.serial_driver.specs.Owing.{Duty, Pays, ArePaid, collect_owes, duty_after, duty_with, is_device, is_dirty, is_full, is_going_on, is_out_of_memory, load_owes, most_load_faults, next_owed, no_duty, owed_save, save_owes, step_owes, stop_owes}
+use Rattle.serial_driver.specs.Owing.{Duty, Pays, ArePaid, collect_owes, duty_after, duty_with, is_damaged, is_device, is_dirty, is_full, is_going_on, is_out_of_memory, load_owes, most_load_faults, next_owed, no_duty, owed_save, save_owes, step_owes, stop_owes}
 
 -- ---- what is owed but a save
 
@@ -59,12 +59,13 @@ no_save_saved : (process : ℕ) (answer : Reply) → owed_save (save_owes proces
 no_save_saved process answer = one_kill (is_out_of_memory answer) process cause.NoMemory
 
 no_save_loaded : (faults process : ℕ) (answer : Reply) → owed_save (load_owes faults process answer) ≡ None
-no_save_loaded faults process answer = by_tests (is_device answer) (nat_le most_load_faults (faults + 1))
+no_save_loaded faults process answer = by_tests (is_device answer) (nat_le most_load_faults (faults + 1)) (is_damaged answer)
   where
-    by_tests : (a b : Bool) → owed_save (if a then (if b then Some (Kill process cause.LoadFailed) else None) else save_owes process answer) ≡ None
-    by_tests true true = refl
-    by_tests true false = refl
-    by_tests false b = no_save_saved process answer
+    by_tests : (a b c : Bool) → owed_save (if a then (if b then Some (Kill process cause.LoadFailed) else None) else (if c then Some (Kill process cause.Damaged) else save_owes process answer)) ≡ None
+    by_tests true true c = refl
+    by_tests true false c = refl
+    by_tests false b true = refl
+    by_tests false b false = no_save_saved process answer
 
 no_save_collected : (key : Key) (answer : Reply) → is_dirty answer ≡ false → owed_save (collect_owes key answer) ≡ None
 no_save_collected key answer clean = by_test (is_dirty answer) clean

@@ -58,6 +58,10 @@ abbrev pub is_device : Reply → Bool
 is_device reply.Device = true
 is_device _ = false
 
+abbrev pub is_damaged : Reply → Bool
+is_damaged reply.Damaged = true
+is_damaged _ = false
+
 abbrev pub is_mapped : Reply → Bool
 is_mapped reply.Mapped = true
 is_mapped _ = false
@@ -82,10 +86,11 @@ save_owes process answer = if is_out_of_memory answer then Some (Kill process ca
 abbrev pub collect_owes : Key → Reply → Option Event
 collect_owes key answer = if is_dirty answer then Some (Saved key) else save_owes key.process answer
 
--- after the last of so many load faults in a row the process is ended
+-- after the last of so many load faults in a row the process is ended, and at once where its page is damaged
 abbrev pub load_owes : ℕ → ℕ → Reply → Option Event
 load_owes faults process answer =
-    if is_device answer then (if nat_le most_load_faults (faults + 1) then Some (Kill process cause.LoadFailed) else None) else save_owes process answer
+    if is_device answer then (if nat_le most_load_faults (faults + 1) then Some (Kill process cause.LoadFailed) else None)
+    else (if is_damaged answer then Some (Kill process cause.Damaged) else save_owes process answer)
 
 abbrev pub load_faults : Reply → ℕ → ℕ
 load_faults answer faults = if is_device answer then min (faults + 1) most_load_faults else (if is_mapped answer then 0 else faults)

@@ -23,6 +23,7 @@ has_failed reply.Freed = false
 has_failed reply.Dirty = false
 has_failed reply.NoSlot = true
 has_failed reply.Device = true
+has_failed reply.Damaged = false
 has_failed reply.Mapped = false
 has_failed reply.Killed = false
 has_failed reply.Purged = false

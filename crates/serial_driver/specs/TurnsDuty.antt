@@ -15,6 +15,7 @@ use Rattle.serial_driver.specs.Turning.{Phase, Begins, Runs, Rests, Waits, Turn}
 -- the cause that is recorded of a failure
 abbrev pub cause_of : Failure → KillCause
 cause_of failure.LoadFailed = cause.LoadFailed
+cause_of failure.Damaged = cause.Damaged
 cause_of failure.ScheduleFull = cause.ScheduleFull
 cause_of failure.NoMemory = cause.NoMemory
 

@@ -11,6 +11,8 @@ use flat_machine::KillCause;
 pub(crate) enum Failure {
     /// A saved page could not be loaded.
     LoadFailed,
+    /// What was loaded of a saved page is not what was saved.
+    Damaged,
     /// Its schedule takes no more.
     ScheduleFull,
     /// Memory was refused.
@@ -25,6 +27,7 @@ impl Failure {
     {
         match self {
             Failure::LoadFailed => KillCause::LoadFailed,
+            Failure::Damaged => KillCause::Damaged,
             Failure::ScheduleFull => KillCause::ScheduleFull,
             Failure::NoMemory => KillCause::NoMemory,
         }

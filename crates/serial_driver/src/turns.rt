@@ -356,6 +356,7 @@ impl Turns {
                 self.stage = Stage::Run;
             }
             Reply::Device => self.after_load_fault(process),
+            Reply::Damaged => self.kill(process, Failure::Damaged),
             other => self.after_save(process, other),
         }
     }

@@ -15,8 +15,6 @@ mod scanning;
 mod source_line;
 mod span;
 mod statement;
-#[cfg(test)]
-mod tests;
 mod token;
 mod tokens;
 

@@ -19,8 +19,6 @@ mod section;
 mod shapes;
 mod statement;
 mod statements;
-#[cfg(test)]
-mod tests;
 mod text;
 
 pub use laws::{escapes_stand_for_their_bytes, loaded_word, pseudo_instructions_are_instructions};

@@ -15,8 +15,6 @@ mod listing;
 mod program;
 mod second_pass;
 mod sections;
-#[cfg(test)]
-mod tests;
 mod word;
 
 pub use asm_lines::{

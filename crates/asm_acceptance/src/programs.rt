@@ -1,19 +1,12 @@
-//! A whole source, and the first fault of some.
+//! Whole programs: the first fault of some, how large their sections may be, and what one of both sections is.
 
-use super::*;
+use crate::told::first_fault;
+use rv_asm::assemble;
 use std::test::Fail;
-
-/// The line and the number of a source's first fault.
-fn first_fault(rt: &HostRuntime, source: &str) -> Option<(usize, u8)> {
-    match assemble(rt.alloc(), source) {
-        Err(AsmError::Fault { line, kind }) => Some((line, kind.number())),
-        _ => None,
-    }
-}
 
 #[test]
 fn sources_have_a_first_fault(rt: HostRuntime) {
-    let table = [
+    for (source, fault) in [
         ("nop $", (1, 1)),
         ("foo t0", (1, 2)),
         ("addi t0, t0", (1, 3)),
@@ -28,39 +21,43 @@ fn sources_have_a_first_fault(rt: HostRuntime) {
         ("beqz a0, far\n.data\nfar: .byte 1", (1, 4)),
         ("nop\nla a0, away", (2, 6)),
         ("nop\n.data\n.word away", (3, 6)),
-    ];
-    for (source, fault) in table {
-        assert_eq!(rt; first_fault(&rt, source), Some(fault), "{source}");
+    ] {
+        assert_eq!(rt; first_fault(rt.alloc(), source), Some(fault), "{source}");
     }
 }
 
-/// A section that is one item too long, and a jump over one that is full.
+/// A jump over a section that is full, and one item more.
 #[test]
-fn sections_have_a_greatest_size(rt: HostRuntime) -> Result<(), Fail> {
+fn data_have_a_greatest_size(rt: HostRuntime) -> Result<(), Fail> {
     let mut full = String::from_str(rt.alloc(), "j far\n.data\n")?;
     for _ in 0..16 {
         full.push_str(".space 65536\n")?;
     }
-    assert_eq!(rt; first_fault(&rt, full.as_str()), Some((1, 6)));
+    assert_eq!(rt; first_fault(rt.alloc(), full.as_str()), Some((1, 6)));
     full.push_str("far:\n")?;
-    assert_eq!(rt; first_fault(&rt, full.as_str()), Some((1, 4)));
+    assert_eq!(rt; first_fault(rt.alloc(), full.as_str()), Some((1, 4)));
     full.push_str(".byte 1\n")?;
-    assert_eq!(rt; first_fault(&rt, full.as_str()), Some((20, 7)));
+    assert_eq!(rt; first_fault(rt.alloc(), full.as_str()), Some((20, 7)));
+    Ok(())
+}
 
+#[test]
+fn text_has_a_greatest_size(rt: HostRuntime) -> Result<(), Fail> {
     let mut text = String::new(rt.alloc());
     for _ in 0..65_537 {
         text.push_str("nop\n")?;
     }
-    assert_eq!(rt; first_fault(&rt, text.as_str()), Some((65_537, 7)));
+    assert_eq!(rt; first_fault(rt.alloc(), text.as_str()), Some((65_537, 7)));
     Ok(())
 }
 
-/// A program with both sections: `la` of a label of the data, and a branch back.
+/// `la` of a label of the data, and a branch back.
+const BOTH: &str =
+    "nop\n_start: la a0, here\nbeqz a0, _start\n.word here\n.data\n.byte 1\nhere: .half 2\n";
+
 #[test]
-fn program_has_both_sections(rt: HostRuntime) -> Result<(), Fail> {
-    let source =
-        "nop\n_start: la a0, here\nbeqz a0, _start\n.word here\n.data\n.byte 1\nhere: .half 2\n";
-    let listing = assemble(rt.alloc(), source).ok().ok_or("no listing")?;
+fn a_program_has_both_sections(rt: HostRuntime) -> Result<(), Fail> {
+    let listing = assemble(rt.alloc(), BOTH)?;
     let words = [
         0x0000_0013,
         0x0001_1537,
@@ -70,7 +67,7 @@ fn program_has_both_sections(rt: HostRuntime) -> Result<(), Fail> {
     ];
     assert_eq!(rt; listing.words(), words.as_slice());
     assert_eq!(rt; listing.instructions().len(), 5);
-    assert_eq!(rt; listing.instructions()[4], None);
+    assert!(rt; matches!(listing.instructions().last(), Some(None)));
     assert_eq!(rt; listing.data_bytes(), 3);
     assert_eq!(rt; listing.image().entry(), 0x0001_0004);
     assert_eq!(rt; listing.image().pages().len(), 2);

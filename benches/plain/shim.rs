@@ -607,3 +607,74 @@ pub mod slab {
         }
     }
 }
+
+/// SHA-256 (FIPS 180-4), as short as it goes.
+pub mod sha2 {
+    pub trait Digest {
+        fn digest(data: &[u8]) -> [u8; 32];
+    }
+
+    pub struct Sha256;
+
+    /// The first 32 bits of the fractional parts of the `root`-th roots of the first primes.
+    fn constants<const N: usize>(root: f64) -> [u32; N] {
+        let mut found = [0; N];
+        let mut number = 1u64;
+        for constant in &mut found {
+            number += 1;
+            while (2..number).any(|it| number % it == 0) {
+                number += 1;
+            }
+            *constant = ((number as f64).powf(1.0 / root).fract() * 4_294_967_296.0) as u32;
+        }
+        found
+    }
+
+    fn compress(state: &mut [u32; 8], block: &[u8], constants: &[u32; 64]) {
+        let mut words = [0u32; 64];
+        for (word, bytes) in words.iter_mut().zip(block.chunks_exact(4)) {
+            *word = u32::from_be_bytes(bytes.try_into().unwrap());
+        }
+        for i in 16..64 {
+            let (near, far) = (words[i - 2], words[i - 15]);
+            words[i] = (near.rotate_right(17) ^ near.rotate_right(19) ^ (near >> 10))
+                .wrapping_add(words[i - 7])
+                .wrapping_add(far.rotate_right(7) ^ far.rotate_right(18) ^ (far >> 3))
+                .wrapping_add(words[i - 16]);
+        }
+        let [mut a, mut b, mut c, mut d, mut e, mut f, mut g, mut h] = *state;
+        for i in 0..64 {
+            let first = h
+                .wrapping_add(e.rotate_right(6) ^ e.rotate_right(11) ^ e.rotate_right(25))
+                .wrapping_add((e & f) ^ (!e & g))
+                .wrapping_add(constants[i])
+                .wrapping_add(words[i]);
+            let second = (a.rotate_right(2) ^ a.rotate_right(13) ^ a.rotate_right(22))
+                .wrapping_add((a & b) ^ (a & c) ^ (b & c));
+            (h, g, f, e, d, c, b, a) = (g, f, e, d.wrapping_add(first), c, b, a, first.wrapping_add(second));
+        }
+        for (word, add) in state.iter_mut().zip([a, b, c, d, e, f, g, h]) {
+            *word = word.wrapping_add(add);
+        }
+    }
+
+    impl Digest for Sha256 {
+        fn digest(data: &[u8]) -> [u8; 32] {
+            static TABLES: std::sync::OnceLock<([u32; 8], [u32; 64])> = std::sync::OnceLock::new();
+            let (start, constants) = TABLES.get_or_init(|| (constants(2.0), constants(3.0)));
+            let mut state = *start;
+            let whole = data.len() / 64 * 64;
+            data[..whole].chunks_exact(64).for_each(|block| compress(&mut state, block, constants));
+            let mut rest = data[whole..].to_vec();
+            rest.push(0x80);
+            rest.resize(if rest.len() > 56 { 120 } else { 56 }, 0);
+            rest.extend((8 * data.len() as u64).to_be_bytes());
+            rest.chunks_exact(64).for_each(|block| compress(&mut state, block, constants));
+            let mut digest = [0; 32];
+            for (bytes, word) in digest.chunks_exact_mut(4).zip(state) {
+                bytes.copy_from_slice(&word.to_be_bytes());
+            }
+            digest
+        }
+    }
+}

@@ -28,7 +28,7 @@ fn operands_have_every_kind(rt: HostRuntime) {
     }
 }
 
-/// Such a line is no fault of its operands' ranges, also where a number is past every field.
+/// Such a number is out of range; its line is no bad line.
 #[test]
 fn numbers_past_every_field(rt: HostRuntime) {
     for source in [

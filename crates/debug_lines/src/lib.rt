@@ -6,8 +6,6 @@ mod hexadecimal;
 mod lines;
 mod reply;
 mod reply_text;
-#[cfg(test)]
-mod tests;
 
 pub use answers::answer;
 pub use lines::{DebugLine, debug_line};

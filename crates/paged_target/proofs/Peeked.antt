@@ -6,6 +6,7 @@ use Rattle.swap_slots.specs.Slot.{Rose}
 use Rattle.page_memory.specs.Memory.{byte_at}
 use Rattle.page_memory.specs.Words.{page_number, page_offset}
 use Rattle.page_store.specs.PageValue.{PageValue, Place, Fresh, Resident, Leaving, Saving, Away, Purged}
+use Rattle.page_store.specs.CopyValue.{CopyValue}
 use Rattle.page_store.specs.Moves.{IfAbsent, IfAway}
 use Rattle.paged_memory.specs.Calls.{ChangesBy}
 use Rattle.paged_memory.specs.Filling.{FailsToLoad, StaysAbsent}
@@ -41,7 +42,7 @@ no_byte (Some x) e = cc
 
 module _ {S : Type 0} (held : S → List ℕ) (honest : Type 0) where
   -- a page that was given back is not one that a look reads from its slot
-  away_not_purged : (old new : PageValue S) (slot : S) → old.place ≡ Away slot → StaysAbsent held honest old new → new.place ≡ Purged → ⊥
+  away_not_purged : (old new : PageValue S) (slot : CopyValue S) → old.place ≡ Away slot → StaysAbsent held honest old new → new.place ≡ Purged → ⊥
   away_not_purged old new slot away stays purged =
       let at : IfAway {S = S} Purged (λ _. Unit {0}) = subst (λ p. IfAway p (λ _. Unit {0})) purged (subst (λ p. IfAbsent p (new.place ≡ Fresh) (λ _. IfAway new.place (λ _. Unit {0}))) away stays.place) in
       absurd at
@@ -54,7 +55,7 @@ module _ {S : Type 0} (held : S → List ℕ) (honest : Type 0) where
       → option_map (λ (page : PageValue S). page.place) (page_at old number) ≡ Some Purged
   pages_same old new number same e = subst (λ l. option_map (λ (page : PageValue S). page.place) (page_at l number) ≡ Some Purged) same e
 
-  one_read : (old new : List (ℕ × PageValue S)) (at number : ℕ) (slot : S) → option_map (λ (page : PageValue S). page.place) (page_at old at) ≡ Some (Away slot) → ChangesBy (StaysAbsent held honest) old new at
+  one_read : (old new : List (ℕ × PageValue S)) (at number : ℕ) (slot : CopyValue S) → option_map (λ (page : PageValue S). page.place) (page_at old at) ≡ Some (Away slot) → ChangesBy (StaysAbsent held honest) old new at
       → option_map (λ (page : PageValue S). page.place) (page_at new number) ≡ Some Purged → option_map (λ (page : PageValue S). page.place) (page_at old number) ≡ Some Purged
   one_read old new at number slot away by e =
       elim (eqb_tells number at) [

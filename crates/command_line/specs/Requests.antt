@@ -102,6 +102,7 @@ pub record AsksRun (rows : List Row) (request : RunRequest) : Type 0 where
   pub slice_is : IsOption usual_slice 1 longest_slice request.slice (first_of (codes "slice") rows)
   pub limit_is : IsOption usual_limit 1 highest_limit request.limit (first_of (codes "limit") rows)
   pub input_is : first_of (codes "input") rows ≡ option_map (λ s. s.now) request.input
+  pub swap_is : first_of (codes "swap") rows ≡ option_map (λ s. s.now) request.swap
   pub serial : IsSerial rows
   pub images_are : AreImages rows (map (λ s. s.now) request.images.items)
 

@@ -78,6 +78,7 @@ fn run<'a>(alloc: Global) -> Result<Command<'a>, AllocError>
         .arg(option(alloc, "slice"))?
         .arg(option(alloc, "limit"))?
         .arg(option(alloc, "input"))?
+        .arg(option(alloc, "swap"))?
         .arg(flag(alloc, "serial"))?
         .arg(files(alloc, "image"))
 }

@@ -57,6 +57,8 @@ pub struct RunRequest<'a> {
     pub limit: u32,
     /// The file whose bytes the first process reads, if there is one.
     pub input: Option<&'a str>,
+    /// What the names of the slots' files begin with; slots are in memory where there is none.
+    pub swap: Option<&'a str>,
     pub images: Vec<&'a str>,
 }
 

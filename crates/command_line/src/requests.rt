@@ -89,6 +89,7 @@ pub fn run_request<'a>(
     let slice = number_or(matches, "slice", 1000, 1, 100_000)?;
     let limit = number_or(matches, "limit", 100_000_000, 1, 1_000_000_000)?;
     let input = found(matches, "input");
+    let swap = found(matches, "swap");
     serial(matches)?;
     let images = images(alloc, matches)?;
     Ok(RunRequest {
@@ -97,6 +98,7 @@ pub fn run_request<'a>(
         slice,
         limit,
         input,
+        swap,
         images,
     })
 }

@@ -1,0 +1,2 @@
+pub mod FlatRuns
+pub mod Growing

@@ -3,17 +3,12 @@ use Rattle.std.specs.Prelude.{◌≡◌, ◌≢◌, ℕ, ◌<◌, ◌++◌, [], 
 use Rattle.clock_policy.specs.declared.key.Key.{Key}
 use Rattle.machine_sides.specs.Admitting.{AdmissionValue, Admits, DoesNotAdmit, is_resident_at, taken_back}
 use Rattle.machine_sides.specs.Agreeing.{Agree, AgreeStill}
-use Rattle.machine_sides.specs.Loading.{Loads, DoesNotLoad}
 use Rattle.machine_sides.specs.declared.admission.NotAdmitted.{NotAdmitted}
-use Rattle.pager_core.specs.Pager.{tallied}
-use Rattle.paged_memory.specs.declared.filling.PageInFault.{PageInFault}
 use Rattle.reclaim_daemon.specs.Answers.{IsOther}
 use Rattle.reclaim_daemon.specs.DeskValue.{DeskValue}
 use Rattle.reclaim_daemon.specs.HeldValue.{HeldValue}
 use Rattle.reclaim_daemon.specs.declared.replies.Undone.{Undone}
 use Rattle.reclaim_daemon.specs.declared.replies.Undone.TheVariants.{Withdrawn, Stray, OtherProcess}
-use Rattle.reclaim_daemon.specs.declared.replies.PagedIn.{PagedIn}
-use Rattle.reclaim_daemon.specs.declared.replies.PagedIn.TheVariants.{Mapped, NotAdmitted as Refused, Failed}
 
 module _ {S : Type 0} (desk desk' : DeskValue) (held : HeldValue S) where
   module _ (key : Key) where

@@ -1,9 +1,9 @@
 -- What is done to a process under its lock alone, and what is published of it then.
-use Rattle.std.specs.Prelude.{◌≡◌, ℕ, ◌==◌, Bool, true, false, not, Option, Some, None, Result, Ok, Err}
+use Rattle.std.specs.Prelude.{◌≡◌, ℕ, ◌==◌, List, Option, Some, None, if◌then◌else◌}
 use Rattle.clock_policy.specs.declared.key.Key.{Key}
 use Rattle.flat_machine.specs.declared.end.KillCause.{KillCause}
 use Rattle.machine_sides.specs.Admitting.{AdmissionValue}
-use Rattle.machine_sides.specs.Agreeing.{AgreeStill}
+use Rattle.machine_sides.specs.declared.admission.NotAdmitted.{NotAdmitted}
 use Rattle.machine_sides.specs.Loading.{Loads, DoesNotLoad}
 use Rattle.machine_sides.specs.ProcessCalls.{Slices, TakesNotices, IsKilled}
 use Rattle.pager_core.specs.Pager.{tallied}
@@ -14,12 +14,11 @@ use Rattle.reclaim_daemon.specs.DeskValue.{DeskValue}
 use Rattle.reclaim_daemon.specs.HeldValue.{HeldValue, status_of}
 use Rattle.reclaim_daemon.specs.PagingIn.{AdmitsHeld, RefusesHeld}
 use Rattle.reclaim_daemon.specs.declared.replies.PagedIn.{PagedIn}
-use Rattle.reclaim_daemon.specs.declared.replies.PagedIn.TheVariants.{Mapped, NotAdmitted, Failed}
+use Rattle.reclaim_daemon.specs.declared.replies.PagedIn.TheVariants as paged
 
 -- the tries of a process after a slice: they begin anew where an instruction ran
 abbrev pub tries_after : ℕ → ℕ → ℕ
-tries_after 0 tries = tries
-tries_after _ tries = 0
+tries_after ran tries = if ran == 0 then tries else 0
 
 module _ {S : Type 0} where
   -- what is published is how far the process has come
@@ -81,6 +80,6 @@ module _ {S : Type 0} (content : S → List ℕ) (honest : Type 0) (failures : S
 
   abbrev pub PagesInHeld : {L : Type 0} → Option (PagedIn L) → Type 0
   PagesInHeld None = IsOther key.process desk desk' held held'
-  PagesInHeld (Some Mapped) = PagesIn
-  PagesInHeld (Some (NotAdmitted reason)) = IsRefused reason
-  PagesInHeld (Some (Failed back fault)) = FailsToLoad back fault
+  PagesInHeld (Some paged.Mapped) = PagesIn
+  PagesInHeld (Some (paged.NotAdmitted reason)) = IsRefused reason
+  PagesInHeld (Some (paged.Failed back fault)) = FailsToLoad back fault

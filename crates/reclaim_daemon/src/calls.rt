@@ -18,6 +18,7 @@ use std::sync::ledger::Ledger;
 use swap_slots::{SlotPool, SwapSlot};
 
 /// A question of the list.
+#[tactic(auto, using(crate::proofs::Statuses::sweep_leaves))]
 pub(crate) fn sweep<L: Ledger, S: SwapSlot, C: Clock>(
     pager: &mut PagerSide<L, C>,
     held: &mut Held<L, S>,
@@ -30,6 +31,7 @@ pub(crate) fn sweep<L: Ledger, S: SwapSlot, C: Clock>(
 }
 
 /// A look at a leaving page. One that finds no slot counts as a try.
+#[tactic(auto, using(crate::proofs::Statuses::look_leaves), unfolding(pager_core::specs::Pager::tallied))]
 pub(crate) fn collect<L: Ledger, S: SwapSlot, C: Clock>(
     pager: &mut PagerSide<L, C>,
     held: &mut Held<L, S>,
@@ -49,6 +51,7 @@ pub(crate) fn collect<L: Ledger, S: SwapSlot, C: Clock>(
 }
 
 /// A save comes back. One that failed counts as a try.
+#[tactic(auto, using(crate::proofs::Statuses::save_leaves), unfolding(pager_core::specs::Pager::tallied))]
 pub(crate) fn saved<L: Ledger, S: SwapSlot, C: Clock>(
     pager: &mut PagerSide<L, C>,
     held: &mut Held<L, S>,
@@ -67,6 +70,7 @@ pub(crate) fn saved<L: Ledger, S: SwapSlot, C: Clock>(
 }
 
 /// An ended process gives its frames and slots back.
+#[tactic(auto, using(crate::proofs::Statuses::purge_leaves))]
 pub(crate) fn purge<L: Ledger, S: SwapSlot, C: Clock>(
     pager: &mut PagerSide<L, C>,
     held: &mut Held<L, S>,

@@ -125,6 +125,7 @@ impl<L: Ledger, C: Clock> Desk<L, C> {
     }
 
     /// Looks whether a page of this process that is leaving can let its frame go.
+    #[tactic(auto, using(crate::proofs::Heeded::collected))]
     pub fn collect<S: SwapSlot>(
         &mut self,
         held: &mut Held<L, S>,
@@ -143,6 +144,7 @@ impl<L: Ledger, C: Clock> Desk<L, C> {
     }
 
     /// Ends the save of a page of this process.
+    #[tactic(auto, using(crate::proofs::Heeded::ended))]
     pub fn saved<S: SwapSlot>(
         &mut self,
         held: &mut Held<L, S>,

@@ -6,6 +6,8 @@ ghost use Rattle.machine_sides.specs.Agreeing.{AgreeStill, AgreesWhereListed};
 ghost use Rattle.machine_sides.specs.Starting.{start_of, Begins};
 ghost use Rattle.machine_sides.specs.Together.{key_of};
 ghost use Rattle.pager_core.specs.Pager.{PagerState};
+ghost use Rattle.reclaim_daemon.specs.HeldValue.{status_of};
+ghost use Rattle.reclaim_daemon.specs.Running.{SlicesHeld, NoticesHeld, KillsHeld, LoadsHeld, DoesNotLoadHeld};
 ghost use Rattle.space_core.specs.StandsFor.{StandsFor};
 ghost use Rattle.status_cell.specs.Counts.{nothing};
 ghost use Rattle.status_cell.specs.ViewerValue.{viewer_value};
@@ -48,10 +50,8 @@ impl<L: Ledger, S: SwapSlot> Model for Held<L, S> {
 }
 
 impl<L: Ledger, S: SwapSlot> Held<L, S> {
-    ghost use Rattle.reclaim_daemon.specs.HeldValue.{status_of};
-    ghost use Rattle.reclaim_daemon.specs.Running.{SlicesHeld, NoticesHeld, KillsHeld, LoadsHeld, DoesNotLoadHeld};
-
     /// The process of this number that is to run an image on an input, and a viewer of its counts. None of its pages is brought in yet.
+    #[tactic(auto, using(crate::proofs::Statuses::nothing_yet))]
     pub fn new(
         alloc: Global,
         number: u32,
@@ -126,6 +126,7 @@ impl<L: Ledger, S: SwapSlot> Held<L, S> {
     }
 
     /// Runs up to so many instructions of a hart, and publishes how far the process has come.
+    #[tactic(auto, using(crate::proofs::Statuses::slice_steps, crate::proofs::Statuses::slice_rises))]
     pub fn slice<R: Wait>(&mut self, rt: &R, hart: u32, budget: u32) -> Slice
         ensures { SlicesHeld S.content S.honest hart budget self.old self.new result.ran result.stop }
     {
@@ -140,6 +141,7 @@ impl<L: Ledger, S: SwapSlot> Held<L, S> {
     }
 
     /// A hart drops its translations that are to be dropped.
+    #[tactic(auto, using(crate::proofs::Statuses::notice_leaves))]
     pub fn take_notices(&mut self, hart: u32)
         ensures { NoticesHeld hart self.old self.new }
     {
@@ -147,6 +149,7 @@ impl<L: Ledger, S: SwapSlot> Held<L, S> {
     }
 
     /// The machine ends the process, unless it has ended, and how far it has come is published.
+    #[tactic(auto, using(crate::proofs::Statuses::kill_leaves))]
     pub fn kill<R: Wait>(&mut self, rt: &R, cause: KillCause)
         ensures { KillsHeld cause self.old self.new }
     {
@@ -155,6 +158,7 @@ impl<L: Ledger, S: SwapSlot> Held<L, S> {
     }
 
     /// Brings an admitted page into its frame and maps it. A refusal hands the admission back, to be undone. Either is a try.
+    #[tactic(auto, using(crate::proofs::Statuses::load_leaves, crate::proofs::Statuses::no_load_leaves), unfolding(pager_core::specs::Pager::tallied))]
     pub fn load(&mut self, admission: Admission<L>) -> Result<(), (Admission<L>, PageInFault)>
         ensures loaded { OnOk result (LoadsHeld S.content S.honest admission self.old self.new) }
         ensures refused { IfErr result (λ back. DoesNotLoadHeld S.content S.honest S.failures admission back.0 back.1 self.old self.new) }
@@ -168,6 +172,7 @@ impl<L: Ledger, S: SwapSlot> Held<L, S> {
 }
 
 /// How far a process has come that had completed so many instructions, of which so many more ran.
+#[tactic(auto, using(crate::proofs::Statuses::few_steps), unfolding(crate::specs::HeldValue::status_of))]
 fn status_after<L: Ledger, S: SwapSlot>(side: &ProcessSide<L, S>, steps: u64, ran: u32) -> Status
     requires { length (written_out side.now.space.schedule) ≡ steps + ran }
     ensures { result ≡ status_of side.now.space }

@@ -4,11 +4,12 @@
 //! process drop their translations, and collects the page; a changed one it saves. A process that has ended it purges.
 
 use crate::gate::Gate;
-use crate::replies::{Collection, PurgeReply, SaveReply};
+use crate::holds::{HoldOfAll, HoldOfBoth};
+use crate::replies::{Collection, SaveReply};
 use crate::shared::{MOST_PROCESSES, Shared};
 use clock_policy::{Clock, Key};
 use flat_machine::{KillCause, MOST_HARTS};
-use machine_sides::{PurgeRefusal, Swept};
+use machine_sides::Swept;
 use page_store::SaveJob;
 use status_cell::{Status, Viewer};
 use std::sync::Wait;
@@ -104,7 +105,8 @@ fn let_go<L: Ledger, S: SwapSlot, C: Clock, G: Gate, R: Wait>(
         let Some(hold) = shared.collect(rt, key) else {
             return false;
         };
-        let Some(found) = hold.reply else {
+        let HoldOfAll { reply, .. } = hold;
+        let Some(found) = reply else {
             return false;
         };
         match found {
@@ -137,7 +139,8 @@ fn save<L: Ledger, S: SwapSlot, C: Clock, G: Gate, R: Wait>(
     let Some(hold) = shared.saved(rt, job.run()) else {
         return false;
     };
-    let Some(reply) = hold.reply else {
+    let HoldOfBoth { reply, .. } = hold;
+    let Some(reply) = reply else {
         return false;
     };
     match reply {

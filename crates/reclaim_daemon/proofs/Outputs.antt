@@ -1,7 +1,6 @@
 -- What a process has written never becomes less.
 use Rattle.std.specs.Prelude.{◌≡◌, ℕ, ◌+◌, ◌<◌, ◌≤◌, ◌==◌, nat_lt, Bool, true, false, cond, List, [], ◌∷◌, ◌++◌, length, drop, Option, Some, None, option_map, option_and_then, Result, Ok, Err}
-use Rattle.std.proofs.Common.{arith, refl, ap, sym, ◌∙◌, length-append}
-use Rattle.std.proofs.lemmas.Option.{none-some, some-injective}
+use Rattle.std.proofs.Common.{arith, subst, length-append}
 use Rattle.page_memory.specs.declared.fault.MemoryFault.{MemoryFault}
 use Rattle.page_memory.specs.Memory.{Memory}
 use Rattle.rv_exec.specs.Registers.{Registers, register}
@@ -133,19 +132,16 @@ weaker : (n m : ℕ) (next : Option Process) → n ≤ m → NotLess m next → 
 weaker n m None h k = tt
 weaker n m (Some process) h k = omega arith
 
+then_not_less : (harts : List ℕ) (n : ℕ) (next : Option Process) → ((after : Process) → NotLess (length after.environment.output) (flat_run harts after)) → NotLess n next → NotLess n (option_and_then (flat_run harts) next)
+then_not_less harts n None run h = tt
+then_not_less harts n (Some next) run h = weaker n (length next.environment.output) (flat_run harts next) h (run next)
+
 run_not_less : (harts : List ℕ) (process : Process) → NotLess (length process.environment.output) (flat_run harts process)
 unfolding flat_run
 run_not_less [] process = same (length process.environment.output)
 run_not_less (hart ∷ harts) process =
-    rest harts (length process.environment.output) (flat_step hart process) (step_not_less hart process)
-  where
-    rest : (harts : List ℕ) (n : ℕ) (next : Option Process) → NotLess n next → NotLess n (option_and_then (flat_run harts) next)
-    rest harts n None h = tt
-    rest harts n (Some next) h = weaker n (length next.environment.output) (flat_run harts next) h (run_not_less harts next)
+    then_not_less harts (length process.environment.output) (flat_step hart process) (λ (after : Process). run_not_less harts after) (step_not_less hart process)
 
 -- a run makes the output no shorter
 pub run_keeps_output : (harts : List ℕ) (before after : Process) → flat_run harts before ≡ Some after → length before.environment.output ≤ length after.environment.output
-run_keeps_output harts before after ran = subst_not_less (run_not_less harts before)
-  where
-    subst_not_less : NotLess (length before.environment.output) (flat_run harts before) → length before.environment.output ≤ length after.environment.output
-    subst_not_less h = rw ran at h
+run_keeps_output harts before after ran = subst (λ (next : Option Process). NotLess (length before.environment.output) next) ran (run_not_less harts before)

@@ -1,5 +1,5 @@
 -- How far a process has come: which calls leave it, and what a slice adds.
-use Rattle.std.specs.Prelude.{◌≡◌, ℕ, zero, suc, ◌+◌, ◌-◌, ◌*◌, ◌<◌, ◌≤◌, ◌^◌, List, [], ◌∷◌, ◌++◌, length, replicate, slice_index_or, Option, Some, None}
+use Rattle.std.specs.Prelude.{◌≡◌, ℕ, zero, suc, ◌+◌, ◌-◌, ◌*◌, ◌<◌, ◌≤◌, ◌^◌, List, [], ◌∷◌, ◌++◌, length, replicate, slice_index_or, Option, Some, None, Result, Ok, Err, OnOk, IfErr}
 use Rattle.std.proofs.Common.{arith, refl, ap, sym, ◌∙◌, length-append}
 use Rattle.std.proofs.lemmas.List.{length-replicate}
 use Rattle.clock_policy.specs.declared.answer.Bit.{Bit}
@@ -123,6 +123,11 @@ module _ {S : Type 0} where
   pub no_load_leaves : (held : S → List ℕ) (honest : Type 0) (failures : S → ℕ) (admission back : AdmissionValue) (fault : PageInFault) (old new : SpaceValue S)
       → DoesNotLoad held honest failures admission back fault old new → status_of new ≡ status_of old
   no_load_leaves held honest failures admission back fault old new h = by_memory old new h.rest.stays
+
+  pub either_load_leaves : (held : S → List ℕ) (honest : Type 0) (failures : S → ℕ) (admission : AdmissionValue) (old new : SpaceValue S) (result : Result (Unit {0}) (AdmissionValue × PageInFault))
+      → OnOk result (Loads held honest admission old new) → IfErr result (λ back. DoesNotLoad held honest failures admission back.0 back.1 old new) → status_of new ≡ status_of old
+  either_load_leaves held honest failures admission old new (Ok u) h k = load_leaves held honest admission old new h
+  either_load_leaves held honest failures admission old new (Err back) h k = no_load_leaves held honest failures admission back.0 back.1 old new k
 
   pub notice_leaves : (hart : ℕ) (old new : ProcessSideValue S) → TakesNotices hart old new → status_of new.space ≡ status_of old.space
   notice_leaves hart old new e =

@@ -12,3 +12,4 @@ pub mod Expected
 pub mod Heeding
 pub mod SharedValue
 pub mod Holding
+pub mod Audit

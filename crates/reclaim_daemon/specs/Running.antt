@@ -1,5 +1,5 @@
 -- What is done to a process under its lock alone, and what is published of it then.
-use Rattle.std.specs.Prelude.{◌≡◌, ℕ, ◌==◌, List, Option, Some, None, if◌then◌else◌}
+use Rattle.std.specs.Prelude.{◌≡◌, ℕ, ◌==◌, List, Option, Some, None, Result, Ok, Err, if◌then◌else◌}
 use Rattle.clock_policy.specs.declared.key.Key.{Key}
 use Rattle.flat_machine.specs.declared.end.KillCause.{KillCause}
 use Rattle.machine_sides.specs.Admitting.{AdmissionValue}
@@ -83,3 +83,17 @@ module _ {S : Type 0} (content : S → List ℕ) (honest : Type 0) (failures : S
   PagesInHeld (Some paged.Mapped) = PagesIn
   PagesInHeld (Some (paged.NotAdmitted reason)) = IsRefused reason
   PagesInHeld (Some (paged.Failed back fault)) = FailsToLoad back fault
+
+module _ {S : Type 0} (content : S → List ℕ) (honest : Type 0) (failures : S → ℕ) (held held' : HeldValue S) where
+  -- an admitted page is loaded, or its admission comes back
+  abbrev pub LoadsOne : {L : Type 0} → AdmissionValue → Option (PagedIn L) → Type 0
+  LoadsOne admission None = ⊥
+  LoadsOne admission (Some paged.Mapped) = LoadsHeld content honest admission held held'
+  LoadsOne admission (Some (paged.NotAdmitted reason)) = ⊥
+  LoadsOne admission (Some (paged.Failed back fault)) = DoesNotLoadHeld content honest failures admission back fault held held'
+
+  -- the same of a page that may not have been admitted
+  abbrev pub LoadsAdmitted : {L : Type 0} → Option (Result AdmissionValue NotAdmitted) → Option (PagedIn L) → Type 0
+  LoadsAdmitted None reply = (reply ≡ None) × (held' ≡ held)
+  LoadsAdmitted (Some (Err reason)) reply = (reply ≡ Some (paged.NotAdmitted reason)) × (held' ≡ held)
+  LoadsAdmitted (Some (Ok admission)) reply = LoadsOne admission reply

@@ -7,7 +7,7 @@ ghost use Rattle.machine_sides.specs.Starting.{start_of, Begins};
 ghost use Rattle.machine_sides.specs.Together.{key_of};
 ghost use Rattle.pager_core.specs.Pager.{PagerState};
 ghost use Rattle.reclaim_daemon.specs.HeldValue.{status_of};
-ghost use Rattle.reclaim_daemon.specs.Running.{SlicesHeld, NoticesHeld, KillsHeld, LoadsHeld, DoesNotLoadHeld};
+ghost use Rattle.reclaim_daemon.specs.Running.{SlicesHeld, NoticesHeld, KillsHeld, LoadsHeld, DoesNotLoadHeld, tries_after};
 ghost use Rattle.space_core.specs.StandsFor.{StandsFor};
 ghost use Rattle.status_cell.specs.Counts.{nothing};
 ghost use Rattle.status_cell.specs.ViewerValue.{viewer_value};
@@ -131,9 +131,7 @@ impl<L: Ledger, S: SwapSlot> Held<L, S> {
         ensures { SlicesHeld S.content S.honest hart budget self.old self.new result.ran result.stop }
     {
         let slice = self.side.slice(hart, budget);
-        if slice.ran != 0 {
-            self.tries = 0;
-        }
+        self.tries = tries_after(slice.ran, self.tries);
         let told = status_after(&self.side, self.told.steps, slice.ran);
         self.writer.publish(rt, told);
         self.told = told;
@@ -182,4 +180,11 @@ fn status_after<L: Ledger, S: SwapSlot>(side: &ProcessSide<L, S>, steps: u64, ra
         steps: steps + u64::from(ran),
         output: side.output().len() as u64,
     }
+}
+
+/// The tries of a process after a slice: they begin anew where an instruction ran.
+fn tries_after(ran: u32, tries: u64) -> u64
+    ensures { result ≡ tries_after ran tries }
+{
+    if ran == 0 { tries } else { 0 }
 }

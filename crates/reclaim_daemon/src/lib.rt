@@ -5,6 +5,7 @@
 //! and what it left.
 #![tactic(auto)]
 
+mod audit;
 mod calls;
 mod desk;
 mod gate;
@@ -15,6 +16,7 @@ mod reclaiming;
 mod replies;
 mod shared;
 
+pub use audit::{HeldPages, entries_of_resident_pages, held_pages, resident_entries};
 pub use desk::Desk;
 pub use gate::{Gate, OpenGate};
 pub use held::Held;
@@ -23,6 +25,3 @@ pub use paging_in::HoldOfPager;
 pub use reclaiming::daemon;
 pub use replies::{Collection, PagedIn, PurgeReply, SaveReply, Undone};
 pub use shared::{AddRefusal, MOST_PROCESSES, Parts, Shared};
-
-#[cfg(test)]
-mod tests;

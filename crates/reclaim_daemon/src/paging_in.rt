@@ -6,7 +6,7 @@
 
 ghost use Rattle.std.specs.Prelude.{◌≡◌, IfSome};
 ghost use Rattle.reclaim_daemon.specs.PagingIn.{AdmitsOrNot, UndoesHeld};
-ghost use Rattle.reclaim_daemon.specs.Running.{PagesInHeld};
+ghost use Rattle.reclaim_daemon.specs.Running.{LoadsAdmitted, PagesInHeld};
 
 use crate::desk::Desk;
 use crate::gate::Gate;
@@ -85,6 +85,7 @@ impl<L: Ledger, S: SwapSlot, C: Clock> Shared<L, S, C> {
     /// Brings an absent page in: it is admitted, and then loaded once the pager is let go and the gate was told.
     ///
     /// It does nothing where there is no such process. An admission that comes back is to be undone: see [`Shared::undo`].
+    #[tactic(auto, using(crate::proofs::Brought::paged_in))]
     pub fn page_in<R: Wait, G: Gate>(
         &self,
         rt: &R,
@@ -141,7 +142,9 @@ fn load_admitted<L: Ledger, S: SwapSlot, G: Gate>(
     gate: &G,
     key: Key,
     admitted: Option<Result<Admission<L>, NotAdmitted>>,
-) -> Option<PagedIn<L>> {
+) -> Option<PagedIn<L>>
+    ensures { LoadsAdmitted S.content S.honest S.failures held.old held.new admitted result }
+{
     match admitted {
         None => None,
         Some(Err(reason)) => Some(PagedIn::NotAdmitted(reason)),

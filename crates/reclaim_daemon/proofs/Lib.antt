@@ -1,0 +1,5 @@
+pub mod Outputs
+pub mod Statuses
+pub mod Heeded
+pub mod Brought
+pub mod Counted

@@ -1,7 +1,7 @@
 //! Each ending that the serial driver makes is reached, and none where a process ends by itself. The numbers are a model's.
 
 use crate::guests::{ROUNDS, SHARES, SPINS, SPREADS};
-use crate::machine::{endings, fuses, played, processes, sound};
+use crate::machine::{endings, fuses, liars, played, processes, sound};
 use crate::no_loads::slots_without_loads;
 use flat_machine::{End, KillCause};
 use machine_core::Report;
@@ -15,6 +15,8 @@ const AMPLE: u64 = 100_000;
 const NO_SWAP: Option<End> = Some(End::Killed(KillCause::NoSwap));
 
 const LOAD_FAILED: Option<End> = Some(End::Killed(KillCause::LoadFailed));
+
+const DAMAGED: Option<End> = Some(End::Killed(KillCause::Damaged));
 
 const SCHEDULE_FULL: Option<End> = Some(End::Killed(KillCause::ScheduleFull));
 
@@ -118,6 +120,21 @@ fn loads_that_fail_end_a_process(rt: HostRuntime) -> Result<(), Fail> {
     )?;
     assert_eq!(rt; report.page_ins, 13);
     tells(&rt, alloc, &report, &[(LOAD_FAILED, 46)])
+}
+
+/// The same page is damaged, and is tried for once.
+#[test]
+fn a_damaged_page_ends_a_process_at_once(rt: HostRuntime) -> Result<(), Fail> {
+    let alloc = rt.alloc();
+    let report = played(
+        alloc,
+        liars(alloc, 6)?,
+        processes(alloc, 1, SPREADS)?,
+        1000,
+        AMPLE,
+    )?;
+    assert_eq!(rt; report.page_ins, 11);
+    tells(&rt, alloc, &report, &[(DAMAGED, 46)])
 }
 
 /// The last step of the run is its event 185.

@@ -4,6 +4,7 @@ ghost use Rattle.std.specs.Prelude.{◌≡◌};
 
 use clock_ring::ClockRing;
 use elf_image::Image;
+use file_slots::FlipSlot;
 use flat_machine::End;
 use machine_core::{Core, Report};
 use rv_asm::assemble;
@@ -33,6 +34,15 @@ pub(crate) fn fuses(alloc: Global, count: u32, passes: u64) -> Result<Vec<FuseSl
     let mut slots = Vec::new(alloc);
     for _ in 0..count {
         slots.push(FuseSlot::new(alloc, passes)?)?;
+    }
+    Ok(slots)
+}
+
+/// Slots of each of which the first load lies.
+pub(crate) fn liars(alloc: Global, count: u32) -> Result<Vec<FlipSlot>, AllocError> {
+    let mut slots = Vec::new(alloc);
+    for _ in 0..count {
+        slots.push(FlipSlot::new(alloc, 1)?)?;
     }
     Ok(slots)
 }

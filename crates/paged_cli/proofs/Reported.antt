@@ -1,6 +1,6 @@
 -- What a run is reported to have come to, by what its parts say.
-use Rattle.std.proofs.Common.{◌≡◌, ℕ, ◌≤◌, ◌<◌, List, replicate, Option, Some, IsSome, sym, ap, ◌∙◌, subst}
-use Rattle.std.specs.Prelude.{⊤, max, Result, Ok, Err, IfOk, option_map}
+use Rattle.std.proofs.Common.{◌≡◌, ℕ, ◌≤◌, ◌<◌, List, Option, Some, IsSome, sym, ap, ◌∙◌, subst}
+use Rattle.std.specs.Prelude.{max, Result, Ok, Err, IfOk, option_map}
 use Rattle.command_line.specs.declared.request.FlatRequest.{FlatRequest}
 use Rattle.elf_image.specs.Image.{ImageContent}
 use Rattle.flat_machine.specs.ByTurns.{by_turns, first_turn}
@@ -14,27 +14,26 @@ use Rattle.machine_sides.specs.Starting.{Start}
 use Rattle.serial_driver.specs.FlatLines.{StandsForRuns}
 use Rattle.serial_driver.specs.Limit.{EndsByLimit}
 use Rattle.serial_driver.specs.Reporting.{Reports}
-use Rattle.swap_slots.specs.Slot.{zero_content}
 use Rattle.report_text.specs.ReportText.{process_text}
 use Rattle.std.specs.Io.KnownBytes.{Appends}
 use Rattle.paged_cli.specs.Asked.{FlatAsAsked}
 use Rattle.paged_cli.specs.Reading.{GivesImage, GivesInput}
 use Rattle.report_text.specs.ExitStatus.{exit_status, ending_of}
-use Rattle.paged_cli.specs.Playing.{Slot, page_of, never, IsNew, ReportsRun}
+use Rattle.paged_cli.specs.Playing.{ReportsOver}
 
-pub run_reported : {E : Type 0} (frames slots slice limit : ℕ) (starts : List Start) (start end : CoreValue Slot) (result : Result Report E) → IsNew frames slots starts start
-    → LeadsTo page_of ⊤ never start end → IfOk result (λ _. EndsByLimit page_of ⊤ never (max slice 1) limit start end) → IfOk result (λ report. Reports end report)
-    → IfOk result (λ report. (frames : ℕ) (free : List Slot) (starts : List Start) → MachineBegins frames free starts start → ⊤ → StandsForRuns starts report)
-    → IfOk result (ReportsRun frames slots starts slice limit)
-run_reported frames slots slice limit starts start end (Err e) new reached limited told flat = limited
-run_reported frames slots slice limit starts start end (Ok report) new reached limited told flat = record {
+pub run_reported : {S E : Type 0} (held : S → List ℕ) (honest : Type 0) (failures : S → ℕ) (frames slice limit : ℕ) (free : List S) (starts : List Start) (start end : CoreValue S) (result : Result Report E) → MachineBegins frames free starts start
+    → LeadsTo held honest failures start end → IfOk result (λ _. EndsByLimit held honest failures (max slice 1) limit start end) → IfOk result (λ report. Reports end report)
+    → IfOk result (λ report. (frames : ℕ) (free : List S) (starts : List Start) → MachineBegins frames free starts start → honest → StandsForRuns starts report)
+    → IfOk result (ReportsOver held honest failures frames free starts slice limit)
+run_reported held honest failures frames slice limit free starts start end (Err e) new reached limited told flat = limited
+run_reported held honest failures frames slice limit free starts start end (Ok report) new reached limited told flat = record {
   start = start;
   end = end;
   new = new;
   reached = reached;
   limited = limited;
   told = told;
-  flat = flat frames (replicate slots zero_content) starts new (tt {0});
+  flat = flat frames free starts new;
 }
 
 pub flat_asked : (gives : List ℕ → List ℕ → Type 0) (request : FlatRequest) (out out' : Option (List ℕ)) (image : ImageContent) (input : List ℕ) (limit steps status : ℕ) (old new : Process)

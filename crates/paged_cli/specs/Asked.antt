@@ -14,19 +14,19 @@ use Rattle.machine_sides.specs.Starting.{Start}
 use Rattle.report_text.specs.ExitStatus.{exit_status, ending_of, worst_status}
 use Rattle.report_text.specs.ReportText.{process_text, report_text}
 use Rattle.text_lines.specs.Text.{lines_of}
-use Rattle.paged_cli.specs.Playing.{Plays, ReportsRun}
+use Rattle.paged_cli.specs.Playing.{Plays, ReportsAsked}
 use Rattle.paged_cli.specs.Reading.{AreGiven, GivesImage, GivesInput}
 use Rattle.paged_cli.specs.Replies.{replies_text}
 
 module _ (gives : List ℕ → List ℕ → Type 0) where
-  -- A machine of the frames and slots that were asked for, with a process for each image, the first on the input, ran in slices of the length
+  -- A machine of the frames and slots that were asked for, in memory or in files of the type `F`, with a process for each image, the first on the input, ran in slices of the length
   -- that was asked for, until each process had ended or as many events had happened as were asked for; what is reported of it is written, and
   -- the status is that of the report.
-  pub record RunsAsAsked (request : RunRequest) (old new : Option (List ℕ)) (status : ℕ) : Type 0 where
+  pub record RunsAsAsked (F : Type 0) (request : RunRequest) (old new : Option (List ℕ)) (status : ℕ) : Type 0 where
     pub starts : List Start
     pub report : Report
     pub given : AreGiven gives (option_map (λ s. s.now) request.input) (map (λ s. s.now) request.images.items) starts
-    pub ran : ReportsRun request.frames request.slots starts request.slice request.limit report
+    pub ran : ReportsAsked F (option_map (λ s. s.now) request.swap) request.frames request.slots starts request.slice request.limit report
     pub told : Appends old new (report_text report)
     pub status_is : status ≡ worst_status 0 (map (λ process. process.end) report.processes.items)
 

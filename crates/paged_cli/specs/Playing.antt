@@ -1,5 +1,7 @@
 -- What the commands that run a machine come to.
-use Rattle.std.specs.Prelude.{ℕ, ⊤, max, List, Option, replicate}
+use Rattle.std.specs.Prelude.{◌≡◌, ℕ, ⊤, max, min, List, [], All, Option, Some, None, map, replicate}
+use Rattle.std.specs.List.{range_with_len}
+use Rattle.file_slots.specs.FileSlotValue.{FileSlotValue}
 use Rattle.swap_slots.specs.Slot.{zero_content}
 use Rattle.machine_core.specs.Applying.{Runs, LeadsTo}
 use Rattle.machine_core.specs.Headline.{PagingIsInvisible}
@@ -38,12 +40,40 @@ pub record Plays (frames slots : ℕ) (starts : List Start) (lines : List (List 
   pub runs : Runs page_of ⊤ never events replies start end
   pub invisible : PagingIsInvisible page_of ⊤ never events replies start end
 
--- what is reported of a new machine after a run in slices of so many instructions (or of one), which so many events end: each line is that of a flat run of its process's image and input
-pub record ReportsRun (frames slots : ℕ) (starts : List Start) (slice limit : ℕ) (report : Report) : Type 0 where
-  pub start : CoreValue Slot
-  pub end : CoreValue Slot
-  pub new : IsNew frames slots starts start
-  pub reached : LeadsTo page_of ⊤ never start end
-  pub limited : EndsByLimit page_of ⊤ never (max slice 1) limit start end
+-- What is reported of a new machine on these slots after a run in slices of so many instructions (or of one), which so many events end. Where slots are
+-- honest, each line is that of a flat run of its process's image and input.
+pub record ReportsOver {S : Type 0} (held : S → List ℕ) (honest : Type 0) (failures : S → ℕ) (frames : ℕ) (free : List S) (starts : List Start) (slice limit : ℕ) (report : Report) : Type 0 where
+  pub start : CoreValue S
+  pub end : CoreValue S
+  pub new : MachineBegins frames free starts start
+  pub reached : LeadsTo held honest failures start end
+  pub limited : EndsByLimit held honest failures (max slice 1) limit start end
   pub told : Reports end report
-  pub flat : StandsForRuns starts report
+  pub flat : honest → StandsForRuns starts report
+
+-- the same on so many slots in memory, which are honest
+abbrev pub ReportsRun : ℕ → ℕ → List Start → ℕ → ℕ → Report → Type 0
+ReportsRun frames slots starts slice limit report = ReportsOver page_of ⊤ never frames (replicate slots zero_content) starts slice limit report
+
+-- new slots in files, which are numbered from 0: as many as are wanted, but no more than so many
+pub record AreNewFiles {F : Type 0} (count : ℕ) (slots : List (FileSlotValue F)) : Type 0 where
+  pub numbers : map (λ slot. slot.number) slots ≡ range_with_len 0 (min count 512)
+  pub unused : All (λ slot. slot.failures ≡ 0) slots
+
+-- what a slot in a file holds is not known, and it is not honest
+abbrev pub unknown : {F : Type 0} → FileSlotValue F → List ℕ
+unknown slot = []
+
+abbrev pub failures_of : {F : Type 0} → FileSlotValue F → ℕ
+failures_of slot = slot.failures
+
+-- the same on slots in files
+pub record ReportsFiles (F : Type 0) (frames slots : ℕ) (starts : List Start) (slice limit : ℕ) (report : Report) : Type 0 where
+  pub files : List (FileSlotValue F)
+  pub made : AreNewFiles slots files
+  pub run : ReportsOver unknown ⊥ failures_of frames files starts slice limit report
+
+-- slots are in memory, or in files where a prefix of their names is given
+abbrev pub ReportsAsked : Type 0 → Option (List ℕ) → ℕ → ℕ → List Start → ℕ → ℕ → Report → Type 0
+ReportsAsked F None frames slots starts slice limit report = ReportsRun frames slots starts slice limit report
+ReportsAsked F (Some prefix) frames slots starts slice limit report = ReportsFiles F frames slots starts slice limit report

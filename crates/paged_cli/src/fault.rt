@@ -1,4 +1,5 @@
 use command_line::UsageError;
+use file_slots::{FileName, FilesFault};
 use std::alloc::AllocError;
 use std::io;
 use thiserror::Error;
@@ -10,6 +11,9 @@ pub enum Fault<'a> {
     BadUsage,
     #[error("{0}: cannot read")]
     CannotRead(&'a str),
+    /// The file of a slot could not be made.
+    #[error("{0}: cannot read")]
+    CannotMake(FileName<'a>),
     #[error("{0}: elf fault {1}")]
     ElfFault(&'a str, u8),
     /// Of an assembler's source: a line, counted from 1 (0 stands for the whole), and the fault's number.
@@ -43,6 +47,20 @@ impl From<UsageError> for Fault<'_> {
         match error {
             UsageError::BadUsage => Fault::BadUsage,
             UsageError::NoMemory => Fault::NoMemory,
+        }
+    }
+}
+
+impl<'a> From<FilesFault<'a>> for Fault<'a> {
+    ghost use Rattle.std.specs.Prelude.{◌≡◌};
+    ghost use Rattle.paged_cli.specs.SlotFiles.{fault_of};
+
+    ghost from_gives = { λ error fault. fault ≡ fault_of error };
+
+    fn from(error: FilesFault<'a>) -> Self {
+        match error {
+            FilesFault::CannotMake(name) => Fault::CannotMake(name),
+            FilesFault::NoMemory => Fault::NoMemory,
         }
     }
 }

@@ -1,20 +1,26 @@
-//! Files that commands read whole.
+//! Files that commands read whole, and files of slots.
 
-ghost use Rattle.std.specs.Prelude.{◌≡◌, ◌≤◌, ℕ, ⊤, List, [], false, is_some, IfErr, IfOk, option_map, vec_len};
+ghost use Rattle.std.specs.Prelude.{◌≡◌, ◌≤◌, ℕ, ⊤, List, [], false, is_some, IfErr, IfOk, min, option_map, vec_len};
 ghost use Rattle.paged_cli.specs.Debugged.{IsOfNoLine};
+ghost use Rattle.paged_cli.specs.Playing.{AreNewFiles};
 ghost use Rattle.paged_cli.specs.Reading.{GivesInput};
+ghost use Rattle.paged_cli.specs.SlotFiles.{CannotMakeOneOf};
 
 use crate::fault::Fault;
+use file_slots::{FileSlot, make_file_slots};
 use std::alloc::Global;
 use std::fs;
-use std::io::{ErrorKind, Read};
+use std::io::{ErrorKind, Read, Seek, Write};
 use std::rt::Files;
 
 /// The most bytes that a file may have.
 const MOST_BYTES: usize = 33_554_432;
 
-/// Where files are read from.
+/// Where files are read from, and slots' files are made.
 pub trait Folder {
+    /// An open file.
+    type File: Read + Write + Seek + Drop;
+
     /// Whether a file of this name may be found to hold these bytes.
     ghost gives: { List ℕ → List ℕ → Type 0 };
 
@@ -22,14 +28,33 @@ pub trait Folder {
     fn read<'a>(&self, name: &'a str) -> Result<Vec<u8>, Fault<'a>>
         ensures bytes { IfOk result (λ bytes. gives name.now bytes.items) }
         ensures fault { IfErr result IsOfNoLine };
+
+    /// So many slots, but 512 at most, each in a file of its own that is made anew: `PREFIX.0`, `PREFIX.1` and so on.
+    fn make_slots<'a>(
+        &self,
+        prefix: &'a str,
+        count: u32,
+    ) -> Result<Vec<FileSlot<Self::File>>, Fault<'a>>
+        ensures made { IfOk result (λ slots. AreNewFiles count slots.items) }
+        ensures refused { IfErr result (CannotMakeOneOf prefix.now (min count 512)) };
 }
 
 /// Of the system's files nothing is known before they are read.
 impl<R: Files + AllocGlobal> Folder for R {
+    type File = R::File;
+
     ghost gives = { λ _ _. ⊤ };
 
     fn read<'a>(&self, name: &'a str) -> Result<Vec<u8>, Fault<'a>> {
         read_file(self, name)
+    }
+
+    fn make_slots<'a>(
+        &self,
+        prefix: &'a str,
+        count: u32,
+    ) -> Result<Vec<FileSlot<R::File>>, Fault<'a>> {
+        Ok(make_file_slots(self, prefix, count)?)
     }
 }
 

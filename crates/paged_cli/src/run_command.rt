@@ -1,15 +1,15 @@
 //! `paged run --serial`: images run to their end on one machine.
 
-ghost use Rattle.std.specs.Prelude.{◌≡◌, ◌+◌, ◌≤◌, IfOk, length, map};
+ghost use Rattle.std.specs.Prelude.{◌≡◌, ◌+◌, ◌≤◌, IfOk, length, map, option_map};
 ghost use Rattle.command_line.specs.Requests.{IsRunInRange};
 ghost use Rattle.machine_sides.specs.Starting.{start_of};
 ghost use Rattle.paged_cli.specs.Asked.{RunsAsAsked};
-ghost use Rattle.paged_cli.specs.Playing.{ReportsRun};
+ghost use Rattle.paged_cli.specs.Playing.{ReportsAsked, ReportsOver};
 
 use crate::fault::Fault;
 use crate::files::Folder;
 use crate::image_file::read_processes;
-use crate::machine::new_machine;
+use crate::machine::{machine_on, memory_slots};
 use command_line::RunRequest;
 use elf_image::Image;
 use machine_core::Report;
@@ -19,29 +19,54 @@ use std::alloc::{AllocError, Global};
 use std::io::Write;
 use std::marker::Brand;
 use std::sync::ledger::{Blank, Ledger};
+use swap_slots::SwapSlot;
 
-/// Runs a process for each image on a new machine until all have ended, writes how it went, and answers the exit status.
+/// Runs a process for each image on a new machine until all have ended, writes how it went, and answers the exit status. Files
+/// for the slots are made once images and input are read.
 pub fn run_machine<'a, R: Folder + AllocGlobal, W: Write>(
     rt: &R,
     request: &RunRequest<'a>,
     out: &mut W,
 ) -> Result<u8, Fault<'a>>
     requires { IsRunInRange request.now }
-    ensures { IfOk result (λ status. RunsAsAsked R.gives request.now (W.contents out.old) (W.contents out.new) status) }
+    ensures { IfOk result (λ status. RunsAsAsked R.gives R.File request.now (W.contents out.old) (W.contents out.new) status) }
 {
     let processes = read_processes(rt, request.images.as_slice(), request.input)?;
-    let (frames, slots, slice) = (request.frames, request.slots, request.slice);
-    let limit = u64::from(request.limit);
-    let report = run(rt.alloc(), frames, slots, processes, slice, limit)?;
+    let report = run_asked(rt, request, processes)?;
     write_report(&report, out)?;
     Ok(status_of_all(report.processes.as_slice()))
 }
 
-/// Runs a new machine until each process has ended, or so many events have happened, and tells what it has come to.
-pub fn run(
+/// Runs processes on the machine that is asked for, and tells what it has come to.
+fn run_asked<'a, R: Folder + AllocGlobal>(
+    rt: &R,
+    request: &RunRequest<'a>,
+    processes: Vec<(Image, Vec<u8>)>,
+) -> Result<Report, Fault<'a>>
+    requires in_range { IsRunInRange request.now }
+    requires few { length processes.items ≤ 16 }
+    ensures { IfOk result (ReportsAsked R.File (option_map (λ s. s.now) request.now.swap) request.now.frames request.now.slots (map (λ start. start_of start.0 start.1.items) processes.items) request.now.slice request.now.limit) }
+{
+    let (frames, slots, slice) = (request.frames, request.slots, request.slice);
+    let limit = u64::from(request.limit);
+    match request.swap {
+        None => {
+            let slots = memory_slots(rt.alloc(), slots)?;
+            Ok(run(rt.alloc(), frames, slots, processes, slice, limit)?)
+        }
+        Some(prefix) => {
+            let slots = rt.make_slots(prefix, slots)?;
+            Ok(run(rt.alloc(), frames, slots, processes, slice, limit)?)
+        }
+    }
+}
+
+/// Runs a new machine on these slots until each process has ended, or so many events have happened, and tells what it has come
+/// to.
+fn run<S: SwapSlot>(
     alloc: Global,
     frames: u32,
-    slots: u32,
+    slots: Vec<S>,
     processes: Vec<(Image, Vec<u8>)>,
     slice: u32,
     limit: u64,
@@ -49,17 +74,17 @@ pub fn run(
     requires least { 4 ≤ frames }
     requires most { frames ≤ 4096 }
     requires few { length processes.items ≤ 16 }
-    ensures { IfOk result (ReportsRun frames slots (map (λ start. start_of start.0 start.1.items) processes.items) slice limit) }
+    ensures { IfOk result (ReportsOver S.content S.honest S.failures frames slots.items (map (λ start. start_of start.0 start.1.items) processes.items) slice limit) }
 {
     let blank = Blank::new(u64::from(frames) + 1);
-    run_with::<Brand>(alloc, frames, blank, slots, processes, slice, limit)
+    run_with::<Brand, S>(alloc, frames, blank, slots, processes, slice, limit)
 }
 
-fn run_with<L: Ledger>(
+fn run_with<L: Ledger, S: SwapSlot>(
     alloc: Global,
     frames: u32,
     blank: Blank,
-    slots: u32,
+    slots: Vec<S>,
     processes: Vec<(Image, Vec<u8>)>,
     slice: u32,
     limit: u64,
@@ -70,8 +95,8 @@ fn run_with<L: Ledger>(
     requires least { 4 ≤ frames }
     requires most { frames ≤ 4096 }
     requires few { length processes.items ≤ 16 }
-    ensures { IfOk result (ReportsRun frames slots (map (λ start. start_of start.0 start.1.items) processes.items) slice limit) }
+    ensures { IfOk result (ReportsOver S.content S.honest S.failures frames slots.items (map (λ start. start_of start.0 start.1.items) processes.items) slice limit) }
 {
-    let mut machine = new_machine::<L>(alloc, frames, blank, slots, processes)?;
+    let mut machine = machine_on::<L, S>(alloc, frames, blank, slots, processes)?;
     run_serial(alloc, &mut machine, slice, limit)
 }

@@ -3,7 +3,6 @@ use Rattle.std.proofs.Common.{List, map, ap, option_map, subst, ◌∙◌}
 use Rattle.machine_core.specs.declared.report.ProcessReport.{ProcessReport}
 use Rattle.machine_sides.specs.Starting.{Start, start_of}
 use Rattle.report_text.specs.ExitStatus.{worst_status}
-use Rattle.paged_cli.specs.Playing.{ReportsRun}
 use Rattle.paged_cli.specs.Reading.{AreGiven}
 use Rattle.paged_cli.proofs.run_command.run_machine.Goals as goal
 
@@ -14,7 +13,7 @@ returns g c =
       starts = starts;
       report = c.in_ok-report.report;
       given = subst (λ l. AreGiven g.R.Folder.gives (option_map (λ s. s.now) c.args.request.now.input) (map (λ s. s.now) l) starts) c.as_slice.ensures.value c.in_ok-processes.ensures.given;
-      ran = subst (λ limit. ReportsRun c.args.request.now.frames c.args.request.now.slots starts c.args.request.now.slice limit c.in_ok-report.report) c.from-limit.ensures c.in_ok-report.ensures;
+      ran = c.in_ok-report.ensures;
       told = c.in_ok-write_report.ensures;
       status_is = c.status_of_all.ensures ∙ ap (λ (l : List ProcessReport). worst_status 0 (map (λ process. process.end) l)) c.as_slice-2.ensures.value;
     }

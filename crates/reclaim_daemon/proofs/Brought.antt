@@ -1,5 +1,5 @@
 -- A page comes in by one hold: it is admitted, and then loaded.
-use Rattle.std.specs.Prelude.{◌≡◌, ℕ, List, Option, Some, None, Result, Ok, Err}
+use Rattle.std.specs.Prelude.{ℕ, List, Option, Some, None, Result, Ok, Err}
 use Rattle.std.proofs.Common.{sym, subst}
 use Rattle.clock_policy.specs.declared.key.Key.{Key}
 use Rattle.machine_sides.specs.Admitting.{AdmissionValue}

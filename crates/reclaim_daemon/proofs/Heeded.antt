@@ -1,6 +1,6 @@
 -- What a call on pager and process comes to under the locks: from what it came to, and what was kept then.
-use Rattle.std.specs.Prelude.{◌≡◌, ℕ, ◌<◌, ◌++◌, [], ◌∷◌, ◌&&◌, Bool, true, false, length, Some, None}
-use Rattle.std.proofs.Common.{refl, ap, sym, subst, ◌∙◌}
+use Rattle.std.specs.Prelude.{◌≡◌, ◌<◌, ◌++◌, [], ◌∷◌, ◌&&◌, false, length, Some, None}
+use Rattle.std.proofs.Common.{ap, sym, subst, ◌∙◌}
 use Rattle.clock_policy.specs.declared.key.Key.{Key}
 use Rattle.frame_pool.specs.FrameValue.{FrameValue}
 use Rattle.machine_sides.specs.Agreeing.{AgreeStill}

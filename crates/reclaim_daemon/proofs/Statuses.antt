@@ -1,6 +1,6 @@
 -- How far a process has come: which calls leave it, and what a slice adds.
-use Rattle.std.specs.Prelude.{◌≡◌, ℕ, zero, suc, ◌+◌, ◌-◌, ◌*◌, ◌<◌, ◌≤◌, ◌^◌, List, [], ◌∷◌, ◌++◌, length, replicate, slice_index_or, Option, Some, None, Result, Ok, Err, OnOk, IfErr}
-use Rattle.std.proofs.Common.{arith, refl, ap, sym, ◌∙◌, length-append}
+use Rattle.std.specs.Prelude.{◌≡◌, ℕ, suc, ◌+◌, ◌*◌, ◌<◌, ◌≤◌, ◌^◌, List, [], ◌∷◌, ◌++◌, length, replicate, slice_index_or, Result, Ok, Err, OnOk, IfErr}
+use Rattle.std.proofs.Common.{arith, ap, ◌∙◌, length-append}
 use Rattle.std.proofs.lemmas.List.{length-replicate}
 use Rattle.clock_policy.specs.declared.answer.Bit.{Bit}
 use Rattle.clock_policy.specs.declared.answer.Bit.TheVariants.{Zero, One, Gone}
@@ -18,7 +18,7 @@ use Rattle.machine_sides.specs.Purging.{Purges}
 use Rattle.machine_sides.specs.SavingBack.{EndsSave}
 use Rattle.machine_sides.specs.Sides.{PagerSideValue, ProcessSideValue}
 use Rattle.machine_sides.specs.Starting.{Start, Begins}
-use Rattle.machine_sides.specs.Sweeping.{Sweeps, ReadsBit, HeedsVerdict, AnswersQuestion}
+use Rattle.machine_sides.specs.Sweeping.{Sweeps, ReadsBit, HeedsVerdict}
 use Rattle.machine_sides.specs.declared.collecting.Looked.{Looked}
 use Rattle.machine_sides.specs.declared.collecting.Looked.TheVariants as look
 use Rattle.machine_sides.specs.declared.purging.Purging.{Purging}
@@ -33,7 +33,6 @@ use Rattle.space_core.specs.Slicing.{shown_process}
 use Rattle.space_core.specs.StandsFor.{SpaceValue}
 use Rattle.space_core.specs.declared.progress.SliceStop.{SliceStop}
 use Rattle.status_cell.specs.Counts.{AtMost, nothing}
-use Rattle.status_cell.specs.declared.status.Status.{Status}
 use Rattle.swap_slots.specs.PoolValue.{PoolValue}
 use Rattle.reclaim_daemon.specs.HeldValue.{status_of}
 use Rattle.reclaim_daemon.proofs.Outputs.{run_keeps_output}

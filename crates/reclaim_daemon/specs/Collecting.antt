@@ -1,5 +1,5 @@
 -- A look at a leaving page under both locks and the slots'.
-use Rattle.std.specs.Prelude.{◌≡◌, ℕ, Bool, true, false, ◌&&◌, Option, Some, None}
+use Rattle.std.specs.Prelude.{◌≡◌, ℕ, Bool, false, ◌&&◌, Option, Some, None}
 use Rattle.clock_policy.specs.declared.key.Key.{Key}
 use Rattle.frame_pool.specs.FrameValue.{FrameValue}
 use Rattle.machine_sides.specs.Agreeing.{AgreeStill}

@@ -1,5 +1,5 @@
 -- What stands under the pager's lock.
-use Rattle.std.specs.Prelude.{◌≡◌, ℕ, ◌<◌, ◌/◌, ◌++◌, [], ◌∷◌, Bool, true, false, List, length, max}
+use Rattle.std.specs.Prelude.{◌≡◌, ℕ, ◌<◌, ◌/◌, ◌++◌, [], ◌∷◌, Bool, false, List, length, max}
 use Rattle.frame_pool.specs.FrameValue.{FrameValue}
 use Rattle.machine_sides.specs.Sides.{PagerSideValue}
 

@@ -1,5 +1,5 @@
 -- A page comes in: it is admitted under both locks, loaded under its process's, and an admission that is not loaded is undone under both.
-use Rattle.std.specs.Prelude.{◌≡◌, ◌≢◌, ℕ, ◌<◌, ◌++◌, [], ◌∷◌, Bool, true, false, length, Option, Some, None, Result, Ok, Err}
+use Rattle.std.specs.Prelude.{◌≡◌, ◌<◌, ◌++◌, [], ◌∷◌, false, length, Option, Some, None, Result, Ok, Err}
 use Rattle.clock_policy.specs.declared.key.Key.{Key}
 use Rattle.machine_sides.specs.Admitting.{AdmissionValue, Admits, DoesNotAdmit, is_resident_at, taken_back}
 use Rattle.machine_sides.specs.Agreeing.{Agree, AgreeStill}

@@ -1,7 +1,6 @@
 -- An ended process gives its pages back under both locks and the slots'.
-use Rattle.std.specs.Prelude.{◌≡◌, ℕ, ◌<◌, ◌++◌, [], ◌∷◌, Bool, true, false, length, Option, Some, None}
+use Rattle.std.specs.Prelude.{◌≡◌, ℕ, ◌<◌, ◌++◌, false, length, Option, Some, None}
 use Rattle.frame_pool.specs.FrameValue.{FrameValue}
-use Rattle.machine_sides.specs.Agreeing.{AgreeStill}
 use Rattle.machine_sides.specs.Purging.{PurgesAll, DoesNotPurge, StopsPurging, as_list}
 use Rattle.swap_slots.specs.PoolValue.{PoolValue}
 use Rattle.reclaim_daemon.specs.Answers.{IsOther, Answers}

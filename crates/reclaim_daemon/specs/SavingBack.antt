@@ -1,6 +1,5 @@
 -- A save comes back under both locks.
-use Rattle.std.specs.Prelude.{◌≡◌, ℕ, Bool, true, false, ◌&&◌, Option, Some, None}
-use Rattle.clock_policy.specs.declared.key.Key.{Key}
+use Rattle.std.specs.Prelude.{◌≡◌, ℕ, Bool, false, ◌&&◌, Option, Some, None}
 use Rattle.frame_pool.specs.FrameValue.{FrameValue}
 use Rattle.machine_sides.specs.Agreeing.{AgreeStill}
 use Rattle.machine_sides.specs.SavingBack.{IsFreed, IsHandedBack, IsOfNoPage, FailsAndReturns, FailsAndLeaves}

@@ -173,8 +173,9 @@ impl<L: Ledger, S: SwapSlot, C: Clock> Shared<L, S, C> {
 
     /// A process has ended: the daemon takes its pages back, and who waits for one of them waits no more.
     pub(crate) fn count_end(&self) {
-        self.ended.fetch_add(1, Ordering::SeqCst);
+        // In this order: who sees that each has ended sees also that one is to be purged.
         self.unpurged.store(1, Ordering::SeqCst);
+        self.ended.fetch_add(1, Ordering::SeqCst);
         self.call();
         self.tell_change();
     }

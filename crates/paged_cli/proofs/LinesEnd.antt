@@ -19,6 +19,7 @@ pub no_line : (why : Fault) (P : ℕ → Type 0) → IsOfNoLine why → IfBadLin
 no_line (fault.BadLine number) P h = absurd h
 no_line fault.BadUsage P h = tt
 no_line (fault.CannotRead name) P h = tt
+no_line (fault.CannotMake name) P h = tt
 no_line (fault.ElfFault name number) P h = tt
 no_line (fault.Source name line number) P h = tt
 no_line (fault.BadWords name) P h = tt

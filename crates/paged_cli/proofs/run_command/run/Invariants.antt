@@ -2,4 +2,4 @@
 use Rattle.paged_cli.proofs.run_command.run.Given as goal
 
 abbrev pub ghosts-run_with : goal.ghosts-run_with
-ghosts-run_with a = record { name = a.blank.name; parts = a.blank.parts }
+ghosts-run_with g a = record { name = a.blank.name; parts = a.blank.parts }

@@ -14,6 +14,4 @@ mod runs;
 #[cfg(test)]
 mod source;
 #[cfg(test)]
-mod swap;
-#[cfg(test)]
 mod usage;

@@ -4,8 +4,6 @@
 #[cfg(test)]
 mod bench;
 #[cfg(test)]
-mod failing;
-#[cfg(test)]
 mod paging;
 #[cfg(test)]
 mod wandering;

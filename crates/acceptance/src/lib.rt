@@ -7,5 +7,3 @@ mod calls;
 mod codec;
 #[cfg(test)]
 mod pager;
-#[cfg(test)]
-mod ring;

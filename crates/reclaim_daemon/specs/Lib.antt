@@ -1,0 +1,14 @@
+pub mod HeldValue
+pub mod DeskValue
+pub mod Answers
+pub mod Sweeping
+pub mod Collecting
+pub mod SavingBack
+pub mod PagingIn
+pub mod Purging
+pub mod Running
+pub mod Tries
+pub mod Expected
+pub mod Heeding
+pub mod SharedValue
+pub mod Holding

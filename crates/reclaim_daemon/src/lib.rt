@@ -1,0 +1,28 @@
+//! The machine under locks, and the daemon that makes room in it.
+//!
+//! Each process, the pager and the slots have a lock of their own, and are taken in the order pager, process, slots: see [`Shared`].
+//! What a lock holds changes by the calls of the sides alone, and each hold is an event of the machine: it tells what it found
+//! and what it left.
+#![tactic(auto)]
+
+mod calls;
+mod desk;
+mod gate;
+mod held;
+mod holds;
+mod paging_in;
+mod reclaiming;
+mod replies;
+mod shared;
+
+pub use desk::Desk;
+pub use gate::{Gate, OpenGate};
+pub use held::Held;
+pub use holds::{Change, HoldOfAll, HoldOfBoth, HoldOfProcess};
+pub use paging_in::HoldOfPager;
+pub use reclaiming::daemon;
+pub use replies::{Collection, PagedIn, PurgeReply, SaveReply, Undone};
+pub use shared::{AddRefusal, MOST_PROCESSES, Parts, Shared};
+
+#[cfg(test)]
+mod tests;

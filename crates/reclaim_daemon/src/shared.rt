@@ -1,0 +1,241 @@
+//! The locks of a machine.
+
+ghost use Rattle.std.specs.Prelude.{◌≡◌, ◌+◌, ◌*◌, ◌≤◌, ◌↔◌, OnOk, OnErr, IsErrOf};
+ghost use Rattle.reclaim_daemon.specs.SharedValue.{most_processes, tries_per_frame};
+
+use crate::desk::Desk;
+use crate::held::Held;
+use clock_policy::Clock;
+use elf_image::Image;
+use status_cell::Viewer;
+use std::alloc::{AllocError, Global};
+use std::marker::Model;
+use std::sync::atomic::{AtomicU64, Ordering};
+use std::sync::ledger::Ledger;
+use std::sync::{Mutex, Wait};
+use std::time::Duration;
+use swap_slots::{SlotPool, SwapSlot};
+use thiserror::Error;
+
+/// The most processes that a machine runs.
+pub const MOST_PROCESSES: usize = 16;
+
+/// A process is killed after so many tries for its pages, for each frame of the machine.
+const TRIES_PER_FRAME: u64 = 64;
+
+/// For how many milliseconds a thread sleeps at most before it looks again whether what it waits for has come.
+const NAP_MILLIS: u64 = 1;
+
+/// A machine whose processes, pager and slots have a lock each. They are taken in the order pager, process, slots.
+#[derive(Drop)]
+pub struct Shared<L: Ledger, S: SwapSlot, C: Clock> {
+    pub(crate) desk: Mutex<Desk<L, C>>,
+    pub(crate) processes: Vec<Mutex<Held<L, S>>>,
+    pub(crate) slots: Mutex<SlotPool<S>>,
+    most_tries: u64,
+    /// How many processes have ended.
+    ended: AtomicU64,
+    /// Above 0 where a process has ended since the daemon looked last.
+    unpurged: AtomicU64,
+    /// Above 0 where a process was not the one of its lock's number.
+    misplaced: AtomicU64,
+    /// Above 0 where a page found no frame.
+    wanted: AtomicU64,
+    /// Rises with each thing that the daemon may have to do.
+    calls: AtomicU64,
+    /// Rises with each thing that whoever waits for a page may wait for.
+    changes: AtomicU64,
+}
+
+impl<L: Ledger, S: SwapSlot, C: Clock> Model for Shared<L, S, C> {
+    ghost use Rattle.std.specs.Prelude.{◌≤◌, vec_len};
+    ghost use Rattle.reclaim_daemon.specs.SharedValue.{SharedValue, most_processes};
+
+    ghost Value = { SharedValue };
+
+    ghost view = { λ s. record { processes = vec_len s.processes; most_tries = s.most_tries } };
+
+    ghost invariant = { λ s. vec_len s.processes ≤ most_processes };
+}
+
+/// What a machine under locks is made of, once no other thread has it.
+#[derive(Drop)]
+pub struct Parts<L: Ledger, S: SwapSlot, C: Clock> {
+    pub desk: Desk<L, C>,
+    pub processes: Vec<Mutex<Held<L, S>>>,
+    pub slots: SlotPool<S>,
+}
+
+/// Why a process was not added, in the order in which the reasons are tested.
+#[derive(Clone, Copy, PartialEq, Eq, Debug, Error)]
+pub enum AddRefusal {
+    #[error("the machine has sixteen processes")]
+    TooMany,
+    #[error("out of memory")]
+    NoMemory,
+}
+
+impl<L: Ledger, S: SwapSlot, C: Clock> Shared<L, S, C> {
+    /// A machine of this pager's frames and these slots, with no process.
+    pub fn new(alloc: Global, desk: Desk<L, C>, slots: Vec<S>) -> Self
+        ensures processes { result.processes ≡ 0 }
+        ensures tries { result.most_tries ≡ tries_per_frame * desk.pager.pager.size }
+    {
+        Shared {
+            most_tries: TRIES_PER_FRAME * u64::from(desk.pager().size()),
+            desk: Mutex::new(desk),
+            processes: Vec::new(alloc),
+            slots: Mutex::new(SlotPool::new(slots)),
+            ended: AtomicU64::new(0),
+            unpurged: AtomicU64::new(0),
+            misplaced: AtomicU64::new(0),
+            wanted: AtomicU64::new(0),
+            calls: AtomicU64::new(0),
+            changes: AtomicU64::new(0),
+        }
+    }
+
+    /// One more process, of the next number, that is to run an image on an input; and a viewer of its counts.
+    pub fn add(&mut self, alloc: Global, image: Image, input: Vec<u8>) -> Result<Viewer, AddRefusal>
+        ensures added { OnOk result (self.new ≡ record self.old { processes = self.old.processes + 1 }) }
+        ensures too_many { IsErrOf result AddRefusal.TooMany ↔ (self.old.processes ≡ most_processes) }
+        ensures err { OnErr result (self.new ≡ self.old) }
+    {
+        if self.processes.len() >= MOST_PROCESSES {
+            return Err(AddRefusal::TooMany);
+        }
+        let number = self.processes.len() as u32;
+        let Ok((held, viewer)) = Held::new(alloc, number, image, input) else {
+            return Err(AddRefusal::NoMemory);
+        };
+        if self.processes.push(Mutex::new(held)).is_err() {
+            return Err(AddRefusal::NoMemory);
+        }
+        Ok(viewer)
+    }
+
+    /// How many processes there are.
+    pub fn processes(&self) -> u32
+        ensures count { result ≡ self.now.processes }
+        ensures few { result ≤ most_processes }
+    {
+        self.processes.len() as u32
+    }
+
+    /// How often a process may be tried for.
+    pub fn most_tries(&self) -> u64
+        ensures { result ≡ self.now.most_tries }
+    {
+        self.most_tries
+    }
+
+    /// What stood under the locks. A process that was not the one of its lock's number makes the machine unsound.
+    pub fn into_parts(self) -> Parts<L, S, C> {
+        let Shared {
+            desk,
+            processes,
+            slots,
+            most_tries: _,
+            ended: _,
+            unpurged: _,
+            misplaced,
+            wanted: _,
+            calls: _,
+            changes: _,
+        } = self;
+        let mut desk = desk.into_inner();
+        if misplaced.into_inner() != 0 {
+            desk.mark_unsound();
+        }
+        Parts {
+            desk,
+            processes,
+            slots: slots.into_inner(),
+        }
+    }
+}
+
+impl<L: Ledger, S: SwapSlot, C: Clock> Shared<L, S, C> {
+    /// Whether each process has ended.
+    pub fn has_ended(&self) -> bool {
+        self.ended.load(Ordering::SeqCst) >= self.processes.len() as u64
+    }
+
+    /// Whether a process has ended since this was asked last.
+    pub(crate) fn take_ends(&self) -> bool {
+        self.unpurged.swap(0, Ordering::SeqCst) != 0
+    }
+
+    /// Whether fewer frames are free than are to be.
+    pub(crate) fn wants_frames<R: Wait>(&self, rt: &R) -> bool {
+        self.desk.lock(rt).wants_frames()
+    }
+
+    /// A process has ended: the daemon takes its pages back, and who waits for one of them waits no more.
+    pub(crate) fn count_end(&self) {
+        self.ended.fetch_add(1, Ordering::SeqCst);
+        self.unpurged.store(1, Ordering::SeqCst);
+        self.call();
+        self.tell_change();
+    }
+
+    /// A process was not the one of its lock's number.
+    pub(crate) fn misplace(&self) {
+        self.misplaced.store(1, Ordering::SeqCst);
+    }
+
+    pub(crate) fn is_misplaced(&self) -> bool {
+        self.misplaced.load(Ordering::SeqCst) != 0
+    }
+
+    /// A page found no frame.
+    pub(crate) fn want_frame(&self) {
+        self.wanted.store(1, Ordering::SeqCst);
+        self.call();
+    }
+
+    /// Whether a page has found no frame since this was asked last.
+    pub(crate) fn take_want(&self) -> bool {
+        self.wanted.swap(0, Ordering::SeqCst) != 0
+    }
+
+    /// The daemon has something to do.
+    pub(crate) fn call(&self) {
+        self.calls.fetch_add(1, Ordering::SeqCst);
+        self.calls.wake_all();
+    }
+
+    /// How often the daemon had something to do.
+    pub(crate) fn calls(&self) -> u64 {
+        self.calls.load(Ordering::SeqCst)
+    }
+
+    /// Sleeps for a while where nothing came for the daemon since `calls` was read.
+    pub(crate) fn wait_for_call<R: Wait>(&self, rt: &R, calls: u64) {
+        self.calls
+            .park_timeout(rt, low_half(calls), Duration::from_millis(NAP_MILLIS));
+    }
+
+    /// What whoever waits for a page may wait for has changed.
+    pub(crate) fn tell_change(&self) {
+        self.changes.fetch_add(1, Ordering::SeqCst);
+        self.changes.wake_all();
+    }
+
+    /// How often what whoever waits for a page may wait for has changed. Read it before the page is asked for.
+    pub fn changes(&self) -> u64 {
+        self.changes.load(Ordering::SeqCst)
+    }
+
+    /// Sleeps for a while where nothing has changed since `changes` was read: no frame came free, no page came or went, and no
+    /// process has ended.
+    pub fn wait_for_change<R: Wait>(&self, rt: &R, changes: u64) {
+        self.changes
+            .park_timeout(rt, low_half(changes), Duration::from_millis(NAP_MILLIS));
+    }
+}
+
+/// The low 32 bits of a word.
+fn low_half(word: u64) -> u32 {
+    (word & 0xffff_ffff) as u32
+}

@@ -79,6 +79,7 @@ fn run<'a>(alloc: Global) -> Result<Command<'a>, AllocError>
         .arg(option(alloc, "limit"))?
         .arg(option(alloc, "input"))?
         .arg(flag(alloc, "serial"))?
+        .arg(flag(alloc, "status"))?
         .arg(files(alloc, "image"))
 }
 

@@ -2,10 +2,10 @@
 #![tactic(auto)]
 
 #[cfg(test)]
+mod arithmetic;
+#[cfg(test)]
 mod calls;
 #[cfg(test)]
 mod codec;
 #[cfg(test)]
 mod pager;
-#[cfg(test)]
-mod ring;

@@ -3,11 +3,7 @@
 
 mod body;
 mod list;
-#[cfg(test)]
-mod moves;
 mod rebuild;
 mod scan;
-#[cfg(test)]
-mod tests;
 
 pub use list::ClockList;

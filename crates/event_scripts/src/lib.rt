@@ -5,8 +5,6 @@ mod clock_script;
 mod drive_line;
 mod drive_script;
 mod reply_line;
-#[cfg(test)]
-mod tests;
 
 pub use clock_script::{ClockCall, call_on_line};
 pub use drive_line::event_on_line;

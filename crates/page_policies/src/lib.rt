@@ -11,8 +11,6 @@ mod optimum;
 mod policy;
 mod second_chance;
 mod string_uses;
-#[cfg(test)]
-mod tests;
 
 pub use clock_pro::ClockPro;
 pub use counter::Counter;

@@ -18,6 +18,3 @@ pub use page::StoredPage;
 pub use page_copy::PageCopy;
 pub use refusal::{FillFault, LeaveRefusal, NotLeaving, ReadFault};
 pub use state::{Keeping, PageState};
-
-#[cfg(test)]
-mod tests;

@@ -16,4 +16,8 @@ mod ring;
 #[cfg(test)]
 mod slots;
 #[cfg(test)]
+mod stored_pages;
+#[cfg(test)]
 mod tables;
+#[cfg(test)]
+mod translations;

@@ -17,8 +17,6 @@ mod multiplication;
 mod operations;
 mod outcome;
 mod regs;
-#[cfg(test)]
-mod tests;
 
 pub use amo::amo_word;
 pub use bus::{Bus, BusError};

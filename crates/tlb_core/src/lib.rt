@@ -13,6 +13,3 @@ mod translation;
 
 pub use tlb::{TLB_ENTRIES, Tlb};
 pub use translation::Translation;
-
-#[cfg(test)]
-mod tests;

@@ -1,6 +1,6 @@
 ghost use Rattle.std.specs.Prelude.{◌≡◌, ◌+◌};
 
-use crate::{Collected, FillFault, PageState, ReadFault, SaveRefusal, StoredPage};
+use page_store::{Collected, FillFault, PageState, ReadFault, SaveRefusal, StoredPage};
 use frame_pool::{Frame, FramePool};
 use page_memory::Rights;
 use std::alloc::Global;

@@ -1,4 +1,4 @@
-use crate::{Tlb, Translation};
+use tlb_core::{Tlb, Translation};
 use page_memory::{Access, Rights, Width};
 
 fn entry(page: u32, frame: u32) -> Translation {

@@ -1,4 +1,4 @@
-//! The replacement list as a vector and as a circle of links: what a test says of the one holds of the other.
+//! Calls of the replacement list, as a vector and as a circle of links.
 
 use clock_list::ClockList;
 use clock_policy::{
@@ -149,84 +149,4 @@ fn sizes_refused_by_both(rt: HostRuntime) {
         assert!(rt; matches!(ClockList::new(rt.alloc(), frames), Err(NewRefusal::BadSize)));
         assert!(rt; matches!(ClockRing::new(rt.alloc(), frames), Err(NewRefusal::BadSize)));
     }
-}
-
-/// The two lists, and room for their entries.
-#[derive(Drop)]
-struct Both {
-    list: ClockList,
-    ring: ClockRing,
-    of_list: Vec<Entry>,
-    of_ring: Vec<Entry>,
-}
-
-impl Both {
-    fn new(alloc: Global, frames: usize) -> Result<Self, Fail> {
-        Ok(Both {
-            list: ClockList::new(alloc, frames)?,
-            ring: ClockRing::new(alloc, frames)?,
-            of_list: Vec::new(alloc),
-            of_ring: Vec::new(alloc),
-        })
-    }
-
-    /// One call on both, chosen by a random number, and whether they answer alike.
-    fn step(&mut self, random: u64, keys: u32) -> bool {
-        let Both { list, ring, .. } = self;
-        let key = Key {
-            process: ((random >> 8) % 3) as u32,
-            vpn: ((random >> 16) % 16384) as u32 % keys.max(1),
-        };
-        match random % 64 {
-            0..=23 => list.answer(Bit::Zero) == ring.answer(Bit::Zero),
-            24..=36 => list.answer(Bit::One) == ring.answer(Bit::One),
-            37..=38 => list.answer(Bit::Gone) == ring.answer(Bit::Gone),
-            39..=57 => list.admit(key) == ring.admit(key),
-            58..=60 => list.restore(key) == ring.restore(key),
-            61..=62 => list.withdraw(key) == ring.withdraw(key),
-            _ if (random >> 40) % 64 == 0 => list.purge(key.process) == ring.purge(key.process),
-            _ => list.question() == ring.question() && list.kind_of(key) == ring.kind_of(key),
-        }
-    }
-
-    fn hands_alike(&self) -> bool {
-        let hands = (self.list.cold_hand(), self.list.test_hand())
-            == (self.ring.cold_hand(), self.ring.test_hand());
-        let counts = (self.list.share(), self.list.asked())
-            == (self.ring.share(), self.ring.asked());
-        hands && counts
-    }
-
-    fn entries_alike(&mut self) -> Result<bool, Fail> {
-        self.of_list.clear();
-        self.of_ring.clear();
-        self.list.copy_entries(&mut self.of_list)?;
-        self.ring.copy_entries(&mut self.of_ring)?;
-        Ok(self.of_list.as_slice() == self.of_ring.as_slice())
-    }
-}
-
-/// The pages of the last, largest walk are too many for the ring's table of slots.
-#[test]
-fn random_calls_do_the_same_to_both(rt: HostRuntime) -> Result<(), Fail> {
-    let mut random = 88172645463325252u64;
-    for (frames, keys, calls) in [
-        (4, 3, 40_000),
-        (5, 6, 40_000),
-        (16, 40, 40_000),
-        (64, 100, 20_000),
-        (512, 16_384, 20_000),
-    ] {
-        let mut both = Both::new(rt.alloc(), frames)?;
-        for _ in 0..calls {
-            random = random
-                .wrapping_mul(6364136223846793005)
-                .wrapping_add(1442695040888963407);
-            let alike = both.step(random >> 16, keys) && both.hands_alike();
-            let entries = (random >> 33) % 16 != 0 || both.entries_alike()?;
-            assert!(rt; alike && entries, "{frames} frames, at {random}");
-        }
-        assert!(rt; both.entries_alike()?, "{frames} frames");
-    }
-    Ok(())
 }

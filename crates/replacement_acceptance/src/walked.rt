@@ -5,7 +5,7 @@ use std::alloc::{AllocError, Global};
 
 #[derive(Debug, Drop)]
 pub(crate) struct Walked {
-    pub(crate) frames: usize,
+    frames: usize,
     pub(crate) share: usize,
     pub(crate) asked: usize,
     pub(crate) list: Vec<Entry>,

@@ -1,0 +1,75 @@
+//! The lines of a drive script.
+
+use clock_policy::Key;
+use event_scripts::{event_on_line, read_drive_script};
+use flat_machine::KillCause;
+use machine_core::Event;
+use script_lines::BadLine;
+use std::test::Fail;
+
+/// Page 16 of process 0.
+const KEY: Key = Key {
+    process: 0,
+    vpn: 16,
+};
+
+/// Lines of every event, with numbers in all forms.
+const LINES: [(&str, Event); 8] = [
+    (
+        "step 0 1",
+        Event::Step {
+            process: 0,
+            hart: 1,
+        },
+    ),
+    (
+        "\tnotice 0  7 ",
+        Event::Notice {
+            process: 0,
+            hart: 7,
+        },
+    ),
+    ("sweep", Event::Sweep),
+    ("collect 0 0x10", Event::Collect(KEY)),
+    ("saved 00 16", Event::Saved(KEY)),
+    ("pagein 0 0016", Event::PageIn(KEY)),
+    (
+        "kill 4294967295 6",
+        Event::Kill {
+            process: u32::MAX,
+            cause: KillCause::Limit,
+        },
+    ),
+    ("purge 0xFFFFFFFF", Event::Purge { process: u32::MAX }),
+];
+
+#[test]
+fn lines_are_events(rt: HostRuntime) {
+    for (line, event) in LINES {
+        assert_eq!(rt; event_on_line(line.as_bytes()), Ok(Some(event)), "{line}");
+    }
+    assert_eq!(rt; event_on_line(b"#sweep".as_slice()), Ok(None));
+    for line in ["kill 0 7", "step 4294967296 0"] {
+        assert_eq!(rt; event_on_line(line.as_bytes()), Err(BadLine), "{line}");
+    }
+}
+
+#[test]
+fn a_bad_line_ends_the_script(rt: HostRuntime) -> Result<(), Fail> {
+    let text = "sweep\n\n# one\npurge 1\nsweep 1\nsweep";
+    let script = read_drive_script(rt.alloc(), text.as_bytes())?;
+    assert_eq!(rt;
+        script.events.as_slice(),
+        [Event::Sweep, Event::Purge { process: 1 }].as_slice()
+    );
+    assert_eq!(rt; script.bad_line, Some(5));
+    Ok(())
+}
+
+#[test]
+fn a_script_ends_with_its_last_line(rt: HostRuntime) -> Result<(), Fail> {
+    let script = read_drive_script(rt.alloc(), b"sweep\n".as_slice())?;
+    assert_eq!(rt; script.events.len(), 1);
+    assert_eq!(rt; script.bad_line, None);
+    Ok(())
+}

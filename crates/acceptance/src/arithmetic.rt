@@ -3,7 +3,17 @@
 
 use page_memory::{FlatMemory, Page, Rights, Width};
 use rv_exec::{Outcome, Regs, execute};
+use std::alloc::{AllocError, Global};
 use std::test::Fail;
+
+/// Memory whose first word at 0x10000 is this one.
+fn memory_with(alloc: Global, word: u32) -> Result<FlatMemory, AllocError> {
+    let mut page = Page::zeroed(alloc, Rights::READ_EXECUTE)?;
+    page.put_number(Width::Word, 0, word);
+    let mut memory = FlatMemory::new(alloc)?;
+    memory.map_page(0x10, page)?;
+    Ok(memory)
+}
 
 #[test]
 fn divisions_and_high_products(rt: HostRuntime) -> Result<(), Fail> {
@@ -24,10 +34,7 @@ fn divisions_and_high_products(rt: HostRuntime) -> Result<(), Fail> {
         (mulhsu, 0xFFFF_FFFF, 0xFFFF_FFFF, 0xFFFF_FFFF),
     ];
     for (word, a, b, expected) in table {
-        let mut page = Page::zeroed(alloc, Rights::READ_EXECUTE)?;
-        page.put_number(Width::Word, 0, word);
-        let mut memory = FlatMemory::new(alloc)?;
-        memory.map_page(0x10, page)?;
+        let mut memory = memory_with(alloc, word)?;
         let mut regs = Regs::new(0x1_0000);
         regs.set_x(1, a);
         regs.set_x(2, b);

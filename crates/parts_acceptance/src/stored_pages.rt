@@ -1,8 +1,8 @@
 ghost use Rattle.std.specs.Prelude.{◌≡◌, ◌+◌};
 
-use page_store::{Collected, FillFault, PageState, ReadFault, SaveRefusal, StoredPage};
 use frame_pool::{Frame, FramePool};
 use page_memory::Rights;
+use page_store::{Collected, FillFault, PageState, ReadFault, SaveRefusal, StoredPage};
 use std::alloc::Global;
 use std::marker::Brand;
 use std::process::Abort;

@@ -1,5 +1,5 @@
-use tlb_core::{Tlb, Translation};
 use page_memory::{Access, Rights, Width};
+use tlb_core::{Tlb, Translation};
 
 fn entry(page: u32, frame: u32) -> Translation {
     Translation {

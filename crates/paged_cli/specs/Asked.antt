@@ -15,7 +15,7 @@ use Rattle.report_text.specs.ExitStatus.{exit_status, ending_of, worst_status}
 use Rattle.report_text.specs.ReportText.{process_text, report_text}
 use Rattle.text_lines.specs.Text.{lines_of}
 use Rattle.paged_cli.specs.Playing.{Plays, ReportsAsked}
-use Rattle.paged_cli.specs.Reading.{AreGiven, GivesImage, GivesInput}
+use Rattle.image_files.specs.Reading.{AreGiven, GivesImage, GivesInput}
 use Rattle.paged_cli.specs.Replies.{replies_text}
 
 module _ (gives : List ℕ → List ℕ → Type 0) where

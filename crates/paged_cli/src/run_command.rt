@@ -6,12 +6,10 @@ ghost use Rattle.machine_sides.specs.Starting.{start_of};
 ghost use Rattle.paged_cli.specs.Asked.{RunsAsAsked};
 ghost use Rattle.paged_cli.specs.Playing.{ReportsAsked, ReportsOver};
 
-use crate::fault::Fault;
-use crate::files::Folder;
-use crate::image_file::read_processes;
-use crate::machine::{machine_on, memory_slots};
+use crate::machine::machine_on;
 use command_line::RunRequest;
 use elf_image::Image;
+use image_files::{Fault, Folder, memory_slots, read_processes};
 use machine_core::Report;
 use report_text::{status_of_all, write_report};
 use serial_driver::run_serial;

@@ -1,7 +1,7 @@
 //! The ways in which files hold images.
 
 ghost use Rattle.std.specs.Prelude.{◌≡◌, ◌↔◌};
-ghost use Rattle.paged_cli.specs.ImageKind.{BeginsAsElf, BeginsAsWords};
+ghost use Rattle.image_files.specs.ImageKind.{BeginsAsElf, BeginsAsWords};
 
 use elf_image::begins_as_elf;
 use text_lines::next_line;

@@ -1,10 +1,9 @@
 //! Files that commands read whole, and files of slots.
 
 ghost use Rattle.std.specs.Prelude.{◌≡◌, ◌≤◌, ℕ, ⊤, List, [], false, is_some, IfErr, IfOk, min, option_map, vec_len};
-ghost use Rattle.paged_cli.specs.Debugged.{IsOfNoLine};
-ghost use Rattle.paged_cli.specs.Playing.{AreNewFiles};
-ghost use Rattle.paged_cli.specs.Reading.{GivesInput};
-ghost use Rattle.paged_cli.specs.SlotFiles.{CannotMakeOneOf};
+ghost use Rattle.image_files.specs.Faults.{IsOfNoLine};
+ghost use Rattle.image_files.specs.Reading.{GivesInput};
+ghost use Rattle.image_files.specs.SlotFiles.{AreNewFiles, CannotMakeOneOf};
 
 use crate::fault::Fault;
 use file_slots::{FileSlot, make_file_slots};

@@ -1,7 +1,7 @@
 use Rattle.std.proofs.Common.{◌≡◌, ◌++◌, length}
 use Rattle.text_lines.specs.Text.{lines_of}
-use Rattle.paged_cli.specs.WordsFile.{AreWordLines, words_on}
-use Rattle.paged_cli.proofs.words_file.words_of_lines.Given as goal
+use Rattle.image_files.specs.WordsFile.{AreWordLines, words_on}
+use Rattle.image_files.proofs.words_file.words_of_lines.Given as goal
 
 -- The lines that were passed are words, and `words` has what they write.
 abbrev pub invariant-loop-line : goal.invariant-loop-line

@@ -5,8 +5,8 @@ use Rattle.elf_image.specs.Image.{ImageContent, image_of_words}
 use Rattle.machine_sides.specs.Starting.{Start}
 use Rattle.rv_asm.specs.Assembly.{Assembles}
 use Rattle.rv_asm.specs.Listing.{ListingContent}
-use Rattle.paged_cli.specs.ImageKind.{BeginsAsElf, BeginsAsWords}
-use Rattle.paged_cli.specs.WordsFile.{words_in}
+use Rattle.image_files.specs.ImageKind.{BeginsAsElf, BeginsAsWords}
+use Rattle.image_files.specs.WordsFile.{words_in}
 
 -- the image that a file holds: of an ELF file what it says, of a list of words those, and else what its source is assembled to
 pub record HoldsImage (file : List ℕ) (image : ImageContent) : Type 0 where

@@ -4,7 +4,7 @@ ghost use Rattle.std.specs.Prelude.{◌≡◌, IfOk, length};
 ghost use Rattle.std.specs.Option.{SomeIff};
 ghost use Rattle.std.specs.Str.Parse.{digits_value};
 ghost use Rattle.text_lines.specs.Text.{lines_of};
-ghost use Rattle.paged_cli.specs.WordsFile.{IsWordLine, AreWordLines, IsWordsFile, words_on, words_in};
+ghost use Rattle.image_files.specs.WordsFile.{IsWordLine, AreWordLines, IsWordsFile, words_on, words_in};
 
 use std::alloc::{AllocError, Global};
 use text_lines::{next_line, numeral};

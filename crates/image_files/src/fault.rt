@@ -33,7 +33,7 @@ pub enum Fault<'a> {
 
 impl From<AllocError> for Fault<'_> {
     ghost use Rattle.std.specs.Prelude.{◌≡◌};
-    ghost use Rattle.paged_cli.specs.declared.fault.Fault.TheVariants.{NoMemory};
+    ghost use Rattle.image_files.specs.declared.fault.Fault.TheVariants.{NoMemory};
 
     ghost from_gives = { λ _ fault. fault ≡ NoMemory };
 
@@ -53,7 +53,7 @@ impl From<UsageError> for Fault<'_> {
 
 impl<'a> From<FilesFault<'a>> for Fault<'a> {
     ghost use Rattle.std.specs.Prelude.{◌≡◌};
-    ghost use Rattle.paged_cli.specs.SlotFiles.{fault_of};
+    ghost use Rattle.image_files.specs.SlotFiles.{fault_of};
 
     ghost from_gives = { λ error fault. fault ≡ fault_of error };
 

@@ -1,8 +1,8 @@
 use Rattle.std.proofs.Common.{◌≡◌, ◌∙◌, refl, arith, length, map, option_map}
 use Rattle.std.proofs.lemmas.List.{length-map}
 use Rattle.machine_sides.specs.Starting.{start_of}
-use Rattle.paged_cli.proofs.Given.{none_given, first_given, as_many}
-use Rattle.paged_cli.proofs.image_file.read_processes.Goals as goal
+use Rattle.image_files.proofs.Given.{none_given, first_given, as_many}
+use Rattle.image_files.proofs.image_file.read_processes.Goals as goal
 
 pub returns-then-is_empty : goal.returns-then-is_empty
 returns-then-is_empty g c =

@@ -1,7 +1,7 @@
 use Rattle.std.proofs.Common.{drop, map}
 use Rattle.machine_sides.specs.Starting.{start_of}
-use Rattle.paged_cli.proofs.Given.{Completes}
-use Rattle.paged_cli.proofs.image_file.read_images.Given as goal
+use Rattle.image_files.proofs.Given.{Completes}
+use Rattle.image_files.proofs.image_file.read_images.Given as goal
 
 -- What is still to be read goes behind what was read.
 abbrev pub invariant-loop-name : goal.invariant-loop-name

@@ -3,7 +3,7 @@ use Rattle.std.proofs.Common.{◌≡◌, ℕ, ◌≤◌, ◌<◌, ◌^◌, List,
 use Rattle.std.specs.Option.{SomeIff}
 use Rattle.std.specs.Str.Parse.{AllDigits, IsNumeral, digits_value}
 use Rattle.std.proofs.lemmas.Int.Digits.{digits_value-lt}
-use Rattle.paged_cli.specs.WordsFile.{IsWordLine}
+use Rattle.image_files.specs.WordsFile.{IsWordLine}
 
 bound : (line : List ℕ) → length line ≡ 8 → AllDigits 16 line → digits_value 16 line ≤ 4294967295
 bound line eight digits =

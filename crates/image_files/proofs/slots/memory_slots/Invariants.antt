@@ -1,6 +1,6 @@
 use Rattle.std.proofs.Common.{◌≡◌, ◌≤◌, ◌-◌, length, replicate}
 use Rattle.swap_slots.specs.Slot.{zero_content}
-use Rattle.paged_cli.proofs.machine.memory_slots.Given as goal
+use Rattle.image_files.proofs.slots.memory_slots.Given as goal
 
 abbrev pub invariant-slots : goal.invariant-slots
 invariant-slots l = record {

@@ -1,8 +1,8 @@
 use Rattle.std.proofs.Common.{◌≡◌, ◌∷◌, ◌++◌, [], map, arith}
 use Rattle.std.proofs.lemmas.Grind.{common_steps}
 use Rattle.machine_sides.specs.Starting.{start_of}
-use Rattle.paged_cli.proofs.Given.{none_read, one_read, all_read}
-use Rattle.paged_cli.proofs.image_file.read_images.Goals as goal
+use Rattle.image_files.proofs.Given.{none_read, one_read, all_read}
+use Rattle.image_files.proofs.image_file.read_images.Goals as goal
 
 pub loop-name-init : goal.loop-name-init
 loop-name-init g c =

@@ -1,6 +1,6 @@
 //! Command lines of a file.
 
-use crate::run::{run_line, show_run};
+use crate::run::{Host, run_line, show_run};
 use std::io::Write;
 use std::{fs, io};
 
@@ -8,7 +8,7 @@ use std::{fs, io};
 const FILE: &str = "runs/runs.txt";
 
 /// Shows a run of each line. Lines that begin with `#` are shown themselves, and empty lines are skipped.
-pub fn show_lines<W: Write>(rt: &HostRuntime, out: &mut W) -> io::Result<()> {
+pub fn show_lines<R: Host, W: Write>(rt: &R, out: &mut W) -> io::Result<()> {
     let text = fs::read_to_string(rt, FILE)?;
     for line in text.as_str().lines() {
         show_line(rt, line, out)?;
@@ -16,7 +16,7 @@ pub fn show_lines<W: Write>(rt: &HostRuntime, out: &mut W) -> io::Result<()> {
     Ok(())
 }
 
-fn show_line<W: Write>(rt: &HostRuntime, line: &str, out: &mut W) -> io::Result<()> {
+fn show_line<R: Host, W: Write>(rt: &R, line: &str, out: &mut W) -> io::Result<()> {
     if line.is_empty() {
         return Ok(());
     }

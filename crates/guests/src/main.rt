@@ -10,6 +10,7 @@ mod tables;
 
 use crate::guests::show_guests;
 use crate::lines::show_lines;
+use crate::run::Host;
 use crate::tables::show_tables;
 use std::io;
 use std::io::{BufWriter, Write};
@@ -22,7 +23,7 @@ fn main(rt: HostRuntime) -> ExitCode {
     }
 }
 
-fn show_all(rt: &HostRuntime) -> io::Result<()> {
+fn show_all<R: Host + Print>(rt: &R) -> io::Result<()> {
     let mut out = BufWriter::new(rt.alloc(), io::writer(rt))?;
     show_guests(rt, &mut out)?;
     show_lines(rt, &mut out)?;

@@ -1,12 +1,12 @@
 //! Runs of both programs.
 
-use paged_cli::run_paged;
+use crate::run::Host;
 use policies_cli::run_policies;
 use std::io;
 use std::io::Write;
 
 /// Shows what `policies` prints on these words.
-pub fn show_policies<W: Write>(rt: &HostRuntime, words: &[&str], out: &mut W) -> io::Result<()> {
+pub fn show_policies<R: Host, W: Write>(rt: &R, words: &[&str], out: &mut W) -> io::Result<()> {
     let mut printed = Vec::new(rt.alloc());
     let mut fault = Vec::new(rt.alloc());
     let status = run_policies(rt, words, &mut printed, &mut fault);
@@ -19,8 +19,8 @@ pub fn show_policies<W: Write>(rt: &HostRuntime, words: &[&str], out: &mut W) ->
 }
 
 /// Shows how many pages `paged run --serial` brings in for an image with each of these numbers of frames, which commas part.
-pub fn show_page_ins<W: Write>(
-    rt: &HostRuntime,
+pub fn show_page_ins<R: Host, W: Write>(
+    rt: &R,
     frames: &str,
     image: &str,
     out: &mut W,
@@ -29,13 +29,7 @@ pub fn show_page_ins<W: Write>(
         let words = ["run", "--serial", "--frames", number, image];
         let mut printed = Vec::new(rt.alloc());
         let mut fault = Vec::new(rt.alloc());
-        run_paged(
-            rt,
-            words.as_slice(),
-            &mut io::empty(),
-            &mut printed,
-            &mut fault,
-        );
+        rt.run(words.as_slice(), &mut printed, &mut fault);
         out.write_all(fault.as_slice())?;
         show_counts(printed.as_slice(), out)?;
     }

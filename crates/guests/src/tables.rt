@@ -1,6 +1,7 @@
 //! Guests on the replacement policies, and on the machine, and what each misses: the lines of `data/tables.txt`, whose words are parted by
 //! one blank each. What is to come out was counted by `scripts/policies-model`.
 
+use crate::run::Host;
 use crate::table_runs::{show_page_ins, show_policies};
 use std::io::Write;
 use std::{fs, io};
@@ -9,7 +10,7 @@ use std::{fs, io};
 const FILE: &str = "tables.txt";
 
 /// Shows each line, and what comes of it.
-pub fn show_tables<W: Write>(rt: &HostRuntime, out: &mut W) -> io::Result<()> {
+pub fn show_tables<R: Host, W: Write>(rt: &R, out: &mut W) -> io::Result<()> {
     let text = fs::read_to_string(rt, FILE)?;
     for line in text.as_str().lines() {
         writeln!(out, "== {line}")?;

@@ -1,3 +1,3 @@
 pub mod Given
-pub mod Slots
 pub mod WordLines
+pub mod ZeroSlots

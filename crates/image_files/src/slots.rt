@@ -7,7 +7,7 @@ use std::alloc::{AllocError, Global};
 use swap_slots::MemorySlot;
 
 /// So many slots in memory.
-#[tactic(auto, using(crate::proofs::Slots::one_more, crate::proofs::Slots::as_many))]
+#[tactic(auto, using(crate::proofs::ZeroSlots::one_more, crate::proofs::ZeroSlots::as_many))]
 pub fn memory_slots(alloc: Global, count: u32) -> Result<Vec<MemorySlot>, AllocError>
     ensures { IfOk result (λ slots. slots.items ≡ replicate count zero_content) }
 {

@@ -1,7 +1,37 @@
 //! Runs of the program on files in a folder of their own.
 
 use paged_cli::run_paged;
+use std::rt::Files;
+use std::sync::Wait;
+use std::thread::Threads;
 use std::{env, fs, io, process};
+
+/// Who has a number that no one else has now.
+pub trait Numbered {
+    fn number(&self) -> u32;
+}
+
+impl Numbered for HostRuntime {
+    fn number(&self) -> u32 {
+        process::id(self.process())
+    }
+}
+
+/// Whoever the program runs on.
+pub trait Host: Files + Env + AllocGlobal + Threads + Wait + Numbered {
+    /// Runs the program on some words and an input, and answers its exit status.
+    fn run(&self, words: &[&str], input: &[u8], out: &mut Vec<u8>, err: &mut Vec<u8>) -> u8;
+}
+
+impl<R: Files + Env + AllocGlobal + Threads + Wait + Sync + Numbered> Host for R
+where
+    R::File: Send,
+{
+    fn run(&self, words: &[&str], input: &[u8], out: &mut Vec<u8>, err: &mut Vec<u8>) -> u8 {
+        let mut input = input;
+        run_paged(self, words, &mut input, out, err)
+    }
+}
 
 /// What a run left behind.
 #[derive(Drop)]
@@ -12,16 +42,15 @@ pub struct Run {
 }
 
 /// Runs the program on some words, with nothing on standard input.
-pub fn run_words(rt: &HostRuntime, words: &[&str]) -> io::Result<Run> {
+pub fn run_words<R: Host>(rt: &R, words: &[&str]) -> io::Result<Run> {
     run_words_on(rt, words, b"".as_slice())
 }
 
 /// Runs the program on some words and an input.
-pub fn run_words_on(rt: &HostRuntime, words: &[&str], input: &[u8]) -> io::Result<Run> {
-    let mut input = input;
+pub fn run_words_on<R: Host>(rt: &R, words: &[&str], input: &[u8]) -> io::Result<Run> {
     let mut out = Vec::new(rt.alloc());
     let mut err = Vec::new(rt.alloc());
-    let status = run_paged(rt, words, &mut input, &mut out, &mut err);
+    let status = rt.run(words, input, &mut out, &mut err);
     let (Ok(out), Ok(err)) = (String::from_utf8(out), String::from_utf8(err)) else {
         return Err(io::Error::from(io::ErrorKind::InvalidData));
     };
@@ -36,8 +65,8 @@ pub struct TestFile {
 
 impl TestFile {
     /// Writes a file for the test of this name.
-    pub fn new(rt: &HostRuntime, test: &str, content: &[u8]) -> io::Result<TestFile> {
-        let id = process::id(rt.process());
+    pub fn new<R: Files + Env + AllocGlobal + Numbered>(rt: &R, test: &str, content: &[u8]) -> io::Result<TestFile> {
+        let id = rt.number();
         let name = format!(in rt.alloc(); "paged-{test}-{id}")?;
         let folder = env::temp_dir(rt)?;
         let path = folder.join(rt.alloc(), name.as_str())?;
@@ -47,13 +76,13 @@ impl TestFile {
         })
     }
 
-    pub fn remove(self, rt: &HostRuntime) -> io::Result<()> {
+    pub fn remove<R: Files>(self, rt: &R) -> io::Result<()> {
         fs::remove_file(rt, self.path.as_str())
     }
 }
 
 /// Runs `paged flat` on a file of this content.
-pub fn run_flat(rt: &HostRuntime, test: &str, content: &[u8]) -> io::Result<Run> {
+pub fn run_flat<R: Host>(rt: &R, test: &str, content: &[u8]) -> io::Result<Run> {
     let file = TestFile::new(rt, test, content)?;
     let done = run_words(rt, &["flat", file.path.as_str()]);
     file.remove(rt)?;
@@ -61,8 +90,8 @@ pub fn run_flat(rt: &HostRuntime, test: &str, content: &[u8]) -> io::Result<Run>
 }
 
 /// Runs `paged debug` on a file of this content and an input: on flat memory, or on so many frames.
-pub fn run_debug(
-    rt: &HostRuntime,
+pub fn run_debug<R: Host>(
+    rt: &R,
     test: &str,
     frames: Option<&str>,
     content: &[u8],
@@ -79,12 +108,12 @@ pub fn run_debug(
 }
 
 /// Runs `paged clock` for four frames on a script.
-pub fn run_clock(rt: &HostRuntime, test: &str, script: &str) -> io::Result<Run> {
+pub fn run_clock<R: Host>(rt: &R, test: &str, script: &str) -> io::Result<Run> {
     run_clock_for(rt, test, "4", script)
 }
 
 /// Runs `paged clock` for a number of frames on a script.
-pub fn run_clock_for(rt: &HostRuntime, test: &str, frames: &str, script: &str) -> io::Result<Run> {
+pub fn run_clock_for<R: Host>(rt: &R, test: &str, frames: &str, script: &str) -> io::Result<Run> {
     let file = TestFile::new(rt, test, script.as_bytes())?;
     let done = run_words(rt, &["clock", frames, file.path.as_str()]);
     file.remove(rt)?;

@@ -4,7 +4,7 @@ use Rattle.machine_core.specs.declared.report.ProcessReport.{ProcessReport}
 use Rattle.machine_sides.specs.Starting.{Start, start_of}
 use Rattle.report_text.specs.ExitStatus.{worst_status}
 use Rattle.image_files.specs.Reading.{AreGiven}
-use Rattle.paged_cli.proofs.run_command.run_machine.Goals as goal
+use Rattle.paged_cli.proofs.run_command.run_serially.Goals as goal
 
 pub returns : goal.returns
 returns g c =

@@ -10,7 +10,6 @@ use Rattle.command_line.specs.declared.request.Threading.TheVariants.{Serial, Wo
 use Rattle.elf_image.specs.Image.{ImageContent}
 use Rattle.flat_machine.specs.ByTurns.{by_turns, first_turn}
 use Rattle.flat_machine.specs.Process.{Process, opening}
-use Rattle.hart_carriers.specs.declared.report.Report as carriers
 use Rattle.machine_core.specs.declared.event.Reply.{Reply}
 use Rattle.machine_core.specs.declared.report.Report.{Report}
 use Rattle.machine_sides.specs.Starting.{Start}
@@ -34,10 +33,10 @@ module _ (gives : List ℕ → List ℕ → Type 0) where
     pub told : Appends old new (report_text report)
     pub status_is : status ≡ worst_status 0 (map (λ process. process.end) report.processes.items)
 
-  -- on one thread, or on as many workers as were asked for; `ran` tells to what a machine may come that workers carry
-  unfoldable pub RunsByThreading : ({S : Type 0} → ℕ → List S → List Start → ℕ → ℕ → carriers.Report → Type 0) → Type 0 → Threading → RunRequest → Option (List ℕ) → Option (List ℕ) → ℕ → Type 0
-  RunsByThreading ran F Serial request old new status = RunsAsAsked F request old new status
-  RunsByThreading ran F (Workers workers told) request old new status = IsRunAsAsked ran gives F request workers old new status
+  -- on one thread, or by as many workers as were asked for
+  unfoldable pub RunsByThreading : Type 0 → Threading → RunRequest → Option (List ℕ) → Option (List ℕ) → ℕ → Type 0
+  RunsByThreading F Serial request old new status = RunsAsAsked F request old new status
+  RunsByThreading F (Workers workers told) request old new status = IsRunAsAsked gives F request workers old new status
 
   -- the same of a script that was played to its end or to its first bad line, with a line for each reply
   pub record PlaysAsAsked (request : DriveRequest) (old new : Option (List ℕ)) (bad_line : Option ℕ) : Type 0 where

@@ -12,17 +12,19 @@ use elf_image::Image;
 use image_files::{Fault, Folder, memory_slots, read_processes};
 use machine_core::Report;
 use report_text::{status_of_all, write_report};
-use run_on_threads::{Runner, run_on_threads};
+use run_on_threads::run_on_threads;
 use serial_driver::run_serial;
 use std::alloc::{AllocError, Global};
 use std::io::Write;
 use std::marker::Brand;
+use std::sync::Wait;
 use std::sync::ledger::{Blank, Ledger};
+use std::thread::Threads;
 use swap_slots::SwapSlot;
 
 /// Runs a process for each image on a new machine until all have ended, on the threads that are asked for, writes how it went, and
 /// answers the exit status.
-pub fn run_machines<'a, R: Folder + Runner + AllocGlobal, O: Write, E: Write + Send>(
+pub fn run_machines<'a, R: Folder + AllocGlobal + Threads + Wait + Sync, O: Write, E: Write + Send>(
     rt: &R,
     request: &RunRequest<'a>,
     out: &mut O,
@@ -31,7 +33,7 @@ pub fn run_machines<'a, R: Folder + Runner + AllocGlobal, O: Write, E: Write + S
 where
     R::File: Send,
     requires { IsRunInRange request.now }
-    ensures { IfOk result (λ status. RunsByThreading R.gives R.ran R.File request.now.threading request.now (O.contents out.old) (O.contents out.new) status) }
+    ensures { IfOk result (λ status. RunsByThreading R.gives R.File request.now.threading request.now (O.contents out.old) (O.contents out.new) status) }
 {
     match request.threading {
         Threading::Serial => run_serially(rt, request, out),

@@ -1,4 +1,4 @@
-//! Runs of `paged run` on threads, and of one that counts less often while more harts run.
+//! Runs of `paged run` on threads.
 
 use crate::runs::{Host, Run, TestFile, run_words};
 use std::io;
@@ -88,5 +88,33 @@ fn processes_end_as_on_flat_memory(rt: HostRuntime) -> Result<(), Fail> {
         assert!(rt; done.out.as_str().starts_with(processes));
         assert!(rt; done.out.as_str().ends_with("\naudit ok\n"));
     }
+    Ok(())
+}
+
+/// The numbers of a line `status 0 steps K output N`.
+fn status_on(line: &str) -> Option<(u64, u64)> {
+    let (steps, output) = line.strip_prefix("status 0 steps ")?.split_once(" output ")?;
+    Some((steps.parse().ok()?, output.parse().ok()?))
+}
+
+#[test]
+fn status_lines_never_fall(rt: HostRuntime) -> Result<(), Fail> {
+    let file = TestFile::new(&rt, "status_lines_never_fall", EIGHT.as_bytes())?;
+    let words = ["run", "--frames", "4", "--status", file.path.as_str()];
+    let done = run_words(&rt, words.as_slice());
+    file.remove(&rt)?;
+    let done = done?;
+    assert_eq!(rt; done.status, 0);
+    let mut before = (0, 0);
+    let mut lines = 0;
+    for line in done.err.as_str().lines() {
+        let Some(now) = status_on(line) else {
+            return Err(Fail::from("a status line"));
+        };
+        assert!(rt; before.0 <= now.0 && before.1 <= now.1);
+        before = now;
+        lines = 1;
+    }
+    assert_eq!(rt; lines, 1, "there is such a line");
     Ok(())
 }

@@ -47,33 +47,31 @@ pub record IsToldAs (report : Report) (told : machine.Report) : Type 0 where
   pub questions : told.questions ≡ report.questions
   pub audit : told.audit ≡ report.audit
 
-module _ (ran : {S : Type 0} → ℕ → List S → List Start → ℕ → ℕ → Report → Type 0) where
-  -- A machine of so many frames ran on these slots, and so many workers carried its harts by slices of so many instructions: `ran` tells to what
-  -- that may come.
-  pub record RunsOver {S : Type 0} (honest : Type 0) (frames : ℕ) (slots : List S) (starts : List Start) (workers slice : ℕ) (report : Report) : Type 0 where
-    pub came_to : ran frames slots starts workers slice report
-    pub told : IsReportOf honest frames starts report
+-- What a machine of so many frames, on these slots, honest or not, may come to where so many workers carry the harts of these processes
+-- by slices of so many instructions: what its report owes, whatever slots, workers and slices are.
+unfoldable pub CameTo : {S : Type 0} → Type 0 → ℕ → List S → List Start → ℕ → ℕ → Report → Type 0
+CameTo honest frames slots starts workers slice report = IsReportOf honest frames starts report
 
-  -- the same on new slots in files, which are not honest
-  pub record RunsFiles (F : Type 0) (frames slots : ℕ) (starts : List Start) (workers slice : ℕ) (report : Report) : Type 0 where
-    pub files : List (FileSlotValue F)
-    pub made : AreNewFiles slots files
-    pub run : RunsOver ⊥ frames files starts workers slice report
+-- the same on new slots in files, which are not honest
+pub record RunsFiles (F : Type 0) (frames slots : ℕ) (starts : List Start) (workers slice : ℕ) (report : Report) : Type 0 where
+  pub files : List (FileSlotValue F)
+  pub made : AreNewFiles slots files
+  pub run : CameTo ⊥ frames files starts workers slice report
 
-  -- slots are in memory, and honest, or in files where a prefix of their names is given
-  abbrev pub RunsAsked : Type 0 → Option (List ℕ) → ℕ → ℕ → List Start → ℕ → ℕ → Report → Type 0
-  RunsAsked F None frames slots starts workers slice report = RunsOver ⊤ frames (replicate slots zero_content) starts workers slice report
-  RunsAsked F (Some prefix) frames slots starts workers slice report = RunsFiles F frames slots starts workers slice report
+-- slots are in memory, and honest, or in files where a prefix of their names is given
+abbrev pub RunsAsked : Type 0 → Option (List ℕ) → ℕ → ℕ → List Start → ℕ → ℕ → Report → Type 0
+RunsAsked F None frames slots starts workers slice report = CameTo ⊤ frames (replicate slots zero_content) starts workers slice report
+RunsAsked F (Some prefix) frames slots starts workers slice report = RunsFiles F frames slots starts workers slice report
 
-  -- A machine of the frames and slots that were asked for ran, with a process for each image, the first on the input, by as many workers
-  -- and in slices of the length that were asked for, until each process had ended; what is reported of it is written, as of a machine that
-  -- ran on one thread, and the status is that of the report.
-  pub record IsRunAsAsked (gives : List ℕ → List ℕ → Type 0) (F : Type 0) (request : RunRequest) (workers : ℕ) (old new : Option (List ℕ)) (status : ℕ) : Type 0 where
-    pub starts : List Start
-    pub report : Report
-    pub told : machine.Report
-    pub given : AreGiven gives (option_map (λ s. s.now) request.input) (map (λ s. s.now) request.images.items) starts
-    pub ran_as : RunsAsked F (option_map (λ s. s.now) request.swap) request.frames request.slots starts workers request.slice report
-    pub told_as : IsToldAs report told
-    pub written : Appends old new (report_text told)
-    pub status_is : status ≡ worst_status 0 (map (λ process. process.end) told.processes.items)
+-- A machine of the frames and slots that were asked for ran, with a process for each image, the first on the input, by as many workers
+-- and in slices of the length that were asked for, until each process had ended; what is reported of it is written, as of a machine that
+-- ran on one thread, and the status is that of the report.
+pub record IsRunAsAsked (gives : List ℕ → List ℕ → Type 0) (F : Type 0) (request : RunRequest) (workers : ℕ) (old new : Option (List ℕ)) (status : ℕ) : Type 0 where
+  pub starts : List Start
+  pub report : Report
+  pub told : machine.Report
+  pub given : AreGiven gives (option_map (λ s. s.now) request.input) (map (λ s. s.now) request.images.items) starts
+  pub ran_as : RunsAsked F (option_map (λ s. s.now) request.swap) request.frames request.slots starts workers request.slice report
+  pub told_as : IsToldAs report told
+  pub written : Appends old new (report_text told)
+  pub status_is : status ≡ worst_status 0 (map (λ process. process.end) told.processes.items)

@@ -2,10 +2,9 @@
 #![tactic(auto)]
 
 mod command;
+mod machine;
 mod reports;
-mod runner;
 mod status_lines;
 
 pub use command::run_on_threads;
-pub use runner::Runner;
 pub use status_lines::StatusLines;

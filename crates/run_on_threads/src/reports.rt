@@ -1,6 +1,6 @@
 //! What a run by threads has come to, as what is told of any run.
 
-ghost use Rattle.std.specs.Prelude.{◌≡◌, IfOk, map};
+ghost use Rattle.std.specs.Prelude.{◌≡◌, [], IfOk, map};
 ghost use Rattle.run_on_threads.specs.Running.{process_report, IsToldAs};
 
 use machine_core::{ProcessReport, Report};

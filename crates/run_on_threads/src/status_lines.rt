@@ -37,6 +37,7 @@ impl<R: Wait, E: Write> Gate for StatusLines<'_, R, E> {
     fn after_free(&self, statuses: &[Status]) {
         let mut err = self.err.lock(self.rt);
         let _ = write_statuses(statuses, &mut **err);
+        let _ = err.flush();
     }
 }
 
@@ -51,9 +52,10 @@ fn write_statuses<E: Write>(statuses: &[Status], err: &mut E) -> io::Result<()>
         number += 1;
         rest = others;
     }
-    err.flush()
+    Ok(())
 }
 
+#[tactic(auto, unfolding(crate::specs::StatusText::status_text))]
 fn write_status<E: Write>(number: usize, status: Status, err: &mut E) -> io::Result<()>
     ensures { OnOk result (Appends (E.contents err.old) (E.contents err.new) (status_text number status)) }
 {

@@ -1,8 +1,12 @@
 //! Guests, each on flat memory and on four frames, on one thread and on several: what a process does is the same.
 
-use crate::run::{Host, Run, run_line, show_end, show_run};
+use crate::run::{Run, run_line, show_end, show_run};
 use std::io;
-use std::io::Write;
+use std::fs::OpenFile;
+use std::io::{Read, Seek, Write};
+use std::rt::Files;
+use std::sync::Wait;
+use std::thread::Threads;
 
 /// The words that each guest is run on, and options for the machine of four frames alone. The harts of `words.elf` wait for
 /// one another, so that its steps are counted alike where they take turns as on flat memory: one instruction each. Threads take no such
@@ -25,19 +29,27 @@ const GUESTS: [(&str, &str); 14] = [
 ];
 
 /// Shows each guest by both commands.
-pub fn show_guests<R: Host, W: Write>(rt: &R, out: &mut W) -> io::Result<()> {
+pub fn show_guests<F, R, W: Write>(rt: &R, out: &mut W) -> io::Result<()>
+where
+    F: Read + Write + Seek + OpenFile + Drop + Send,
+    R: Files<File = F> + AllocGlobal + Threads + Wait + Sync,
+{
     for (words, options) in GUESTS {
         show_guest(rt, words, options, out)?;
     }
     Ok(())
 }
 
-fn show_guest<R: Host, W: Write>(
+fn show_guest<F, R, W: Write>(
     rt: &R,
     words: &str,
     options: &str,
     out: &mut W,
-) -> io::Result<()> {
+) -> io::Result<()>
+where
+    F: Read + Write + Seek + OpenFile + Drop + Send,
+    R: Files<File = F> + AllocGlobal + Threads + Wait + Sync,
+{
     let line = format!(in rt.alloc(); "flat {words}")?;
     let flat = run_line(rt, line.as_str())?;
     show_run(line.as_str(), &flat, out)?;

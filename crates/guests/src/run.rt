@@ -2,25 +2,11 @@
 
 use paged_cli::run_paged;
 use std::io;
-use std::io::Write;
+use std::fs::OpenFile;
+use std::io::{Read, Seek, Write};
 use std::rt::Files;
 use std::sync::Wait;
 use std::thread::Threads;
-
-/// Whoever the program runs on.
-pub trait Host: Files + AllocGlobal + Threads + Wait {
-    /// Runs the program on some words, with nothing on standard input, and answers its exit status.
-    fn run(&self, words: &[&str], out: &mut Vec<u8>, err: &mut Vec<u8>) -> u8;
-}
-
-impl<R: Files + AllocGlobal + Threads + Wait + Sync> Host for R
-where
-    R::File: Send,
-{
-    fn run(&self, words: &[&str], out: &mut Vec<u8>, err: &mut Vec<u8>) -> u8 {
-        run_paged(self, words, &mut io::empty(), out, err)
-    }
-}
 
 /// What a run left behind.
 #[derive(Drop)]
@@ -31,11 +17,15 @@ pub struct Run {
 }
 
 /// Runs a command line, whose words are parted by one blank each.
-pub fn run_line<R: Host>(rt: &R, line: &str) -> io::Result<Run> {
+pub fn run_line<F, R>(rt: &R, line: &str) -> io::Result<Run>
+where
+    F: Read + Write + Seek + OpenFile + Drop + Send,
+    R: Files<File = F> + AllocGlobal + Threads + Wait + Sync,
+{
     let words: Vec<&str> = line.split(' ').collect(rt.alloc())?;
     let mut out = Vec::new(rt.alloc());
     let mut err = Vec::new(rt.alloc());
-    let status = rt.run(words.as_slice(), &mut out, &mut err);
+    let status = run_paged(rt, words.as_slice(), &mut io::empty(), &mut out, &mut err);
     Ok(Run { out, err, status })
 }
 

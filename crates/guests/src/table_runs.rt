@@ -1,12 +1,20 @@
 //! Runs of both programs.
 
-use crate::run::Host;
+use paged_cli::run_paged;
 use policies_cli::run_policies;
 use std::io;
-use std::io::Write;
+use std::fs::OpenFile;
+use std::io::{Read, Seek, Write};
+use std::rt::Files;
+use std::sync::Wait;
+use std::thread::Threads;
 
 /// Shows what `policies` prints on these words.
-pub fn show_policies<R: Host, W: Write>(rt: &R, words: &[&str], out: &mut W) -> io::Result<()> {
+pub fn show_policies<F, R, W: Write>(rt: &R, words: &[&str], out: &mut W) -> io::Result<()>
+where
+    F: Read + Write + Seek + OpenFile + Drop + Send,
+    R: Files<File = F> + AllocGlobal + Threads + Wait + Sync,
+{
     let mut printed = Vec::new(rt.alloc());
     let mut fault = Vec::new(rt.alloc());
     let status = run_policies(rt, words, &mut printed, &mut fault);
@@ -19,17 +27,27 @@ pub fn show_policies<R: Host, W: Write>(rt: &R, words: &[&str], out: &mut W) -> 
 }
 
 /// Shows how many pages `paged run --serial` brings in for an image with each of these numbers of frames, which commas part.
-pub fn show_page_ins<R: Host, W: Write>(
+pub fn show_page_ins<F, R, W: Write>(
     rt: &R,
     frames: &str,
     image: &str,
     out: &mut W,
-) -> io::Result<()> {
+) -> io::Result<()>
+where
+    F: Read + Write + Seek + OpenFile + Drop + Send,
+    R: Files<File = F> + AllocGlobal + Threads + Wait + Sync,
+{
     for number in frames.split(',') {
         let words = ["run", "--serial", "--frames", number, image];
         let mut printed = Vec::new(rt.alloc());
         let mut fault = Vec::new(rt.alloc());
-        rt.run(words.as_slice(), &mut printed, &mut fault);
+        run_paged(
+            rt,
+            words.as_slice(),
+            &mut io::empty(),
+            &mut printed,
+            &mut fault,
+        );
         out.write_all(fault.as_slice())?;
         show_counts(printed.as_slice(), out)?;
     }

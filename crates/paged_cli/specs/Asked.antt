@@ -34,7 +34,7 @@ module _ (gives : List ℕ → List ℕ → Type 0) where
     pub status_is : status ≡ worst_status 0 (map (λ process. process.end) report.processes.items)
 
   -- on one thread, or by as many workers as were asked for
-  unfoldable pub RunsByThreading : Type 0 → Threading → RunRequest → Option (List ℕ) → Option (List ℕ) → ℕ → Type 0
+  abbrev pub RunsByThreading : Type 0 → Threading → RunRequest → Option (List ℕ) → Option (List ℕ) → ℕ → Type 0
   RunsByThreading F Serial request old new status = RunsAsAsked F request old new status
   RunsByThreading F (Workers workers told) request old new status = IsRunAsAsked gives F request workers old new status
 

@@ -9,7 +9,8 @@ use crate::run_command::run_machines;
 use command_line::{Request, read_request};
 use image_files::Fault;
 use std::convert::AsStr;
-use std::io::{Read, Write};
+use std::fs::OpenFile;
+use std::io::{Read, Seek, Write};
 use std::rt::Files;
 use std::sync::Wait;
 use std::thread::Threads;
@@ -19,7 +20,7 @@ const FAULT: u8 = 2;
 
 /// Runs the program on the words behind its name, and answers its exit status: 0 or, of processes, how they ended; 2 for a fault,
 /// which is told on `err`. The files that the words name are read by `rt`, and the lines for a debugger from `input`.
-pub fn run_paged<R: Files + AllocGlobal + Threads + Wait + Sync, S: AsStr, I: Read, O: Write, E: Write + Send>(
+pub fn run_paged<F, R, S: AsStr, I: Read, O: Write, E: Write + Send>(
     rt: &R,
     words: &[S],
     input: &mut I,
@@ -27,7 +28,8 @@ pub fn run_paged<R: Files + AllocGlobal + Threads + Wait + Sync, S: AsStr, I: Re
     err: &mut E,
 ) -> u8
 where
-    R::File: Send,
+    F: Read + Write + Seek + OpenFile + Drop + Send,
+    R: Files<File = F> + AllocGlobal + Threads + Wait + Sync,
 {
     let done = run_words(rt, words, input, out, err);
     let flushed = out.flush();
@@ -40,7 +42,7 @@ where
     }
 }
 
-fn run_words<'a, R: Files + AllocGlobal + Threads + Wait + Sync, S: AsStr, I: Read, O: Write, E: Write + Send>(
+fn run_words<'a, F, R, S: AsStr, I: Read, O: Write, E: Write + Send>(
     rt: &R,
     words: &'a [S],
     input: &mut I,
@@ -48,7 +50,8 @@ fn run_words<'a, R: Files + AllocGlobal + Threads + Wait + Sync, S: AsStr, I: Re
     err: &mut E,
 ) -> Result<u8, Fault<'a>>
 where
-    R::File: Send,
+    F: Read + Write + Seek + OpenFile + Drop + Send,
+    R: Files<File = F> + AllocGlobal + Threads + Wait + Sync,
 {
     match read_request(rt.alloc(), words)? {
         Request::Asm(request) => {

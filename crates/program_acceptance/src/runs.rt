@@ -1,6 +1,8 @@
 //! Runs of the program on files in a folder of their own.
 
 use paged_cli::run_paged;
+use std::fs::OpenFile;
+use std::io::{Read, Seek, Write};
 use std::rt::Files;
 use std::sync::Wait;
 use std::thread::Threads;
@@ -17,22 +19,6 @@ impl Numbered for HostRuntime {
     }
 }
 
-/// Whoever the program runs on.
-pub trait Host: Files + Env + AllocGlobal + Threads + Wait + Numbered {
-    /// Runs the program on some words and an input, and answers its exit status.
-    fn run(&self, words: &[&str], input: &[u8], out: &mut Vec<u8>, err: &mut Vec<u8>) -> u8;
-}
-
-impl<R: Files + Env + AllocGlobal + Threads + Wait + Sync + Numbered> Host for R
-where
-    R::File: Send,
-{
-    fn run(&self, words: &[&str], input: &[u8], out: &mut Vec<u8>, err: &mut Vec<u8>) -> u8 {
-        let mut input = input;
-        run_paged(self, words, &mut input, out, err)
-    }
-}
-
 /// What a run left behind.
 #[derive(Drop)]
 pub struct Run {
@@ -42,15 +28,24 @@ pub struct Run {
 }
 
 /// Runs the program on some words, with nothing on standard input.
-pub fn run_words<R: Host>(rt: &R, words: &[&str]) -> io::Result<Run> {
+pub fn run_words<F, R>(rt: &R, words: &[&str]) -> io::Result<Run>
+where
+    F: Read + Write + Seek + OpenFile + Drop + Send,
+    R: Files<File = F> + Env + AllocGlobal + Threads + Wait + Sync + Numbered,
+{
     run_words_on(rt, words, b"".as_slice())
 }
 
 /// Runs the program on some words and an input.
-pub fn run_words_on<R: Host>(rt: &R, words: &[&str], input: &[u8]) -> io::Result<Run> {
+pub fn run_words_on<F, R>(rt: &R, words: &[&str], input: &[u8]) -> io::Result<Run>
+where
+    F: Read + Write + Seek + OpenFile + Drop + Send,
+    R: Files<File = F> + Env + AllocGlobal + Threads + Wait + Sync + Numbered,
+{
+    let mut input = input;
     let mut out = Vec::new(rt.alloc());
     let mut err = Vec::new(rt.alloc());
-    let status = rt.run(words, input, &mut out, &mut err);
+    let status = run_paged(rt, words, &mut input, &mut out, &mut err);
     let (Ok(out), Ok(err)) = (String::from_utf8(out), String::from_utf8(err)) else {
         return Err(io::Error::from(io::ErrorKind::InvalidData));
     };
@@ -82,7 +77,11 @@ impl TestFile {
 }
 
 /// Runs `paged flat` on a file of this content.
-pub fn run_flat<R: Host>(rt: &R, test: &str, content: &[u8]) -> io::Result<Run> {
+pub fn run_flat<F, R>(rt: &R, test: &str, content: &[u8]) -> io::Result<Run>
+where
+    F: Read + Write + Seek + OpenFile + Drop + Send,
+    R: Files<File = F> + Env + AllocGlobal + Threads + Wait + Sync + Numbered,
+{
     let file = TestFile::new(rt, test, content)?;
     let done = run_words(rt, &["flat", file.path.as_str()]);
     file.remove(rt)?;
@@ -90,13 +89,17 @@ pub fn run_flat<R: Host>(rt: &R, test: &str, content: &[u8]) -> io::Result<Run> 
 }
 
 /// Runs `paged debug` on a file of this content and an input: on flat memory, or on so many frames.
-pub fn run_debug<R: Host>(
+pub fn run_debug<F, R>(
     rt: &R,
     test: &str,
     frames: Option<&str>,
     content: &[u8],
     input: &[u8],
-) -> io::Result<Run> {
+) -> io::Result<Run>
+where
+    F: Read + Write + Seek + OpenFile + Drop + Send,
+    R: Files<File = F> + Env + AllocGlobal + Threads + Wait + Sync + Numbered,
+{
     let file = TestFile::new(rt, test, content)?;
     let image = file.path.as_str();
     let done = match frames {
@@ -108,12 +111,20 @@ pub fn run_debug<R: Host>(
 }
 
 /// Runs `paged clock` for four frames on a script.
-pub fn run_clock<R: Host>(rt: &R, test: &str, script: &str) -> io::Result<Run> {
+pub fn run_clock<F, R>(rt: &R, test: &str, script: &str) -> io::Result<Run>
+where
+    F: Read + Write + Seek + OpenFile + Drop + Send,
+    R: Files<File = F> + Env + AllocGlobal + Threads + Wait + Sync + Numbered,
+{
     run_clock_for(rt, test, "4", script)
 }
 
 /// Runs `paged clock` for a number of frames on a script.
-pub fn run_clock_for<R: Host>(rt: &R, test: &str, frames: &str, script: &str) -> io::Result<Run> {
+pub fn run_clock_for<F, R>(rt: &R, test: &str, frames: &str, script: &str) -> io::Result<Run>
+where
+    F: Read + Write + Seek + OpenFile + Drop + Send,
+    R: Files<File = F> + Env + AllocGlobal + Threads + Wait + Sync + Numbered,
+{
     let file = TestFile::new(rt, test, script.as_bytes())?;
     let done = run_words(rt, &["clock", frames, file.path.as_str()]);
     file.remove(rt)?;

@@ -1,8 +1,13 @@
 //! Runs of `paged run` on threads.
 
-use crate::runs::{Host, Run, TestFile, run_words};
+use crate::runs::{Numbered, Run, TestFile, run_words};
+use std::fs::OpenFile;
 use std::io;
+use std::io::{Read, Seek, Write};
+use std::rt::Files;
+use std::sync::Wait;
 use std::test::Fail;
+use std::thread::Threads;
 
 /// Eleven pages are written and read again, and their sum is written.
 const EIGHT: &str = "\
@@ -59,7 +64,11 @@ count:  .word 0, 0
 ";
 
 /// Runs three processes on four frames, by these words before the images.
-fn run_three<R: Host>(rt: &R, test: &str, words: &[&str]) -> io::Result<Run> {
+fn run_three<F, R>(rt: &R, test: &str, words: &[&str]) -> io::Result<Run>
+where
+    F: Read + Write + Seek + OpenFile + Drop + Send,
+    R: Files<File = F> + Env + AllocGlobal + Threads + Wait + Sync + Numbered,
+{
     let eleven = TestFile::new(rt, test, ELEVEN.as_bytes())?;
     let eight = TestFile::new(rt, "eight", EIGHT.as_bytes())?;
     let mut line = Vec::new(rt.alloc());

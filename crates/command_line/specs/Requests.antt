@@ -1,5 +1,5 @@
 -- The request that a command's arguments make: every default and every range.
-use Rattle.std.specs.Prelude.{◌≡◌, ℕ, ◌≤◌, List, Option, Some, None, codes, length, map, option_map, IfSome, IsSomeAnd, ⊤}
+use Rattle.std.specs.Prelude.{◌≡◌, ◌↔◌, ℕ, ◌≤◌, List, Option, Some, None, codes, length, map, option_map, IfSome, IsSomeAnd, IsTrue, ⊤}
 use Rattle.std.specs.Str.Parse.{digits_value}
 use Rattle.clap.specs.Walk.{Row, Text, all_of, first_of}
 use Rattle.text_lines.specs.Numbers.{IsUpTo}
@@ -8,6 +8,8 @@ use Rattle.command_line.specs.declared.request.FlatRequest.{FlatRequest}
 use Rattle.command_line.specs.declared.request.ClockRequest.{ClockRequest}
 use Rattle.command_line.specs.declared.request.DriveRequest.{DriveRequest}
 use Rattle.command_line.specs.declared.request.RunRequest.{RunRequest}
+use Rattle.command_line.specs.declared.request.Threading.{Threading}
+use Rattle.command_line.specs.declared.request.Threading.TheVariants.{Serial, Workers}
 use Rattle.command_line.specs.declared.request.DebugRequest.{DebugRequest}
 use Rattle.command_line.specs.declared.request.Request.{Request}
 use Rattle.command_line.specs.declared.request.Request.TheVariants.{Asm, Flat, Clock, Drive, Run, Debug}
@@ -72,10 +74,20 @@ IsNumberIfGiven least most number (Some text) = IsSomeAnd number (λ given. IsNu
 abbrev pub AreImages : List Row → List Text → Type 0
 AreImages rows names = (all_of (codes "image") rows ≡ Some names) × (length names ≤ most_images)
 
--- one thread is asked for; a number of workers may stand beside it, and has to lie in its range
-abbrev pub IsSerial : List Row → Type 0
-IsSerial rows = (first_of (codes "serial") rows ≡ Some (codes "true"))
-    × ((workers : ℕ) × IsOption usual_workers 1 most_workers workers (first_of (codes "workers") rows))
+-- a flag is set
+abbrev pub IsSet : Text → List Row → Type 0
+IsSet name rows = first_of name rows ≡ Some (codes "true")
+
+-- a number of workers, told or usual
+abbrev pub AreWorkers : List Row → ℕ → Type 0
+AreWorkers rows workers = IsOption usual_workers 1 most_workers workers (first_of (codes "workers") rows)
+
+-- One thread is asked for, or else so many workers. A number of workers may stand beside the flag for one thread, and has to lie in its
+-- range; lines that tell how far the processes are may not.
+abbrev pub AsksThreading : List Row → Threading → Type 0
+AsksThreading rows Serial = IsSet (codes "serial") rows × ((¬ IsSet (codes "status") rows) × ((workers : ℕ) × AreWorkers rows workers))
+AsksThreading rows (Workers workers status) =
+    (¬ IsSet (codes "serial") rows) × (AreWorkers rows workers × (IsTrue status ↔ IsSet (codes "status") rows))
 
 abbrev pub AsksAsm : List Row → AsmRequest → Type 0
 AsksAsm rows request = (first_of (codes "source") rows ≡ Some request.source.now)
@@ -103,7 +115,7 @@ pub record AsksRun (rows : List Row) (request : RunRequest) : Type 0 where
   pub limit_is : IsOption usual_limit 1 highest_limit request.limit (first_of (codes "limit") rows)
   pub input_is : first_of (codes "input") rows ≡ option_map (λ s. s.now) request.input
   pub swap_is : first_of (codes "swap") rows ≡ option_map (λ s. s.now) request.swap
-  pub serial : IsSerial rows
+  pub threading_is : AsksThreading rows request.threading
   pub images_are : AreImages rows (map (λ s. s.now) request.images.items)
 
 abbrev pub AsksDebug : List Row → DebugRequest → Type 0
@@ -136,9 +148,13 @@ IsClockInRange request = IsFrom least_frames most_frames request.frames
 abbrev pub IsDriveInRange : DriveRequest → Type 0
 IsDriveInRange request = IsFrom least_frames most_frames request.frames × (request.slots ≤ most_slots) × (length request.images.items ≤ most_images)
 
+abbrev pub IsThreadingInRange : Threading → Type 0
+IsThreadingInRange Serial = ⊤
+IsThreadingInRange (Workers workers status) = IsFrom 1 most_workers workers
+
 abbrev pub IsRunInRange : RunRequest → Type 0
 IsRunInRange request = IsFrom least_frames most_frames request.frames × (request.slots ≤ most_slots) × IsFrom 1 longest_slice request.slice
-    × IsFrom 1 highest_limit request.limit × (length request.images.items ≤ most_images)
+    × IsFrom 1 highest_limit request.limit × (length request.images.items ≤ most_images) × IsThreadingInRange request.threading
 
 abbrev pub IsDebugInRange : DebugRequest → Type 0
 IsDebugInRange request = IfSome request.frames (IsFrom least_frames most_frames)

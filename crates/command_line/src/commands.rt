@@ -80,6 +80,7 @@ fn run<'a>(alloc: Global) -> Result<Command<'a>, AllocError>
         .arg(option(alloc, "input"))?
         .arg(option(alloc, "swap"))?
         .arg(flag(alloc, "serial"))?
+        .arg(flag(alloc, "status"))?
         .arg(files(alloc, "image"))
 }
 

@@ -9,6 +9,6 @@ mod words;
 
 pub use request::{
     AsmRequest, ClockRequest, DebugRequest, DriveRequest, FlatRequest, Request, RunRequest,
-    UsageError,
+    Threading, UsageError,
 };
 pub use words::read_request;

@@ -46,20 +46,31 @@ pub struct DriveRequest<'a> {
     pub images: Vec<&'a str>,
 }
 
-/// Run a machine with a process for each image to its end, on one thread.
+/// Run a machine with a process for each image to its end.
 #[derive(Debug, Drop)]
 pub struct RunRequest<'a> {
     pub frames: u32,
     pub slots: u32,
     /// The most instructions that a hart runs in its turn.
     pub slice: u32,
-    /// The most events that are applied.
+    /// The most events that are applied on one thread. On several it is not used.
     pub limit: u32,
     /// The file whose bytes the first process reads, if there is one.
     pub input: Option<&'a str>,
     /// What the names of the slots' files begin with; slots are in memory where there is none.
     pub swap: Option<&'a str>,
+    pub threading: Threading,
     pub images: Vec<&'a str>,
+}
+
+/// On which threads a machine runs.
+#[derive(Clone, Copy, Debug, PartialEq, Eq)]
+pub enum Threading {
+    /// On one, one event after another.
+    Serial,
+    /// Its harts on so many workers, while another thread makes room for pages. With or without lines that tell how far the
+    /// processes are.
+    Workers { workers: u32, status: bool },
 }
 
 /// Converse with a debugger of an image.

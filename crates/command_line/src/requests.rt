@@ -3,16 +3,18 @@
 ghost use Rattle.std.specs.Prelude.{◌≡◌, IfOk, IfErr, IsErr, Err};
 ghost use Rattle.clap.specs.Matches.{found_of};
 ghost use Rattle.clap.specs.Walk.{rows_of};
-ghost use Rattle.command_line.specs.Requests.{AsksAsm, AsksFlat, AsksClock, AsksDrive, AsksRun, AsksDebug, IsSerial, IsFlatInRange, IsClockInRange, IsDriveInRange, IsRunInRange, IsDebugInRange};
+ghost use Rattle.command_line.specs.Requests.{AsksAsm, AsksFlat, AsksClock, AsksDrive, AsksRun, AsksDebug, AsksThreading, IsThreadingInRange, IsFlatInRange, IsClockInRange, IsDriveInRange, IsRunInRange, IsDebugInRange};
 ghost use Rattle.command_line.specs.declared.request.AsmRequest.{AsmRequest};
 ghost use Rattle.command_line.specs.declared.request.FlatRequest.{FlatRequest};
 ghost use Rattle.command_line.specs.declared.request.ClockRequest.{ClockRequest};
 ghost use Rattle.command_line.specs.declared.request.DriveRequest.{DriveRequest};
 ghost use Rattle.command_line.specs.declared.request.RunRequest.{RunRequest};
+ghost use Rattle.command_line.specs.declared.request.Threading.{Threading};
 ghost use Rattle.command_line.specs.declared.request.DebugRequest.{DebugRequest};
 
 use crate::request::{
-    AsmRequest, ClockRequest, DebugRequest, DriveRequest, FlatRequest, RunRequest, UsageError,
+    AsmRequest, ClockRequest, DebugRequest, DriveRequest, FlatRequest, RunRequest, Threading,
+    UsageError,
 };
 use crate::values::{found, images, in_range, is_given, limit, number_if_given, number_or, value};
 use clap::ArgMatches;
@@ -90,7 +92,7 @@ pub fn run_request<'a>(
     let limit = number_or(matches, "limit", 100_000_000, 1, 1_000_000_000)?;
     let input = found(matches, "input");
     let swap = found(matches, "swap");
-    serial(matches)?;
+    let threading = threading(matches)?;
     let images = images(alloc, matches)?;
     Ok(RunRequest {
         frames,
@@ -99,6 +101,7 @@ pub fn run_request<'a>(
         limit,
         input,
         swap,
+        threading,
         images,
     })
 }
@@ -114,16 +117,20 @@ pub fn debug_request<'a>(matches: &ArgMatches<'a>) -> Result<DebugRequest<'a>, U
     Ok(DebugRequest { frames, image })
 }
 
-/// Whether all runs on one thread, as it has to today. A number of workers is looked at all the same.
-fn serial(matches: &ArgMatches<'_>) -> Result<(), UsageError>
-    ensures asked { IfOk result (λ _. IsSerial (rows_of (found_of matches.now))) }
-    ensures bad { IsErr result → ¬ IsSerial (rows_of (found_of matches.now)) }
+/// On which threads it runs. A number of workers is looked at on one thread too.
+fn threading(matches: &ArgMatches<'_>) -> Result<Threading, UsageError>
+    ensures in_range { IfOk result IsThreadingInRange }
+    ensures asked { IfOk result (AsksThreading (rows_of (found_of matches.now))) }
+    ensures bad { IsErr result → (threading : Threading) → ¬ AsksThreading (rows_of (found_of matches.now)) threading }
     ensures refused { IfErr result (λ error. error ≡ UsageError.BadUsage) }
 {
-    number_or(matches, "workers", 4, 1, 64)?;
-    if is_given(matches, "serial") {
-        Ok(())
-    } else {
-        Err(UsageError::BadUsage)
+    let workers = number_or(matches, "workers", 4, 1, 64)?;
+    let status = is_given(matches, "status");
+    if !is_given(matches, "serial") {
+        return Ok(Threading::Workers { workers, status });
     }
+    if status {
+        return Err(UsageError::BadUsage);
+    }
+    Ok(Threading::Serial)
 }

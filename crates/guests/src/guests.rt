@@ -1,11 +1,16 @@
-//! Guests, each on flat memory and on four frames: what a process does is the same.
+//! Guests, each on flat memory and on four frames, on one thread and on several: what a process does is the same.
 
 use crate::run::{Run, run_line, show_end, show_run};
 use std::io;
-use std::io::Write;
+use std::fs::OpenFile;
+use std::io::{Read, Seek, Write};
+use std::rt::Files;
+use std::sync::Wait;
+use std::thread::Threads;
 
 /// The words that each guest is run on, and options for the machine of four frames alone. The harts of `words.elf` wait for
-/// one another, so that its steps are counted alike where they take turns as on flat memory: one instruction each.
+/// one another, so that its steps are counted alike where they take turns as on flat memory: one instruction each. Threads take no such
+/// turns.
 const GUESTS: [(&str, &str); 14] = [
     ("hi.words", ""),
     ("p8.s", ""),
@@ -24,36 +29,65 @@ const GUESTS: [(&str, &str); 14] = [
 ];
 
 /// Shows each guest by both commands.
-pub fn show_guests<W: Write>(rt: &HostRuntime, out: &mut W) -> io::Result<()> {
+pub fn show_guests<F, R, W: Write>(rt: &R, out: &mut W) -> io::Result<()>
+where
+    F: Read + Write + Seek + OpenFile + Drop + Send,
+    R: Files<File = F> + AllocGlobal + Threads + Wait + Sync,
+{
     for (words, options) in GUESTS {
         show_guest(rt, words, options, out)?;
     }
     Ok(())
 }
 
-fn show_guest<W: Write>(
-    rt: &HostRuntime,
+fn show_guest<F, R, W: Write>(
+    rt: &R,
     words: &str,
     options: &str,
     out: &mut W,
-) -> io::Result<()> {
+) -> io::Result<()>
+where
+    F: Read + Write + Seek + OpenFile + Drop + Send,
+    R: Files<File = F> + AllocGlobal + Threads + Wait + Sync,
+{
     let line = format!(in rt.alloc(); "flat {words}")?;
     let flat = run_line(rt, line.as_str())?;
     show_run(line.as_str(), &flat, out)?;
     let line = format!(in rt.alloc(); "run --serial --frames 4 {options}{words}")?;
     let paged = run_line(rt, line.as_str())?;
-    show_beside(line.as_str(), &paged, &flat, out)
+    writeln!(out, "== {line}")?;
+    show_beside(&paged, counts_of(&paged, &flat), out)?;
+    if !options.is_empty() {
+        return Ok(());
+    }
+    let line = format!(in rt.alloc(); "run --frames 4 {words}")?;
+    let paged = run_line(rt, line.as_str())?;
+    writeln!(out, "== {line}")?;
+    show_beside(&paged, counts_of(&paged, &flat).and_then(audit_of), out)
 }
 
-/// Shows a run of the machine beside the one on flat memory: that its process lines are the same, and the lines below them.
-fn show_beside<W: Write>(line: &str, paged: &Run, flat: &Run, out: &mut W) -> io::Result<()> {
-    writeln!(out, "== {line}")?;
-    match paged.out.as_slice().strip_prefix(flat.out.as_slice()) {
-        Some(counts) if !flat.out.is_empty() => {
+/// The lines below the process lines, where those are the ones of a run on flat memory.
+fn counts_of<'a>(paged: &'a Run, flat: &Run) -> Option<&'a [u8]> {
+    if flat.out.is_empty() {
+        return None;
+    }
+    paged.out.as_slice().strip_prefix(flat.out.as_slice())
+}
+
+/// The last of two lines: what threads count is another number in each run.
+fn audit_of(counts: &[u8]) -> Option<&[u8]> {
+    let end = counts.iter().position(|byte| *byte == b'\n')?;
+    counts.get(end + 1..)
+}
+
+/// Shows a run of the machine beside the one on flat memory: that its process lines are the same, and these lines below them.
+fn show_beside<W: Write>(paged: &Run, below: Option<&[u8]>, out: &mut W) -> io::Result<()> {
+    match below {
+        Some(lines) => {
             writeln!(out, "-- the same process lines")?;
-            out.write_all(counts)?;
+            out.write_all(lines)?;
         }
-        _ => {
+        None => {
             writeln!(out, "-- other process lines")?;
             out.write_all(paged.out.as_slice())?;
         }

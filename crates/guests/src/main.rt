@@ -12,8 +12,12 @@ use crate::guests::show_guests;
 use crate::lines::show_lines;
 use crate::tables::show_tables;
 use std::io;
-use std::io::{BufWriter, Write};
+use std::fs::OpenFile;
+use std::io::{BufWriter, Read, Seek, Write};
 use std::process::ExitCode;
+use std::rt::Files;
+use std::sync::Wait;
+use std::thread::Threads;
 
 fn main(rt: HostRuntime) -> ExitCode {
     match show_all(&rt) {
@@ -22,7 +26,11 @@ fn main(rt: HostRuntime) -> ExitCode {
     }
 }
 
-fn show_all(rt: &HostRuntime) -> io::Result<()> {
+fn show_all<F, R>(rt: &R) -> io::Result<()>
+where
+    F: Read + Write + Seek + OpenFile + Drop + Send,
+    R: Files<File = F> + AllocGlobal + Print + Threads + Wait + Sync,
+{
     let mut out = BufWriter::new(rt.alloc(), io::writer(rt))?;
     show_guests(rt, &mut out)?;
     show_lines(rt, &mut out)?;

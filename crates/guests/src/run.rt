@@ -2,7 +2,11 @@
 
 use paged_cli::run_paged;
 use std::io;
-use std::io::Write;
+use std::fs::OpenFile;
+use std::io::{Read, Seek, Write};
+use std::rt::Files;
+use std::sync::Wait;
+use std::thread::Threads;
 
 /// What a run left behind.
 #[derive(Drop)]
@@ -13,7 +17,11 @@ pub struct Run {
 }
 
 /// Runs a command line, whose words are parted by one blank each.
-pub fn run_line(rt: &HostRuntime, line: &str) -> io::Result<Run> {
+pub fn run_line<F, R>(rt: &R, line: &str) -> io::Result<Run>
+where
+    F: Read + Write + Seek + OpenFile + Drop + Send,
+    R: Files<File = F> + AllocGlobal + Threads + Wait + Sync,
+{
     let words: Vec<&str> = line.split(' ').collect(rt.alloc())?;
     let mut out = Vec::new(rt.alloc());
     let mut err = Vec::new(rt.alloc());

@@ -3,10 +3,18 @@
 use paged_cli::run_paged;
 use policies_cli::run_policies;
 use std::io;
-use std::io::Write;
+use std::fs::OpenFile;
+use std::io::{Read, Seek, Write};
+use std::rt::Files;
+use std::sync::Wait;
+use std::thread::Threads;
 
 /// Shows what `policies` prints on these words.
-pub fn show_policies<W: Write>(rt: &HostRuntime, words: &[&str], out: &mut W) -> io::Result<()> {
+pub fn show_policies<F, R, W: Write>(rt: &R, words: &[&str], out: &mut W) -> io::Result<()>
+where
+    F: Read + Write + Seek + OpenFile + Drop + Send,
+    R: Files<File = F> + AllocGlobal + Threads + Wait + Sync,
+{
     let mut printed = Vec::new(rt.alloc());
     let mut fault = Vec::new(rt.alloc());
     let status = run_policies(rt, words, &mut printed, &mut fault);
@@ -19,12 +27,16 @@ pub fn show_policies<W: Write>(rt: &HostRuntime, words: &[&str], out: &mut W) ->
 }
 
 /// Shows how many pages `paged run --serial` brings in for an image with each of these numbers of frames, which commas part.
-pub fn show_page_ins<W: Write>(
-    rt: &HostRuntime,
+pub fn show_page_ins<F, R, W: Write>(
+    rt: &R,
     frames: &str,
     image: &str,
     out: &mut W,
-) -> io::Result<()> {
+) -> io::Result<()>
+where
+    F: Read + Write + Seek + OpenFile + Drop + Send,
+    R: Files<File = F> + AllocGlobal + Threads + Wait + Sync,
+{
     for number in frames.split(',') {
         let words = ["run", "--serial", "--frames", number, image];
         let mut printed = Vec::new(rt.alloc());

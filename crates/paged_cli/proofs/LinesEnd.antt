@@ -3,9 +3,10 @@ use Rattle.std.proofs.Common.{◌≡◌, ℕ, Ok, Err, sym, subst}
 use Rattle.std.specs.Prelude.{Result}
 use Rattle.debug_session.specs.declared.conversation.SessionFault.{SessionFault}
 use Rattle.debug_session.specs.declared.conversation.SessionFault.TheVariants as session
-use Rattle.paged_cli.specs.declared.fault.Fault.{Fault}
-use Rattle.paged_cli.specs.declared.fault.Fault.TheVariants as fault
-use Rattle.paged_cli.specs.Debugged.{IfBadLine, IfLinesEnd, IsOfNoLine, IsTold}
+use Rattle.image_files.specs.declared.fault.Fault.{Fault}
+use Rattle.image_files.specs.declared.fault.Fault.TheVariants as fault
+use Rattle.image_files.specs.Faults.{IfBadLine, IsOfNoLine}
+use Rattle.paged_cli.specs.Debugged.{IfLinesEnd, IsTold}
 
 pub lines_end : (result : Result (Unit {0}) SessionFault) (P : Result (Unit {0}) SessionFault → Type 0) → P result → IfLinesEnd result P
 lines_end (Ok tt) P p = p

@@ -17,7 +17,7 @@ use Rattle.serial_driver.specs.Reporting.{Reports}
 use Rattle.report_text.specs.ReportText.{process_text}
 use Rattle.std.specs.Io.KnownBytes.{Appends}
 use Rattle.paged_cli.specs.Asked.{FlatAsAsked}
-use Rattle.paged_cli.specs.Reading.{GivesImage, GivesInput}
+use Rattle.image_files.specs.Reading.{GivesImage, GivesInput}
 use Rattle.report_text.specs.ExitStatus.{exit_status, ending_of}
 use Rattle.paged_cli.specs.Playing.{ReportsOver}
 

@@ -5,6 +5,8 @@ use Rattle.std.specs.Io.KnownBytes.{Appends}
 use Rattle.command_line.specs.declared.request.DriveRequest.{DriveRequest}
 use Rattle.command_line.specs.declared.request.FlatRequest.{FlatRequest}
 use Rattle.command_line.specs.declared.request.RunRequest.{RunRequest}
+use Rattle.command_line.specs.declared.request.Threading.{Threading}
+use Rattle.command_line.specs.declared.request.Threading.TheVariants.{Serial, Workers}
 use Rattle.elf_image.specs.Image.{ImageContent}
 use Rattle.flat_machine.specs.ByTurns.{by_turns, first_turn}
 use Rattle.flat_machine.specs.Process.{Process, opening}
@@ -13,9 +15,10 @@ use Rattle.machine_core.specs.declared.report.Report.{Report}
 use Rattle.machine_sides.specs.Starting.{Start}
 use Rattle.report_text.specs.ExitStatus.{exit_status, ending_of, worst_status}
 use Rattle.report_text.specs.ReportText.{process_text, report_text}
+use Rattle.run_on_threads.specs.Running.{IsRunAsAsked}
 use Rattle.text_lines.specs.Text.{lines_of}
 use Rattle.paged_cli.specs.Playing.{Plays, ReportsAsked}
-use Rattle.paged_cli.specs.Reading.{AreGiven, GivesImage, GivesInput}
+use Rattle.image_files.specs.Reading.{AreGiven, GivesImage, GivesInput}
 use Rattle.paged_cli.specs.Replies.{replies_text}
 
 module _ (gives : List ℕ → List ℕ → Type 0) where
@@ -29,6 +32,11 @@ module _ (gives : List ℕ → List ℕ → Type 0) where
     pub ran : ReportsAsked F (option_map (λ s. s.now) request.swap) request.frames request.slots starts request.slice request.limit report
     pub told : Appends old new (report_text report)
     pub status_is : status ≡ worst_status 0 (map (λ process. process.end) report.processes.items)
+
+  -- on one thread, or by as many workers as were asked for
+  abbrev pub RunsByThreading : Type 0 → Threading → RunRequest → Option (List ℕ) → Option (List ℕ) → ℕ → Type 0
+  RunsByThreading F Serial request old new status = RunsAsAsked F request old new status
+  RunsByThreading F (Workers workers told) request old new status = IsRunAsAsked gives F request workers old new status
 
   -- the same of a script that was played to its end or to its first bad line, with a line for each reply
   pub record PlaysAsAsked (request : DriveRequest) (old new : Option (List ℕ)) (bad_line : Option ℕ) : Type 0 where

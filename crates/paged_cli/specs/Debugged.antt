@@ -11,9 +11,10 @@ use Rattle.debug_session.specs.declared.conversation.SessionFault.{SessionFault}
 use Rattle.debug_session.specs.declared.conversation.SessionFault.TheVariants as session
 use Rattle.paged_target.specs.Reads.{FailsToReadFrom}
 use Rattle.paged_target.specs.Shown.{TargetValue, shown_of}
-use Rattle.paged_cli.specs.Reading.{GivesImage}
-use Rattle.paged_cli.specs.declared.fault.Fault.{Fault}
-use Rattle.paged_cli.specs.declared.fault.Fault.TheVariants as fault
+use Rattle.image_files.specs.Faults.{IsOfNoLine}
+use Rattle.image_files.specs.Reading.{GivesImage}
+use Rattle.image_files.specs.declared.fault.Fault.{Fault}
+use Rattle.image_files.specs.declared.fault.Fault.TheVariants as fault
 
 -- a debugger of a target, before its first call
 abbrev pub new_debugger : {T : Type 0} → (T → Process) → T → DebuggerValue T
@@ -46,15 +47,6 @@ pub record DebugsAsAsked (gives : List ℕ → List ℕ → Type 0) (request : D
   pub image : ImageContent
   pub image_given : GivesImage gives request.image.now image
   pub conversed : ConversesOver request.frames image input old new result
-
--- what a bad line tells, where one is the fault
-abbrev pub IfBadLine : Fault → (ℕ → Type 0) → Type 0
-IfBadLine (fault.BadLine number) P = P number
-IfBadLine _ P = ⊤
-
--- a fault of no line
-abbrev pub IsOfNoLine : Fault → Type 0
-IsOfNoLine why = IfBadLine why (λ number. ⊥)
 
 -- a conversation's fault as one of the command: a bad line is one, of the same number, and no other is
 abbrev pub IsTold : SessionFault → Fault → Type 0

@@ -1,7 +1,7 @@
 -- What the commands that run a machine come to.
-use Rattle.std.specs.Prelude.{◌≡◌, ℕ, ⊤, max, min, List, [], All, Option, Some, None, map, replicate}
-use Rattle.std.specs.List.{range_with_len}
+use Rattle.std.specs.Prelude.{ℕ, ⊤, max, List, [], Option, Some, None, replicate}
 use Rattle.file_slots.specs.FileSlotValue.{FileSlotValue}
+use Rattle.image_files.specs.SlotFiles.{AreNewFiles}
 use Rattle.swap_slots.specs.Slot.{zero_content}
 use Rattle.machine_core.specs.Applying.{Runs, LeadsTo}
 use Rattle.machine_core.specs.Headline.{PagingIsInvisible}
@@ -54,11 +54,6 @@ pub record ReportsOver {S : Type 0} (held : S → List ℕ) (honest : Type 0) (f
 -- the same on so many slots in memory, which are honest
 abbrev pub ReportsRun : ℕ → ℕ → List Start → ℕ → ℕ → Report → Type 0
 ReportsRun frames slots starts slice limit report = ReportsOver page_of ⊤ never frames (replicate slots zero_content) starts slice limit report
-
--- new slots in files, which are numbered from 0: as many as are wanted, but no more than so many
-pub record AreNewFiles {F : Type 0} (count : ℕ) (slots : List (FileSlotValue F)) : Type 0 where
-  pub numbers : map (λ slot. slot.number) slots ≡ range_with_len 0 (min count 512)
-  pub unused : All (λ slot. slot.failures ≡ 0) slots
 
 -- what a slot in a file holds is not known, and it is not honest
 abbrev pub unknown : {F : Type 0} → FileSlotValue F → List ℕ

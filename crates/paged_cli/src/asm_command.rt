@@ -1,9 +1,8 @@
 //! `paged asm`: a source made into an ELF file.
 
-use crate::fault::Fault;
-use crate::image_file::read_source;
 use command_line::AsmRequest;
 use elf_image::write_elf;
+use image_files::{Fault, read_source};
 use std::fs;
 use std::io::Write;
 use std::rt::Files;

@@ -1,11 +1,10 @@
 //! `paged clock`: a replacement list that answers the lines of a script.
 
-use crate::fault::Fault;
-use crate::files::read_text;
 use clock_policy::{Clock, Entry, Key, Refusal, Verdict};
 use clock_ring::ClockRing;
 use command_line::ClockRequest;
 use event_scripts::{ClockCall, call_on_line};
+use image_files::{Fault, read_text};
 use std::io::Write;
 use std::rt::Files;
 use std::{fmt, io};

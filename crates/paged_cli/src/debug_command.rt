@@ -5,18 +5,16 @@ ghost use Rattle.command_line.specs.Requests.{IsDebugInRange, IsFrom, least_fram
 ghost use Rattle.debug_core.specs.Debugging.{DebuggerValue};
 ghost use Rattle.debug_session.specs.Conversation.{HasConversed};
 ghost use Rattle.debug_session.specs.declared.conversation.SessionFault.TheVariants.{BadLine};
-ghost use Rattle.paged_cli.specs.Debugged.{new_debugger, ConversesOver, DebugsAsAsked, IfBadLine, IfLinesEnd, IsTold};
+ghost use Rattle.image_files.specs.Faults.{IfBadLine};
+ghost use Rattle.paged_cli.specs.Debugged.{new_debugger, ConversesOver, DebugsAsAsked, IfLinesEnd, IsTold};
 
-use crate::fault::Fault;
-use crate::files::Folder;
-use crate::image_file::read_image;
-use crate::machine::memory_slots;
 use clock_ring::ClockRing;
 use command_line::DebugRequest;
 use debug_core::{Debugger, Target};
 use debug_session::{SessionFault, converse};
 use elf_image::Image;
 use flat_machine::FlatProcess;
+use image_files::{Fault, Folder, memory_slots, read_image};
 use paged_target::PagedTarget;
 use std::alloc::Global;
 use std::io::{Read, Write};

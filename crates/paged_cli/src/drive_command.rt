@@ -7,14 +7,12 @@ ghost use Rattle.paged_cli.specs.Asked.{PlaysAsAsked};
 ghost use Rattle.paged_cli.specs.Playing.{Plays};
 ghost use Rattle.text_lines.specs.Text.{lines_of};
 
-use crate::fault::Fault;
-use crate::files::{Folder, read_text};
-use crate::image_file::read_processes;
 use crate::machine::new_machine;
 use crate::replies::write_replies;
 use command_line::DriveRequest;
 use elf_image::Image;
 use event_scripts::read_drive_script;
+use image_files::{Fault, Folder, read_processes, read_text};
 use machine_core::Reply;
 use std::alloc::{AllocError, Global};
 use std::io::Write;

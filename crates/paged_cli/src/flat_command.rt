@@ -3,11 +3,9 @@
 ghost use Rattle.std.specs.Prelude.{◌≡◌, IfOk};
 ghost use Rattle.paged_cli.specs.Asked.{FlatAsAsked};
 
-use crate::fault::Fault;
-use crate::files::{Folder, read_input};
-use crate::image_file::read_image;
 use command_line::FlatRequest;
 use flat_machine::FlatProcess;
+use image_files::{Fault, Folder, read_image, read_input};
 use report_text::{end_of, status_of_end, write_process};
 use std::io::Write;
 

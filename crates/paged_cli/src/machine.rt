@@ -7,6 +7,7 @@ ghost use Rattle.swap_slots.specs.Slot.{zero_content};
 
 use clock_ring::ClockRing;
 use elf_image::Image;
+use image_files::memory_slots;
 use machine_core::Core;
 use std::alloc::{AllocError, Global};
 use std::sync::ledger::{Blank, Ledger};
@@ -52,17 +53,4 @@ pub(crate) fn machine_on<L: Ledger, S: SwapSlot>(
         Ok(core) => Ok(core),
         Err(_) => Err(AllocError),
     }
-}
-
-/// So many slots in memory.
-#[tactic(auto, using(crate::proofs::Slots::one_more, crate::proofs::Slots::as_many))]
-pub(crate) fn memory_slots(alloc: Global, count: u32) -> Result<Vec<MemorySlot>, AllocError>
-    ensures { IfOk result (λ slots. slots.items ≡ replicate count zero_content) }
-{
-    let wanted = count as usize;
-    let mut slots = Vec::new(alloc);
-    'slots: while slots.len() < wanted {
-        slots.push(MemorySlot::new(alloc)?)?;
-    }
-    Ok(slots)
 }

@@ -4,27 +4,34 @@ use crate::asm_command::run_asm;
 use crate::clock_command::run_clock;
 use crate::debug_command::run_debug;
 use crate::drive_command::run_drive;
-use crate::fault::Fault;
 use crate::flat_command::run_flat;
-use crate::run_command::run_machine;
+use crate::run_command::run_machines;
 use command_line::{Request, read_request};
+use image_files::Fault;
 use std::convert::AsStr;
-use std::io::{Read, Write};
+use std::fs::OpenFile;
+use std::io::{Read, Seek, Write};
 use std::rt::Files;
+use std::sync::Wait;
+use std::thread::Threads;
 
 /// The exit status where a fault stopped the command.
 const FAULT: u8 = 2;
 
 /// Runs the program on the words behind its name, and answers its exit status: 0 or, of processes, how they ended; 2 for a fault,
 /// which is told on `err`. The files that the words name are read by `rt`, and the lines for a debugger from `input`.
-pub fn run_paged<R: Files + AllocGlobal, S: AsStr, I: Read, O: Write, E: Write>(
+pub fn run_paged<F, R, S: AsStr, I: Read, O: Write, E: Write + Send>(
     rt: &R,
     words: &[S],
     input: &mut I,
     out: &mut O,
     err: &mut E,
-) -> u8 {
-    let done = run_words(rt, words, input, out);
+) -> u8
+where
+    F: Read + Write + Seek + OpenFile + Drop + Send,
+    R: Files<File = F> + AllocGlobal + Threads + Wait + Sync,
+{
+    let done = run_words(rt, words, input, out, err);
     let flushed = out.flush();
     match done {
         Ok(status) => match flushed {
@@ -35,12 +42,17 @@ pub fn run_paged<R: Files + AllocGlobal, S: AsStr, I: Read, O: Write, E: Write>(
     }
 }
 
-fn run_words<'a, R: Files + AllocGlobal, S: AsStr, I: Read, O: Write>(
+fn run_words<'a, F, R, S: AsStr, I: Read, O: Write, E: Write + Send>(
     rt: &R,
     words: &'a [S],
     input: &mut I,
     out: &mut O,
-) -> Result<u8, Fault<'a>> {
+    err: &mut E,
+) -> Result<u8, Fault<'a>>
+where
+    F: Read + Write + Seek + OpenFile + Drop + Send,
+    R: Files<File = F> + AllocGlobal + Threads + Wait + Sync,
+{
     match read_request(rt.alloc(), words)? {
         Request::Asm(request) => {
             run_asm(rt, &request, out)?;
@@ -55,7 +67,7 @@ fn run_words<'a, R: Files + AllocGlobal, S: AsStr, I: Read, O: Write>(
             run_drive(rt, &request, out)?;
             Ok(0)
         }
-        Request::Run(request) => run_machine(rt, &request, out),
+        Request::Run(request) => run_machines(rt, &request, out, err),
         Request::Debug(request) => {
             run_debug(rt, &request, input, out)?;
             Ok(0)

@@ -1,29 +1,50 @@
-//! `paged run --serial`: images run to their end on one machine.
+//! `paged run`: images run to their end on one machine, on one thread or on several.
 
 ghost use Rattle.std.specs.Prelude.{◌≡◌, ◌+◌, ◌≤◌, IfOk, length, map, option_map};
 ghost use Rattle.command_line.specs.Requests.{IsRunInRange};
 ghost use Rattle.machine_sides.specs.Starting.{start_of};
-ghost use Rattle.paged_cli.specs.Asked.{RunsAsAsked};
+ghost use Rattle.paged_cli.specs.Asked.{RunsAsAsked, RunsByThreading};
 ghost use Rattle.paged_cli.specs.Playing.{ReportsAsked, ReportsOver};
 
-use crate::fault::Fault;
-use crate::files::Folder;
-use crate::image_file::read_processes;
-use crate::machine::{machine_on, memory_slots};
-use command_line::RunRequest;
+use crate::machine::machine_on;
+use command_line::{RunRequest, Threading};
 use elf_image::Image;
+use image_files::{Fault, Folder, memory_slots, read_processes};
 use machine_core::Report;
 use report_text::{status_of_all, write_report};
+use run_on_threads::run_on_threads;
 use serial_driver::run_serial;
 use std::alloc::{AllocError, Global};
 use std::io::Write;
 use std::marker::Brand;
+use std::sync::Wait;
 use std::sync::ledger::{Blank, Ledger};
+use std::thread::Threads;
 use swap_slots::SwapSlot;
 
-/// Runs a process for each image on a new machine until all have ended, writes how it went, and answers the exit status. Files
-/// for the slots are made once images and input are read.
-pub fn run_machine<'a, R: Folder + AllocGlobal, W: Write>(
+/// Runs a process for each image on a new machine until all have ended, on the threads that are asked for, writes how it went, and
+/// answers the exit status.
+pub fn run_machines<'a, R: Folder + AllocGlobal + Threads + Wait + Sync, O: Write, E: Write + Send>(
+    rt: &R,
+    request: &RunRequest<'a>,
+    out: &mut O,
+    err: &mut E,
+) -> Result<u8, Fault<'a>>
+where
+    R::File: Send,
+    requires { IsRunInRange request.now }
+    ensures { IfOk result (λ status. RunsByThreading R.gives R.File request.now.threading request.now (O.contents out.old) (O.contents out.new) status) }
+{
+    match request.threading {
+        Threading::Serial => run_serially(rt, request, out),
+        Threading::Workers { workers, status } => {
+            run_on_threads(rt, request, workers, status, out, err)
+        }
+    }
+}
+
+/// The same on one thread. Files for the slots are made once images and input are read.
+pub fn run_serially<'a, R: Folder + AllocGlobal, W: Write>(
     rt: &R,
     request: &RunRequest<'a>,
     out: &mut W,

@@ -4,7 +4,7 @@ use Rattle.flat_machine.specs.Process.{Process, opening}
 use Rattle.machine_sides.specs.Starting.{Start}
 use Rattle.miss_counts.specs.Counted.{IsTable, guest_pages}
 use Rattle.miss_counts.specs.declared.counts.Counts.{Counts}
-use Rattle.paged_cli.specs.Reading.{AreGiven}
+use Rattle.image_files.specs.Reading.{AreGiven}
 use Rattle.policies_cli.specs.declared.request.GuestRequest.{GuestRequest}
 use Rattle.policies_cli.specs.declared.request.MissesRequest.{MissesRequest}
 

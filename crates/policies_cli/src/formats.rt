@@ -3,8 +3,8 @@
 
 use byteorder::{ByteOrder, LittleEndian, WriteBytesExt};
 use clock_policy::Key;
+use image_files::Fault;
 use page_policies::next_uses;
-use paged_cli::Fault;
 use std::alloc::Global;
 use std::io;
 use std::io::Write;

@@ -8,7 +8,7 @@ use crate::request::GuestRequest;
 use elf_image::Image;
 use flat_machine::FlatProcess;
 use guest_strings::MOST_PROCESSES;
-use paged_cli::{Fault, Folder, read_processes};
+use image_files::{Fault, Folder, read_processes};
 use std::alloc::{AllocError, Global};
 
 /// The guests that a request names, 16 at most.

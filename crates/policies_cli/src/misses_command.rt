@@ -7,8 +7,8 @@ use crate::guests::read_guests;
 use crate::request::MissesRequest;
 use crate::table::write_table;
 use crate::teller::Teller;
+use image_files::{Fault, Folder};
 use miss_counts::{Counts, Progress, guest_rows};
-use paged_cli::{Fault, Folder};
 use std::io::Write;
 use std::rt::Files;
 

@@ -5,7 +5,7 @@ use crate::replay_command::run_replay;
 use crate::request::Request;
 use crate::requests::read_request;
 use crate::trace_command::run_trace;
-use paged_cli::Fault;
+use image_files::Fault;
 use std::convert::AsStr;
 use std::io::Write;
 use std::rt::Files;

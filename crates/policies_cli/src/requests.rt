@@ -6,9 +6,9 @@ use crate::request::{
 };
 use clap::ArgMatches;
 use clap::error::ErrorKind;
+use image_files::Fault;
 use miss_counts::usual_frames;
 use page_policies::Frames;
-use paged_cli::Fault;
 use std::alloc::Global;
 use std::convert::AsStr;
 use text_lines::numeral;

@@ -4,7 +4,7 @@ use crate::formats::{page_of_csv, page_of_record};
 use crate::reference_line::page_of;
 use crate::request::Format;
 use clock_policy::Key;
-use paged_cli::Fault;
+use image_files::Fault;
 use std::alloc::Global;
 use std::io;
 use std::io::{BufRead, ErrorKind, Read};

@@ -1,7 +1,23 @@
 //! Runs of the program on files in a folder of their own.
 
 use paged_cli::run_paged;
+use std::fs::OpenFile;
+use std::io::{Read, Seek, Write};
+use std::rt::Files;
+use std::sync::Wait;
+use std::thread::Threads;
 use std::{env, fs, io, process};
+
+/// Who has a number that no one else has now.
+pub trait Numbered {
+    fn number(&self) -> u32;
+}
+
+impl Numbered for HostRuntime {
+    fn number(&self) -> u32 {
+        process::id(self.process())
+    }
+}
 
 /// What a run left behind.
 #[derive(Drop)]
@@ -12,12 +28,20 @@ pub struct Run {
 }
 
 /// Runs the program on some words, with nothing on standard input.
-pub fn run_words(rt: &HostRuntime, words: &[&str]) -> io::Result<Run> {
+pub fn run_words<F, R>(rt: &R, words: &[&str]) -> io::Result<Run>
+where
+    F: Read + Write + Seek + OpenFile + Drop + Send,
+    R: Files<File = F> + Env + AllocGlobal + Threads + Wait + Sync + Numbered,
+{
     run_words_on(rt, words, b"".as_slice())
 }
 
 /// Runs the program on some words and an input.
-pub fn run_words_on(rt: &HostRuntime, words: &[&str], input: &[u8]) -> io::Result<Run> {
+pub fn run_words_on<F, R>(rt: &R, words: &[&str], input: &[u8]) -> io::Result<Run>
+where
+    F: Read + Write + Seek + OpenFile + Drop + Send,
+    R: Files<File = F> + Env + AllocGlobal + Threads + Wait + Sync + Numbered,
+{
     let mut input = input;
     let mut out = Vec::new(rt.alloc());
     let mut err = Vec::new(rt.alloc());
@@ -36,8 +60,8 @@ pub struct TestFile {
 
 impl TestFile {
     /// Writes a file for the test of this name.
-    pub fn new(rt: &HostRuntime, test: &str, content: &[u8]) -> io::Result<TestFile> {
-        let id = process::id(rt.process());
+    pub fn new<R: Files + Env + AllocGlobal + Numbered>(rt: &R, test: &str, content: &[u8]) -> io::Result<TestFile> {
+        let id = rt.number();
         let name = format!(in rt.alloc(); "paged-{test}-{id}")?;
         let folder = env::temp_dir(rt)?;
         let path = folder.join(rt.alloc(), name.as_str())?;
@@ -47,13 +71,17 @@ impl TestFile {
         })
     }
 
-    pub fn remove(self, rt: &HostRuntime) -> io::Result<()> {
+    pub fn remove<R: Files>(self, rt: &R) -> io::Result<()> {
         fs::remove_file(rt, self.path.as_str())
     }
 }
 
 /// Runs `paged flat` on a file of this content.
-pub fn run_flat(rt: &HostRuntime, test: &str, content: &[u8]) -> io::Result<Run> {
+pub fn run_flat<F, R>(rt: &R, test: &str, content: &[u8]) -> io::Result<Run>
+where
+    F: Read + Write + Seek + OpenFile + Drop + Send,
+    R: Files<File = F> + Env + AllocGlobal + Threads + Wait + Sync + Numbered,
+{
     let file = TestFile::new(rt, test, content)?;
     let done = run_words(rt, &["flat", file.path.as_str()]);
     file.remove(rt)?;
@@ -61,13 +89,17 @@ pub fn run_flat(rt: &HostRuntime, test: &str, content: &[u8]) -> io::Result<Run>
 }
 
 /// Runs `paged debug` on a file of this content and an input: on flat memory, or on so many frames.
-pub fn run_debug(
-    rt: &HostRuntime,
+pub fn run_debug<F, R>(
+    rt: &R,
     test: &str,
     frames: Option<&str>,
     content: &[u8],
     input: &[u8],
-) -> io::Result<Run> {
+) -> io::Result<Run>
+where
+    F: Read + Write + Seek + OpenFile + Drop + Send,
+    R: Files<File = F> + Env + AllocGlobal + Threads + Wait + Sync + Numbered,
+{
     let file = TestFile::new(rt, test, content)?;
     let image = file.path.as_str();
     let done = match frames {
@@ -79,12 +111,20 @@ pub fn run_debug(
 }
 
 /// Runs `paged clock` for four frames on a script.
-pub fn run_clock(rt: &HostRuntime, test: &str, script: &str) -> io::Result<Run> {
+pub fn run_clock<F, R>(rt: &R, test: &str, script: &str) -> io::Result<Run>
+where
+    F: Read + Write + Seek + OpenFile + Drop + Send,
+    R: Files<File = F> + Env + AllocGlobal + Threads + Wait + Sync + Numbered,
+{
     run_clock_for(rt, test, "4", script)
 }
 
 /// Runs `paged clock` for a number of frames on a script.
-pub fn run_clock_for(rt: &HostRuntime, test: &str, frames: &str, script: &str) -> io::Result<Run> {
+pub fn run_clock_for<F, R>(rt: &R, test: &str, frames: &str, script: &str) -> io::Result<Run>
+where
+    F: Read + Write + Seek + OpenFile + Drop + Send,
+    R: Files<File = F> + Env + AllocGlobal + Threads + Wait + Sync + Numbered,
+{
     let file = TestFile::new(rt, test, script.as_bytes())?;
     let done = run_words(rt, &["clock", frames, file.path.as_str()]);
     file.remove(rt)?;

@@ -1,0 +1,20 @@
+use Rattle.std.proofs.Common.{◌≡◌, ◌∷◌, ◌++◌, [], map, arith}
+use Rattle.std.proofs.lemmas.Grind.{common_steps}
+use Rattle.machine_sides.specs.Starting.{start_of}
+use Rattle.image_files.proofs.Given.{none_read, one_read, all_read}
+use Rattle.image_files.proofs.image_file.read_images.Goals as goal
+
+pub loop-name-init : goal.loop-name-init
+loop-name-init g c =
+    none_read g.R.Folder.gives (λ start. start_of start.0 start.1.items) (map (λ s. s.now) c.args.images.now) c.new-processes.result.items c.new-processes.ensures.items
+
+pub loop-name-preserved : goal.loop-name-preserved
+loop-name-preserved g c =
+    let pushed : c.push.new.self.items ≡ c.loop-name.processes.items ++ (c.in_ok-image.image, c.new.result) ∷ [] = grind (arith, common_steps) in
+    one_read g.R.Folder.gives (λ s. s.now) (λ start. start_of start.0 start.1.items) c.args.images.now c.loop-name.name-index _ c.loop-name.processes.items c.push.new.self.items
+    (c.in_ok-image.image, c.new.result) c.loop-name-test.true c.loop-name.invariant c.in_ok-image.ensures.image c.new.ensures.items pushed
+
+pub returns : goal.returns
+returns g c =
+    all_read g.R.Folder.gives (λ s. s.now) (λ start. start_of start.0 start.1.items) c.args.images.now c.loop-name.name-index c.loop-name.processes.items c.loop-name-test.false
+    c.loop-name.invariant

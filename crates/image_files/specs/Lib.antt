@@ -1,0 +1,5 @@
+pub mod Faults
+pub mod ImageKind
+pub mod Reading
+pub mod SlotFiles
+pub mod WordsFile

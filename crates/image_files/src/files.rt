@@ -1,0 +1,108 @@
+//! Files that commands read whole, and files of slots.
+
+ghost use Rattle.std.specs.Prelude.{◌≡◌, ◌≤◌, ℕ, ⊤, List, [], false, is_some, IfErr, IfOk, min, option_map, vec_len};
+ghost use Rattle.image_files.specs.Faults.{IsOfNoLine};
+ghost use Rattle.image_files.specs.Reading.{GivesInput};
+ghost use Rattle.image_files.specs.SlotFiles.{AreNewFiles, CannotMakeOneOf};
+
+use crate::fault::Fault;
+use file_slots::{FileSlot, make_file_slots};
+use std::alloc::Global;
+use std::fs;
+use std::io::{ErrorKind, Read, Seek, Write};
+use std::rt::Files;
+
+/// The most bytes that a file may have.
+const MOST_BYTES: usize = 33_554_432;
+
+/// Where files are read from, and slots' files are made.
+pub trait Folder {
+    /// An open file.
+    type File: Read + Write + Seek + Drop;
+
+    /// Whether a file of this name may be found to hold these bytes.
+    ghost gives: { List ℕ → List ℕ → Type 0 };
+
+    /// The bytes of a file.
+    fn read<'a>(&self, name: &'a str) -> Result<Vec<u8>, Fault<'a>>
+        ensures bytes { IfOk result (λ bytes. gives name.now bytes.items) }
+        ensures fault { IfErr result IsOfNoLine };
+
+    /// So many slots, but 512 at most, each in a file of its own that is made anew: `PREFIX.0`, `PREFIX.1` and so on.
+    fn make_slots<'a>(
+        &self,
+        prefix: &'a str,
+        count: u32,
+    ) -> Result<Vec<FileSlot<Self::File>>, Fault<'a>>
+        ensures made { IfOk result (λ slots. AreNewFiles count slots.items) }
+        ensures refused { IfErr result (CannotMakeOneOf prefix.now (min count 512)) };
+}
+
+/// Of the system's files nothing is known before they are read.
+impl<R: Files + AllocGlobal> Folder for R {
+    type File = R::File;
+
+    ghost gives = { λ _ _. ⊤ };
+
+    fn read<'a>(&self, name: &'a str) -> Result<Vec<u8>, Fault<'a>> {
+        read_file(self, name)
+    }
+
+    fn make_slots<'a>(
+        &self,
+        prefix: &'a str,
+        count: u32,
+    ) -> Result<Vec<FileSlot<R::File>>, Fault<'a>> {
+        Ok(make_file_slots(self, prefix, count)?)
+    }
+}
+
+/// The bytes of a file.
+pub fn read_file<'a, R: Files + AllocGlobal>(rt: &R, name: &'a str) -> Result<Vec<u8>, Fault<'a>>
+    ensures few { IfOk result (λ bytes. vec_len bytes ≤ MOST_BYTES) }
+    ensures fault { IfErr result IsOfNoLine }
+{
+    let Ok(file) = fs::open(rt, name) else {
+        return Err(Fault::CannotRead(name));
+    };
+    let mut bytes = Vec::new(rt.alloc());
+    if let Err(error) = file.take(MOST_BYTES as u64 + 1).read_to_end(&mut bytes) {
+        return match error.kind() {
+            ErrorKind::OutOfMemory => Err(Fault::NoMemory),
+            _ => Err(Fault::CannotRead(name)),
+        };
+    }
+    if bytes.len() > MOST_BYTES {
+        return Err(Fault::CannotRead(name));
+    }
+    Ok(bytes)
+}
+
+/// The input of a process: the bytes of a file, or none where no file is named.
+pub fn read_input<'a, R: Folder + AllocGlobal>(
+    rt: &R,
+    name: Option<&'a str>,
+) -> Result<Vec<u8>, Fault<'a>>
+    ensures none { IfOk result (λ bytes. is_some name.entry ≡ false → bytes.items ≡ []) }
+    ensures given { IfOk result (λ bytes. GivesInput R.gives (option_map (λ s. s.now) name.entry) bytes.items) }
+{
+    match name {
+        Some(name) => rt.read(name),
+        None => Ok(Vec::new(rt.alloc())),
+    }
+}
+
+/// The text of a file, which has to be UTF-8.
+pub fn read_text<'a, R: Folder>(rt: &R, name: &'a str) -> Result<String, Fault<'a>>
+    ensures { IfOk result (λ text. R.gives name.now text.bytes.items) }
+{
+    text_of(rt.read(name)?, name)
+}
+
+/// The text that a file's bytes are.
+pub fn text_of(bytes: Vec<u8>, name: &str) -> Result<String, Fault<'_>>
+    ensures text { IfOk result (λ text. text.bytes.items ≡ bytes.items) }
+    ensures fault { IfErr result IsOfNoLine }
+{
+    String::from_utf8(bytes).map_err(|_| Fault::CannotRead(name))
+}

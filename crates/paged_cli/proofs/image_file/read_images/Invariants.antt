@@ -1,9 +1,0 @@
-use Rattle.std.proofs.Common.{drop, map}
-use Rattle.machine_sides.specs.Starting.{start_of}
-use Rattle.paged_cli.proofs.Given.{Completes}
-use Rattle.paged_cli.proofs.image_file.read_images.Given as goal
-
--- What is still to be read goes behind what was read.
-abbrev pub invariant-loop-name : goal.invariant-loop-name
-invariant-loop-name g l =
-    Completes g.R.Folder.gives (map (λ s. s.now) l.images) (map (λ s. s.now) (drop l.name-index l.images)) (map (λ start. start_of start.0 start.1.items) l.processes.items)

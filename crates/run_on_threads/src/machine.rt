@@ -1,0 +1,39 @@
+//! The machine that threads run.
+
+ghost use Rattle.std.specs.Prelude.{◌<◌, IfOk};
+ghost use Rattle.run_on_threads.specs.Running.{CameTo, starts_of};
+
+use clock_ring::ClockRing;
+use elf_image::Image;
+use hart_carriers::Report;
+use reclaim_daemon::Gate;
+use std::alloc::{AllocError, Global};
+use std::sync::Wait;
+use std::thread::Threads;
+use swap_slots::SwapSlot;
+
+/// Runs copies of these images on copies of these inputs by so many workers, until each process has ended, on a machine that has its
+/// list on a ring.
+#[tactic(auto, using(crate::proofs::Starts::came_to))]
+pub(crate) fn run_machine<S: SwapSlot + Send, G: Gate + Sync, R: Threads + Wait + Sync>(
+    rt: &R,
+    alloc: Global,
+    frames: u32,
+    slots: Vec<S>,
+    handed: &[(Image, Vec<u8>)],
+    workers: u32,
+    slice: u32,
+    gate: &G,
+) -> Result<Report, AllocError>
+    requires workers { 0 < workers }
+    requires slice { 0 < slice }
+    ensures { IfOk result (CameTo S.honest frames slots.items (starts_of handed.now) workers slice) }
+{
+    let ran = hart_carriers::run_machine::<S, ClockRing, G, R>(
+        rt, alloc, frames, slots, handed, workers, slice, gate,
+    );
+    match ran {
+        Ok(report) => Ok(report),
+        Err(_) => Err(AllocError),
+    }
+}

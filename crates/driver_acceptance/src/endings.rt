@@ -151,7 +151,12 @@ fn with_no_memory_a_process_ends_at_once(rt: HostRuntime) -> Result<(), Fail> {
         AMPLE,
     )?;
     let ends = Some(End::Exited(36));
-    tells(&rt, alloc, &report, &[(NO_MEMORY, 0), (ends, 83), (ends, 83)])
+    tells(
+        &rt,
+        alloc,
+        &report,
+        &[(NO_MEMORY, 0), (ends, 83), (ends, 83)],
+    )
 }
 
 /// The last step of the run is its event 185.

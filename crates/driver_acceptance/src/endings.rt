@@ -1,7 +1,7 @@
 //! Each ending that the serial driver makes is reached, and none where a process ends by itself. The numbers are a model's.
 
 use crate::guests::{ROUNDS, SHARES, SPINS, SPREADS};
-use crate::machine::{endings, fuses, liars, played, processes, sound};
+use crate::machine::{endings, fuses, liars, played, played_scantly, processes, sound};
 use crate::no_loads::slots_without_loads;
 use flat_machine::{End, KillCause};
 use machine_core::Report;
@@ -17,6 +17,8 @@ const NO_SWAP: Option<End> = Some(End::Killed(KillCause::NoSwap));
 const LOAD_FAILED: Option<End> = Some(End::Killed(KillCause::LoadFailed));
 
 const DAMAGED: Option<End> = Some(End::Killed(KillCause::Damaged));
+
+const NO_MEMORY: Option<End> = Some(End::Killed(KillCause::NoMemory));
 
 const SCHEDULE_FULL: Option<End> = Some(End::Killed(KillCause::ScheduleFull));
 
@@ -135,6 +137,26 @@ fn a_damaged_page_ends_a_process_at_once(rt: HostRuntime) -> Result<(), Fail> {
     )?;
     assert_eq!(rt; report.page_ins, 11);
     tells(&rt, alloc, &report, &[(DAMAGED, 46)])
+}
+
+/// The list finds no memory for the page of the first instruction. The other processes run on.
+#[test]
+fn with_no_memory_a_process_ends_at_once(rt: HostRuntime) -> Result<(), Fail> {
+    let alloc = rt.alloc();
+    let report = played_scantly(
+        alloc,
+        sound(alloc, 23)?,
+        processes(alloc, 3, SPREADS)?,
+        7,
+        AMPLE,
+    )?;
+    let ends = Some(End::Exited(36));
+    tells(
+        &rt,
+        alloc,
+        &report,
+        &[(NO_MEMORY, 0), (ends, 83), (ends, 83)],
+    )
 }
 
 /// The last step of the run is its event 185.

@@ -9,3 +9,5 @@ mod guests;
 mod machine;
 #[cfg(test)]
 mod no_loads;
+#[cfg(test)]
+mod scant;

@@ -2,6 +2,8 @@
 
 ghost use Rattle.std.specs.Prelude.{◌≡◌};
 
+use crate::scant::ScantList;
+use clock_policy::Clock;
 use clock_ring::ClockRing;
 use elf_image::Image;
 use file_slots::FlipSlot;
@@ -60,10 +62,21 @@ pub(crate) fn played<S: SwapSlot>(
     slice: u32,
     limit: u64,
 ) -> Result<Report, Fail> {
-    played_with::<Brand, S>(alloc, Blank::new(5), slots, processes, slice, limit)
+    played_with::<Brand, S, ClockRing>(alloc, Blank::new(5), slots, processes, slice, limit)
 }
 
-fn played_with<L: Ledger, S: SwapSlot>(
+/// The same where the list finds no memory for the first page.
+pub(crate) fn played_scantly<S: SwapSlot>(
+    alloc: Global,
+    slots: Vec<S>,
+    processes: Vec<(Image, Vec<u8>)>,
+    slice: u32,
+    limit: u64,
+) -> Result<Report, Fail> {
+    played_with::<Brand, S, ScantList>(alloc, Blank::new(5), slots, processes, slice, limit)
+}
+
+fn played_with<L: Ledger, S: SwapSlot, C: Clock>(
     alloc: Global,
     blank: Blank,
     slots: Vec<S>,
@@ -75,7 +88,7 @@ fn played_with<L: Ledger, S: SwapSlot>(
     requires parts { blank.parts ≡ L.parts }
     requires one_each { L.parts ≡ 5 }
 {
-    let mut core: Core<L, S, ClockRing> = Core::new(alloc, 4, blank, slots, processes).map_err(
+    let mut core: Core<L, S, C> = Core::new(alloc, 4, blank, slots, processes).map_err(
         |_| "no machine",
     )?;
     Ok(run_serial(alloc, &mut core, slice, limit)?)

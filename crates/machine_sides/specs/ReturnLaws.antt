@@ -15,7 +15,7 @@ use Rattle.machine_sides.specs.SweepLaws.{LeavesRest}
 use Rattle.machine_sides.specs.Together.{Together, residents_in, savings_in, frames_in, frames_where, key_of}
 
 -- the list has one more
-pub listed_again : (key : Key) (old new : PagerSideValue) (test : Key → Bool) → ListsAgain key old new → residents new.pager.list test ≡ residents old.pager.list test + cond (test key) 1 0
+listed_again : (key : Key) (old new : PagerSideValue) (test : Key → Bool) → ListsAgain key old new → residents new.pager.list test ≡ residents old.pager.list test + cond (test key) 1 0
 listed_again key old new test lists =
     let now : residents new.pager.list test ≡ residents (restored key old.pager.list).0 test = ap (λ (p : PagerSideValue). residents p.pager.list test) lists.pager_is in
     now ∙ restored_residents test key old.pager.list ∙ ap (λ b. residents old.pager.list test + cond (b && test key) 1 0) (ok (restored key old.pager.list).1 lists.taken)
@@ -35,12 +35,12 @@ module _ {S : Type 0} (vpn : ℕ) (old new : ProcessSideValue S) (maps : MapsAga
   placed : maps.page.page.page'.place ≡ Resident returns.frame returns.slot
   placed = ap (λ (p : PageValue S). p.place) returns.is
 
-  pub returned_residents : (test : Key → Bool) → residents_in new.space test ≡ residents_in old.space test + cond (test (key_of old.space.memory.process vpn)) 1 0
+  returned_residents : (test : Key → Bool) → residents_in new.space test ≡ residents_in old.space test + cond (test (key_of old.space.memory.process vpn)) 1 0
   returned_residents test =
       let moved : residents_in new.space test + 0 ≡ residents_in old.space test + cond (test (key_of old.space.memory.process vpn)) 1 0 = moved_residents _ old.space new.space vpn maps.small maps.page.page _ _ returns.was placed maps.process test in
       omega (arith, moved)
 
-  pub returned_frames : (test : ℕ → Bool) → frames_in new.space test ≡ frames_in old.space test
+  returned_frames : (test : ℕ → Bool) → frames_in new.space test ≡ frames_in old.space test
   returned_frames test =
       let moved : frames_in new.space test + cond (test returns.frame.number) 1 0 ≡ frames_in old.space test + cond (test returns.frame.number) 1 0 = moved_frames _ old.space new.space vpn maps.small maps.page.page _ _ returns.was placed maps.process test in
       omega (arith, moved)

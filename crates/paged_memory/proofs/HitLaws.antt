@@ -27,7 +27,7 @@ writable_framed (Away slot) frame is = cc
 writable_framed Purged frame is = cc
 
 -- an entry that is found and is to be dropped shows that the page has one
-doomed_found : (page : ℕ) (cache : List Translation) (t : Translation) → translation_of page cache ≡ Some t → t.doomed ≡ true → is_doomed page cache ≡ true
+pub doomed_found : (page : ℕ) (cache : List Translation) (t : Translation) → translation_of page cache ≡ Some t → t.doomed ≡ true → is_doomed page cache ≡ true
 doomed_found page [] t found doomed = cc
 doomed_found page (x ∷ xs) t found doomed = by_first (is_of_page page x) refl found (doomed_found page xs t)
   where
@@ -73,9 +73,9 @@ module _ {S : Type 0} {held : S → List ℕ} {honest : Type 0} {pages : List (�
   pub has_hit : HasPage pages (cache_of caches hart) number
   has_hit = inr (ap is_some hits.found)
 
-  pub marks_hit : MarksUse pages tables (cache_of caches hart) number
+  pub marks_hit : MarksUse pages tables (cache_of caches hart) access number
   marks_hit = by_mark hits.entry.doomed refl
     where
-      by_mark : (b : Bool) → hits.entry.doomed ≡ b → MarksUse pages tables (cache_of caches hart) number
-      by_mark true is = inr (doomed_found number (cache_of caches hart) hits.entry hits.found is)
+      by_mark : (b : Bool) → hits.entry.doomed ≡ b → MarksUse pages tables (cache_of caches hart) access number
+      by_mark true is = inr (record { place = place; hits = hits; doomed = is })
       by_mark false is = inl (sound_here.used is)

@@ -22,3 +22,4 @@ pub mod FirstGiving
 pub mod PeekingLaws
 pub mod CoherenceLaws
 pub mod Marking
+pub mod Since

@@ -76,9 +76,15 @@ module _ {S : Type 0} where
 abbrev pub is_doomed : ℕ → List Translation → Bool
 is_doomed page cache = list_any (λ t. is_of_page page t && t.doomed) cache
 
--- a page's use is marked: its A is set, or this cache has a translation of it that is to be dropped
-abbrev pub MarksUse : {S : Type 0} → List (ℕ × PageValue S) → List (List ℕ) → List Translation → ℕ → Type 0
-MarksUse pages tables cache page = (is_used (seen_at pages page) (entry_at tables page) ≡ true) ⊎ (is_doomed page cache ≡ true)
+-- an access goes through a translation in this cache that is to be dropped
+pub record ServedDoomed (cache : List Translation) (access : Access) (page : ℕ) : Type 0 where
+  pub place : ℕ
+  pub hits : Hits cache access page place
+  pub doomed : hits.entry.doomed ≡ true
+
+-- a page's use by an access is marked: its A is set, unless the access goes through a translation that is to be dropped
+abbrev pub MarksUse : {S : Type 0} → List (ℕ × PageValue S) → List (List ℕ) → List Translation → Access → ℕ → Type 0
+MarksUse pages tables cache access page = (is_used (seen_at pages page) (entry_at tables page) ≡ true) ⊎ ServedDoomed cache access page
 
 -- an access may use a page of these bytes
 abbrev pub UsesBytes : Result Page MemoryFault → List ℕ → Type 0

@@ -32,7 +32,7 @@ pub(crate) fn at_hand<L: Ledger, S: SwapSlot>(
     ensures aligned { IfSome result (λ _. address % bytes_in width ≡ 0) }
     ensures reaches { IfSome result (λ place. Reaches pages.now tables.now access (page_number address) place) }
     ensures has { IfSome result (λ _. HasPage pages.now (cache_of caches.now hart) (page_number address)) }
-    ensures marked { IfSome result (λ _. MarksUse pages.now tables.now (cache_of caches.now hart) (page_number address)) }
+    ensures marked { IfSome result (λ _. MarksUse pages.now tables.now (cache_of caches.now hart) access (page_number address)) }
 {
     caches.ready(hart, access, width, address)
 }
@@ -163,7 +163,7 @@ fn hit_or_walk<L: Ledger, S: SwapSlot>(
     ensures entries { MayWalk access (page_number address) tables.old tables.new }
     ensures unmarked { OnErr result (tables.new ≡ tables.old) }
     ensures has { OnOk result (HasPage pages.now (cache_of caches.old hart) (page_number address)) }
-    ensures marked { OnOk result (MarksUse pages.now tables.new (cache_of caches.old hart) (page_number address)) }
+    ensures marked { OnOk result (MarksUse pages.now tables.new (cache_of caches.old hart) access (page_number address)) }
 {
     let page = page_of(address);
     match hit(caches, hart, access, page) {
@@ -191,7 +191,7 @@ pub(crate) fn reach<L: Ledger, S: SwapSlot>(
     ensures entries { MayWalk access (page_number address) tables.old tables.new }
     ensures unmarked { OnErr result (tables.new ≡ tables.old) }
     ensures has { OnOk result (HasPage pages.now (cache_of caches.old hart) (page_number address)) }
-    ensures marked { OnOk result (MarksUse pages.now tables.new (cache_of caches.old hart) (page_number address)) }
+    ensures marked { OnOk result (MarksUse pages.now tables.new (cache_of caches.old hart) access (page_number address)) }
 {
     let reached = hit_or_walk(pages, tables, caches, hart, access, address);
     caches.remember(hart, access, address);

@@ -22,7 +22,7 @@ impl<L: Ledger, S: SwapSlot> PagedMemory<L, S> {
     #[inline]
     pub fn fetch(&mut self, hart: usize, address: u32) -> Result<u32, BusError>
         requires { hart < length self.old.caches }
-        ensures answer { Answers (HasPage self.old.pages (cache_of self.old.caches hart)) (MarksUse self.old.pages self.new.tables (cache_of self.old.caches hart)) (LacksPage self.old.pages) address (fetched (memory_of S.content self.old.pages) address) result }
+        ensures answer { Answers (HasPage self.old.pages (cache_of self.old.caches hart)) (MarksUse self.old.pages self.new.tables (cache_of self.old.caches hart) Access.Fetch) (LacksPage self.old.pages) address (fetched (memory_of S.content self.old.pages) address) result }
         ensures process { self.new.process ≡ self.old.process }
         ensures pages { self.new.pages ≡ self.old.pages }
         ensures held { ServesHeld (cache_of self.old.caches hart) Access.Fetch (page_number address) result }
@@ -43,7 +43,7 @@ impl<L: Ledger, S: SwapSlot> PagedMemory<L, S> {
     #[inline]
     pub fn load(&mut self, hart: usize, width: Width, address: u32) -> Result<u32, BusError>
         requires { hart < length self.old.caches }
-        ensures answer { Answers (HasPage self.old.pages (cache_of self.old.caches hart)) (MarksUse self.old.pages self.new.tables (cache_of self.old.caches hart)) (LacksPage self.old.pages) address (loaded (memory_of S.content self.old.pages) width address) result }
+        ensures answer { Answers (HasPage self.old.pages (cache_of self.old.caches hart)) (MarksUse self.old.pages self.new.tables (cache_of self.old.caches hart) Access.Load) (LacksPage self.old.pages) address (loaded (memory_of S.content self.old.pages) width address) result }
         ensures process { self.new.process ≡ self.old.process }
         ensures pages { self.new.pages ≡ self.old.pages }
         ensures held { ServesHeld (cache_of self.old.caches hart) Access.Load (page_number address) result }
@@ -72,7 +72,7 @@ impl<L: Ledger, S: SwapSlot> PagedMemory<L, S> {
     ) -> Result<(), BusError>
         requires { hart < length self.old.caches }
         ensures answer { let after = with_answer (λ _. memory_of S.content self.new.pages) result in
-            Answers (HasPage self.old.pages (cache_of self.old.caches hart)) (MarksUse self.old.pages self.new.tables (cache_of self.old.caches hart)) (LacksPage self.old.pages) address (stored (memory_of S.content self.old.pages) width address word) after }
+            Answers (HasPage self.old.pages (cache_of self.old.caches hart)) (MarksUse self.old.pages self.new.tables (cache_of self.old.caches hart) Access.Store) (LacksPage self.old.pages) address (stored (memory_of S.content self.old.pages) width address word) after }
         ensures refused { OnErr result (self.new.pages ≡ self.old.pages) }
         ensures process { self.new.process ≡ self.old.process }
         ensures bare { KeepsBare self.old.pages self.new.pages }
@@ -104,7 +104,7 @@ impl<L: Ledger, S: SwapSlot> PagedMemory<L, S> {
         requires { hart < length self.old.caches }
         ensures answer { let update = λ (old : ℕ). amo_result operation old operand in
             let after = with_answer (λ old. (old, memory_of S.content self.new.pages)) result in
-            Answers (HasPage self.old.pages (cache_of self.old.caches hart)) (MarksUse self.old.pages self.new.tables (cache_of self.old.caches hart)) (LacksPage self.old.pages) address (replaced (memory_of S.content self.old.pages) update address) after }
+            Answers (HasPage self.old.pages (cache_of self.old.caches hart)) (MarksUse self.old.pages self.new.tables (cache_of self.old.caches hart) Access.Store) (LacksPage self.old.pages) address (replaced (memory_of S.content self.old.pages) update address) after }
         ensures refused { OnErr result (self.new.pages ≡ self.old.pages) }
         ensures process { self.new.process ≡ self.old.process }
         ensures bare { KeepsBare self.old.pages self.new.pages }
@@ -129,7 +129,7 @@ impl<L: Ledger, S: SwapSlot> PagedMemory<L, S> {
         requires hart { hart < length self.old.caches }
         requires within { page_offset address + length to.old ≤ 4096 }
         ensures answer { let copied = with_answer (λ _. to.new) result in
-            Answers (HasPage self.old.pages (cache_of self.old.caches hart)) (MarksUse self.old.pages self.new.tables (cache_of self.old.caches hart)) (LacksPage self.old.pages) address (copied_out (memory_of S.content self.old.pages) address (length to.old)) copied }
+            Answers (HasPage self.old.pages (cache_of self.old.caches hart)) (MarksUse self.old.pages self.new.tables (cache_of self.old.caches hart) Access.Load) (LacksPage self.old.pages) address (copied_out (memory_of S.content self.old.pages) address (length to.old)) copied }
         ensures refused { OnErr result (to.new ≡ to.old) }
         ensures process { self.new.process ≡ self.old.process }
         ensures pages { self.new.pages ≡ self.old.pages }
@@ -153,7 +153,7 @@ impl<L: Ledger, S: SwapSlot> PagedMemory<L, S> {
         requires hart { hart < length self.old.caches }
         requires within { page_offset address + length from.now ≤ 4096 }
         ensures answer { let after = with_answer (λ _. memory_of S.content self.new.pages) result in
-            Answers (HasPage self.old.pages (cache_of self.old.caches hart)) (MarksUse self.old.pages self.new.tables (cache_of self.old.caches hart)) (LacksPage self.old.pages) address (copied_in (memory_of S.content self.old.pages) address from.now) after }
+            Answers (HasPage self.old.pages (cache_of self.old.caches hart)) (MarksUse self.old.pages self.new.tables (cache_of self.old.caches hart) Access.Store) (LacksPage self.old.pages) address (copied_in (memory_of S.content self.old.pages) address from.now) after }
         ensures refused { OnErr result (self.new.pages ≡ self.old.pages) }
         ensures process { self.new.process ≡ self.old.process }
         ensures bare { KeepsBare self.old.pages self.new.pages }

@@ -48,7 +48,7 @@ fn read_ready<'a, L: Ledger, S: SwapSlot>(
     ensures bytes { IfSome result (λ bytes. UsesBytes (usable (memory_of S.content pages.now) access address) bytes.now) }
     ensures whole { IfSome result (λ bytes. length bytes.now ≡ 4096) }
     ensures has { IfSome result (λ _. HasPage pages.now (cache_of caches.now hart) (page_number address)) }
-    ensures marked { IfSome result (λ _. MarksUse pages.now tables.now (cache_of caches.now hart) (page_number address)) }
+    ensures marked { IfSome result (λ _. MarksUse pages.now tables.now (cache_of caches.now hart) access (page_number address)) }
 {
     match at_hand(pages, tables, caches, hart, access, width, address) {
         Some(place) => Some(bytes_of(pages.at(place))),
@@ -77,7 +77,7 @@ fn read<'a, L: Ledger, S: SwapSlot>(
     ensures entries { MayWalk access (page_number address) tables.old tables.new }
     ensures unmarked { OnErr result (tables.new ≡ tables.old) }
     ensures has { OnOk result (HasPage pages.now (cache_of caches.old hart) (page_number address)) }
-    ensures marked { OnOk result (MarksUse pages.now tables.new (cache_of caches.old hart) (page_number address)) }
+    ensures marked { OnOk result (MarksUse pages.now tables.new (cache_of caches.old hart) access (page_number address)) }
 {
     match reach(pages, tables, caches, hart, access, address) {
         Ok(place) => Ok(bytes_of(pages.at(place))),
@@ -98,7 +98,7 @@ pub(crate) fn fetch<L: Ledger, S: SwapSlot>(
     requires hart { hart < length caches.old }
     requires holds { Holds S.content S.honest pages.now tables.old caches.old }
     ensures holds { Holds S.content S.honest pages.now tables.new caches.new }
-    ensures answer { Answers (HasPage pages.now (cache_of caches.old hart)) (MarksUse pages.now tables.new (cache_of caches.old hart)) (LacksPage pages.now) address (fetched (memory_of S.content pages.now) address) result }
+    ensures answer { Answers (HasPage pages.now (cache_of caches.old hart)) (MarksUse pages.now tables.new (cache_of caches.old hart) Access.Fetch) (LacksPage pages.now) address (fetched (memory_of S.content pages.now) address) result }
     ensures held { ServesHeld (cache_of caches.old hart) Access.Fetch (page_number address) result }
     ensures kept { KeepsTranslations pages.now hart tables.old tables.new caches.old caches.new }
     ensures entries { MayWalk Access.Fetch (page_number address) tables.old tables.new }
@@ -132,7 +132,7 @@ fn fetch_anew<L: Ledger, S: SwapSlot>(
     requires hart { hart < length caches.old }
     requires holds { Holds S.content S.honest pages.now tables.old caches.old }
     ensures holds { Holds S.content S.honest pages.now tables.new caches.new }
-    ensures answer { Answers (HasPage pages.now (cache_of caches.old hart)) (MarksUse pages.now tables.new (cache_of caches.old hart)) (LacksPage pages.now) address (fetched (memory_of S.content pages.now) address) result }
+    ensures answer { Answers (HasPage pages.now (cache_of caches.old hart)) (MarksUse pages.now tables.new (cache_of caches.old hart) Access.Fetch) (LacksPage pages.now) address (fetched (memory_of S.content pages.now) address) result }
     ensures held { ServesHeld (cache_of caches.old hart) Access.Fetch (page_number address) result }
     ensures kept { KeepsTranslations pages.now hart tables.old tables.new caches.old caches.new }
     ensures entries { MayWalk Access.Fetch (page_number address) tables.old tables.new }
@@ -161,7 +161,7 @@ pub(crate) fn load<L: Ledger, S: SwapSlot>(
     requires hart { hart < length caches.old }
     requires holds { Holds S.content S.honest pages.now tables.old caches.old }
     ensures holds { Holds S.content S.honest pages.now tables.new caches.new }
-    ensures answer { Answers (HasPage pages.now (cache_of caches.old hart)) (MarksUse pages.now tables.new (cache_of caches.old hart)) (LacksPage pages.now) address (loaded (memory_of S.content pages.now) width address) result }
+    ensures answer { Answers (HasPage pages.now (cache_of caches.old hart)) (MarksUse pages.now tables.new (cache_of caches.old hart) Access.Load) (LacksPage pages.now) address (loaded (memory_of S.content pages.now) width address) result }
     ensures held { ServesHeld (cache_of caches.old hart) Access.Load (page_number address) result }
     ensures kept { KeepsTranslations pages.now hart tables.old tables.new caches.old caches.new }
     ensures entries { MayWalk Access.Load (page_number address) tables.old tables.new }
@@ -188,7 +188,7 @@ fn load_anew<L: Ledger, S: SwapSlot>(
     requires hart { hart < length caches.old }
     requires holds { Holds S.content S.honest pages.now tables.old caches.old }
     ensures holds { Holds S.content S.honest pages.now tables.new caches.new }
-    ensures answer { Answers (HasPage pages.now (cache_of caches.old hart)) (MarksUse pages.now tables.new (cache_of caches.old hart)) (LacksPage pages.now) address (loaded (memory_of S.content pages.now) width address) result }
+    ensures answer { Answers (HasPage pages.now (cache_of caches.old hart)) (MarksUse pages.now tables.new (cache_of caches.old hart) Access.Load) (LacksPage pages.now) address (loaded (memory_of S.content pages.now) width address) result }
     ensures held { ServesHeld (cache_of caches.old hart) Access.Load (page_number address) result }
     ensures kept { KeepsTranslations pages.now hart tables.old tables.new caches.old caches.new }
     ensures entries { MayWalk Access.Load (page_number address) tables.old tables.new }
@@ -218,7 +218,7 @@ pub(crate) fn copy_out<L: Ledger, S: SwapSlot>(
     requires holds { Holds S.content S.honest pages.now tables.old caches.old }
     ensures holds { Holds S.content S.honest pages.now tables.new caches.new }
     ensures answer { let copied = with_answer (λ _. to.new) result in
-        Answers (HasPage pages.now (cache_of caches.old hart)) (MarksUse pages.now tables.new (cache_of caches.old hart)) (LacksPage pages.now) address (copied_out (memory_of S.content pages.now) address (length to.old)) copied }
+        Answers (HasPage pages.now (cache_of caches.old hart)) (MarksUse pages.now tables.new (cache_of caches.old hart) Access.Load) (LacksPage pages.now) address (copied_out (memory_of S.content pages.now) address (length to.old)) copied }
     ensures refused { OnErr result (to.new ≡ to.old) }
     ensures held { ServesHeld (cache_of caches.old hart) Access.Load (page_number address) result }
     ensures kept { KeepsTranslations pages.now hart tables.old tables.new caches.old caches.new }

@@ -87,7 +87,7 @@ pub(crate) fn store<L: Ledger, S: SwapSlot>(
     requires holds { Holds S.content S.honest pages.old tables.old caches.old }
     ensures holds { Holds S.content S.honest pages.new tables.new caches.new }
     ensures answer { let after = with_answer (λ _. memory_of S.content pages.new) result in
-        Answers (HasPage pages.old (cache_of caches.old hart)) (MarksUse pages.old tables.new (cache_of caches.old hart)) (LacksPage pages.old) address (stored (memory_of S.content pages.old) width address word) after }
+        Answers (HasPage pages.old (cache_of caches.old hart)) (MarksUse pages.old tables.new (cache_of caches.old hart) Access.Store) (LacksPage pages.old) address (stored (memory_of S.content pages.old) width address word) after }
     ensures refused { OnErr result (pages.new ≡ pages.old) }
     ensures bare { KeepsBare pages.old pages.new }
     ensures held { ServesHeld (cache_of caches.old hart) Access.Store (page_number address) result }
@@ -120,7 +120,7 @@ fn store_anew<L: Ledger, S: SwapSlot>(
     requires holds { Holds S.content S.honest pages.old tables.old caches.old }
     ensures holds { Holds S.content S.honest pages.new tables.new caches.new }
     ensures answer { let after = with_answer (λ _. memory_of S.content pages.new) result in
-        Answers (HasPage pages.old (cache_of caches.old hart)) (MarksUse pages.old tables.new (cache_of caches.old hart)) (LacksPage pages.old) address (stored (memory_of S.content pages.old) width address word) after }
+        Answers (HasPage pages.old (cache_of caches.old hart)) (MarksUse pages.old tables.new (cache_of caches.old hart) Access.Store) (LacksPage pages.old) address (stored (memory_of S.content pages.old) width address word) after }
     ensures refused { OnErr result (pages.new ≡ pages.old) }
     ensures bare { KeepsBare pages.old pages.new }
     ensures held { ServesHeld (cache_of caches.old hart) Access.Store (page_number address) result }
@@ -154,7 +154,7 @@ pub(crate) fn copy_in<L: Ledger, S: SwapSlot>(
     requires holds { Holds S.content S.honest pages.old tables.old caches.old }
     ensures holds { Holds S.content S.honest pages.new tables.new caches.new }
     ensures answer { let after = with_answer (λ _. memory_of S.content pages.new) result in
-        Answers (HasPage pages.old (cache_of caches.old hart)) (MarksUse pages.old tables.new (cache_of caches.old hart)) (LacksPage pages.old) address (copied_in (memory_of S.content pages.old) address from.now) after }
+        Answers (HasPage pages.old (cache_of caches.old hart)) (MarksUse pages.old tables.new (cache_of caches.old hart) Access.Store) (LacksPage pages.old) address (copied_in (memory_of S.content pages.old) address from.now) after }
     ensures refused { OnErr result (pages.new ≡ pages.old) }
     ensures bare { KeepsBare pages.old pages.new }
     ensures held { ServesHeld (cache_of caches.old hart) Access.Store (page_number address) result }
@@ -186,7 +186,7 @@ pub(crate) fn amo<L: Ledger, S: SwapSlot>(
     ensures holds { Holds S.content S.honest pages.new tables.new caches.new }
     ensures answer { let update = λ (old : ℕ). amo_result operation old operand in
         let after = with_answer (λ old. (old, memory_of S.content pages.new)) result in
-        Answers (HasPage pages.old (cache_of caches.old hart)) (MarksUse pages.old tables.new (cache_of caches.old hart)) (LacksPage pages.old) address (replaced (memory_of S.content pages.old) update address) after }
+        Answers (HasPage pages.old (cache_of caches.old hart)) (MarksUse pages.old tables.new (cache_of caches.old hart) Access.Store) (LacksPage pages.old) address (replaced (memory_of S.content pages.old) update address) after }
     ensures refused { OnErr result (pages.new ≡ pages.old) }
     ensures bare { KeepsBare pages.old pages.new }
     ensures held { ServesHeld (cache_of caches.old hart) Access.Store (page_number address) result }
@@ -225,7 +225,7 @@ fn amo_anew<L: Ledger, S: SwapSlot>(
     ensures holds { Holds S.content S.honest pages.new tables.new caches.new }
     ensures answer { let update = λ (old : ℕ). amo_result operation old operand in
         let after = with_answer (λ old. (old, memory_of S.content pages.new)) result in
-        Answers (HasPage pages.old (cache_of caches.old hart)) (MarksUse pages.old tables.new (cache_of caches.old hart)) (LacksPage pages.old) address (replaced (memory_of S.content pages.old) update address) after }
+        Answers (HasPage pages.old (cache_of caches.old hart)) (MarksUse pages.old tables.new (cache_of caches.old hart) Access.Store) (LacksPage pages.old) address (replaced (memory_of S.content pages.old) update address) after }
     ensures refused { OnErr result (pages.new ≡ pages.old) }
     ensures bare { KeepsBare pages.old pages.new }
     ensures held { ServesHeld (cache_of caches.old hart) Access.Store (page_number address) result }

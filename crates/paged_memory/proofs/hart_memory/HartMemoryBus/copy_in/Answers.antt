@@ -2,9 +2,11 @@ use Rattle.std.proofs.Common.{refl}
 use Rattle.paged_memory.specs.HartMemoryLaws.{access_written}
 use Rattle.page_memory.specs.declared.words.Access.TheVariants.{Store}
 use Rattle.page_memory.specs.Memory.{copied_in}
+use Rattle.rv_exec.specs.Answers.{with_answer}
 use Rattle.paged_memory.specs.Access.{HasPage, LacksPage, MarksUse, cache_of}
 use Rattle.paged_memory.specs.Paged.{memory_of}
 use Rattle.paged_memory.proofs.Marking.{bounds_access_with}
+use Rattle.paged_memory.proofs.Since.{answers_since, seen_written}
 use Rattle.paged_memory.proofs.hart_memory.HartMemoryBus.copy_in.Goals as goal
 
 pub returns-clause-kept : goal.returns-clause-kept
@@ -15,5 +17,13 @@ returns-clause-bound g c =
     let now = c.args.self.now.memory.now in
     let cache = cache_of now.caches c.args.self.now.hart in
     let memory = memory_of g.S.SwapSlot.content now.pages in
-    bounds_access_with Store (HasPage now.pages cache) (MarksUse now.pages c.copy_in.new.self.tables cache) (LacksPage now.pages) c.args.address now.tables c.copy_in.new.self.tables
+    bounds_access_with Store (HasPage now.pages cache) (MarksUse now.pages c.copy_in.new.self.tables cache Store) (LacksPage now.pages) c.args.address now.tables c.copy_in.new.self.tables
     (copied_in memory c.args.address c.args.from.now) (λ _. memory_of g.S.SwapSlot.content c.copy_in.new.self.pages) c.copy_in.result c.copy_in.ensures.answer c.copy_in.ensures.entries c.copy_in.ensures.unmarked
+
+pub returns-clause-answer : goal.returns-clause-answer
+returns-clause-answer g c =
+    let now = c.args.self.now.memory.now in
+    let cache = cache_of now.caches c.args.self.now.hart in
+    let memory = memory_of g.S.SwapSlot.content now.pages in
+    answers_since c.args.self.now.hart g.O.Opening.opening Store now c.copy_in.new.self c.args.self.now.in_turn (seen_written now.pages c.copy_in.new.self.pages c.copy_in.ensures.bare)
+    (HasPage now.pages cache) (LacksPage now.pages) c.args.address (copied_in memory c.args.address c.args.from.now) (with_answer (λ _. memory_of g.S.SwapSlot.content c.copy_in.new.self.pages) c.copy_in.result) c.ranges.address.fits c.copy_in.ensures.answer

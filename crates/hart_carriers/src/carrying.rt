@@ -65,6 +65,7 @@ fn carry_process<L: Ledger, S: SwapSlot, C: Clock, G: Gate, R: Wait>(
     let mut has_run = false;
     for hart in 0..MOST_HARTS as u32 {
         if falls_to(process, hart, worker, workers)
+            && shared.may_run(process, hart)
             && carry_hart(rt, shared, process, hart, slice, gate)
         {
             has_run = true;

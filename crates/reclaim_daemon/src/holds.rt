@@ -78,6 +78,7 @@ impl<L: Ledger, S: SwapSlot, C: Clock> Shared<L, S, C> {
         let had_ended = held.side().end().is_some();
         let slice = held.slice(rt, hart, budget);
         held.take_notices(hart);
+        self.count_harts(number, held.side());
         if !had_ended && held.side().end().is_some() {
             self.count_end();
         }
@@ -129,6 +130,7 @@ impl<L: Ledger, S: SwapSlot, C: Clock> Shared<L, S, C> {
         let before = Snapshot::of(&*held);
         let had_ended = held.side().end().is_some();
         held.kill(rt, cause);
+        self.count_harts(number, held.side());
         if !had_ended {
             self.count_end();
         }
@@ -157,6 +159,7 @@ impl<L: Ledger, S: SwapSlot, C: Clock> Shared<L, S, C> {
         let spent = held.tries() >= self.most_tries();
         if spent {
             held.kill(rt, KillCause::NoSwap);
+            self.count_harts(number, held.side());
         }
         if spent && !had_ended {
             self.count_end();

@@ -7,6 +7,8 @@ use crate::desk::Desk;
 use crate::held::Held;
 use clock_policy::Clock;
 use elf_image::Image;
+use flat_machine::MOST_HARTS;
+use machine_sides::ProcessSide;
 use status_cell::Viewer;
 use std::alloc::{AllocError, Global};
 use std::marker::Model;
@@ -32,6 +34,8 @@ pub struct Shared<L: Ledger, S: SwapSlot, C: Clock> {
     pub(crate) desk: Mutex<Desk<L, C>>,
     pub(crate) processes: Vec<Mutex<Held<L, S>>>,
     pub(crate) slots: Mutex<SlotPool<S>>,
+    /// Of each process, how many of its harts may run.
+    harts: Vec<AtomicU64>,
     most_tries: u64,
     /// How many processes have ended.
     ended: AtomicU64,
@@ -86,6 +90,7 @@ impl<L: Ledger, S: SwapSlot, C: Clock> Shared<L, S, C> {
             desk: Mutex::new(desk),
             processes: Vec::new(alloc),
             slots: Mutex::new(SlotPool::new(slots)),
+            harts: Vec::new(alloc),
             ended: AtomicU64::new(0),
             unpurged: AtomicU64::new(0),
             misplaced: AtomicU64::new(0),
@@ -108,9 +113,13 @@ impl<L: Ledger, S: SwapSlot, C: Clock> Shared<L, S, C> {
         let Ok((held, viewer)) = Held::new(alloc, number, image, input) else {
             return Err(AddRefusal::NoMemory);
         };
+        if self.harts.reserve(1).is_err() {
+            return Err(AddRefusal::NoMemory);
+        }
         if self.processes.push(Mutex::new(held)).is_err() {
             return Err(AddRefusal::NoMemory);
         }
+        self.harts.push_reserved(AtomicU64::new(1));
         Ok(viewer)
     }
 
@@ -135,6 +144,7 @@ impl<L: Ledger, S: SwapSlot, C: Clock> Shared<L, S, C> {
             desk,
             processes,
             slots,
+            harts: _,
             most_tries: _,
             ended: _,
             unpurged: _,
@@ -159,6 +169,25 @@ impl<L: Ledger, S: SwapSlot, C: Clock> Shared<L, S, C> {
     /// Whether each process has ended.
     pub fn has_ended(&self) -> bool {
         self.ended.load(Ordering::SeqCst) >= self.processes.len() as u64
+    }
+
+    /// Whether a hart of a process may run: it was started, and its process has not ended. No lock is taken to know that, so that nobody
+    /// waits for a process whose other harts run only to find that this one is not there.
+    pub fn may_run(&self, number: u32, hart: u32) -> bool {
+        match self.harts.get(number as usize) {
+            Some(harts) => u64::from(hart) < harts.load(Ordering::SeqCst),
+            None => false,
+        }
+    }
+
+    /// How many harts of a process may run by now: those that were started, or none once it has ended. Whoever waits is told of more.
+    pub(crate) fn count_harts(&self, number: u32, side: &ProcessSide<L, S>) {
+        if let Some(harts) = self.harts.get(number as usize) {
+            let now = harts_that_may_run(side);
+            if harts.swap(now, Ordering::SeqCst) < now {
+                self.tell_change();
+            }
+        }
     }
 
     /// Whether a process has ended since this was asked last.
@@ -234,6 +263,19 @@ impl<L: Ledger, S: SwapSlot, C: Clock> Shared<L, S, C> {
         self.changes
             .park_timeout(rt, low_half(changes), Duration::from_millis(NAP_MILLIS));
     }
+}
+
+/// How many harts of a process may run.
+fn harts_that_may_run<L: Ledger, S: SwapSlot>(side: &ProcessSide<L, S>) -> u64 {
+    if side.end().is_some() {
+        return 0;
+    }
+    for hart in 0..MOST_HARTS as u32 {
+        if side.regs(hart).is_none() {
+            return u64::from(hart);
+        }
+    }
+    MOST_HARTS as u64
 }
 
 /// The low 32 bits of a word.

@@ -1,10 +1,9 @@
 //! Guests, each on flat memory and on four frames, on one thread and on several: what a process does is the same.
 
 use crate::run::{Run, run_line, show_end, show_run};
+use image_files::Folder;
 use std::io;
-use std::fs::OpenFile;
-use std::io::{Read, Seek, Write};
-use std::rt::Files;
+use std::io::Write;
 use std::sync::Wait;
 use std::thread::Threads;
 
@@ -29,10 +28,10 @@ const GUESTS: [(&str, &str); 14] = [
 ];
 
 /// Shows each guest by both commands.
-pub fn show_guests<F, R, W: Write>(rt: &R, out: &mut W) -> io::Result<()>
+pub fn show_guests<R, W: Write>(rt: &R, out: &mut W) -> io::Result<()>
 where
-    F: Read + Write + Seek + OpenFile + Drop + Send,
-    R: Files<File = F> + AllocGlobal + Threads + Wait + Sync,
+    R: Folder + AllocGlobal + Threads + Wait + Sync,
+    R::File: Send,
 {
     for (words, options) in GUESTS {
         show_guest(rt, words, options, out)?;
@@ -40,15 +39,10 @@ where
     Ok(())
 }
 
-fn show_guest<F, R, W: Write>(
-    rt: &R,
-    words: &str,
-    options: &str,
-    out: &mut W,
-) -> io::Result<()>
+fn show_guest<R, W: Write>(rt: &R, words: &str, options: &str, out: &mut W) -> io::Result<()>
 where
-    F: Read + Write + Seek + OpenFile + Drop + Send,
-    R: Files<File = F> + AllocGlobal + Threads + Wait + Sync,
+    R: Folder + AllocGlobal + Threads + Wait + Sync,
+    R::File: Send,
 {
     let line = format!(in rt.alloc(); "flat {words}")?;
     let flat = run_line(rt, line.as_str())?;

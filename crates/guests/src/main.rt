@@ -10,12 +10,12 @@ mod tables;
 
 use crate::guests::show_guests;
 use crate::lines::show_lines;
+use crate::table_runs::Policies;
 use crate::tables::show_tables;
+use image_files::Folder;
 use std::io;
-use std::fs::OpenFile;
-use std::io::{BufWriter, Read, Seek, Write};
+use std::io::{BufWriter, Write};
 use std::process::ExitCode;
-use std::rt::Files;
 use std::sync::Wait;
 use std::thread::Threads;
 
@@ -26,10 +26,10 @@ fn main(rt: HostRuntime) -> ExitCode {
     }
 }
 
-fn show_all<F, R>(rt: &R) -> io::Result<()>
+fn show_all<R>(rt: &R) -> io::Result<()>
 where
-    F: Read + Write + Seek + OpenFile + Drop + Send,
-    R: Files<File = F> + AllocGlobal + Print + Threads + Wait + Sync,
+    R: Folder + Policies + AllocGlobal + Print + Threads + Wait + Sync,
+    R::File: Send,
 {
     let mut out = BufWriter::new(rt.alloc(), io::writer(rt))?;
     show_guests(rt, &mut out)?;

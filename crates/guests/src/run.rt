@@ -1,10 +1,9 @@
 //! One run of the program, and how it is shown.
 
+use image_files::{Folder, read_text};
 use paged_cli::run_paged;
 use std::io;
-use std::fs::OpenFile;
-use std::io::{Read, Seek, Write};
-use std::rt::Files;
+use std::io::{ErrorKind, Write};
 use std::sync::Wait;
 use std::thread::Threads;
 
@@ -17,16 +16,24 @@ pub struct Run {
 }
 
 /// Runs a command line, whose words are parted by one blank each.
-pub fn run_line<F, R>(rt: &R, line: &str) -> io::Result<Run>
+pub fn run_line<R>(rt: &R, line: &str) -> io::Result<Run>
 where
-    F: Read + Write + Seek + OpenFile + Drop + Send,
-    R: Files<File = F> + AllocGlobal + Threads + Wait + Sync,
+    R: Folder + AllocGlobal + Threads + Wait + Sync,
+    R::File: Send,
 {
     let words: Vec<&str> = line.split(' ').collect(rt.alloc())?;
     let mut out = Vec::new(rt.alloc());
     let mut err = Vec::new(rt.alloc());
     let status = run_paged(rt, words.as_slice(), &mut io::empty(), &mut out, &mut err);
     Ok(Run { out, err, status })
+}
+
+/// The text of a file.
+pub fn text_of<R: Folder>(rt: &R, name: &str) -> io::Result<String> {
+    match read_text(rt, name) {
+        Ok(text) => Ok(text),
+        Err(_) => Err(io::Error::from(ErrorKind::InvalidData)),
+    }
 }
 
 /// Shows a run: its command line, what it printed, and how it ended.

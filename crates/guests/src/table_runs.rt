@@ -1,23 +1,34 @@
 //! Runs of both programs.
 
+use image_files::Folder;
 use paged_cli::run_paged;
 use policies_cli::run_policies;
 use std::io;
-use std::fs::OpenFile;
-use std::io::{Read, Seek, Write};
-use std::rt::Files;
+use std::io::Write;
 use std::sync::Wait;
 use std::thread::Threads;
 
+/// Who runs the other program.
+pub trait Policies {
+    /// Runs it on these words, and answers its exit status.
+    fn policies(&self, words: &[&str], out: &mut Vec<u8>, err: &mut Vec<u8>) -> u8;
+}
+
+impl Policies for HostRuntime {
+    fn policies(&self, words: &[&str], out: &mut Vec<u8>, err: &mut Vec<u8>) -> u8 {
+        run_policies(self, words, out, err)
+    }
+}
+
 /// Shows what `policies` prints on these words.
-pub fn show_policies<F, R, W: Write>(rt: &R, words: &[&str], out: &mut W) -> io::Result<()>
-where
-    F: Read + Write + Seek + OpenFile + Drop + Send,
-    R: Files<File = F> + AllocGlobal + Threads + Wait + Sync,
-{
+pub fn show_policies<R: Policies + AllocGlobal, W: Write>(
+    rt: &R,
+    words: &[&str],
+    out: &mut W,
+) -> io::Result<()> {
     let mut printed = Vec::new(rt.alloc());
     let mut fault = Vec::new(rt.alloc());
-    let status = run_policies(rt, words, &mut printed, &mut fault);
+    let status = rt.policies(words, &mut printed, &mut fault);
     out.write_all(printed.as_slice())?;
     out.write_all(fault.as_slice())?;
     if status != 0 {
@@ -27,15 +38,10 @@ where
 }
 
 /// Shows how many pages `paged run --serial` brings in for an image with each of these numbers of frames, which commas part.
-pub fn show_page_ins<F, R, W: Write>(
-    rt: &R,
-    frames: &str,
-    image: &str,
-    out: &mut W,
-) -> io::Result<()>
+pub fn show_page_ins<R, W: Write>(rt: &R, frames: &str, image: &str, out: &mut W) -> io::Result<()>
 where
-    F: Read + Write + Seek + OpenFile + Drop + Send,
-    R: Files<File = F> + AllocGlobal + Threads + Wait + Sync,
+    R: Folder + AllocGlobal + Threads + Wait + Sync,
+    R::File: Send,
 {
     for number in frames.split(',') {
         let words = ["run", "--serial", "--frames", number, image];

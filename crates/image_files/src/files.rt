@@ -1,4 +1,4 @@
-//! Files that commands read whole, and files of slots.
+//! Files that commands read and write whole, and files of slots.
 
 ghost use Rattle.std.specs.Prelude.{◌≡◌, ◌≤◌, ℕ, ⊤, List, [], false, is_some, IfErr, IfOk, min, option_map, vec_len};
 ghost use Rattle.image_files.specs.Faults.{IsOfNoLine};
@@ -15,7 +15,7 @@ use std::rt::Files;
 /// The most bytes that a file may have.
 const MOST_BYTES: usize = 33_554_432;
 
-/// Where files are read from, and slots' files are made.
+/// Where files are read and written, and slots' files are made.
 pub trait Folder {
     /// An open file.
     type File: Read + Write + Seek + Drop;
@@ -26,6 +26,10 @@ pub trait Folder {
     /// The bytes of a file.
     fn read<'a>(&self, name: &'a str) -> Result<Vec<u8>, Fault<'a>>
         ensures bytes { IfOk result (λ bytes. gives name.now bytes.items) }
+        ensures fault { IfErr result IsOfNoLine };
+
+    /// Makes a file anew of these bytes.
+    fn write<'a>(&self, name: &'a str, bytes: &[u8]) -> Result<(), Fault<'a>>
         ensures fault { IfErr result IsOfNoLine };
 
     /// So many slots, but 512 at most, each in a file of its own that is made anew: `PREFIX.0`, `PREFIX.1` and so on.
@@ -46,6 +50,13 @@ impl<R: Files + AllocGlobal> Folder for R {
 
     fn read<'a>(&self, name: &'a str) -> Result<Vec<u8>, Fault<'a>> {
         read_file(self, name)
+    }
+
+    fn write<'a>(&self, name: &'a str, bytes: &[u8]) -> Result<(), Fault<'a>> {
+        match fs::write(self, name, bytes) {
+            Ok(()) => Ok(()),
+            Err(_) => Err(Fault::CannotRead(name)),
+        }
     }
 
     fn make_slots<'a>(

@@ -9,13 +9,12 @@ ghost use Rattle.image_files.specs.WordsFile.{words_in};
 ghost use Rattle.rv_asm.specs.Assembly.{Assembles};
 
 use crate::fault::Fault;
-use crate::files::{Folder, read_file, read_input, text_of};
+use crate::files::{Folder, read_input, text_of};
 use crate::image_kind::{ImageKind, kind_of_file};
 use crate::words_file::{WordsError, words_of_file};
 use elf_image::{ElfFault, Image, read_elf};
 use rv_asm::{AsmError, Listing, assemble};
 use std::alloc::Global;
-use std::rt::Files;
 
 /// The image that a file holds.
 pub fn read_image<'a, R: Folder + AllocGlobal>(rt: &R, name: &'a str) -> Result<Image, Fault<'a>>
@@ -75,11 +74,11 @@ fn read_images<'a, R: Folder + AllocGlobal>(
 }
 
 /// The listing of the source that a file holds, whatever it begins with.
-pub fn read_source<'a, R: Files + AllocGlobal>(
+pub fn read_source<'a, R: Folder + AllocGlobal>(
     rt: &R,
     name: &'a str,
 ) -> Result<Listing, Fault<'a>> {
-    listing_of(rt.alloc(), read_file(rt, name)?, name)
+    listing_of(rt.alloc(), rt.read(name)?, name)
 }
 
 fn listing_of<'a>(alloc: Global, file: Vec<u8>, name: &'a str) -> Result<Listing, Fault<'a>>

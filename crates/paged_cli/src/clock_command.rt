@@ -4,14 +4,13 @@ use clock_policy::{Clock, Entry, Key, Refusal, Verdict};
 use clock_ring::ClockRing;
 use command_line::ClockRequest;
 use event_scripts::{ClockCall, call_on_line};
-use image_files::{Fault, read_text};
+use image_files::{Fault, Folder, read_text};
 use std::io::Write;
-use std::rt::Files;
 use std::{fmt, io};
 use text_lines::next_line;
 
 /// Plays the script in a file on a new list.
-pub fn run_clock<'a, R: Files + AllocGlobal, W: Write>(
+pub fn run_clock<'a, R: Folder + AllocGlobal, W: Write>(
     rt: &R,
     request: &ClockRequest<'a>,
     out: &mut W,

@@ -7,11 +7,9 @@ use crate::drive_command::run_drive;
 use crate::flat_command::run_flat;
 use crate::run_command::run_machines;
 use command_line::{Request, read_request};
-use image_files::Fault;
+use image_files::{Fault, Folder};
 use std::convert::AsStr;
-use std::fs::OpenFile;
-use std::io::{Read, Seek, Write};
-use std::rt::Files;
+use std::io::{Read, Write};
 use std::sync::Wait;
 use std::thread::Threads;
 
@@ -19,8 +17,8 @@ use std::thread::Threads;
 const FAULT: u8 = 2;
 
 /// Runs the program on the words behind its name, and answers its exit status: 0 or, of processes, how they ended; 2 for a fault,
-/// which is told on `err`. The files that the words name are read by `rt`, and the lines for a debugger from `input`.
-pub fn run_paged<F, R, S: AsStr, I: Read, O: Write, E: Write + Send>(
+/// which is told on `err`. The files that the words name are read and written by `rt`, and the lines for a debugger come from `input`.
+pub fn run_paged<R, S: AsStr, I: Read, O: Write, E: Write + Send>(
     rt: &R,
     words: &[S],
     input: &mut I,
@@ -28,8 +26,8 @@ pub fn run_paged<F, R, S: AsStr, I: Read, O: Write, E: Write + Send>(
     err: &mut E,
 ) -> u8
 where
-    F: Read + Write + Seek + OpenFile + Drop + Send,
-    R: Files<File = F> + AllocGlobal + Threads + Wait + Sync,
+    R: Folder + AllocGlobal + Threads + Wait + Sync,
+    R::File: Send,
 {
     let done = run_words(rt, words, input, out, err);
     let flushed = out.flush();
@@ -42,7 +40,7 @@ where
     }
 }
 
-fn run_words<'a, F, R, S: AsStr, I: Read, O: Write, E: Write + Send>(
+fn run_words<'a, R, S: AsStr, I: Read, O: Write, E: Write + Send>(
     rt: &R,
     words: &'a [S],
     input: &mut I,
@@ -50,8 +48,8 @@ fn run_words<'a, F, R, S: AsStr, I: Read, O: Write, E: Write + Send>(
     err: &mut E,
 ) -> Result<u8, Fault<'a>>
 where
-    F: Read + Write + Seek + OpenFile + Drop + Send,
-    R: Files<File = F> + AllocGlobal + Threads + Wait + Sync,
+    R: Folder + AllocGlobal + Threads + Wait + Sync,
+    R::File: Send,
 {
     match read_request(rt.alloc(), words)? {
         Request::Asm(request) => {

@@ -1,21 +1,33 @@
 //! Runs of the program on files in a folder of their own.
 
+use image_files::Folder;
 use paged_cli::run_paged;
-use std::fs::OpenFile;
-use std::io::{Read, Seek, Write};
-use std::rt::Files;
 use std::sync::Wait;
 use std::thread::Threads;
 use std::{env, fs, io, process};
 
-/// Who has a number that no one else has now.
-pub trait Numbered {
-    fn number(&self) -> u32;
+/// Where tests have files of their own.
+pub trait TestFolder {
+    /// Writes a file for the test of this name.
+    fn make(&self, test: &str, content: &[u8]) -> io::Result<TestFile>;
+
+    fn remove(&self, file: &TestFile) -> io::Result<()>;
 }
 
-impl Numbered for HostRuntime {
-    fn number(&self) -> u32 {
-        process::id(self.process())
+impl TestFolder for HostRuntime {
+    fn make(&self, test: &str, content: &[u8]) -> io::Result<TestFile> {
+        let id = process::id(self.process());
+        let name = format!(in self.alloc(); "paged-{test}-{id}")?;
+        let folder = env::temp_dir(self)?;
+        let path = folder.join(self.alloc(), name.as_str())?;
+        fs::write(self, path.as_path(), content)?;
+        Ok(TestFile {
+            path: String::from_str(self.alloc(), path.as_path().as_str())?,
+        })
+    }
+
+    fn remove(&self, file: &TestFile) -> io::Result<()> {
+        fs::remove_file(self, file.path.as_str())
     }
 }
 
@@ -28,19 +40,19 @@ pub struct Run {
 }
 
 /// Runs the program on some words, with nothing on standard input.
-pub fn run_words<F, R>(rt: &R, words: &[&str]) -> io::Result<Run>
+pub fn run_words<R>(rt: &R, words: &[&str]) -> io::Result<Run>
 where
-    F: Read + Write + Seek + OpenFile + Drop + Send,
-    R: Files<File = F> + Env + AllocGlobal + Threads + Wait + Sync + Numbered,
+    R: Folder + AllocGlobal + Threads + Wait + Sync,
+    R::File: Send,
 {
     run_words_on(rt, words, b"".as_slice())
 }
 
 /// Runs the program on some words and an input.
-pub fn run_words_on<F, R>(rt: &R, words: &[&str], input: &[u8]) -> io::Result<Run>
+pub fn run_words_on<R>(rt: &R, words: &[&str], input: &[u8]) -> io::Result<Run>
 where
-    F: Read + Write + Seek + OpenFile + Drop + Send,
-    R: Files<File = F> + Env + AllocGlobal + Threads + Wait + Sync + Numbered,
+    R: Folder + AllocGlobal + Threads + Wait + Sync,
+    R::File: Send,
 {
     let mut input = input;
     let mut out = Vec::new(rt.alloc());
@@ -60,27 +72,20 @@ pub struct TestFile {
 
 impl TestFile {
     /// Writes a file for the test of this name.
-    pub fn new<R: Files + Env + AllocGlobal + Numbered>(rt: &R, test: &str, content: &[u8]) -> io::Result<TestFile> {
-        let id = rt.number();
-        let name = format!(in rt.alloc(); "paged-{test}-{id}")?;
-        let folder = env::temp_dir(rt)?;
-        let path = folder.join(rt.alloc(), name.as_str())?;
-        fs::write(rt, path.as_path(), content)?;
-        Ok(TestFile {
-            path: String::from_str(rt.alloc(), path.as_path().as_str())?,
-        })
+    pub fn new<R: TestFolder>(rt: &R, test: &str, content: &[u8]) -> io::Result<TestFile> {
+        rt.make(test, content)
     }
 
-    pub fn remove<R: Files>(self, rt: &R) -> io::Result<()> {
-        fs::remove_file(rt, self.path.as_str())
+    pub fn remove<R: TestFolder>(self, rt: &R) -> io::Result<()> {
+        rt.remove(&self)
     }
 }
 
 /// Runs `paged flat` on a file of this content.
-pub fn run_flat<F, R>(rt: &R, test: &str, content: &[u8]) -> io::Result<Run>
+pub fn run_flat<R>(rt: &R, test: &str, content: &[u8]) -> io::Result<Run>
 where
-    F: Read + Write + Seek + OpenFile + Drop + Send,
-    R: Files<File = F> + Env + AllocGlobal + Threads + Wait + Sync + Numbered,
+    R: Folder + TestFolder + AllocGlobal + Threads + Wait + Sync,
+    R::File: Send,
 {
     let file = TestFile::new(rt, test, content)?;
     let done = run_words(rt, &["flat", file.path.as_str()]);
@@ -89,7 +94,7 @@ where
 }
 
 /// Runs `paged debug` on a file of this content and an input: on flat memory, or on so many frames.
-pub fn run_debug<F, R>(
+pub fn run_debug<R>(
     rt: &R,
     test: &str,
     frames: Option<&str>,
@@ -97,8 +102,8 @@ pub fn run_debug<F, R>(
     input: &[u8],
 ) -> io::Result<Run>
 where
-    F: Read + Write + Seek + OpenFile + Drop + Send,
-    R: Files<File = F> + Env + AllocGlobal + Threads + Wait + Sync + Numbered,
+    R: Folder + TestFolder + AllocGlobal + Threads + Wait + Sync,
+    R::File: Send,
 {
     let file = TestFile::new(rt, test, content)?;
     let image = file.path.as_str();
@@ -111,19 +116,19 @@ where
 }
 
 /// Runs `paged clock` for four frames on a script.
-pub fn run_clock<F, R>(rt: &R, test: &str, script: &str) -> io::Result<Run>
+pub fn run_clock<R>(rt: &R, test: &str, script: &str) -> io::Result<Run>
 where
-    F: Read + Write + Seek + OpenFile + Drop + Send,
-    R: Files<File = F> + Env + AllocGlobal + Threads + Wait + Sync + Numbered,
+    R: Folder + TestFolder + AllocGlobal + Threads + Wait + Sync,
+    R::File: Send,
 {
     run_clock_for(rt, test, "4", script)
 }
 
 /// Runs `paged clock` for a number of frames on a script.
-pub fn run_clock_for<F, R>(rt: &R, test: &str, frames: &str, script: &str) -> io::Result<Run>
+pub fn run_clock_for<R>(rt: &R, test: &str, frames: &str, script: &str) -> io::Result<Run>
 where
-    F: Read + Write + Seek + OpenFile + Drop + Send,
-    R: Files<File = F> + Env + AllocGlobal + Threads + Wait + Sync + Numbered,
+    R: Folder + TestFolder + AllocGlobal + Threads + Wait + Sync,
+    R::File: Send,
 {
     let file = TestFile::new(rt, test, script.as_bytes())?;
     let done = run_words(rt, &["clock", frames, file.path.as_str()]);

@@ -1,10 +1,8 @@
 //! Runs of `paged run` on threads.
 
-use crate::runs::{Numbered, Run, TestFile, run_words};
-use std::fs::OpenFile;
+use crate::runs::{Run, TestFile, TestFolder, run_words};
+use image_files::Folder;
 use std::io;
-use std::io::{Read, Seek, Write};
-use std::rt::Files;
 use std::sync::Wait;
 use std::test::Fail;
 use std::thread::Threads;
@@ -64,10 +62,10 @@ count:  .word 0, 0
 ";
 
 /// Runs three processes on four frames, by these words before the images.
-fn run_three<F, R>(rt: &R, test: &str, words: &[&str]) -> io::Result<Run>
+fn run_three<R>(rt: &R, test: &str, words: &[&str]) -> io::Result<Run>
 where
-    F: Read + Write + Seek + OpenFile + Drop + Send,
-    R: Files<File = F> + Env + AllocGlobal + Threads + Wait + Sync + Numbered,
+    R: Folder + TestFolder + AllocGlobal + Threads + Wait + Sync,
+    R::File: Send,
 {
     let eleven = TestFile::new(rt, test, ELEVEN.as_bytes())?;
     let eight = TestFile::new(rt, "eight", EIGHT.as_bytes())?;
@@ -79,6 +77,7 @@ where
         line.push(file.path.as_str())?;
     }
     let done = run_words(rt, line.as_slice());
+    drop(line);
     eleven.remove(rt)?;
     eight.remove(rt)?;
     done
@@ -102,7 +101,9 @@ fn processes_end_as_on_flat_memory(rt: HostRuntime) -> Result<(), Fail> {
 
 /// The numbers of a line `status 0 steps K output N`.
 fn status_on(line: &str) -> Option<(u64, u64)> {
-    let (steps, output) = line.strip_prefix("status 0 steps ")?.split_once(" output ")?;
+    let (steps, output) = line
+        .strip_prefix("status 0 steps ")?
+        .split_once(" output ")?;
     Some((steps.parse().ok()?, output.parse().ok()?))
 }
 

@@ -113,13 +113,13 @@ impl<L: Ledger, S: SwapSlot, C: Clock> Shared<L, S, C> {
         let Ok((held, viewer)) = Held::new(alloc, number, image, input) else {
             return Err(AddRefusal::NoMemory);
         };
-        if self.harts.reserve(1).is_err() {
+        // Where the push behind this one is refused the count stays, and will do for the next process.
+        if self.harts.push(AtomicU64::new(1)).is_err() {
             return Err(AddRefusal::NoMemory);
         }
         if self.processes.push(Mutex::new(held)).is_err() {
             return Err(AddRefusal::NoMemory);
         }
-        self.harts.push_reserved(AtomicU64::new(1));
         Ok(viewer)
     }
 

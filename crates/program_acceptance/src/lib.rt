@@ -14,4 +14,6 @@ mod runs;
 #[cfg(test)]
 mod source;
 #[cfg(test)]
+mod swap;
+#[cfg(test)]
 mod usage;

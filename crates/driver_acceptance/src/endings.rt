@@ -23,7 +23,7 @@ const SCHEDULE_FULL: Option<End> = Some(End::Killed(KillCause::ScheduleFull));
 const LIMIT: Option<End> = Some(End::Killed(KillCause::Limit));
 
 /// The processes have ended so, after so many instructions.
-fn tells(
+pub(crate) fn tells(
     rt: &impl Abort,
     alloc: Global,
     report: &Report,

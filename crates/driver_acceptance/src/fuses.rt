@@ -2,8 +2,9 @@
 
 ghost use Rattle.std.specs.Prelude.{◌≡◌};
 
+use crate::endings::tells;
 use crate::guests::WRITES_A_SUM;
-use crate::machine::{endings, fuses, processes};
+use crate::machine::{fuses, processes};
 use clock_ring::ClockRing;
 use flat_machine::{End, FlatProcess, KillCause};
 use machine_core::Core;
@@ -56,12 +57,7 @@ fn ends_over_fuses<L: Ledger>(
     )?;
     let report = run_serial(alloc, &mut core, 1000, u64::MAX)?;
     let (end, steps, page_ins) = told;
-    assert!(rt; report.audit, "{passes} calls");
-    assert_eq!(rt;
-        endings(alloc, &report)?.as_slice(),
-        &[(Some(end), steps)],
-        "{passes} calls"
-    );
+    tells(rt, alloc, &report, &[(Some(end), steps)])?;
     assert_eq!(rt; report.page_ins, page_ins, "{passes} calls");
     let same = does_what_it_does_flat(alloc, &core)?;
     assert!(rt; same, "{passes} calls");
@@ -70,9 +66,7 @@ fn ends_over_fuses<L: Ledger>(
 
 /// The numbers are a model's: with three calls of each slot it runs to its end.
 #[test]
-fn up_to_where_its_slots_fail_a_process_does_what_it_does_flat(
-    rt: HostRuntime,
-) -> Result<(), Fail> {
+fn a_process_does_what_it_does_flat(rt: HostRuntime) -> Result<(), Fail> {
     for (passes, end, steps, page_ins) in [
         (0, End::Killed(KillCause::NoSwap), 16, 5),
         (1, End::Killed(KillCause::LoadFailed), 51, 16),

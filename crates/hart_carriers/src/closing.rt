@@ -1,0 +1,107 @@
+//! What a machine has come to whose threads were joined.
+
+ghost use Rattle.std.specs.Prelude.{◌≡◌, ◌+◌, ◌≤◌, All, length, vec_len, vec_capacity, [], true};
+ghost use Rattle.run_report.specs.FlatLines.{counts_of, StandsForRuns};
+
+use crate::report::Report;
+use clock_policy::Clock;
+use elf_image::Image;
+use machine_sides::PagerSide;
+use reclaim_daemon::{Held, Parts};
+use run_report::{Line, Ran, gather_frames, tell};
+use std::sync::Mutex;
+use std::sync::ledger::{Ledger, Share};
+use swap_slots::SwapSlot;
+
+/// What a machine of so many frames has come to, whose processes were to run these images on these inputs, and the share of its frames.
+/// `agrees` is what a look at list and pages came to. Both lists have room.
+pub(crate) fn close<L: Ledger, S: SwapSlot, C: Clock>(
+    parts: Parts<L, S, C>,
+    frames: u32,
+    handed: &[(Image, Vec<u8>)],
+    room: Vec<Line>,
+    ran: Vec<Ran<L, S>>,
+    agrees: bool,
+) -> (Report, Share<L>)
+    requires empty { room.items ≡ [] }
+    requires room { length handed.now ≤ vec_capacity room }
+    ensures stands { S.honest → result.0.audit ≡ true → StandsForRuns handed.entry.now result.0.lines.items }
+    ensures last { All (λ line. line.last ≡ counts_of line) result.0.lines.items }
+    ensures many { result.0.audit ≡ true → vec_len result.0.lines ≡ length handed.entry.now }
+    ensures frames { result.0.frames ≡ frames }
+    ensures shares { result.0.audit ≡ true → result.1.parts ≡ frames + 1 }
+    ensures agrees { result.0.audit ≡ true → agrees ≡ true }
+{
+    let Parts {
+        desk,
+        processes,
+        slots: _,
+    } = parts;
+    let sound = desk.is_sound();
+    let (pager, _strays) = desk.into_parts();
+    let counts = pager.counts();
+    let (whole, share) = gather_all(pager, frames);
+    let told = tell(all_ran(processes, ran), handed, room);
+    let audit = all_hold(agrees, sound, whole, told.started);
+    let report = Report {
+        lines: told.lines,
+        frames,
+        page_ins: counts.pager.tallies.page_ins,
+        victims: counts.pager.tallies.victims,
+        saves: counts.saves,
+        drops: counts.drops,
+        questions: counts.pager.tallies.questions,
+        audit,
+    };
+    (report, share)
+}
+
+/// Whether all that an audit looks at is as it is to be.
+fn all_hold(agrees: bool, sound: bool, whole: bool, started: bool) -> bool
+    ensures agrees { result ≡ true → agrees ≡ true }
+    ensures sound { result ≡ true → sound ≡ true }
+    ensures whole { result ≡ true → whole ≡ true }
+    ensures started { result ≡ true → started ≡ true }
+{
+    if !agrees || !sound {
+        return false;
+    }
+    if !whole {
+        return false;
+    }
+    started
+}
+
+/// Gives up a pager that is to have so many frames. Answers whether each of them was there, and the share that they make.
+fn gather_all<L: Ledger, C: Clock>(pager: PagerSide<L, C>, frames: u32) -> (bool, Share<L>)
+    ensures { result.0 ≡ true → result.1.parts ≡ frames + 1 }
+{
+    let as_many = pager.size() == frames;
+    let (whole, share) = gather_frames(pager);
+    (as_many && whole, share)
+}
+
+/// The processes of a machine, each with what was published of it last, in a list whose room is there.
+fn all_ran<L: Ledger, S: SwapSlot>(
+    processes: Vec<Mutex<Held<L, S>>>,
+    room: Vec<Ran<L, S>>,
+) -> Vec<Ran<L, S>> {
+    let mut all = room;
+    for lock in processes {
+        let ran = ran_of(lock.into_inner());
+        if all.len() < all.capacity() {
+            all.push_reserved(ran);
+        }
+    }
+    all
+}
+
+/// A process, with what was published of it last.
+#[tactic(auto, using(crate::proofs::SameStatus::same_status))]
+fn ran_of<L: Ledger, S: SwapSlot>(held: Held<L, S>) -> Ran<L, S> {
+    let last = held.status();
+    Ran {
+        process: held.into_side(),
+        last,
+    }
+}

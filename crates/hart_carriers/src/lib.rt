@@ -1,0 +1,14 @@
+//! Worker threads that carry the harts of a machine, and whole runs of machines by them.
+#![tactic(auto)]
+
+mod carrying;
+mod closing;
+mod copying;
+mod machine;
+mod paging_in;
+mod report;
+mod threads;
+
+pub use carrying::carrier;
+pub use machine::{run_machine, run_over};
+pub use report::{Report, RunRefusal};

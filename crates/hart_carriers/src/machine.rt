@@ -1,0 +1,222 @@
+//! Whole runs of machines by threads.
+
+ghost use Rattle.std.specs.Prelude.{◌≡◌, ◌+◌, ◌<◌, ◌≤◌, ◌⊎◌, ◌↔◌, All, length, vec_len, true, IfOk, OnOk, IsErrOf};
+ghost use Rattle.reclaim_daemon.specs.SharedValue.{most_processes};
+ghost use Rattle.run_report.specs.FlatLines.{counts_of, StandsForRuns};
+
+use crate::closing::close;
+use crate::copying::copy_image;
+use crate::report::{Report, RunRefusal};
+use crate::threads::run_threads;
+use clock_policy::Clock;
+use elf_image::Image;
+use frame_pool::PoolError;
+use reclaim_daemon::{AddRefusal, Desk, Gate, MOST_PROCESSES, Shared};
+use run_report::{Line, Ran};
+use status_cell::Viewer;
+use std::alloc::{AllocError, Global};
+use std::marker::Brand;
+use std::sync::Wait;
+use std::sync::ledger::{Blank, Ledger, Share};
+use std::thread::Threads;
+use swap_slots::SwapSlot;
+
+/// Runs a machine of 4 to 4096 frames on these slots by so many worker threads, each hart by slices of so many instructions, until each of
+/// its processes has ended: copies of these images on copies of these inputs, numbered from 0 in their order. There are at most 16.
+///
+/// Where a thread can't be started, each process that goes on is killed for want of memory.
+pub fn run_machine<S: SwapSlot + Send, C: Clock + Send, G: Gate + Sync, R: Threads + Wait + Sync>(
+    rt: &R,
+    alloc: Global,
+    frames: u32,
+    slots: Vec<S>,
+    handed: &[(Image, Vec<u8>)],
+    workers: u32,
+    slice: u32,
+    gate: &G,
+) -> Result<Report, RunRefusal>
+    requires workers { 0 < workers }
+    requires slice { 0 < slice }
+    ensures stands { IfOk result (λ report. S.honest → report.audit ≡ true → StandsForRuns handed.now report.lines.items) }
+    ensures last { IfOk result (λ report. All (λ line. line.last ≡ counts_of line) report.lines.items) }
+    ensures many { IfOk result (λ report. report.audit ≡ true → vec_len report.lines ≡ length handed.now) }
+    ensures frames { IfOk result (λ report. report.frames ≡ frames) }
+    ensures bad_size { IsErrOf result RunRefusal.BadSize ↔ ((frames < 4) ⊎ (4096 < frames)) }
+    ensures too_many { IsErrOf result RunRefusal.TooManyProcesses ↔ ((4 ≤ frames) × ((frames ≤ 4096) × (16 < length handed.now))) }
+{
+    let blank = Blank::new(u64::from(frames) + 1);
+    report_over::<Brand, S, C, G, R>(
+        rt, alloc, frames, blank, slots, handed, workers, slice, gate,
+    )
+}
+
+/// The report alone.
+fn report_over<
+    L: Ledger + Send + Sync,
+    S: SwapSlot + Send,
+    C: Clock + Send,
+    G: Gate + Sync,
+    R: Threads + Wait + Sync,
+>(
+    rt: &R,
+    alloc: Global,
+    frames: u32,
+    blank: Blank,
+    slots: Vec<S>,
+    handed: &[(Image, Vec<u8>)],
+    workers: u32,
+    slice: u32,
+    gate: &G,
+) -> Result<Report, RunRefusal>
+    requires name { blank.name ≡ L.name }
+    requires parts { blank.parts ≡ L.parts }
+    requires one_each { L.parts ≡ frames + 1 }
+    requires workers { 0 < workers }
+    requires slice { 0 < slice }
+    ensures stands { IfOk result (λ report. S.honest → report.audit ≡ true → StandsForRuns handed.now report.lines.items) }
+    ensures last { IfOk result (λ report. All (λ line. line.last ≡ counts_of line) report.lines.items) }
+    ensures many { IfOk result (λ report. report.audit ≡ true → vec_len report.lines ≡ length handed.now) }
+    ensures frames { IfOk result (λ report. report.frames ≡ frames) }
+    ensures bad_size { IsErrOf result RunRefusal.BadSize ↔ ((frames < 4) ⊎ (4096 < frames)) }
+    ensures too_many { IsErrOf result RunRefusal.TooManyProcesses ↔ ((4 ≤ frames) × ((frames ≤ 4096) × (16 < length handed.now))) }
+{
+    match run_over::<L, S, C, G, R>(
+        rt, alloc, frames, blank, slots, handed, workers, slice, gate,
+    ) {
+        Ok((report, _)) => Ok(report),
+        Err(refusal) => Err(refusal),
+    }
+}
+
+/// Runs such a machine over a ledger that has one part for each frame and one for the pager itself. The share that comes back has all parts
+/// where the audit is true: each frame that the machine was made with was there in the end.
+pub fn run_over<
+    L: Ledger + Send + Sync,
+    S: SwapSlot + Send,
+    C: Clock + Send,
+    G: Gate + Sync,
+    R: Threads + Wait + Sync,
+>(
+    rt: &R,
+    alloc: Global,
+    frames: u32,
+    blank: Blank,
+    slots: Vec<S>,
+    handed: &[(Image, Vec<u8>)],
+    workers: u32,
+    slice: u32,
+    gate: &G,
+) -> Result<(Report, Share<L>), RunRefusal>
+    requires name { blank.name ≡ L.name }
+    requires parts { blank.parts ≡ L.parts }
+    requires one_each { L.parts ≡ frames + 1 }
+    requires workers { 0 < workers }
+    requires slice { 0 < slice }
+    ensures stands { IfOk result (λ ran. S.honest → ran.0.audit ≡ true → StandsForRuns handed.now ran.0.lines.items) }
+    ensures last { IfOk result (λ ran. All (λ line. line.last ≡ counts_of line) ran.0.lines.items) }
+    ensures many { IfOk result (λ ran. ran.0.audit ≡ true → vec_len ran.0.lines ≡ length handed.now) }
+    ensures frames { IfOk result (λ ran. ran.0.frames ≡ frames) }
+    ensures shares { IfOk result (λ ran. ran.0.audit ≡ true → ran.1.parts ≡ L.parts) }
+    ensures bad_size { IsErrOf result RunRefusal.BadSize ↔ ((frames < 4) ⊎ (4096 < frames)) }
+    ensures too_many { IsErrOf result RunRefusal.TooManyProcesses ↔ ((4 ≤ frames) × ((frames ≤ 4096) × (16 < length handed.now))) }
+{
+    let desk: Desk<L, C> = make_desk(alloc, frames, handed.len(), blank)?;
+    match run_on::<L, S, C, G, R>(rt, alloc, desk, frames, slots, handed, workers, slice, gate) {
+        Ok(ran) => Ok(ran),
+        Err(AllocError) => Err(RunRefusal::NoMemory),
+    }
+}
+
+/// The pager's desk of a machine for so many processes, or why there is no such machine.
+fn make_desk<L: Ledger, C: Clock>(
+    alloc: Global,
+    frames: u32,
+    processes: usize,
+    blank: Blank,
+) -> Result<Desk<L, C>, RunRefusal>
+    requires name { blank.name ≡ L.name }
+    requires parts { blank.parts ≡ L.parts }
+    requires one_each { L.parts ≡ frames + 1 }
+    ensures bad_size { IsErrOf result RunRefusal.BadSize ↔ ((frames < 4) ⊎ (4096 < frames)) }
+    ensures too_many { IsErrOf result RunRefusal.TooManyProcesses ↔ ((4 ≤ frames) × ((frames ≤ 4096) × (16 < processes))) }
+    ensures few { OnOk result (processes ≤ most_processes) }
+{
+    if frames < 4 || frames > 4096 {
+        return Err(RunRefusal::BadSize);
+    }
+    if processes > MOST_PROCESSES {
+        return Err(RunRefusal::TooManyProcesses);
+    }
+    match Desk::new(alloc, frames, blank) {
+        Ok(desk) => Ok(desk),
+        Err(PoolError::BadSize) => unreachable!(),
+        Err(PoolError::NoMemory) => Err(RunRefusal::NoMemory),
+    }
+}
+
+/// Runs a machine on this desk. Memory alone can be wanting.
+fn run_on<
+    L: Ledger + Send + Sync,
+    S: SwapSlot + Send,
+    C: Clock + Send,
+    G: Gate + Sync,
+    R: Threads + Wait + Sync,
+>(
+    rt: &R,
+    alloc: Global,
+    desk: Desk<L, C>,
+    frames: u32,
+    slots: Vec<S>,
+    handed: &[(Image, Vec<u8>)],
+    workers: u32,
+    slice: u32,
+    gate: &G,
+) -> Result<(Report, Share<L>), AllocError>
+    requires { length handed.now ≤ most_processes }
+    ensures stands { IfOk result (λ ran. S.honest → ran.0.audit ≡ true → StandsForRuns handed.now ran.0.lines.items) }
+    ensures last { IfOk result (λ ran. All (λ line. line.last ≡ counts_of line) ran.0.lines.items) }
+    ensures many { IfOk result (λ ran. ran.0.audit ≡ true → vec_len ran.0.lines ≡ length handed.now) }
+    ensures frames { IfOk result (λ ran. ran.0.frames ≡ frames) }
+    ensures shares { IfOk result (λ ran. ran.0.audit ≡ true → ran.1.parts ≡ frames + 1) }
+{
+    let room: Vec<Line> = Vec::with_capacity(alloc, handed.len())?;
+    let ran: Vec<Ran<L, S>> = Vec::with_capacity(alloc, handed.len())?;
+    let mut shared: Shared<L, S, C> = Shared::new(alloc, desk, slots);
+    let mut viewers = begin_all(alloc, &mut shared, handed)?;
+    run_threads(rt, &shared, viewers.as_mut_slice(), workers, slice, gate);
+    let agrees = shared.audit(rt);
+    purge_all(rt, &shared);
+    Ok(close(shared.into_parts(), frames, handed, room, ran, agrees))
+}
+
+/// Adds processes that are to run copies of these images on copies of these inputs to a machine that has none, and answers viewers of
+/// their counts.
+fn begin_all<L: Ledger, S: SwapSlot, C: Clock>(
+    alloc: Global,
+    shared: &mut Shared<L, S, C>,
+    handed: &[(Image, Vec<u8>)],
+) -> Result<Vec<Viewer>, AllocError>
+    requires empty { shared.old.processes ≡ 0 }
+    requires few { length handed.now ≤ most_processes }
+    ensures all { OnOk result (shared.new.processes ≡ length handed.now) }
+    ensures viewers { IfOk result (λ viewers. vec_len viewers ≡ length handed.now) }
+{
+    let mut viewers = Vec::with_capacity(alloc, handed.len())?;
+    for (image, input) in handed {
+        let image = copy_image(alloc, image)?;
+        let input = Vec::from_slice(alloc, input.as_slice())?;
+        match shared.add(alloc, image, input) {
+            Ok(viewer) => viewers.push(viewer)?,
+            Err(AddRefusal::TooMany) => unreachable!(),
+            Err(AddRefusal::NoMemory) => return Err(AllocError),
+        }
+    }
+    Ok(viewers)
+}
+
+/// Each process gives back what it has, where the daemon has left it anything.
+fn purge_all<L: Ledger, S: SwapSlot, C: Clock, R: Wait>(rt: &R, shared: &Shared<L, S, C>) {
+    for process in 0..shared.processes() {
+        shared.purge(rt, process);
+    }
+}

@@ -1,0 +1,37 @@
+//! What a run of a machine by threads has come to.
+
+use run_report::Line;
+use thiserror::Error;
+
+/// What a machine has come to. Each count stays at its type's largest number.
+#[derive(Drop)]
+pub struct Report {
+    /// By the processes' numbers.
+    pub lines: Vec<Line>,
+    /// How many frames the machine has.
+    pub frames: u32,
+    /// Pages that were admitted to a frame.
+    pub page_ins: u64,
+    /// Pages that were named to leave their frames.
+    pub victims: u64,
+    /// Pages whose frame was freed once they were saved.
+    pub saves: u64,
+    /// Unchanged pages whose frame was freed with no save.
+    pub drops: u64,
+    /// Questions of the list that were answered.
+    pub questions: u64,
+    /// Whether the list's resident entries are the resident pages, no frame is lost, nothing has happened that no event of the machine
+    /// gives, and each process was started from what was handed in.
+    pub audit: bool,
+}
+
+/// Why a machine was not run, in the order in which the reasons are tested.
+#[derive(Clone, Copy, PartialEq, Eq, Debug, Error)]
+pub enum RunRefusal {
+    #[error("the number of frames is not between 4 and 4096")]
+    BadSize,
+    #[error("there are more than 16 processes")]
+    TooManyProcesses,
+    #[error("out of memory")]
+    NoMemory,
+}

@@ -35,6 +35,9 @@ pub fn carrier<L: Ledger, S: SwapSlot, C: Clock, G: Gate, R: Wait>(
 }
 
 /// Gives each hart that falls to a worker a slice. Answers whether any instruction ran.
+///
+/// First hart 0 of each process, then hart 1, and so on: to see that a hart is not there takes its process's lock, which another hart
+/// of it may hold for as long as a load takes.
 fn carry_round<L: Ledger, S: SwapSlot, C: Clock, G: Gate, R: Wait>(
     rt: &R,
     shared: &Shared<L, S, C>,
@@ -44,26 +47,26 @@ fn carry_round<L: Ledger, S: SwapSlot, C: Clock, G: Gate, R: Wait>(
     gate: &G,
 ) -> bool {
     let mut has_run = false;
-    for process in 0..shared.processes() {
-        if carry_process(rt, shared, process, worker, workers, slice, gate) {
+    for hart in 0..MOST_HARTS as u32 {
+        if carry_harts(rt, shared, hart, worker, workers, slice, gate) {
             has_run = true;
         }
     }
     has_run
 }
 
-/// The same of the harts of one process.
-fn carry_process<L: Ledger, S: SwapSlot, C: Clock, G: Gate, R: Wait>(
+/// The same of the harts of one number.
+fn carry_harts<L: Ledger, S: SwapSlot, C: Clock, G: Gate, R: Wait>(
     rt: &R,
     shared: &Shared<L, S, C>,
-    process: u32,
+    hart: u32,
     worker: u32,
     workers: u32,
     slice: u32,
     gate: &G,
 ) -> bool {
     let mut has_run = false;
-    for hart in 0..MOST_HARTS as u32 {
+    for process in 0..shared.processes() {
         if falls_to(process, hart, worker, workers)
             && carry_hart(rt, shared, process, hart, slice, gate)
         {

@@ -19,19 +19,8 @@ const IS_AWAY: (Call, Answer) = (Call::State(0x11), Answer::State(Some(PageState
 
 const SHOWS_THE_BYTE: (Call, Answer) = (Call::Peek(0x1_1003), Answer::Byte(Ok(Some(5))));
 
-/// The process whose page of data is changed, and held by no cache.
-fn changed<L: Ledger, S: SwapSlot>(
-    rt: &impl Abort,
-    alloc: Global,
-    slot: S,
-    blank: Blank,
-) -> Result<Bench<L, S>, Fail>
-    requires name { blank.name ≡ L.name }
-    requires parts { blank.parts ≡ L.parts }
-    requires one_each { L.parts ≡ 5 }
-{
-    let slots = vec![in alloc; slot]?;
-    let mut bench = Bench::begin(alloc, STORES_A_BYTE, slots, blank)?;
+/// Its page of data is changed, and held by no cache.
+fn changes<L: Ledger, S: SwapSlot>(rt: &impl Abort, bench: &mut Bench<L, S>) {
     let calls = [
         (Call::PageIn(0x10), Answer::Done),
         (Call::PageIn(0x11), Answer::Done),
@@ -39,8 +28,7 @@ fn changed<L: Ledger, S: SwapSlot>(
         (Call::BeginEvict(0x11), Answer::Done),
         (Call::TakeNotices(0), Answer::Done),
     ];
-    expect(rt, &mut bench, &calls);
-    Ok(bench)
+    expect(rt, bench, &calls);
 }
 
 /// Its page of data is brought in, and it runs to its end.
@@ -59,8 +47,9 @@ fn saves_again<L: Ledger>(rt: &impl Abort, alloc: Global, blank: Blank) -> Resul
     requires parts { blank.parts ≡ L.parts }
     requires one_each { L.parts ≡ 5 }
 {
-    let slot = BlinkSlot::new(alloc, 1)?;
-    let mut bench: Bench<L, BlinkSlot> = changed(rt, alloc, slot, blank)?;
+    let slots = vec![in alloc; BlinkSlot::new(alloc, 1)?]?;
+    let mut bench: Bench<L, BlinkSlot> = Bench::begin(alloc, STORES_A_BYTE, slots, blank)?;
+    changes(rt, &mut bench);
     let calls = [
         (Call::Collect(0x11), Answer::Dirty),
         (Call::Save, Answer::Refused),
@@ -83,8 +72,9 @@ fn loads_again<L: Ledger>(rt: &impl Abort, alloc: Global, blank: Blank) -> Resul
     requires parts { blank.parts ≡ L.parts }
     requires one_each { L.parts ≡ 5 }
 {
-    let slot = BlinkSlot::new(alloc, 2)?;
-    let mut bench: Bench<L, BlinkSlot> = changed(rt, alloc, slot, blank)?;
+    let slots = vec![in alloc; BlinkSlot::new(alloc, 2)?]?;
+    let mut bench: Bench<L, BlinkSlot> = Bench::begin(alloc, STORES_A_BYTE, slots, blank)?;
+    changes(rt, &mut bench);
     let calls = [
         (Call::Collect(0x11), Answer::Dirty),
         (Call::Save, Answer::Done),
@@ -102,8 +92,9 @@ fn stays_out_damaged<L: Ledger>(rt: &impl Abort, alloc: Global, blank: Blank) ->
     requires parts { blank.parts ≡ L.parts }
     requires one_each { L.parts ≡ 5 }
 {
-    let slot = FlipSlot::new(alloc, 1)?;
-    let mut bench: Bench<L, FlipSlot> = changed(rt, alloc, slot, blank)?;
+    let slots = vec![in alloc; FlipSlot::new(alloc, 1)?]?;
+    let mut bench: Bench<L, FlipSlot> = Bench::begin(alloc, STORES_A_BYTE, slots, blank)?;
+    changes(rt, &mut bench);
     let calls = [
         (Call::Collect(0x11), Answer::Dirty),
         (Call::Save, Answer::Done),
@@ -121,8 +112,9 @@ fn shows_a_lie<L: Ledger>(rt: &impl Abort, alloc: Global, blank: Blank) -> Resul
     requires parts { blank.parts ≡ L.parts }
     requires one_each { L.parts ≡ 5 }
 {
-    let slot = FlipSlot::new(alloc, 1)?;
-    let mut bench: Bench<L, FlipSlot> = changed(rt, alloc, slot, blank)?;
+    let slots = vec![in alloc; FlipSlot::new(alloc, 1)?]?;
+    let mut bench: Bench<L, FlipSlot> = Bench::begin(alloc, STORES_A_BYTE, slots, blank)?;
+    changes(rt, &mut bench);
     let calls = [
         (Call::Collect(0x11), Answer::Dirty),
         (Call::Save, Answer::Done),

@@ -56,7 +56,8 @@ fn swept<L: Ledger, S: SwapSlot>(
 {
     let mut starts = Vec::new(alloc);
     starts.push((image_of(alloc, STORES_A_BYTE)?, Vec::new(alloc)))?;
-    let slots = vec![in alloc; slot]?;
+    let mut slots = Vec::new(alloc);
+    slots.push(slot)?;
     let mut core: Core<L, S, ClockRing> = Core::new(alloc, 4, blank, slots, starts).map_err(
         |_| "no machine",
     )?;

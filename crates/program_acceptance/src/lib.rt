@@ -14,6 +14,8 @@ mod runs;
 #[cfg(test)]
 mod source;
 #[cfg(test)]
+mod swap;
+#[cfg(test)]
 mod threads;
 #[cfg(test)]
 mod usage;

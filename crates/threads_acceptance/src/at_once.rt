@@ -1,0 +1,161 @@
+//! Two processes run at the same time, also while one of them loads a page: neither holds a lock that the other one needs.
+
+use crate::guests::{STORES_A_BYTE, WRITES_A_SUM};
+use crate::machine::{Size, expect, played, sound_slots};
+use clock_policy::Key;
+use reclaim_daemon::Gate;
+use status_cell::Status;
+use std::sync::atomic::{AtomicU64, Ordering};
+use std::test::Fail;
+use std::thread::yield_now;
+
+/// How often a flag is looked at.
+const LOOKS: u32 = 100_000_000;
+
+/// Whether a flag was seen to be set.
+fn is_seen(flag: &AtomicU64) -> bool {
+    for look in 0..LOOKS {
+        if flag.load(Ordering::SeqCst) != 0 {
+            return true;
+        }
+        if look % 1000 == 0 {
+            yield_now();
+        }
+    }
+    false
+}
+
+/// Sets a flag. Answers whether it was not set before.
+fn is_first(flag: &AtomicU64) -> bool {
+    flag.swap(1, Ordering::SeqCst) == 0
+}
+
+/// After its first slice each of two processes waits for the other's.
+#[derive(Drop)]
+struct Meeting {
+    /// Above 0 once a slice of process 0 is over, and of process 1.
+    zero: AtomicU64,
+    one: AtomicU64,
+    missed: AtomicU64,
+}
+
+impl Meeting {
+    fn meet(&self, own: &AtomicU64, other: &AtomicU64) {
+        if is_first(own) {
+            if !is_seen(other) {
+                self.missed.store(1, Ordering::SeqCst);
+            }
+        }
+    }
+}
+
+impl Gate for Meeting {
+    fn before_save(&self, _key: Key) {}
+
+    fn before_load(&self, _key: Key) {}
+
+    fn after_slice(&self, process: u32, _hart: u32, _ran: u32) {
+        if process == 0 {
+            self.meet(&self.zero, &self.one);
+        } else {
+            self.meet(&self.one, &self.zero);
+        }
+    }
+
+    fn after_free(&self, _statuses: &[Status]) {}
+}
+
+/// Process 1 waits after its first slice until process 0 is about to load its first page, and that load waits until a slice of
+/// process 1 has run.
+#[derive(Drop)]
+struct HeldLoad {
+    /// Above 0 once process 0 is about to load, once the first slice of process 1 is over, and once another one of it has run meanwhile.
+    loads: AtomicU64,
+    held: AtomicU64,
+    ran: AtomicU64,
+    missed: AtomicU64,
+}
+
+impl Gate for HeldLoad {
+    fn before_save(&self, _key: Key) {}
+
+    fn before_load(&self, key: Key) {
+        if key.process == 0 {
+            if is_first(&self.loads) {
+                if !is_seen(&self.ran) {
+                    self.missed.store(1, Ordering::SeqCst);
+                }
+            }
+        }
+    }
+
+    fn after_slice(&self, process: u32, _hart: u32, ran: u32) {
+        if process == 0 {
+            return;
+        }
+        if is_first(&self.held) {
+            if !is_seen(&self.loads) {
+                self.missed.store(1, Ordering::SeqCst);
+            }
+        } else if ran > 0 {
+            self.ran.store(1, Ordering::SeqCst);
+        }
+    }
+
+    fn after_free(&self, _statuses: &[Status]) {}
+}
+
+#[test]
+fn two_processes_run_at_the_same_time(rt: HostRuntime) -> Result<(), Fail> {
+    let alloc = rt.alloc();
+    let gate = Meeting {
+        zero: AtomicU64::new(0),
+        one: AtomicU64::new(0),
+        missed: AtomicU64::new(0),
+    };
+    let size = Size {
+        frames: 64,
+        workers: 2,
+        slice: 1000,
+    };
+    let slots = sound_slots(alloc, 4)?;
+    let report = played(
+        &rt,
+        alloc,
+        size,
+        slots,
+        &[STORES_A_BYTE, STORES_A_BYTE],
+        &gate,
+    )?;
+    expect(&rt, &report, &[(0, 7, b""), (0, 7, b"")]);
+    assert_eq!(rt; gate.missed.load(Ordering::SeqCst), 0);
+    Ok(())
+}
+
+#[test]
+fn a_process_runs_while_another_loads(rt: HostRuntime) -> Result<(), Fail> {
+    let alloc = rt.alloc();
+    let gate = HeldLoad {
+        loads: AtomicU64::new(0),
+        held: AtomicU64::new(0),
+        ran: AtomicU64::new(0),
+        missed: AtomicU64::new(0),
+    };
+    let size = Size {
+        frames: 64,
+        workers: 2,
+        slice: 10,
+    };
+    let slots = sound_slots(alloc, 4)?;
+    let report = played(
+        &rt,
+        alloc,
+        size,
+        slots,
+        &[WRITES_A_SUM, WRITES_A_SUM],
+        &gate,
+    )?;
+    expect(&rt, &report, &[(0, 114, b"B"), (0, 114, b"B")]);
+    assert_eq!(rt; gate.missed.load(Ordering::SeqCst), 0);
+    Ok(())
+}

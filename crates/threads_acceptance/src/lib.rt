@@ -1,0 +1,15 @@
+//! Tests of machines that threads run.
+#![tactic(auto)]
+
+#[cfg(test)]
+mod admissions;
+#[cfg(test)]
+mod at_once;
+#[cfg(test)]
+mod failing;
+#[cfg(test)]
+mod guests;
+#[cfg(test)]
+mod machine;
+#[cfg(test)]
+mod sharing;

@@ -1,0 +1,81 @@
+//! Machines that threads run to their end.
+
+use clock_ring::ClockRing;
+use elf_image::Image;
+use flat_machine::End;
+use hart_carriers::{Report, run_machine};
+use reclaim_daemon::Gate;
+use rv_asm::assemble;
+use std::alloc::{AllocError, Global};
+use std::process::Abort;
+use std::sync::Wait;
+use std::test::Fail;
+use std::thread::Threads;
+use swap_slots::{MemorySlot, SwapSlot};
+
+/// How a machine is run: on so many frames, by so many workers, in slices of so many instructions.
+#[derive(Clone, Copy)]
+pub(crate) struct Size {
+    pub frames: u32,
+    pub workers: u32,
+    pub slice: u32,
+}
+
+/// How a process ended by itself: its exit status, how many instructions it ran, and what it wrote.
+pub(crate) type Told<'a> = (u32, u64, &'a [u8]);
+
+/// The image of a source.
+pub(crate) fn image_of(alloc: Global, source: &str) -> Result<Image, Fail> {
+    let listing = assemble(alloc, source).map_err(|_| "the source has a fault")?;
+    Ok(listing.into_image())
+}
+
+/// So many slots whose calls succeed.
+pub(crate) fn sound_slots(alloc: Global, count: u32) -> Result<Vec<MemorySlot>, AllocError> {
+    let mut slots = Vec::new(alloc);
+    for _ in 0..count {
+        slots.push(MemorySlot::new(alloc)?)?;
+    }
+    Ok(slots)
+}
+
+/// What a machine has come to whose processes run these sources, on no input.
+pub(crate) fn played<S: SwapSlot + Send, G: Gate + Sync, R: Threads + Wait + Sync>(
+    rt: &R,
+    alloc: Global,
+    size: Size,
+    slots: Vec<S>,
+    sources: &[&str],
+    gate: &G,
+) -> Result<Report, Fail> {
+    let mut handed = Vec::new(alloc);
+    for source in sources {
+        handed.push((image_of(alloc, source)?, Vec::new(alloc)))?;
+    }
+    let Size {
+        frames,
+        workers,
+        slice,
+    } = size;
+    Ok(run_machine::<S, ClockRing, G, R>(
+        rt,
+        alloc,
+        frames,
+        slots,
+        handed.as_slice(),
+        workers,
+        slice,
+        gate,
+    )?)
+}
+
+/// Each process has ended by itself as is told.
+pub(crate) fn expect(rt: &impl Abort, report: &Report, told: &[Told<'_>]) {
+    assert!(rt; report.audit);
+    assert_eq!(rt; report.lines.len(), told.len());
+    for (line, (status, steps, output)) in report.lines.iter().zip(told.iter()) {
+        assert_eq!(rt; line.end, Some(End::Exited(*status)));
+        assert_eq!(rt; line.steps, *steps);
+        assert_eq!(rt; line.output.as_slice(), *output);
+    }
+}

@@ -9,7 +9,10 @@ use clock_ring::ClockRing;
 use file_slots::FlipSlot;
 use machine_sides::Swept;
 use paged_memory::PageInFault;
-use reclaim_daemon::{Collection, Desk, OpenGate, PagedIn, SaveReply, Shared, Undone};
+use reclaim_daemon::{
+    Collection, Desk, HoldOfAll, HoldOfBoth, HoldOfPager, OpenGate, PagedIn, SaveReply, Shared,
+    Undone,
+};
 use std::alloc::Global;
 use std::marker::Brand;
 use std::process::Abort;
@@ -59,7 +62,8 @@ fn finds_what_is_kept<L: Ledger, R: Wait + Abort>(
     let shared: Shared<L, MemorySlot, ClockRing> = begun(alloc, slots, blank)?;
     assert!(rt; shared.audit(rt));
     let hold = shared.admit(rt, DATA).ok_or("no process")?;
-    let Some(Ok(admission)) = hold.reply else {
+    let HoldOfPager { reply, .. } = hold;
+    let Some(Ok(admission)) = reply else {
         return Err("not admitted".into());
     };
     assert!(rt; !shared.audit(rt));
@@ -113,7 +117,8 @@ fn sweeps_out<L: Ledger, S: SwapSlot, C: Clock, R: Wait + Abort>(
     assert_eq!(rt; next_victim(rt, shared), Some(DATA));
     shared.notice(rt, 0, 0);
     let data = shared.collect(rt, DATA).ok_or("no process")?;
-    let Some(Collection::Dirty(job)) = data.reply else {
+    let HoldOfAll { reply, .. } = data;
+    let Some(Collection::Dirty(job)) = reply else {
         return Err("not changed".into());
     };
     let saved = shared.saved(rt, job.run()).ok_or("no process")?;
@@ -131,11 +136,13 @@ fn lists_no_damaged_page<L: Ledger, R: Wait + Abort>(
     requires parts { blank.parts ≡ L.parts }
     requires one_each { L.parts ≡ 5 }
 {
-    let slots = vec![in alloc; FlipSlot::new(alloc, 1)?]?;
+    let mut slots = Vec::new(alloc);
+    slots.push(FlipSlot::new(alloc, 1)?)?;
     let shared: Shared<L, FlipSlot, ClockRing> = begun(alloc, slots, blank)?;
     sweeps_out(rt, &shared)?;
     let hold = shared.page_in(rt, &OpenGate, DATA).ok_or("no process")?;
-    let Some(PagedIn::Failed { admission, fault }) = hold.reply else {
+    let HoldOfBoth { reply, .. } = hold;
+    let Some(PagedIn::Failed { admission, fault }) = reply else {
         return Err("the page has come in".into());
     };
     assert_eq!(rt; fault, PageInFault::Damaged);

@@ -1,5 +1,7 @@
 //! Machines that threads run to their end.
 
+ghost use Rattle.std.specs.Prelude.{◌<◌};
+
 use clock_ring::ClockRing;
 use elf_image::Image;
 use flat_machine::End;
@@ -47,7 +49,10 @@ pub(crate) fn played<S: SwapSlot + Send, G: Gate + Sync, R: Threads + Wait + Syn
     slots: Vec<S>,
     sources: &[&str],
     gate: &G,
-) -> Result<Report, Fail> {
+) -> Result<Report, Fail>
+    requires workers { 0 < size.workers }
+    requires slice { 0 < size.slice }
+{
     let mut handed = Vec::new(alloc);
     for source in sources {
         handed.push((image_of(alloc, source)?, Vec::new(alloc)))?;

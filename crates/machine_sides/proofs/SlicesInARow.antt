@@ -11,10 +11,10 @@ use Rattle.space_core.specs.declared.progress.SliceStop.TheVariants.{Budget, Abs
 
 -- a slice of one is its instruction's
 one_each : {S : Type 0} (held : S → List ℕ) (honest : Type 0) (hart ran : ℕ) (why : SliceStop) (old new : SpaceValue S) → SlicesOne held honest hart ran why old new → SlicesEach held honest hart 1 ran why old new
+unfolding StepsOn
 one_each held honest hart ran why old new one = by_stop why refl
   where
     one_stopped : why ≢ Budget → SlicesEach held honest hart 1 ran why old new
-    unfolding StepsOn
     one_stopped other = record {
       on = 0;
       last = Some (ran, why);
@@ -23,7 +23,6 @@ one_each held honest hart ran why old new one = by_stop why refl
     }
 
     one_went : why ≡ Budget → SlicesEach held honest hart 1 ran why old new
-    unfolding StepsOn
     one_went same =
         let went = subst (λ s. SlicesOne held honest hart ran s old new) same one in
         let single : ran ≡ 1 = went.stops.0 in

@@ -1,5 +1,5 @@
 -- A slice is the slices of its instructions, one after another: what they say together.
-use Rattle.std.proofs.Common.{◌≡◌, ◌≢◌, ◌⊎◌, inl, inr, ℕ, zero, suc, true, false, is_some, IsSome, IfSome, IfNone, unwrap_or, option_map, ◌-◌, ◌+◌, ◌++◌, ◌≤◌, ◌<◌, true≢false, List, replicate, Option, Some, None, refl, sym, ap, ◌∙◌, subst, arith, append_assoc, append-nil}
+use Rattle.std.proofs.Common.{◌≡◌, ◌≢◌, inl, inr, ℕ, zero, suc, true, false, is_some, IsSome, IfSome, IfNone, unwrap_or, option_map, ◌-◌, ◌+◌, ◌++◌, ◌≤◌, ◌<◌, true≢false, List, replicate, Option, Some, None, refl, sym, ap, ◌∙◌, subst, arith, append_assoc, append-nil}
 use Rattle.std.proofs.lemmas.Bool.Decides.{eqb_tells}
 use Rattle.std.proofs.lemmas.Option.{none-some, same_Some}
 use Rattle.std.proofs.lemmas.List.{replicate-append-replicate}
@@ -20,11 +20,11 @@ use Rattle.space_core.specs.declared.progress.Progress.TheVariants as progress
 use Rattle.space_core.specs.Coheres.{Coheres}
 use Rattle.space_core.specs.Next.{next_pages, answered, begun}
 use Rattle.space_core.specs.Slices.{EachStep, BoundsEach, PassesOn, EndsWith, StopsShort, StopsRecorded}
-use Rattle.space_core.specs.Slicing.{shown_process, OthersStay, GoesOnWith, LeavesCaches, KeepsSpace}
+use Rattle.space_core.specs.Slicing.{shown_process, OthersStay, LeavesCaches, KeepsSpace}
 use Rattle.space_core.specs.StandsFor.{SpaceValue, StandsFor, IsSpace}
-use Rattle.space_core.specs.StepByStep.{SlicesOne, StepsOn, StepsLast, StepsEach, SlicesEach, SliceEnds}
+use Rattle.space_core.specs.StepByStep.{SlicesOne, StepsOn, StepsEach, SlicesEach, SliceEnds}
 use Rattle.space_core.proofs.Bounding.{bound_none, bound_then, bound_as}
-use Rattle.space_core.proofs.SliceMoves.{each_none, each_map, each_append, used_on}
+use Rattle.space_core.proofs.SliceMoves.{each_none, each_append, used_on}
 
 -- ---- so many, and then more
 

@@ -14,12 +14,14 @@ use Rattle.space_core.specs.Next.{next_pages, answered, begun}
 use Rattle.space_core.specs.Slices.{EachStep, BoundsEach, StopsRecorded}
 use Rattle.space_core.specs.Slicing.{shown_process, KeepsSpace}
 use Rattle.space_core.specs.StandsFor.{SpaceValue, StandsFor}
+use Rattle.space_core.specs.StepByStep.{SlicesEach}
 use Rattle.space_core.specs.declared.progress.SliceStop.{SliceStop}
 use Rattle.space_core.specs.declared.progress.SliceStop.TheVariants.{Budget}
 use Rattle.machine_sides.specs.Sides.{ProcessSideValue}
 
 module _ {S : Type 0} where
-  -- a hart's slice: what ran is the flat run of so many of its instructions, and is recorded; why it stops; and what is left
+  -- a hart's slice: what ran is the flat run of so many of its instructions, and is recorded; why it stops; what is left; and
+  -- the same of each instruction
   pub record Slices (held : S → List ℕ) (honest : Type 0) (hart budget : ℕ) (old new : SpaceValue S) (ran : ℕ) (why : SliceStop) : Type 0 where
     pub ran_is : flat_run (replicate ran hart) (shown_process held old) ≡ Some (shown_process held new)
     pub recorded : written_out new.schedule ≡ written_out old.schedule ++ replicate ran hart
@@ -31,6 +33,7 @@ module _ {S : Type 0} where
     pub kept : KeepsSpace hart why old new
     pub stands : honest → StandsFor held new
     pub coheres : Coheres held honest new.memory
+    pub each : SlicesEach held honest hart budget ran why old new
 
   -- a process's hart runs one instruction, or does not
   pub record StepsOnce (held : S → List ℕ) (honest : Type 0) (hart : ℕ) (why : SliceStop) (old new : ProcessSideValue S) : Type 0 where

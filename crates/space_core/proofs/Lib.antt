@@ -11,3 +11,4 @@ pub mod FreshPages
 pub mod Opened
 pub mod Bounding
 pub mod StepsOn
+pub mod SliceChain

@@ -114,7 +114,7 @@ passed_none has marks hart before now = record {
 }
 
 -- and so many more
-each_append : (P : Process → Type 0) (hart n m : ℕ) (before between : Process) → EachStep P hart n before → flat_run (replicate n hart) before ≡ Some between → EachStep P hart m between → EachStep P hart (n + m) before
+pub each_append : (P : Process → Type 0) (hart n m : ℕ) (before between : Process) → EachStep P hart n before → flat_run (replicate n hart) before ≡ Some between → EachStep P hart m between → EachStep P hart (n + m) before
 each_append P hart n m before between first reached rest = λ done at h e.
     elim (leb_tells n done) [
       | inr below ↦ first done at (let less = below.1 in omega arith) e

@@ -1,5 +1,5 @@
 -- A hart's instructions one at a time: each is a slice of one, and is recorded.
-use Rattle.std.specs.Prelude.{◌≡◌, ◌⊎◌, ℕ, true, zero, suc, ◌+◌, ◌++◌, ◌<◌, ◌≤◌, Option, Some, None, List, replicate, slice_set, slice_index_or}
+use Rattle.std.specs.Prelude.{◌≡◌, ◌≢◌, ◌⊎◌, ℕ, true, zero, suc, ◌+◌, ◌++◌, ◌<◌, ◌≤◌, Option, Some, None, List, replicate, slice_set, slice_index_or}
 use Rattle.page_memory.specs.Memory.{Memory}
 use Rattle.rv_exec.specs.Bounds.{Bounds}
 use Rattle.rv_exec.specs.Line.{Next, line}
@@ -101,6 +101,18 @@ module _ {S : Type 0} (held : S → List ℕ) (honest : Type 0) (hart : ℕ) whe
     pub between : SpaceValue S
     pub on : StepsOn count old between
     pub at_last : StepsLast last between new
+
+  -- how a slice of so many at the most ends: all that were allowed went on, or behind those that did one stops
+  abbrev pub SliceEnds : ℕ → ℕ → Option (ℕ × SliceStop) → ℕ → SliceStop → Type 0
+  SliceEnds budget on None ran why = (on ≡ budget) × (ran ≡ on) × (why ≡ Budget)
+  SliceEnds budget on (Some last) ran why = (on < budget) × (ran ≡ on + last.0) × (why ≡ last.1) × (why ≢ Budget)
+
+  -- a slice is its instructions' slices, one after another
+  pub record SlicesEach (budget ran : ℕ) (why : SliceStop) (old new : SpaceValue S) : Type 0 where
+    pub on : ℕ
+    pub last : Option (ℕ × SliceStop)
+    pub each : StepsEach on last old new
+    pub ends : SliceEnds budget on last ran why
 
   -- no marks were set; or a hart that may step, and whose next instruction the schedule takes, tried that one
   abbrev pub MarksTried : SpaceValue S → PagedValue S → Type 0

@@ -1,6 +1,7 @@
 //! One process on paged memory.
 #![tactic(auto)]
 
+mod one_instruction;
 mod opening;
 mod plain_run;
 mod progress;

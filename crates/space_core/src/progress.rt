@@ -1,4 +1,5 @@
-ghost use Rattle.std.specs.Prelude.{◌≡◌};
+ghost use Rattle.std.specs.Bool.{OnTrue, OnFalse};
+ghost use Rattle.std.specs.Prelude.{◌≡◌, ◌≢◌};
 ghost use Rattle.space_core.specs.Next.{stop_after, stop_before};
 
 use env_calls::ServeStop;
@@ -59,6 +60,17 @@ impl Progress {
             Progress::HartDone => Some(SliceStop::HartDone),
             Progress::Ended => Some(SliceStop::Ended),
         }
+    }
+}
+
+impl SliceStop {
+    /// Whether a slice of one instruction that stops so has run it, and the next one may follow.
+    #[inline]
+    pub(crate) fn goes_on(self) -> bool
+        ensures on { OnTrue result (self ≡ SliceStop.Budget) }
+        ensures off { OnFalse result (self ≢ SliceStop.Budget) }
+    {
+        matches!(self, SliceStop::Budget)
     }
 }
 

@@ -92,7 +92,7 @@ impl<L: Ledger, S: SwapSlot> Space<L, S> {
         record_each(&mut self.recorded, &mut self.memory, hart, most)
     }
 
-    /// Runs instructions of a hart one at a time, up to so many, each as a [`Space::slice`] of its own, until one of them does
+    /// Runs instructions of a hart one at a time, up to so many, each as a slice of its own, until one of them does
     /// not pass on to the next.
     pub fn steps(&mut self, hart: u32, most: u32) -> Steps
         ensures within { result.ran ≤ most }
@@ -104,7 +104,7 @@ impl<L: Ledger, S: SwapSlot> Space<L, S> {
         if ran == most {
             return Steps { ran, last: None };
         }
-        let slice = self.slice(hart, 1);
+        let slice = self.slice_one(hart);
         Steps {
             ran,
             last: Some(slice),

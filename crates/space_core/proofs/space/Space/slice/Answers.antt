@@ -1,53 +1,45 @@
-use Rattle.std.proofs.Common.{◌≡◌, ◌∙◌, length, replicate, ap, arith, refl, sym, subst}
-use Rattle.paged_memory.specs.Paged.{PagedValue, page_at, memory_of}
-use Rattle.paged_memory.specs.HartMemory.{MarksWithin}
-use Rattle.space_core.specs.Next.{begun}
-use Rattle.space_core.specs.Slices.{BoundsEach}
-use Rattle.space_core.specs.Slicing.{shown_process}
-use Rattle.space_core.specs.StandsFor.{SpaceValue, StandsFor, is_purged}
-use Rattle.space_core.proofs.Standing.{stands_on, stands_sliced}
-use Rattle.space_core.proofs.SliceLaws.{harts_run, none_back}
+use Rattle.std.proofs.Common.{subst}
+use Rattle.space_core.specs.Coheres.{Coheres}
+use Rattle.space_core.specs.StandsFor.{SpaceValue, IsSpace}
+use Rattle.space_core.proofs.SliceChain.{Together, together}
 use Rattle.space_core.proofs.space.Space.slice.Given.{Over}
 use Rattle.space_core.proofs.space.Space.slice.Goals as goal
 
-pub add_harts-requires-clause-more : goal.add_harts-requires-clause-more
-add_harts-requires-clause-more g c =
-    let more = harts_run (replicate c.run-slice.result.ran c.args.hart) _ _ c.run-slice.ensures.ran in
-    let count = c.started.ensures.count in
-    let same = c.running.ensures in
-    let caches = c.run-slice.ensures.kept.harts in
-    let cached = c.self.invariant.cached in
-    omega (arith, more, count, ap (λ r. length r.harts) same, caches, cached)
+-- what its instructions say together
+all : (g : Over) (c : goal.After-slice_each g) → Together g.S.SwapSlot.content g.S.SwapSlot.honest c.args.hart c.args.budget c.slice_each.result.ran c.slice_each.result.stop c.args.self.now c.slice_each.new.self
+all g c =
+    together g.S.SwapSlot.content g.S.SwapSlot.honest c.args.hart c.args.budget c.slice_each.result.ran c.slice_each.result.stop c.args.self.now c.slice_each.new.self
+    (subst (IsSpace g.S.SwapSlot.content g.S.SwapSlot.honest) c.self.view_is (record { stands = c.self.invariant.stands; cached = c.self.invariant.cached }))
+    (subst (λ (s : SpaceValue g.row.S.Denot). Coheres g.S.SwapSlot.content g.S.SwapSlot.honest s.memory) c.self.view_is
+    (record { agree = c.coherent.ensures.agree; accessed = c.coherent.ensures.accessed; framed = c.coherent.ensures.framed; walks = c.coherent.ensures.walks }))
+    c.slice_each.ensures.each
 
--- the pages are those that the run left
-pages_are : (g : Over) (c : goal.After-coherent g) → c.settle_caches.new.memory.pages ≡ c.run-slice.new.memory.pages
-pages_are g c = ap (λ (m : PagedValue g.row.S.Denot). m.pages) c.settle_caches.ensures.memory ∙ ap (λ (m : PagedValue g.row.S.Denot). m.pages) c.add_harts.ensures.memory
+pub returns-clause-ran : goal.returns-clause-ran
+returns-clause-ran g c = (all g c).ran_is
 
-abbrev left : (g : Over) (c : goal.After-coherent g) → PagedValue g.row.S.Denot → SpaceValue g.row.S.Denot
-left g c memory = record { image = c.self.inside.image; input = c.self.inside.input.items; running = c.run-slice.new.recorded.running; schedule = c.run-slice.new.recorded.schedule; memory = memory }
+pub returns-clause-recorded : goal.returns-clause-recorded
+returns-clause-recorded g c = (all g c).recorded
 
-stands : (g : Over) (c : goal.After-coherent g) → g.S.SwapSlot.honest → StandsFor g.S.SwapSlot.content (left g c c.settle_caches.new.memory)
-stands g c h =
-    let inside : SpaceValue g.row.S.Denot = record { image = c.self.inside.image; input = c.self.inside.input.items; running = c.self.inside.recorded.running; schedule = c.self.inside.recorded.schedule; memory = c.self.inside.memory } in
-    let did = c.run-slice.ensures in
-    stands_on g.S.SwapSlot.content (left g c c.run-slice.new.memory) (left g c c.settle_caches.new.memory) refl refl refl refl (ap (memory_of g.S.SwapSlot.content) (pages_are g c))
-    (λ number whole. ap (λ pages. is_purged (page_at pages number)) (sym (pages_are g c)) ∙ whole)
-    (stands_sliced g.S.SwapSlot.content inside (left g c c.run-slice.new.memory) c.args.hart c.run-slice.result.ran refl refl did.ran did.recorded (none_back _ _ did.kept.pages) (c.self.invariant.stands h))
+pub returns-clause-left : goal.returns-clause-left
+returns-clause-left g c = (all g c).left
 
-pub invariant_of-self : goal.invariant_of-self
-invariant_of-self g c = record {
-  stands = stands g c;
-  cached = c.settle_caches.ensures.harts ∙ c.add_harts.ensures.harts ∙ c.started.ensures.count ∙ ap (λ r. length r.harts) c.running.ensures;
-}
+pub returns-clause-within : goal.returns-clause-within
+returns-clause-within g c = (all g c).within
 
-pub returns-clause-stands : goal.returns-clause-stands
-returns-clause-stands g c = stands g c
+pub returns-clause-stop : goal.returns-clause-stop
+returns-clause-stop g c = (all g c).stops
+
+pub returns-clause-pages : goal.returns-clause-pages
+returns-clause-pages g c = (all g c).pages
 
 pub returns-clause-bound : goal.returns-clause-bound
-returns-clause-bound g c =
-    let inside : SpaceValue g.row.S.Denot = record { image = c.self.inside.image; input = c.self.inside.input.items; running = c.self.inside.recorded.running; schedule = c.self.inside.recorded.schedule; memory = c.self.inside.memory } in
-    let ran = begun c.run-slice.result.stop c.run-slice.result.ran in
-    let tables : c.run-slice.new.memory.tables ≡ c.settle_caches.new.memory.tables =
-    sym (ap (λ (m : PagedValue g.row.S.Denot). m.tables) c.settle_caches.ensures.memory ∙ ap (λ (m : PagedValue g.row.S.Denot). m.tables) c.add_harts.ensures.memory) in
-    subst (λ (s : SpaceValue g.row.S.Denot). BoundsEach (MarksWithin s.memory.tables) (MarksWithin c.settle_caches.new.memory.tables) c.args.hart ran (shown_process g.S.SwapSlot.content s)) c.self.view_is
-    (subst (λ t. BoundsEach (MarksWithin inside.memory.tables) (MarksWithin t) c.args.hart ran (shown_process g.S.SwapSlot.content inside)) tables c.run-slice.ensures.bound)
+returns-clause-bound g c = (all g c).bound
+
+pub returns-clause-kept : goal.returns-clause-kept
+returns-clause-kept g c = (all g c).kept
+
+pub returns-clause-stands : goal.returns-clause-stands
+returns-clause-stands g c = (all g c).stands
+
+pub returns-clause-coheres : goal.returns-clause-coheres
+returns-clause-coheres g c = (all g c).coheres

@@ -1,6 +1,6 @@
 use Rattle.std.proofs.Common.{◌≡◌, ℕ, length}
 use Rattle.paged_memory.specs.Access.{cache_of}
-use Rattle.space_core.proofs.space_slice.add_harts.Given as goal
+use Rattle.space_core.proofs.one_instruction.add_harts.Given as goal
 
 abbrev pub invariant-loop-hart : goal.invariant-loop-hart
 invariant-loop-hart g l = record {

@@ -6,14 +6,11 @@ ghost use Rattle.image_files.specs.Reading.{GivesInput};
 ghost use Rattle.image_files.specs.SlotFiles.{AreNewFiles, CannotMakeOneOf};
 
 use crate::fault::Fault;
+use crate::system_files::{MOST_BYTES, open_to_read, write_file};
 use file_slots::{FileSlot, make_file_slots};
 use std::alloc::Global;
-use std::fs;
 use std::io::{ErrorKind, Read, Seek, Write};
 use std::rt::Files;
-
-/// The most bytes that a file may have.
-const MOST_BYTES: usize = 33_554_432;
 
 /// Where files are read and written, and slots' files are made.
 pub trait Folder {
@@ -28,7 +25,7 @@ pub trait Folder {
         ensures bytes { IfOk result (λ bytes. gives name.now bytes.items) }
         ensures fault { IfErr result IsOfNoLine };
 
-    /// Makes a file anew of these bytes.
+    /// Makes a file anew of these bytes. Where it takes none, no file is left that was not there before.
     fn write<'a>(&self, name: &'a str, bytes: &[u8]) -> Result<(), Fault<'a>>
         ensures fault { IfErr result IsOfNoLine };
 
@@ -53,7 +50,7 @@ impl<R: Files + AllocGlobal> Folder for R {
     }
 
     fn write<'a>(&self, name: &'a str, bytes: &[u8]) -> Result<(), Fault<'a>> {
-        match fs::write(self, name, bytes) {
+        match write_file(self, name, bytes) {
             Ok(()) => Ok(()),
             Err(_) => Err(Fault::CannotRead(name)),
         }
@@ -73,7 +70,7 @@ pub fn read_file<'a, R: Files + AllocGlobal>(rt: &R, name: &'a str) -> Result<Ve
     ensures few { IfOk result (λ bytes. vec_len bytes ≤ MOST_BYTES) }
     ensures fault { IfErr result IsOfNoLine }
 {
-    let Ok(file) = fs::open(rt, name) else {
+    let Some(file) = open_to_read(rt, name) else {
         return Err(Fault::CannotRead(name));
     };
     let mut bytes = Vec::new(rt.alloc());

@@ -7,6 +7,7 @@ mod files;
 mod image_file;
 mod image_kind;
 mod slots;
+mod system_files;
 mod words_file;
 
 pub use fault::Fault;

@@ -4,6 +4,8 @@
 #[cfg(test)]
 mod lines;
 #[cfg(test)]
+mod prefixes;
+#[cfg(test)]
 mod programs;
 #[cfg(test)]
 mod statements;

@@ -6,7 +6,7 @@ use elf_image::Image;
 use flat_machine::FlatProcess;
 use frame_pool::{Frame, FramePool};
 use page_store::{Collected, PageState, SaveJob};
-use paged_memory::PeekFault;
+use paged_memory::{PageInFault, PeekFault};
 use rv_asm::assemble;
 use rv_exec::Regs;
 use space_core::{Slice, Space};
@@ -54,6 +54,8 @@ pub(crate) enum Answer {
     Given { frame: bool, slot: bool },
     Nothing,
     Turns(usize, u32),
+    /// The page was not brought in, and the frame is free again.
+    StaysOut(PageInFault),
 }
 
 #[derive(Drop)]
@@ -138,7 +140,7 @@ impl<L: Ledger, S: SwapSlot> Bench<L, S> {
         };
         match self.space.page_in(vpn, frame) {
             Ok(()) => Answer::Done,
-            Err((frame, _)) => self.give(frame, Answer::Refused),
+            Err((frame, fault)) => self.give(frame, Answer::StaysOut(fault)),
         }
     }
 

@@ -4,6 +4,10 @@
 #[cfg(test)]
 mod bench;
 #[cfg(test)]
+mod failing;
+#[cfg(test)]
+mod full;
+#[cfg(test)]
 mod paging;
 #[cfg(test)]
 mod wandering;

@@ -14,7 +14,7 @@ use std::test::Fail;
 use swap_slots::{FuseSlot, MemorySlot};
 
 /// Stores a byte in its page of data, 0x11, with the fourth instruction, and ends with the seventh.
-const STORES_A_BYTE: &str = "        la   s0, buf
+pub(crate) const STORES_A_BYTE: &str = "        la   s0, buf
         li   t0, 5
         sb   t0, 3(s0)
         li   a0, 0
@@ -44,11 +44,11 @@ end:    j    end
 buf:    .word 0
 ";
 
-const fn slice(hart: u32, budget: u32) -> Call {
+pub(crate) const fn slice(hart: u32, budget: u32) -> Call {
     Call::Slice { hart, budget }
 }
 
-const fn ran(ran: u32, stop: SliceStop) -> Answer {
+pub(crate) const fn ran(ran: u32, stop: SliceStop) -> Answer {
     Answer::Ran(Slice { ran, stop })
 }
 

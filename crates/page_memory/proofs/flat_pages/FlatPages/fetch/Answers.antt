@@ -1,8 +1,8 @@
 use Rattle.std.proofs.Common.{◌≡◌, ◌+◌, ◌*◌, ◌/◌, ◌%◌, Ok, sym, ap, ◌∙◌, arith}
 use Rattle.page_memory.specs.Words.{page_number}
-use Rattle.page_memory.specs.Memory.{fetched}
+use Rattle.page_memory.specs.Pages.{fetched}
 use Rattle.page_memory.specs.HintsLaws.{fetched_led}
-use Rattle.page_memory.proofs.flat_memory.FlatMemory.fetch.Goals as goal
+use Rattle.page_memory.proofs.flat_pages.FlatPages.fetch.Goals as goal
 
 pub at-page-requires : goal.at-page-requires
 at-page-requires c =

@@ -1,10 +1,10 @@
 use Rattle.std.proofs.Common.{◌≡◌, ◌+◌, ◌*◌, ◌/◌, ◌%◌, Ok, sym, ap, ◌∙◌, arith}
 use Rattle.page_memory.specs.declared.words.Access.TheVariants.{Load}
 use Rattle.page_memory.specs.Words.{page_number, bytes_in}
-use Rattle.page_memory.specs.Memory.{loaded}
+use Rattle.page_memory.specs.Pages.{loaded}
 use Rattle.page_memory.specs.Hints.{Leads}
 use Rattle.page_memory.specs.HintsLaws.{one_of, below_four, loaded_led}
-use Rattle.page_memory.proofs.flat_memory.FlatMemory.load.Goals as goal
+use Rattle.page_memory.proofs.flat_pages.FlatPages.load.Goals as goal
 
 pub at-page-requires : goal.at-page-requires
 at-page-requires c =

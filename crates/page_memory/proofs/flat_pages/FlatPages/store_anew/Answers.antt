@@ -4,14 +4,14 @@ use Rattle.std.specs.FinMap.{from_entries}
 use Rattle.page_memory.specs.declared.words.Access.TheVariants.{Store}
 use Rattle.page_memory.specs.Words.{page_number}
 use Rattle.page_memory.specs.Rights.{may}
-use Rattle.page_memory.specs.Memory.{stored}
+use Rattle.page_memory.specs.Pages.{stored}
 use Rattle.page_memory.specs.Entries.{place_of, with_value}
 use Rattle.page_memory.specs.AccessLaws.{stored_at}
 use Rattle.page_memory.specs.declared.hint.Hint.{Hint}
 use Rattle.page_memory.specs.declared.hint.Hints.{Hints}
 use Rattle.page_memory.specs.Hints.{StandsAt, LeadAll, Remembers}
 use Rattle.page_memory.specs.HintsLaws.{leads_there, stands_of, one_remembered, still_remembered}
-use Rattle.page_memory.proofs.flat_memory.FlatMemory.store_anew.Goals as goal
+use Rattle.page_memory.proofs.flat_pages.FlatPages.store_anew.Goals as goal
 
 pub returns-clause-ok : goal.returns-clause-ok
 returns-clause-ok c =

@@ -1,4 +1,4 @@
-use Rattle.page_memory.proofs.flat_memory.FlatMemory.map_page.Goals as goal
+use Rattle.page_memory.proofs.flat_pages.FlatPages.map_page.Goals as goal
 
 pub invariant_of-self : goal.invariant_of-self
 invariant_of-self c = c.new-self-inside.ensures c.insert.new.self

@@ -2,10 +2,10 @@ use Rattle.std.proofs.Common.{◌≡◌, Ok, Some, sym, ap, ◌∙◌, arith}
 use Rattle.page_memory.specs.declared.words.Access.TheVariants.{Fetch}
 use Rattle.page_memory.specs.Words.{page_number}
 use Rattle.page_memory.specs.Entries.{place_of}
-use Rattle.page_memory.specs.Memory.{fetched}
+use Rattle.page_memory.specs.Pages.{fetched}
 use Rattle.page_memory.specs.Hints.{StandsAt}
 use Rattle.page_memory.specs.HintsLaws.{fetched_there, stands_of}
-use Rattle.page_memory.proofs.flat_memory.FlatMemory.fetch_anew.Goals as goal
+use Rattle.page_memory.proofs.flat_pages.FlatPages.fetch_anew.Goals as goal
 
 pub returns-clause-word : goal.returns-clause-word
 returns-clause-word c =

@@ -1,8 +1,8 @@
 use Rattle.std.proofs.Common.{◌≡◌, sym, ap, ◌∙◌, option_and_then}
-use Rattle.page_memory.specs.Memory.{usable, with_right}
+use Rattle.page_memory.specs.Pages.{usable, with_right}
 use Rattle.page_memory.specs.Entries.{place_of, value_at}
 use Rattle.page_memory.specs.AccessLaws.{usable_by_place}
-use Rattle.page_memory.proofs.flat_memory.FlatMemory.usable_page.Goals as goal
+use Rattle.page_memory.proofs.flat_pages.FlatPages.usable_page.Goals as goal
 
 pub returns : goal.returns
 returns c =

@@ -4,9 +4,9 @@ use Rattle.page_memory.specs.declared.hint.Hint.{Hint}
 use Rattle.page_memory.specs.Words.{page_number}
 use Rattle.page_memory.specs.Hints.{StandsAt, LeadAll}
 use Rattle.page_memory.specs.Entries.{place_of}
-use Rattle.page_memory.specs.Memory.{loaded}
+use Rattle.page_memory.specs.Pages.{loaded}
 use Rattle.page_memory.specs.HintsLaws.{loaded_there, leads_there, stands_of, one_remembered}
-use Rattle.page_memory.proofs.flat_memory.FlatMemory.load_anew.Goals as goal
+use Rattle.page_memory.proofs.flat_pages.FlatPages.load_anew.Goals as goal
 
 pub invariant_of-self : goal.invariant_of-self
 invariant_of-self c =

@@ -33,6 +33,7 @@ impl<L: Ledger, S: SwapSlot, C: Clock> Shared<L, S, C> {
     /// See [`crate::Parts::audit`].
     ///
     /// It looks at one process after another, and so tells of the machine at one moment only while no other thread works in it.
+    #[tactic(auto, using(crate::proofs::Audited::found_none, crate::proofs::Audited::found_more, crate::proofs::Audited::found_sound))]
     pub fn audit<R: Wait>(&self, rt: &R) -> bool
         ensures { result ≡ true → FindsSound S self.now.processes }
     {
@@ -58,7 +59,6 @@ impl<L: Ledger, S: SwapSlot, C: Clock> Shared<L, S, C> {
 
 /// Counts the pages of one process more. There is `None` where it is not the one of its number, or where the list has not as many of its
 /// resident pages as resident ones as there are.
-#[tactic(auto, unfolding(crate::specs::Audit::IsListed))]
 pub(crate) fn count_more<L: Ledger, S: SwapSlot, C: Clock>(
     desk: &Desk<L, C>,
     number: u32,

@@ -38,6 +38,7 @@ impl<L: Ledger, S: SwapSlot, C: Clock> Parts<L, S, C> {
                 None => return false,
             }
         }
+        self.desk.pager().question();
         is_all(&self.desk, found)
     }
 

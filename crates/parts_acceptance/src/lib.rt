@@ -2,6 +2,8 @@
 #![tactic(auto)]
 
 #[cfg(test)]
+mod elf_hostile;
+#[cfg(test)]
 mod elf_reading;
 #[cfg(test)]
 mod elf_writing;

@@ -10,16 +10,14 @@ use Rattle.rv_exec.specs.LineLaws.{all_front, all_none}
 use Rattle.rv_exec.specs.Bounds.{Pass, Bounds}
 use Rattle.rv_exec.specs.Outcomes.{Used}
 use Rattle.rv_exec.specs.Uses.{pages_used, pages_stored}
-use Rattle.env_calls.specs.declared.served.Served.{Served}
 use Rattle.env_calls.specs.declared.served.Served.TheVariants as served
 use Rattle.env_calls.specs.declared.served.ServeStop.{ServeStop}
 use Rattle.env_calls.specs.declared.served.ServeStop.TheVariants.{Absent, NoMemory}
 use Rattle.env_calls.specs.Environment.{Environment}
-use Rattle.env_calls.specs.Effect.{Effect, Runs, Traps}
+use Rattle.env_calls.specs.Effect.{Runs, Traps}
 use Rattle.env_calls.specs.Calls.{call, call_pages, call_stores}
 use Rattle.env_calls.specs.Step.{effect, effect_of, step_pages, served_pages, step_stores, served_stores}
-use Rattle.env_calls.specs.Serving.{Serves, UsesPages}
-use Rattle.env_calls.specs.Stepping.{IsEffect, served_step}
+use Rattle.env_calls.specs.Serving.{UsesPages}
 
 pub effect_next : (hart : ℕ) (regs : Registers) (env : Environment) (memory : Memory) (regs' : Registers) (memory' : Memory)
     → line.line regs memory ≡ line.Next regs' memory' → effect hart regs env memory ≡ Runs regs' env memory'
@@ -150,15 +148,5 @@ bound_call before between after regs regs' memory memory' e same_regs same_memor
       rest.bound u s (back_passes u (pages_used regs memory) (call_pages regs' memory') used) (back_passes s (pages_stored regs memory) (call_stores regs' memory') stores)
       (first.bound u s (front_passes u (pages_used regs memory) (call_pages regs' memory') used) (front_passes s (pages_stored regs memory) (call_stores regs' memory') stores) was);
 }
-
--- ---- what became of the hart
-
-pub is_effect : (e : Effect) (served : Served) (regs : Registers) (env : Environment) (memory : Memory)
-    → Serves e served regs env memory → IsEffect e (served_step served) regs env memory
-is_effect e served.Continue regs env memory h = h
-is_effect e served.Yield regs env memory h = h
-is_effect e served.HartDone regs env memory h = h
-is_effect e (served.Ended status) regs env memory h = h
-is_effect e (served.Spawned hart first) regs env memory h = h
 
 pub ruleset stepping = (effect_next, effect_call, effect_traps, used_next, used_traps, step_contains, bound_first)

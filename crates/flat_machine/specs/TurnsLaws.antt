@@ -106,9 +106,6 @@ rest_up turns last hart n t there at same h =
     omega arith
 
 -- the room goes by what the last turn takes and by how many entries there are
-pub room_same : (old new : List Turn) (hart : ℕ) → new ≡ old → room new hart ≡ room old hart
-room_same old new hart e = ap (λ t. room t hart) e
-
 pub room_up : (old new : List Turn) (hart n : ℕ) → length new ≡ length old → rest_in_last new hart + n ≡ rest_in_last old hart → room new hart + n ≡ room old hart
 unfolding room
 room_up old new hart n same less = let k = ap (λ l. (2 ^ 32 - 1) * (1000000 - l)) same in omega arith
@@ -141,10 +138,6 @@ written_up (turn ∷ (next ∷ turns)) (suc last) hart n t d at is same =
 pub written_new : (turns : List Turn) (hart n : ℕ) → written_out (turns ++ record { hart = hart; count = n } ∷ []) ≡ written_out turns ++ replicate n hart
 written_new [] hart n = append-nil (replicate n hart)
 written_new (turn ∷ turns) hart n = ap (λ l. replicate turn.count turn.hart ++ l) (written_new turns hart n) ∙ sym (append_assoc (replicate turn.count turn.hart) (written_out turns) (replicate n hart))
-
--- so many and then the rest
-pub written_both : (out : List ℕ) (hart a b n : ℕ) → a + b ≡ n → (out ++ replicate a hart) ++ replicate b hart ≡ out ++ replicate n hart
-written_both out hart a b n e = append_assoc out (replicate a hart) (replicate b hart) ∙ ap (λ l. out ++ l) (replicate-append-replicate a b hart) ∙ ap (λ k. out ++ replicate k hart) e
 
 -- ---- neighbours are joined
 

@@ -2,6 +2,7 @@
 
 ghost use Rattle.std.specs.Prelude.{◌≡◌, ◌==◌, ◌+◌, ◌%◌, ◌<◌};
 
+use crate::crew::Shift;
 use crate::paging_in::bring_in;
 use clock_policy::{Clock, Key};
 use flat_machine::{KillCause, MOST_HARTS};
@@ -12,7 +13,8 @@ use std::sync::ledger::Ledger;
 use swap_slots::SwapSlot;
 
 /// Carries the harts of a machine that fall to a worker, one of so many, until each process has ended: hart `h` of process `p` falls to
-/// the worker of number `(p + h) % workers`. Each gets slices of so many instructions (or of one, for none), in turn.
+/// the worker of number `(p + h) % workers`. Each gets slices of so many instructions (or of one, for none), in turn. Answers by which
+/// shift it has carried them.
 ///
 /// It sleeps while none of its harts can run. That `worker` is below `workers` is for the caller to see to: else no hart falls to it.
 pub fn carrier<L: Ledger, S: SwapSlot, C: Clock, G: Gate, R: Wait>(
@@ -22,30 +24,36 @@ pub fn carrier<L: Ledger, S: SwapSlot, C: Clock, G: Gate, R: Wait>(
     workers: u32,
     slice: u32,
     gate: &G,
-) {
+) -> Shift
+    ensures { result ≡ record { worker = worker; workers = workers; slice = slice } }
+{
+    let shift = Shift {
+        worker,
+        workers,
+        slice,
+    };
     for _ in rt.forever() {
         if shared.has_ended() {
-            return;
+            return shift;
         }
         let changes = shared.changes();
-        if !carry_round(rt, shared, worker, workers, slice, gate) {
+        if !carry_round(rt, shared, &shift, gate) {
             shared.wait_for_change(rt, changes);
         }
     }
+    unreachable!()
 }
 
 /// Gives each hart that falls to a worker a slice. Answers whether any instruction ran.
 fn carry_round<L: Ledger, S: SwapSlot, C: Clock, G: Gate, R: Wait>(
     rt: &R,
     shared: &Shared<L, S, C>,
-    worker: u32,
-    workers: u32,
-    slice: u32,
+    shift: &Shift,
     gate: &G,
 ) -> bool {
     let mut has_run = false;
     for process in 0..shared.processes() {
-        if carry_process(rt, shared, process, worker, workers, slice, gate) {
+        if carry_process(rt, shared, process, shift, gate) {
             has_run = true;
         }
     }
@@ -57,16 +65,14 @@ fn carry_process<L: Ledger, S: SwapSlot, C: Clock, G: Gate, R: Wait>(
     rt: &R,
     shared: &Shared<L, S, C>,
     process: u32,
-    worker: u32,
-    workers: u32,
-    slice: u32,
+    shift: &Shift,
     gate: &G,
 ) -> bool {
     let mut has_run = false;
     for hart in 0..MOST_HARTS as u32 {
-        if falls_to(process, hart, worker, workers)
+        if falls_to(process, hart, shift)
             && shared.may_run(process, hart)
-            && carry_hart(rt, shared, process, hart, slice, gate)
+            && carry_hart(rt, shared, process, hart, shift.slice, gate)
         {
             has_run = true;
         }
@@ -75,13 +81,13 @@ fn carry_process<L: Ledger, S: SwapSlot, C: Clock, G: Gate, R: Wait>(
 }
 
 /// Whether a hart of a process falls to a worker.
-fn falls_to(process: u32, hart: u32, worker: u32, workers: u32) -> bool
-    ensures { 0 < workers → result ≡ ((process + hart) % workers == worker) }
+fn falls_to(process: u32, hart: u32, shift: &Shift) -> bool
+    ensures { 0 < shift.now.workers → result ≡ ((process + hart) % shift.now.workers == shift.now.worker) }
 {
-    if workers == 0 {
+    if shift.workers == 0 {
         return false;
     }
-    (u64::from(process) + u64::from(hart)) % u64::from(workers) == u64::from(worker)
+    (u64::from(process) + u64::from(hart)) % u64::from(shift.workers) == u64::from(shift.worker)
 }
 
 /// Gives a hart one slice, and brings in the pages that it lacks on the way. Answers whether any instruction ran.

@@ -1,72 +1,96 @@
 //! What a machine has come to whose threads were joined.
 
 ghost use Rattle.std.specs.Prelude.{◌≡◌, ◌+◌, ◌≤◌, All, length, vec_len, vec_capacity, [], true};
+ghost use Rattle.hart_carriers.specs.Ending.{Counts};
+ghost use Rattle.reclaim_daemon.specs.Audit.{IsSound, AgreeEverywhere};
+ghost use Rattle.reclaim_daemon.specs.SharedValue.{most_processes};
 ghost use Rattle.run_report.specs.FlatLines.{counts_of, StandsForRuns};
 
+use crate::crew::Crew;
 use crate::report::Report;
 use clock_policy::Clock;
 use elf_image::Image;
 use machine_sides::PagerSide;
-use reclaim_daemon::{Held, Parts};
+use reclaim_daemon::{Desk, Held, Parts};
 use run_report::{Line, Ran, gather_frames, tell};
-use std::sync::Mutex;
 use std::sync::ledger::{Ledger, Share};
 use swap_slots::SwapSlot;
 
-/// What a machine of so many frames has come to, whose processes were to run these images on these inputs, and the share of its frames.
-/// `agrees` is what a look at list and pages came to. Both lists have room.
+/// What a machine of so many frames has come to, whose harts this crew carried and whose processes were to run these images on these
+/// inputs, and the share of its frames. Both lists have room.
 pub(crate) fn close<L: Ledger, S: SwapSlot, C: Clock>(
     parts: Parts<L, S, C>,
     frames: u32,
+    crew: Crew,
     handed: &[(Image, Vec<u8>)],
     room: Vec<Line>,
     ran: Vec<Ran<L, S>>,
-    agrees: bool,
 ) -> (Report, Share<L>)
+    requires few { vec_len parts.processes ≤ most_processes }
     requires empty { room.items ≡ [] }
     requires room { length handed.now ≤ vec_capacity room }
     ensures stands { S.honest → result.0.audit ≡ true → StandsForRuns handed.entry.now result.0.lines.items }
     ensures last { All (λ line. line.last ≡ counts_of line) result.0.lines.items }
     ensures many { result.0.audit ≡ true → vec_len result.0.lines ≡ length handed.entry.now }
     ensures frames { result.0.frames ≡ frames }
+    ensures slots { result.0.slots ≡ parts.slots.size }
+    ensures crew { result.0.crew ≡ crew }
     ensures shares { result.0.audit ≡ true → result.1.parts ≡ frames + 1 }
-    ensures agrees { result.0.audit ≡ true → agrees ≡ true }
+    ensures counts { Counts parts.desk result.0 }
+    ensures size { result.0.audit ≡ true → parts.desk.pager.pager.size ≡ frames }
+    ensures sound { result.0.audit ≡ true → IsSound parts.desk parts.processes.items }
+    ensures agree { result.0.audit ≡ true → AgreeEverywhere parts.desk parts.processes.items }
 {
-    let Parts {
-        desk,
-        processes,
-        slots: _,
-    } = parts;
+    let agrees = parts.audit();
+    let counts = parts.desk.pager().counts();
+    let sized = parts.desk.pager().size() == frames;
+    let slots = parts.slots.size();
+    let (desk, processes) = purged(parts);
     let sound = desk.is_sound();
     let (pager, _strays) = desk.into_parts();
-    let counts = pager.counts();
     let (whole, share) = gather_all(pager, frames);
     let told = tell(all_ran(processes, ran), handed, room);
-    let audit = all_hold(agrees, sound, whole, told.started);
     let report = Report {
         lines: told.lines,
         frames,
+        slots,
+        crew,
         page_ins: counts.pager.tallies.page_ins,
         victims: counts.pager.tallies.victims,
         saves: counts.saves,
         drops: counts.drops,
         questions: counts.pager.tallies.questions,
-        audit,
+        audit: all_hold(agrees, sized, sound, whole, told.started),
     };
     (report, share)
 }
 
+/// The pager's desk and the processes, each of which has given back what the daemon has left it.
+fn purged<L: Ledger, S: SwapSlot, C: Clock>(parts: Parts<L, S, C>) -> (Desk<L, C>, Vec<Held<L, S>>)
+    requires few { vec_len parts.processes ≤ most_processes }
+{
+    let mut all = parts;
+    all.purge_all();
+    let Parts {
+        desk,
+        processes,
+        slots: _,
+    } = all;
+    (desk, processes)
+}
+
 /// Whether all that an audit looks at is as it is to be.
-fn all_hold(agrees: bool, sound: bool, whole: bool, started: bool) -> bool
+fn all_hold(agrees: bool, sized: bool, sound: bool, whole: bool, started: bool) -> bool
     ensures agrees { result ≡ true → agrees ≡ true }
+    ensures sized { result ≡ true → sized ≡ true }
     ensures sound { result ≡ true → sound ≡ true }
     ensures whole { result ≡ true → whole ≡ true }
     ensures started { result ≡ true → started ≡ true }
 {
-    if !agrees || !sound {
+    if !agrees || !sized {
         return false;
     }
-    if !whole {
+    if !sound || !whole {
         return false;
     }
     started
@@ -83,12 +107,12 @@ fn gather_all<L: Ledger, C: Clock>(pager: PagerSide<L, C>, frames: u32) -> (bool
 
 /// The processes of a machine, each with what was published of it last, in a list whose room is there.
 fn all_ran<L: Ledger, S: SwapSlot>(
-    processes: Vec<Mutex<Held<L, S>>>,
+    processes: Vec<Held<L, S>>,
     room: Vec<Ran<L, S>>,
 ) -> Vec<Ran<L, S>> {
     let mut all = room;
-    for lock in processes {
-        let ran = ran_of(lock.into_inner());
+    for held in processes {
+        let ran = ran_of(held);
         if all.len() < all.capacity() {
             all.push_reserved(ran);
         }

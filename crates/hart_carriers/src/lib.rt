@@ -4,11 +4,13 @@
 mod carrying;
 mod closing;
 mod copying;
+mod crew;
 mod machine;
 mod paging_in;
 mod report;
 mod threads;
 
 pub use carrying::carrier;
+pub use crew::{Crew, Shift};
 pub use machine::{run_machine, run_over};
 pub use report::{Report, RunRefusal};

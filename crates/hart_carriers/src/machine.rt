@@ -1,6 +1,7 @@
 //! Whole runs of machines by threads.
 
 ghost use Rattle.std.specs.Prelude.{◌≡◌, ◌+◌, ◌<◌, ◌≤◌, ◌⊎◌, ◌↔◌, All, length, vec_len, true, IfOk, OnOk, IsErrOf};
+ghost use Rattle.hart_carriers.specs.Ending.{EndsSound, IsCrewOf};
 ghost use Rattle.reclaim_daemon.specs.SharedValue.{most_processes};
 ghost use Rattle.run_report.specs.FlatLines.{counts_of, StandsForRuns};
 
@@ -11,7 +12,7 @@ use crate::threads::run_threads;
 use clock_policy::Clock;
 use elf_image::Image;
 use frame_pool::PoolError;
-use reclaim_daemon::{AddRefusal, Desk, Gate, MOST_PROCESSES, Shared};
+use reclaim_daemon::{AddRefusal, Desk, Gate, Held, MOST_PROCESSES, Shared};
 use run_report::{Line, Ran};
 use status_cell::Viewer;
 use std::alloc::{AllocError, Global};
@@ -41,6 +42,9 @@ pub fn run_machine<S: SwapSlot + Send, C: Clock + Send, G: Gate + Sync, R: Threa
     ensures last { IfOk result (λ report. All (λ line. line.last ≡ counts_of line) report.lines.items) }
     ensures many { IfOk result (λ report. report.audit ≡ true → vec_len report.lines ≡ length handed.now) }
     ensures frames { IfOk result (λ report. report.frames ≡ frames) }
+    ensures slots { IfOk result (λ report. report.audit ≡ true → report.slots ≡ vec_len slots) }
+    ensures crew { IfOk result (λ report. IsCrewOf workers slice report.crew) }
+    ensures sound { IfOk result (λ report. report.audit ≡ true → EndsSound S (length handed.now) report) }
     ensures bad_size { IsErrOf result RunRefusal.BadSize ↔ ((frames < 4) ⊎ (4096 < frames)) }
     ensures too_many { IsErrOf result RunRefusal.TooManyProcesses ↔ ((4 ≤ frames) × ((frames ≤ 4096) × (16 < length handed.now))) }
 {
@@ -77,6 +81,9 @@ fn report_over<
     ensures last { IfOk result (λ report. All (λ line. line.last ≡ counts_of line) report.lines.items) }
     ensures many { IfOk result (λ report. report.audit ≡ true → vec_len report.lines ≡ length handed.now) }
     ensures frames { IfOk result (λ report. report.frames ≡ frames) }
+    ensures slots { IfOk result (λ report. report.audit ≡ true → report.slots ≡ vec_len slots) }
+    ensures crew { IfOk result (λ report. IsCrewOf workers slice report.crew) }
+    ensures sound { IfOk result (λ report. report.audit ≡ true → EndsSound S (length handed.now) report) }
     ensures bad_size { IsErrOf result RunRefusal.BadSize ↔ ((frames < 4) ⊎ (4096 < frames)) }
     ensures too_many { IsErrOf result RunRefusal.TooManyProcesses ↔ ((4 ≤ frames) × ((frames ≤ 4096) × (16 < length handed.now))) }
 {
@@ -116,6 +123,9 @@ pub fn run_over<
     ensures last { IfOk result (λ ran. All (λ line. line.last ≡ counts_of line) ran.0.lines.items) }
     ensures many { IfOk result (λ ran. ran.0.audit ≡ true → vec_len ran.0.lines ≡ length handed.now) }
     ensures frames { IfOk result (λ ran. ran.0.frames ≡ frames) }
+    ensures slots { IfOk result (λ ran. ran.0.audit ≡ true → ran.0.slots ≡ vec_len slots) }
+    ensures crew { IfOk result (λ ran. IsCrewOf workers slice ran.0.crew) }
+    ensures sound { IfOk result (λ ran. ran.0.audit ≡ true → EndsSound S (length handed.now) ran.0) }
     ensures shares { IfOk result (λ ran. ran.0.audit ≡ true → ran.1.parts ≡ L.parts) }
     ensures bad_size { IsErrOf result RunRefusal.BadSize ↔ ((frames < 4) ⊎ (4096 < frames)) }
     ensures too_many { IsErrOf result RunRefusal.TooManyProcesses ↔ ((4 ≤ frames) × ((frames ≤ 4096) × (16 < length handed.now))) }
@@ -177,16 +187,18 @@ fn run_on<
     ensures last { IfOk result (λ ran. All (λ line. line.last ≡ counts_of line) ran.0.lines.items) }
     ensures many { IfOk result (λ ran. ran.0.audit ≡ true → vec_len ran.0.lines ≡ length handed.now) }
     ensures frames { IfOk result (λ ran. ran.0.frames ≡ frames) }
+    ensures slots { IfOk result (λ ran. ran.0.audit ≡ true → ran.0.slots ≡ vec_len slots) }
+    ensures crew { IfOk result (λ ran. IsCrewOf workers slice ran.0.crew) }
+    ensures sound { IfOk result (λ ran. ran.0.audit ≡ true → EndsSound S (length handed.now) ran.0) }
     ensures shares { IfOk result (λ ran. ran.0.audit ≡ true → ran.1.parts ≡ frames + 1) }
 {
     let room: Vec<Line> = Vec::with_capacity(alloc, handed.len())?;
     let ran: Vec<Ran<L, S>> = Vec::with_capacity(alloc, handed.len())?;
+    let held: Vec<Held<L, S>> = Vec::with_capacity(alloc, handed.len())?;
     let mut shared: Shared<L, S, C> = Shared::new(alloc, desk, slots);
     let mut viewers = begin_all(alloc, &mut shared, handed)?;
-    run_threads(rt, &shared, viewers.as_mut_slice(), workers, slice, gate);
-    let agrees = shared.audit(rt);
-    purge_all(rt, &shared);
-    Ok(close(shared.into_parts(), frames, handed, room, ran, agrees))
+    let crew = run_threads(rt, &shared, viewers.as_mut_slice(), workers, slice, gate);
+    Ok(close(shared.into_parts(held), frames, crew, handed, room, ran))
 }
 
 /// Adds processes that are to run copies of these images on copies of these inputs to a machine that has none, and answers viewers of
@@ -199,6 +211,7 @@ fn begin_all<L: Ledger, S: SwapSlot, C: Clock>(
     requires empty { shared.old.processes ≡ 0 }
     requires few { length handed.now ≤ most_processes }
     ensures all { OnOk result (shared.new.processes ≡ length handed.now) }
+    ensures slots { OnOk result (shared.new.slots ≡ shared.old.slots) }
     ensures viewers { IfOk result (λ viewers. vec_len viewers ≡ length handed.now) }
 {
     let mut viewers = Vec::with_capacity(alloc, handed.len())?;
@@ -212,11 +225,4 @@ fn begin_all<L: Ledger, S: SwapSlot, C: Clock>(
         }
     }
     Ok(viewers)
-}
-
-/// Each process gives back what it has, where the daemon has left it anything.
-fn purge_all<L: Ledger, S: SwapSlot, C: Clock, R: Wait>(rt: &R, shared: &Shared<L, S, C>) {
-    for process in 0..shared.processes() {
-        shared.purge(rt, process);
-    }
 }

@@ -1,5 +1,6 @@
 //! What a run of a machine by threads has come to.
 
+use crate::crew::Crew;
 use run_report::Line;
 use thiserror::Error;
 
@@ -10,6 +11,10 @@ pub struct Report {
     pub lines: Vec<Line>,
     /// How many frames the machine has.
     pub frames: u32,
+    /// Of how many slots its pool was in the end.
+    pub slots: usize,
+    /// Who carried the harts.
+    pub crew: Crew,
     /// Pages that were admitted to a frame.
     pub page_ins: u64,
     /// Pages that were named to leave their frames.
@@ -20,8 +25,8 @@ pub struct Report {
     pub drops: u64,
     /// Questions of the list that were answered.
     pub questions: u64,
-    /// Whether the list's resident entries are the resident pages, no frame is lost, nothing has happened that no event of the machine
-    /// gives, and each process was started from what was handed in.
+    /// Whether the list's resident entries are the resident pages, no frame is lost, the slots are those of the machine, nothing has happened
+    /// that no event of it gives, and each process was started from what was handed in.
     pub audit: bool,
 }
 

@@ -1,6 +1,9 @@
 //! The threads of a run.
 
+ghost use Rattle.std.specs.Prelude.{◌≡◌, ◌≤◌, true};
+
 use crate::carrying::carrier;
+use crate::crew::{Carries, Crew, Shift};
 use clock_policy::Clock;
 use flat_machine::KillCause;
 use reclaim_daemon::{Gate, Shared, daemon};
@@ -11,7 +14,7 @@ use std::thread;
 use std::thread::Threads;
 use swap_slots::SwapSlot;
 
-/// Runs the daemon and so many workers until each process has ended.
+/// Runs the daemon and so many workers until each process has ended. Answers which of them were started.
 ///
 /// Where a thread can't be started, each process that goes on is killed for want of memory, and the threads that were started end.
 pub(crate) fn run_threads<
@@ -20,22 +23,54 @@ pub(crate) fn run_threads<
     C: Clock + Send,
     G: Gate + Sync,
     R: Threads + Wait + Sync,
->(rt: &R, shared: &Shared<L, S, C>, viewers: &mut [Viewer], workers: u32, slice: u32, gate: &G) {
-    thread::scope(thread::scope_env(), rt, |scope| {
-        let mut all = scope
-            .spawn(move || daemon(rt, shared, viewers, gate))
-            .is_ok();
-        for worker in 0..workers {
-            if all {
-                all = scope
-                    .spawn(move || carrier(rt, shared, worker, workers, slice, gate))
-                    .is_ok();
+>(
+    rt: &R,
+    shared: &Shared<L, S, C>,
+    viewers: &mut [Viewer],
+    workers: u32,
+    slice: u32,
+    gate: &G,
+) -> Crew
+    ensures slice { result.slice ≡ slice }
+    ensures few { result.workers ≤ workers }
+    ensures all { result.is_whole ≡ true → result.workers ≡ workers }
+{
+    thread::scope(
+        thread::scope_env(),
+        rt,
+        |scope| -> Crew
+            ensures slice { result.slice ≡ slice }
+            ensures few { result.workers ≤ workers }
+            ensures all { result.is_whole ≡ true → result.workers ≡ workers }
+        {
+            let mut crew = Crew {
+                workers: 0,
+                slice,
+                is_whole: scope
+                    .spawn(move || daemon(rt, shared, viewers, gate))
+                    .is_ok(),
+            };
+            for worker in 0..workers {
+                if crew.is_whole {
+                    let shift = Shift {
+                        worker,
+                        workers,
+                        slice,
+                    };
+                    let carries = move || carrier(rt, shared, worker, workers, slice, gate);
+                    if scope.spawn_with(Carries(shift), carries).is_ok() {
+                        crew.workers += 1;
+                    } else {
+                        crew.is_whole = false;
+                    }
+                }
             }
-        }
-        if !all {
-            kill_all(rt, shared);
-        }
-    });
+            if !crew.is_whole {
+                kill_all(rt, shared);
+            }
+            crew
+        },
+    )
 }
 
 /// Ends each process that goes on, for want of memory.

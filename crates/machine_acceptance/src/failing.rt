@@ -1,10 +1,11 @@
-//! A page whose save fails stays, in the list too.
+//! A page whose save fails stays, in the list too, and one that is not loaded, or damaged, is in no list.
 
 ghost use Rattle.std.specs.Prelude.{◌≡◌};
 
 use crate::image::image_of;
 use clock_policy::{EntryKind, Key};
 use clock_ring::ClockRing;
+use file_slots::{BlinkSlot, FlipSlot};
 use machine_core::{Core, Event, EventRefusal, Reply};
 use page_store::PageState;
 use std::alloc::Global;
@@ -12,7 +13,7 @@ use std::marker::Brand;
 use std::process::Abort;
 use std::sync::ledger::{Blank, Ledger};
 use std::test::Fail;
-use swap_slots::FuseSlot;
+use swap_slots::{FuseSlot, SwapSlot};
 
 /// Stores a byte in its page of data, 0x11, with the fourth instruction, and ends with the seventh.
 const STORES_A_BYTE: &str = "        la   s0, buf
@@ -41,11 +42,14 @@ const DATA: Key = Key {
     vpn: 0x11,
 };
 
-fn stays_where_its_save_fails<L: Ledger>(
+/// A machine of four frames, with this slot, whose process has stored its byte. Both pages are swept out, and the page of data is to
+/// be saved.
+fn swept<L: Ledger, S: SwapSlot>(
     rt: &impl Abort,
     alloc: Global,
+    slot: S,
     blank: Blank,
-) -> Result<(), Fail>
+) -> Result<Core<L, S, ClockRing>, Fail>
     requires name { blank.name ≡ L.name }
     requires parts { blank.parts ≡ L.parts }
     requires one_each { L.parts ≡ 5 }
@@ -53,8 +57,8 @@ fn stays_where_its_save_fails<L: Ledger>(
     let mut starts = Vec::new(alloc);
     starts.push((image_of(alloc, STORES_A_BYTE)?, Vec::new(alloc)))?;
     let mut slots = Vec::new(alloc);
-    slots.push(FuseSlot::new(alloc, 0)?)?;
-    let mut core: Core<L, FuseSlot, ClockRing> = Core::new(alloc, 4, blank, slots, starts).map_err(
+    slots.push(slot)?;
+    let mut core: Core<L, S, ClockRing> = Core::new(alloc, 4, blank, slots, starts).map_err(
         |_| "no machine",
     )?;
     let asked = |key, used| Reply::Asked { key, used };
@@ -80,22 +84,127 @@ fn stays_where_its_save_fails<L: Ledger>(
         (Event::Sweep, asked(DATA, false)),
         (Event::Sweep, Reply::Victim(DATA)),
         (Event::Collect(DATA), Reply::Dirty),
-        (Event::Saved(DATA), Reply::Device),
     ] {
         assert_eq!(rt; core.apply(event), reply);
     }
-    assert_eq!(rt; core.state(0, DATA.vpn), Some(PageState::Resident));
-    let listed = (0..4).any(|place| core.entry(place) == Some((DATA, EntryKind::Test)));
-    assert!(rt; listed);
+    Ok(core)
+}
+
+/// How the page of data is listed, if it is.
+fn kind_of_data<L: Ledger, S: SwapSlot>(core: &Core<L, S, ClockRing>) -> Option<EntryKind> {
+    for place in 0..4 {
+        if let Some((key, kind)) = core.entry(place) {
+            if key == DATA {
+                return Some(kind);
+            }
+        }
+    }
+    None
+}
+
+/// The byte that was stored, as the machine shows it.
+fn stored<L: Ledger, S: SwapSlot>(core: &mut Core<L, S, ClockRing>) -> Option<u8> {
     let mut bytes = [None];
-    assert_eq!(rt; core.peek(0, 0x1_1003, &mut bytes), Some(Ok(())));
-    assert_eq!(rt; bytes, [Some(5)]);
+    match core.peek(0, 0x1_1003, &mut bytes) {
+        Some(Ok(())) => bytes[0],
+        _ => None,
+    }
+}
+
+/// The pages are brought in, and the process runs to its end.
+fn runs_on<L: Ledger, S: SwapSlot>(rt: &impl Abort, core: &mut Core<L, S, ClockRing>) {
+    for (event, reply) in [
+        (Event::PageIn(CODE), Reply::Mapped),
+        (Event::PageIn(DATA), Reply::Mapped),
+        (STEP, Reply::Ran),
+        (STEP, Reply::Ran),
+        (STEP, Reply::Ended),
+    ] {
+        assert_eq!(rt; core.apply(event), reply);
+    }
+    assert_eq!(rt; stored(core), Some(5));
+}
+
+fn stays_where_its_save_fails<L: Ledger>(
+    rt: &impl Abort,
+    alloc: Global,
+    blank: Blank,
+) -> Result<(), Fail>
+    requires name { blank.name ≡ L.name }
+    requires parts { blank.parts ≡ L.parts }
+    requires one_each { L.parts ≡ 5 }
+{
+    let slot = FuseSlot::new(alloc, 0)?;
+    let mut core: Core<L, FuseSlot, ClockRing> = swept(rt, alloc, slot, blank)?;
+    assert_eq!(rt; core.apply(Event::Saved(DATA)), Reply::Device);
+    assert_eq!(rt; core.state(0, DATA.vpn), Some(PageState::Resident));
+    assert_eq!(rt; kind_of_data(&core), Some(EntryKind::Test));
+    assert_eq!(rt; stored(&mut core), Some(5));
     let answered = core.apply(Event::Sweep) != Reply::Refused(EventRefusal::NothingResident);
     assert!(rt; answered);
+    Ok(())
+}
+
+/// The page is swept out again, and its slot takes it.
+fn is_saved_again<L: Ledger>(rt: &impl Abort, alloc: Global, blank: Blank) -> Result<(), Fail>
+    requires name { blank.name ≡ L.name }
+    requires parts { blank.parts ≡ L.parts }
+    requires one_each { L.parts ≡ 5 }
+{
+    let slot = BlinkSlot::new(alloc, 1)?;
+    let mut core: Core<L, BlinkSlot, ClockRing> = swept(rt, alloc, slot, blank)?;
+    for (event, reply) in [
+        (Event::Saved(DATA), Reply::Device),
+        (Event::Sweep, Reply::Victim(DATA)),
+        (Event::Collect(DATA), Reply::Dirty),
+        (Event::Saved(DATA), Reply::Freed),
+    ] {
+        assert_eq!(rt; core.apply(event), reply);
+    }
+    assert_eq!(rt; core.state(0, DATA.vpn), Some(PageState::Away));
+    runs_on(rt, &mut core);
+    Ok(())
+}
+
+/// The page is in no list once it was not loaded, and comes in at the next try.
+fn is_loaded_again<L: Ledger, S: SwapSlot>(
+    rt: &impl Abort,
+    alloc: Global,
+    slot: S,
+    reply: Reply,
+    blank: Blank,
+) -> Result<(), Fail>
+    requires name { blank.name ≡ L.name }
+    requires parts { blank.parts ≡ L.parts }
+    requires one_each { L.parts ≡ 5 }
+{
+    let mut core: Core<L, S, ClockRing> = swept(rt, alloc, slot, blank)?;
+    assert_eq!(rt; core.apply(Event::Saved(DATA)), Reply::Freed);
+    assert_eq!(rt; core.apply(Event::PageIn(DATA)), reply);
+    assert_eq!(rt; core.state(0, DATA.vpn), Some(PageState::Away));
+    assert_eq!(rt; kind_of_data(&core), None);
+    runs_on(rt, &mut core);
     Ok(())
 }
 
 #[test]
 fn a_page_whose_save_fails_stays_listed(rt: HostRuntime) -> Result<(), Fail> {
     stays_where_its_save_fails::<Brand>(&rt, rt.alloc(), Blank::new(5))
+}
+
+#[test]
+fn a_page_is_saved_at_the_second_try(rt: HostRuntime) -> Result<(), Fail> {
+    is_saved_again::<Brand>(&rt, rt.alloc(), Blank::new(5))
+}
+
+#[test]
+fn a_page_that_is_not_loaded_is_not_listed(rt: HostRuntime) -> Result<(), Fail> {
+    let slot = BlinkSlot::new(rt.alloc(), 2)?;
+    is_loaded_again::<Brand, BlinkSlot>(&rt, rt.alloc(), slot, Reply::Device, Blank::new(5))
+}
+
+#[test]
+fn a_damaged_page_is_not_listed(rt: HostRuntime) -> Result<(), Fail> {
+    let slot = FlipSlot::new(rt.alloc(), 1)?;
+    is_loaded_again::<Brand, FlipSlot>(&rt, rt.alloc(), slot, Reply::Damaged, Blank::new(5))
 }

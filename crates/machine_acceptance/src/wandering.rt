@@ -5,7 +5,7 @@ ghost use Rattle.std.specs.Prelude.{◌≡◌, ◌<◌, ◌^◌};
 use crate::image::image_of;
 use clock_policy::Key;
 use clock_ring::ClockRing;
-use flat_machine::FlatProcess;
+use flat_machine::{FlatProcess, KillCause};
 use machine_core::{Core, Event, Reply};
 use std::alloc::Global;
 use std::marker::Brand;
@@ -65,7 +65,12 @@ impl Told {
             52 => Event::Saved(any_key(random)),
             53..=61 => Event::PageIn(self.absent),
             62 => Event::PageIn(any_key(random)),
-            _ => Event::Purge { process },
+            _ if process < PROCESSES => Event::Purge { process },
+            // No process is killed, so that each can be looked at in the end.
+            _ => Event::Kill {
+                process,
+                cause: KillCause::Limit,
+            },
         }
     }
 
@@ -127,12 +132,27 @@ fn stands_for_its_run<L: Ledger>(
     if core.output(process) != Some(flat.output()) || core.end(process) != Some(flat.end()) {
         return Ok(false);
     }
-    for vpn in 0x10..0x19 {
-        if !shows_its_page(core, process, &flat, vpn) {
-            return Ok(false);
+    let same = shows_its_pages(core, process, &flat, 0, 0x20)
+        && shows_its_pages(core, process, &flat, 0x7_FFB0, 0x8_0010);
+    Ok(same)
+}
+
+/// Whether a process shows what the flat process has in each of these pages: no byte where none is mapped.
+fn shows_its_pages<L: Ledger>(
+    core: &mut Core<L, MemorySlot, ClockRing>,
+    process: u32,
+    flat: &FlatProcess,
+    first: u32,
+    end: u32,
+) -> bool
+    requires { end < 2 ^ 20 }
+{
+    for vpn in first..end {
+        if !shows_its_page(core, process, flat, vpn) {
+            return false;
         }
     }
-    Ok(true)
+    true
 }
 
 /// Whether a process shows the bytes of a page that the flat process has.

@@ -1,5 +1,5 @@
 -- The list and a set of pages as a play.
-use Rattle.std.specs.Prelude.{◌≡◌, ◌≢◌, ℕ, suc, ◌+◌, ◌-◌, ◌<◌, ◌≤◌, Bool, true, false, cond, List, ◌∷◌, Option, Some, None, Result, Ok, Err, refl}
+use Rattle.std.specs.Prelude.{◌≡◌, ◌≢◌, ℕ, suc, ◌+◌, ◌-◌, ◌<◌, Bool, true, false, cond, Option, Some, None, Result, Ok, Err, refl}
 use Rattle.std.specs.HashSet.{HashSet, contains}
 use Rattle.std.proofs.Common.{arith, sym, ap, ◌∙◌}
 use Rattle.clock_policy.specs.declared.key.Key.{Key}
@@ -10,14 +10,11 @@ use Rattle.clock_policy.specs.declared.entry.EntryKind.TheVariants.{Hot, Test, C
 use Rattle.clock_policy.specs.declared.refusal.Refusal.{Refusal}
 use Rattle.clock_policy.specs.declared.refusal.Refusal.TheVariants.{Full, NoMemory}
 use Rattle.clock_policy.specs.ClockPro.{ClockState, Answer, admitted, question_of, kind_of, kind_admitted, is_full, appended, grown, sent_to_end}
-use Rattle.page_policies.specs.Strings.{is_page, misses}
-use Rattle.page_policies.specs.ClockProPlay.{Play, in_play, asked, entered, placed, marked_used, clock_pro, is_full_refusal}
+use Rattle.page_policies.specs.Strings.{is_page}
+use Rattle.page_policies.specs.ClockProPlay.{Play, asked, entered, placed, is_full_refusal}
 
 abbrev pub play_of : {S : Type 0} → ClockState → HashSet Key S → Play
 play_of clock used = record { clock = clock; used = λ q. contains is_page used q }
-
-pub same_play : (a b : ClockState) (f g : Key → Bool) → a ≡ b → ((q : Key) → f q ≡ g q) → (let s : Play = record { clock = a; used = f } in s) ≡ record { clock = b; used = g }
-same_play a b f g e h = λ i. record { clock = e i; used = λ q. h q i }
 
 pub placed_more : (n i : ℕ) (p : Key) (s t : Play) → i < n → is_full_refusal (admitted p s.clock).1 ≡ true → t ≡ asked (question_of s.clock) s → placed (n - (i + 1)) p t ≡ placed (n - i) p s
 placed_more n i p s t h full is =
@@ -25,27 +22,6 @@ placed_more n i p s t h full is =
     ap (placed (n - (i + 1)) p) is
     ∙ sym (ap (λ (b : Bool). cond b (placed (n - (i + 1)) p (asked (question_of s.clock) s)) (entered p s)) full)
     ∙ ap (λ (k : ℕ). placed k p s) (sym e)
-
-pub placed_stops : (n i : ℕ) (p : Key) (s : Play) → i < n → is_full_refusal (admitted p s.clock).1 ≡ false → entered p s ≡ placed (n - i) p s
-placed_stops n i p s h room =
-    let e : n - i ≡ suc (n - (i + 1)) = omega (arith, h) in
-    sym (ap (λ (b : Bool). cond b (placed (n - (i + 1)) p (asked (question_of s.clock) s)) (entered p s)) room)
-    ∙ ap (λ (k : ℕ). placed k p s) (sym e)
-
-pub placed_ends : (n i : ℕ) (p : Key) (s : Play) → n ≤ i → entered p s ≡ placed (n - i) p s
-placed_ends n i p s h = let e : n - i ≡ 0 = omega (arith, h) in ap (λ (k : ℕ). placed k p s) (sym e)
-
-pub pro_hit : (n : ℕ) (p : Key) (s t : Play) → in_play p s ≡ true → t ≡ marked_used p s → (string : List Key) →
-    misses in_play (clock_pro n) s (p ∷ string) ≡ 0 + misses in_play (clock_pro n) t string
-pro_hit n p s t there is string =
-    ap (λ (b : Bool). cond b 0 1 + misses in_play (clock_pro n) (marked_used p (cond b s (placed n p s))) string) there
-    ∙ ap (λ (l : Play). 0 + misses in_play (clock_pro n) l string) (sym is)
-
-pub pro_miss : (n : ℕ) (p : Key) (s t : Play) → in_play p s ≡ false → t ≡ marked_used p (placed n p s) → (string : List Key) →
-    misses in_play (clock_pro n) s (p ∷ string) ≡ 1 + misses in_play (clock_pro n) t string
-pro_miss n p s t gone is string =
-    ap (λ (b : Bool). cond b 0 1 + misses in_play (clock_pro n) (marked_used p (cond b s (placed n p s))) string) gone
-    ∙ ap (λ (l : Play). 1 + misses in_play (clock_pro n) l string) (sym is)
 
 -- a list that refuses a page stays as it is
 pub refused_stays : (p : Key) (s : ClockState) (e : Refusal) → (admitted p s).1 ≡ Err e → s ≡ (admitted p s).0

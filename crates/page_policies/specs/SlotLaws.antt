@@ -10,8 +10,8 @@ use Rattle.page_ring.specs.Linked.{Cell, is_at}
 use Rattle.page_ring.specs.LinkLaws.{at_self}
 use Rattle.page_ring.specs.Chain.{of_kind}
 use Rattle.page_ring.specs.Index.{at_of}
-use Rattle.page_policies.specs.Strings.{is_page, misses}
-use Rattle.page_policies.specs.SecondChance.{Slot, in_slots, touched, front_used, turned, one_gone, room_made, second_chance}
+use Rattle.page_policies.specs.Strings.{is_page}
+use Rattle.page_policies.specs.SecondChance.{Slot, in_slots, touched, front_used, turned, one_gone, room_made}
 
 abbrev pub slot_of : Cell → Slot
 slot_of c = record { page = c.entry.key; used = is_hot c.entry.kind }
@@ -93,10 +93,6 @@ pub front_at : (cs : List Cell) (at : ℕ) → 1 ≤ length cs → ((c : Cell) �
 front_at [] at some h = absurd (omega (arith, some))
 front_at (c ∷ cs) at some h = record { cell = c; rest = cs; parts = refl; is = h c cs refl; held = ap (is_at (c ∷ cs)) (h c cs refl) ∙ rw (at_self c.at) refl }
 
-pub used_some : (s : List Slot) → front_used s ≡ true → 1 ≤ length s
-used_some [] h = cc
-used_some (x ∷ xs) h = omega arith
-
 pub length-turned : (s : List Slot) → length (turned s) ≡ length s
 length-turned [] = refl
 length-turned (x ∷ xs) = longer xs (record { page = x.page; used = false })
@@ -156,20 +152,6 @@ out_nowhere p cs h = nothing (at_of p cs) (sym (in_slots_at p cs) ∙ h)
     nothing None h = refl
     nothing (Some n) h = cc
 
--- What a reference does to the slots.
-
-pub clock_hit : (m : ℕ) (p : Key) (s t : List Slot) → in_slots p s ≡ true → t ≡ touched p s → (string : List Key) →
-    misses in_slots (second_chance m) s (p ∷ string) ≡ 0 + misses in_slots (second_chance m) t string
-clock_hit m p s t there is string =
-    ap (λ (b : Bool). cond b 0 1 + misses in_slots (second_chance m) (cond b (touched p s) (room_made m s ++ record { page = p; used = true } ∷ [])) string) there
-    ∙ ap (λ (l : List Slot). 0 + misses in_slots (second_chance m) l string) (sym is)
-
-pub clock_miss : (m : ℕ) (p : Key) (s t : List Slot) → in_slots p s ≡ false → t ≡ room_made m s ++ record { page = p; used = true } ∷ [] → (string : List Key) →
-    misses in_slots (second_chance m) s (p ∷ string) ≡ 1 + misses in_slots (second_chance m) t string
-clock_miss m p s t gone is string =
-    ap (λ (b : Bool). cond b 0 1 + misses in_slots (second_chance m) (cond b (touched p s) (room_made m s ++ record { page = p; used = true } ∷ [])) string) gone
-    ∙ ap (λ (l : List Slot). 1 + misses in_slots (second_chance m) l string) (sym is)
-
 -- The hand's turns, one by one.
 
 pub turn_more : (n i : ℕ) (s t : List Slot) → i < n → front_used s ≡ true → t ≡ turned s → one_gone (n - (i + 1)) t ≡ one_gone (n - i) s
@@ -178,15 +160,6 @@ turn_more n i s t h used is =
     ap (one_gone (n - (i + 1))) is
     ∙ sym (ap (λ (b : Bool). cond b (one_gone (n - (i + 1)) (turned s)) (drop 1 s)) used)
     ∙ ap (λ (k : ℕ). one_gone k s) (sym e)
-
-pub turn_stops : (n i : ℕ) (s : List Slot) → i < n → front_used s ≡ false → drop 1 s ≡ one_gone (n - i) s
-turn_stops n i s h unused =
-    let e : n - i ≡ suc (n - (i + 1)) = omega (arith, h) in
-    sym (ap (λ (b : Bool). cond b (one_gone (n - (i + 1)) (turned s)) (drop 1 s)) unused)
-    ∙ ap (λ (k : ℕ). one_gone k s) (sym e)
-
-pub turn_ends : (n i : ℕ) (s : List Slot) → n ≤ i → drop 1 s ≡ one_gone (n - i) s
-turn_ends n i s h = let e : n - i ≡ 0 = omega (arith, h) in ap (λ (k : ℕ). one_gone k s) (sym e)
 
 pub room_full : (m n : ℕ) (cs : List Cell) (t : List Slot) → n ≡ length cs → m ≤ n → t ≡ one_gone n (slots_of cs) → t ≡ room_made m (slots_of cs)
 room_full m n cs t len full is =

@@ -59,12 +59,6 @@ finds_cond false true a b w h = refl
 finds_cond true true a b w h = inr refl
 finds_cond lacks false a b w h = h
 
--- a node that is told is the page's
-pub told_node : (lacks : Bool) (b : Option ℕ) (n : ℕ) → Finds lacks (Some n) b → Some n ≡ b
-told_node false b n h = h
-told_node true b n (inl h) = cc
-told_node true b n (inr h) = h
-
 -- of a page that is nowhere nothing is told
 pub told_none : (lacks : Bool) (a : Option ℕ) → Finds lacks a None → a ≡ None
 told_none false a h = h

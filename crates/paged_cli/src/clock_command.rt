@@ -18,7 +18,8 @@ pub fn run_clock<'a, R: Folder + AllocGlobal, W: Write>(
     let text = read_text(rt, request.script)?;
     match ClockRing::new(rt.alloc(), request.frames as usize) {
         Ok(mut list) => {
-            let mut entries = Vec::new(rt.alloc());
+            let most_entries = 2 * request.frames as usize; // so that no later call wants memory
+            let mut entries = Vec::with_capacity(rt.alloc(), most_entries)?;
             play(&mut list, &mut entries, text.as_str().as_bytes(), out)
         }
         Err(_) => Err(Fault::NoMemory),

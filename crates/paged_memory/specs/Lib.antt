@@ -12,6 +12,5 @@ pub mod HartMemoryLaws
 pub mod Filling
 pub mod Peeking
 pub mod GivingBack
-pub mod HartCountingLaws
 pub mod Coherence
 pub mod PageStatus

@@ -12,7 +12,11 @@ mod flat;
 #[cfg(test)]
 mod runs;
 #[cfg(test)]
+mod schedule;
+#[cfg(test)]
 mod source;
+#[cfg(test)]
+mod swap;
 #[cfg(test)]
 mod threads;
 #[cfg(test)]

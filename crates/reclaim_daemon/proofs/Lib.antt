@@ -3,3 +3,7 @@ pub mod Statuses
 pub mod Heeded
 pub mod Brought
 pub mod Counted
+pub mod Entries
+pub mod Apart
+pub mod Audited
+pub mod Everywhere

@@ -1,11 +1,14 @@
 //! Whether the list and the pages agree, and no frame is lost.
 
-ghost use Rattle.std.specs.Prelude.{◌≡◌, ◌≤◌, ◌^◌, ◌&&◌, true, cond};
+ghost use Rattle.std.specs.Prelude.{◌≡◌, ◌<◌, ◌≤◌, ◌*◌, ◌^◌, ◌&&◌, true, cond, IfSome, IsNone};
 ghost use Rattle.clock_policy.specs.Residents.{residents, in_frame};
 ghost use Rattle.machine_sides.specs.Admitting.{is_resident_stage};
 ghost use Rattle.machine_sides.specs.Together.{residents_in, frames_in};
-ghost use Rattle.reclaim_daemon.specs.Audit.{has_frame_stage, is_resident_of};
+ghost use Rattle.reclaim_daemon.specs.Audit.{has_frame_stage, is_resident_of, CountsMore, FindsSound, HoldsAll, IsListed};
+ghost use Rattle.reclaim_daemon.specs.SharedValue.{most_processes};
 
+use crate::desk::Desk;
+use crate::held::Held;
 use crate::shared::Shared;
 use clock_policy::{Clock, EntryKind, Key};
 use machine_sides::{PagerSide, ProcessSide};
@@ -25,33 +28,80 @@ pub struct HeldPages {
 }
 
 impl<L: Ledger, S: SwapSlot, C: Clock> Shared<L, S, C> {
-    /// Whether the list's resident entries are exactly the resident pages, the frames that are free or in pages are as many as the
-    /// machine was made with, and only what events of the machine give has happened.
+    /// Whether the list's resident entries are exactly the resident pages of the processes, each of which is the one of its number; the
+    /// frames that are free or in pages are as many as the machine was made with; and only what events of the machine give has happened.
+    /// See [`crate::Parts::audit`].
     ///
-    /// It tells of the machine at one moment only while no other thread works in it.
-    pub fn audit<R: Wait>(&self, rt: &R) -> bool {
-        let desk = self.desk.lock(rt);
-        let pager = desk.pager();
-        let listed = resident_entries(pager);
-        let mut of_pages: usize = 0;
-        let mut held = HeldPages {
+    /// It looks at one process after another, and so tells of the machine at one moment only while no other thread works in it.
+    #[tactic(auto, using(crate::proofs::Audited::found_none, crate::proofs::Audited::found_more, crate::proofs::Audited::found_sound))]
+    pub fn audit<R: Wait>(&self, rt: &R) -> bool
+        ensures { result ≡ true → FindsSound S self.now.processes }
+    {
+        let guard = self.desk.lock(rt);
+        let desk = &*guard;
+        let mut found = HeldPages {
             resident: 0,
             framed: 0,
         };
-        for lock in &self.processes {
-            let process = lock.lock(rt);
-            let more = held_pages(process.side());
-            of_pages = of_pages.saturating_add(entries_of_resident_pages(pager, process.side()));
-            held.resident = held.resident.saturating_add(more.resident);
-            held.framed = held.framed.saturating_add(more.framed);
+        'processes: for number in 0..self.processes.len() {
+            let held = self.processes[number].lock(rt);
+            match count_more(desk, number as u32, &*held, found) {
+                Some(more) => found = more,
+                None => return false,
+            }
         }
-        let all = held.framed.saturating_add(pager.counts().pager.free);
-        desk.is_sound()
-            && !self.is_misplaced()
-            && of_pages == listed
-            && held.resident == listed
-            && all == pager.size() as usize
+        if self.is_misplaced() {
+            return false;
+        }
+        is_all(desk, found)
     }
+}
+
+/// Counts the pages of one process more. There is `None` where it is not the one of its number, or where the list has not as many of its
+/// resident pages as resident ones as there are.
+pub(crate) fn count_more<L: Ledger, S: SwapSlot, C: Clock>(
+    desk: &Desk<L, C>,
+    number: u32,
+    held: &Held<L, S>,
+    found: HeldPages,
+) -> Option<HeldPages>
+    requires small { number < most_processes }
+    requires resident { found.resident ≤ number * 2 ^ 20 }
+    requires framed { found.framed ≤ number * 2 ^ 20 }
+    ensures some { IfSome result (CountsMore desk.now number held.now found) }
+    ensures none { IsNone result → IsListed desk.now number held.now → ⊥ }
+{
+    if held.process() != number {
+        return None;
+    }
+    let pages = held_pages(held.side());
+    if entries_of_resident_pages(desk.pager(), held.side()) != pages.resident {
+        return None;
+    }
+    Some(HeldPages {
+        resident: found.resident + pages.resident,
+        framed: found.framed + pages.framed,
+    })
+}
+
+/// Whether so many pages are all that the pager knows of, and it has known nothing but what events give.
+pub(crate) fn is_all<L: Ledger, C: Clock>(desk: &Desk<L, C>, found: HeldPages) -> bool
+    ensures all { result ≡ true → HoldsAll desk.now found }
+    ensures exact { HoldsAll desk.now found → result ≡ true }
+{
+    if !desk.is_sound() {
+        return false;
+    }
+    let pager = desk.pager();
+    if resident_entries(pager) != found.resident {
+        return false;
+    }
+    let size = pager.size() as usize;
+    let free = pager.counts().pager.free;
+    if free > size {
+        return false;
+    }
+    found.framed == size - free
 }
 
 /// How many entries of the list are resident.
@@ -108,6 +158,8 @@ fn is_of_resident_page<L: Ledger, S: SwapSlot>(
 pub fn held_pages<L: Ledger, S: SwapSlot>(side: &ProcessSide<L, S>) -> HeldPages
     ensures resident { result.resident ≡ residents_in side.now.space (λ _. true) }
     ensures framed { result.framed ≡ frames_in side.now.space (λ _. true) }
+    ensures few_resident { result.resident ≤ 2 ^ 20 }
+    ensures few_framed { result.framed ≤ 2 ^ 20 }
 {
     let mut held = HeldPages {
         resident: 0,

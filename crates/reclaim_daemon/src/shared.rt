@@ -1,10 +1,11 @@
 //! The locks of a machine.
 
-ghost use Rattle.std.specs.Prelude.{◌≡◌, ◌+◌, ◌*◌, ◌≤◌, ◌↔◌, OnOk, OnErr, IsErrOf};
+ghost use Rattle.std.specs.Prelude.{◌≡◌, ◌+◌, ◌*◌, ◌≤◌, ◌↔◌, [], true, vec_len, vec_capacity, OnOk, OnErr, IsErrOf};
 ghost use Rattle.reclaim_daemon.specs.SharedValue.{most_processes, tries_per_frame};
 
 use crate::desk::Desk;
 use crate::held::Held;
+use crate::parts::Parts;
 use clock_policy::Clock;
 use elf_image::Image;
 use flat_machine::MOST_HARTS;
@@ -34,6 +35,8 @@ pub struct Shared<L: Ledger, S: SwapSlot, C: Clock> {
     pub(crate) desk: Mutex<Desk<L, C>>,
     pub(crate) processes: Vec<Mutex<Held<L, S>>>,
     pub(crate) slots: Mutex<SlotPool<S>>,
+    /// Of how many slots the machine was made.
+    slot_count: usize,
     /// Of each process, how many of its harts may run.
     harts: Vec<AtomicU64>,
     most_tries: u64,
@@ -57,17 +60,9 @@ impl<L: Ledger, S: SwapSlot, C: Clock> Model for Shared<L, S, C> {
 
     ghost Value = { SharedValue };
 
-    ghost view = { λ s. record { processes = vec_len s.processes; most_tries = s.most_tries } };
+    ghost view = { λ s. record { processes = vec_len s.processes; slots = s.slot_count; most_tries = s.most_tries } };
 
     ghost invariant = { λ s. vec_len s.processes ≤ most_processes };
-}
-
-/// What a machine under locks is made of, once no other thread has it.
-#[derive(Drop)]
-pub struct Parts<L: Ledger, S: SwapSlot, C: Clock> {
-    pub desk: Desk<L, C>,
-    pub processes: Vec<Mutex<Held<L, S>>>,
-    pub slots: SlotPool<S>,
 }
 
 /// Why a process was not added, in the order in which the reasons are tested.
@@ -83,13 +78,16 @@ impl<L: Ledger, S: SwapSlot, C: Clock> Shared<L, S, C> {
     /// A machine of this pager's frames and these slots, with no process.
     pub fn new(alloc: Global, desk: Desk<L, C>, slots: Vec<S>) -> Self
         ensures processes { result.processes ≡ 0 }
+        ensures slots { result.slots ≡ vec_len slots }
         ensures tries { result.most_tries ≡ tries_per_frame * desk.pager.pager.size }
     {
+        let pool = SlotPool::new(slots);
         Shared {
             most_tries: TRIES_PER_FRAME * u64::from(desk.pager().size()),
             desk: Mutex::new(desk),
             processes: Vec::new(alloc),
-            slots: Mutex::new(SlotPool::new(slots)),
+            slot_count: pool.size(),
+            slots: Mutex::new(pool),
             harts: Vec::new(alloc),
             ended: AtomicU64::new(0),
             unpurged: AtomicU64::new(0),
@@ -138,12 +136,27 @@ impl<L: Ledger, S: SwapSlot, C: Clock> Shared<L, S, C> {
         self.most_tries
     }
 
-    /// What stood under the locks. A process that was not the one of its lock's number makes the machine unsound.
-    pub fn into_parts(self) -> Parts<L, S, C> {
+    /// Of how many slots the machine was made.
+    pub fn slots(&self) -> usize
+        ensures { result ≡ self.now.slots }
+    {
+        self.slot_count
+    }
+
+    /// What stood under the locks, the processes in a list whose room is there. A process that was not the one of its lock's number makes
+    /// the machine unsound, and so does a pool of other slots than the machine was made of.
+    pub fn into_parts(self, room: Vec<Held<L, S>>) -> Parts<L, S, C>
+        requires empty { room.items ≡ [] }
+        requires room { self.processes ≤ vec_capacity room }
+        ensures many { vec_len result.processes ≡ self.processes }
+        ensures few { vec_len result.processes ≤ most_processes }
+        ensures slots { result.desk.sound ≡ true → result.slots.size ≡ self.slots }
+    {
         let Shared {
             desk,
             processes,
             slots,
+            slot_count,
             harts: _,
             most_tries: _,
             ended: _,
@@ -157,12 +170,29 @@ impl<L: Ledger, S: SwapSlot, C: Clock> Shared<L, S, C> {
         if misplaced.into_inner() != 0 {
             desk.mark_unsound();
         }
+        let slots = slots.into_inner();
+        if slots.size() != slot_count {
+            desk.mark_unsound();
+        }
         Parts {
             desk,
-            processes,
-            slots: slots.into_inner(),
+            processes: unlock_all(processes, room),
+            slots,
         }
     }
+}
+
+/// What stood under these locks, in a list whose room is there.
+fn unlock_all<T: Drop>(locks: Vec<Mutex<T>>, room: Vec<T>) -> Vec<T>
+    requires empty { room.items ≡ [] }
+    requires room { vec_len locks ≤ vec_capacity room }
+    ensures { vec_len result ≡ vec_len locks }
+{
+    let mut all = room;
+    for lock in locks {
+        all.push_reserved(lock.into_inner());
+    }
+    all
 }
 
 impl<L: Ledger, S: SwapSlot, C: Clock> Shared<L, S, C> {

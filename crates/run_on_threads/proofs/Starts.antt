@@ -4,6 +4,7 @@ use Rattle.std.specs.Prelude.{IfSome}
 use Rattle.std.proofs.lemmas.List.{length-map}
 use Rattle.std.proofs.lemmas.Option.{slice_get-map, none-some}
 use Rattle.elf_image.specs.Image.{ImageContent}
+use Rattle.hart_carriers.specs.Ending.{EndsSound, IsCrewOf}
 use Rattle.hart_carriers.specs.declared.report.Report.{Report}
 use Rattle.machine_sides.specs.Starting.{Start, start_of}
 use Rattle.run_report.specs.FlatLines.{counts_of, HasLine, StandsForRuns}
@@ -20,13 +21,19 @@ lines_of_starts handed lines stands number start found =
     from_entry (λ given. start_of given.0 given.1.items) (slice_get handed number) start (λ s. HasLine s number lines)
     (sym (slice_get-map (λ given. start_of given.0 given.1.items) handed number) ∙ found) (λ given at. stands number given at)
 
-pub came_to : {S Z : Type 0} (honest : Type 0) (frames : ℕ) (slots : List S) (handed : List (ImageContent × Vec ℕ Z)) (workers slice : ℕ) (report : Report)
+pub came_to : {S Y Z : Type 0} (honest : Type 0) (frames : ℕ) (slots : Vec S Y) (handed : List (ImageContent × Vec ℕ Z)) (workers slice : ℕ) (report : Report)
     → (honest → report.audit ≡ true → StandsForRuns handed report.lines.items) → All (λ (line : Line). line.last ≡ counts_of line) report.lines.items
-    → (report.audit ≡ true → vec_len report.lines ≡ length handed) → report.frames ≡ frames → CameTo honest frames slots (starts_of handed) workers slice report
+    → (report.audit ≡ true → vec_len report.lines ≡ length handed) → report.frames ≡ frames → (report.audit ≡ true → report.slots ≡ vec_len slots) → IsCrewOf workers slice report.crew
+    → (report.audit ≡ true → EndsSound S (length handed) report) → CameTo honest frames slots.items (starts_of handed) workers slice report
 unfolding CameTo
-came_to honest frames slots handed workers slice report stands last many frames_are = record {
-  stands = λ h audit. lines_of_starts handed report.lines.items (stands h audit);
-  last = last;
-  many = λ audit. many audit ∙ sym (length-map handed (λ given. start_of given.0 given.1.items));
-  frames_are = frames_are;
-}
+came_to {S} honest frames slots handed workers slice report stands last many frames_are slots_are crew_is sound =
+    let as_many = length-map handed (λ given. start_of given.0 given.1.items) in
+    record {
+      stands = λ h audit. lines_of_starts handed report.lines.items (stands h audit);
+      last = last;
+      many = λ audit. many audit ∙ sym as_many;
+      frames_are = frames_are;
+      slots_are = λ audit. slots_are audit ∙ slots.ok.0;
+      crew_is = crew_is;
+      sound = λ audit. subst (λ n. EndsSound S n report) (sym as_many) (sound audit);
+    }

@@ -4,6 +4,7 @@ use Rattle.std.specs.Io.KnownBytes.{Appends}
 use Rattle.command_line.specs.declared.request.RunRequest.{RunRequest}
 use Rattle.elf_image.specs.Image.{ImageContent}
 use Rattle.file_slots.specs.FileSlotValue.{FileSlotValue}
+use Rattle.hart_carriers.specs.Ending.{EndsSound, IsCrewOf}
 use Rattle.hart_carriers.specs.declared.report.Report.{Report}
 use Rattle.image_files.specs.Reading.{AreGiven}
 use Rattle.image_files.specs.SlotFiles.{AreNewFiles}
@@ -24,13 +25,17 @@ starts_of handed = map (λ start. start_of start.0 start.1.items) handed
 abbrev pub HaveLines : List Start → List Line → Type 0
 HaveLines starts lines = (number : ℕ) (start : Start) → slice_get starts number ≡ Some start → HasLine start number lines
 
--- What is reported of a machine of so many frames that ran these processes by threads. Where its slots are honest and its audit found
--- nothing amiss, each line is that of a flat run.
-pub record IsReportOf (honest : Type 0) (frames : ℕ) (starts : List Start) (report : Report) : Type 0 where
+-- What is reported of a machine of so many frames and slots that ran these processes by so many worker threads, in slices of so many
+-- instructions. Where its audit found nothing amiss its pool was of these slots in the end, and list and pages agreed; where its slots are
+-- honest besides, each line is that of a flat run.
+pub record IsReportOf (S : Type 0) (honest : Type 0) (frames slots : ℕ) (starts : List Start) (workers slice : ℕ) (report : Report) : Type 0 where
   pub stands : honest → report.audit ≡ true → HaveLines starts report.lines.items
   pub last : All (λ (line : Line). line.last ≡ counts_of line) report.lines.items
   pub many : report.audit ≡ true → vec_len report.lines ≡ length starts
   pub frames_are : report.frames ≡ frames
+  pub slots_are : report.audit ≡ true → report.slots ≡ slots
+  pub crew_is : IsCrewOf workers slice report.crew
+  pub sound : report.audit ≡ true → EndsSound S (length starts) report
 
 -- the same, as it is told of a machine that ran on one thread
 abbrev pub process_report : Line → ProcessReport
@@ -47,10 +52,10 @@ pub record IsToldAs (report : Report) (told : machine.Report) : Type 0 where
   pub questions : told.questions ≡ report.questions
   pub audit : told.audit ≡ report.audit
 
--- What a machine of so many frames, on these slots, honest or not, may come to where so many workers carry the harts of these processes
--- by slices of so many instructions: what its report owes, whatever slots, workers and slices are.
+-- What a machine of so many frames, on these slots, honest or not, comes to where so many workers carry the harts of these processes by
+-- slices of so many instructions: what its report owes.
 unfoldable pub CameTo : {S : Type 0} → Type 0 → ℕ → List S → List Start → ℕ → ℕ → Report → Type 0
-CameTo honest frames slots starts workers slice report = IsReportOf honest frames starts report
+CameTo {S} honest frames slots starts workers slice report = IsReportOf S honest frames (length slots) starts workers slice report
 
 -- the same on new slots in files, which are not honest
 pub record RunsFiles (F : Type 0) (frames slots : ℕ) (starts : List Start) (workers slice : ℕ) (report : Report) : Type 0 where

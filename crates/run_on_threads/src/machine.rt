@@ -14,7 +14,6 @@ use swap_slots::SwapSlot;
 
 /// Runs copies of these images on copies of these inputs by so many workers, until each process has ended, on a machine that has its
 /// list on a ring.
-#[tactic(auto, using(crate::proofs::Starts::came_to))]
 pub(crate) fn run_machine<S: SwapSlot + Send, G: Gate + Sync, R: Threads + Wait + Sync>(
     rt: &R,
     alloc: Global,

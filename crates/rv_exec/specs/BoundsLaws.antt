@@ -10,9 +10,6 @@ use Rattle.rv_exec.specs.Bounds.{Pass, Bounds}
 use Rattle.rv_exec.specs.LineLaws.{all_front, all_none}
 use Rattle.rv_exec.specs.Uses.{page_of_access, decoded_pages, decoded_stores, fetched_pages, fetched_stores, pages_used, pages_stored}
 
-pub bounds_itself : (marked : (ℕ → Bool) → (ℕ → Bool) → Type 0) (used stored : List ℕ) → Bounds marked marked used stored
-bounds_itself marked used stored = record { bound = λ u s passes stores was. was }
-
 -- ---- an instruction: its fetch, and then what the word does
 
 first_passes : (test : ℕ → Bool) (page : ℕ) (rest : List ℕ) → Pass test (page ∷ rest) → Pass test (page ∷ [])

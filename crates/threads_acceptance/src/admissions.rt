@@ -148,7 +148,8 @@ fn lists_no_damaged_page<L: Ledger, R: Wait + Abort>(
     assert_eq!(rt; fault, PageInFault::Damaged);
     shared.undo(rt, admission);
     assert!(rt; shared.audit(rt));
-    let parts = shared.into_parts();
+    let room = Vec::with_capacity(alloc, shared.processes() as usize)?;
+    let parts = shared.into_parts(room);
     for place in 0..8 {
         if let Some((key, _)) = parts.desk.pager().entry(place) {
             assert!(rt; key != DATA);

@@ -3,4 +3,4 @@ use Rattle.std.proofs.Common.{◌≡◌, vec_len}
 use Rattle.hart_carriers.proofs.machine.begin_all.Given as goal
 
 abbrev pub invariant-loop-image : goal.invariant-loop-image
-invariant-loop-image g l = record { added : l.shared.processes ≡ l.image-index; seen : vec_len l.viewers ≡ l.image-index }
+invariant-loop-image g l = record { added : l.shared.processes ≡ l.image-index; slots : l.shared.slots ≡ l.fn.shared.slots; seen : vec_len l.viewers ≡ l.image-index }

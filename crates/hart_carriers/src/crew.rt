@@ -1,0 +1,33 @@
+//! Who carries the harts of a machine.
+
+ghost use Rattle.std.specs.Prelude.{◌≡◌};
+
+use std::thread::Promise;
+
+/// By what a worker carries harts: it is one of so many, which the harts fall to in turn, and gives each slices of so many instructions.
+#[derive(Clone, Copy, Debug, PartialEq, Eq)]
+pub struct Shift {
+    pub worker: u32,
+    pub workers: u32,
+    pub slice: u32,
+}
+
+/// That a worker's thread carries by this shift.
+#[derive(Clone, Copy)]
+pub(crate) struct Carries(pub(crate) Shift);
+
+impl Promise<Shift> for Carries {
+    ghost kept_by = { λ promise shift. shift ≡ promise.0 };
+}
+
+/// The threads that were started to carry the harts of a machine.
+#[derive(Clone, Copy, Debug, PartialEq, Eq)]
+pub struct Crew {
+    /// How many workers were started.
+    pub workers: u32,
+    /// Of how many instructions, at most, a slice is that they give.
+    pub slice: u32,
+    /// Whether the daemon and each worker that was wanted could be started. Where one could not, each process that went on was killed for
+    /// want of memory.
+    pub is_whole: bool,
+}

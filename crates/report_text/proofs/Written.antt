@@ -1,20 +1,20 @@
 -- What is written of processes one after another.
-use Rattle.std.proofs.Common.{◌≡◌, ◌∙◌, ◌++◌, ◌∷◌, ◌+◌, ℕ, List, [], Option, ap, append_assoc, append-nil, refl, sym, subst}
+use Rattle.std.proofs.Common.{◌≡◌, ◌∙◌, ◌++◌, ◌∷◌, ◌+◌, ℕ, zero, suc, List, [], Option, Some, map, drop, option_map, slice_get, ap, add-one, append_assoc, append-nil, refl, sym, subst}
 use Rattle.std.specs.Io.KnownBytes.{Appends}
 use Rattle.std.proofs.KnownBytes.{Appends-nil, Appends-trans}
-use Rattle.machine_core.specs.declared.report.ProcessReport.{ProcessReport}
+use Rattle.serial_driver.specs.Reporting.{Told}
 use Rattle.report_text.specs.ReportText.{line_text, processes_text}
 
 -- what was written of the processes so far, with the rest, is what is to be told of them all
-pub record Tells (first new : Option (List ℕ)) (all : List ProcessReport) (number : ℕ) (rest : List ProcessReport) : Type 0 where
+pub record Tells (first new : Option (List ℕ)) (all : List Told) (number : ℕ) (rest : List Told) : Type 0 where
   pub written : List ℕ
   pub appended : Appends first new written
   pub whole : written ++ processes_text number rest ≡ processes_text 0 all
 
-pub tells_none : (out : Option (List ℕ)) (all : List ProcessReport) → Tells out out all 0 all
+pub tells_none : (out : Option (List ℕ)) (all : List Told) → Tells out out all 0 all
 tells_none out all = record { written = []; appended = Appends-nil out; whole = refl }
 
-pub tells_more : (first old new : Option (List ℕ)) (all : List ProcessReport) (number : ℕ) (rest : List ProcessReport) (process : ProcessReport) (others : List ProcessReport)
+pub tells_more : (first old new : Option (List ℕ)) (all : List Told) (number : ℕ) (rest : List Told) (process : Told) (others : List Told)
     → Tells first old all number rest → rest ≡ process ∷ others → Appends old new (line_text number process) → Tells first new all (number + 1) others
 unfolding processes_text
 tells_more first old new all number rest process others tells is line = record {
@@ -24,8 +24,17 @@ tells_more first old new all number rest process others tells is line = record {
       ∙ ap (λ l. tells.written ++ processes_text number l) (sym is) ∙ tells.whole;
 }
 
-pub tells_all : (first new : Option (List ℕ)) (all : List ProcessReport) (number : ℕ) (rest : List ProcessReport) → Tells first new all number rest → rest ≡ []
+pub tells_all : (first new : Option (List ℕ)) (all : List Told) (number : ℕ) (rest : List Told) → Tells first new all number rest → rest ≡ []
     → Appends first new (processes_text 0 all)
 unfolding processes_text
 tells_all first new all number rest tells none =
     subst (Appends first new) (sym (append-nil tells.written) ∙ ap (λ l. tells.written ++ processes_text number l) (sym none) ∙ tells.whole) tells.appended
+
+-- the first of those that are left, under a function
+pub first_left : {A B : Type 0} (f : A → B) (xs : List A) (i : ℕ) (y : B) → Some y ≡ option_map f (slice_get xs i) → map f (drop i xs) ≡ y ∷ map f (drop (i + 1) xs)
+first_left {A} {B} f xs i y h = rw add-one (from xs i h)
+  where
+    from : (xs : List A) (i : ℕ) → Some y ≡ option_map f (slice_get xs i) → map f (drop i xs) ≡ y ∷ map f (drop (suc i) xs)
+    from [] i h = cc
+    from (z ∷ zs) zero h = let e : f z ≡ y = cc in ap (λ b. b ∷ map f zs) e
+    from (z ∷ zs) (suc i) h = from zs i h

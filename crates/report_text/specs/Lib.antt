@@ -1,2 +1,3 @@
 pub mod ExitStatus
+pub mod MachineText
 pub mod ReportText

@@ -4,9 +4,9 @@ use Rattle.std.specs.Fmt.{decimal, digits}
 use Rattle.flat_machine.specs.Ending.{kill_text}
 use Rattle.flat_machine.specs.declared.end.End.{End}
 use Rattle.flat_machine.specs.declared.end.End.TheVariants.{Exited, Trapped, Killed}
-use Rattle.machine_core.specs.declared.report.ProcessReport.{ProcessReport}
 use Rattle.machine_core.specs.declared.report.Report.{Report}
 use Rattle.rv_exec.specs.Causes.{cause_number}
+use Rattle.serial_driver.specs.Reporting.{Told, MachineTold, told_by}
 use Rattle.report_text.specs.ExitStatus.{ending_of}
 
 -- the end of a line
@@ -39,29 +39,33 @@ end_text number end steps = codes "process " ++ decimal number ++ codes " " ++ e
 abbrev pub process_text : ℕ → List ℕ → End → ℕ → List ℕ
 process_text number output end steps = output_text number output ++ end_text number end steps
 
-abbrev pub line_text : ℕ → ProcessReport → List ℕ
-line_text number process = process_text number process.output.items (ending_of process.end) process.steps
+abbrev pub line_text : ℕ → Told → List ℕ
+line_text number process = process_text number process.output (ending_of process.end) process.steps
 
 -- the same of processes, by rising number, from one on
-unfoldable pub processes_text : ℕ → List ProcessReport → List ℕ
+unfoldable pub processes_text : ℕ → List Told → List ℕ
 processes_text number [] = []
 processes_text number (process ∷ processes) = line_text number process ++ processes_text (number + 1) processes
 
 -- what was counted: frames, pages that came in and that were to go, and of those how many were saved and how many let go unchanged;
 -- and questions that the list was asked
-unfoldable pub places_text : Report → List ℕ
-places_text report = codes "frames " ++ decimal report.frames ++ codes " page-ins " ++ decimal report.page_ins ++ codes " victims " ++ decimal report.victims
+unfoldable pub places_text : (frames page_ins victims : ℕ) → List ℕ
+places_text frames page_ins victims = codes "frames " ++ decimal frames ++ codes " page-ins " ++ decimal page_ins ++ codes " victims " ++ decimal victims
 
-unfoldable pub savings_text : Report → List ℕ
-savings_text report = codes " saves " ++ decimal report.saves ++ codes " drops " ++ decimal report.drops ++ codes " questions " ++ decimal report.questions ++ line_end
+unfoldable pub savings_text : (saves drops questions : ℕ) → List ℕ
+savings_text saves drops questions = codes " saves " ++ decimal saves ++ codes " drops " ++ decimal drops ++ codes " questions " ++ decimal questions ++ line_end
 
-abbrev pub counts_text : Report → List ℕ
-counts_text report = places_text report ++ savings_text report
+abbrev pub counts_text : MachineTold → List ℕ
+counts_text machine = places_text machine.frames machine.page_ins machine.victims ++ savings_text machine.saves machine.drops machine.questions
 
 -- whether an audit found nothing amiss
 abbrev pub audit_text : Bool → List ℕ
 audit_text is_sound = codes "audit " ++ (if is_sound then codes "ok" else codes "fault") ++ line_end
 
 -- all that is told of a machine: its processes, what was counted, and the audit
+abbrev pub machine_text : MachineTold → List ℕ
+machine_text machine = processes_text 0 machine.processes ++ (counts_text machine ++ audit_text machine.audit)
+
+-- the same by its report
 abbrev pub report_text : Report → List ℕ
-report_text report = processes_text 0 report.processes.items ++ (counts_text report ++ audit_text report.audit)
+report_text report = machine_text (told_by report)

@@ -30,7 +30,7 @@ pub fn status_of_all(processes: &[ProcessReport]) -> u8
     status
 }
 
-fn worse(status: u8, other: u8) -> u8
+pub(crate) fn worse(status: u8, other: u8) -> u8
     ensures { result ≡ max status other }
 {
     if other > status { other } else { status }

@@ -1,7 +1,8 @@
-//! What is told of a machine that has run.
+//! What is told of a machine that has run, by its report.
 
-ghost use Rattle.std.specs.Prelude.{◌≡◌, OnOk};
+ghost use Rattle.std.specs.Prelude.{OnOk, map};
 ghost use Rattle.std.specs.Io.KnownBytes.{Appends};
+ghost use Rattle.serial_driver.specs.Reporting.{told, told_by};
 ghost use Rattle.report_text.specs.ReportText.{report_text, processes_text, line_text, counts_text, places_text, savings_text, audit_text};
 
 use crate::exit_status::end_of;
@@ -21,7 +22,7 @@ pub fn write_report<W: Write>(report: &Report, out: &mut W) -> io::Result<()>
 
 /// Writes what each process has come to, by their numbers.
 fn write_processes<W: Write>(processes: &[ProcessReport], out: &mut W) -> io::Result<()>
-    ensures { OnOk result (Appends (W.contents out.old) (W.contents out.new) (processes_text 0 processes.now)) }
+    ensures { OnOk result (Appends (W.contents out.old) (W.contents out.new) (processes_text 0 (map told processes.now))) }
 {
     let mut number = 0;
     let mut rest = processes;
@@ -34,7 +35,7 @@ fn write_processes<W: Write>(processes: &[ProcessReport], out: &mut W) -> io::Re
 }
 
 fn write_line<W: Write>(number: usize, process: &ProcessReport, out: &mut W) -> io::Result<()>
-    ensures { OnOk result (Appends (W.contents out.old) (W.contents out.new) (line_text number process.now)) }
+    ensures { OnOk result (Appends (W.contents out.old) (W.contents out.new) (line_text number (told process.now))) }
 {
     let end = end_of(process.end);
     write_process(number, process.output.as_slice(), end, process.steps, out)
@@ -42,32 +43,40 @@ fn write_line<W: Write>(number: usize, process: &ProcessReport, out: &mut W) -> 
 
 /// Writes the count line.
 fn write_counts<W: Write>(report: &Report, out: &mut W) -> io::Result<()>
-    ensures { OnOk result (Appends (W.contents out.old) (W.contents out.new) (counts_text report.now)) }
+    ensures { OnOk result (Appends (W.contents out.old) (W.contents out.new) (counts_text (told_by report.now))) }
 {
-    write_places(report, out)?;
-    write_savings(report, out)
+    write_places(report.frames, report.page_ins, report.victims, out)?;
+    write_savings(report.saves, report.drops, report.questions, out)
 }
 
 /// Writes its first half: frames, and pages that came and that were to go.
 #[tactic(auto, unfolding(crate::specs::ReportText::places_text))]
-fn write_places<W: Write>(report: &Report, out: &mut W) -> io::Result<()>
-    ensures { OnOk result (Appends (W.contents out.old) (W.contents out.new) (places_text report.now)) }
+pub(crate) fn write_places<W: Write>(
+    frames: u32,
+    page_ins: u64,
+    victims: u64,
+    out: &mut W,
+) -> io::Result<()>
+    ensures { OnOk result (Appends (W.contents out.old) (W.contents out.new) (places_text frames page_ins victims)) }
 {
-    let (frames, page_ins, victims) = (report.frames, report.page_ins, report.victims);
     write!(out, "frames {frames} page-ins {page_ins} victims {victims}")
 }
 
 /// Writes its second half: pages that went, and questions of the list.
 #[tactic(auto, unfolding(crate::specs::ReportText::savings_text))]
-fn write_savings<W: Write>(report: &Report, out: &mut W) -> io::Result<()>
-    ensures { OnOk result (Appends (W.contents out.old) (W.contents out.new) (savings_text report.now)) }
+pub(crate) fn write_savings<W: Write>(
+    saves: u64,
+    drops: u64,
+    questions: u64,
+    out: &mut W,
+) -> io::Result<()>
+    ensures { OnOk result (Appends (W.contents out.old) (W.contents out.new) (savings_text saves drops questions)) }
 {
-    let (saves, drops, questions) = (report.saves, report.drops, report.questions);
     writeln!(out, " saves {saves} drops {drops} questions {questions}")
 }
 
 /// Writes whether an audit found nothing amiss.
-fn write_audit<W: Write>(is_sound: bool, out: &mut W) -> io::Result<()>
+pub(crate) fn write_audit<W: Write>(is_sound: bool, out: &mut W) -> io::Result<()>
     ensures { OnOk result (Appends (W.contents out.old) (W.contents out.new) (audit_text is_sound)) }
 {
     if is_sound {

@@ -1,9 +1,7 @@
 -- Pages are brought in for a hart by one event after another, until its instruction is settled.
-use Rattle.std.proofs.Common.{◌≡◌, ℕ, true, false, Bool, List, [], ◌∷◌, ◌++◌, Option, Some, None, All, slice_get, inl, inr, refl, sym, ap, ◌∙◌, subst, append_assoc}
-use Rattle.std.specs.Prelude.{◌⊎◌}
+use Rattle.std.proofs.Common.{◌≡◌, ℕ, true, false, List, [], ◌∷◌, ◌++◌, inl, inr, refl, ap, ◌∙◌, subst, append_assoc}
 use Rattle.std.proofs.lemmas.List.Elements.{All-append, All-nil, All-cons}
 use Rattle.flat_machine.specs.Schedule.{written_out}
-use Rattle.machine_core.specs.Applying.{Runs}
 use Rattle.machine_core.specs.ApplyingLaws.{runs_none, runs_one, runs_on}
 use Rattle.machine_core.specs.Headline.{adds, has_run, HappensInvisibly, Remains}
 use Rattle.machine_core.specs.Machine.{CoreValue}
@@ -16,7 +14,7 @@ use Rattle.machine_core.specs.declared.event.Reply.{Reply}
 use Rattle.machine_core.specs.declared.event.Reply.TheVariants as reply
 use Rattle.machine_sides.specs.Sides.{ProcessSideValue}
 use Rattle.serial_driver.specs.Owing.{is_full, is_no_memory, is_out_of_memory}
-use Rattle.serial_driver.specs.Serving.{is_paging, BringsIn, EndsService, Goes, Happens, Serves, ServesHart}
+use Rattle.serial_driver.specs.Serving.{is_paging, BringsIn, Serves, ServesHart}
 use Rattle.serial_driver.specs.declared.serving.Served.{Served}
 use Rattle.serial_driver.specs.declared.serving.Served.TheVariants as served
 

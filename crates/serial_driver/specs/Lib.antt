@@ -8,5 +8,6 @@ pub mod Owing
 pub mod Patience
 pub mod Reporting
 pub mod Serving
+pub mod Stands
 pub mod Turning
 pub mod TurnsDuty

@@ -6,14 +6,17 @@
 //! drops its translations, the page is collected, and a changed one is saved.
 #![tactic(auto)]
 
-mod audit;
+mod auditing;
 mod failure;
 mod harts;
 mod patience;
 mod reporting;
 mod serial;
 mod serving;
+mod standing;
 mod turns;
 
-pub use serial::run_serial;
+pub use auditing::audit;
+pub use serial::{play, run_serial};
 pub use serving::{Served, serve_step};
+pub use standing::{Standing, standing_of};

@@ -1,12 +1,11 @@
 //! What a machine has come to.
 
 ghost use Rattle.std.specs.Prelude.{◌≡◌, ◌<◌, [], IfOk, length, map, option_map, slice_get, Some};
-ghost use Rattle.flat_machine.specs.Schedule.{written_out};
 ghost use Rattle.serial_driver.specs.Reporting.{told, come_to, Reports};
 
-use crate::audit::audit;
+use crate::auditing::audit;
+use crate::standing::{Standing, standing_of};
 use clock_policy::Clock;
-use flat_machine::Schedule;
 use machine_core::{Core, ProcessReport, Report};
 use std::alloc::{AllocError, Global};
 use std::sync::ledger::Ledger;
@@ -61,28 +60,7 @@ fn process_report<L: Ledger, S: SwapSlot, C: Clock>(
     requires there { number < length core.now.processes }
     ensures { IfOk result (λ report. Some (told report) ≡ option_map come_to (slice_get core.now.processes number)) }
 {
-    let (Some(output), Some(end), Some(schedule)) = (
-        core.output(number),
-        core.end(number),
-        core.schedule(number),
-    ) else {
-        unreachable!()
-    };
+    let Standing { output, end, steps } = standing_of(core, number);
     let output = Vec::from_slice(alloc, output)?;
-    Ok(ProcessReport {
-        output,
-        end,
-        steps: steps_of(schedule),
-    })
-}
-
-/// How many instructions a schedule has.
-fn steps_of(schedule: &Schedule) -> u64
-    ensures { result ≡ length (written_out schedule.now) }
-{
-    let mut steps = 0;
-    'turns: for turn in schedule.turns() {
-        steps += u64::from(turn.count);
-    }
-    steps
+    Ok(ProcessReport { output, end, steps })
 }

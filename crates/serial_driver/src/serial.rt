@@ -1,18 +1,18 @@
-ghost use Rattle.std.specs.Prelude.{◌≡◌, ◌<◌, ◌≤◌, ◌*◌, ℕ, max, List, false, None, IfNone, IfOk, IfSome};
+ghost use Rattle.std.specs.Prelude.{◌≡◌, ◌<◌, ◌≤◌, ◌*◌, ℕ, map, max, List, false, None, IfNone, IfOk, IfSome};
 ghost use Rattle.machine_core.specs.Applying.{LeadsTo};
 ghost use Rattle.machine_core.specs.declared.event.Event.TheVariants.{Step};
 ghost use Rattle.serial_driver.specs.Closing.{is_limit_kill};
 ghost use Rattle.machine_core.specs.Opening.{MachineBegins};
 ghost use Rattle.machine_sides.specs.Starting.{Start};
 ghost use Rattle.serial_driver.specs.Endings.{HasEnded};
-ghost use Rattle.serial_driver.specs.FlatLines.{StandsForRuns};
+ghost use Rattle.serial_driver.specs.FlatLines.{HaveLines, StandsForRuns};
 ghost use Rattle.serial_driver.specs.Limit.{Closes, DoesSave, EndsByLimit, EndsOne, PlaysUpTo, PlaysWith};
 ghost use Rattle.serial_driver.specs.Nexts.{IsNext, MayCome, most_events};
 ghost use Rattle.serial_driver.specs.Owing.{next_owed, no_duty, Pays};
 ghost use Rattle.serial_driver.specs.Turning.{IsInTurn};
 ghost use Rattle.serial_driver.specs.TurnsDuty.{duty_of, stage_owes, turn_of};
 ghost use Rattle.serial_driver.specs.Patience.{IsPatient, tries_per_frame, try_of};
-ghost use Rattle.serial_driver.specs.Reporting.{Reports};
+ghost use Rattle.serial_driver.specs.Reporting.{come_to, Reports};
 
 use crate::harts::is_running;
 use crate::patience::Patience;
@@ -52,14 +52,18 @@ pub fn run_serial<L: Ledger, S: SwapSlot, C: Clock>(
     let room = Vec::with_capacity(alloc, core.processes())?;
     play(core, slice, limit);
     let told = report(alloc, core, room)?;
-    core.faithful();
     Ok(told)
 }
 
-/// Plays a machine to its end.
-fn play<L: Ledger, S: SwapSlot, C: Clock>(core: &mut Core<L, S, C>, slice: u32, limit: u64)
+/// Plays a machine as [`run_serial`] does, and leaves what it has come to in the machine: where no memory is left for a report,
+/// [`standing_of`](crate::standing_of) and the machine's own readers still tell it. It takes no memory but for the processes that run.
+pub fn play<L: Ledger, S: SwapSlot, C: Clock>(core: &mut Core<L, S, C>, slice: u32, limit: u64)
+    ensures reached { LeadsTo S.content S.honest S.failures core.old core.new }
     ensures limited { EndsByLimit S.content S.honest S.failures (max slice 1) limit core.old core.new }
     ensures ended { (number : ℕ) → HasEnded core.new number }
+
+    // Of a machine that has just begun, each process tells of a flat run of the image and the input that it was given.
+    ensures flat { (frames : ℕ) → (free : List S) → (starts : List Start) → MachineBegins frames free starts core.old → S.honest → HaveLines starts (map come_to core.new.processes) }
 {
     core.faithful();
     let mut turns = Turns::new(slice);
@@ -67,6 +71,7 @@ fn play<L: Ledger, S: SwapSlot, C: Clock>(core: &mut Core<L, S, C>, slice: u32, 
     let unsaved = play_events(core, &mut turns, &mut patience, limit);
     save(core, unsaved);
     end_all(core);
+    core.faithful();
 }
 
 /// Plays a machine until each process has ended, or so many events have happened. Tells the page whose save is out then.

@@ -2,7 +2,7 @@
 use Rattle.std.proofs.Common.{◌&&◌, true, length, ◌≤◌, sym, ◌∙◌, arith}
 use Rattle.clock_policy.specs.Residents.{residents, is_resident_that, in_frame}
 use Rattle.serial_driver.proofs.Counted.{entry_more, count_end, count_whole, one_by, and_true}
-use Rattle.serial_driver.proofs.audit.resident_entries.Goals as goal
+use Rattle.serial_driver.proofs.auditing.resident_entries.Goals as goal
 
 pub returns-in_default : goal.returns-in_default
 unfolding residents

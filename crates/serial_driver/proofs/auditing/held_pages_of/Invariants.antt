@@ -1,7 +1,7 @@
 use Rattle.std.proofs.Common.{◌≡◌, ◌≤◌, Some, slice_get}
 use Rattle.machine_sides.specs.Sides.{ProcessSideValue}
 use Rattle.serial_driver.proofs.Counted.{residents_to, frames_to}
-use Rattle.serial_driver.proofs.audit.held_pages_of.Given as goal
+use Rattle.serial_driver.proofs.auditing.held_pages_of.Given as goal
 
 abbrev pub invariant-pages : goal.invariant-pages
 invariant-pages g l =

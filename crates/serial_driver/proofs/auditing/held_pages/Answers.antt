@@ -4,7 +4,7 @@ use Rattle.machine_core.specs.Machine.{total}
 use Rattle.machine_sides.specs.Sides.{ProcessSideValue}
 use Rattle.machine_sides.specs.Together.{residents_in, frames_in}
 use Rattle.serial_driver.proofs.Counted.{total_more, total_whole}
-use Rattle.serial_driver.proofs.audit.held_pages.Goals as goal
+use Rattle.serial_driver.proofs.auditing.held_pages.Goals as goal
 
 pub processes-init : goal.processes-init
 unfolding total

@@ -22,8 +22,8 @@ struct Held {
 }
 
 /// Whether the list's resident entries are exactly the resident pages, and the frames that are free or in pages are as many
-/// as the machine was made with.
-pub(crate) fn audit<L: Ledger, S: SwapSlot, C: Clock>(core: &Core<L, S, C>) -> bool
+/// as the machine was made with. It takes no memory.
+pub fn audit<L: Ledger, S: SwapSlot, C: Clock>(core: &Core<L, S, C>) -> bool
     ensures { IsTrue result ↔ IsSoundMachine core.now }
 {
     let listed = resident_entries(core);

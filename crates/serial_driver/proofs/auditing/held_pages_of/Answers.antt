@@ -7,7 +7,7 @@ use Rattle.machine_sides.specs.Sides.{ProcessSideValue}
 use Rattle.machine_sides.specs.Together.{residents_in, frames_in}
 use Rattle.serial_driver.specs.Audit.{has_frame_stage}
 use Rattle.serial_driver.proofs.Counted.{residents_to, frames_to, residents_more, frames_more, got_below, one_by}
-use Rattle.serial_driver.proofs.audit.held_pages_of.Goals as goal
+use Rattle.serial_driver.proofs.auditing.held_pages_of.Goals as goal
 
 pub pages-init : goal.pages-init
 unfolding pages_below

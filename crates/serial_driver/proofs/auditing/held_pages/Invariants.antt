@@ -2,7 +2,7 @@ use Rattle.std.proofs.Common.{◌≡◌, ◌≤◌, ◌*◌, ◌^◌, true, take
 use Rattle.machine_core.specs.Machine.{total}
 use Rattle.machine_sides.specs.Sides.{ProcessSideValue}
 use Rattle.machine_sides.specs.Together.{residents_in, frames_in}
-use Rattle.serial_driver.proofs.audit.held_pages.Given as goal
+use Rattle.serial_driver.proofs.auditing.held_pages.Given as goal
 
 abbrev pub invariant-processes : goal.invariant-processes
 invariant-processes g l =

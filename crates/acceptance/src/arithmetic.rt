@@ -38,7 +38,7 @@ fn divisions_and_high_products(rt: HostRuntime) -> Result<(), Fail> {
         let mut regs = Regs::new(0x1_0000);
         regs.set_x(1, a);
         regs.set_x(2, b);
-        assert!(rt; matches!(execute(&mut regs, &mut memory), Outcome::Done));
+        assert!(rt; matches!(execute(0, &mut regs, &mut memory), Outcome::Done));
         assert_eq!(rt; regs.x(3), expected, "{word:#010x} of {a:#x} and {b:#x}");
     }
     Ok(())

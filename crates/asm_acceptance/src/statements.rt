@@ -47,6 +47,14 @@ fn addresses_have_their_places(rt: HostRuntime) {
         ("jalr ra, 4(t0)", 0x0042_80E7),
         ("amoadd.w.aqrl t0, t1, (t2)", 0x0663_A2AF),
         ("amominu.w.rl t0, t1, (t2)", 0xC263_A2AF),
+        ("lr.w t0, (a0)", 0x1005_22AF),
+        ("lr.w.aq t0, (a0)", 0x1405_22AF),
+        ("lr.w.rl t0, (a0)", 0x1205_22AF),
+        ("lr.w.aqrl t0, (a0)", 0x1605_22AF),
+        ("sc.w t1, t2, (a0)", 0x1875_232F),
+        ("sc.w.aq t1, t2, (a0)", 0x1C75_232F),
+        ("sc.w.rl t1, t2, (a0)", 0x1A75_232F),
+        ("sc.w.aqrl t1, t2, (a0)", 0x1E75_232F),
     ] {
         assert!(rt; is_words(rt.alloc(), source, &[word]), "{source}");
     }
@@ -68,8 +76,10 @@ fn escapes_are_replaced(rt: HostRuntime) -> Result<(), Fail> {
 #[test]
 fn faults_in_their_order(rt: HostRuntime) {
     for (source, fault) in [
-        ("lr.w", (1, 2)),
-        ("sc.w.aq", (1, 2)),
+        ("lr.d", (1, 2)),
+        ("sc.w.rlaq", (1, 2)),
+        ("lr.w t0, t1, (a0)", (1, 3)),
+        ("sc.w t1, (a0)", (1, 3)),
         ("amoadd", (1, 2)),
         ("amoadd.w.rlaq", (1, 2)),
         (".data\nnop", (2, 3)),

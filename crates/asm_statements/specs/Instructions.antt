@@ -9,6 +9,8 @@ use Rattle.rv_isa.specs.declared.kinds.LoadKind.{LoadKind}
 use Rattle.rv_isa.specs.declared.kinds.StoreKind.{StoreKind}
 use Rattle.rv_isa.specs.declared.kinds.BranchKind.{BranchKind}
 use Rattle.rv_isa.specs.declared.kinds.AmoKind.{AmoKind}
+use Rattle.rv_isa.specs.declared.kinds.ReservationKind.{ReservationKind}
+use Rattle.rv_isa.specs.declared.kinds.ReservationKind.TheVariants.{Lr, Sc}
 use Rattle.rv_isa.specs.declared.kinds.ImmediateKind.TheVariants.{Addi}
 use Rattle.rv_isa.specs.declared.instruction.Insn.{Insn}
 use Rattle.rv_isa.specs.declared.instruction.Insn.TheVariants as insn
@@ -18,9 +20,9 @@ use Rattle.asm_statements.specs.declared.part.Code.TheVariants as code
 use Rattle.asm_lines.specs.declared.fault.FaultKind.{FaultKind}
 use Rattle.asm_lines.specs.declared.fault.FaultKind.TheVariants.{Operand as BadOperand}
 use Rattle.asm_statements.specs.declared.mnemonic.Mnemonic.{Mnemonic}
-use Rattle.asm_statements.specs.declared.mnemonic.Mnemonic.TheVariants.{Op, OpImmediate, Shift, Load, Store, Branch, Lui, Auipc, Jal, Jalr, Fence, Ecall, Ebreak, Amo, Nop, LoadAddress, Move, Jump, Call, JumpRegister, Return, BranchZero}
+use Rattle.asm_statements.specs.declared.mnemonic.Mnemonic.TheVariants.{Op, OpImmediate, Shift, Load, Store, Branch, Lui, Auipc, Jal, Jalr, Fence, Ecall, Ebreak, Amo, Reservation, Nop, LoadAddress, Move, Jump, Call, JumpRegister, Return, BranchZero}
 use Rattle.asm_statements.specs.Ranges.{within, up_to, bits_within}
-use Rattle.asm_statements.specs.Shapes.{one_register, two_registers, three_registers, two_registers_number, register_number, number_two_registers, register_indexed, two_registers_indirect, one_label, register_label, two_registers_label}
+use Rattle.asm_statements.specs.Shapes.{one_register, two_registers, three_registers, two_registers_number, register_number, number_two_registers, register_indexed, register_indirect, two_registers_indirect, one_label, register_label, two_registers_label}
 use Rattle.rv_isa.specs.Split.{low_part, high_part}
 
 -- what comes of the operands, where they have their shape
@@ -86,6 +88,13 @@ unfoldable pub amo : AmoKind → Bool → Bool → List Operand → Result Insn 
 amo kind acquire release operands =
     given (two_registers_indirect operands) (λ r. Ok (insn.Amo kind acquire release r.0 r.2 r.1))
 
+-- `lr.w rd, (rs1)`, or `sc.w rd, rs2, (rs1)`
+unfoldable pub reservation : ReservationKind → Bool → Bool → List Operand → Result Insn FaultKind
+reservation Lr acquire release operands =
+    given (register_indirect operands) (λ r. Ok (insn.LoadReserved acquire release r.0 r.1))
+reservation Sc acquire release operands =
+    given (two_registers_indirect operands) (λ r. Ok (insn.StoreConditional acquire release r.0 r.2 r.1))
+
 -- an instruction with no operands
 unfoldable pub alone : Insn → List Operand → Result Insn FaultKind
 alone whole [] = Ok whole
@@ -138,6 +147,7 @@ code_of Fence operands = map_ok code.Fixed (fence operands)
 code_of Ecall operands = map_ok code.Fixed (alone insn.Ecall operands)
 code_of Ebreak operands = map_ok code.Fixed (alone insn.Ebreak operands)
 code_of (Amo kind acquire release) operands = map_ok code.Fixed (amo kind acquire release operands)
+code_of (Reservation kind acquire release) operands = map_ok code.Fixed (reservation kind acquire release operands)
 code_of Nop operands = map_ok code.Fixed (alone (insn.OpImmediate Addi 0 0 (pos 0)) operands)
 code_of LoadAddress operands = load_address operands
 code_of Move operands = map_ok code.Fixed (copied operands)

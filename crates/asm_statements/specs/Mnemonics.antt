@@ -1,6 +1,5 @@
 -- The names of the statements.
 -- Source: unprivileged manual, "RV32/64G Instruction Set Listings"; assembly programmer's manual, "Pseudoinstructions".
--- LR.W and SC.W are not among them.
 use Rattle.std.specs.Prelude.{ℕ, Bool, true, false, List, [], ◌∷◌, ◌==◌, Option, option_map, codes}
 use Rattle.std.specs.Option.{option_or, option_zip}
 use Rattle.std.specs.List.{before_first, after_first}
@@ -13,8 +12,10 @@ use Rattle.rv_isa.specs.declared.kinds.StoreKind.TheVariants.{Sb, Sh, Sw}
 use Rattle.rv_isa.specs.declared.kinds.BranchKind.TheVariants.{Beq, Bne, Blt, Bge, Bltu, Bgeu}
 use Rattle.rv_isa.specs.declared.kinds.AmoKind.{AmoKind}
 use Rattle.rv_isa.specs.declared.kinds.AmoKind.TheVariants.{Amoadd, Amoswap, Amoxor, Amoor, Amoand, Amomin, Amomax, Amominu, Amomaxu}
+use Rattle.rv_isa.specs.declared.kinds.ReservationKind.{ReservationKind}
+use Rattle.rv_isa.specs.declared.kinds.ReservationKind.TheVariants.{Lr, Sc}
 use Rattle.asm_statements.specs.declared.mnemonic.Mnemonic.{Mnemonic}
-use Rattle.asm_statements.specs.declared.mnemonic.Mnemonic.TheVariants.{Op, OpImmediate, Shift, Load, Store, Branch, Lui, Auipc, Jal, Jalr, Fence, Ecall, Ebreak, Amo, Nop, LoadAddress, Move, Jump, Call, JumpRegister, Return, BranchZero}
+use Rattle.asm_statements.specs.declared.mnemonic.Mnemonic.TheVariants.{Op, OpImmediate, Shift, Load, Store, Branch, Lui, Auipc, Jal, Jalr, Fence, Ecall, Ebreak, Amo, Reservation, Nop, LoadAddress, Move, Jump, Call, JumpRegister, Return, BranchZero}
 
 -- instructions with one name, then pseudo-instructions
 abbrev pub mnemonics : List (List ℕ × Mnemonic)
@@ -47,6 +48,10 @@ amo_names =
     ∷ (codes "amomaxu", Amomaxu)
     ∷ []
 
+-- the instructions on a reservation, up to the point in their names
+abbrev pub reservation_names : List (List ℕ × ReservationKind)
+reservation_names = (codes "lr", Lr) ∷ (codes "sc", Sc) ∷ []
+
 -- what follows the point: whether it acquires, and whether it releases
 abbrev pub orderings : List (List ℕ × (Bool × Bool))
 orderings =
@@ -62,6 +67,12 @@ amo_mnemonic name =
     option_map (λ found. Amo found.0 found.1.0 found.1.1)
     (option_zip (named amo_names (before_first is_point name)) (named orderings (after_first is_point name)))
 
+-- `lr.w` or `sc.w`
+unfoldable pub reservation_mnemonic : List ℕ → Option Mnemonic
+reservation_mnemonic name =
+    option_map (λ found. Reservation found.0 found.1.0 found.1.1)
+    (option_zip (named reservation_names (before_first is_point name)) (named orderings (after_first is_point name)))
+
 -- an instruction or a pseudo-instruction
 unfoldable pub mnemonic_of : List ℕ → Option Mnemonic
-mnemonic_of name = option_or (named mnemonics name) (amo_mnemonic name)
+mnemonic_of name = option_or (option_or (named mnemonics name) (amo_mnemonic name)) (reservation_mnemonic name)

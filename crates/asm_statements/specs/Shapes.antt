@@ -75,6 +75,11 @@ unfoldable pub register_indexed : List Operand → Option (ℕ × (ℤ × ℕ))
 register_indexed (a ∷ b ∷ []) = option_zip (register_operand a) (indexed b)
 register_indexed _ = None
 
+-- `rd, (rs1)`
+unfoldable pub register_indirect : List Operand → Option (ℕ × ℕ)
+register_indirect (a ∷ b ∷ []) = option_zip (register_operand a) (indirect b)
+register_indirect _ = None
+
 -- `rd, rs2, (rs1)`
 unfoldable pub two_registers_indirect : List Operand → Option (ℕ × ℕ × ℕ)
 two_registers_indirect (a ∷ b ∷ c ∷ []) = zip_three (register_operand a) (register_operand b) (indirect c)

@@ -4,7 +4,7 @@ ghost use Rattle.asm_statements.specs.declared.part.Code.TheVariants.{Fixed};
 
 use crate::instructions::{
     alone, amo, auipc, copy_register, fence, jalr, jump_register, jump_to, load, lui, no_operation,
-    op, op_immediate, shift, store,
+    op, op_immediate, reservation, shift, store,
 };
 use crate::labelled::{branch, branch_zero, jal, jump, load_address};
 use crate::mnemonic::Mnemonic;
@@ -39,6 +39,11 @@ pub(crate) fn read_code<'a>(
             acquire,
             release,
         } => fixed(amo(kind, acquire, release, operands)),
+        Mnemonic::Reservation {
+            kind,
+            acquire,
+            release,
+        } => fixed(reservation(kind, acquire, release, operands)),
         Mnemonic::Nop => fixed(alone(no_operation(), operands)),
         Mnemonic::LoadAddress => load_address(operands),
         Mnemonic::Move => fixed(copy_register(operands)),

@@ -6,12 +6,13 @@ ghost use Rattle.asm_statements.specs.Instructions as form;
 
 use crate::ranges::{fence_bits, immediate, shift_amount, upper_immediate};
 use crate::shapes::{
-    number_two_registers, one_register, register_indexed, register_number, three_registers,
-    two_registers, two_registers_indirect, two_registers_number,
+    number_two_registers, one_register, register_indexed, register_indirect, register_number,
+    three_registers, two_registers, two_registers_indirect, two_registers_number,
 };
 use asm_lines::{FaultKind, Operand};
 use rv_isa::{
-    AmoKind, FenceBits, Immediate, ImmediateKind, Insn, LoadKind, OpKind, Reg, ShiftKind, StoreKind,
+    AmoKind, FenceBits, Immediate, ImmediateKind, Insn, LoadKind, OpKind, Reg, ReservationKind,
+    ShiftKind, StoreKind,
 };
 
 /// `add rd, rs1, rs2`.
@@ -150,6 +151,39 @@ pub(crate) fn amo(
         rs1,
         rs2,
     })
+}
+
+/// `lr.w rd, (rs1)`, or `sc.w rd, rs2, (rs1)`.
+#[tactic(auto, unfolding(crate::specs::Instructions::reservation))]
+pub(crate) fn reservation(
+    kind: ReservationKind,
+    acquire: bool,
+    release: bool,
+    operands: &[Operand],
+) -> Result<Insn, FaultKind>
+    ensures { result ≡ form.reservation kind acquire release operands.now }
+{
+    match kind {
+        ReservationKind::Lr => {
+            let (rd, rs1) = register_indirect(operands).ok_or(FaultKind::Operand)?;
+            Ok(Insn::LoadReserved {
+                acquire,
+                release,
+                rd,
+                rs1,
+            })
+        }
+        ReservationKind::Sc => {
+            let (rd, rs2, rs1) = two_registers_indirect(operands).ok_or(FaultKind::Operand)?;
+            Ok(Insn::StoreConditional {
+                acquire,
+                release,
+                rd,
+                rs1,
+                rs2,
+            })
+        }
+    }
 }
 
 /// An instruction with no operands.

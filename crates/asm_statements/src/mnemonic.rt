@@ -1,10 +1,12 @@
 ghost use Rattle.std.specs.Prelude.{◌≡◌, ◌<◌, length, IfSome};
 ghost use Rattle.std.specs.List.{position, before_first, after_first};
 ghost use Rattle.asm_statements.specs.Names.{named};
-ghost use Rattle.asm_statements.specs.Mnemonics.{mnemonics, amo_names, orderings, is_point, amo_mnemonic, mnemonic_of};
+ghost use Rattle.asm_statements.specs.Mnemonics.{mnemonics, amo_names, orderings, is_point, reservation_names, amo_mnemonic, reservation_mnemonic, mnemonic_of};
 
 use crate::names::look_up;
-use rv_isa::{AmoKind, BranchKind, ImmediateKind, LoadKind, OpKind, ShiftKind, StoreKind};
+use rv_isa::{
+    AmoKind, BranchKind, ImmediateKind, LoadKind, OpKind, ReservationKind, ShiftKind, StoreKind,
+};
 
 /// What a statement of the text is, by its name: instructions by their shapes, then pseudo-instructions.
 #[derive(Clone, Copy, Debug, PartialEq, Eq)]
@@ -38,6 +40,12 @@ pub enum Mnemonic {
     /// `amoadd.w rd, rs2, (rs1)`, and with `.aq`, `.rl` or `.aqrl` after the name.
     Amo {
         kind: AmoKind,
+        acquire: bool,
+        release: bool,
+    },
+    /// `lr.w rd, (rs1)` or `sc.w rd, rs2, (rs1)`, and with `.aq`, `.rl` or `.aqrl` after the name.
+    Reservation {
+        kind: ReservationKind,
         acquire: bool,
         release: bool,
     },
@@ -133,6 +141,12 @@ const AMO_KINDS: [(&[u8], AmoKind); 9] = [
     (b"amomaxu", AmoKind::Amomaxu),
 ];
 
+/// The instructions on a reservation, up to the point in their names.
+const RESERVATION_KINDS: [(&[u8], ReservationKind); 2] = [
+    (b"lr", ReservationKind::Lr),
+    (b"sc", ReservationKind::Sc),
+];
+
 /// What follows the point: whether it acquires, and whether it releases.
 const ORDERINGS: [(&[u8], (bool, bool)); 4] = [
     (b"w", (false, false)),
@@ -153,6 +167,13 @@ fn amo_kind(stem: &[u8]) -> Option<AmoKind>
     ensures { result ≡ named amo_names stem.now }
 {
     look_up(&AMO_KINDS, stem)
+}
+
+/// What is done with a reservation.
+fn reservation_kind(stem: &[u8]) -> Option<ReservationKind>
+    ensures { result ≡ named reservation_names stem.now }
+{
+    look_up(&RESERVATION_KINDS, stem)
 }
 
 /// Whether it acquires, and whether it releases.
@@ -197,10 +218,27 @@ fn amo(name: &[u8]) -> Option<Mnemonic>
     })
 }
 
+/// `lr.w` or `sc.w`.
+#[tactic(auto, unfolding(crate::specs::Mnemonics::reservation_mnemonic))]
+fn reservation(name: &[u8]) -> Option<Mnemonic>
+    ensures { result ≡ reservation_mnemonic name.now }
+{
+    let (stem, suffix) = at_point(name);
+    let kind = reservation_kind(stem)?;
+    let (acquire, release) = ordering(suffix)?;
+    Some(Mnemonic::Reservation {
+        kind,
+        acquire,
+        release,
+    })
+}
+
 /// The instruction or pseudo-instruction of a name.
 #[tactic(auto, unfolding(crate::specs::Mnemonics::mnemonic_of))]
 pub(crate) fn read_mnemonic(name: &[u8]) -> Option<Mnemonic>
     ensures { result ≡ mnemonic_of name.now }
 {
-    plain(name).or_else(|| amo(name))
+    plain(name)
+        .or_else(|| amo(name))
+        .or_else(|| reservation(name))
 }

@@ -132,6 +132,15 @@ pub(crate) fn register_indexed(operands: &[Operand]) -> Option<(Reg, (i64, Reg))
     Some((register(rd)?, indexed(place)?))
 }
 
+/// `rd, (rs1)`.
+#[tactic(auto, unfolding(crate::specs::Shapes::register_indirect))]
+pub(crate) fn register_indirect(operands: &[Operand]) -> Option<(Reg, Reg)>
+    ensures { result ≡ shape.register_indirect operands.now }
+{
+    let [rd, place] = operands else { return None };
+    Some((register(rd)?, indirect(place)?))
+}
+
 /// `rd, rs2, (rs1)`.
 #[tactic(auto, unfolding(crate::specs::Shapes::two_registers_indirect))]
 pub(crate) fn two_registers_indirect(operands: &[Operand]) -> Option<(Reg, Reg, Reg)>

@@ -18,8 +18,24 @@ const STORES_A_BYTE: &str = "        la   s0, buf
 buf:    .word 0
 ";
 
+/// The first SC.W stores nothing, as nothing is reserved, and the second one stores.
+const STORES_A_RESERVED_WORD: &str = "        la   s0, buf
+        li   t0, 5
+        sc.w t1, t0, (s0)
+        lr.w t1, (s0)
+        sc.w t1, t0, (s0)
+end:    j    end
+
+        .data
+buf:    .word 0
+";
+
 fn debugger(alloc: Global) -> Result<Debugger<FlatProcess>, Fail> {
-    let listing = assemble(alloc, STORES_A_BYTE).map_err(|_| "the source has a fault")?;
+    debugger_of(alloc, STORES_A_BYTE)
+}
+
+fn debugger_of(alloc: Global, source: &str) -> Result<Debugger<FlatProcess>, Fail> {
+    let listing = assemble(alloc, source).map_err(|_| "the source has a fault")?;
     let image = listing.into_image();
     let process = FlatProcess::new(alloc, &image, Vec::new(alloc)).map_err(|_| "no memory")?;
     Ok(Debugger::new(process))
@@ -39,6 +55,17 @@ fn stops_where_it_is_told(rt: HostRuntime) -> Result<(), Fail> {
     assert_eq!(&rt; debugger.go(0), Ok((Why::Limit, 0)));
     assert_eq!(&rt; debugger.go(100), Ok((Why::Ended, 3)));
     assert_eq!(&rt; debugger.step(0), Err(DebugRefusal::Ended));
+    Ok(())
+}
+
+#[test]
+fn watches_what_is_stored_under_a_reservation(rt: HostRuntime) -> Result<(), Fail> {
+    let alloc = rt.alloc();
+    let mut debugger = debugger_of(alloc, STORES_A_RESERVED_WORD)?;
+    assert_eq!(&rt; debugger.add_watch(0x1_1000, 4), Ok(0));
+    assert_eq!(&rt; debugger.go(100), Ok((Why::Watch(0), 6)));
+    let bytes = debugger.mem(alloc, 0x1_1000, 4).map_err(|_| "no bytes")?;
+    assert_eq!(&rt; bytes.as_slice(), [5u8, 0, 0, 0].as_slice());
     Ok(())
 }
 

@@ -2,7 +2,9 @@
 use Rattle.std.proofs.Common.{◌≡◌, ◌≢◌, ℕ, zero, suc, ◌+◌, ◌≤◌, List, [], ◌∷◌, length, replicate, take, slice_index_or, Option, Some, None, IfSome, option_and_then, option_map, slice_index, nat_cmp, subst, sym, ap, ◌∙◌, refl, below_more, arith}
 use Rattle.std.specs.FinMap as map
 use Rattle.std.proofs.lemmas.List.{get_or-replicate}
-use Rattle.page_memory.specs.Memory.{Page, byte_at}
+use Rattle.page_memory.specs.Pages.{Page}
+use Rattle.page_memory.specs.Pages as plain
+use Rattle.page_memory.specs.Memory.{byte_at, unreserved}
 use Rattle.page_memory.specs.Words.{page_number, page_offset}
 use Rattle.debug_core.specs.Points.{bytes_from, point_at, IsPoint, ArePoints}
 use Rattle.debug_core.specs.Seen.{AreSeen, IsSeen}
@@ -37,21 +39,21 @@ advances_by told why points limit count now turn process same advances = subst (
 
 -- ---- before anything was seen
 
-nothing_at : (address : ℕ) → byte_at map.empty address ≡ None
-unfolding byte_at
+nothing_at : (address : ℕ) → byte_at (unreserved map.empty) address ≡ None
+unfolding plain.byte_at
 nothing_at address = ap (option_map (λ (page : Page). slice_index page.bytes (page_offset address))) (map.get-empty nat_cmp (page_number address))
 
-nothing_from : (count size address : ℕ) → count ≤ size → take count (replicate size None) ≡ bytes_from map.empty address count
+nothing_from : (count size address : ℕ) → count ≤ size → take count (replicate size None) ≡ bytes_from (unreserved map.empty) address count
 unfolding bytes_from
 nothing_from zero size address h = refl
 nothing_from (suc count) zero address h = absurd (omega arith)
 nothing_from (suc count) (suc size) address h = λ i. sym (nothing_at address) i ∷ nothing_from count size (address + 1) (omega arith) i
 
-seen_as_nothing : (point : Option Point) → IsPoint point → IsSeen point (replicate 16 None) map.empty
+seen_as_nothing : (point : Option Point) → IsPoint point → IsSeen point (replicate 16 None) (unreserved map.empty)
 seen_as_nothing None is = tt
 seen_as_nothing (Some (Break address)) is = tt
 seen_as_nothing (Some (Watch address length)) is = let few = is.1.0 in nothing_from length 16 address (omega (arith, few))
 
-pub seen_nothing : (points : List (Option Point)) → length points ≤ 32 → ArePoints points → AreSeen points (replicate 32 (replicate 16 None)) map.empty
+pub seen_nothing : (points : List (Option Point)) → length points ≤ 32 → ArePoints points → AreSeen points (replicate 32 (replicate 16 None)) (unreserved map.empty)
 seen_nothing points few are number h =
-    subst (λ window. IsSeen (slice_index_or points number None) window map.empty) (sym (get_or-replicate 32 number (replicate 16 None) [] (omega (arith, few, h)))) (seen_as_nothing (point_at points number) (are number))
+    subst (λ window. IsSeen (slice_index_or points number None) window (unreserved map.empty)) (sym (get_or-replicate 32 number (replicate 16 None) [] (omega (arith, few, h)))) (seen_as_nothing (point_at points number) (are number))

@@ -6,7 +6,7 @@ use Rattle.flat_machine.specs.ByTurns.{turn_after}
 use Rattle.flat_machine.specs.Process.{Process, is_live, may_step, flat_step}
 use Rattle.debug_core.specs.Progresses.{ended_full}
 use Rattle.debug_core.specs.Stops.{Moment}
-use Rattle.page_memory.specs.Memory.{Memory}
+use Rattle.page_memory.specs.Memory.{Memory, unreserved}
 use Rattle.debug_core.specs.Points.{all_there, bytes_from, IsRange}
 use Rattle.debug_core.specs.declared.target.ReadFault.{ReadFault}
 use Rattle.debug_core.specs.declared.target.ReadFault.TheVariants as fault
@@ -33,7 +33,7 @@ pub record AddsPoint (point : Point) (number : ℕ) (old new : List (Option Poin
 
 -- a process before the first step, with the turn of a hart: no memory was before
 abbrev pub first_moment : Process → ℕ → Moment
-first_moment process turn = record { process = process; turn = turn; was = map.empty }
+first_moment process turn = record { process = process; turn = turn; was = unreserved map.empty }
 
 -- one step of a hart: it is the flat step, and the turn goes on; or none was taken
 abbrev pub StepsOnce : Stepped → ℕ → Process → ℕ → Process → ℕ → Type 0

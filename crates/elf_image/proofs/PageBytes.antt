@@ -5,7 +5,7 @@ use Rattle.std.proofs.lemmas.List.{get_or-take, get_or-drop, get_or_append_left,
 use Rattle.std.proofs.lemmas.Bool.Decides.{nat_tests, leb_tells}
 use Rattle.std.proofs.lemmas.List.Elements.{All-head, All-tail}
 use Rattle.std.proofs.lemmas.List.FromFn.{fill_by_all, get_or-map-range_with_len, length-map-range_with_len}
-use Rattle.page_memory.specs.Memory.{overwritten}
+use Rattle.page_memory.specs.Pages.{overwritten}
 use Rattle.elf_image.specs.declared.program_header.ProgramHeader.{ProgramHeader}
 use Rattle.elf_image.specs.ElfFiles.{touches, fills, filled_byte, loaded_byte, bytes_between, page_rights}
 use Rattle.elf_image.specs.Segments.{IsSoundSegment, has_flag, given_rights}

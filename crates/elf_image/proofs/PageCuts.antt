@@ -3,7 +3,7 @@ use Rattle.std.proofs.Common.{◌≡◌, ℕ, ◌+◌, ◌-◌, ◌*◌, ◌<◌
 use Rattle.std.specs.List.{range_with_len}
 use Rattle.std.proofs.lemmas.List.{take_min, drop-replicate}
 use Rattle.std.proofs.lemmas.List.FromFn.{map-range_with_len_more}
-use Rattle.page_memory.specs.Memory.{overwritten}
+use Rattle.page_memory.specs.Pages.{overwritten}
 use Rattle.elf_image.specs.declared.image.ImagePage.{ImagePage}
 use Rattle.elf_image.specs.Image.{padded}
 

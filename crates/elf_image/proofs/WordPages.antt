@@ -6,7 +6,7 @@ use Rattle.std.proofs.lemmas.Grind.{flat_map-append}
 use Rattle.std.proofs.lemmas.List.FromFn.{get_or-map-range_with_len, length-map-range_with_len}
 use Rattle.std.proofs.Math.Seq.{drop-append-add, take-append_seam}
 use Rattle.byteorder.specs.Endian.{little_bytes}
-use Rattle.page_memory.specs.Memory.{overwritten}
+use Rattle.page_memory.specs.Pages.{overwritten}
 use Rattle.page_memory.specs.Rights.{may}
 use Rattle.page_memory.specs.declared.words.Access.TheVariants.{Fetch, Load}
 use Rattle.std.proofs.lemmas.List.Folds.{list_any_at}

@@ -5,7 +5,8 @@ use Rattle.page_memory.specs.declared.fault.MemoryFault.{MemoryFault}
 use Rattle.page_memory.specs.declared.words.Access.TheVariants.{Store}
 use Rattle.page_memory.specs.Words.{page_offset}
 use Rattle.page_memory.specs.MemoryMap.{image_end, most_pages}
-use Rattle.page_memory.specs.Memory.{Memory, usable, copied_out, copied_in, with_zeroed}
+use Rattle.page_memory.specs.Pages.{usable}
+use Rattle.page_memory.specs.Memory.{Memory, copied_out, copied_in, with_zeroed}
 use Rattle.rv_exec.specs.Registers.{Registers, register, with_register, with_pc, next_pc, cleared}
 use Rattle.rv_exec.specs.Line.{computed}
 use Rattle.rv_exec.specs.Uses.{page_of_access}
@@ -88,7 +89,7 @@ read regs env memory address wanted =
 unfoldable pub read_pages : Memory → ℕ → ℕ → List ℕ
 read_pages memory address wanted =
     if wanted == 0 then []
-    else page_of_access address (usable memory Store address)
+    else page_of_access address (usable memory.pages Store address)
 
 -- the bytes went to the output, and their number is the answer
 abbrev pub wrote : Registers → Environment → Memory → ℕ → Result (List ℕ) MemoryFault → Effect

@@ -100,7 +100,7 @@ after_line hart regs env memory (line.Traps cause value) = tt
 -- the marks after a step
 pub marks_after : (hart : ℕ) (regs : Registers) (env : Environment) (memory : Memory) → MarksAfter hart env.live (effect hart regs env memory)
 unfolding effect
-marks_after hart regs env memory = after_line hart regs env memory (line.line regs memory)
+marks_after hart regs env memory = after_line hart regs env memory (line.line hart regs memory)
 
 -- ---- whose turn it can be
 

@@ -16,7 +16,7 @@ effect_of hart regs env memory (line.Traps cause value) = Traps cause value
 
 -- what the next step of a hart, by its number, does
 unfoldable pub effect : ℕ → Registers → Environment → Memory → Effect
-effect hart regs env memory = effect_of hart regs env memory (line.line regs memory)
+effect hart regs env memory = effect_of hart regs env memory (line.line hart regs memory)
 
 abbrev pub served_pages : Registers → Memory → Line → List ℕ
 served_pages regs memory (line.Next regs' memory') = []
@@ -24,8 +24,8 @@ served_pages regs memory line.Call = call_pages regs memory
 served_pages regs memory (line.Traps cause value) = []
 
 -- the pages that the step uses: those of the instruction, then those of its call
-unfoldable pub step_pages : Registers → Memory → List ℕ
-step_pages regs memory = pages_used regs memory ++ served_pages regs memory (line.line regs memory)
+unfoldable pub step_pages : ℕ → Registers → Memory → List ℕ
+step_pages hart regs memory = pages_used regs memory ++ served_pages regs memory (line.line hart regs memory)
 
 abbrev pub served_stores : Registers → Memory → Line → List ℕ
 served_stores regs memory (line.Next regs' memory') = []
@@ -33,5 +33,5 @@ served_stores regs memory line.Call = call_stores regs memory
 served_stores regs memory (line.Traps cause value) = []
 
 -- the pages among them that it stores to
-unfoldable pub step_stores : Registers → Memory → List ℕ
-step_stores regs memory = pages_stored regs memory ++ served_stores regs memory (line.line regs memory)
+unfoldable pub step_stores : ℕ → Registers → Memory → List ℕ
+step_stores hart regs memory = pages_stored regs memory ++ served_stores regs memory (line.line hart regs memory)

@@ -47,16 +47,16 @@ pub fn step<B: Bus>(
     ensures memory_stays { Stays result (B.memory bus.new ≡ B.memory bus.old) }
 
     // Absent only for a page that the step uses and the bus lacks; else the bus had all that it used, and marked them.
-    ensures pages { let used = step_pages regs.old (B.memory bus.old) in
+    ensures pages { let used = step_pages hart regs.old (B.memory bus.old) in
         UsesPages (B.has bus.old) (B.marks bus.new) (B.lacks bus.old) used result }
     ensures bound { let memory = B.memory bus.old in
-        Bounds (B.within bus.old) (B.within bus.new) (step_pages regs.old memory) (step_stores regs.old memory) }
+        Bounds (B.within bus.old) (B.within bus.new) (step_pages hart regs.old memory) (step_stores hart regs.old memory) }
 
     // Only output and new pages take memory.
     ensures no_memory { result ≡ Err ServeStop.NoMemory → TakesMemory env.old (effect hart regs.old env.old (B.memory bus.old)) }
     ensures kept { B.keeps bus.old bus.new }
 {
-    match execute(regs, bus) {
+    match execute(hart, regs, bus) {
         Outcome::Done => Ok(Stepped::Ran),
         Outcome::Ecall => match serve(env, hart, regs, bus) {
             Ok(served) => Ok(step_of(served)),

@@ -1,7 +1,8 @@
 //! Reading the input and writing the output: bytes of one page at once.
 ghost use Rattle.std.specs.Prelude.{◌≡◌, ◌≢◌, ◌+◌, ◌<◌, ◌≤◌, Err, IfOk, OnErr, [], length, take};
 ghost use Rattle.page_memory.specs.Words.{page_offset};
-ghost use Rattle.page_memory.specs.Memory.{usable, copied_out, copied_in};
+ghost use Rattle.page_memory.specs.Pages.{usable};
+ghost use Rattle.page_memory.specs.Memory.{copied_out, copied_in};
 ghost use Rattle.page_memory.specs.declared.words.Access.{Access};
 ghost use Rattle.rv_exec.specs.Registers.{register};
 ghost use Rattle.rv_exec.specs.Bounds.{Bounds};
@@ -80,9 +81,9 @@ fn read_in_page<B: Bus>(
     ensures regs_stay { OnErr result (regs.new ≡ regs.old) }
     ensures env_stays { OnErr result (env.new ≡ env.old) }
     ensures memory_stays { OnErr result (B.memory bus.new ≡ B.memory bus.old) }
-    ensures pages { let used = page_of_access address (usable (B.memory bus.old) Access.Store address) in
+    ensures pages { let used = page_of_access address (usable (B.memory bus.old).pages Access.Store address) in
         UsesPages (B.has bus.old) (B.marks bus.new) (B.lacks bus.old) used result }
-    ensures bound { let used = page_of_access address (usable (B.memory bus.old) Access.Store address) in
+    ensures bound { let used = page_of_access address (usable (B.memory bus.old).pages Access.Store address) in
         Bounds (B.within bus.old) (B.within bus.new) used used }
     ensures no_memory { result ≢ Err ServeStop.NoMemory }
     ensures kept { B.keeps bus.old bus.new }

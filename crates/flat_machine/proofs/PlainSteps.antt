@@ -29,35 +29,35 @@ from_none hart process first registers memory are e =
 -- as many steps as a plain run has
 pub taken_plainly : (n hart : ℕ) (process : Process) (first registers : Registers) (memory : Memory)
     → IsWhole process → may_step hart process ≡ true → turn_after hart process ≡ hart → first ≡ slice_index_or process.harts hart first
-    → plain_run n first process.memory ≡ Some (registers, memory) → Plainly n hart process registers memory
+    → plain_run hart n first process.memory ≡ Some (registers, memory) → Plainly n hart process registers memory
 unfolding plain_run
 taken_plainly zero hart process first registers memory whole may alone are ran = from_none hart process first registers memory are ran
 taken_plainly (suc n) hart process first registers memory whole may alone are ran =
-    elim (plain_run n first process.memory) as (λ o. plain_run n first process.memory ≡ o → option_and_then plain_step o ≡ Some (registers, memory) → Plainly (suc n) hart process registers memory) [
+    elim (plain_run hart n first process.memory) as (λ o. plain_run hart n first process.memory ≡ o → option_and_then (plain_step hart) o ≡ Some (registers, memory) → Plainly (suc n) hart process registers memory) [
       | None ↦ λ _ never. absurd (none-some _ never)
       | Some now ↦ λ before last.
           let sofar = taken_plainly n hart process first now.0 now.1 whole may alone are before in
           record {
             ran = ap (λ k. by_turns k hart process) (next_is n) ∙ next_turn n hart hart hart process (with_hart hart now.0 process.environment now.1 process) (with_hart hart registers process.environment memory process) sofar.ran
-                (one_step hart process now.0 now.1 registers memory whole may (its_line (line now.0 now.1) registers memory last)) alone;
+                (one_step hart process now.0 now.1 registers memory whole may (its_line (line hart now.0 now.1) registers memory last)) alone;
           }
     ] refl ran
 
 -- no step at all leaves the process as it was
 pub none_plainly : (n hart : ℕ) (process : Process) (first registers : Registers) (memory : Memory) → n ≡ 0 → first ≡ slice_index_or process.harts hart first
-    → plain_run n first process.memory ≡ Some (registers, memory) → with_hart hart registers process.environment memory process ≡ process
+    → plain_run hart n first process.memory ≡ Some (registers, memory) → with_hart hart registers process.environment memory process ≡ process
 unfolding plain_run
 none_plainly n hart process first registers memory zero_steps are ran =
-    let same = both_are first registers process.memory memory (ap (λ k. plain_run k first process.memory) (sym zero_steps) ∙ ran) in
+    let same = both_are first registers process.memory memory (ap (λ k. plain_run hart k first process.memory) (sym zero_steps) ∙ ran) in
     let harts : slice_set process.harts hart registers ≡ process.harts = ap (slice_set process.harts hart) (sym same.0 ∙ are) ∙ set-get_or process.harts hart first in
     (λ i. record { harts = harts i; environment = process.environment; memory = sym same.1 i; ending = process.ending })
 
 -- one step is the hart's
 pub one_plainly : (n hart : ℕ) (process : Process) (first registers : Registers) (memory : Memory) → n ≡ 1 → IsWhole process → may_step hart process ≡ true → first ≡ slice_index_or process.harts hart first
-    → plain_run n first process.memory ≡ Some (registers, memory) → flat_step hart process ≡ Some (with_hart hart registers process.environment memory process)
+    → plain_run hart n first process.memory ≡ Some (registers, memory) → flat_step hart process ≡ Some (with_hart hart registers process.environment memory process)
 unfolding plain_run
 one_plainly n hart process first registers memory one whole may are ran =
     let there : hart_registers hart process ≡ Some first = slice_get-get_or process.harts hart first (started hart process whole may) ∙ ap Some (sym are) in
-    let step : plain_step (first, process.memory) ≡ Some (registers, memory) = ap (λ k. plain_run k first process.memory) (sym one) ∙ ran in
+    let step : plain_step hart (first, process.memory) ≡ Some (registers, memory) = ap (λ k. plain_run hart k first process.memory) (sym one) ∙ ran in
     step_is hart process first (Runs registers process.environment memory) may there
-    (effect_next hart first process.environment process.memory registers memory (its_line (line first process.memory) registers memory step))
+    (effect_next hart first process.environment process.memory registers memory (its_line (line hart first process.memory) registers memory step))

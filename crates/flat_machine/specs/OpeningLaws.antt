@@ -5,7 +5,7 @@ use Rattle.std.specs.Ordering.{nat_cmp, eq_by_cmp}
 use Rattle.std.specs.Cmp.{nat_cmp_total}
 use Rattle.std.specs.FinMap.{get, from_entries, find, get-from_entries}
 use Rattle.std.proofs.lemmas.Bool.Decides.{nat_tests, eqb_tells}
-use Rattle.page_memory.specs.Memory.{Page, zero_page}
+use Rattle.page_memory.specs.Pages.{Page, zero_page}
 use Rattle.elf_image.specs.declared.image.ImagePage.{ImagePage}
 use Rattle.elf_image.specs.Image.{ArePages}
 use Rattle.flat_machine.specs.Process.{image_entry, stack_entry, opening_pages}

@@ -7,7 +7,7 @@ use Rattle.std.specs.FinMap.{get, insert, from_entries, find, get-from_entries, 
 use Rattle.std.proofs.lemmas.List.{map-append, take_more, length-take, get_or-take, get_or_default}
 use Rattle.std.proofs.lemmas.List.FromFn.{map-range_with_len_more}
 use Rattle.std.proofs.lemmas.Bool.Decides.{nat_tests}
-use Rattle.page_memory.specs.Memory.{Page}
+use Rattle.page_memory.specs.Pages.{Page}
 use Rattle.elf_image.specs.declared.image.ImagePage.{ImagePage}
 use Rattle.elf_image.specs.Image.{ArePages}
 use Rattle.flat_machine.specs.Process.{image_entry, stack_entry}

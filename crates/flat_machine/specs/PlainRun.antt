@@ -9,11 +9,11 @@ left_by (Next registers memory) = Some (registers, memory)
 left_by Call = None
 left_by (Traps cause value) = None
 
--- the registers and the memory after the next step, if it is one of these
-abbrev pub plain_step : Registers × Memory → Option (Registers × Memory)
-plain_step now = left_by (line now.0 now.1)
+-- the registers of the hart of a number, and the memory, after its next step, if it is one of these
+abbrev pub plain_step : ℕ → Registers × Memory → Option (Registers × Memory)
+plain_step hart now = left_by (line hart now.0 now.1)
 
 -- after so many of them
-unfoldable pub plain_run : ℕ → Registers → Memory → Option (Registers × Memory)
-plain_run zero registers memory = Some (registers, memory)
-plain_run (suc n) registers memory = option_and_then plain_step (plain_run n registers memory)
+unfoldable pub plain_run : ℕ → ℕ → Registers → Memory → Option (Registers × Memory)
+plain_run hart zero registers memory = Some (registers, memory)
+plain_run hart (suc n) registers memory = option_and_then (plain_step hart) (plain_run hart n registers memory)

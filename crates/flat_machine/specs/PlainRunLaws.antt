@@ -12,18 +12,18 @@ use Rattle.flat_machine.specs.PlainRun.{left_by, plain_step, plain_run}
 use Rattle.flat_machine.specs.StepLaws.{started, step_is}
 
 -- no step, and one more
-pub plain_none : (registers : Registers) (memory : Memory) → plain_run 0 registers memory ≡ Some (registers, memory)
+pub plain_none : (hart : ℕ) (registers : Registers) (memory : Memory) → plain_run hart 0 registers memory ≡ Some (registers, memory)
 unfolding plain_run
-plain_none registers memory = refl
+plain_none hart registers memory = refl
 
 pub next_is : (n : ℕ) → suc n ≡ n + 1
 next_is n = omega arith
 
-pub plain_more : (n : ℕ) (first : Registers) (memory : Memory) (registers : Registers) (now : Memory) (registers' : Registers) (now' : Memory)
-    → plain_run n first memory ≡ Some (registers, now) → line registers now ≡ Next registers' now' → plain_run (n + 1) first memory ≡ Some (registers', now')
+pub plain_more : (hart n : ℕ) (first : Registers) (memory : Memory) (registers : Registers) (now : Memory) (registers' : Registers) (now' : Memory)
+    → plain_run hart n first memory ≡ Some (registers, now) → line hart registers now ≡ Next registers' now' → plain_run hart (n + 1) first memory ≡ Some (registers', now')
 unfolding plain_run
-plain_more n first memory registers now registers' now' ran next =
-    ap (λ k. plain_run k first memory) (sym (next_is n)) ∙ ap (option_and_then plain_step) ran ∙ ap left_by next
+plain_more hart n first memory registers now registers' now' ran next =
+    ap (λ k. plain_run hart k first memory) (sym (next_is n)) ∙ ap (option_and_then (plain_step hart)) ran ∙ ap left_by next
 
 pub both_are : (r r' : Registers) (m m' : Memory) → ◌≡◌ {A = Option (Registers × Memory)} (Some (r, m)) (Some (r', m')) → (r ≡ r') × (m ≡ m')
 both_are r r' m m' e = (ap (λ o. (unwrap_or {T = Registers × Memory} o (r, m)).0) e, ap (λ o. (unwrap_or {T = Registers × Memory} o (r, m)).1) e)
@@ -36,7 +36,7 @@ its_line (Traps cause value) registers' memory' e = absurd (none-some _ e)
 
 -- it is a step of the process
 pub one_step : (hart : ℕ) (process : Process) (registers : Registers) (memory : Memory) (registers' : Registers) (memory' : Memory)
-    → IsWhole process → may_step hart process ≡ true → line registers memory ≡ Next registers' memory'
+    → IsWhole process → may_step hart process ≡ true → line hart registers memory ≡ Next registers' memory'
     → flat_step hart (with_hart hart registers process.environment memory process) ≡ Some (with_hart hart registers' process.environment memory' process)
 one_step hart process registers memory registers' memory' whole may next =
     let now : Process = with_hart hart registers process.environment memory process in

@@ -2,7 +2,8 @@
 use Rattle.std.specs.Prelude.{◌≡◌, ℕ, ◌+◌, ◌-◌, ◌*◌, ◌≤◌, ◌&&◌, Bool, true, false, List, length, slice_get, slice_set, slice_index_or, [], ◌∷◌, ◌++◌, map, Option, Some, None, is_none, option_map, option_and_then, if◌then◌else◌}
 use Rattle.std.specs.List.{range_with_len}
 use Rattle.std.specs.FinMap.{from_entries}
-use Rattle.page_memory.specs.Memory.{Page, Memory, zero_page}
+use Rattle.page_memory.specs.Pages.{Page, zero_page}
+use Rattle.page_memory.specs.Memory.{Memory, unreserved}
 use Rattle.page_memory.specs.MemoryMap.{stack_first_page, stack_page_count, first_stack_pointer}
 use Rattle.rv_exec.specs.Registers.{Registers, cleared, with_register}
 use Rattle.elf_image.specs.declared.image.ImagePage.{ImagePage}
@@ -70,7 +71,7 @@ opening image input = record {
     pages = length image.pages + stack_page_count;
     live = true ∷ [];
   };
-  memory = from_entries (opening_pages image.pages);
+  memory = unreserved (from_entries (opening_pages image.pages));
   ending = None;
 }
 

@@ -3,7 +3,7 @@
 ghost use Rattle.std.specs.Prelude.{◌≡◌, ◌≢◌, ℕ, ◌≤◌, ◌<◌, ◌⊎◌, List, Some, None, length, slice_index_or};
 ghost use Rattle.std.specs.Ordering.{nat_cmp};
 ghost use Rattle.std.specs.FinMap.{get, from_entries};
-ghost use Rattle.page_memory.specs.Memory.{zero_page};
+ghost use Rattle.page_memory.specs.Pages.{zero_page};
 ghost use Rattle.elf_image.specs.declared.image.ImagePage.{ImagePage};
 ghost use Rattle.elf_image.specs.Image.{ArePages};
 ghost use Rattle.flat_machine.specs.Process.{Process, opening_pages, flat_run};

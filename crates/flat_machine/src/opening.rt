@@ -1,6 +1,7 @@
 ghost use Rattle.std.specs.Prelude.{◌≡◌, ◌++◌, map, IfOk, OnOk};
 ghost use Rattle.std.specs.List.{range_with_len};
 ghost use Rattle.std.specs.FinMap.{from_entries};
+ghost use Rattle.page_memory.specs.Memory.{unreserved};
 ghost use Rattle.page_memory.specs.MemoryMap.{first_stack_pointer};
 ghost use Rattle.rv_exec.specs.Registers.{cleared, with_register};
 ghost use Rattle.env_calls.specs.Calls.{sp};
@@ -78,7 +79,7 @@ pub fn first_break(pages: &[ImagePage]) -> u32
 /// The memory of an image's pages and the stack.
 fn opening_memory(alloc: Global, pages: &[ImagePage]) -> Result<FlatMemory, AllocError>
     requires { ArePages pages.now }
-    ensures { IfOk result (λ memory. memory ≡ from_entries (opening_pages pages.now)) }
+    ensures { IfOk result (λ memory. memory ≡ unreserved (from_entries (opening_pages pages.now))) }
 {
     let mut memory = image_memory(alloc, pages)?;
     for number in STACK_START..STACK_END {
@@ -91,7 +92,7 @@ fn opening_memory(alloc: Global, pages: &[ImagePage]) -> Result<FlatMemory, Allo
 /// The memory of an image's pages.
 fn image_memory(alloc: Global, pages: &[ImagePage]) -> Result<FlatMemory, AllocError>
     requires { ArePages pages.now }
-    ensures { IfOk result (λ memory. memory ≡ from_entries (map image_entry pages.now)) }
+    ensures { IfOk result (λ memory. memory ≡ unreserved (from_entries (map image_entry pages.now))) }
 {
     let mut memory = FlatMemory::new(alloc)?;
     for listed in pages {

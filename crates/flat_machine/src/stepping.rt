@@ -68,7 +68,7 @@ impl FlatProcess {
         ensures within { result ≤ most }
     {
         let regs = &mut self.harts[hart as usize];
-        run_plainly(regs, &mut self.memory, most)
+        run_plainly(hart, regs, &mut self.memory, most)
     }
 
     /// The same as `step_live`, for a call or a trap: away from the loop, whose steps have no such answers.

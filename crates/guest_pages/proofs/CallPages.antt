@@ -4,7 +4,8 @@ use Rattle.std.proofs.Common.{ap, ◌∙◌}
 use Rattle.page_memory.specs.declared.fault.MemoryFault.{MemoryFault}
 use Rattle.page_memory.specs.declared.words.Access.TheVariants.{Load, Store}
 use Rattle.page_memory.specs.Words.{page_number}
-use Rattle.page_memory.specs.Memory.{Memory, usable, copied_out}
+use Rattle.page_memory.specs.Pages.{usable}
+use Rattle.page_memory.specs.Memory.{Memory, copied_out}
 use Rattle.rv_exec.specs.Uses.{page_of_access}
 use Rattle.guest_pages.proofs.AccessPages.{copied_where}
 
@@ -13,10 +14,10 @@ allowed address (Ok x) = refl
 allowed address (Err fault) = refl
 
 pub read_where : (memory : Memory) (address : ℕ)
-    → page_of_access address (usable memory Store address) ≡ cond (is_ok (usable memory Store address)) (page_number address ∷ []) []
-read_where memory address = allowed address (usable memory Store address)
+    → page_of_access address (usable memory.pages Store address) ≡ cond (is_ok (usable memory.pages Store address)) (page_number address ∷ []) []
+read_where memory address = allowed address (usable memory.pages Store address)
 
 pub write_where : (memory : Memory) (address count : ℕ)
-    → page_of_access address (copied_out memory address count) ≡ cond (is_ok (usable memory Load address)) (page_number address ∷ []) []
+    → page_of_access address (copied_out memory address count) ≡ cond (is_ok (usable memory.pages Load address)) (page_number address ∷ []) []
 write_where memory address count =
     allowed address (copied_out memory address count) ∙ ap (λ b. cond b (page_number address ∷ []) []) (copied_where memory address count)

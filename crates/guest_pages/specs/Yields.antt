@@ -1,5 +1,5 @@
 -- Which steps let other harts have their turn: those that make the call for it.
-use Rattle.std.specs.Prelude.{Bool, true, false, Option, Some}
+use Rattle.std.specs.Prelude.{ℕ, Bool, true, false, Option, Some}
 use Rattle.page_memory.specs.Memory.{Memory}
 use Rattle.rv_exec.specs.Registers.{Registers, register}
 use Rattle.rv_exec.specs.Line as line
@@ -17,6 +17,6 @@ served_yields regs (line.Next regs' memory') = false
 served_yields regs line.Call = is_yield (call_of (register regs a7))
 served_yields regs (line.Traps cause value) = false
 
--- whether the step at these registers and this memory is such a call
-unfoldable pub step_yields : Registers → Memory → Bool
-step_yields regs memory = served_yields regs (line.line regs memory)
+-- whether the step of the hart of a number, at its registers and this memory, is such a call
+unfoldable pub step_yields : ℕ → Registers → Memory → Bool
+step_yields hart regs memory = served_yields regs (line.line hart regs memory)

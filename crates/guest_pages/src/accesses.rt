@@ -1,7 +1,7 @@
 //! Accesses to memory: the page of each, where memory allows it.
 ghost use Rattle.std.specs.Prelude.{◌≡◌, ◌<◌, is_ok};
 ghost use Rattle.page_memory.specs.Words.{bytes_in};
-ghost use Rattle.page_memory.specs.Memory.{usable};
+ghost use Rattle.page_memory.specs.Pages.{usable};
 ghost use Rattle.page_memory.specs.declared.words.Access.{Access};
 ghost use Rattle.rv_exec.specs.Access.{load_width, store_width};
 ghost use Rattle.rv_exec.specs.Uses.{load_pages, store_pages, amo_pages};
@@ -13,7 +13,7 @@ use rv_isa::{AmoKind, LoadKind, StoreKind};
 /// Whether the page of an address may be loaded from.
 #[tactic(auto, using(crate::proofs::AccessPages::copied_where))]
 pub(crate) fn may_load(memory: &FlatMemory, address: u32) -> bool
-    ensures { result ≡ is_ok (usable memory.now Access.Load address) }
+    ensures { result ≡ is_ok (usable memory.now.pages Access.Load address) }
 {
     memory.copy_out(address, &mut []).is_ok()
 }
@@ -21,7 +21,7 @@ pub(crate) fn may_load(memory: &FlatMemory, address: u32) -> bool
 /// Whether the page of an address may be stored to.
 #[tactic(auto, using(crate::proofs::AccessPages::replaced_where))]
 pub(crate) fn may_store(memory: &FlatMemory, address: u32) -> bool
-    ensures { result ≡ is_ok (usable memory.now Access.Store address) }
+    ensures { result ≡ is_ok (usable memory.now.pages Access.Store address) }
 {
     memory.load_to_replace(address - address % 4).is_ok()
 }

@@ -9,7 +9,7 @@ use crate::calls::{is_yield, page_of_call};
 use crate::step_pages::{PageUse, loaded, stored};
 use page_memory::FlatMemory;
 use rv_exec::Regs;
-use rv_isa::{Immediate, Insn, Reg};
+use rv_isa::{Immediate, Insn, LoadKind, Reg, StoreKind};
 
 /// The page that an instruction, or the call that it makes, loads or stores.
 pub(crate) fn page_of_insn(regs: &Regs, memory: &FlatMemory, insn: Insn) -> Option<PageUse>
@@ -43,6 +43,22 @@ pub(crate) fn page_of_insn(regs: &Regs, memory: &FlatMemory, insn: Insn) -> Opti
             rs1,
             rs2,
         } => stored(page_of_amo(memory, kind, regs.read(rs1), regs.read(rs2))),
+        Insn::LoadReserved {
+            acquire: _,
+            release: _,
+            rd: _,
+            rs1,
+        } => loaded(page_of_load(memory, LoadKind::Lw, regs.read(rs1))),
+        Insn::StoreConditional {
+            acquire: _,
+            release: _,
+            rd: _,
+            rs1,
+            rs2,
+        } => {
+            let word = regs.read(rs2);
+            stored(page_of_store(memory, StoreKind::Sw, regs.read(rs1), word))
+        }
         Insn::Ecall => page_of_call(regs, memory),
         _ => None,
     }

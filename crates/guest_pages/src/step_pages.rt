@@ -1,5 +1,5 @@
 //! The pages of one step.
-ghost use Rattle.std.specs.Prelude.{◌≡◌, [], Some, is_some, IfSome};
+ghost use Rattle.std.specs.Prelude.{◌≡◌, ℕ, [], Some, is_some, IfSome};
 ghost use Rattle.page_memory.specs.Memory.{fetched};
 ghost use Rattle.rv_exec.specs.Registers.{Registers};
 ghost use Rattle.env_calls.specs.Step.{step_pages, step_stores};
@@ -35,11 +35,11 @@ pub struct StepPages {
 /// What the next step of a hart uses, or `None` where the hart was never started. The process stays as it is.
 pub fn step_pages_of(process: &mut FlatProcess, hart: u32) -> Option<StepPages>
     ensures pages { IfSome result (λ told. (registers : Registers)
-        → hart_registers hart process.old ≡ Some registers → pages_told told ≡ step_pages registers process.old.memory) }
+        → hart_registers hart process.old ≡ Some registers → pages_told told ≡ step_pages hart registers process.old.memory) }
     ensures stores { IfSome result (λ told. (registers : Registers)
-        → hart_registers hart process.old ≡ Some registers → stores_told told ≡ step_stores registers process.old.memory) }
+        → hart_registers hart process.old ≡ Some registers → stores_told told ≡ step_stores hart registers process.old.memory) }
     ensures yields { IfSome result (λ told. (registers : Registers)
-        → hart_registers hart process.old ≡ Some registers → told.yields ≡ step_yields registers process.old.memory) }
+        → hart_registers hart process.old ≡ Some registers → told.yields ≡ step_yields hart registers process.old.memory) }
     ensures started { is_some result ≡ is_some (hart_registers hart process.old) }
     ensures same { process.new ≡ process.old }
 {
@@ -48,12 +48,12 @@ pub fn step_pages_of(process: &mut FlatProcess, hart: u32) -> Option<StepPages>
     Some(pages_at(&regs, process.memory(), word))
 }
 
-/// The pages of the step at these registers and this memory, of what the fetch answered.
+/// The pages of the step of any hart at these registers and this memory, of what the fetch answered.
 fn pages_at(regs: &Regs, memory: &FlatMemory, word: Result<u32, MemoryFault>) -> StepPages
     requires { word ≡ fetched memory.now regs.now.pc }
-    ensures pages { pages_told result ≡ step_pages regs.now memory.now }
-    ensures stores { stores_told result ≡ step_stores regs.now memory.now }
-    ensures yields { result.yields ≡ step_yields regs.now memory.now }
+    ensures pages { (hart : ℕ) → pages_told result ≡ step_pages hart regs.now memory.now }
+    ensures stores { (hart : ℕ) → stores_told result ≡ step_stores hart regs.now memory.now }
+    ensures yields { (hart : ℕ) → result.yields ≡ step_yields hart regs.now memory.now }
 {
     match word {
         Ok(word) => {

@@ -15,14 +15,14 @@ use Rattle.guest_strings.specs.declared.reference.Reference.{Reference}
 abbrev pub referred : ℕ → List ℕ → ℕ → Reference
 referred number stores page = record { page = record { process = number; vpn = page }; is_written = list_any (λ stored. stored == page) stores }
 
--- what the step at these registers refers to: the page of the instruction, then that of its data
-abbrev pub step_references : ℕ → Memory → Option Registers → List Reference
-step_references number memory None = []
-step_references number memory (Some registers) = map (referred number (step_stores registers memory)) (step_pages registers memory)
+-- what the step of a hart at these registers refers to: the page of the instruction, then that of its data
+abbrev pub step_references : ℕ → ℕ → Memory → Option Registers → List Reference
+step_references number hart memory None = []
+step_references number hart memory (Some registers) = map (referred number (step_stores hart registers memory)) (step_pages hart registers memory)
 
 -- what the next step of a hart refers to
 abbrev pub references_of : ℕ → ℕ → Process → List Reference
-references_of number hart process = step_references number process.memory (hart_registers hart process)
+references_of number hart process = step_references number hart process.memory (hart_registers hart process)
 
 -- the process after that step, or as it is where the hart may not step
 abbrev pub after_step : ℕ → Process → Process

@@ -18,13 +18,13 @@ may_in place (Some process) = may_step (hart_of place) process
 abbrev pub may_run : ℕ → List Process → Bool
 may_run place processes = may_in place (slice_get processes (process_of place))
 
-abbrev pub registers_yield : Memory → Option Registers → Bool
-registers_yield memory None = false
-registers_yield memory (Some registers) = step_yields registers memory
+abbrev pub registers_yield : ℕ → Memory → Option Registers → Bool
+registers_yield hart memory None = false
+registers_yield hart memory (Some registers) = step_yields hart registers memory
 
 -- whether the next step of a hart lets others have their turn
 abbrev pub yields : ℕ → Process → Bool
-yields hart process = registers_yield process.memory (hart_registers hart process)
+yields hart process = registers_yield hart process.memory (hart_registers hart process)
 
 abbrev pub yields_in : ℕ → Option Process → Bool
 yields_in place None = false

@@ -7,10 +7,10 @@ use std::io::Write;
 use std::sync::Wait;
 use std::thread::Threads;
 
-/// The words that each guest is run on, and options for the machine of four frames alone. The harts of `words.elf` wait for
-/// one another, so that its steps are counted alike where they take turns as on flat memory: one instruction each. Threads take no such
-/// turns.
-const GUESTS: [(&str, &str); 14] = [
+/// The words that each guest is run on, and options for the machine of four frames alone. The harts of `words.elf` and `lock.elf`
+/// wait for one another, so that their steps are counted alike where they take turns as on flat memory: one instruction each. Threads
+/// take no such turns.
+const GUESTS: [(&str, &str); 15] = [
     ("hi.words", ""),
     ("p8.s", ""),
     ("p11.s", ""),
@@ -24,6 +24,7 @@ const GUESTS: [(&str, &str); 14] = [
     ("c/queens.elf", ""),
     ("c/mandelbrot.elf", ""),
     ("--input c/address.txt c/words.elf", "--slice 1 "),
+    ("c/lock.elf", "--slice 1 "),
     ("--input c/address.txt c/sorted.elf", ""),
 ];
 

@@ -14,7 +14,7 @@ use Rattle.clock_policy.specs.Lawful.{Lawful}
 use Rattle.clock_policy.specs.Residents.{residents}
 use Rattle.flat_machine.specs.Process.{opening_pages}
 use Rattle.frame_pool.specs.FrameValue.{zero_frame}
-use Rattle.page_memory.specs.Memory.{Page}
+use Rattle.page_memory.specs.Pages.{Page}
 use Rattle.page_memory.specs.Entries.{place_of, value_at, values_of}
 use Rattle.page_store.specs.JobValue.{JobValue}
 use Rattle.page_store.specs.PageValue.{PageValue, Fresh, frame_of, slot_of}

@@ -41,7 +41,7 @@ module _ {S : Type 0} where
     pub process' : ProcessSideValue S
     pub found : slice_get old.processes key.process ≡ Some process
     pub comes_to : CollectsTo key.vpn old new process process' answer
-    pub memory : honest → memory_of held process'.space.memory.pages ≡ memory_of held process.space.memory.pages
+    pub memory : honest → memory_of held process'.space.memory ≡ memory_of held process.space.memory
     pub processes : new.processes ≡ slice_set old.processes key.process process'
 
   -- ---- the steps of the event
@@ -52,7 +52,7 @@ module _ {S : Type 0} where
     pub process' : ProcessSideValue S
     pub found : slice_get old number ≡ Some process
     pub how : Looks vpn pager pager' process process' slots slots' looked
-    pub memory : honest → memory_of held process'.space.memory.pages ≡ memory_of held process.space.memory.pages
+    pub memory : honest → memory_of held process'.space.memory ≡ memory_of held process.space.memory
     pub is : new ≡ slice_set old number process'
 
   -- what comes of a look at a page that is leaving in the machine, where each frame has its place and the list its pages

@@ -89,16 +89,17 @@ module _ {S : Type 0} where
 module _ {S : Type 0} (held : S → List ℕ) where
   -- a process shows the flat process that an image and an input become by instructions of these harts, in this order: its registers;
   -- its output, input left and break; its ending, but that one that the machine killed has none on flat memory; which pages are
-  -- mapped, and with which rights; and the bytes of each page that was not given up
+  -- mapped, and with which rights; the bytes of each page that was not given up; and the words that its harts have reserved
   pub record ShowsFlatRun (image : ImageContent) (input harts : List ℕ) (space : SpaceValue S) : Type 0 where
     pub flat : Process
     pub ran : flat_run harts (opening image input) ≡ Some flat
     pub registers : space.running.harts ≡ flat.harts
     pub environment : space.running.environment ≡ flat.environment
     pub ending : own_ending space.running.ending ≡ flat.ending
-    pub mapped : (number : ℕ) → number < 2 ^ 20 → paged_rights (page_at space.memory.pages number) ≡ rights_of (get flat.memory number)
+    pub mapped : (number : ℕ) → number < 2 ^ 20 → paged_rights (page_at space.memory.pages number) ≡ rights_of (get flat.memory.pages number)
     pub memory : (number : ℕ) (page : PageValue S) → number < 2 ^ 20 → page_at space.memory.pages number ≡ Some page → is_purged (Some page) ≡ false
-        → get flat.memory number ≡ Some (flat_page held page)
+        → get flat.memory.pages number ≡ Some (flat_page held page)
+    pub reserved : space.memory.reserved ≡ flat.memory.reserved
 
   -- the process of a number, in a machine that began with this start of it, shows what the steps of a run leave that ran
   pub record ShowsRun (number : ℕ) (start : Start) (events : List Event) (answers : List Reply) (processes : List (ProcessSideValue S)) : Type 0 where

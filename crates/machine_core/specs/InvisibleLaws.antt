@@ -46,6 +46,7 @@ module _ {S : Type 0} where
       ending = refl;
       mapped = λ number small. sym (stands.mapped number small);
       memory = stands.shown;
+      reserved = sym stands.reserved;
     }
 
     pub event_invisible : (event : Event) (old new : CoreValue S) (answer : Reply) → Applies held honest failures event old new answer → IsInvisible held honest event answer old new

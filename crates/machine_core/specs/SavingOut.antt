@@ -63,7 +63,7 @@ module _ {S : Type 0} where
     pub saved : SavedValue S
     pub makes : MakesSave held honest failures key old.jobs new.jobs saved
     pub ends : EndsSaving saved old.pager new.pager process process' answer
-    pub memory : honest → memory_of held process'.space.memory.pages ≡ memory_of held process.space.memory.pages
+    pub memory : honest → memory_of held process'.space.memory ≡ memory_of held process.space.memory
     pub processes : new.processes ≡ slice_set old.processes key.process process'
     pub stays : new ≡ record old { pager = new.pager; processes = new.processes; jobs = new.jobs }
 
@@ -75,7 +75,7 @@ module _ {S : Type 0} where
     pub process' : ProcessSideValue S
     pub found : slice_get old number ≡ Some process
     pub ends : EndsSave saved pager pager' process process' outcome
-    pub memory : honest → memory_of held process'.space.memory.pages ≡ memory_of held process.space.memory.pages
+    pub memory : honest → memory_of held process'.space.memory ≡ memory_of held process.space.memory
     pub is : new ≡ slice_set old number process'
 
   -- what comes of a save that the machine made itself

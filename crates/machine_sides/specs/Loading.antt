@@ -16,7 +16,7 @@ module _ {S : Type 0} (held : S → List ℕ) (honest : Type 0) where
     pub stays : new ≡ record old { memory = new.memory }
     pub process : new.memory.process ≡ old.memory.process
     pub caches : new.memory.caches ≡ old.memory.caches
-    pub memory : honest → memory_of held new.memory.pages ≡ memory_of held old.memory.pages
+    pub memory : honest → memory_of held new.memory ≡ memory_of held old.memory
 
   -- the page is in the frame of its admission, mapped with its rights, as used and not changed
   pub record Loads (admission : AdmissionValue) (old new : SpaceValue S) : Type 0 where

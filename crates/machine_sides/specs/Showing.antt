@@ -13,10 +13,10 @@ module _ {S : Type 0} (held : S → List ℕ) (honest : Type 0) (failures : S �
   -- schedule leaves; nothing changes but a slot that was read, and where it is refused the room is as it was
   pub record Peeks (address : ℕ) (room bytes : List (Option ℕ)) (result : Result (Unit {0}) PeekFault) (old new : ProcessSideValue S) : Type 0 where
     pub read : OnOk result (ShowsBytes held honest (page_at old.space.memory.pages (page_number address)) (page_offset address) (length room) bytes)
-    pub shown : honest → OnOk result (bytes_of (memory_of held old.space.memory.pages) address (length room) ≡ Some bytes)
+    pub shown : honest → OnOk result (bytes_of (memory_of held old.space.memory) address (length room) ≡ Some bytes)
     pub flat : honest → OnOk result ((flat : Process) → flat_run (written_out old.space.schedule) (opening old.space.image old.space.input) ≡ Some flat → bytes_of flat.memory address (length room) ≡ Some bytes)
     pub unread : OnErr result (bytes ≡ room)
     pub refused : IfErr result (RefusesPeek held honest failures old.space.memory.pages new.space.memory.pages (page_number address))
     pub left : LeavesPage held honest old.space.memory.pages new.space.memory.pages (page_number address) (page_at old.space.memory.pages (page_number address))
-    pub memory : honest → memory_of held new.space.memory.pages ≡ memory_of held old.space.memory.pages
+    pub memory : honest → memory_of held new.space.memory ≡ memory_of held old.space.memory
     pub stays : new ≡ record old { space = record old.space { memory = record old.space.memory { pages = new.space.memory.pages } } }

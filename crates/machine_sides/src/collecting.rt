@@ -45,7 +45,7 @@ pub fn collect<L: Ledger, S: SwapSlot, C: Clock>(
 ) -> Looked<L, S>
     ensures looked { Looks vpn pager.old pager.new process.old process.new slots.old slots.new result }
     ensures agree { AgreeStill None pager.old.pager pager.new.pager process.old.space process.new.space }
-    ensures memory { S.honest → memory_of S.content process.new.space.memory.pages ≡ memory_of S.content process.old.space.memory.pages }
+    ensures memory { S.honest → memory_of S.content process.new.space.memory ≡ memory_of S.content process.old.space.memory }
 {
     look_at_page(pager, process, vpn, slots)
 }
@@ -58,7 +58,7 @@ fn look_at_page<L: Ledger, S: SwapSlot, C: Clock>(
     slots: &mut SlotPool<S>,
 ) -> Looked<L, S>
     ensures looked { Looks vpn pager.old pager.new process.old process.new slots.old slots.new result }
-    ensures memory { S.honest → memory_of S.content process.new.space.memory.pages ≡ memory_of S.content process.old.space.memory.pages }
+    ensures memory { S.honest → memory_of S.content process.new.space.memory ≡ memory_of S.content process.old.space.memory }
 {
     match process.look(vpn, slots) {
         Collected::NotLeaving => Looked::NotLeaving,
@@ -110,7 +110,7 @@ impl<L: Ledger, S: SwapSlot> ProcessSide<L, S> {
     /// Looks whether a page can leave its frame. A slot is taken from the free ones only for a changed page that has none.
     pub(crate) fn look(&mut self, vpn: u32, slots: &mut SlotPool<S>) -> Collected<L, S>
         ensures found { Finds vpn self.old self.new slots.old slots.new result }
-        ensures memory { S.honest → memory_of S.content self.new.space.memory.pages ≡ memory_of S.content self.old.space.memory.pages }
+        ensures memory { S.honest → memory_of S.content self.new.space.memory ≡ memory_of S.content self.old.space.memory }
     {
         if vpn >= 1 << 20 {
             return Collected::NotLeaving;

@@ -51,7 +51,7 @@ pub fn saved<L: Ledger, S: SwapSlot, C: Clock>(
 ) -> SaveOutcome<L, S>
     ensures ends { EndsSave job pager.old pager.new process.old process.new result }
     ensures agree { AgreeStill None pager.old.pager pager.new.pager process.old.space process.new.space }
-    ensures memory { S.honest → memory_of S.content process.new.space.memory.pages ≡ memory_of S.content process.old.space.memory.pages }
+    ensures memory { S.honest → memory_of S.content process.new.space.memory ≡ memory_of S.content process.old.space.memory }
 {
     settle_save(pager, process, job)
 }
@@ -63,7 +63,7 @@ fn settle_save<L: Ledger, S: SwapSlot, C: Clock>(
     job: SavedJob<S>,
 ) -> SaveOutcome<L, S>
     ensures ends { EndsSave job pager.old pager.new process.old process.new result }
-    ensures memory { S.honest → memory_of S.content process.new.space.memory.pages ≡ memory_of S.content process.old.space.memory.pages }
+    ensures memory { S.honest → memory_of S.content process.new.space.memory ≡ memory_of S.content process.old.space.memory }
 {
     let vpn = job.vpn();
     match process.end_save(job) {
@@ -108,7 +108,7 @@ impl<L: Ledger, S: SwapSlot> ProcessSide<L, S> {
     /// Ends the save of a page of this process.
     fn end_save(&mut self, job: SavedJob<S>) -> SaveEnd<L, S>
         ensures ends { Ends job self.old self.new result }
-        ensures memory { S.honest → memory_of S.content self.new.space.memory.pages ≡ memory_of S.content self.old.space.memory.pages }
+        ensures memory { S.honest → memory_of S.content self.new.space.memory ≡ memory_of S.content self.old.space.memory }
     {
         match self.space.saved(job) {
             Ok(frame) => SaveEnd::Passed(frame),

@@ -1,3 +1,4 @@
 pub mod Indexing
 pub mod Overwriting
 pub mod PlacedEntries
+pub mod Reserving

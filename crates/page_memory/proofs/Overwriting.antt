@@ -1,7 +1,7 @@
 -- One byte written to a list is the list with it overwritten.
 use Rattle.std.proofs.Common.{◌≡◌, ℕ, zero, suc, ◌%◌, ◌<◌, List, [], ◌∷◌, ◌++◌, length, slice_set, take, drop, arith, refl, ap, ◌∙◌, add-one}
 use Rattle.byteorder.specs.Endian.{little_bytes}
-use Rattle.page_memory.specs.Memory.{overwritten}
+use Rattle.page_memory.specs.Pages.{overwritten}
 
 set_one : (l : List ℕ) (place b : ℕ) → place < length l → slice_set l place b ≡ take place l ++ (b ∷ drop (suc place) l)
 set_one [] place b h = absurd (omega arith)

@@ -12,49 +12,49 @@ use Rattle.page_memory.specs.declared.fault.MemoryFault.{MemoryFault}
 use Rattle.page_memory.specs.declared.fault.MemoryFault.TheVariants.{Misaligned, PageFault}
 use Rattle.page_memory.specs.Words.{page_number, page_offset, bytes_in}
 use Rattle.page_memory.specs.Rights.{may}
-use Rattle.page_memory.specs.Memory.{Page, Memory, usable, aligned_page, stored, copied_in, memory_with, overwritten, with_right, page_if, if_aligned, answer_by}
+use Rattle.page_memory.specs.Pages.{Page, Pages, usable, aligned_page, stored, copied_in, memory_with, overwritten, with_right, page_if, if_aligned, answer_by}
 
-pub usable_found : (memory : Memory) (access : Access) (address : ℕ) (page : Page) → get memory (page_number address) ≡ Some page → may access page.rights ≡ true → usable memory access address ≡ Ok page
+pub usable_found : (memory : Pages) (access : Access) (address : ℕ) (page : Page) → get memory (page_number address) ≡ Some page → may access page.rights ≡ true → usable memory access address ≡ Ok page
 unfolding usable
 usable_found memory access address page found allowed = ap (with_right access) found ∙ ap (λ b. page_if b page) allowed
 
-pub usable_forbidden : (memory : Memory) (access : Access) (address : ℕ) (page : Page) → get memory (page_number address) ≡ Some page → may access page.rights ≡ false → usable memory access address ≡ Err PageFault
+pub usable_forbidden : (memory : Pages) (access : Access) (address : ℕ) (page : Page) → get memory (page_number address) ≡ Some page → may access page.rights ≡ false → usable memory access address ≡ Err PageFault
 unfolding usable
 usable_forbidden memory access address page found refused = ap (with_right access) found ∙ ap (λ b. page_if b page) refused
 
-pub usable_unmapped : (memory : Memory) (access : Access) (address : ℕ) → get memory (page_number address) ≡ None → usable memory access address ≡ Err PageFault
+pub usable_unmapped : (memory : Pages) (access : Access) (address : ℕ) → get memory (page_number address) ≡ None → usable memory access address ≡ Err PageFault
 unfolding usable
 usable_unmapped memory access address none = ap (with_right access) none
 
-pub aligned_usable : (memory : Memory) (access : Access) (width address : ℕ) (answer : Result Page _) → address % width ≡ 0 → usable memory access address ≡ answer → aligned_page memory access width address ≡ answer
+pub aligned_usable : (memory : Pages) (access : Access) (width address : ℕ) (answer : Result Page _) → address % width ≡ 0 → usable memory access address ≡ answer → aligned_page memory access width address ≡ answer
 unfolding aligned_page
 aligned_usable memory access width address answer aligned is = ap (λ b. if_aligned b (usable memory access address)) (eq-eqb (address % width) 0 aligned) ∙ is
 
-pub stored_misaligned : (memory : Memory) (width : Width) (address word : ℕ) → address % bytes_in width ≢ 0 → stored memory width address word ≡ Err Misaligned
+pub stored_misaligned : (memory : Pages) (width : Width) (address word : ℕ) → address % bytes_in width ≢ 0 → stored memory width address word ≡ Err Misaligned
 unfolding stored aligned_page
 stored_misaligned memory width address word odd = ap (λ b. answer_by (memory_with memory address (little_bytes (bytes_in width) word)) (if_aligned b (usable memory Store address))) (ne_eqb (address % bytes_in width) 0 odd)
 
-pub stored_unmapped : (memory : Memory) (width : Width) (address word : ℕ) → address % bytes_in width ≡ 0 → get memory (page_number address) ≡ None → stored memory width address word ≡ Err PageFault
+pub stored_unmapped : (memory : Pages) (width : Width) (address word : ℕ) → address % bytes_in width ≡ 0 → get memory (page_number address) ≡ None → stored memory width address word ≡ Err PageFault
 unfolding stored
 stored_unmapped memory width address word aligned none = ap (answer_by (memory_with memory address (little_bytes (bytes_in width) word))) (aligned_usable memory Store (bytes_in width) address _ aligned (usable_unmapped memory Store address none))
 
-pub stored_forbidden : (memory : Memory) (width : Width) (address word : ℕ) (page : Page) → address % bytes_in width ≡ 0 → get memory (page_number address) ≡ Some page → may Store page.rights ≡ false → stored memory width address word ≡ Err PageFault
+pub stored_forbidden : (memory : Pages) (width : Width) (address word : ℕ) (page : Page) → address % bytes_in width ≡ 0 → get memory (page_number address) ≡ Some page → may Store page.rights ≡ false → stored memory width address word ≡ Err PageFault
 unfolding stored
 stored_forbidden memory width address word page aligned found refused = ap (answer_by (memory_with memory address (little_bytes (bytes_in width) word))) (aligned_usable memory Store (bytes_in width) address _ aligned (usable_forbidden memory Store address page found refused))
 
-pub stored_done : (memory : Memory) (width : Width) (address word : ℕ) (page : Page) → address % bytes_in width ≡ 0 → get memory (page_number address) ≡ Some page → may Store page.rights ≡ true → stored memory width address word ≡ Ok (memory_with memory address (little_bytes (bytes_in width) word) page)
+pub stored_done : (memory : Pages) (width : Width) (address word : ℕ) (page : Page) → address % bytes_in width ≡ 0 → get memory (page_number address) ≡ Some page → may Store page.rights ≡ true → stored memory width address word ≡ Ok (memory_with memory address (little_bytes (bytes_in width) word) page)
 unfolding stored
 stored_done memory width address word page aligned found allowed = ap (answer_by (memory_with memory address (little_bytes (bytes_in width) word))) (aligned_usable memory Store (bytes_in width) address _ aligned (usable_found memory Store address page found allowed))
 
-pub copied_unmapped : (memory : Memory) (address : ℕ) (bytes : List ℕ) → get memory (page_number address) ≡ None → copied_in memory address bytes ≡ Err PageFault
+pub copied_unmapped : (memory : Pages) (address : ℕ) (bytes : List ℕ) → get memory (page_number address) ≡ None → copied_in memory address bytes ≡ Err PageFault
 unfolding copied_in
 copied_unmapped memory address bytes none = ap (answer_by (memory_with memory address bytes)) (usable_unmapped memory Store address none)
 
-pub copied_forbidden : (memory : Memory) (address : ℕ) (bytes : List ℕ) (page : Page) → get memory (page_number address) ≡ Some page → may Store page.rights ≡ false → copied_in memory address bytes ≡ Err PageFault
+pub copied_forbidden : (memory : Pages) (address : ℕ) (bytes : List ℕ) (page : Page) → get memory (page_number address) ≡ Some page → may Store page.rights ≡ false → copied_in memory address bytes ≡ Err PageFault
 unfolding copied_in
 copied_forbidden memory address bytes page found refused = ap (answer_by (memory_with memory address bytes)) (usable_forbidden memory Store address page found refused)
 
-pub copied_done : (memory : Memory) (address : ℕ) (bytes : List ℕ) (page : Page) → get memory (page_number address) ≡ Some page → may Store page.rights ≡ true → copied_in memory address bytes ≡ Ok (memory_with memory address bytes page)
+pub copied_done : (memory : Pages) (address : ℕ) (bytes : List ℕ) (page : Page) → get memory (page_number address) ≡ Some page → may Store page.rights ≡ true → copied_in memory address bytes ≡ Ok (memory_with memory address bytes page)
 unfolding copied_in
 copied_done memory address bytes page found allowed = ap (answer_by (memory_with memory address bytes)) (usable_found memory Store address page found allowed)
 
@@ -77,11 +77,11 @@ copied_at entries address bytes place page at is allowed =
     ∙ ap Ok (sym (replaced_value entries (page_number address) place _ at))
 
 -- a fault in the answer of an access to its page
-pub not_stored_at : (memory : Memory) (width : Width) (address word : ℕ) (fault : MemoryFault) → address % bytes_in width ≡ 0 → with_right Store (get memory (page_number address)) ≡ Err fault → stored memory width address word ≡ Err fault
+pub not_stored_at : (memory : Pages) (width : Width) (address word : ℕ) (fault : MemoryFault) → address % bytes_in width ≡ 0 → with_right Store (get memory (page_number address)) ≡ Err fault → stored memory width address word ≡ Err fault
 unfolding stored usable
 not_stored_at memory width address word fault aligned is = ap (answer_by (memory_with memory address (little_bytes (bytes_in width) word))) (aligned_usable memory Store (bytes_in width) address _ aligned is)
 
-pub not_copied : (memory : Memory) (address : ℕ) (bytes : List ℕ) (fault : MemoryFault) → with_right Store (get memory (page_number address)) ≡ Err fault → copied_in memory address bytes ≡ Err fault
+pub not_copied : (memory : Pages) (address : ℕ) (bytes : List ℕ) (fault : MemoryFault) → with_right Store (get memory (page_number address)) ≡ Err fault → copied_in memory address bytes ≡ Err fault
 unfolding copied_in usable
 not_copied memory address bytes fault is = ap (answer_by (memory_with memory address bytes)) is
 

@@ -5,7 +5,7 @@ use Rattle.page_memory.specs.declared.words.Access.TheVariants.{Fetch, Load, Sto
 use Rattle.page_memory.specs.declared.hint.Hint.{Hint}
 use Rattle.page_memory.specs.declared.hint.Hints.{Hints}
 use Rattle.page_memory.specs.Rights.{may}
-use Rattle.page_memory.specs.Memory.{Page}
+use Rattle.page_memory.specs.Pages.{Page}
 use Rattle.page_memory.specs.Entries.{place_of, value_at}
 
 -- whether the page at a place may be used so

@@ -13,7 +13,7 @@ use Rattle.page_memory.specs.declared.words.Width.{Width}
 use Rattle.page_memory.specs.declared.words.Width.TheVariants.{Byte, Half, Word}
 use Rattle.page_memory.specs.Words.{page_number, page_offset, bytes_in}
 use Rattle.page_memory.specs.Rights.{may}
-use Rattle.page_memory.specs.Memory.{Page, Memory, with_right, answer_by, stored, overwritten, loaded, number_at, aligned_page, usable, fetched, if_aligned}
+use Rattle.page_memory.specs.Pages.{Page, Pages, with_right, answer_by, stored, overwritten, loaded, number_at, aligned_page, usable, fetched, if_aligned}
 use Rattle.page_memory.specs.Entries.{place_of, value_at, with_value}
 use Rattle.page_memory.specs.EntriesLaws.{value_by_place, place_of-with_value, length-with_value}
 use Rattle.page_memory.specs.AccessLaws.{usable_found, aligned_usable, stored_at}
@@ -82,11 +82,11 @@ pub fetched_there : (pages : List (ℕ × Page)) (address place : ℕ) (page : P
 fetched_there pages address place page aligned stands is =
     fetched_led pages address (address / 4096 * 4096) place page (leads_there Fetch pages address (address / 4096 * 4096) place refl stands) (omega arith) is
 
-pub fetched_misaligned : (memory : Memory) (address : ℕ) → address % 4 ≢ 0 → fetched memory address ≡ Err Misaligned
+pub fetched_misaligned : (memory : Pages) (address : ℕ) → address % 4 ≢ 0 → fetched memory address ≡ Err Misaligned
 unfolding fetched aligned_page
 fetched_misaligned memory address odd = ap (λ b. answer_by (number_at 4 address) (if_aligned b (usable memory Fetch address))) (ne_eqb (address % 4) 0 odd)
 
-pub not_fetched_there : (memory : Memory) (address : ℕ) (fault : MemoryFault) → address % 4 ≡ 0 → with_right Fetch (get memory (page_number address)) ≡ Err fault → fetched memory address ≡ Err fault
+pub not_fetched_there : (memory : Pages) (address : ℕ) (fault : MemoryFault) → address % 4 ≡ 0 → with_right Fetch (get memory (page_number address)) ≡ Err fault → fetched memory address ≡ Err fault
 unfolding fetched usable
 not_fetched_there memory address fault aligned is = ap (answer_by (number_at 4 address)) (aligned_usable memory Fetch 4 address _ aligned is)
 
@@ -109,11 +109,11 @@ pub loaded_there : (pages : List (ℕ × Page)) (width : Width) (address place :
 loaded_there pages width address place page aligned stands is =
     loaded_led pages width address (address / 4096 * 4096) place page (leads_there Load pages address (address / 4096 * 4096) place refl stands) (omega arith) is
 
-pub loaded_misaligned : (memory : Memory) (width : Width) (address : ℕ) → address % bytes_in width ≢ 0 → loaded memory width address ≡ Err Misaligned
+pub loaded_misaligned : (memory : Pages) (width : Width) (address : ℕ) → address % bytes_in width ≢ 0 → loaded memory width address ≡ Err Misaligned
 unfolding loaded aligned_page
 loaded_misaligned memory width address odd = ap (λ b. answer_by (number_at (bytes_in width) address) (if_aligned b (usable memory Load address))) (ne_eqb (address % bytes_in width) 0 odd)
 
-pub not_loaded_there : (memory : Memory) (width : Width) (address : ℕ) (fault : MemoryFault) → address % bytes_in width ≡ 0 → with_right Load (get memory (page_number address)) ≡ Err fault → loaded memory width address ≡ Err fault
+pub not_loaded_there : (memory : Pages) (width : Width) (address : ℕ) (fault : MemoryFault) → address % bytes_in width ≡ 0 → with_right Load (get memory (page_number address)) ≡ Err fault → loaded memory width address ≡ Err fault
 unfolding loaded usable
 not_loaded_there memory width address fault aligned is = ap (answer_by (number_at (bytes_in width) address)) (aligned_usable memory Load (bytes_in width) address _ aligned is)
 

@@ -2,7 +2,10 @@ pub mod Words
 pub mod MemoryMap
 pub mod Rights
 pub mod PageIndex
+pub mod Pages
+pub mod Reservations
 pub mod Memory
+pub mod MemoryLaws
 pub mod Entries
 pub mod EntriesLaws
 pub mod PageMap

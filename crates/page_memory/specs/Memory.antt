@@ -1,111 +1,87 @@
--- Memory: a finite map from page numbers to pages, and what an access to it answers. An access is
--- refused where its address is no multiple of its width, then where no page is mapped there or the
--- page lacks the right (unprivileged manual, loads and stores; privileged manual, page faults).
-use Rattle.std.specs.Prelude.{ℕ, zero, suc, ◌+◌, ◌%◌, ◌==◌, Bool, true, false, List, ◌++◌, length, replicate, take, drop, slice_index, Option, Some, None, option_map, Result, Ok, Err}
-use Rattle.std.specs.Ordering.{nat_cmp}
-use Rattle.std.specs.FinMap.{FinMap, get, insert}
-use Rattle.byteorder.specs.Endian.{little_number, little_bytes}
-use Rattle.page_memory.specs.declared.rights.Rights.{Rights}
+-- Memory: its pages, and the words that harts have reserved; and what an access to it answers. Only what writes bytes ends
+-- reservations.
+use Rattle.std.specs.Prelude.{ℕ, Bool, true, false, List, length, Option, Result, if◌then◌else◌}
 use Rattle.page_memory.specs.declared.fault.MemoryFault.{MemoryFault}
-use Rattle.page_memory.specs.declared.fault.MemoryFault.TheVariants.{Misaligned, PageFault}
-use Rattle.page_memory.specs.declared.words.Access.{Access}
-use Rattle.page_memory.specs.declared.words.Access.TheVariants.{Fetch, Load, Store}
 use Rattle.page_memory.specs.declared.words.Width.{Width}
-use Rattle.page_memory.specs.Words.{page_number, page_offset, bytes_in}
-use Rattle.page_memory.specs.Rights.{read_write, may}
+use Rattle.page_memory.specs.declared.words.Width.TheVariants.{Word}
+use Rattle.page_memory.specs.Words.{bytes_in}
+use Rattle.page_memory.specs.Pages.{Pages, answer_by}
+use Rattle.page_memory.specs.Pages as plain
+use Rattle.page_memory.specs.Reservations.{Reservations, none_reserved, has_reserved, with_reserved, without_reserved, left_by}
 
--- a page's rights and its 4096 bytes
-pub record Page : Type 0 where
-  pub rights : Rights
-  pub bytes : List ℕ
+pub record Memory : Type 0 where
+  pub pages : Pages
+  pub reserved : Reservations
 
-abbrev pub Memory : Type 0
-Memory = FinMap nat_cmp Page
+-- pages of which no word is reserved
+abbrev pub unreserved : Pages → Memory
+unreserved pages = record { pages = pages; reserved = none_reserved }
 
--- what an answer of memory becomes by a function of its value; a fault stays
-abbrev pub answer_by : {A B : Type 0} → (A → B) → Result A MemoryFault → Result B MemoryFault
-answer_by f (Ok x) = Ok (f x)
-answer_by f (Err fault) = Err fault
-
-abbrev pub page_if : Bool → Page → Result Page MemoryFault
-page_if true page = Ok page
-page_if false page = Err PageFault
-
--- the page found, where it has the right
-abbrev pub with_right : Access → Option Page → Result Page MemoryFault
-with_right access None = Err PageFault
-with_right access (Some page) = page_if (may access page.rights) page
-
--- the page that an access at an address may use
-unfoldable pub usable : Memory → Access → ℕ → Result Page MemoryFault
-usable memory access address = with_right access (get memory (page_number address))
-
-abbrev pub if_aligned : Bool → Result Page MemoryFault → Result Page MemoryFault
-if_aligned true found = found
-if_aligned false found = Err Misaligned
-
--- the same for an access of so many bytes: alignment is tested first
-unfoldable pub aligned_page : Memory → Access → ℕ → ℕ → Result Page MemoryFault
-aligned_page memory access width address = if_aligned (address % width == 0) (usable memory access address)
-
--- the little-endian number in so many bytes of a page from an address on
-abbrev pub number_at : ℕ → ℕ → Page → ℕ
-number_at width address page = little_number width (drop (page_offset address) page.bytes)
-
--- a list with the bytes from a place on overwritten
-abbrev pub overwritten : List ℕ → ℕ → List ℕ → List ℕ
-overwritten old place new = take place old ++ (new ++ drop (place + length new) old)
-
--- the memory after bytes were written to a page, from an address on
-abbrev pub memory_with : Memory → ℕ → List ℕ → Page → Memory
-memory_with memory address bytes page = insert memory (page_number address) (record page { bytes = overwritten page.bytes (page_offset address) bytes })
+-- ---- what reads looks at pages alone
 
 -- the word fetched at an address
-unfoldable pub fetched : Memory → ℕ → Result ℕ MemoryFault
-fetched memory address = answer_by (number_at 4 address) (aligned_page memory Fetch 4 address)
+abbrev pub fetched : Memory → ℕ → Result ℕ MemoryFault
+fetched memory address = plain.fetched memory.pages address
 
 -- the number loaded at an address, not yet extended to a word
-unfoldable pub loaded : Memory → Width → ℕ → Result ℕ MemoryFault
-loaded memory width address = answer_by (number_at (bytes_in width) address) (aligned_page memory Load (bytes_in width) address)
+abbrev pub loaded : Memory → Width → ℕ → Result ℕ MemoryFault
+loaded memory width address = plain.loaded memory.pages width address
+
+-- so many bytes from an address on, within its page
+abbrev pub copied_out : Memory → ℕ → ℕ → Result (List ℕ) MemoryFault
+copied_out memory address count = plain.copied_out memory.pages address count
+
+-- the byte at an address, where a page is mapped there
+abbrev pub byte_at : Memory → ℕ → Option ℕ
+byte_at memory address = plain.byte_at memory.pages address
+
+-- ---- what writes ends the reservations of the words of which it writes a byte
+
+-- the memory with these pages, in which so many bytes from an address on were written
+abbrev pub written : Memory → ℕ → ℕ → Pages → Memory
+written memory address count pages = record { pages = pages; reserved = left_by address count memory.reserved }
 
 -- the memory after the low bytes of a word were stored at an address
 unfoldable pub stored : Memory → Width → ℕ → ℕ → Result Memory MemoryFault
-stored memory width address word =
-    answer_by (memory_with memory address (little_bytes (bytes_in width) word)) (aligned_page memory Store (bytes_in width) address)
+stored memory width address word = answer_by (written memory address (bytes_in width)) (plain.stored memory.pages width address word)
 
-abbrev pub exchanged : Memory → (ℕ → ℕ) → ℕ → Page → ℕ × Memory
-exchanged memory update address page =
-    (number_at 4 address page, memory_with memory address (little_bytes 4 (update (number_at 4 address page))) page)
+abbrev pub exchanged : Memory → ℕ → ℕ × Pages → ℕ × Memory
+exchanged memory address answer = (answer.0, written memory address 4 answer.1)
 
 -- the old word at an address, and the memory in which it was replaced in the same step
 unfoldable pub replaced : Memory → (ℕ → ℕ) → ℕ → Result (ℕ × Memory) MemoryFault
-replaced memory update address = answer_by (exchanged memory update address) (aligned_page memory Store 4 address)
-
--- so many bytes from an address on, within its page
-unfoldable pub copied_out : Memory → ℕ → ℕ → Result (List ℕ) MemoryFault
-copied_out memory address count = answer_by (λ page. take count (drop (page_offset address) page.bytes)) (usable memory Load address)
+replaced memory update address = answer_by (exchanged memory address) (plain.replaced memory.pages update address)
 
 -- the memory after bytes were copied to an address, within its page
 unfoldable pub copied_in : Memory → ℕ → List ℕ → Result Memory MemoryFault
-copied_in memory address bytes = answer_by (memory_with memory address bytes) (usable memory Store address)
+copied_in memory address bytes = answer_by (written memory address (length bytes)) (plain.copied_in memory.pages address bytes)
 
--- the byte at an address, where a page is mapped there
-unfoldable pub byte_at : Memory → ℕ → Option ℕ
-byte_at memory address = option_map (λ page. slice_index page.bytes (page_offset address)) (get memory (page_number address))
+-- ---- load-reserved and store-conditional
 
--- a page of zeros that may be read and written
-abbrev pub zero_page : Page
-zero_page = record { rights = read_write; bytes = replicate 4096 0 }
+-- the word loaded, and the memory in which a hart has reserved it
+abbrev pub reserving : Memory → ℕ → ℕ → ℕ → ℕ × Memory
+reserving memory hart address word = (word, record memory { reserved = with_reserved hart address memory.reserved })
 
-abbrev pub zeroed_unless : Option Page → Memory → ℕ → Memory
-zeroed_unless None memory number = insert memory number zero_page
-zeroed_unless (Some page) memory number = memory
+unfoldable pub loaded_reserved : Memory → ℕ → ℕ → Result (ℕ × Memory) MemoryFault
+loaded_reserved memory hart address = answer_by (reserving memory hart address) (plain.loaded memory.pages Word address)
 
--- the memory with a page of zeros at a number where none is mapped
-unfoldable pub zeroed_at : ℕ → Memory → Memory
-zeroed_at number memory = zeroed_unless (get memory number) memory number
+-- the hart's reservation is gone
+abbrev pub released : Memory → ℕ → Memory
+released memory hart = record memory { reserved = without_reserved hart memory.reserved }
+
+-- whether the word was stored, by whether the hart had it reserved, and the memory then
+abbrev pub stored_if : Bool → Memory → ℕ → ℕ → Pages → Bool × Memory
+stored_if true memory hart address pages = (true, written (released memory hart) address 4 pages)
+stored_if false memory hart address pages = (false, released memory hart)
+
+-- A word is stored only where the hart has reserved it, and its reservation goes in both cases. Whether it may be stored is tested
+-- first, as of any store.
+unfoldable pub stored_conditionally : Memory → ℕ → ℕ → ℕ → Result (Bool × Memory) MemoryFault
+stored_conditionally memory hart address word =
+    answer_by (stored_if (has_reserved hart address memory.reserved) memory hart address) (plain.stored memory.pages Word address word)
+
+-- ---- mapping
 
 -- the memory with pages of zeros at so many numbers from the first on, wherever none is mapped
-unfoldable pub with_zeroed : ℕ → ℕ → Memory → Memory
-with_zeroed first zero memory = memory
-with_zeroed first (suc count) memory = zeroed_at (first + count) (with_zeroed first count memory)
+abbrev pub with_zeroed : ℕ → ℕ → Memory → Memory
+with_zeroed first count memory = record memory { pages = plain.with_zeroed first count memory.pages }

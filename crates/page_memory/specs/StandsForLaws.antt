@@ -11,7 +11,7 @@ use Rattle.page_memory.specs.declared.words.Access.TheVariants.{Store}
 use Rattle.page_memory.specs.declared.words.Width.{Width}
 use Rattle.page_memory.specs.Words.{page_number, page_offset, bytes_in}
 use Rattle.page_memory.specs.Rights.{may}
-use Rattle.page_memory.specs.Memory.{Page, zero_page, with_zeroed, usable, with_right, overwritten, stored, copied_in}
+use Rattle.page_memory.specs.Pages.{Page, zero_page, with_zeroed, usable, with_right, overwritten, stored, copied_in}
 use Rattle.page_memory.specs.ZeroedLaws.{added_zeroed}
 use Rattle.page_memory.specs.AccessLaws.{stored_done, copied_done}
 use Rattle.page_memory.specs.Entries.{pages_of, place_of, value_at, with_value, added_unless, added, with_added, map_by, ChangesPage}
@@ -21,7 +21,7 @@ use Rattle.page_memory.specs.declared.words.Access.TheVariants.{Store}
 use Rattle.page_memory.specs.declared.words.Width.{Width}
 use Rattle.page_memory.specs.Words.{page_number, page_offset, bytes_in}
 use Rattle.page_memory.specs.Rights.{may}
-use Rattle.page_memory.specs.Memory.{Page, zero_page, with_zeroed, usable, with_right, overwritten, stored, copied_in}
+use Rattle.page_memory.specs.Pages.{Page, zero_page, with_zeroed, usable, with_right, overwritten, stored, copied_in}
 use Rattle.page_memory.specs.ZeroedLaws.{added_zeroed}
 use Rattle.page_memory.specs.AccessLaws.{stored_done, copied_done}
 use Rattle.page_memory.specs.EntriesLaws.{value_by_place, replaced_value, inserted, put_back}

@@ -6,7 +6,7 @@ use Rattle.std.specs.Cmp.{nat_cmp_total}
 use Rattle.std.specs.FinMap.{get, get-insert, from_entries}
 use Rattle.page_memory.specs.Entries.{place_of, value_at, added_unless, added, with_added}
 use Rattle.page_memory.specs.EntriesLaws.{value_by_place, has_value, inserted, no_value}
-use Rattle.page_memory.specs.Memory.{Page, Memory, zero_page, zeroed_unless, zeroed_at, with_zeroed}
+use Rattle.page_memory.specs.Pages.{Page, Pages, zero_page, zeroed_unless, zeroed_at, with_zeroed}
 
 -- a page that was mapped stays as it was; a new page of zeros is where the test says so
 abbrev pub kept_or_zero : Option Page → Bool → Option Page
@@ -21,7 +21,7 @@ stays : (page : Option Page) → kept_or_zero page false ≡ page
 stays None = refl
 stays (Some page) = refl
 
-at_number : (number : ℕ) (memory : Memory) (q : ℕ) (found : Option Page) → get memory number ≡ found → get (zeroed_unless found memory number) q ≡ kept_or_zero (get memory q) (q == number)
+at_number : (number : ℕ) (memory : Pages) (q : ℕ) (found : Option Page) → get memory number ≡ found → get (zeroed_unless found memory number) q ≡ kept_or_zero (get memory q) (q == number)
 at_number number memory q None none =
     get-insert nat_cmp_total memory number zero_page q ∙ ap (λ b. cond b (Some zero_page) (get memory q)) (same_key q number)
     ∙ elim (eqb_tells q number) [
@@ -35,7 +35,7 @@ at_number number memory q (Some page) some =
     ]
 
 -- one page of zeros
-pub get-zeroed_at : (number : ℕ) (memory : Memory) (q : ℕ) → get (zeroed_at number memory) q ≡ kept_or_zero (get memory q) (q == number)
+pub get-zeroed_at : (number : ℕ) (memory : Pages) (q : ℕ) → get (zeroed_at number memory) q ≡ kept_or_zero (get memory q) (q == number)
 unfolding zeroed_at
 get-zeroed_at number memory q = at_number number memory q (get memory number) refl
 
@@ -55,7 +55,7 @@ one_more : (first count q : ℕ) → (in_range first count q || (q == first + co
 one_more first count q = grind (arith, nat_tests)
 
 -- pages of zeros in a range: what was mapped stays, and the range's other pages are zero
-pub get-with_zeroed : (first count : ℕ) (memory : Memory) (q : ℕ) → get (with_zeroed first count memory) q ≡ kept_or_zero (get memory q) (in_range first count q)
+pub get-with_zeroed : (first count : ℕ) (memory : Pages) (q : ℕ) → get (with_zeroed first count memory) q ≡ kept_or_zero (get memory q) (in_range first count q)
 unfolding with_zeroed
 get-with_zeroed first zero memory q = sym (ap (kept_or_zero (get memory q)) (none_in first q) ∙ stays (get memory q))
 get-with_zeroed first (suc count) memory q =

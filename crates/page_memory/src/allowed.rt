@@ -3,7 +3,7 @@ ghost use Rattle.std.specs.FinMap as map;
 ghost use Rattle.std.specs.Ordering.{nat_cmp};
 ghost use Rattle.std.specs.Option.{IsSomeAnd};
 ghost use Rattle.page_memory.specs.Rights.{may};
-ghost use Rattle.page_memory.specs.Memory.{with_right};
+ghost use Rattle.page_memory.specs.Pages.{with_right};
 ghost use Rattle.page_memory.specs.Entries.{place_of, value_at};
 
 use crate::fault::MemoryFault;

@@ -1,81 +1,72 @@
-ghost use Rattle.std.specs.Prelude.{◌≡◌, ◌+◌, ◌≤◌, ◌^◌, ◌<◌, ◌%◌, Ok, Err, MatchResult, IfOk, IfErr, OnOk, OnErr, length, IsErr, None};
+ghost use Rattle.std.specs.Prelude.{◌≡◌, ◌+◌, ◌≤◌, ◌^◌, ◌<◌, Ok, Err, IfOk, IfErr, OnOk, OnErr, length, IsErr, None};
 ghost use Rattle.std.specs.FinMap as map;
-ghost use Rattle.page_memory.specs.Memory.{Memory, usable, aligned_page, fetched, loaded, stored, answer_by, number_at, copied_out, copied_in, byte_at, with_zeroed};
 ghost use Rattle.page_memory.specs.declared.words.Access.{Access};
-ghost use Rattle.page_memory.specs.Words.{bytes_in, page_offset};
+ghost use Rattle.page_memory.specs.Pages.{answer_by, number_at, aligned_page};
+ghost use Rattle.page_memory.specs.Memory.{unreserved, fetched, loaded, stored, copied_out, copied_in, byte_at, with_zeroed, loaded_reserved, stored_conditionally};
+ghost use Rattle.page_memory.specs.Words.{page_offset};
 
-use crate::allowed::{page_allowed, place_allowed};
 use crate::fault::MemoryFault;
-use crate::hint::{Hint, Hints, hint_for, remember, start_if_aligned};
+use crate::flat_pages::FlatPages;
 use crate::page::Page;
-use crate::page_map::PageMap;
-use crate::rights::Rights;
-use crate::words::{Access, Width, offset_in_page, page_of};
-use crate::zeroing::add_all_zeroed;
+use crate::reservations::Reservations;
+use crate::words::Width;
 use std::alloc::{AllocError, Global};
 use std::marker::Model;
 
 /// Memory whose pages are all there: the reference that paged memory is compared with.
 #[derive(Drop)]
 pub struct FlatMemory {
-    alloc: Global,
-    pages: PageMap<Page>,
-    hints: Hints,
+    pages: FlatPages,
+    reservations: Reservations,
 }
 
 impl Model for FlatMemory {
+    ghost use Rattle.std.specs.Prelude.{refl};
     ghost use Rattle.std.specs.FinMap as map;
-    ghost use Rattle.std.specs.Coded.{coded_ℕ};
+    ghost use Rattle.std.specs.Coded.{code_by, coded×, coded_ℕ, coded_list, coded_option};
     ghost use Rattle.page_memory.specs.Memory.{Memory};
+    ghost use Rattle.page_memory.specs.Pages.{Pages};
+    ghost use Rattle.page_memory.specs.Reservations.{Reservations};
     ghost use Rattle.page_memory.specs.contracts.page.Page as page;
 
     ghost Value = { Memory };
 
-    ghost coded = { map.code coded_ℕ page.the_row.coded };
+    ghost coded = { code_by (Pages × Reservations) (coded× (map.code coded_ℕ page.the_row.coded) (coded_list (coded_option coded_ℕ)))
+        (λ memory. (memory.pages, memory.reserved)) (λ pair. record { pages = pair.0; reserved = pair.1 }) (λ _. refl) };
 
-    ghost view = { λ memory. map.from_entries memory.pages };
-
-    ghost use Rattle.page_memory.specs.Hints.{Remembers};
-
-    ghost invariant = { λ memory. Remembers memory.pages memory.hints };
+    ghost view = { λ memory. record { pages = memory.pages; reserved = memory.reservations } };
 }
 
 impl FlatMemory {
     /// Memory with no page.
     pub fn new(alloc: Global) -> Result<Self, AllocError>
-        ensures { IfOk result (λ memory. memory ≡ map.empty) }
+        ensures { IfOk result (λ memory. memory ≡ unreserved map.empty) }
     {
         Ok(FlatMemory {
-            alloc,
-            pages: PageMap::new(alloc)?,
-            hints: Hints::new(),
+            pages: FlatPages::new(alloc)?,
+            reservations: Reservations::new(),
         })
     }
 
     /// Maps a page where none is mapped.
-    #[tactic(auto, using(crate::specs::EntriesLaws::mapping))]
     pub fn map_page(&mut self, number: u32, page: Page) -> Result<(), AllocError>
         requires small { number < 2 ^ 20 }
-        requires absent { map.get self.old number ≡ None }
-        ensures ok { OnOk result (self.new ≡ map.insert self.old number page) }
+        requires absent { map.get self.old.pages number ≡ None }
+        ensures ok { OnOk result (self.new ≡ record self.old { pages = map.insert self.old.pages number page }) }
         ensures err { OnErr result (self.new ≡ self.old) }
     {
-        self.hints = Hints::new();
-        self.pages.insert(self.alloc, number, page)?;
-        Ok(())
+        self.pages.map_page(number, page)
     }
 
     /// Maps pages of zeros, to be read and written, at so many page numbers from the first on, wherever
     /// none is mapped: all of them, or none where memory is wanting.
-    #[tactic(auto, using(crate::specs::ZeroedLaws::added_zeroed))]
     pub fn map_zeroed(&mut self, first: u32, count: u32) -> Result<(), AllocError>
         requires { first + count ≤ 2 ^ 20 }
         ensures ok { OnOk result (self.new ≡ with_zeroed first count self.old) }
         ensures err { OnErr result (self.new ≡ self.old) }
         ensures some { IsErr result → 0 < count }
     {
-        self.hints = Hints::new();
-        add_all_zeroed(&mut self.pages, self.alloc, first, count)
+        self.pages.map_zeroed(first, count)
     }
 
     /// Fetches the instruction word at an address. The page is remembered, so that the next fetch from
@@ -85,33 +76,7 @@ impl FlatMemory {
         ensures word { result ≡ fetched self.old address }
         ensures memory { self.new ≡ self.old }
     {
-        let start = start_if_aligned(address, Width::Word);
-        if start == self.hints.fetched.start {
-            let page = self.pages.at(self.hints.fetched.place);
-            Ok(page.number(Width::Word, address))
-        } else {
-            self.fetch_anew(address)
-        }
-    }
-
-    /// The same from a page that is not remembered.
-    #[cold]
-    #[inline(never)]
-    #[tactic(auto, using(crate::specs::HintsLaws::not_fetched))]
-    fn fetch_anew(&mut self, address: u32) -> Result<u32, MemoryFault>
-        ensures word { result ≡ fetched self.old address }
-        ensures memory { self.new ≡ self.old }
-    {
-        if address % 4 != 0 {
-            return Err(MemoryFault::Misaligned);
-        }
-        let place = place_allowed(&self.pages, page_of(address), Access::Fetch)?;
-        self.hints.fetched = Hint {
-            start: address / 4096 * 4096,
-            place,
-        };
-        let page = self.pages.at(place);
-        Ok(page.number(Width::Word, address))
+        self.pages.fetch(address)
     }
 
     /// Loads the number at an address, with zeros above it. The page is remembered.
@@ -120,134 +85,109 @@ impl FlatMemory {
         ensures number { result ≡ loaded self.old width address }
         ensures memory { self.new ≡ self.old }
     {
-        let hint = hint_for(&self.hints.loaded, address);
-        if start_if_aligned(address, width) == hint.start {
-            let page = self.pages.at(hint.place);
-            Ok(page.number(width, address))
-        } else {
-            self.load_anew(width, address)
-        }
-    }
-
-    /// The same from a page that is not remembered.
-    #[inline(never)]
-    #[tactic(auto, using(crate::specs::HintsLaws::not_loaded))]
-    fn load_anew(&mut self, width: Width, address: u32) -> Result<u32, MemoryFault>
-        ensures number { result ≡ loaded self.old width address }
-        ensures memory { self.new ≡ self.old }
-    {
-        if address % width.bytes() != 0 {
-            return Err(MemoryFault::Misaligned);
-        }
-        let place = place_allowed(&self.pages, page_of(address), Access::Load)?;
-        let start = address / 4096 * 4096;
-        remember(&mut self.hints.loaded, address, Hint { start, place });
-        let page = self.pages.at(place);
-        Ok(page.number(width, address))
+        self.pages.load(width, address)
     }
 
     /// Loads the word that an atomic instruction is to replace: its page needs the right to write.
     #[inline]
     pub fn load_to_replace(&self, address: u32) -> Result<u32, MemoryFault>
-        ensures { result ≡ answer_by (number_at 4 address) (aligned_page self.now Access.Store 4 address) }
+        ensures { result ≡ answer_by (number_at 4 address) (aligned_page self.now.pages Access.Store 4 address) }
     {
-        let page = self.page_for(Access::Store, Width::Word, address)?;
-        Ok(page.number(Width::Word, address))
+        self.pages.load_to_replace(address)
     }
 
-    /// Stores the low bytes of a word at an address. The page is remembered.
+    /// Stores the low bytes of a word at an address, and ends the reservations of the word that it writes to. The page is remembered.
     #[inline]
     pub fn store(&mut self, width: Width, address: u32, word: u32) -> Result<(), MemoryFault>
         ensures ok { OnOk result (stored self.old width address word ≡ Ok self.new) }
         ensures fault { IfErr result (λ fault. stored self.old width address word ≡ Err fault) }
         ensures err { OnErr result (self.new ≡ self.old) }
     {
-        let hint = hint_for(&self.hints.stored, address);
-        if start_if_aligned(address, width) == hint.start {
-            let page = self.pages.at_mut(hint.place);
-            page.put_number(width, address, word);
-            Ok(())
-        } else {
-            self.store_anew(width, address, word)
+        match self.pages.store(width, address, word) {
+            Ok(()) => {
+                self.reservations.end(address, width.bytes() as usize);
+                Ok(())
+            }
+            Err(fault) => Err(fault),
         }
     }
 
-    /// The same to a page that is not remembered.
-    #[inline(never)]
-    #[tactic(auto, using(crate::specs::AccessLaws::not_stored))]
-    fn store_anew(&mut self, width: Width, address: u32, word: u32) -> Result<(), MemoryFault>
-        ensures ok { OnOk result (stored self.old width address word ≡ Ok self.new) }
-        ensures fault { IfErr result (λ fault. stored self.old width address word ≡ Err fault) }
+    /// Loads the word at an address, and reserves it for a hart.
+    pub fn load_reserved(&mut self, hart: u32, address: u32) -> Result<u32, MemoryFault>
+        ensures ok { IfOk result (λ word. loaded_reserved self.old hart address ≡ Ok (word, self.new)) }
+        ensures fault { IfErr result (λ fault. loaded_reserved self.old hart address ≡ Err fault) }
         ensures err { OnErr result (self.new ≡ self.old) }
     {
-        if address % width.bytes() != 0 {
-            return Err(MemoryFault::Misaligned);
+        match self.pages.load(Width::Word, address) {
+            Ok(word) => {
+                self.reservations.reserve(hart, address);
+                Ok(word)
+            }
+            Err(fault) => Err(fault),
         }
-        let place = place_allowed(&self.pages, page_of(address), Access::Store)?;
-        let start = address / 4096 * 4096;
-        remember(&mut self.hints.stored, address, Hint { start, place });
-        self.pages.at_mut(place).put_number(width, address, word);
-        Ok(())
+    }
+
+    /// Stores a word at an address where a hart has reserved it, and tells whether it has. The hart's reservation goes in both cases.
+    pub fn store_conditional(
+        &mut self,
+        hart: u32,
+        address: u32,
+        word: u32,
+    ) -> Result<bool, MemoryFault>
+        ensures ok { IfOk result (λ is_stored. stored_conditionally self.old hart address word ≡ Ok (is_stored, self.new)) }
+        ensures fault { IfErr result (λ fault. stored_conditionally self.old hart address word ≡ Err fault) }
+        ensures err { OnErr result (self.new ≡ self.old) }
+    {
+        if self.reservations.has(hart, address) {
+            match self.pages.store(Width::Word, address, word) {
+                Ok(()) => {
+                    self.reservations.release(hart);
+                    self.reservations.end(address, 4);
+                    Ok(true)
+                }
+                Err(fault) => Err(fault),
+            }
+        } else {
+            match self.pages.load_to_replace(address) {
+                Ok(_) => {
+                    self.reservations.release(hart);
+                    Ok(false)
+                }
+                Err(fault) => Err(fault),
+            }
+        }
     }
 
     /// Copies bytes out of memory, from an address on and within its page.
-    #[tactic(auto, unfolding(crate::specs::Memory::copied_out))]
     pub fn copy_out(&self, address: u32, to: &mut [u8]) -> Result<(), MemoryFault>
         requires { page_offset address + length to.old ≤ 4096 }
         ensures ok { OnOk result (copied_out self.now address (length to.old) ≡ Ok to.new) }
         ensures fault { IfErr result (λ fault. copied_out self.now address (length to.old) ≡ Err fault) }
         ensures err { OnErr result (to.new ≡ to.old) }
     {
-        let page = self.usable_page(Access::Load, address)?;
-        let offset = offset_in_page(address);
-        to.copy_from_slice(&page.bytes()[offset..offset + to.len()]);
-        Ok(())
+        self.pages.copy_out(address, to)
     }
 
-    /// Copies bytes into memory, from an address on and within its page.
-    #[tactic(auto, using(crate::specs::AccessLaws::not_copied))]
+    /// Copies bytes into memory, from an address on and within its page, and ends the reservations of the words that they are written to.
     pub fn copy_in(&mut self, address: u32, from: &[u8]) -> Result<(), MemoryFault>
         requires { page_offset address + length from.now ≤ 4096 }
         ensures ok { OnOk result (copied_in self.old address from.now ≡ Ok self.new) }
         ensures fault { IfErr result (λ fault. copied_in self.old address from.now ≡ Err fault) }
         ensures err { OnErr result (self.new ≡ self.old) }
     {
-        let place = place_allowed(&self.pages, page_of(address), Access::Store)?;
-        self.pages
-            .at_mut(place)
-            .put_bytes(offset_in_page(address), from);
-        Ok(())
+        match self.pages.copy_in(address, from) {
+            Ok(()) => {
+                self.reservations.end(address, from.len());
+                Ok(())
+            }
+            Err(fault) => Err(fault),
+        }
     }
 
     /// The byte at an address, where a page is mapped there.
-    #[tactic(auto, using(crate::specs::EntriesLaws::value_by_place), unfolding(crate::specs::Memory::byte_at))]
     pub fn byte(&self, address: u32) -> Option<u8>
         ensures { result ≡ byte_at self.now address }
     {
-        let place = self.pages.place(page_of(address))?;
-        let page = self.pages.at(place);
-        Some(page.bytes()[offset_in_page(address)])
-    }
-
-    /// The page that an access may use.
-    #[inline]
-    fn usable_page(&self, access: Access, address: u32) -> Result<&Page, MemoryFault>
-        ensures { MatchResult result (λ page. usable self.now access address ≡ Ok page.now) (λ fault. usable self.now access address ≡ Err fault) }
-    {
-        let place = self.pages.place(page_of(address));
-        page_allowed(&self.pages, place, access)
-    }
-
-    /// The page that an access of so many bytes may use.
-    #[inline]
-    #[tactic(auto, unfolding(crate::specs::Memory::aligned_page))]
-    fn page_for(&self, access: Access, width: Width, address: u32) -> Result<&Page, MemoryFault>
-        ensures page { MatchResult result (λ page. aligned_page self.now access (bytes_in width) address ≡ Ok page.now) (λ fault. aligned_page self.now access (bytes_in width) address ≡ Err fault) }
-        ensures aligned { OnOk result (address % bytes_in width ≡ 0) }
-    {
-        if address % width.bytes() != 0 {
-            return Err(MemoryFault::Misaligned);
-        }
-        self.usable_page(access, address)
+        self.pages.byte(address)
     }
 }

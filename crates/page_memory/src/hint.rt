@@ -1,6 +1,6 @@
 ghost use Rattle.std.specs.Prelude.{◌≡◌, ℕ, ◌+◌, ◌*◌, ◌/◌, ◌%◌, List, Contains, slice_set, replicate};
 ghost use Rattle.page_memory.specs.Words.{page_number, bytes_in};
-ghost use Rattle.page_memory.specs.Memory.{Page};
+ghost use Rattle.page_memory.specs.Pages.{Page};
 ghost use Rattle.page_memory.specs.Hints.{Remembers};
 
 use crate::words::Width;

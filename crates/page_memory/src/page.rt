@@ -1,5 +1,5 @@
 ghost use Rattle.std.specs.Prelude.{◌≡◌, ℕ, ◌+◌, ◌%◌, ◌≤◌, IfOk, length, replicate, slice_index};
-ghost use Rattle.page_memory.specs.Memory.{number_at, overwritten};
+ghost use Rattle.page_memory.specs.Pages.{number_at, overwritten};
 ghost use Rattle.page_memory.specs.Words.{bytes_in, page_offset};
 ghost use Rattle.byteorder.specs.Endian.{little_bytes};
 
@@ -18,7 +18,7 @@ pub struct Page {
 
 impl Model for Page {
     ghost use Rattle.std.specs.Prelude.{◌≡◌, length};
-    ghost use Rattle.page_memory.specs.Memory.{Page as Content};
+    ghost use Rattle.page_memory.specs.Pages.{Page as Content};
 
     ghost Value = { Content };
 

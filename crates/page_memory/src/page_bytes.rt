@@ -1,6 +1,6 @@
 ghost use Rattle.std.specs.Prelude.{◌≡◌, ◌+◌, ◌%◌, ◌≤◌, length, drop};
 ghost use Rattle.byteorder.specs.Endian.{little_bytes, little_number};
-ghost use Rattle.page_memory.specs.Memory.{overwritten};
+ghost use Rattle.page_memory.specs.Pages.{overwritten};
 ghost use Rattle.page_memory.specs.Words.{bytes_in, page_offset};
 
 use crate::words::{Width, offset_in_page};

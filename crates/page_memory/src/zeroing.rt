@@ -1,5 +1,5 @@
 ghost use Rattle.std.specs.Prelude.{◌≡◌, ◌+◌, ◌≤◌, ◌^◌, ◌<◌, OnOk, OnErr, IsErr, None};
-ghost use Rattle.page_memory.specs.Memory.{zero_page};
+ghost use Rattle.page_memory.specs.Pages.{zero_page};
 ghost use Rattle.page_memory.specs.Entries.{place_of, added, with_added};
 
 use crate::page::Page;

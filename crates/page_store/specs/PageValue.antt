@@ -1,7 +1,7 @@
 -- One page of a process: its state, what it shows, and its backing.
 use Rattle.std.specs.Prelude.{◌≡◌, ℕ, Bool, true, false, ◌||◌, List, [], Option, Some, None, option_map, IsFalse}
 use Rattle.sha2.specs.Sha256.{sha256}
-use Rattle.page_memory.specs.Memory.{Page}
+use Rattle.page_memory.specs.Pages.{Page}
 use Rattle.frame_pool.specs.FrameValue.{FrameValue}
 use Rattle.page_store.specs.declared.state.Keeping.{Keeping}
 use Rattle.page_store.specs.declared.state.Keeping.TheVariants.{NoSlot, Unsaved, Saved}

@@ -1,4 +1,4 @@
-use Rattle.page_memory.specs.Memory.{Page}
+use Rattle.page_memory.specs.Pages.{Page}
 use Rattle.frame_pool.specs.FrameValue.{zero_bytes}
 use Rattle.page_store.specs.declared.state.Origin.{Origin}
 use Rattle.page_store.specs.declared.state.Origin.TheVariants.{Image, Zeros}

@@ -11,11 +11,11 @@ use Rattle.elf_image.specs.Image.{ImageContent}
 use Rattle.flat_machine.specs.ByTurns.{by_turns, first_turn}
 use Rattle.flat_machine.specs.Process.{Process, opening}
 use Rattle.machine_core.specs.declared.event.Reply.{Reply}
-use Rattle.machine_core.specs.declared.report.Report.{Report}
 use Rattle.machine_sides.specs.Starting.{Start}
 use Rattle.report_text.specs.ExitStatus.{exit_status, ending_of, worst_status}
-use Rattle.report_text.specs.ReportText.{process_text, report_text}
+use Rattle.report_text.specs.ReportText.{machine_text, process_text}
 use Rattle.run_on_threads.specs.Running.{IsRunAsAsked}
+use Rattle.serial_driver.specs.Reporting.{Told, MachineTold}
 use Rattle.text_lines.specs.Text.{lines_of}
 use Rattle.paged_cli.specs.Playing.{Plays, ReportsAsked}
 use Rattle.image_files.specs.Reading.{AreGiven, GivesImage, GivesInput}
@@ -23,15 +23,15 @@ use Rattle.paged_cli.specs.Replies.{replies_text}
 
 module _ (gives : List ℕ → List ℕ → Type 0) where
   -- A machine of the frames and slots that were asked for, in memory or in files of the type `F`, with a process for each image, the first on the input, ran in slices of the length
-  -- that was asked for, until each process had ended or as many events had happened as were asked for; what is reported of it is written, and
-  -- the status is that of the report.
+  -- that was asked for, until each process had ended or as many events had happened as were asked for; what is told of it is written, and
+  -- the status is that of what is told.
   pub record RunsAsAsked (F : Type 0) (request : RunRequest) (old new : Option (List ℕ)) (status : ℕ) : Type 0 where
     pub starts : List Start
-    pub report : Report
+    pub machine : MachineTold
     pub given : AreGiven gives (option_map (λ s. s.now) request.input) (map (λ s. s.now) request.images.items) starts
-    pub ran : ReportsAsked F (option_map (λ s. s.now) request.swap) request.frames request.slots starts request.slice request.limit report
-    pub told : Appends old new (report_text report)
-    pub status_is : status ≡ worst_status 0 (map (λ process. process.end) report.processes.items)
+    pub ran : ReportsAsked F (option_map (λ s. s.now) request.swap) request.frames request.slots starts request.slice request.limit machine
+    pub told : Appends old new (machine_text machine)
+    pub status_is : status ≡ worst_status 0 (map (λ (process : Told). process.end) machine.processes)
 
   -- on one thread, or by as many workers as were asked for
   abbrev pub RunsByThreading : Type 0 → Threading → RunRequest → Option (List ℕ) → Option (List ℕ) → ℕ → Type 0

@@ -4,17 +4,16 @@ ghost use Rattle.std.specs.Prelude.{◌≡◌, ◌+◌, ◌≤◌, IfOk, length,
 ghost use Rattle.command_line.specs.Requests.{IsRunInRange};
 ghost use Rattle.machine_sides.specs.Starting.{start_of};
 ghost use Rattle.paged_cli.specs.Asked.{RunsAsAsked, RunsByThreading};
-ghost use Rattle.paged_cli.specs.Playing.{ReportsAsked, ReportsOver};
+ghost use Rattle.paged_cli.specs.Playing.{ReportsAsked, ReportsOver, WritesRun};
 
 use crate::machine::machine_on;
 use command_line::{RunRequest, Threading};
 use elf_image::Image;
 use image_files::{Fault, Folder, memory_slots, read_processes};
-use machine_core::Report;
-use report_text::{status_of_all, write_report};
+use report_text::{status_of_machine, write_machine};
 use run_on_threads::run_on_threads;
-use serial_driver::run_serial;
-use std::alloc::{AllocError, Global};
+use serial_driver::play;
+use std::alloc::Global;
 use std::io::Write;
 use std::marker::Brand;
 use std::sync::Wait;
@@ -43,7 +42,8 @@ where
     }
 }
 
-/// The same on one thread. Files for the slots are made once images and input are read.
+/// The same on one thread. Files for the slots are made once images and input are read. What the machine has come to is written as it
+/// stands in it: once the run is done no more memory is taken.
 pub fn run_serially<'a, R: Folder + AllocGlobal, W: Write>(
     rt: &R,
     request: &RunRequest<'a>,
@@ -53,71 +53,67 @@ pub fn run_serially<'a, R: Folder + AllocGlobal, W: Write>(
     ensures { IfOk result (λ status. RunsAsAsked R.gives R.File request.now (W.contents out.old) (W.contents out.new) status) }
 {
     let processes = read_processes(rt, request.images.as_slice(), request.input)?;
-    let report = run_asked(rt, request, processes)?;
-    write_report(&report, out)?;
-    Ok(status_of_all(report.processes.as_slice()))
+    let status = run_asked(rt, request, processes, out)?;
+    Ok(status)
 }
 
-/// Runs processes on the machine that is asked for, and tells what it has come to.
-fn run_asked<'a, R: Folder + AllocGlobal>(
+/// Runs processes on the machine that is asked for, and writes what it has come to.
+fn run_asked<'a, R: Folder + AllocGlobal, W: Write>(
     rt: &R,
     request: &RunRequest<'a>,
     processes: Vec<(Image, Vec<u8>)>,
-) -> Result<Report, Fault<'a>>
+    out: &mut W,
+) -> Result<u8, Fault<'a>>
     requires in_range { IsRunInRange request.now }
     requires few { length processes.items ≤ 16 }
-    ensures { IfOk result (ReportsAsked R.File (option_map (λ s. s.now) request.now.swap) request.now.frames request.now.slots (map (λ start. start_of start.0 start.1.items) processes.items) request.now.slice request.now.limit) }
+    ensures { IfOk result (WritesRun (ReportsAsked R.File (option_map (λ s. s.now) request.now.swap) request.now.frames request.now.slots (map (λ start. start_of start.0 start.1.items) processes.items) request.now.slice request.now.limit) (W.contents out.old) (W.contents out.new)) }
 {
-    let (frames, slots, slice) = (request.frames, request.slots, request.slice);
-    let limit = u64::from(request.limit);
     match request.swap {
         None => {
-            let slots = memory_slots(rt.alloc(), slots)?;
-            Ok(run(rt.alloc(), frames, slots, processes, slice, limit)?)
+            let slots = memory_slots(rt.alloc(), request.slots)?;
+            run(rt.alloc(), request, slots, processes, out)
         }
         Some(prefix) => {
-            let slots = rt.make_slots(prefix, slots)?;
-            Ok(run(rt.alloc(), frames, slots, processes, slice, limit)?)
+            let slots = rt.make_slots(prefix, request.slots)?;
+            run(rt.alloc(), request, slots, processes, out)
         }
     }
 }
 
-/// Runs a new machine on these slots until each process has ended, or so many events have happened, and tells what it has come
-/// to.
-fn run<S: SwapSlot>(
+/// Runs a new machine on these slots until each process has ended, or as many events have happened as are asked for, and writes what it
+/// has come to.
+fn run<'a, S: SwapSlot, W: Write>(
     alloc: Global,
-    frames: u32,
+    request: &RunRequest<'a>,
     slots: Vec<S>,
     processes: Vec<(Image, Vec<u8>)>,
-    slice: u32,
-    limit: u64,
-) -> Result<Report, AllocError>
-    requires least { 4 ≤ frames }
-    requires most { frames ≤ 4096 }
+    out: &mut W,
+) -> Result<u8, Fault<'a>>
+    requires in_range { IsRunInRange request.now }
     requires few { length processes.items ≤ 16 }
-    ensures { IfOk result (ReportsOver S.content S.honest S.failures frames slots.items (map (λ start. start_of start.0 start.1.items) processes.items) slice limit) }
+    ensures { IfOk result (WritesRun (ReportsOver S.content S.honest S.failures request.now.frames slots.items (map (λ start. start_of start.0 start.1.items) processes.items) request.now.slice request.now.limit) (W.contents out.old) (W.contents out.new)) }
 {
-    let blank = Blank::new(u64::from(frames) + 1);
-    run_with::<Brand, S>(alloc, frames, blank, slots, processes, slice, limit)
+    let blank = Blank::new(u64::from(request.frames) + 1);
+    run_with::<Brand, S, W>(alloc, request, blank, slots, processes, out)
 }
 
-fn run_with<L: Ledger, S: SwapSlot>(
+fn run_with<'a, L: Ledger, S: SwapSlot, W: Write>(
     alloc: Global,
-    frames: u32,
+    request: &RunRequest<'a>,
     blank: Blank,
     slots: Vec<S>,
     processes: Vec<(Image, Vec<u8>)>,
-    slice: u32,
-    limit: u64,
-) -> Result<Report, AllocError>
+    out: &mut W,
+) -> Result<u8, Fault<'a>>
+    requires in_range { IsRunInRange request.now }
     requires name { blank.name ≡ L.name }
     requires parts { blank.parts ≡ L.parts }
-    requires one_each { L.parts ≡ frames + 1 }
-    requires least { 4 ≤ frames }
-    requires most { frames ≤ 4096 }
+    requires one_each { L.parts ≡ request.now.frames + 1 }
     requires few { length processes.items ≤ 16 }
-    ensures { IfOk result (ReportsOver S.content S.honest S.failures frames slots.items (map (λ start. start_of start.0 start.1.items) processes.items) slice limit) }
+    ensures { IfOk result (WritesRun (ReportsOver S.content S.honest S.failures request.now.frames slots.items (map (λ start. start_of start.0 start.1.items) processes.items) request.now.slice request.now.limit) (W.contents out.old) (W.contents out.new)) }
 {
-    let mut machine = machine_on::<L, S>(alloc, frames, blank, slots, processes)?;
-    run_serial(alloc, &mut machine, slice, limit)
+    let mut machine = machine_on::<L, S>(alloc, request.frames, blank, slots, processes)?;
+    play(&mut machine, request.slice, u64::from(request.limit));
+    write_machine(&machine, out)?;
+    Ok(status_of_machine(&machine))
 }

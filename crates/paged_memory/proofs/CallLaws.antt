@@ -14,7 +14,7 @@ use Rattle.sv32_table.specs.EntryAt.{entry_at, ChangesEntry, SameTables, unacces
 use Rattle.sv32_table.specs.EntryLaws.{unaccessed_entry-page_entry, accessed_of-page_entry, accessed-page_entry, dirty-page_entry}
 use Rattle.tlb_core.specs.declared.translation.Translation.{Translation}
 use Rattle.tlb_core.specs.Cache.{doomed}
-use Rattle.page_memory.specs.Memory.{Page}
+use Rattle.page_memory.specs.Pages.{Page}
 use Rattle.paged_memory.specs.Seen as seen
 use Rattle.paged_memory.specs.Seen.{Seen, entry_seen, entry_standing, rights_seen, is_changed, is_used}
 use Rattle.paged_memory.specs.Soundness.{IsMapped}

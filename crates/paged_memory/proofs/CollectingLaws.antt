@@ -2,7 +2,7 @@
 use Rattle.std.specs.Prelude.{◌≡◌, ℕ, ◌^◌, ◌<◌, Bool, true, false, Option, Some, None, is_some, List, refl, ◌⊎◌}
 use Rattle.std.proofs.Common.{sym, ap, ◌∙◌, subst, inl, inr}
 use Rattle.frame_pool.specs.FrameValue.{FrameValue}
-use Rattle.page_memory.specs.Memory.{Page}
+use Rattle.page_memory.specs.Pages.{Page}
 use Rattle.page_store.specs.declared.state.Keeping.{Keeping}
 use Rattle.page_store.specs.declared.state.Keeping.TheVariants.{NoSlot, Unsaved, Saved}
 use Rattle.page_store.specs.declared.answer.Collected.{Collected}
@@ -13,7 +13,7 @@ use Rattle.tlb_core.specs.declared.translation.Translation.{Translation}
 use Rattle.paged_memory.specs.Soundness.{is_held}
 use Rattle.paged_memory.specs.Leaving.{lets_go, Collects, CollectsAt}
 use Rattle.paged_memory.specs.Calls.{ChangesBy}
-use Rattle.paged_memory.specs.Paged.{standing_of, page_at, flat_page, memory_of, Holds, ChangesPage}
+use Rattle.paged_memory.specs.Paged.{standing_of, page_at, flat_page, flat_pages, Holds, ChangesPage}
 use Rattle.paged_memory.proofs.Holding.{held_by_none}
 use Rattle.paged_memory.proofs.PagedLaws.{memory_stays}
 use Rattle.paged_memory.proofs.MovesLaws.{IsBlank, entry_blank, holds_same, holds_moved}
@@ -86,7 +86,7 @@ module _ {L S : Type 0} (process vpn : ℕ) where
               (held_by_none vpn caches away.uncached)
         ]
 
-    memory_looked : {pages' : List (ℕ × PageValue S)} → ChangesBy Look pages pages' vpn → honest → memory_of held pages' ≡ memory_of held pages
+    memory_looked : {pages' : List (ℕ × PageValue S)} → ChangesBy Look pages pages' vpn → honest → flat_pages held pages' ≡ flat_pages held pages
     memory_looked {pages'} told is_honest =
         elim (looked_page (is_held vpn caches) spare spare' answer told.page told.page' told.how) [
           | inl stays ↦ memory_stays held pages pages' vpn told.page told.page' told.found (ap (flat_page held) stays) told.changes
@@ -103,6 +103,6 @@ module _ {L S : Type 0} (process vpn : ℕ) where
     holds_collected None told = subst (λ p. Holds held honest p tables caches) (sym told.1.1) holds
 
     -- and what the memory holds stays
-    pub memory_collected : (pages' : List (ℕ × PageValue S)) (o : Option (PageValue S)) → CollectsAt process vpn (is_held vpn caches) spare spare' answer pages pages' o → honest → memory_of held pages' ≡ memory_of held pages
+    pub memory_collected : (pages' : List (ℕ × PageValue S)) (o : Option (PageValue S)) → CollectsAt process vpn (is_held vpn caches) spare spare' answer pages pages' o → honest → flat_pages held pages' ≡ flat_pages held pages
     memory_collected pages' (Some page) told is_honest = memory_looked told is_honest
-    memory_collected pages' None told is_honest = ap (memory_of held) told.1.1
+    memory_collected pages' None told is_honest = ap (flat_pages held) told.1.1

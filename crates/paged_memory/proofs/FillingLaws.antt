@@ -5,7 +5,7 @@ use Rattle.frame_pool.specs.FrameValue.{FrameValue}
 use Rattle.page_memory.specs.Entries.{place_of, value_at, with_value}
 use Rattle.page_store.specs.declared.state.Keeping.{Keeping}
 use Rattle.page_store.specs.declared.state.Keeping.TheVariants.{NoSlot}
-use Rattle.page_memory.specs.Memory.{Page}
+use Rattle.page_memory.specs.Pages.{Page}
 use Rattle.page_store.specs.CopyValue.{CopyValue}
 use Rattle.page_store.specs.PageValue.{BackedAt, PageValue, Place, Fresh, Resident, Leaving, Saving, Away, Purged, frame_of, content, Backed}
 use Rattle.page_store.specs.Moves.{Filled, IfAbsent, IfResident, IfAway, IfSaved}
@@ -17,7 +17,7 @@ use Rattle.sv32_table.specs.EntryLaws.{dirty-page_entry}
 use Rattle.tlb_core.specs.declared.translation.Translation.{Translation}
 use Rattle.paged_memory.specs.Seen.{Elsewhere, entry_standing, rights_seen}
 use Rattle.paged_memory.specs.Soundness.{IsMapped}
-use Rattle.paged_memory.specs.Paged.{standing_of, seen_of, page_at, flat_page, memory_of, Holds}
+use Rattle.paged_memory.specs.Paged.{standing_of, seen_of, page_at, flat_page, flat_pages, Holds}
 use Rattle.paged_memory.specs.Calls.{ChangesBy}
 use Rattle.paged_memory.specs.Filling.{BroughtIn, StaysAbsent, FailsToLoad, ComesDamaged, StaysUnmapped, RefusesAbsent, RefusesPageIn}
 use Rattle.paged_memory.specs.declared.filling.PageInFault.{PageInFault}
@@ -172,7 +172,7 @@ module _ {S : Type 0} (held : S → List ℕ) (honest : Type 0) where
   pub unmapped_stays : {failures : S → ℕ} {back : FrameValue} {pages pages' : List (ℕ × PageValue S)} {number : ℕ} → ChangesBy (StaysUnmapped held honest failures back) pages pages' number → ChangesBy (StaysAbsent held honest) pages pages' number
   unmapped_stays told = record { page = told.page; page' = told.page'; found = told.found; changes = told.changes; how = told.how.stays }
 
-  pub memory_absent : {pages pages' : List (ℕ × PageValue S)} {number : ℕ} → ChangesBy (StaysAbsent held honest) pages pages' number → honest → memory_of held pages' ≡ memory_of held pages
+  pub memory_absent : {pages pages' : List (ℕ × PageValue S)} {number : ℕ} → ChangesBy (StaysAbsent held honest) pages pages' number → honest → flat_pages held pages' ≡ flat_pages held pages
   memory_absent {pages} {pages'} {number} told is_honest = memory_stays held pages pages' number told.page told.page' told.found (shows held told.page told.page' told.how.origin (told.how.content is_honest)) told.changes
 
   module _ {U : Type 0} (failures : S → ℕ) (frame : FrameValue) (pages pages' : List (ℕ × PageValue S)) (tables tables' : List (List ℕ)) (number : ℕ) where
@@ -191,12 +191,12 @@ module _ {S : Type 0} (held : S → List ℕ) (honest : Type 0) where
 
     -- and the memory shows what it showed, where slots are honest
     pub memory_paged_in : (result : Result U (FrameValue × PageInFault)) → OnOk result (ChangesBy (BroughtIn held honest frame) pages pages' number)
-        → IfErr result (λ back. RefusesPageIn held honest failures frame pages pages' tables number back.0 back.1) → honest → memory_of held pages' ≡ memory_of held pages
+        → IfErr result (λ back. RefusesPageIn held honest failures frame pages pages' tables number back.0 back.1) → honest → flat_pages held pages' ≡ flat_pages held pages
     memory_paged_in (Ok u) ok refused is_honest = memory_stays held pages pages' number ok.page ok.page' ok.found (shows held ok.page ok.page' ok.how.origin (ok.how.content is_honest)) ok.changes
     memory_paged_in (Err back) ok refused is_honest = by_fault back.1 refused
       where
-        by_fault : (fault : PageInFault) → RefusesPageIn held honest failures frame pages pages' tables number back.0 fault → memory_of held pages' ≡ memory_of held pages
-        by_fault NotAbsent how = ap (memory_of held) how.1.0
+        by_fault : (fault : PageInFault) → RefusesPageIn held honest failures frame pages pages' tables number back.0 fault → flat_pages held pages' ≡ flat_pages held pages
+        by_fault NotAbsent how = ap (flat_pages held) how.1.0
         by_fault Device how = memory_absent (failed_stays how.0) is_honest
         by_fault Damaged how = memory_absent (damaged_stays how.0) is_honest
         by_fault NoMemory how = memory_absent (unmapped_stays how.1.0) is_honest

@@ -8,7 +8,9 @@ use Rattle.page_memory.specs.declared.words.Access.TheVariants.{Load, Store}
 use Rattle.page_memory.specs.declared.rights.Rights.{Rights}
 use Rattle.std.proofs.lemmas.Option.{same_Some, none-some}
 use Rattle.page_memory.specs.Rights.{may, read_write}
-use Rattle.page_memory.specs.Memory.{Page, with_zeroed}
+use Rattle.page_memory.specs.Pages.{Page, with_zeroed}
+use Rattle.page_memory.specs.Memory as whole
+use Rattle.page_memory.specs.Reservations.{Reservations}
 use Rattle.page_memory.specs.Entries.{place_of, added, added_unless, with_added}
 use Rattle.page_memory.specs.EntriesLaws.{inserted, place_stays}
 use Rattle.page_memory.specs.StandsForLaws.{entry-changes, map_by-added}
@@ -18,7 +20,7 @@ use Rattle.sv32_table.specs.EntryAt.{entry_at}
 use Rattle.tlb_core.specs.declared.translation.Translation.{Translation}
 use Rattle.paged_memory.specs.Seen.{entry_seen, frame_seen}
 use Rattle.paged_memory.specs.Growth.{fresh_zero_page, LacksOne}
-use Rattle.paged_memory.specs.Paged.{PagedValue, seen_of, page_at, seen_at, flat_page, memory_of, Holds, ChangesPage}
+use Rattle.paged_memory.specs.Paged.{PagedValue, seen_of, page_at, seen_at, flat_page, flat_pages, memory_in, Holds, ChangesPage}
 use Rattle.page_store.specs.Lending.{with_bytes}
 use Rattle.paged_memory.specs.HartMemory.{KeepsPages}
 use Rattle.paged_memory.specs.HartMemoryLaws.{pages_itself, pages_on}
@@ -70,8 +72,8 @@ module _ {S : Type 0} where
     holds_zeroed pages first (suc count) within holds = holds_one (with_added first count fresh_zero_page pages) (first + count) (omega arith) (holds_zeroed pages first count (omega arith) holds)
 
   -- and the memory that they stand for
-  pub memory_zeroed : (held : S → List ℕ) (pages : List (ℕ × PageValue S)) (first count : ℕ) → memory_of held (with_added first count fresh_zero_page pages) ≡ with_zeroed first count (memory_of held pages)
-  unfolding memory_of zero_bytes
+  pub memory_zeroed : (held : S → List ℕ) (pages : List (ℕ × PageValue S)) (first count : ℕ) → flat_pages held (with_added first count fresh_zero_page pages) ≡ with_zeroed first count (flat_pages held pages)
+  unfolding flat_pages zero_bytes
   memory_zeroed held pages first count = map_by-added (flat_page held) pages first count fresh_zero_page refl
 
 -- a page that is missing once others were added was missing before
@@ -141,9 +143,15 @@ pub holds_grown : {S U E : Type 0} {held : S → List ℕ} {honest : Type 0} {ta
 holds_grown (Ok u) old new first count within ok err holds = rw ok (holds_zeroed old first count within holds)
 holds_grown (Err e) old new first count within ok err holds = rw err holds
 
-pub memory_grown : {S U E : Type 0} (held : S → List ℕ) (result : Result U E) (old new : List (ℕ × PageValue S)) (first count : ℕ) → OnOk result (new ≡ with_added first count fresh_zero_page old) → OnOk result (memory_of held new ≡ with_zeroed first count (memory_of held old))
-memory_grown held (Ok u) old new first count ok = ap (memory_of held) ok ∙ memory_zeroed held old first count
+pub memory_grown : {S U E : Type 0} (held : S → List ℕ) (result : Result U E) (old new : List (ℕ × PageValue S)) (first count : ℕ) → OnOk result (new ≡ with_added first count fresh_zero_page old) → OnOk result (flat_pages held new ≡ with_zeroed first count (flat_pages held old))
+memory_grown held (Ok u) old new first count ok = ap (flat_pages held) ok ∙ memory_zeroed held old first count
 memory_grown held (Err e) old new first count ok = ok
+
+-- and with the words that are reserved, which stay
+pub memory_grown_with : {S U E : Type 0} (held : S → List ℕ) (reserved : Reservations) (result : Result U E) (old new : List (ℕ × PageValue S)) (first count : ℕ) → OnOk result (new ≡ with_added first count fresh_zero_page old)
+    → OnOk result (memory_in held new reserved ≡ whole.with_zeroed first count (memory_in held old reserved))
+memory_grown_with held reserved (Ok u) old new first count ok = ap (λ p. record { pages = p; reserved = reserved }) (memory_grown {E = Unit {0}} held (Ok u) old new first count ok)
+memory_grown_with held reserved (Err e) old new first count ok = ok
 
 -- one more page, as it begins
 pub holds_mapped : {S : Type 0} {held : S → List ℕ} {honest : Type 0} {tables : List (List ℕ)} {caches : List (List Translation)} (pages : List (ℕ × PageValue S)) (number : ℕ) (origin : Page) → number < 2 ^ 20 → place_of number pages ≡ None → (may Store origin.rights ≡ true → may Load origin.rights ≡ true) → Holds held honest pages tables caches → Holds held honest (pages ++ (number, record { origin = origin; place = Fresh }) ∷ []) tables caches

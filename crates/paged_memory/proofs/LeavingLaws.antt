@@ -14,7 +14,7 @@ use Rattle.tlb_core.specs.declared.translation.Translation.{Translation}
 use Rattle.tlb_core.specs.Cache.{doomed}
 use Rattle.paged_memory.specs.Seen.{frame_seen, rights_seen, is_changed}
 use Rattle.paged_memory.specs.Calls.{IsResident, ChangesBy, Leaves}
-use Rattle.paged_memory.specs.Paged.{seen_of, page_at, seen_at, flat_page, memory_of, Holds, ChangesPage}
+use Rattle.paged_memory.specs.Paged.{seen_of, page_at, seen_at, flat_page, flat_pages, Holds, ChangesPage}
 use Rattle.paged_memory.proofs.SoundnessLaws.{Stays}
 use Rattle.paged_memory.proofs.PagedLaws.{Change, choice_here, Holds-doomed, memory_stays}
 use Rattle.paged_memory.proofs.CallLaws.{entry_resident, seen_resident}
@@ -119,5 +119,5 @@ module _ {S : Type 0} where
     changes_told = subst (λ p. ChangesPage pages pages' number p) left_now.is told.changes
 
     -- and what the memory holds stays
-    pub memory_told : (held : S → List ℕ) → memory_of held pages' ≡ memory_of held pages
+    pub memory_told : (held : S → List ℕ) → flat_pages held pages' ≡ flat_pages held pages
     memory_told held = memory_stays held pages pages' number told.page told.page' told.found (ap (flat_page held) left_now.is ∙ sym (ap (flat_page held) left_now.was)) told.changes

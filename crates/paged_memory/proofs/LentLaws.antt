@@ -3,7 +3,7 @@ use Rattle.std.specs.Prelude.{◌≡◌, ℕ, ◌^◌, ◌<◌, ◌%◌, Some, O
 use Rattle.std.proofs.Common.{sym, ap, ◌∙◌, subst}
 use Rattle.std.proofs.lemmas.Option.{same_Some}
 use Rattle.byteorder.specs.Endian.{little_bytes, little_number}
-use Rattle.page_memory.specs.Memory.{overwritten, number_at, stored, replaced, copied_in, usable}
+use Rattle.page_memory.specs.Pages.{overwritten, number_at, usable, stored, replaced, copied_in}
 use Rattle.page_memory.specs.Words.{page_number, page_offset, bytes_in}
 use Rattle.page_memory.specs.declared.words.Access.{Access}
 use Rattle.page_memory.specs.declared.words.Access.TheVariants.{Store}
@@ -13,7 +13,7 @@ use Rattle.page_store.specs.PageValue.{PageValue, content}
 use Rattle.page_store.specs.Lending.{with_bytes}
 use Rattle.tlb_core.specs.declared.translation.Translation.{Translation}
 use Rattle.paged_memory.specs.Access.{Reaches, KeepsBare, UsesBytes}
-use Rattle.paged_memory.specs.Paged.{Holds, flat_page, memory_of}
+use Rattle.paged_memory.specs.Paged.{Holds, flat_page, flat_pages}
 use Rattle.paged_memory.proofs.ReadLaws.{uses_bytes}
 use Rattle.paged_memory.proofs.WriteLaws.{holds_written, bare_stays, stored_written, copied_written, replaced_written}
 
@@ -35,27 +35,27 @@ module _ {S : Type 0} {held : S → List ℕ} {honest : Type 0} {pages : List (�
 module _ {S : Type 0} (held : S → List ℕ) (pages : List (ℕ × PageValue S)) (tables : List (List ℕ)) (address place : ℕ) where
   -- and the memory
   module _ (reached : Reaches pages tables Store (page_number address) place) (lent now : PageValue S) (at : value_at place pages ≡ Some lent) where
-    written_to : (bytes : PageValue S → List ℕ) → now ≡ with_bytes lent (bytes lent) → memory_of held (with_value pages place (with_bytes reached.page (bytes reached.page))) ≡ memory_of held (with_value pages place now)
-    written_to bytes is = ap (λ p. memory_of held (with_value pages place p)) (sym (is ∙ ap (λ p. with_bytes p (bytes p)) (lent_is reached lent at)))
+    written_to : (bytes : PageValue S → List ℕ) → now ≡ with_bytes lent (bytes lent) → flat_pages held (with_value pages place (with_bytes reached.page (bytes reached.page))) ≡ flat_pages held (with_value pages place now)
+    written_to bytes is = ap (λ p. flat_pages held (with_value pages place p)) (sym (is ∙ ap (λ p. with_bytes p (bytes p)) (lent_is reached lent at)))
 
     pub stored_lent : (width : Width) (word : ℕ) → address % bytes_in width ≡ 0 → now ≡ with_bytes lent (overwritten (content held lent) (page_offset address) (little_bytes (bytes_in width) word))
-        → stored (memory_of held pages) width address word ≡ Ok (memory_of held (with_value pages place now))
+        → stored (flat_pages held pages) width address word ≡ Ok (flat_pages held (with_value pages place now))
     stored_lent width word aligned is =
         stored_written held pages tables width address word place aligned reached ∙ ap Ok (written_to (λ p. overwritten (content held p) (page_offset address) (little_bytes (bytes_in width) word)) is)
 
-    pub copied_lent : (from : List ℕ) (offset : ℕ) → offset ≡ page_offset address → now ≡ with_bytes lent (overwritten (content held lent) offset from) → copied_in (memory_of held pages) address from ≡ Ok (memory_of held (with_value pages place now))
+    pub copied_lent : (from : List ℕ) (offset : ℕ) → offset ≡ page_offset address → now ≡ with_bytes lent (overwritten (content held lent) offset from) → copied_in (flat_pages held pages) address from ≡ Ok (flat_pages held (with_value pages place now))
     copied_lent from offset offset_is is =
         copied_written held pages tables address place from reached
         ∙ ap Ok (written_to (λ p. overwritten (content held p) (page_offset address) from) (is ∙ ap (λ o. with_bytes lent (overwritten (content held lent) o from)) offset_is))
 
     pub replaced_lent : (update : ℕ → ℕ) (old : ℕ) → address % 4 ≡ 0 → old ≡ little_number 4 (drop (page_offset address) (content held lent)) → now ≡ with_bytes lent (overwritten (content held lent) (page_offset address) (little_bytes 4 (update old)))
-        → replaced (memory_of held pages) update address ≡ Ok (old, memory_of held (with_value pages place now))
+        → replaced (flat_pages held pages) update address ≡ Ok (old, flat_pages held (with_value pages place now))
     replaced_lent update old aligned old_is is =
         let word = ap (λ p. number_at 4 address (flat_page held p)) (lent_is reached lent at) in
         replaced_written held pages tables update address place aligned reached
         ∙ ap (λ m. Ok (number_at 4 address (flat_page held reached.page), m)) (written_to (λ p. overwritten (content held p) (page_offset address) (little_bytes 4 (update (number_at 4 address (flat_page held p))))) (is ∙ ap (λ n. with_bytes lent (overwritten (content held lent) (page_offset address) (little_bytes 4 (update n)))) old_is))
-        ∙ ap (λ n. Ok (n, memory_of held (with_value pages place now))) (sym (old_is ∙ word))
+        ∙ ap (λ n. Ok (n, flat_pages held (with_value pages place now))) (sym (old_is ∙ word))
 
   -- the bytes that are read
-  pub uses_lent : {access : Access} (reached : Reaches pages tables access (page_number address) place) (lent : PageValue S) → value_at place pages ≡ Some lent → (bytes : List ℕ) → bytes ≡ content held lent → UsesBytes (usable (memory_of held pages) access address) bytes
+  pub uses_lent : {access : Access} (reached : Reaches pages tables access (page_number address) place) (lent : PageValue S) → value_at place pages ≡ Some lent → (bytes : List ℕ) → bytes ≡ content held lent → UsesBytes (usable (flat_pages held pages) access address) bytes
   uses_lent {access} reached lent at bytes is = uses_bytes held pages access address reached bytes (is ∙ ap (content held) (lent_is reached lent at))

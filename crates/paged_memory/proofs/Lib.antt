@@ -8,6 +8,7 @@ pub mod HartLaws
 pub mod WalkLaws
 pub mod LocateLaws
 pub mod ReadLaws
+pub mod ReservationLaws
 pub mod GrowthLaws
 pub mod WriteLaws
 pub mod LentLaws

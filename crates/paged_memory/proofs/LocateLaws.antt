@@ -1,7 +1,7 @@
 -- What is found at a page's place for an access.
 use Rattle.std.specs.Prelude.{◌≡◌, ℕ, true, false, cond, Option, Some, None, option_map, Ok, Err, List, refl}
 use Rattle.std.proofs.Common.{ap, sym, ◌∙◌}
-use Rattle.page_memory.specs.Memory.{Page}
+use Rattle.page_memory.specs.Pages.{Page}
 use Rattle.page_memory.specs.declared.rights.Rights.{Rights}
 use Rattle.page_memory.specs.declared.words.Access.{Access}
 use Rattle.page_memory.specs.declared.fault.MemoryFault.TheVariants.{PageFault}

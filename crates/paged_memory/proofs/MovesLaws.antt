@@ -1,7 +1,7 @@
 -- A page that is not resident becomes another that is not.
 use Rattle.std.specs.Prelude.{◌≡◌, ℕ, ◌^◌, ◌<◌, Bool, true, false, Some, option_map, is_some, List, [], ◌∷◌, zero, suc, refl}
 use Rattle.std.proofs.Common.{sym, ap, ◌∙◌, subst}
-use Rattle.page_memory.specs.Memory.{Page}
+use Rattle.page_memory.specs.Pages.{Page}
 use Rattle.page_memory.specs.Entries.{value_at, with_value}
 use Rattle.page_store.specs.PageValue.{PageValue, frame_of, Backed}
 use Rattle.sv32_table.specs.Entry.{Entry, blank}

@@ -17,7 +17,7 @@ use Rattle.paged_memory.specs.Seen.{is_used}
 use Rattle.paged_memory.specs.Soundness.{IsMapped}
 use Rattle.paged_memory.proofs.SoundnessLaws.{ChangesAt, Unheld, Stays, changed_unheld, changed_held, changed_doomed}
 use Rattle.paged_memory.specs.Calls.{ChangesBy}
-use Rattle.paged_memory.specs.Paged.{seen_of, page_at, seen_at, flat_page, memory_of, ArePlaced, Holds, ChangesPage}
+use Rattle.paged_memory.specs.Paged.{seen_of, page_at, seen_at, flat_page, flat_pages, ArePlaced, Holds, ChangesPage}
 
 pub swap_key : {A : Type 0} (q number : ℕ) (x y : A) → cond (eq_by_cmp nat_cmp q number) x y ≡ (if q == number then x else y)
 swap_key q number x y = ap (λ b. cond b x y) (equal_by_order q number ∙ turned number q)
@@ -66,8 +66,8 @@ module _ {S : Type 0} where
   changes_no_page pages number page is = record { places = λ q k at. at; pages = λ q. same_where (page_at pages) number q (Some page) is; entries = record { changed = sym (put_back (from_entries {R = nat_cmp} pages) number page (sym (get-page_at pages number) ∙ is)) } }
 
   -- where a page shows what it showed, the memory stays
-  pub memory_stays : (held : S → List ℕ) (old new : List (ℕ × PageValue S)) (number : ℕ) (before page : PageValue S) → page_at old number ≡ Some before → flat_page held page ≡ flat_page held before → ChangesPage old new number page → memory_of held new ≡ memory_of held old
-  unfolding memory_of
+  pub memory_stays : (held : S → List ℕ) (old new : List (ℕ × PageValue S)) (number : ℕ) (before page : PageValue S) → page_at old number ≡ Some before → flat_page held page ≡ flat_page held before → ChangesPage old new number page → flat_pages held new ≡ flat_pages held old
+  unfolding flat_pages
   memory_stays held old new number before page is same changes = map_by-same (flat_page held) old new number before page (sym (get-page_at old number) ∙ is) same changes.entries
 
 -- an entry that stays

@@ -4,6 +4,7 @@ use Rattle.std.proofs.Common.{sym, ap, ◌∙◌, subst, unwrap_or}
 use Rattle.std.specs.FinMap.{get}
 use Rattle.page_memory.specs.Words.{page_number, page_offset}
 use Rattle.page_memory.specs.Entries.{place_of, value_at, with_value}
+use Rattle.page_memory.specs.Reservations.{Reservations}
 use Rattle.page_memory.specs.StandsForLaws.{get-map_by-place}
 use Rattle.page_store.specs.declared.refusal.ReadFault.TheVariants as read
 use Rattle.page_store.specs.PageValue.{PageValue, Place, Fresh, Resident, Leaving, Saving, Away, Purged, content, page_state_of, Known, kept_digest}
@@ -11,7 +12,7 @@ use Rattle.page_store.specs.Moves.{IfAbsent, IfAway, RefusesRead}
 use Rattle.page_store.specs.Reading.{some_from}
 use Rattle.swap_slots.specs.Slot.{Rose}
 use Rattle.tlb_core.specs.declared.translation.Translation.{Translation}
-use Rattle.paged_memory.specs.Paged.{page_at, flat_page, memory_of, Holds}
+use Rattle.paged_memory.specs.Paged.{page_at, flat_page, flat_pages, memory_in, Holds}
 use Rattle.paged_memory.specs.Calls.{ChangesBy}
 use Rattle.paged_memory.specs.Filling.{StaysAbsent, FailsToLoad}
 use Rattle.paged_memory.specs.Peeking.{bytes_of, ShowsBytes, LeavesPlace, LeavesPage}
@@ -110,8 +111,8 @@ module _ {S : Type 0} (held : S → List ℕ) (honest : Type 0) where
   pub holds_peeked : (pages pages' : List (ℕ × PageValue S)) (tables : List (List ℕ)) (caches : List (List Translation)) (number : ℕ) (was : Option (PageValue S)) → number < 2 ^ 20 → LeavesPage held honest pages pages' number was → Holds held honest pages tables caches → Holds held honest pages' tables caches
   holds_peeked pages pages' tables caches number was small left holds = left_stays pages pages' number was left _ (λ same. rw same holds) (λ told. holds_absent held honest number small holds told)
 
-  pub memory_peeked : (pages pages' : List (ℕ × PageValue S)) (number : ℕ) (was : Option (PageValue S)) → LeavesPage held honest pages pages' number was → honest → memory_of held pages' ≡ memory_of held pages
-  memory_peeked pages pages' number was left is_honest = left_stays pages pages' number was left _ (λ same. ap (memory_of held) same) (λ told. memory_absent held honest told is_honest)
+  pub memory_peeked : (pages pages' : List (ℕ × PageValue S)) (number : ℕ) (was : Option (PageValue S)) → LeavesPage held honest pages pages' number was → honest → flat_pages held pages' ≡ flat_pages held pages
+  memory_peeked pages pages' number was left is_honest = left_stays pages pages' number was left _ (λ same. ap (flat_pages held) same) (λ told. memory_absent held honest told is_honest)
 
   -- ---- the bytes
 
@@ -123,15 +124,15 @@ module _ {S : Type 0} (held : S → List ℕ) (honest : Type 0) where
   all_known (Away slot) is_honest = is_honest
   all_known Purged is_honest = tt
 
-  get-memory_of : (pages : List (ℕ × PageValue S)) (number : ℕ) → get (memory_of held pages) number ≡ option_map (flat_page held) (page_at pages number)
-  unfolding memory_of page_at
-  get-memory_of pages number = get-map_by-place (flat_page held) pages number
+  get-shown : (pages : List (ℕ × PageValue S)) (number : ℕ) → get (flat_pages held pages) number ≡ option_map (flat_page held) (page_at pages number)
+  unfolding flat_pages page_at
+  get-shown pages number = get-map_by-place (flat_page held) pages number
 
-  pub bytes_shown : {U E : Type 0} (pages : List (ℕ × PageValue S)) (address number offset count : ℕ) (bytes : List (Option ℕ)) (result : Result U E) → number ≡ page_number address → offset ≡ page_offset address
-      → OnOk result (ShowsBytes held honest (page_at pages number) offset count bytes) → honest → OnOk result (bytes_of (memory_of held pages) address count ≡ Some bytes)
-  bytes_shown pages address number offset count bytes (Err e) is_number is_offset shows is_honest = tt
-  bytes_shown pages address number offset count bytes (Ok u) is_number is_offset shows is_honest =
-      ap (option_map (λ page. some_from page.bytes (page_offset address) count)) (get-memory_of pages (page_number address))
+  pub bytes_shown : {U E : Type 0} (pages : List (ℕ × PageValue S)) (reserved : Reservations) (address number offset count : ℕ) (bytes : List (Option ℕ)) (result : Result U E) → number ≡ page_number address → offset ≡ page_offset address
+      → OnOk result (ShowsBytes held honest (page_at pages number) offset count bytes) → honest → OnOk result (bytes_of (memory_in held pages reserved) address count ≡ Some bytes)
+  bytes_shown pages reserved address number offset count bytes (Err e) is_number is_offset shows is_honest = tt
+  bytes_shown pages reserved address number offset count bytes (Ok u) is_number is_offset shows is_honest =
+      ap (option_map (λ page. some_from page.bytes (page_offset address) count)) (get-shown pages (page_number address))
       ∙ by_page (page_at pages (page_number address)) (subst (λ o. ShowsBytes held honest (page_at pages (page_number address)) o count bytes) is_offset (subst (λ n. ShowsBytes held honest (page_at pages n) offset count bytes) is_number shows))
     where
       by_page : (o : Option (PageValue S)) → ShowsBytes held honest o (page_offset address) count bytes → option_map (λ page. some_from page.bytes (page_offset address) count) (option_map (flat_page held) o) ≡ Some bytes

@@ -15,7 +15,7 @@ use Rattle.tlb_core.specs.declared.translation.Translation.{Translation}
 use Rattle.paged_memory.specs.Seen.{frame_seen, rights_seen, is_changed, is_used}
 use Rattle.paged_memory.specs.Leaving.{is_leaving, is_leaving_place, Returns, ReturnsAs}
 use Rattle.paged_memory.specs.Calls.{ChangesBy}
-use Rattle.paged_memory.specs.Paged.{seen_of, page_at, seen_at, flat_page, memory_of, Holds, ChangesPage}
+use Rattle.paged_memory.specs.Paged.{seen_of, page_at, seen_at, flat_page, flat_pages, Holds, ChangesPage}
 use Rattle.paged_memory.proofs.SoundnessLaws.{Stays}
 use Rattle.paged_memory.proofs.PagedLaws.{page_at-place, Change, choice_here, Holds-held, memory_stays}
 use Rattle.paged_memory.proofs.CallLaws.{entry_at_changed, mapped_resident}
@@ -113,7 +113,7 @@ module _ {S : Type 0} where
       holds_returned = Holds-held change caches holds stays (λ used. cc)
 
   -- and what the memory holds stays
-  pub memory_returned : (held : S → List ℕ) {pages pages' : List (ℕ × PageValue S)} {number : ℕ} {mark : Bool} → ChangesBy (Returns mark) pages pages' number → memory_of held pages' ≡ memory_of held pages
+  pub memory_returned : (held : S → List ℕ) {pages pages' : List (ℕ × PageValue S)} {number : ℕ} {mark : Bool} → ChangesBy (Returns mark) pages pages' number → flat_pages held pages' ≡ flat_pages held pages
   memory_returned held {pages} {pages'} {number} {mark} told =
       memory_stays held pages pages' number told.page told.page' told.found
       (ap (flat_page held) told.how.is ∙ sym (ap (λ p. flat_page held (record { origin = told.page.origin; place = p })) told.how.was))

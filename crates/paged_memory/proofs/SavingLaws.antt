@@ -2,7 +2,7 @@
 use Rattle.std.specs.Prelude.{◌≡◌, ℕ, ◌^◌, ◌<◌, true, false, Some, None, Result, Ok, Err, IfOk, IfErr, IsTrue, is_some, List, refl}
 use Rattle.std.proofs.Common.{sym, ap, ◌∙◌, subst}
 use Rattle.frame_pool.specs.FrameValue.{FrameValue}
-use Rattle.page_memory.specs.Memory.{Page}
+use Rattle.page_memory.specs.Pages.{Page}
 use Rattle.page_memory.specs.Entries.{place_of, value_at, with_value}
 use Rattle.page_store.specs.JobValue.{SavedValue}
 use Rattle.page_store.specs.declared.state.Keeping.TheVariants.{Unsaved}
@@ -13,7 +13,7 @@ use Rattle.page_store.specs.PageValue.{PageValue, Place, Fresh, Resident, Leavin
 use Rattle.tlb_core.specs.declared.translation.Translation.{Translation}
 use Rattle.paged_memory.specs.Leaving.{IsSaving, IsOut, ChangesSaved, Frees, RefusesSaved}
 use Rattle.paged_memory.specs.Calls.{ChangesBy}
-use Rattle.paged_memory.specs.Paged.{standing_of, memory_of, Holds}
+use Rattle.paged_memory.specs.Paged.{standing_of, flat_pages, Holds}
 use Rattle.paged_memory.proofs.PagedLaws.{page_at-place, page_at-nowhere, changes_at_place, changed_by, memory_stays}
 use Rattle.paged_memory.proofs.MovesLaws.{IsBlank, unheld_page, holds_moved, with_same}
 
@@ -58,7 +58,7 @@ module _ {S : Type 0} where
     refused_there (Err Mismatch) its small refused = (its, (small, changed_by pages job.vpn place page page' at value (origin, refused)))
     refused_there (Err Device) its small refused = (its, (small, changed_by pages job.vpn place page page' at value (origin, refused)))
 
-    pub memory_there : (held : S → List ℕ) → content held page' ≡ content held page → memory_of held (with_value pages place page') ≡ memory_of held pages
+    pub memory_there : (held : S → List ℕ) → content held page' ≡ content held page → flat_pages held (with_value pages place page') ≡ flat_pages held pages
     memory_there held shows =
         memory_stays held pages (with_value pages place page') job.vpn page page' (page_at-place pages job.vpn place page at value)
         (ap (λ (o : Page). record { rights = o.rights; bytes = content held page' }) origin ∙ ap (λ b. record { rights = page.origin.rights; bytes = b }) shows)

@@ -2,7 +2,7 @@
 use Rattle.std.specs.Prelude.{◌≡◌, ◌≢◌, ℕ, ◌^◌, ◌<◌, ◌%◌, ◌==◌, Bool, true, false, cond, ◌||◌, Some, option_map, Result, Ok, Err, is_some, List, [], refl}
 use Rattle.std.proofs.Common.{sym, ap, ◌∙◌, subst, eqb-true, eq-eqb, ne_eqb}
 use Rattle.byteorder.specs.Endian.{little_bytes}
-use Rattle.page_memory.specs.Memory.{Page, Memory, overwritten, answer_by, usable, aligned_page, if_aligned, memory_with, number_at, exchanged, replaced, stored, copied_in}
+use Rattle.page_memory.specs.Pages.{Page, overwritten, answer_by, usable, aligned_page, if_aligned, memory_with, number_at, Pages, exchanged, replaced, stored, copied_in}
 use Rattle.page_memory.specs.declared.fault.MemoryFault.{MemoryFault}
 use Rattle.page_memory.specs.declared.fault.MemoryFault.TheVariants.{Misaligned}
 use Rattle.rv_exec.specs.declared.bus.BusError.{BusError}
@@ -23,7 +23,7 @@ use Rattle.tlb_core.specs.declared.translation.Translation.{Translation}
 use Rattle.paged_memory.specs.Seen.{frame_seen, rights_seen, is_changed, is_used}
 use Rattle.paged_memory.specs.Soundness.{IsMapped}
 use Rattle.paged_memory.specs.Access.{Reaches, KeepsBare, bare_at}
-use Rattle.paged_memory.specs.Paged.{standing_of, seen_of, page_at, seen_at, flat_page, memory_of, Holds, ChangesPage}
+use Rattle.paged_memory.specs.Paged.{standing_of, seen_of, page_at, seen_at, flat_page, flat_pages, Holds, ChangesPage}
 use Rattle.paged_memory.specs.HartMemoryLaws.{seen_bare}
 use Rattle.paged_memory.proofs.ReadLaws.{usable_reached}
 use Rattle.paged_memory.proofs.PagedLaws.{Change, get-page_at, page_at-place, changes_at_place, changes_no_entry, Holds-held}
@@ -126,8 +126,8 @@ module _ {S : Type 0} where
         (λ was. ap (λ s. is_used s (entry_at tables number)) (seen_stays number) ∙ was)
 
   -- the memory that is left by a store, and by a copy
-  pub stored_written : (held : S → List ℕ) (pages : List (ℕ × PageValue S)) (tables : List (List ℕ)) (width : Width) (address word place : ℕ) → address % bytes_in width ≡ 0 → (reached : Reaches pages tables Store (page_number address) place) → stored (memory_of held pages) width address word ≡ Ok (memory_of held (with_value pages place (with_bytes reached.page (overwritten (content held reached.page) (page_offset address) (little_bytes (bytes_in width) word)))))
-  unfolding memory_of
+  pub stored_written : (held : S → List ℕ) (pages : List (ℕ × PageValue S)) (tables : List (List ℕ)) (width : Width) (address word place : ℕ) → address % bytes_in width ≡ 0 → (reached : Reaches pages tables Store (page_number address) place) → stored (flat_pages held pages) width address word ≡ Ok (flat_pages held (with_value pages place (with_bytes reached.page (overwritten (content held reached.page) (page_offset address) (little_bytes (bytes_in width) word)))))
+  unfolding flat_pages
   stored_written held pages tables width address word place aligned reached =
       let bytes = overwritten (content held reached.page) (page_offset address) (little_bytes (bytes_in width) word) in
       let found = page_at-place pages (page_number address) place reached.page reached.at reached.value in
@@ -135,8 +135,8 @@ module _ {S : Type 0} where
       (ap (λ b. record (flat_page held reached.page) { bytes = b }) (shown_rewritten held reached.page.origin.bytes reached.page.place bytes reached.framed))
       (changes_at_place pages (page_number address) place (with_bytes reached.page bytes) reached.at).entries
 
-  pub copied_written : (held : S → List ℕ) (pages : List (ℕ × PageValue S)) (tables : List (List ℕ)) (address place : ℕ) (from : List ℕ) (reached : Reaches pages tables Store (page_number address) place) → copied_in (memory_of held pages) address from ≡ Ok (memory_of held (with_value pages place (with_bytes reached.page (overwritten (content held reached.page) (page_offset address) from))))
-  unfolding memory_of
+  pub copied_written : (held : S → List ℕ) (pages : List (ℕ × PageValue S)) (tables : List (List ℕ)) (address place : ℕ) (from : List ℕ) (reached : Reaches pages tables Store (page_number address) place) → copied_in (flat_pages held pages) address from ≡ Ok (flat_pages held (with_value pages place (with_bytes reached.page (overwritten (content held reached.page) (page_offset address) from))))
+  unfolding flat_pages
   copied_written held pages tables address place from reached =
       let bytes = overwritten (content held reached.page) (page_offset address) from in
       let found = page_at-place pages (page_number address) place reached.page reached.at reached.value in
@@ -151,41 +151,41 @@ answered_refused lacks address g (Absent page) (Ok p) is = (is.0, is.1, refl)
 answered_refused lacks address g (Absent page) (Err fault) is = let clash = is.2 in cc
 
 -- a word that is replaced in one step
-replaced_by : {S : Type 0} (held : S → List ℕ) (pages : List (ℕ × PageValue S)) (tables : List (List ℕ)) (update : ℕ → ℕ) (address place : ℕ) → address % 4 ≡ 0 → (reached : Reaches pages tables Store (page_number address) place) → aligned_page (memory_of held pages) Store 4 address ≡ Ok (flat_page held reached.page)
+replaced_by : {S : Type 0} (held : S → List ℕ) (pages : List (ℕ × PageValue S)) (tables : List (List ℕ)) (update : ℕ → ℕ) (address place : ℕ) → address % 4 ≡ 0 → (reached : Reaches pages tables Store (page_number address) place) → aligned_page (flat_pages held pages) Store 4 address ≡ Ok (flat_page held reached.page)
 unfolding aligned_page
 replaced_by held pages tables update address place aligned reached =
-    ap (λ b. if_aligned b (usable (memory_of held pages) Store address)) (eq-eqb (address % 4) 0 aligned) ∙ usable_reached held pages Store address reached
+    ap (λ b. if_aligned b (usable (flat_pages held pages) Store address)) (eq-eqb (address % 4) 0 aligned) ∙ usable_reached held pages Store address reached
 
 pub replaced_written : {S : Type 0} (held : S → List ℕ) (pages : List (ℕ × PageValue S)) (tables : List (List ℕ)) (update : ℕ → ℕ) (address place : ℕ) → address % 4 ≡ 0 → (reached : Reaches pages tables Store (page_number address) place)
-    → replaced (memory_of held pages) update address ≡ Ok (number_at 4 address (flat_page held reached.page), memory_of held (with_value pages place (with_bytes reached.page (overwritten (content held reached.page) (page_offset address) (little_bytes 4 (update (number_at 4 address (flat_page held reached.page))))))))
+    → replaced (flat_pages held pages) update address ≡ Ok (number_at 4 address (flat_page held reached.page), flat_pages held (with_value pages place (with_bytes reached.page (overwritten (content held reached.page) (page_offset address) (little_bytes 4 (update (number_at 4 address (flat_page held reached.page))))))))
 unfolding replaced stored
 replaced_written held pages tables update address place aligned reached =
     let n = number_at 4 address (flat_page held reached.page) in
-    let memory = memory_of held pages in
+    let memory = flat_pages held pages in
     let found = replaced_by held pages tables update address place aligned reached in
     let after = stored_written held pages tables Word address (update n) place aligned reached in
     let same = ok_same _ _ (sym (ap (answer_by (memory_with memory address (little_bytes 4 (update n)))) found) ∙ after) in
     ap (answer_by (exchanged memory update address)) found ∙ ap (λ m. Ok (n, m)) same
   where
-    ok_same : (x y : Memory) → ◌≡◌ {A = Result Memory MemoryFault} (Ok x) (Ok y) → x ≡ y
+    ok_same : (x y : Pages) → ◌≡◌ {A = Result Pages MemoryFault} (Ok x) (Ok y) → x ≡ y
     ok_same x y is = cc
 
-pub replaced_refused : (lacks : ℕ → Type 0) (memory : Memory) (update : ℕ → ℕ) (address : ℕ) (refusal : BusError) → address % 4 ≡ 0 → BusRefuses lacks address (usable memory Store address) refusal → BusRefuses lacks address (replaced memory update address) refusal
+pub replaced_refused : (lacks : ℕ → Type 0) (memory : Pages) (update : ℕ → ℕ) (address : ℕ) (refusal : BusError) → address % 4 ≡ 0 → BusRefuses lacks address (usable memory Store address) refusal → BusRefuses lacks address (replaced memory update address) refusal
 unfolding replaced aligned_page
 replaced_refused lacks memory update address refusal aligned is =
     subst (λ b. BusRefuses lacks address (answer_by (exchanged memory update address) (if_aligned b (usable memory Store address))) refusal) (sym (eq-eqb (address % 4) 0 aligned))
     (answered_refused lacks address (exchanged memory update address) refusal (usable memory Store address) is)
 
-pub replaced_misaligned : (memory : Memory) (update : ℕ → ℕ) (address : ℕ) → address % 4 ≢ 0 → replaced memory update address ≡ Err Misaligned
+pub replaced_misaligned : (memory : Pages) (update : ℕ → ℕ) (address : ℕ) → address % 4 ≢ 0 → replaced memory update address ≡ Err Misaligned
 unfolding replaced aligned_page
 replaced_misaligned memory update address odd = ap (λ b. answer_by (exchanged memory update address) (if_aligned b (usable memory Store address))) (ne_eqb (address % 4) 0 odd)
 
-pub stored_refused : (lacks : ℕ → Type 0) (memory : Memory) (width : Width) (address word : ℕ) (refusal : BusError) → address % bytes_in width ≡ 0 → BusRefuses lacks address (usable memory Store address) refusal → BusRefuses lacks address (stored memory width address word) refusal
+pub stored_refused : (lacks : ℕ → Type 0) (memory : Pages) (width : Width) (address word : ℕ) (refusal : BusError) → address % bytes_in width ≡ 0 → BusRefuses lacks address (usable memory Store address) refusal → BusRefuses lacks address (stored memory width address word) refusal
 unfolding stored aligned_page
 stored_refused lacks memory width address word refusal aligned is =
     subst (λ b. BusRefuses lacks address (answer_by (memory_with memory address (little_bytes (bytes_in width) word)) (if_aligned b (usable memory Store address))) refusal) (sym (eq-eqb (address % bytes_in width) 0 aligned))
     (answered_refused lacks address (memory_with memory address (little_bytes (bytes_in width) word)) refusal (usable memory Store address) is)
 
-pub copied_refused : (lacks : ℕ → Type 0) (memory : Memory) (address : ℕ) (from : List ℕ) (refusal : BusError) → BusRefuses lacks address (usable memory Store address) refusal → BusRefuses lacks address (copied_in memory address from) refusal
+pub copied_refused : (lacks : ℕ → Type 0) (memory : Pages) (address : ℕ) (from : List ℕ) (refusal : BusError) → BusRefuses lacks address (usable memory Store address) refusal → BusRefuses lacks address (copied_in memory address from) refusal
 unfolding copied_in
 copied_refused lacks memory address from refusal is = answered_refused lacks address (memory_with memory address from) refusal (usable memory Store address) is

@@ -10,7 +10,7 @@ use Rattle.page_memory.specs.declared.words.Access.TheVariants.{Store}
 use Rattle.page_memory.specs.Rights.{may}
 use Rattle.page_memory.specs.declared.rights.Rights.{Rights}
 use Rattle.paged_memory.specs.Calls.{IsResident}
-use Rattle.page_memory.specs.Memory.{Page}
+use Rattle.page_memory.specs.Pages.{Page}
 use Rattle.page_memory.specs.Entries.{place_of, value_at}
 use Rattle.page_store.specs.PageValue.{PageValue, Place, writable}
 use Rattle.page_store.specs.PageValue as place

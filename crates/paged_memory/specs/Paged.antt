@@ -1,6 +1,8 @@
 -- The pages, page tables and translation caches of one process, and the memory that they stand for.
 use Rattle.std.specs.Prelude.{◌≡◌, ℕ, ◌^◌, ◌<◌, ◌==◌, true, if◌then◌else◌, Option, Some, option_map, option_and_then, is_some, List, All}
-use Rattle.page_memory.specs.Memory.{Page, Memory}
+use Rattle.page_memory.specs.Pages.{Page, Pages}
+use Rattle.page_memory.specs.Reservations.{Reservations}
+use Rattle.page_memory.specs.Memory.{Memory}
 use Rattle.page_memory.specs.Entries.{place_of, value_at, map_by, ChangesPage as Changes}
 use Rattle.page_store.specs.PageValue.{PageValue, Place, Fresh, Resident, Leaving, Saving, Away, Purged, content, frame_of, Backed}
 use Rattle.sv32_table.specs.EntryAt.{entry_at, has_table}
@@ -9,12 +11,14 @@ use Rattle.paged_memory.specs.Seen.{Standing, Seen}
 use Rattle.paged_memory.specs.Seen as seen
 use Rattle.paged_memory.specs.Soundness.{Agree}
 
--- the number of the process; the pages by their places, each with its number; the tables; and the cache of each hart
+-- the number of the process; the pages by their places, each with its number; the tables; the cache of each hart; and the words
+-- that harts have reserved
 pub record PagedValue (S : Type 0) : Type 0 where
   pub process : ℕ
   pub pages : List (ℕ × PageValue S)
   pub tables : List (List ℕ)
   pub caches : List (List Translation)
+  pub reserved : Reservations
 
 module _ {S : Type 0} where
   -- what translation sees of a page
@@ -58,6 +62,14 @@ module _ {S : Type 0} where
   abbrev pub flat_page : (S → List ℕ) → PageValue S → Page
   flat_page held page = record { rights = page.origin.rights; bytes = content held page }
 
-  -- the memory that the pages stand for
-  unfoldable pub memory_of : (S → List ℕ) → List (ℕ × PageValue S) → Memory
-  memory_of held pages = map_by (flat_page held) pages
+  -- the pages of memory that the pages stand for
+  unfoldable pub flat_pages : (S → List ℕ) → List (ℕ × PageValue S) → Pages
+  flat_pages held pages = map_by (flat_page held) pages
+
+  -- the memory that pages stand for, with the words that harts have reserved
+  abbrev pub memory_in : (S → List ℕ) → List (ℕ × PageValue S) → Reservations → Memory
+  memory_in held pages reserved = record { pages = flat_pages held pages; reserved = reserved }
+
+  -- the memory of a process
+  abbrev pub memory_of : (S → List ℕ) → PagedValue S → Memory
+  memory_of held value = memory_in held value.pages value.reserved

@@ -13,7 +13,7 @@ use Rattle.paged_memory.specs.declared.peeking.PeekFault.TheVariants as fault
 
 -- so many bytes of a memory from an address on, in the page of that address
 abbrev pub bytes_of : Memory → ℕ → ℕ → Option (List (Option ℕ))
-bytes_of memory address count = option_map (λ page. some_from page.bytes (page_offset address) count) (get memory (page_number address))
+bytes_of memory address count = option_map (λ page. some_from page.bytes (page_offset address) count) (get memory.pages (page_number address))
 
 module _ {S : Type 0} (held : S → List ℕ) (honest : Type 0) where
   -- so many bytes that a page shows from an offset on, which are known but for a page whose slot may lie

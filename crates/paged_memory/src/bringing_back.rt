@@ -21,7 +21,8 @@ impl<L: Ledger, S: SwapSlot> PagedMemory<L, S> {
         ensures err { OnErr result (self.new ≡ self.old) }
         ensures process { self.new.process ≡ self.old.process }
         ensures caches { self.new.caches ≡ self.old.caches }
-        ensures memory { memory_of S.content self.new.pages ≡ memory_of S.content self.old.pages }
+        ensures reserved { self.new.reserved ≡ self.old.reserved }
+        ensures memory { memory_of S.content self.new ≡ memory_of S.content self.old }
     {
         if !leaves(&self.pages, vpn) {
             return Err(NotLeaving);

@@ -17,7 +17,7 @@ impl<L: Ledger, S: SwapSlot> PagedMemory<L, S> {
         ensures answer { CollectsAt self.old.process vpn (is_held vpn self.old.caches) spare.old spare.new result self.old.pages self.new.pages (page_at self.old.pages vpn) }
         ensures stays { self.new ≡ record self.old { pages = self.new.pages } }
         ensures same { lets_go result ≡ false → self.new ≡ self.old }
-        ensures memory { S.honest → memory_of S.content self.new.pages ≡ memory_of S.content self.old.pages }
+        ensures memory { S.honest → memory_of S.content self.new ≡ memory_of S.content self.old }
     {
         let cached = self.caches.is_held(vpn);
         collect_page(&mut self.pages, self.process, vpn, cached, spare)

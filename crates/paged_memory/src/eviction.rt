@@ -4,7 +4,7 @@ ghost use Rattle.sv32_table.specs.Entry.{blank};
 ghost use Rattle.sv32_table.specs.EntryAt.{entry_at, ChangesEntry, SameTables, unaccessed_entry, dirty_of};
 ghost use Rattle.tlb_core.specs.Cache.{doomed};
 ghost use Rattle.page_store.specs.PageValue.{page_state_of};
-ghost use Rattle.paged_memory.specs.Paged.{page_at, seen_at, memory_of, Holds};
+ghost use Rattle.paged_memory.specs.Paged.{page_at, seen_at, flat_pages, Holds, memory_of};
 ghost use Rattle.paged_memory.specs.Calls.{accessed_at, ChangesBy, Leaves, RefusesLeave};
 
 use crate::caches::Caches;
@@ -35,6 +35,7 @@ impl<L: Ledger, S: SwapSlot> PagedMemory<L, S> {
         ensures tables { OnSome result (ChangesEntry self.old.tables self.new.tables vpn (unaccessed_entry (entry_at self.old.tables vpn))) }
         ensures tabled { SameTables self.old.tables self.new.tables }
         ensures caches { OnSome result (self.new.caches ≡ map (doomed vpn) self.old.caches) }
+        ensures reserved { self.new.reserved ≡ self.old.reserved }
     {
         clear_accessed(&self.pages, &mut self.tables, &mut self.caches, vpn)
     }
@@ -47,10 +48,11 @@ impl<L: Ledger, S: SwapSlot> PagedMemory<L, S> {
         ensures refused { IfErr result (RefusesLeave (page_at self.old.pages vpn)) }
         ensures err { OnErr result (self.new ≡ self.old) }
         ensures process { self.new.process ≡ self.old.process }
-        ensures memory { memory_of S.content self.new.pages ≡ memory_of S.content self.old.pages }
+        ensures memory { memory_of S.content self.new ≡ memory_of S.content self.old }
         ensures entries { OnOk result (ChangesEntry self.old.tables self.new.tables vpn blank) }
         ensures tabled { SameTables self.old.tables self.new.tables }
         ensures caches { OnOk result (self.new.caches ≡ map (doomed vpn) self.old.caches) }
+        ensures reserved { self.new.reserved ≡ self.old.reserved }
     {
         evict(&mut self.pages, &mut self.tables, &mut self.caches, vpn)
     }
@@ -111,7 +113,7 @@ fn evict<L: Ledger, S: SwapSlot>(
     requires holds { Holds S.content S.honest pages.old tables.old caches.old }
     ensures holds { Holds S.content S.honest pages.new tables.new caches.new }
     ensures ok { OnOk result (ChangesBy (Leaves (dirty_of (entry_at tables.old vpn))) pages.old pages.new vpn) }
-    ensures memory { memory_of S.content pages.new ≡ memory_of S.content pages.old }
+    ensures memory { flat_pages S.content pages.new ≡ flat_pages S.content pages.old }
     ensures refused { IfErr result (RefusesLeave (page_at pages.old vpn)) }
     ensures err { OnErr result ((pages.new ≡ pages.old) × ((tables.new ≡ tables.old) × (caches.new ≡ caches.old))) }
     ensures entries { OnOk result (ChangesEntry tables.old tables.new vpn blank) }

@@ -44,12 +44,13 @@ impl<L: Ledger, S: SwapSlot> PagedMemory<L, S> {
         requires { vpn < 2 ^ 20 }
         ensures ok { OnOk result (ChangesBy (BroughtIn S.content S.honest frame) self.old.pages self.new.pages vpn) }
         ensures refused { IfErr result (λ back. RefusesPageIn S.content S.honest S.failures frame self.old.pages self.new.pages self.old.tables vpn back.0 back.1) }
-        ensures memory { S.honest → memory_of S.content self.new.pages ≡ memory_of S.content self.old.pages }
+        ensures memory { S.honest → memory_of S.content self.new ≡ memory_of S.content self.old }
         ensures entries { OnOk result (IfSome (page_at self.old.pages vpn) (λ page. ChangesEntry self.old.tables self.new.tables vpn (page_entry frame.number page.origin.rights true false))) }
         ensures tables { OnOk result (AddsTable self.old.tables self.new.tables vpn) }
         ensures unmapped { OnErr result (self.new.tables ≡ self.old.tables) }
         ensures process { self.new.process ≡ self.old.process }
         ensures caches { self.new.caches ≡ self.old.caches }
+        ensures reserved { self.new.reserved ≡ self.old.reserved }
     {
         bring_in(&mut self.pages, &mut self.tables, vpn, frame)
     }

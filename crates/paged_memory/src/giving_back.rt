@@ -27,6 +27,7 @@ impl<L: Ledger, S: SwapSlot> PagedMemory<L, S> {
         ensures left { IfNone result (self.new ≡ self.old) }
         ensures process { self.new.process ≡ self.old.process }
         ensures caches { self.new.caches ≡ self.old.caches }
+        ensures reserved { self.new.reserved ≡ self.old.reserved }
     {
         let vpn = first_with_something(&self.pages)?;
         Some(give_back(&mut self.pages, &mut self.tables, &self.caches, vpn))

@@ -38,12 +38,13 @@ impl<L: Ledger, S: SwapSlot> PagedMemory<L, S> {
     pub fn map_zeroed(&mut self, first: u32, count: u32) -> Result<(), AllocError>
         requires { first + count ≤ 2 ^ 20 }
         ensures ok { OnOk result (self.new.pages ≡ with_added first count fresh_zero_page self.old.pages) }
-        ensures memory { OnOk result (memory_of S.content self.new.pages ≡ with_zeroed first count (memory_of S.content self.old.pages)) }
+        ensures memory { OnOk result (memory_of S.content self.new ≡ with_zeroed first count (memory_of S.content self.old)) }
         ensures err { OnErr result (self.new ≡ self.old) }
         ensures missing { IsErr result → LacksOne first count self.old.pages }
         ensures process { self.new.process ≡ self.old.process }
         ensures tables { self.new.tables ≡ self.old.tables }
         ensures caches { self.new.caches ≡ self.old.caches }
+        ensures reserved { self.new.reserved ≡ self.old.reserved }
     {
         add_all_zeroed(&mut self.pages, self.alloc, first, count)
     }

@@ -1,5 +1,5 @@
 ghost use Rattle.std.specs.Prelude.{◌≡◌, ℕ, ◌+◌, ◌≤◌, ◌<◌, length, OnErr};
-ghost use Rattle.page_memory.specs.Memory.{fetched, loaded, stored, replaced, copied_out, copied_in};
+ghost use Rattle.page_memory.specs.Memory.{fetched, loaded, stored, replaced, loaded_reserved, stored_conditionally, copied_out, copied_in};
 ghost use Rattle.page_memory.specs.Words.{page_number, page_offset};
 ghost use Rattle.rv_exec.specs.Amo.{amo_result};
 ghost use Rattle.rv_exec.specs.Answers.{Answers, with_answer};
@@ -8,7 +8,7 @@ ghost use Rattle.paged_memory.specs.Paged.{memory_of};
 ghost use Rattle.paged_memory.specs.Access.{HasPage, LacksPage, MarksUse, KeepsTranslations, MayWalk, KeepsBare, cache_of, ServesHeld};
 
 use crate::memory::PagedMemory;
-use crate::{reading, writing};
+use crate::{reading, reserving};
 use page_memory::Width;
 use rv_exec::BusError;
 use rv_isa::AmoKind;
@@ -22,9 +22,10 @@ impl<L: Ledger, S: SwapSlot> PagedMemory<L, S> {
     #[inline]
     pub fn fetch(&mut self, hart: usize, address: u32) -> Result<u32, BusError>
         requires { hart < length self.old.caches }
-        ensures answer { Answers (HasPage self.old.pages (cache_of self.old.caches hart)) (MarksUse self.old.pages self.new.tables (cache_of self.old.caches hart) Access.Fetch) (LacksPage self.old.pages) address (fetched (memory_of S.content self.old.pages) address) result }
+        ensures answer { Answers (HasPage self.old.pages (cache_of self.old.caches hart)) (MarksUse self.old.pages self.new.tables (cache_of self.old.caches hart) Access.Fetch) (LacksPage self.old.pages) address (fetched (memory_of S.content self.old) address) result }
         ensures process { self.new.process ≡ self.old.process }
         ensures pages { self.new.pages ≡ self.old.pages }
+        ensures reserved { self.new.reserved ≡ self.old.reserved }
         ensures held { ServesHeld (cache_of self.old.caches hart) Access.Fetch (page_number address) result }
         ensures kept { KeepsTranslations self.old.pages hart self.old.tables self.new.tables self.old.caches self.new.caches }
         ensures entries { MayWalk Access.Fetch (page_number address) self.old.tables self.new.tables }
@@ -43,9 +44,10 @@ impl<L: Ledger, S: SwapSlot> PagedMemory<L, S> {
     #[inline]
     pub fn load(&mut self, hart: usize, width: Width, address: u32) -> Result<u32, BusError>
         requires { hart < length self.old.caches }
-        ensures answer { Answers (HasPage self.old.pages (cache_of self.old.caches hart)) (MarksUse self.old.pages self.new.tables (cache_of self.old.caches hart) Access.Load) (LacksPage self.old.pages) address (loaded (memory_of S.content self.old.pages) width address) result }
+        ensures answer { Answers (HasPage self.old.pages (cache_of self.old.caches hart)) (MarksUse self.old.pages self.new.tables (cache_of self.old.caches hart) Access.Load) (LacksPage self.old.pages) address (loaded (memory_of S.content self.old) width address) result }
         ensures process { self.new.process ≡ self.old.process }
         ensures pages { self.new.pages ≡ self.old.pages }
+        ensures reserved { self.new.reserved ≡ self.old.reserved }
         ensures held { ServesHeld (cache_of self.old.caches hart) Access.Load (page_number address) result }
         ensures kept { KeepsTranslations self.old.pages hart self.old.tables self.new.tables self.old.caches self.new.caches }
         ensures entries { MayWalk Access.Load (page_number address) self.old.tables self.new.tables }
@@ -71,9 +73,9 @@ impl<L: Ledger, S: SwapSlot> PagedMemory<L, S> {
         word: u32,
     ) -> Result<(), BusError>
         requires { hart < length self.old.caches }
-        ensures answer { let after = with_answer (λ _. memory_of S.content self.new.pages) result in
-            Answers (HasPage self.old.pages (cache_of self.old.caches hart)) (MarksUse self.old.pages self.new.tables (cache_of self.old.caches hart) Access.Store) (LacksPage self.old.pages) address (stored (memory_of S.content self.old.pages) width address word) after }
-        ensures refused { OnErr result (self.new.pages ≡ self.old.pages) }
+        ensures answer { let after = with_answer (λ _. memory_of S.content self.new) result in
+            Answers (HasPage self.old.pages (cache_of self.old.caches hart)) (MarksUse self.old.pages self.new.tables (cache_of self.old.caches hart) Access.Store) (LacksPage self.old.pages) address (stored (memory_of S.content self.old) width address word) after }
+        ensures refused { OnErr result (memory_of S.content self.new ≡ memory_of S.content self.old) }
         ensures process { self.new.process ≡ self.old.process }
         ensures bare { KeepsBare self.old.pages self.new.pages }
         ensures held { ServesHeld (cache_of self.old.caches hart) Access.Store (page_number address) result }
@@ -81,10 +83,11 @@ impl<L: Ledger, S: SwapSlot> PagedMemory<L, S> {
         ensures entries { MayWalk Access.Store (page_number address) self.old.tables self.new.tables }
         ensures unmarked { OnErr result (self.new.tables ≡ self.old.tables) }
     {
-        writing::store(
+        reserving::store(
             &mut self.pages,
             &mut self.tables,
             &mut self.caches,
+            &mut self.reservations,
             hart,
             width,
             address,
@@ -103,9 +106,9 @@ impl<L: Ledger, S: SwapSlot> PagedMemory<L, S> {
     ) -> Result<u32, BusError>
         requires { hart < length self.old.caches }
         ensures answer { let update = λ (old : ℕ). amo_result operation old operand in
-            let after = with_answer (λ old. (old, memory_of S.content self.new.pages)) result in
-            Answers (HasPage self.old.pages (cache_of self.old.caches hart)) (MarksUse self.old.pages self.new.tables (cache_of self.old.caches hart) Access.Store) (LacksPage self.old.pages) address (replaced (memory_of S.content self.old.pages) update address) after }
-        ensures refused { OnErr result (self.new.pages ≡ self.old.pages) }
+            let after = with_answer (λ old. (old, memory_of S.content self.new)) result in
+            Answers (HasPage self.old.pages (cache_of self.old.caches hart)) (MarksUse self.old.pages self.new.tables (cache_of self.old.caches hart) Access.Store) (LacksPage self.old.pages) address (replaced (memory_of S.content self.old) update address) after }
+        ensures refused { OnErr result (memory_of S.content self.new ≡ memory_of S.content self.old) }
         ensures process { self.new.process ≡ self.old.process }
         ensures bare { KeepsBare self.old.pages self.new.pages }
         ensures held { ServesHeld (cache_of self.old.caches hart) Access.Store (page_number address) result }
@@ -113,14 +116,71 @@ impl<L: Ledger, S: SwapSlot> PagedMemory<L, S> {
         ensures entries { MayWalk Access.Store (page_number address) self.old.tables self.new.tables }
         ensures unmarked { OnErr result (self.new.tables ≡ self.old.tables) }
     {
-        writing::amo(
+        reserving::amo(
             &mut self.pages,
             &mut self.tables,
             &mut self.caches,
+            &mut self.reservations,
             hart,
             address,
             operation,
             operand,
+        )
+    }
+
+    /// Loads the word at an address for a hart, and reserves it for the hart of a number.
+    pub fn load_reserved(&mut self, hart: usize, number: u32, address: u32) -> Result<u32, BusError>
+        requires { hart < length self.old.caches }
+        ensures answer { let after = with_answer (λ word. (word, memory_of S.content self.new)) result in
+            Answers (HasPage self.old.pages (cache_of self.old.caches hart)) (MarksUse self.old.pages self.new.tables (cache_of self.old.caches hart) Access.Load) (LacksPage self.old.pages) address (loaded_reserved (memory_of S.content self.old) number address) after }
+        ensures refused { OnErr result (memory_of S.content self.new ≡ memory_of S.content self.old) }
+        ensures process { self.new.process ≡ self.old.process }
+        ensures pages { self.new.pages ≡ self.old.pages }
+        ensures held { ServesHeld (cache_of self.old.caches hart) Access.Load (page_number address) result }
+        ensures kept { KeepsTranslations self.old.pages hart self.old.tables self.new.tables self.old.caches self.new.caches }
+        ensures entries { MayWalk Access.Load (page_number address) self.old.tables self.new.tables }
+        ensures unmarked { OnErr result (self.new.tables ≡ self.old.tables) }
+    {
+        reserving::load_reserved(
+            &self.pages,
+            &mut self.tables,
+            &mut self.caches,
+            &mut self.reservations,
+            hart,
+            number,
+            address,
+        )
+    }
+
+    /// Stores a word for a hart where the hart of a number has reserved it, and tells whether it has. Its page counts as
+    /// changed from then on, whether it was stored or not.
+    pub fn store_conditional(
+        &mut self,
+        hart: usize,
+        number: u32,
+        address: u32,
+        word: u32,
+    ) -> Result<bool, BusError>
+        requires { hart < length self.old.caches }
+        ensures answer { let after = with_answer (λ is_stored. (is_stored, memory_of S.content self.new)) result in
+            Answers (HasPage self.old.pages (cache_of self.old.caches hart)) (MarksUse self.old.pages self.new.tables (cache_of self.old.caches hart) Access.Store) (LacksPage self.old.pages) address (stored_conditionally (memory_of S.content self.old) number address word) after }
+        ensures refused { OnErr result (memory_of S.content self.new ≡ memory_of S.content self.old) }
+        ensures process { self.new.process ≡ self.old.process }
+        ensures bare { KeepsBare self.old.pages self.new.pages }
+        ensures held { ServesHeld (cache_of self.old.caches hart) Access.Store (page_number address) result }
+        ensures kept { KeepsTranslations self.old.pages hart self.old.tables self.new.tables self.old.caches self.new.caches }
+        ensures entries { MayWalk Access.Store (page_number address) self.old.tables self.new.tables }
+        ensures unmarked { OnErr result (self.new.tables ≡ self.old.tables) }
+    {
+        reserving::store_conditional(
+            &mut self.pages,
+            &mut self.tables,
+            &mut self.caches,
+            &mut self.reservations,
+            hart,
+            number,
+            address,
+            word,
         )
     }
 
@@ -129,10 +189,11 @@ impl<L: Ledger, S: SwapSlot> PagedMemory<L, S> {
         requires hart { hart < length self.old.caches }
         requires within { page_offset address + length to.old ≤ 4096 }
         ensures answer { let copied = with_answer (λ _. to.new) result in
-            Answers (HasPage self.old.pages (cache_of self.old.caches hart)) (MarksUse self.old.pages self.new.tables (cache_of self.old.caches hart) Access.Load) (LacksPage self.old.pages) address (copied_out (memory_of S.content self.old.pages) address (length to.old)) copied }
+            Answers (HasPage self.old.pages (cache_of self.old.caches hart)) (MarksUse self.old.pages self.new.tables (cache_of self.old.caches hart) Access.Load) (LacksPage self.old.pages) address (copied_out (memory_of S.content self.old) address (length to.old)) copied }
         ensures refused { OnErr result (to.new ≡ to.old) }
         ensures process { self.new.process ≡ self.old.process }
         ensures pages { self.new.pages ≡ self.old.pages }
+        ensures reserved { self.new.reserved ≡ self.old.reserved }
         ensures held { ServesHeld (cache_of self.old.caches hart) Access.Load (page_number address) result }
         ensures kept { KeepsTranslations self.old.pages hart self.old.tables self.new.tables self.old.caches self.new.caches }
         ensures entries { MayWalk Access.Load (page_number address) self.old.tables self.new.tables }
@@ -152,9 +213,9 @@ impl<L: Ledger, S: SwapSlot> PagedMemory<L, S> {
     pub fn copy_in(&mut self, hart: usize, address: u32, from: &[u8]) -> Result<(), BusError>
         requires hart { hart < length self.old.caches }
         requires within { page_offset address + length from.now ≤ 4096 }
-        ensures answer { let after = with_answer (λ _. memory_of S.content self.new.pages) result in
-            Answers (HasPage self.old.pages (cache_of self.old.caches hart)) (MarksUse self.old.pages self.new.tables (cache_of self.old.caches hart) Access.Store) (LacksPage self.old.pages) address (copied_in (memory_of S.content self.old.pages) address from.now) after }
-        ensures refused { OnErr result (self.new.pages ≡ self.old.pages) }
+        ensures answer { let after = with_answer (λ _. memory_of S.content self.new) result in
+            Answers (HasPage self.old.pages (cache_of self.old.caches hart)) (MarksUse self.old.pages self.new.tables (cache_of self.old.caches hart) Access.Store) (LacksPage self.old.pages) address (copied_in (memory_of S.content self.old) address from.now) after }
+        ensures refused { OnErr result (memory_of S.content self.new ≡ memory_of S.content self.old) }
         ensures process { self.new.process ≡ self.old.process }
         ensures bare { KeepsBare self.old.pages self.new.pages }
         ensures held { ServesHeld (cache_of self.old.caches hart) Access.Store (page_number address) result }
@@ -162,10 +223,11 @@ impl<L: Ledger, S: SwapSlot> PagedMemory<L, S> {
         ensures entries { MayWalk Access.Store (page_number address) self.old.tables self.new.tables }
         ensures unmarked { OnErr result (self.new.tables ≡ self.old.tables) }
     {
-        writing::copy_in(
+        reserving::copy_in(
             &mut self.pages,
             &mut self.tables,
             &mut self.caches,
+            &mut self.reservations,
             hart,
             address,
             from,

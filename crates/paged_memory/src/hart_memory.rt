@@ -59,7 +59,7 @@ impl<'a, L: Ledger, S: SwapSlot, O: Opening> Bus for HartMemory<'a, L, S, O> {
     ghost use Rattle.paged_memory.specs.HartMemory.{MarksSince, MarksWithin};
     ghost use Rattle.paged_memory.specs.HartMemoryLaws.{access_itself, access_on, lacked, had, marked};
 
-    ghost memory = { λ m. memory_of S.content m.memory.now.pages };
+    ghost memory = { λ m. memory_of S.content m.memory.now };
 
     ghost lacks = { λ m. LacksPage m.memory.now.pages };
 
@@ -99,6 +99,15 @@ impl<'a, L: Ledger, S: SwapSlot, O: Opening> Bus for HartMemory<'a, L, S, O> {
     #[inline]
     fn amo(&mut self, address: u32, operation: AmoKind, operand: u32) -> Result<u32, BusError> {
         self.memory.amo(self.hart, address, operation, operand)
+    }
+
+    fn load_reserved(&mut self, hart: u32, address: u32) -> Result<u32, BusError> {
+        self.memory.load_reserved(self.hart, hart, address)
+    }
+
+    fn store_conditional(&mut self, hart: u32, address: u32, word: u32) -> Result<bool, BusError> {
+        self.memory
+            .store_conditional(self.hart, hart, address, word)
     }
 
     fn copy_out(&mut self, address: u32, to: &mut [u8]) -> Result<(), BusError> {

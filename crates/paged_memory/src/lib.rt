@@ -16,6 +16,7 @@ mod harts;
 mod memory;
 mod peeking;
 mod reading;
+mod reserving;
 mod saving;
 mod status;
 mod still_saving;

@@ -1,10 +1,11 @@
 ghost use Rattle.std.specs.Prelude.{◌≡◌, ℕ, ◌<◌, ◌^◌, [], IfOk};
+ghost use Rattle.page_memory.specs.Reservations.{none_reserved};
 ghost use Rattle.sv32_table.specs.Entry.{blank};
 ghost use Rattle.sv32_table.specs.EntryAt.{entry_at};
 ghost use Rattle.paged_memory.specs.Paged.{PagedValue};
 
 use crate::caches::Caches;
-use page_memory::PageMap;
+use page_memory::{PageMap, Reservations};
 use page_store::StoredPage;
 use std::alloc::{AllocError, Global};
 use std::marker::Model;
@@ -12,7 +13,9 @@ use std::sync::ledger::Ledger;
 use sv32_table::PageTables;
 use swap_slots::SwapSlot;
 
-/// The pages of one process, with its page tables and a translation cache for each of its harts.
+/// The pages of one process, with its page tables, a translation cache for each of its harts, and the words that they have reserved.
+///
+/// A reservation is of an address: paging does not touch it.
 #[derive(Drop)]
 pub struct PagedMemory<L: Ledger, S: SwapSlot> {
     pub(crate) alloc: Global,
@@ -20,6 +23,7 @@ pub struct PagedMemory<L: Ledger, S: SwapSlot> {
     pub(crate) pages: PageMap<StoredPage<L, S>>,
     pub(crate) tables: PageTables,
     pub(crate) caches: Caches,
+    pub(crate) reservations: Reservations,
 }
 
 impl<L: Ledger, S: SwapSlot> Model for PagedMemory<L, S> {
@@ -27,7 +31,7 @@ impl<L: Ledger, S: SwapSlot> Model for PagedMemory<L, S> {
 
     ghost Value = { PagedValue S };
 
-    ghost view = { λ m. record { process = m.process; pages = m.pages; tables = m.tables; caches = m.caches } };
+    ghost view = { λ m. record { process = m.process; pages = m.pages; tables = m.tables; caches = m.caches; reserved = m.reservations } };
 
     ghost invariant = { λ m. Holds S.content S.honest m.pages m.tables m.caches };
 }
@@ -40,6 +44,7 @@ impl<L: Ledger, S: SwapSlot> PagedMemory<L, S> {
         ensures pages { IfOk result (λ memory. memory.pages ≡ []) }
         ensures entries { IfOk result (λ memory. (number : ℕ) → number < 2 ^ 20 → entry_at memory.tables number ≡ blank) }
         ensures caches { IfOk result (λ memory. memory.caches ≡ []) }
+        ensures reserved { IfOk result (λ memory. memory.reserved ≡ none_reserved) }
     {
         Ok(PagedMemory {
             alloc,
@@ -47,6 +52,7 @@ impl<L: Ledger, S: SwapSlot> PagedMemory<L, S> {
             pages: PageMap::new(alloc)?,
             tables: PageTables::new(alloc)?,
             caches: Caches::new(alloc)?,
+            reservations: Reservations::new(),
         })
     }
 

@@ -27,11 +27,11 @@ impl<L: Ledger, S: SwapSlot> PagedMemory<L, S> {
     pub fn peek(&mut self, address: u32, bytes: &mut [Option<u8>]) -> Result<(), PeekFault>
         requires { page_offset address + length bytes.old ≤ 4096 }
         ensures bytes { OnOk result (ShowsBytes S.content S.honest (page_at self.old.pages (page_number address)) (page_offset address) (length bytes.old) bytes.new) }
-        ensures shown { S.honest → OnOk result (bytes_of (memory_of S.content self.old.pages) address (length bytes.old) ≡ Some bytes.new) }
+        ensures shown { S.honest → OnOk result (bytes_of (memory_of S.content self.old) address (length bytes.old) ≡ Some bytes.new) }
         ensures unread { OnErr result (bytes.new ≡ bytes.old) }
         ensures refused { IfErr result (RefusesPeek S.content S.honest S.failures self.old.pages self.new.pages (page_number address)) }
         ensures left { LeavesPage S.content S.honest self.old.pages self.new.pages (page_number address) (page_at self.old.pages (page_number address)) }
-        ensures memory { S.honest → memory_of S.content self.new.pages ≡ memory_of S.content self.old.pages }
+        ensures memory { S.honest → memory_of S.content self.new ≡ memory_of S.content self.old }
         ensures stays { self.new ≡ record self.old { pages = self.new.pages } }
     {
         read_page(

@@ -2,11 +2,11 @@ ghost use Rattle.std.specs.Prelude.{◌≡◌, ◌<◌, ◌%◌, length, is_some
 ghost use Rattle.std.specs.Option.{IsSomeAnd};
 ghost use Rattle.page_memory.specs.Words.{page_number, page_offset, bytes_in};
 ghost use Rattle.page_memory.specs.Entries.{value_at};
-ghost use Rattle.page_memory.specs.Memory.{usable, fetched, loaded, copied_out};
+ghost use Rattle.page_memory.specs.Pages.{answer_by, number_at, aligned_page, usable, fetched, loaded, copied_out};
 ghost use Rattle.page_memory.specs.declared.words.Access.{Access};
 ghost use Rattle.page_store.specs.PageValue.{content, writable};
 ghost use Rattle.rv_exec.specs.Answers.{Answers, BusRefuses, with_answer};
-ghost use Rattle.paged_memory.specs.Paged.{Holds, memory_of};
+ghost use Rattle.paged_memory.specs.Paged.{Holds, flat_pages};
 ghost use Rattle.paged_memory.specs.Access.{HasPage, LacksPage, MarksUse, KeepsTranslations, MayWalk, UsesBytes, cache_of, ServesHeld};
 
 use crate::access::{at_hand, reach};
@@ -45,7 +45,7 @@ fn read_ready<'a, L: Ledger, S: SwapSlot>(
     requires hart { hart < length caches.now }
     requires holds { Holds S.content S.honest pages.now tables.now caches.now }
     ensures aligned { IfSome result (λ _. address % bytes_in width ≡ 0) }
-    ensures bytes { IfSome result (λ bytes. UsesBytes (usable (memory_of S.content pages.now) access address) bytes.now) }
+    ensures bytes { IfSome result (λ bytes. UsesBytes (usable (flat_pages S.content pages.now) access address) bytes.now) }
     ensures whole { IfSome result (λ bytes. length bytes.now ≡ 4096) }
     ensures has { IfSome result (λ _. HasPage pages.now (cache_of caches.now hart) (page_number address)) }
     ensures marked { IfSome result (λ _. MarksUse pages.now tables.now (cache_of caches.now hart) access (page_number address)) }
@@ -69,9 +69,9 @@ fn read<'a, L: Ledger, S: SwapSlot>(
     requires hart { hart < length caches.old }
     requires holds { Holds S.content S.honest pages.now tables.old caches.old }
     ensures holds { Holds S.content S.honest pages.now tables.new caches.new }
-    ensures bytes { IfOk result (λ bytes. UsesBytes (usable (memory_of S.content pages.now) access address) bytes.now) }
+    ensures bytes { IfOk result (λ bytes. UsesBytes (usable (flat_pages S.content pages.now) access address) bytes.now) }
     ensures whole { IfOk result (λ bytes. length bytes.now ≡ 4096) }
-    ensures refused { IfErr result (BusRefuses (LacksPage pages.now) address (usable (memory_of S.content pages.now) access address)) }
+    ensures refused { IfErr result (BusRefuses (LacksPage pages.now) address (usable (flat_pages S.content pages.now) access address)) }
     ensures held { ServesHeld (cache_of caches.old hart) access (page_number address) result }
     ensures kept { KeepsTranslations pages.now hart tables.old tables.new caches.old caches.new }
     ensures entries { MayWalk access (page_number address) tables.old tables.new }
@@ -87,7 +87,7 @@ fn read<'a, L: Ledger, S: SwapSlot>(
 
 /// The word at an address, to be run.
 #[inline]
-#[tactic(auto, unfolding(page_memory::specs::Memory::fetched, page_memory::specs::Memory::aligned_page))]
+#[tactic(auto, unfolding(page_memory::specs::Pages::fetched, page_memory::specs::Pages::aligned_page))]
 pub(crate) fn fetch<L: Ledger, S: SwapSlot>(
     pages: &PageMap<StoredPage<L, S>>,
     tables: &mut PageTables,
@@ -98,7 +98,7 @@ pub(crate) fn fetch<L: Ledger, S: SwapSlot>(
     requires hart { hart < length caches.old }
     requires holds { Holds S.content S.honest pages.now tables.old caches.old }
     ensures holds { Holds S.content S.honest pages.now tables.new caches.new }
-    ensures answer { Answers (HasPage pages.now (cache_of caches.old hart)) (MarksUse pages.now tables.new (cache_of caches.old hart) Access.Fetch) (LacksPage pages.now) address (fetched (memory_of S.content pages.now) address) result }
+    ensures answer { Answers (HasPage pages.now (cache_of caches.old hart)) (MarksUse pages.now tables.new (cache_of caches.old hart) Access.Fetch) (LacksPage pages.now) address (fetched (flat_pages S.content pages.now) address) result }
     ensures held { ServesHeld (cache_of caches.old hart) Access.Fetch (page_number address) result }
     ensures kept { KeepsTranslations pages.now hart tables.old tables.new caches.old caches.new }
     ensures entries { MayWalk Access.Fetch (page_number address) tables.old tables.new }
@@ -121,7 +121,7 @@ pub(crate) fn fetch<L: Ledger, S: SwapSlot>(
 /// The same from a page that is not ready, which it makes ready.
 #[cold]
 #[inline(never)]
-#[tactic(auto, unfolding(page_memory::specs::Memory::fetched, page_memory::specs::Memory::aligned_page))]
+#[tactic(auto, unfolding(page_memory::specs::Pages::fetched, page_memory::specs::Pages::aligned_page))]
 fn fetch_anew<L: Ledger, S: SwapSlot>(
     pages: &PageMap<StoredPage<L, S>>,
     tables: &mut PageTables,
@@ -132,7 +132,7 @@ fn fetch_anew<L: Ledger, S: SwapSlot>(
     requires hart { hart < length caches.old }
     requires holds { Holds S.content S.honest pages.now tables.old caches.old }
     ensures holds { Holds S.content S.honest pages.now tables.new caches.new }
-    ensures answer { Answers (HasPage pages.now (cache_of caches.old hart)) (MarksUse pages.now tables.new (cache_of caches.old hart) Access.Fetch) (LacksPage pages.now) address (fetched (memory_of S.content pages.now) address) result }
+    ensures answer { Answers (HasPage pages.now (cache_of caches.old hart)) (MarksUse pages.now tables.new (cache_of caches.old hart) Access.Fetch) (LacksPage pages.now) address (fetched (flat_pages S.content pages.now) address) result }
     ensures held { ServesHeld (cache_of caches.old hart) Access.Fetch (page_number address) result }
     ensures kept { KeepsTranslations pages.now hart tables.old tables.new caches.old caches.new }
     ensures entries { MayWalk Access.Fetch (page_number address) tables.old tables.new }
@@ -149,7 +149,7 @@ fn fetch_anew<L: Ledger, S: SwapSlot>(
 
 /// The number at an address, not extended.
 #[inline]
-#[tactic(auto, unfolding(page_memory::specs::Memory::loaded, page_memory::specs::Memory::aligned_page))]
+#[tactic(auto, unfolding(page_memory::specs::Pages::loaded, page_memory::specs::Pages::aligned_page))]
 pub(crate) fn load<L: Ledger, S: SwapSlot>(
     pages: &PageMap<StoredPage<L, S>>,
     tables: &mut PageTables,
@@ -161,7 +161,7 @@ pub(crate) fn load<L: Ledger, S: SwapSlot>(
     requires hart { hart < length caches.old }
     requires holds { Holds S.content S.honest pages.now tables.old caches.old }
     ensures holds { Holds S.content S.honest pages.now tables.new caches.new }
-    ensures answer { Answers (HasPage pages.now (cache_of caches.old hart)) (MarksUse pages.now tables.new (cache_of caches.old hart) Access.Load) (LacksPage pages.now) address (loaded (memory_of S.content pages.now) width address) result }
+    ensures answer { Answers (HasPage pages.now (cache_of caches.old hart)) (MarksUse pages.now tables.new (cache_of caches.old hart) Access.Load) (LacksPage pages.now) address (loaded (flat_pages S.content pages.now) width address) result }
     ensures held { ServesHeld (cache_of caches.old hart) Access.Load (page_number address) result }
     ensures kept { KeepsTranslations pages.now hart tables.old tables.new caches.old caches.new }
     ensures entries { MayWalk Access.Load (page_number address) tables.old tables.new }
@@ -176,7 +176,7 @@ pub(crate) fn load<L: Ledger, S: SwapSlot>(
 /// The same from a page that is not ready, which it makes ready.
 #[cold]
 #[inline(never)]
-#[tactic(auto, unfolding(page_memory::specs::Memory::loaded, page_memory::specs::Memory::aligned_page))]
+#[tactic(auto, unfolding(page_memory::specs::Pages::loaded, page_memory::specs::Pages::aligned_page))]
 fn load_anew<L: Ledger, S: SwapSlot>(
     pages: &PageMap<StoredPage<L, S>>,
     tables: &mut PageTables,
@@ -188,7 +188,7 @@ fn load_anew<L: Ledger, S: SwapSlot>(
     requires hart { hart < length caches.old }
     requires holds { Holds S.content S.honest pages.now tables.old caches.old }
     ensures holds { Holds S.content S.honest pages.now tables.new caches.new }
-    ensures answer { Answers (HasPage pages.now (cache_of caches.old hart)) (MarksUse pages.now tables.new (cache_of caches.old hart) Access.Load) (LacksPage pages.now) address (loaded (memory_of S.content pages.now) width address) result }
+    ensures answer { Answers (HasPage pages.now (cache_of caches.old hart)) (MarksUse pages.now tables.new (cache_of caches.old hart) Access.Load) (LacksPage pages.now) address (loaded (flat_pages S.content pages.now) width address) result }
     ensures held { ServesHeld (cache_of caches.old hart) Access.Load (page_number address) result }
     ensures kept { KeepsTranslations pages.now hart tables.old tables.new caches.old caches.new }
     ensures entries { MayWalk Access.Load (page_number address) tables.old tables.new }
@@ -203,8 +203,35 @@ fn load_anew<L: Ledger, S: SwapSlot>(
     }
 }
 
+/// Loads the word that is to be replaced, or might have been: to tables and caches it is a store.
+#[tactic(auto, unfolding(page_memory::specs::Pages::aligned_page))]
+pub(crate) fn load_to_replace<L: Ledger, S: SwapSlot>(
+    pages: &PageMap<StoredPage<L, S>>,
+    tables: &mut PageTables,
+    caches: &mut Caches,
+    hart: usize,
+    address: u32,
+) -> Result<u32, BusError>
+    requires hart { hart < length caches.old }
+    requires holds { Holds S.content S.honest pages.now tables.old caches.old }
+    ensures holds { Holds S.content S.honest pages.now tables.new caches.new }
+    ensures answer { Answers (HasPage pages.now (cache_of caches.old hart)) (MarksUse pages.now tables.new (cache_of caches.old hart) Access.Store) (LacksPage pages.now) address (answer_by (number_at 4 address) (aligned_page (flat_pages S.content pages.now) Access.Store 4 address)) result }
+    ensures held { ServesHeld (cache_of caches.old hart) Access.Store (page_number address) result }
+    ensures kept { KeepsTranslations pages.now hart tables.old tables.new caches.old caches.new }
+    ensures entries { MayWalk Access.Store (page_number address) tables.old tables.new }
+    ensures unmarked { OnErr result (tables.new ≡ tables.old) }
+{
+    if address % 4 != 0 {
+        return Err(BusError::Fault(MemoryFault::Misaligned));
+    }
+    match read(pages, tables, caches, hart, Access::Store, address) {
+        Ok(page) => Ok(number(page, Width::Word, address)),
+        Err(refusal) => Err(refusal),
+    }
+}
+
 /// Copies bytes of one page to a slice.
-#[tactic(auto, unfolding(page_memory::specs::Memory::copied_out))]
+#[tactic(auto, unfolding(page_memory::specs::Pages::copied_out))]
 pub(crate) fn copy_out<L: Ledger, S: SwapSlot>(
     pages: &PageMap<StoredPage<L, S>>,
     tables: &mut PageTables,
@@ -218,7 +245,7 @@ pub(crate) fn copy_out<L: Ledger, S: SwapSlot>(
     requires holds { Holds S.content S.honest pages.now tables.old caches.old }
     ensures holds { Holds S.content S.honest pages.now tables.new caches.new }
     ensures answer { let copied = with_answer (λ _. to.new) result in
-        Answers (HasPage pages.now (cache_of caches.old hart)) (MarksUse pages.now tables.new (cache_of caches.old hart) Access.Load) (LacksPage pages.now) address (copied_out (memory_of S.content pages.now) address (length to.old)) copied }
+        Answers (HasPage pages.now (cache_of caches.old hart)) (MarksUse pages.now tables.new (cache_of caches.old hart) Access.Load) (LacksPage pages.now) address (copied_out (flat_pages S.content pages.now) address (length to.old)) copied }
     ensures refused { OnErr result (to.new ≡ to.old) }
     ensures held { ServesHeld (cache_of caches.old hart) Access.Load (page_number address) result }
     ensures kept { KeepsTranslations pages.now hart tables.old tables.new caches.old caches.new }

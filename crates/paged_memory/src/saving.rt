@@ -1,6 +1,6 @@
 ghost use Rattle.std.specs.Prelude.{◌≡◌, IfOk, IfErr};
 ghost use Rattle.paged_memory.specs.Leaving.{ChangesSaved, Frees, RefusesSaved};
-ghost use Rattle.paged_memory.specs.Paged.{memory_of};
+ghost use Rattle.paged_memory.specs.Paged.{flat_pages, memory_of};
 
 use crate::memory::PagedMemory;
 use frame_pool::Frame;
@@ -16,7 +16,7 @@ impl<L: Ledger, S: SwapSlot> PagedMemory<L, S> {
         ensures freed { IfOk result (λ frame. ChangesSaved self.old.process job (Frees job frame) self.old.pages self.new.pages) }
         ensures refused { IfErr result (RefusesSaved self.old.process job self.old.pages self.new.pages) }
         ensures stays { self.new ≡ record self.old { pages = self.new.pages } }
-        ensures memory { S.honest → memory_of S.content self.new.pages ≡ memory_of S.content self.old.pages }
+        ensures memory { S.honest → memory_of S.content self.new ≡ memory_of S.content self.old }
     {
         saved_page(&mut self.pages, self.process, job)
     }
@@ -30,7 +30,7 @@ fn saved_page<L: Ledger, S: SwapSlot>(
 ) -> Result<Frame<L>, SaveRefusal<S>>
     ensures freed { IfOk result (λ frame. ChangesSaved process job (Frees job frame) pages.old pages.new) }
     ensures refused { IfErr result (RefusesSaved process job pages.old pages.new) }
-    ensures memory { S.honest → memory_of S.content pages.new ≡ memory_of S.content pages.old }
+    ensures memory { S.honest → flat_pages S.content pages.new ≡ flat_pages S.content pages.old }
 {
     let vpn = job.vpn();
     if job.process() != process || vpn >= 1 << 20 {

@@ -1,13 +1,13 @@
 ghost use Rattle.std.specs.Prelude.{◌≡◌, ◌+◌, ◌≤◌, ◌<◌, ◌%◌, length, is_some, Some, Ok, OnOk, OnErr, true, IfOk, IfErr, IfSome, ℕ, drop};
 ghost use Rattle.page_memory.specs.Words.{page_number, page_offset, bytes_in};
-ghost use Rattle.page_memory.specs.Memory.{overwritten, stored, replaced, copied_in};
+ghost use Rattle.page_memory.specs.Pages.{overwritten, stored, replaced, copied_in};
 ghost use Rattle.byteorder.specs.Endian.{little_bytes, little_number};
 ghost use Rattle.page_store.specs.PageValue.{content, writable};
 ghost use Rattle.page_store.specs.Lending.{with_bytes};
 ghost use Rattle.rv_exec.specs.Amo.{amo_result};
 ghost use Rattle.rv_exec.specs.Answers.{Answers, with_answer};
 ghost use Rattle.page_memory.specs.declared.words.Access.{Access};
-ghost use Rattle.paged_memory.specs.Paged.{Holds, memory_of};
+ghost use Rattle.paged_memory.specs.Paged.{Holds, flat_pages};
 ghost use Rattle.paged_memory.specs.Access.{HasPage, LacksPage, MarksUse, KeepsTranslations, MayWalk, KeepsBare, cache_of, ServesHeld};
 
 use crate::access::{at_hand, reach};
@@ -86,8 +86,8 @@ pub(crate) fn store<L: Ledger, S: SwapSlot>(
     requires hart { hart < length caches.old }
     requires holds { Holds S.content S.honest pages.old tables.old caches.old }
     ensures holds { Holds S.content S.honest pages.new tables.new caches.new }
-    ensures answer { let after = with_answer (λ _. memory_of S.content pages.new) result in
-        Answers (HasPage pages.old (cache_of caches.old hart)) (MarksUse pages.old tables.new (cache_of caches.old hart) Access.Store) (LacksPage pages.old) address (stored (memory_of S.content pages.old) width address word) after }
+    ensures answer { let after = with_answer (λ _. flat_pages S.content pages.new) result in
+        Answers (HasPage pages.old (cache_of caches.old hart)) (MarksUse pages.old tables.new (cache_of caches.old hart) Access.Store) (LacksPage pages.old) address (stored (flat_pages S.content pages.old) width address word) after }
     ensures refused { OnErr result (pages.new ≡ pages.old) }
     ensures bare { KeepsBare pages.old pages.new }
     ensures held { ServesHeld (cache_of caches.old hart) Access.Store (page_number address) result }
@@ -119,8 +119,8 @@ fn store_anew<L: Ledger, S: SwapSlot>(
     requires hart { hart < length caches.old }
     requires holds { Holds S.content S.honest pages.old tables.old caches.old }
     ensures holds { Holds S.content S.honest pages.new tables.new caches.new }
-    ensures answer { let after = with_answer (λ _. memory_of S.content pages.new) result in
-        Answers (HasPage pages.old (cache_of caches.old hart)) (MarksUse pages.old tables.new (cache_of caches.old hart) Access.Store) (LacksPage pages.old) address (stored (memory_of S.content pages.old) width address word) after }
+    ensures answer { let after = with_answer (λ _. flat_pages S.content pages.new) result in
+        Answers (HasPage pages.old (cache_of caches.old hart)) (MarksUse pages.old tables.new (cache_of caches.old hart) Access.Store) (LacksPage pages.old) address (stored (flat_pages S.content pages.old) width address word) after }
     ensures refused { OnErr result (pages.new ≡ pages.old) }
     ensures bare { KeepsBare pages.old pages.new }
     ensures held { ServesHeld (cache_of caches.old hart) Access.Store (page_number address) result }
@@ -153,8 +153,8 @@ pub(crate) fn copy_in<L: Ledger, S: SwapSlot>(
     requires within { page_offset address + length from.now ≤ 4096 }
     requires holds { Holds S.content S.honest pages.old tables.old caches.old }
     ensures holds { Holds S.content S.honest pages.new tables.new caches.new }
-    ensures answer { let after = with_answer (λ _. memory_of S.content pages.new) result in
-        Answers (HasPage pages.old (cache_of caches.old hart)) (MarksUse pages.old tables.new (cache_of caches.old hart) Access.Store) (LacksPage pages.old) address (copied_in (memory_of S.content pages.old) address from.now) after }
+    ensures answer { let after = with_answer (λ _. flat_pages S.content pages.new) result in
+        Answers (HasPage pages.old (cache_of caches.old hart)) (MarksUse pages.old tables.new (cache_of caches.old hart) Access.Store) (LacksPage pages.old) address (copied_in (flat_pages S.content pages.old) address from.now) after }
     ensures refused { OnErr result (pages.new ≡ pages.old) }
     ensures bare { KeepsBare pages.old pages.new }
     ensures held { ServesHeld (cache_of caches.old hart) Access.Store (page_number address) result }
@@ -185,8 +185,8 @@ pub(crate) fn amo<L: Ledger, S: SwapSlot>(
     requires holds { Holds S.content S.honest pages.old tables.old caches.old }
     ensures holds { Holds S.content S.honest pages.new tables.new caches.new }
     ensures answer { let update = λ (old : ℕ). amo_result operation old operand in
-        let after = with_answer (λ old. (old, memory_of S.content pages.new)) result in
-        Answers (HasPage pages.old (cache_of caches.old hart)) (MarksUse pages.old tables.new (cache_of caches.old hart) Access.Store) (LacksPage pages.old) address (replaced (memory_of S.content pages.old) update address) after }
+        let after = with_answer (λ old. (old, flat_pages S.content pages.new)) result in
+        Answers (HasPage pages.old (cache_of caches.old hart)) (MarksUse pages.old tables.new (cache_of caches.old hart) Access.Store) (LacksPage pages.old) address (replaced (flat_pages S.content pages.old) update address) after }
     ensures refused { OnErr result (pages.new ≡ pages.old) }
     ensures bare { KeepsBare pages.old pages.new }
     ensures held { ServesHeld (cache_of caches.old hart) Access.Store (page_number address) result }
@@ -224,8 +224,8 @@ fn amo_anew<L: Ledger, S: SwapSlot>(
     requires holds { Holds S.content S.honest pages.old tables.old caches.old }
     ensures holds { Holds S.content S.honest pages.new tables.new caches.new }
     ensures answer { let update = λ (old : ℕ). amo_result operation old operand in
-        let after = with_answer (λ old. (old, memory_of S.content pages.new)) result in
-        Answers (HasPage pages.old (cache_of caches.old hart)) (MarksUse pages.old tables.new (cache_of caches.old hart) Access.Store) (LacksPage pages.old) address (replaced (memory_of S.content pages.old) update address) after }
+        let after = with_answer (λ old. (old, flat_pages S.content pages.new)) result in
+        Answers (HasPage pages.old (cache_of caches.old hart)) (MarksUse pages.old tables.new (cache_of caches.old hart) Access.Store) (LacksPage pages.old) address (replaced (flat_pages S.content pages.old) update address) after }
     ensures refused { OnErr result (pages.new ≡ pages.old) }
     ensures bare { KeepsBare pages.old pages.new }
     ensures held { ServesHeld (cache_of caches.old hart) Access.Store (page_number address) result }

@@ -10,6 +10,8 @@ mod debug;
 #[cfg(test)]
 mod flat;
 #[cfg(test)]
+mod reserving;
+#[cfg(test)]
 mod runs;
 #[cfg(test)]
 mod schedule;

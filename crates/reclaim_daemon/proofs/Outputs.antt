@@ -101,7 +101,7 @@ after_line hart regs env memory (line.Traps cause value) = tt
 
 after_effect : (hart : ℕ) (regs : Registers) (env : Environment) (memory : Memory) → KeepsOutput (length env.output) (effect hart regs env memory)
 unfolding effect
-after_effect hart regs env memory = after_line hart regs env memory (line.line regs memory)
+after_effect hart regs env memory = after_line hart regs env memory (line.line hart regs memory)
 
 after_step : (hart : ℕ) (process : Process) (registers : Registers) (e : Effect) → KeepsOutput (length process.environment.output) e → length process.environment.output ≤ length (after hart process registers e).environment.output
 after_step hart process registers (Runs regs env memory) h = h

@@ -40,7 +40,7 @@ pub(crate) fn collect<L: Ledger, S: SwapSlot, C: Clock>(
 ) -> Looked<L, S>
     ensures looked { Looks vpn pager.old pager.new held.old.side held.new.side slots.old slots.new result }
     ensures agree { AgreeStill None pager.old.pager pager.new.pager held.old.side.space held.new.side.space }
-    ensures memory { S.honest → memory_of S.content held.new.side.space.memory.pages ≡ memory_of S.content held.old.side.space.memory.pages }
+    ensures memory { S.honest → memory_of S.content held.new.side.space.memory ≡ memory_of S.content held.old.side.space.memory }
     ensures held { held.new ≡ record held.old { side = held.new.side; tries = tried_if (look_failed result) held.old.tries } }
 {
     let looked = machine_sides::collect(pager, &mut held.side, vpn, slots);
@@ -59,7 +59,7 @@ pub(crate) fn saved<L: Ledger, S: SwapSlot, C: Clock>(
 ) -> SaveOutcome<L, S>
     ensures ends { EndsSave job pager.old pager.new held.old.side held.new.side result }
     ensures agree { AgreeStill None pager.old.pager pager.new.pager held.old.side.space held.new.side.space }
-    ensures memory { S.honest → memory_of S.content held.new.side.space.memory.pages ≡ memory_of S.content held.old.side.space.memory.pages }
+    ensures memory { S.honest → memory_of S.content held.new.side.space.memory ≡ memory_of S.content held.old.side.space.memory }
     ensures held { held.new ≡ record held.old { side = held.new.side; tries = tried_if (save_failed result) held.old.tries } }
 {
     let outcome = machine_sides::saved(pager, &mut held.side, job);

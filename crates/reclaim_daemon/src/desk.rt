@@ -133,7 +133,7 @@ impl<L: Ledger, C: Clock> Desk<L, C> {
         slots: &mut SlotPool<S>,
     ) -> Option<Collection<S>>
         ensures collects { CollectsHeld key self.old self.new held.old held.new slots.old slots.new result }
-        ensures memory { S.honest → memory_of S.content held.new.side.space.memory.pages ≡ memory_of S.content held.old.side.space.memory.pages }
+        ensures memory { S.honest → memory_of S.content held.new.side.space.memory ≡ memory_of S.content held.old.side.space.memory }
     {
         if held.process() != key.process {
             self.mark_unsound();
@@ -151,7 +151,7 @@ impl<L: Ledger, C: Clock> Desk<L, C> {
         job: SavedJob<S>,
     ) -> Option<SaveReply<S>>
         ensures saves { SavesHeld job self.old self.new held.old held.new result }
-        ensures memory { S.honest → memory_of S.content held.new.side.space.memory.pages ≡ memory_of S.content held.old.side.space.memory.pages }
+        ensures memory { S.honest → memory_of S.content held.new.side.space.memory ≡ memory_of S.content held.old.side.space.memory }
     {
         if held.process() != job.process() {
             self.mark_unsound();

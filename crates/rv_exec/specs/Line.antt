@@ -2,9 +2,9 @@
 -- (unprivileged manual, "RV32I Base Integer Instruction Set"; the traps' causes and values are this project's profile).
 use Rattle.std.specs.Prelude.{ℕ, ◌*◌, ◌%◌, ◌^◌, ◌==◌, ℤ, Bool, true, false, Option, Some, None, Result, Ok, Err}
 use Rattle.page_memory.specs.declared.fault.MemoryFault.{MemoryFault}
-use Rattle.page_memory.specs.Memory.{Memory, fetched, loaded, stored, replaced}
+use Rattle.page_memory.specs.Memory.{Memory, fetched, loaded, stored, replaced, loaded_reserved, stored_conditionally}
 use Rattle.rv_isa.specs.declared.instruction.Insn.{Insn}
-use Rattle.rv_isa.specs.declared.instruction.Insn.TheVariants.{Lui, Auipc, Jal, Jalr, Branch, Load, Store, OpImmediate, Shift, Op, Fence, Amo, Ecall, Ebreak}
+use Rattle.rv_isa.specs.declared.instruction.Insn.TheVariants.{Lui, Auipc, Jal, Jalr, Branch, Load, Store, OpImmediate, Shift, Op, Fence, Amo, LoadReserved, StoreConditional, Ecall, Ebreak}
 use Rattle.rv_isa.specs.declared.kinds.LoadKind.{LoadKind}
 use Rattle.rv_isa.specs.declared.kinds.StoreKind.{StoreKind}
 use Rattle.rv_isa.specs.declared.kinds.AmoKind.{AmoKind}
@@ -75,41 +75,67 @@ unfoldable pub amo_line : Registers → Memory → AmoKind → ℕ → ℕ → �
 amo_line regs memory kind rd address operand =
     after_amo regs rd address (replaced memory (λ old. amo_result kind old operand) address)
 
+-- ---- load-reserved and store-conditional, of the hart of a number
+
+abbrev pub after_reserving : Registers → ℕ → ℕ → Result (ℕ × Memory) MemoryFault → Line
+after_reserving regs rd address (Ok answer) = Next (computed regs rd answer.0) answer.1
+after_reserving regs rd address (Err fault) = Traps (load_cause fault) address
+
+-- rd gets the word, and the hart reserves it
+unfoldable pub reserving_line : ℕ → Registers → Memory → ℕ → ℕ → Line
+reserving_line hart regs memory rd address = after_reserving regs rd address (loaded_reserved memory hart address)
+
+-- what rd gets: 0 where the word was stored
+abbrev pub conditional_code : Bool → ℕ
+conditional_code true = 0
+conditional_code false = 1
+
+abbrev pub after_conditional : Registers → ℕ → ℕ → Result (Bool × Memory) MemoryFault → Line
+after_conditional regs rd address (Ok answer) = Next (computed regs rd (conditional_code answer.0)) answer.1
+after_conditional regs rd address (Err fault) = Traps (store_cause fault) address
+
+-- a word is stored where the hart has reserved it; whether it may be stored is tested first
+unfoldable pub conditional_line : ℕ → Registers → Memory → ℕ → ℕ → ℕ → Line
+conditional_line hart regs memory rd address word = after_conditional regs rd address (stored_conditionally memory hart address word)
+
 -- ---- the lines
 
--- what an instruction does. Execution is sequentially consistent: FENCE and the flags of an atomic operation order nothing more
-unfoldable pub insn_line : Registers → Memory → Insn → Line
-insn_line regs memory (Lui rd immediate) = Next (computed regs rd (immediate * 2 ^ 12)) memory
-insn_line regs memory (Auipc rd immediate) = Next (computed regs rd (word_sum regs.pc (immediate * 2 ^ 12))) memory
-insn_line regs memory (Jal rd offset) = jumped regs memory rd (word_sum regs.pc (word_of_signed offset))
-insn_line regs memory (Jalr rd rs1 offset) = jumped regs memory rd (even (word_sum (register regs rs1) (word_of_signed offset)))
-insn_line regs memory (Branch kind rs1 rs2 offset) =
+-- what an instruction of the hart of a number does. Execution is sequentially consistent: FENCE and the flags of an atomic operation order nothing more
+unfoldable pub insn_line : ℕ → Registers → Memory → Insn → Line
+insn_line hart regs memory (Lui rd immediate) = Next (computed regs rd (immediate * 2 ^ 12)) memory
+insn_line hart regs memory (Auipc rd immediate) = Next (computed regs rd (word_sum regs.pc (immediate * 2 ^ 12))) memory
+insn_line hart regs memory (Jal rd offset) = jumped regs memory rd (word_sum regs.pc (word_of_signed offset))
+insn_line hart regs memory (Jalr rd rs1 offset) = jumped regs memory rd (even (word_sum (register regs rs1) (word_of_signed offset)))
+insn_line hart regs memory (Branch kind rs1 rs2 offset) =
     branched regs memory (word_sum regs.pc (word_of_signed offset)) (is_taken kind (register regs rs1) (register regs rs2))
-insn_line regs memory (Load kind rd rs1 offset) = load_line regs memory kind rd (address_at regs rs1 offset)
-insn_line regs memory (Store kind rs1 rs2 offset) =
+insn_line hart regs memory (Load kind rd rs1 offset) = load_line regs memory kind rd (address_at regs rs1 offset)
+insn_line hart regs memory (Store kind rs1 rs2 offset) =
     store_line regs memory kind (address_at regs rs1 offset) (register regs rs2)
-insn_line regs memory (OpImmediate kind rd rs1 immediate) =
+insn_line hart regs memory (OpImmediate kind rd rs1 immediate) =
     Next (computed regs rd (result_of (immediate_operation kind) (register regs rs1) (word_of_signed immediate))) memory
-insn_line regs memory (Shift kind rd rs1 amount) =
+insn_line hart regs memory (Shift kind rd rs1 amount) =
     Next (computed regs rd (result_of (shift_operation kind) (register regs rs1) amount)) memory
-insn_line regs memory (Op kind rd rs1 rs2) =
+insn_line hart regs memory (Op kind rd rs1 rs2) =
     Next (computed regs rd (result_of kind (register regs rs1) (register regs rs2))) memory
-insn_line regs memory (Fence kept rd rs1) = Next (with_pc regs (next_pc regs)) memory
-insn_line regs memory (Amo kind acquire release rd rs1 rs2) =
+insn_line hart regs memory (Fence kept rd rs1) = Next (with_pc regs (next_pc regs)) memory
+insn_line hart regs memory (Amo kind acquire release rd rs1 rs2) =
     amo_line regs memory kind rd (register regs rs1) (register regs rs2)
-insn_line regs memory Ecall = Call
-insn_line regs memory Ebreak = Traps Breakpoint regs.pc
+insn_line hart regs memory (LoadReserved acquire release rd rs1) = reserving_line hart regs memory rd (register regs rs1)
+insn_line hart regs memory (StoreConditional acquire release rd rs1 rs2) =
+    conditional_line hart regs memory rd (register regs rs1) (register regs rs2)
+insn_line hart regs memory Ecall = Call
+insn_line hart regs memory Ebreak = Traps Breakpoint regs.pc
 
 -- what a fetched word does: a word outside the table is an illegal instruction
-abbrev pub decoded_line : Registers → Memory → ℕ → Option Insn → Line
-decoded_line regs memory word None = Traps IllegalInstruction word
-decoded_line regs memory word (Some insn) = insn_line regs memory insn
+abbrev pub decoded_line : ℕ → Registers → Memory → ℕ → Option Insn → Line
+decoded_line hart regs memory word None = Traps IllegalInstruction word
+decoded_line hart regs memory word (Some insn) = insn_line hart regs memory insn
 
 -- what the answer to the fetch does
-abbrev pub fetched_line : Registers → Memory → Result ℕ MemoryFault → Line
-fetched_line regs memory (Ok word) = decoded_line regs memory word (insn_of word)
-fetched_line regs memory (Err fault) = Traps (fetch_cause fault) regs.pc
+abbrev pub fetched_line : ℕ → Registers → Memory → Result ℕ MemoryFault → Line
+fetched_line hart regs memory (Ok word) = decoded_line hart regs memory word (insn_of word)
+fetched_line hart regs memory (Err fault) = Traps (fetch_cause fault) regs.pc
 
--- the line at these registers and this memory
-unfoldable pub line : Registers → Memory → Line
-line regs memory = fetched_line regs memory (fetched memory regs.pc)
+-- the line of the hart of a number, at its registers and this memory
+unfoldable pub line : ℕ → Registers → Memory → Line
+line hart regs memory = fetched_line hart regs memory (fetched memory regs.pc)

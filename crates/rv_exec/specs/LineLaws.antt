@@ -15,13 +15,13 @@ use Rattle.rv_exec.specs.Outcomes.{Used, UsesPages}
 
 -- ---- the line
 
-pub line_fetched : (regs : Registers) (memory : Memory) (word : ℕ) → fetched memory regs.pc ≡ Ok word → line regs memory ≡ decoded_line regs memory word (insn_of word)
+pub line_fetched : (hart : ℕ) (regs : Registers) (memory : Memory) (word : ℕ) → fetched memory regs.pc ≡ Ok word → line hart regs memory ≡ decoded_line hart regs memory word (insn_of word)
 unfolding line
-line_fetched regs memory word h = ap (fetched_line regs memory) h
+line_fetched hart regs memory word h = ap (fetched_line hart regs memory) h
 
-pub line_fault : (regs : Registers) (memory : Memory) (fault : MemoryFault) → fetched memory regs.pc ≡ Err fault → line regs memory ≡ Traps (fetch_cause fault) regs.pc
+pub line_fault : (hart : ℕ) (regs : Registers) (memory : Memory) (fault : MemoryFault) → fetched memory regs.pc ≡ Err fault → line hart regs memory ≡ Traps (fetch_cause fault) regs.pc
 unfolding line
-line_fault regs memory fault h = ap (fetched_line regs memory) h
+line_fault hart regs memory fault h = ap (fetched_line hart regs memory) h
 
 -- ---- the pages
 

@@ -4,9 +4,11 @@ use Rattle.page_memory.specs.declared.fault.MemoryFault.{MemoryFault}
 use Rattle.page_memory.specs.Words.{page_number}
 use Rattle.page_memory.specs.Memory.{Memory, fetched, loaded, stored, replaced}
 use Rattle.rv_isa.specs.declared.instruction.Insn.{Insn}
-use Rattle.rv_isa.specs.declared.instruction.Insn.TheVariants.{Load, Store, Amo}
+use Rattle.rv_isa.specs.declared.instruction.Insn.TheVariants.{Load, Store, Amo, LoadReserved, StoreConditional}
 use Rattle.rv_isa.specs.declared.kinds.LoadKind.{LoadKind}
+use Rattle.rv_isa.specs.declared.kinds.LoadKind.TheVariants.{Lw}
 use Rattle.rv_isa.specs.declared.kinds.StoreKind.{StoreKind}
+use Rattle.rv_isa.specs.declared.kinds.StoreKind.TheVariants.{Sw}
 use Rattle.rv_isa.specs.declared.kinds.AmoKind.{AmoKind}
 use Rattle.rv_isa.specs.Table.{insn_of}
 use Rattle.rv_exec.specs.Registers.{Registers, register}
@@ -29,13 +31,16 @@ unfoldable pub amo_pages : Memory → AmoKind → ℕ → ℕ → List ℕ
 amo_pages memory kind address operand =
     page_of_access address (replaced memory (λ old. amo_result kind old operand) address)
 
--- the page of what an instruction loads or stores
+-- the page of what an instruction loads or stores: LR.W loads a word, and SC.W stores one, whether it stores or not
 unfoldable pub data_pages : Registers → Memory → Insn → List ℕ
 data_pages regs memory (Load kind rd rs1 offset) = load_pages memory kind (address_at regs rs1 offset)
 data_pages regs memory (Store kind rs1 rs2 offset) =
     store_pages memory kind (address_at regs rs1 offset) (register regs rs2)
 data_pages regs memory (Amo kind acquire release rd rs1 rs2) =
     amo_pages memory kind (register regs rs1) (register regs rs2)
+data_pages regs memory (LoadReserved acquire release rd rs1) = load_pages memory Lw (register regs rs1)
+data_pages regs memory (StoreConditional acquire release rd rs1 rs2) =
+    store_pages memory Sw (register regs rs1) (register regs rs2)
 data_pages regs memory _ = []
 
 abbrev pub decoded_pages : Registers → Memory → Option Insn → List ℕ
@@ -52,12 +57,14 @@ pages_used regs memory = fetched_pages regs memory (fetched memory regs.pc)
 
 -- ---- the pages among them that it stores to
 
--- an atomic operation stores, whatever it leaves
+-- an atomic operation stores, whatever it leaves, and so does SC.W, whether it stores or not
 unfoldable pub data_stores : Registers → Memory → Insn → List ℕ
 data_stores regs memory (Store kind rs1 rs2 offset) =
     store_pages memory kind (address_at regs rs1 offset) (register regs rs2)
 data_stores regs memory (Amo kind acquire release rd rs1 rs2) =
     amo_pages memory kind (register regs rs1) (register regs rs2)
+data_stores regs memory (StoreConditional acquire release rd rs1 rs2) =
+    store_pages memory Sw (register regs rs1) (register regs rs2)
 data_stores regs memory _ = []
 
 abbrev pub decoded_stores : Registers → Memory → Option Insn → List ℕ

@@ -1,9 +1,11 @@
 //! Loads, stores and atomic memory operations: one access of the bus each (unprivileged manual, "Load and Store
-//! Instructions" and "Zaamo").
+//! Instructions" and "A").
 ghost use Rattle.std.specs.Prelude.{◌≡◌, []};
 ghost use Rattle.rv_exec.specs.Access.{load_width, store_width, extended};
 ghost use Rattle.rv_exec.specs.Registers.{register};
-ghost use Rattle.rv_exec.specs.Line.{address_at, load_line, store_line, amo_line};
+ghost use Rattle.rv_isa.specs.declared.kinds.LoadKind.{LoadKind};
+ghost use Rattle.rv_isa.specs.declared.kinds.StoreKind.{StoreKind};
+ghost use Rattle.rv_exec.specs.Line.{address_at, load_line, store_line, amo_line, reserving_line, conditional_line, conditional_code};
 ghost use Rattle.rv_exec.specs.Uses.{load_pages, store_pages, amo_pages};
 ghost use Rattle.rv_exec.specs.Outcomes.{Follows, UnlessDone, UsesPages};
 ghost use Rattle.rv_exec.specs.Bounds.{Bounds};
@@ -191,6 +193,68 @@ pub fn perform_amo<B: Bus>(
         Err(BusError::Fault(fault)) => Outcome::Trap(Cause::of_store(fault), address),
         Err(BusError::Absent(page)) => Outcome::Absent(page),
     }
+}
+
+/// Loads the word at an address into rd, and reserves it for the hart.
+#[inline]
+#[tactic(auto, using(crate::specs::AccessLaws::reserving_word), unfolding(crate::specs::Uses::load_pages, crate::specs::Uses::store_pages))]
+pub fn perform_load_reserved<B: Bus>(
+    hart: u32,
+    regs: &mut Regs,
+    bus: &mut B,
+    rd: Reg,
+    address: u32,
+) -> Outcome
+    ensures line { let line = reserving_line hart regs.old (B.memory bus.old) rd address in
+        Follows line result regs.new (B.memory bus.new) }
+    ensures registers_stay { UnlessDone result (regs.new ≡ regs.old) }
+    ensures memory_stays { UnlessDone result (B.memory bus.new ≡ B.memory bus.old) }
+    ensures pages { let used = load_pages (B.memory bus.old) LoadKind.Lw address in
+        UsesPages (B.has bus.old) (B.marks bus.new) (B.lacks bus.old) used result }
+    ensures bound { Bounds (B.within bus.old) (B.within bus.new) (load_pages (B.memory bus.old) LoadKind.Lw address) [] }
+    ensures kept { B.keeps bus.old bus.new }
+{
+    match bus.load_reserved(hart, address) {
+        Ok(word) => compute(regs, rd, word),
+        Err(BusError::Fault(fault)) => Outcome::Trap(Cause::of_load(fault), address),
+        Err(BusError::Absent(page)) => Outcome::Absent(page),
+    }
+}
+
+/// Stores a word at an address where the hart has reserved it, and writes to rd whether it has not.
+#[inline]
+#[tactic(auto, using(crate::specs::AccessLaws::storing_word), unfolding(crate::specs::Uses::load_pages, crate::specs::Uses::store_pages))]
+pub fn perform_store_conditional<B: Bus>(
+    hart: u32,
+    regs: &mut Regs,
+    bus: &mut B,
+    rd: Reg,
+    address: u32,
+    word: u32,
+) -> Outcome
+    ensures line { let line = conditional_line hart regs.old (B.memory bus.old) rd address word in
+        Follows line result regs.new (B.memory bus.new) }
+    ensures registers_stay { UnlessDone result (regs.new ≡ regs.old) }
+    ensures memory_stays { UnlessDone result (B.memory bus.new ≡ B.memory bus.old) }
+    ensures pages { let used = store_pages (B.memory bus.old) StoreKind.Sw address word in
+        UsesPages (B.has bus.old) (B.marks bus.new) (B.lacks bus.old) used result }
+    ensures bound { let used = store_pages (B.memory bus.old) StoreKind.Sw address word in
+        Bounds (B.within bus.old) (B.within bus.new) used used }
+    ensures kept { B.keeps bus.old bus.new }
+{
+    match bus.store_conditional(hart, address, word) {
+        Ok(is_stored) => compute(regs, rd, code_of(is_stored)),
+        Err(BusError::Fault(fault)) => Outcome::Trap(Cause::of_store(fault), address),
+        Err(BusError::Absent(page)) => Outcome::Absent(page),
+    }
+}
+
+/// What SC.W writes to rd.
+#[inline]
+fn code_of(is_stored: bool) -> u32
+    ensures { result ≡ conditional_code is_stored }
+{
+    if is_stored { 0 } else { 1 }
 }
 
 /// How much a load reads.

@@ -1,6 +1,7 @@
 ghost use Rattle.std.specs.Prelude.{◌≡◌, ℕ, Bool, ◌+◌, ◌^◌, ◌<◌, ◌≤◌, [], length, OnOk, OnErr, IsErr};
+ghost use Rattle.page_memory.specs.declared.words.Width.{Width};
 ghost use Rattle.page_memory.specs.Words.{page_offset};
-ghost use Rattle.page_memory.specs.Memory.{Memory, fetched, loaded, stored, replaced, copied_out, copied_in, with_zeroed};
+ghost use Rattle.page_memory.specs.Memory.{Memory, fetched, loaded, stored, replaced, loaded_reserved, stored_conditionally, copied_out, copied_in, with_zeroed};
 
 use page_memory::{MemoryFault, Width};
 use rv_isa::AmoKind;
@@ -86,6 +87,24 @@ pub trait Bus {
             Answers (has self.old) (marks self.new) (lacks self.old) address expected after }
         ensures refused { OnErr result (memory self.new ≡ memory self.old) }
         ensures bound { let pages = page_of_access address (replaced (memory self.old) (λ (old : ℕ). amo_result operation old operand) address) in Bounds (within self.old) (within self.new) pages pages }
+        ensures kept { keeps self.old self.new };
+
+    /// Loads the word at an address, and reserves it for the hart of a number.
+    fn load_reserved(&mut self, hart: u32, address: u32) -> Result<u32, BusError>
+        ensures answer { let expected = loaded_reserved (memory self.old) hart address in
+            let after = with_answer (λ word. (word, memory self.new)) result in
+            Answers (has self.old) (marks self.new) (lacks self.old) address expected after }
+        ensures refused { OnErr result (memory self.new ≡ memory self.old) }
+        ensures bound { let pages = page_of_access address (loaded (memory self.old) Width.Word address) in Bounds (within self.old) (within self.new) pages [] }
+        ensures kept { keeps self.old self.new };
+
+    /// Stores a word where the hart of a number has reserved it, and answers whether it has. The hart's reservation goes.
+    fn store_conditional(&mut self, hart: u32, address: u32, word: u32) -> Result<bool, BusError>
+        ensures answer { let expected = stored_conditionally (memory self.old) hart address word in
+            let after = with_answer (λ is_stored. (is_stored, memory self.new)) result in
+            Answers (has self.old) (marks self.new) (lacks self.old) address expected after }
+        ensures refused { OnErr result (memory self.new ≡ memory self.old) }
+        ensures bound { let pages = page_of_access address (stored (memory self.old) Width.Word address word) in Bounds (within self.old) (within self.new) pages pages }
         ensures kept { keeps self.old self.new };
 
     /// Copies bytes of one page to a slice.

@@ -1,12 +1,14 @@
-ghost use Rattle.std.specs.Prelude.{◌≡◌, []};
+ghost use Rattle.std.specs.Prelude.{◌≡◌, ℕ, []};
 ghost use Rattle.page_memory.specs.Memory.{Memory};
-ghost use Rattle.rv_isa.specs.Table.{insn_of, jalr_of, branch_of, load_of, store_of, op_immediate_of, shift_of, op_of, fence_of, amo_of, system_of};
+ghost use Rattle.rv_isa.specs.Table.{insn_of, jalr_of, branch_of, load_of, store_of, op_immediate_of, shift_of, op_of, fence_of, amo_of, reservation_of, system_of};
 ghost use Rattle.rv_exec.specs.Line.{decoded_line, line};
 ghost use Rattle.rv_exec.specs.Bounds.{Bounds};
 ghost use Rattle.rv_exec.specs.Uses.{decoded_pages, decoded_stores, pages_used, pages_stored};
 ghost use Rattle.rv_exec.specs.Outcomes.{Follows, UnlessDone, UsesPages, IsPresent};
 
-use crate::accesses::{perform_amo, perform_load, perform_store};
+use crate::accesses::{
+    perform_amo, perform_load, perform_load_reserved, perform_store, perform_store_conditional,
+};
 use crate::advance::{advance, compute};
 use crate::arithmetic::add;
 use crate::bus::{Bus, BusError};
@@ -16,17 +18,17 @@ use crate::operations::{perform_immediate, perform_op, perform_shift};
 use crate::outcome::Outcome;
 use crate::regs::Regs;
 use rv_isa::{
-    amo_kind, branch_kind, branch_offset, funct3, immediate, immediate_kind, jump_offset,
-    load_kind, op_kind, opcode, opcodes, rd, rs1, rs2, shift_amount, shift_kind, store_immediate,
-    store_kind, upper_immediate,
+    ReservationKind, amo_kind, branch_kind, branch_offset, funct3, immediate, immediate_kind,
+    jump_offset, load_kind, op_kind, opcode, opcodes, rd, reservation_kind, rs1, rs2, shift_amount,
+    shift_kind, store_immediate, store_kind, upper_immediate,
 };
 
-/// Runs a hart's next instruction: fetches the word at pc and does what the instruction table says of it.
+/// Runs the next instruction of the hart of a number: fetches the word at pc and does what the instruction table says of it.
 ///
 /// Takes no memory.
 #[inline(always)]
-pub fn execute<B: Bus>(regs: &mut Regs, bus: &mut B) -> Outcome
-    ensures line { Follows (line regs.old (B.memory bus.old)) result regs.new (B.memory bus.new) }
+pub fn execute<B: Bus>(hart: u32, regs: &mut Regs, bus: &mut B) -> Outcome
+    ensures line { Follows (line hart regs.old (B.memory bus.old)) result regs.new (B.memory bus.new) }
     ensures registers_stay { UnlessDone result (regs.new ≡ regs.old) }
     ensures memory_stays { UnlessDone result (B.memory bus.new ≡ B.memory bus.old) }
 
@@ -39,7 +41,7 @@ pub fn execute<B: Bus>(regs: &mut Regs, bus: &mut B) -> Outcome
 {
     let pc = regs.pc();
     match bus.fetch(pc) {
-        Ok(word) => perform(regs, bus, word),
+        Ok(word) => perform(hart, regs, bus, word),
         Err(BusError::Fault(fault)) => Outcome::Trap(Cause::of_fetch(fault), pc),
         Err(BusError::Absent(page)) => Outcome::Absent(page),
     }
@@ -49,8 +51,8 @@ pub fn execute<B: Bus>(regs: &mut Regs, bus: &mut B) -> Outcome
 /// if the word was decoded, but no instruction is built, which would take as long as to run it.
 #[inline(always)]
 #[tactic(auto, unfolding(rv_isa::specs::Table::insn_of, rv_isa::specs::Table::operation_of, crate::specs::Line::insn_line, crate::specs::Uses::data_pages, crate::specs::Uses::data_stores))]
-fn perform<B: Bus>(regs: &mut Regs, bus: &mut B, word: u32) -> Outcome
-    ensures line { let line = decoded_line regs.old (B.memory bus.old) word (insn_of word) in
+fn perform<B: Bus>(hart: u32, regs: &mut Regs, bus: &mut B, word: u32) -> Outcome
+    ensures line { let line = decoded_line hart regs.old (B.memory bus.old) word (insn_of word) in
         Follows line result regs.new (B.memory bus.new) }
     ensures registers_stay { UnlessDone result (regs.new ≡ regs.old) }
     ensures memory_stays { UnlessDone result (B.memory bus.new ≡ B.memory bus.old) }
@@ -74,7 +76,7 @@ fn perform<B: Bus>(regs: &mut Regs, bus: &mut B, word: u32) -> Outcome
         opcodes::OP_IMM => op_immediate(regs, word),
         opcodes::OP => op(regs, word),
         opcodes::MISC_MEM => fence(regs, word),
-        opcodes::AMO => amo(regs, bus, word),
+        opcodes::AMO => amo(hart, regs, bus, word),
         opcodes::SYSTEM => system(regs, word),
         _ => illegal(word),
     }
@@ -92,7 +94,7 @@ fn illegal(word: u32) -> Outcome
 #[inline(always)]
 #[tactic(auto, unfolding(rv_isa::specs::Table::jalr_of, crate::specs::Line::insn_line, crate::specs::Uses::data_pages, crate::specs::Uses::data_stores))]
 fn jalr(regs: &mut Regs, word: u32) -> Outcome
-    ensures line { (memory : Memory) → Follows (decoded_line regs.old memory word (jalr_of word)) result regs.new memory }
+    ensures line { (hart : ℕ) (memory : Memory) → Follows (decoded_line hart regs.old memory word (jalr_of word)) result regs.new memory }
     ensures registers_stay { UnlessDone result (regs.new ≡ regs.old) }
     ensures no_pages { (memory : Memory) → decoded_pages regs.old memory (jalr_of word) ≡ [] }
     ensures present { IsPresent result }
@@ -108,7 +110,7 @@ fn jalr(regs: &mut Regs, word: u32) -> Outcome
 #[inline(always)]
 #[tactic(auto, unfolding(rv_isa::specs::Table::branch_of, crate::specs::Line::insn_line, crate::specs::Uses::data_pages, crate::specs::Uses::data_stores))]
 fn branch(regs: &mut Regs, word: u32) -> Outcome
-    ensures line { (memory : Memory) → Follows (decoded_line regs.old memory word (branch_of word)) result regs.new memory }
+    ensures line { (hart : ℕ) (memory : Memory) → Follows (decoded_line hart regs.old memory word (branch_of word)) result regs.new memory }
     ensures registers_stay { UnlessDone result (regs.new ≡ regs.old) }
     ensures no_pages { (memory : Memory) → decoded_pages regs.old memory (branch_of word) ≡ [] }
     ensures present { IsPresent result }
@@ -123,7 +125,7 @@ fn branch(regs: &mut Regs, word: u32) -> Outcome
 #[inline(always)]
 #[tactic(auto, unfolding(rv_isa::specs::Table::load_of, crate::specs::Line::insn_line, crate::specs::Uses::data_pages, crate::specs::Uses::data_stores))]
 fn load<B: Bus>(regs: &mut Regs, bus: &mut B, word: u32) -> Outcome
-    ensures line { let line = decoded_line regs.old (B.memory bus.old) word (load_of word) in
+    ensures line { (hart : ℕ) → let line = decoded_line hart regs.old (B.memory bus.old) word (load_of word) in
         Follows line result regs.new (B.memory bus.new) }
     ensures registers_stay { UnlessDone result (regs.new ≡ regs.old) }
     ensures memory_stays { UnlessDone result (B.memory bus.new ≡ B.memory bus.old) }
@@ -143,7 +145,7 @@ fn load<B: Bus>(regs: &mut Regs, bus: &mut B, word: u32) -> Outcome
 #[inline(always)]
 #[tactic(auto, unfolding(rv_isa::specs::Table::store_of, crate::specs::Line::insn_line, crate::specs::Uses::data_pages, crate::specs::Uses::data_stores))]
 fn store<B: Bus>(regs: &mut Regs, bus: &mut B, word: u32) -> Outcome
-    ensures line { let line = decoded_line regs.old (B.memory bus.old) word (store_of word) in
+    ensures line { (hart : ℕ) → let line = decoded_line hart regs.old (B.memory bus.old) word (store_of word) in
         Follows line result regs.new (B.memory bus.new) }
     ensures registers_stay { UnlessDone result (regs.new ≡ regs.old) }
     ensures memory_stays { UnlessDone result (B.memory bus.new ≡ B.memory bus.old) }
@@ -163,7 +165,7 @@ fn store<B: Bus>(regs: &mut Regs, bus: &mut B, word: u32) -> Outcome
 #[inline(always)]
 #[tactic(auto, unfolding(rv_isa::specs::Table::op_immediate_of, crate::specs::Line::insn_line, crate::specs::Uses::data_pages, crate::specs::Uses::data_stores))]
 fn op_immediate(regs: &mut Regs, word: u32) -> Outcome
-    ensures line { (memory : Memory) → Follows (decoded_line regs.old memory word (op_immediate_of word)) result regs.new memory }
+    ensures line { (hart : ℕ) (memory : Memory) → Follows (decoded_line hart regs.old memory word (op_immediate_of word)) result regs.new memory }
     ensures registers_stay { UnlessDone result (regs.new ≡ regs.old) }
     ensures no_pages { (memory : Memory) → decoded_pages regs.old memory (op_immediate_of word) ≡ [] }
     ensures present { IsPresent result }
@@ -178,7 +180,7 @@ fn op_immediate(regs: &mut Regs, word: u32) -> Outcome
 #[inline(always)]
 #[tactic(auto, unfolding(rv_isa::specs::Table::shift_of, crate::specs::Line::insn_line, crate::specs::Uses::data_pages, crate::specs::Uses::data_stores))]
 fn shift(regs: &mut Regs, word: u32) -> Outcome
-    ensures line { (memory : Memory) → Follows (decoded_line regs.old memory word (shift_of word)) result regs.new memory }
+    ensures line { (hart : ℕ) (memory : Memory) → Follows (decoded_line hart regs.old memory word (shift_of word)) result regs.new memory }
     ensures registers_stay { UnlessDone result (regs.new ≡ regs.old) }
     ensures no_pages { (memory : Memory) → decoded_pages regs.old memory (shift_of word) ≡ [] }
     ensures present { IsPresent result }
@@ -193,7 +195,7 @@ fn shift(regs: &mut Regs, word: u32) -> Outcome
 #[inline(always)]
 #[tactic(auto, unfolding(rv_isa::specs::Table::op_of, crate::specs::Line::insn_line, crate::specs::Uses::data_pages, crate::specs::Uses::data_stores))]
 fn op(regs: &mut Regs, word: u32) -> Outcome
-    ensures line { (memory : Memory) → Follows (decoded_line regs.old memory word (op_of word)) result regs.new memory }
+    ensures line { (hart : ℕ) (memory : Memory) → Follows (decoded_line hart regs.old memory word (op_of word)) result regs.new memory }
     ensures registers_stay { UnlessDone result (regs.new ≡ regs.old) }
     ensures no_pages { (memory : Memory) → decoded_pages regs.old memory (op_of word) ≡ [] }
     ensures present { IsPresent result }
@@ -208,7 +210,7 @@ fn op(regs: &mut Regs, word: u32) -> Outcome
 #[inline(always)]
 #[tactic(auto, unfolding(rv_isa::specs::Table::fence_of, crate::specs::Line::insn_line, crate::specs::Uses::data_pages, crate::specs::Uses::data_stores))]
 fn fence(regs: &mut Regs, word: u32) -> Outcome
-    ensures line { (memory : Memory) → Follows (decoded_line regs.old memory word (fence_of word)) result regs.new memory }
+    ensures line { (hart : ℕ) (memory : Memory) → Follows (decoded_line hart regs.old memory word (fence_of word)) result regs.new memory }
     ensures registers_stay { UnlessDone result (regs.new ≡ regs.old) }
     ensures no_pages { (memory : Memory) → decoded_pages regs.old memory (fence_of word) ≡ [] }
     ensures present { IsPresent result }
@@ -223,8 +225,8 @@ fn fence(regs: &mut Regs, word: u32) -> Outcome
 /// Opcode AMO.
 #[inline(always)]
 #[tactic(auto, unfolding(rv_isa::specs::Table::amo_of, crate::specs::Line::insn_line, crate::specs::Uses::data_pages, crate::specs::Uses::data_stores))]
-fn amo<B: Bus>(regs: &mut Regs, bus: &mut B, word: u32) -> Outcome
-    ensures line { let line = decoded_line regs.old (B.memory bus.old) word (amo_of word) in
+fn amo<B: Bus>(hart: u32, regs: &mut Regs, bus: &mut B, word: u32) -> Outcome
+    ensures line { let line = decoded_line hart regs.old (B.memory bus.old) word (amo_of word) in
         Follows line result regs.new (B.memory bus.new) }
     ensures registers_stay { UnlessDone result (regs.new ≡ regs.old) }
     ensures memory_stays { UnlessDone result (B.memory bus.new ≡ B.memory bus.old) }
@@ -240,6 +242,34 @@ fn amo<B: Bus>(regs: &mut Regs, bus: &mut B, word: u32) -> Outcome
             let operand = regs.read(rs2(word));
             perform_amo(regs, bus, kind, rd(word), address, operand)
         }
+        None => reservation(hart, regs, bus, word),
+    }
+}
+
+/// Opcode AMO, where it is LR.W or SC.W.
+#[inline(always)]
+#[tactic(auto, unfolding(rv_isa::specs::Table::reservation_of, crate::specs::Line::insn_line, crate::specs::Uses::data_pages, crate::specs::Uses::data_stores))]
+fn reservation<B: Bus>(hart: u32, regs: &mut Regs, bus: &mut B, word: u32) -> Outcome
+    ensures line { let line = decoded_line hart regs.old (B.memory bus.old) word (reservation_of word) in
+        Follows line result regs.new (B.memory bus.new) }
+    ensures registers_stay { UnlessDone result (regs.new ≡ regs.old) }
+    ensures memory_stays { UnlessDone result (B.memory bus.new ≡ B.memory bus.old) }
+    ensures pages { let used = decoded_pages regs.old (B.memory bus.old) (reservation_of word) in
+        UsesPages (B.has bus.old) (B.marks bus.new) (B.lacks bus.old) used result }
+    ensures bound { let memory = B.memory bus.old in
+        Bounds (B.within bus.old) (B.within bus.new) (decoded_pages regs.old memory (reservation_of word)) (decoded_stores regs.old memory (reservation_of word)) }
+    ensures kept { B.keeps bus.old bus.new }
+{
+    match reservation_kind(word) {
+        Some(ReservationKind::Lr) => {
+            let address = regs.read(rs1(word));
+            perform_load_reserved(hart, regs, bus, rd(word), address)
+        }
+        Some(ReservationKind::Sc) => {
+            let address = regs.read(rs1(word));
+            let operand = regs.read(rs2(word));
+            perform_store_conditional(hart, regs, bus, rd(word), address, operand)
+        }
         None => illegal(word),
     }
 }
@@ -248,7 +278,7 @@ fn amo<B: Bus>(regs: &mut Regs, bus: &mut B, word: u32) -> Outcome
 #[inline(always)]
 #[tactic(auto, unfolding(rv_isa::specs::Table::system_of, crate::specs::Line::insn_line, crate::specs::Uses::data_pages, crate::specs::Uses::data_stores))]
 fn system(regs: &mut Regs, word: u32) -> Outcome
-    ensures line { (memory : Memory) → Follows (decoded_line regs.old memory word (system_of word)) result regs.new memory }
+    ensures line { (hart : ℕ) (memory : Memory) → Follows (decoded_line hart regs.old memory word (system_of word)) result regs.new memory }
     ensures registers_stay { UnlessDone result (regs.new ≡ regs.old) }
     ensures no_pages { (memory : Memory) → decoded_pages regs.old memory (system_of word) ≡ [] }
     ensures present { IsPresent result }

@@ -52,6 +52,14 @@ impl Bus for FlatMemory {
         Ok(replace(self, address, operation, operand)?)
     }
 
+    fn load_reserved(&mut self, hart: u32, address: u32) -> Result<u32, BusError> {
+        Ok(FlatMemory::load_reserved(self, hart, address)?)
+    }
+
+    fn store_conditional(&mut self, hart: u32, address: u32, word: u32) -> Result<bool, BusError> {
+        Ok(FlatMemory::store_conditional(self, hart, address, word)?)
+    }
+
     fn copy_out(&mut self, address: u32, to: &mut [u8]) -> Result<(), BusError> {
         Ok(FlatMemory::copy_out(self, address, to)?)
     }

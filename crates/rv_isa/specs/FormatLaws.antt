@@ -7,7 +7,7 @@ use Rattle.rv_isa.specs.BitsLaws.{signed-small, signed-large}
 use Rattle.rv_isa.specs.Operands.{IsImmediate, IsBranchOffset, IsJumpOffset}
 use Rattle.rv_isa.specs.declared.kinds.Code.{Code}
 use Rattle.rv_isa.specs.declared.instruction.Insn.{Insn}
-use Rattle.rv_isa.specs.declared.instruction.Insn.TheVariants.{Lui, Auipc, Jal, Jalr, Branch, Load, Store, OpImmediate, Shift, Op, Fence, Amo, Ecall, Ebreak}
+use Rattle.rv_isa.specs.declared.instruction.Insn.TheVariants.{Lui, Auipc, Jal, Jalr, Branch, Load, Store, OpImmediate, Shift, Op, Fence, Amo, LoadReserved, StoreConditional, Ecall, Ebreak}
 use Rattle.rv_isa.specs.Table.{Agrees, shift_code, op_code, IsRFormat, IsIFormat, IsSFormat, IsBFormat, IsUFormat, IsJFormat, IsFenceFormat, IsAmoFormat}
 
 -- the low bits of a signed number, read back
@@ -337,5 +337,7 @@ agrees_once v w (Shift kind rd rs1 amount) h g a b = r_once v w _ (shift_code ki
 agrees_once v w (Op kind rd rs1 rs2) h g a b = r_once v w _ (op_code kind) rd rs1 rs2 h g a b
 agrees_once v w (Fence kept rd rs1) h g a b = fence_once v w _ _ kept rd rs1 h g a b
 agrees_once v w (Amo kind acquire release rd rs1 rs2) h g a b = amo_once v w _ _ _ _ _ rd rs1 rs2 h g a b
+agrees_once v w (LoadReserved acquire release rd rs1) h g a b = amo_once v w _ _ _ _ _ rd rs1 0 h g a b
+agrees_once v w (StoreConditional acquire release rd rs1 rs2) h g a b = amo_once v w _ _ _ _ _ rd rs1 rs2 h g a b
 agrees_once v w Ecall h g a b = a ∙ sym b
 agrees_once v w Ebreak h g a b = a ∙ sym b

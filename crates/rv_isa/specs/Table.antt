@@ -1,8 +1,8 @@
 -- The instruction table: which word stands for which instruction.
 -- Source: unprivileged manual, "RV32I Base Integer Instruction Set" (the formats and the immediates' places),
--- "M", "Zaamo", and "RV32/64G Instruction Set Listings" (the codes).
+-- "M", "A" (Zaamo and Zalrsc), and "RV32/64G Instruction Set Listings" (the codes).
 -- Every word that agrees with no instruction here is outside the table, among them the words of FENCE.I, of the CSR
--- instructions, of LR.W and SC.W, and shifts by an immediate amount with bit 25 set.
+-- instructions, of LR.W with rs2 not 0, and shifts by an immediate amount with bit 25 set.
 use Rattle.std.specs.Prelude.{◌≡◌, ℕ, ◌+◌, ◌*◌, ◌^◌, ◌==◌, ℤ, Bool, true, false, ◌&&◌, Option, Some, None, option_map, List, [], ◌∷◌, if◌then◌else◌}
 use Rattle.std.specs.Option.{option_or}
 use Rattle.std.specs.List.{find}
@@ -21,9 +21,11 @@ use Rattle.rv_isa.specs.declared.kinds.StoreKind.{StoreKind}
 use Rattle.rv_isa.specs.declared.kinds.StoreKind.TheVariants.{Sb, Sh, Sw}
 use Rattle.rv_isa.specs.declared.kinds.AmoKind.{AmoKind}
 use Rattle.rv_isa.specs.declared.kinds.AmoKind.TheVariants.{Amoadd, Amoswap, Amoxor, Amoor, Amoand, Amomin, Amomax, Amominu, Amomaxu}
+use Rattle.rv_isa.specs.declared.kinds.ReservationKind.{ReservationKind}
+use Rattle.rv_isa.specs.declared.kinds.ReservationKind.TheVariants.{Lr, Sc}
 use Rattle.rv_isa.specs.declared.kinds.Code.{Code}
 use Rattle.rv_isa.specs.declared.instruction.Insn.{Insn}
-use Rattle.rv_isa.specs.declared.instruction.Insn.TheVariants.{Lui, Auipc, Jal, Jalr, Branch, Load, Store, OpImmediate, Shift, Op, Fence, Amo, Ecall, Ebreak}
+use Rattle.rv_isa.specs.declared.instruction.Insn.TheVariants.{Lui, Auipc, Jal, Jalr, Branch, Load, Store, OpImmediate, Shift, Op, Fence, Amo, LoadReserved, StoreConditional, Ecall, Ebreak}
 
 -- ---- codes
 
@@ -200,6 +202,10 @@ Agrees word (Op kind rd rs1 rs2) = IsRFormat word 0b0110011 (op_code kind) rd rs
 Agrees word (Fence kept rd rs1) = IsFenceFormat word 0b0001111 0b000 kept rd rs1
 Agrees word (Amo kind acquire release rd rs1 rs2) =
     IsAmoFormat word 0b0101111 (amo_code kind) (flag_code acquire) (flag_code release) 0b010 rd rs1 rs2
+Agrees word (LoadReserved acquire release rd rs1) =
+    IsAmoFormat word 0b0101111 0b00010 (flag_code acquire) (flag_code release) 0b010 rd rs1 0
+Agrees word (StoreConditional acquire release rd rs1 rs2) =
+    IsAmoFormat word 0b0101111 0b00011 (flag_code acquire) (flag_code release) 0b010 rd rs1 rs2
 Agrees word Ecall = word ≡ 0x00000073
 Agrees word Ebreak = word ≡ 0x00100073
 
@@ -228,9 +234,17 @@ op_kinds =
 abbrev pub amo_kinds : List AmoKind
 amo_kinds = Amoadd ∷ Amoswap ∷ Amoxor ∷ Amoor ∷ Amoand ∷ Amomin ∷ Amomax ∷ Amominu ∷ Amomaxu ∷ []
 
+abbrev pub reservation_kinds : List ReservationKind
+reservation_kinds = Lr ∷ Sc ∷ []
+
 -- whether a code has these parts
 abbrev pub has_parts : Code → ℕ → ℕ → Bool
 has_parts code funct7 funct3 = code.funct7 == funct7 && code.funct3 == funct3
+
+-- whether a kind has this funct5 and this rs2, which is 0 in LR.W
+abbrev pub has_reservation_codes : ReservationKind → ℕ → ℕ → Bool
+has_reservation_codes Lr funct5 rs2 = 0b00010 == funct5 && 0 == rs2
+has_reservation_codes Sc funct5 rs2 = 0b00011 == funct5
 
 -- the kind that has these codes
 unfoldable pub branch_kind : ℕ → Option BranchKind
@@ -253,6 +267,10 @@ op_kind funct7 funct3 = find (λ kind. has_parts (op_code kind) funct7 funct3) o
 
 unfoldable pub amo_kind : ℕ → ℕ → Option AmoKind
 amo_kind funct5 funct3 = if funct3 == 0b010 then find (λ kind. amo_code kind == funct5) amo_kinds else None
+
+unfoldable pub reservation_kind : ℕ → ℕ → ℕ → Option ReservationKind
+reservation_kind funct5 rs2 funct3 =
+    if funct3 == 0b010 then find (λ kind. has_reservation_codes kind funct5 rs2) reservation_kinds else None
 
 -- the instruction that a word of an opcode stands for
 unfoldable pub jalr_of : ℕ → Option Insn
@@ -294,11 +312,23 @@ unfoldable pub fence_of : ℕ → Option Insn
 fence_of word =
     if bits word 14 12 == 0b000 then Some (Fence (bits word 31 20) (bits word 11 7) (bits word 19 15)) else None
 
+abbrev pub reservation_insn : ℕ → ReservationKind → Insn
+reservation_insn word Lr =
+    LoadReserved (bits word 26 26 == 1) (bits word 25 25 == 1) (bits word 11 7) (bits word 19 15)
+reservation_insn word Sc =
+    StoreConditional (bits word 26 26 == 1) (bits word 25 25 == 1) (bits word 11 7) (bits word 19 15) (bits word 24 20)
+
+unfoldable pub reservation_of : ℕ → Option Insn
+reservation_of word =
+    option_map (reservation_insn word) (reservation_kind (bits word 31 27) (bits word 24 20) (bits word 14 12))
+
 unfoldable pub amo_of : ℕ → Option Insn
 amo_of word =
-    option_map
+    option_or
+    (option_map
     (λ kind. Amo kind (bits word 26 26 == 1) (bits word 25 25 == 1) (bits word 11 7) (bits word 19 15) (bits word 24 20))
-    (amo_kind (bits word 31 27) (bits word 14 12))
+    (amo_kind (bits word 31 27) (bits word 14 12)))
+    (reservation_of word)
 
 unfoldable pub system_of : ℕ → Option Insn
 system_of word = if word == 0x00000073 then Some Ecall else if word == 0x00100073 then Some Ebreak else None

@@ -20,10 +20,12 @@ use Rattle.rv_isa.specs.declared.kinds.StoreKind.{StoreKind}
 use Rattle.rv_isa.specs.declared.kinds.StoreKind.TheVariants.{Sb, Sh, Sw}
 use Rattle.rv_isa.specs.declared.kinds.AmoKind.{AmoKind}
 use Rattle.rv_isa.specs.declared.kinds.AmoKind.TheVariants.{Amoadd, Amoswap, Amoxor, Amoor, Amoand, Amomin, Amomax, Amominu, Amomaxu}
+use Rattle.rv_isa.specs.declared.kinds.ReservationKind.{ReservationKind}
+use Rattle.rv_isa.specs.declared.kinds.ReservationKind.TheVariants.{Lr, Sc}
 use Rattle.rv_isa.specs.declared.kinds.Code.{Code}
 use Rattle.rv_isa.specs.declared.instruction.Insn.{Insn}
-use Rattle.rv_isa.specs.declared.instruction.Insn.TheVariants.{Lui, Auipc, Jal, Jalr, Branch, Load, Store, OpImmediate, Shift, Op, Fence, Amo, Ecall, Ebreak}
-use Rattle.rv_isa.specs.Table.{Agrees, branch_kinds, load_kinds, store_kinds, immediate_kinds, shift_kinds, op_kinds, amo_kinds, branch_code, load_code, store_code, immediate_code, shift_code, op_code, amo_code, flag_code, branch_kind, load_kind, store_kind, immediate_kind, has_parts, shift_kind, op_kind, amo_kind, jalr_of, branch_of, load_of, store_of, shift_of, op_immediate_of, op_of, fence_of, amo_of, system_of, operation_of, insn_of, i_immediate, u_immediate, j_immediate}
+use Rattle.rv_isa.specs.declared.instruction.Insn.TheVariants.{Lui, Auipc, Jal, Jalr, Branch, Load, Store, OpImmediate, Shift, Op, Fence, Amo, LoadReserved, StoreConditional, Ecall, Ebreak}
+use Rattle.rv_isa.specs.Table.{Agrees, branch_kinds, load_kinds, store_kinds, immediate_kinds, shift_kinds, op_kinds, amo_kinds, reservation_kinds, branch_code, load_code, store_code, immediate_code, shift_code, op_code, amo_code, flag_code, branch_kind, load_kind, store_kind, immediate_kind, has_parts, has_reservation_codes, shift_kind, op_kind, amo_kind, reservation_kind, jalr_of, branch_of, load_of, store_of, shift_of, op_immediate_of, op_of, fence_of, amo_of, reservation_of, reservation_insn, system_of, operation_of, insn_of, i_immediate, u_immediate, j_immediate}
 
 -- ---- what was found
 
@@ -79,18 +81,18 @@ unfolding immediate_kind
 immediate_kind-code funct3 kind h = sym
     (eqb-true _ _ (found_passes (λ kind. immediate_code kind == funct3) immediate_kinds kind h))
 
+-- two tests that passed
+both_equal : (a m b n : ℕ) → (a == m && b == n) ≡ true → (m ≡ a) × (n ≡ b)
+both_equal a m b n h =
+    elim (eqb_tells a m) [
+      | inl (t, e) ↦ (sym e, sym (eqb-true b n (sym (ap (λ x. x && (b == n)) t) ∙ h)))
+      | inr (f, _) ↦ (let no : false ≡ true = sym (ap (λ x. x && (b == n)) f) ∙ h in cc)
+    ]
+
 -- a code with these parts
 both_parts : (code : Code) (funct7 funct3 : ℕ) → has_parts code funct7 funct3 ≡ true
     → (funct7 ≡ code.funct7) × (funct3 ≡ code.funct3)
-both_parts code funct7 funct3 h =
-    elim (eqb_tells code.funct7 funct7) [
-      | inl (t, e) ↦ (
-        sym e,
-        sym
-            (eqb-true code.funct3 funct3 (sym (ap (λ b. b && (code.funct3 == funct3)) t) ∙ h)),
-      )
-      | inr (f, _) ↦ (let no_code : false ≡ true = sym (ap (λ b. b && (code.funct3 == funct3)) f) ∙ h in cc)
-    ]
+both_parts code funct7 funct3 h = both_equal code.funct7 funct7 code.funct3 funct3 h
 
 shift_kind-code : (funct7 funct3 : ℕ) (kind : ShiftKind) → shift_kind funct7 funct3 ≡ Some kind
     → (funct7 ≡ (shift_code kind).funct7) × (funct3 ≡ (shift_code kind).funct3)
@@ -118,6 +120,21 @@ amo_kind-code funct5 funct3 kind h =
       )
       | inr (f, _) ↦ (let no : None ≡ Some kind = sym
           (ap (λ b. cond b (find (λ kind. amo_code kind == funct5) amo_kinds) None) f) ∙ h in cc)
+    ]
+
+reservation_kind-codes : (funct5 rs2 funct3 : ℕ) (kind : ReservationKind)
+    → reservation_kind funct5 rs2 funct3 ≡ Some kind
+    → (has_reservation_codes kind funct5 rs2 ≡ true) × (funct3 ≡ 0b010)
+unfolding reservation_kind
+reservation_kind-codes funct5 rs2 funct3 kind h =
+    let search = find (λ kind. has_reservation_codes kind funct5 rs2) reservation_kinds in
+    elim (eqb_tells funct3 0b010) [
+      | inl (t, e) ↦ (
+        found_passes (λ kind. has_reservation_codes kind funct5 rs2) reservation_kinds kind
+            (sym (ap (λ b. cond b search None) t) ∙ h),
+        e,
+      )
+      | inr (f, _) ↦ (let no : None ≡ Some kind = sym (ap (λ b. cond b search None) f) ∙ h in cc)
     ]
 
 -- a bit as a flag
@@ -243,23 +260,61 @@ fence_of-agrees word insn o h =
       | inr none ↦ (let no : None ≡ Some insn = none in cc)
     ]
 
+reservation_agrees : (word : ℕ) (kind : ReservationKind) → bits word 6 0 ≡ 0b0101111 → bits word 14 12 ≡ 0b010
+    → has_reservation_codes kind (bits word 31 27) (bits word 24 20) ≡ true
+    → Agrees word (reservation_insn word kind)
+unfolding Agrees
+reservation_agrees word Lr o funct3 codes =
+    let (funct5, rs2) = both_equal 0b00010 (bits word 31 27) 0 (bits word 24 20) codes in
+    record {
+      in_6_0 = o;
+      in_11_7 = refl;
+      in_14_12 = funct3;
+      in_19_15 = refl;
+      in_24_20 = rs2;
+      in_25 = flag_of_bit _ (bits_below word 25 25);
+      in_26 = flag_of_bit _ (bits_below word 26 26);
+      in_31_27 = funct5;
+    }
+reservation_agrees word Sc o funct3 code = record {
+  in_6_0 = o;
+  in_11_7 = refl;
+  in_14_12 = funct3;
+  in_19_15 = refl;
+  in_24_20 = refl;
+  in_25 = flag_of_bit _ (bits_below word 25 25);
+  in_26 = flag_of_bit _ (bits_below word 26 26);
+  in_31_27 = sym (eqb-true 0b00011 (bits word 31 27) code);
+}
+
+reservation_of-agrees : (word : ℕ) (insn : Insn) → bits word 6 0 ≡ 0b0101111 → reservation_of word ≡ Some insn
+    → Agrees word insn
+unfolding reservation_of
+reservation_of-agrees word insn o h =
+    let (kind, (found, is)) = kind_found _ _ insn h in
+    let codes = reservation_kind-codes _ _ _ kind found in
+    subst (Agrees word) is (reservation_agrees word kind o codes.1 codes.0)
+
 amo_of-agrees : (word : ℕ) (insn : Insn) → bits word 6 0 ≡ 0b0101111 → amo_of word ≡ Some insn
     → Agrees word insn
 unfolding amo_of Agrees
 amo_of-agrees word insn o h =
-    let (kind, (found, is)) = kind_found _ _ insn h in
-    let codes = amo_kind-code _ _ kind found in
-    subst (Agrees word) is
-    (record {
-      in_6_0 = o;
-      in_11_7 = refl;
-      in_14_12 = codes.1;
-      in_19_15 = refl;
-      in_24_20 = refl;
-      in_25 = flag_of_bit _ (bits_below word 25 25);
-      in_26 = flag_of_bit _ (bits_below word 26 26);
-      in_31_27 = codes.0;
-    })
+    elim (either _ (reservation_of word) insn h) [
+      | inl one ↦ (let (kind, (found, is)) = kind_found _ _ insn one in
+          let codes = amo_kind-code _ _ kind found in
+          subst (Agrees word) is
+          (record {
+            in_6_0 = o;
+            in_11_7 = refl;
+            in_14_12 = codes.1;
+            in_19_15 = refl;
+            in_24_20 = refl;
+            in_25 = flag_of_bit _ (bits_below word 25 25);
+            in_26 = flag_of_bit _ (bits_below word 26 26);
+            in_31_27 = codes.0;
+          }))
+      | inr other ↦ reservation_of-agrees word insn o other
+    ]
 
 system_of-agrees : (word : ℕ) (insn : Insn) → system_of word ≡ Some insn → Agrees word insn
 unfolding system_of Agrees
@@ -403,6 +458,23 @@ amo_kind-of_code Amomax = refl
 amo_kind-of_code Amominu = refl
 amo_kind-of_code Amomaxu = refl
 
+-- LR.W and SC.W are no other operation of their opcode
+amo_kind-of_lr : amo_kind 0b00010 0b010 ≡ None
+unfolding amo_kind
+amo_kind-of_lr = refl
+
+amo_kind-of_sc : amo_kind 0b00011 0b010 ≡ None
+unfolding amo_kind
+amo_kind-of_sc = refl
+
+reservation_kind-of_lr : reservation_kind 0b00010 0 0b010 ≡ Some Lr
+unfolding reservation_kind
+reservation_kind-of_lr = refl
+
+reservation_kind-of_sc : (rs2 : ℕ) → reservation_kind 0b00011 rs2 0b010 ≡ Some Sc
+unfolding reservation_kind
+reservation_kind-of_sc rs2 = refl
+
 flag-of_code : (b : Bool) → (flag_code b == 1) ≡ b
 flag-of_code true = refl
 flag-of_code false = refl
@@ -417,7 +489,7 @@ insn_of-ebreak = refl
 
 pub lookup_only : (word : ℕ) (insn : Insn) → Agrees word insn → insn_of word ≡ Some insn
 unfolding insn_of operation_of Agrees jalr_of branch_of load_of store_of op_immediate_of shift_of op_of fence_of
-    amo_of system_of
+    amo_of reservation_of system_of
 lookup_only word (Lui rd immediate) h = rw h.in_6_0 (rw (h.in_11_7, h.in_31_12) refl)
 lookup_only word (Auipc rd immediate) h = rw h.in_6_0 (rw (h.in_11_7, h.in_31_12) refl)
 lookup_only word (Jal rd offset) h = rw h.in_6_0 (rw (h.in_11_7, h.in_31_12) refl)
@@ -440,6 +512,14 @@ lookup_only word (Fence kept rd rs1) h = rw h.in_6_0
     (rw h.in_14_12 (rw (h.in_11_7, h.in_19_15, h.in_31_20) refl))
 lookup_only word (Amo kind acquire release rd rs1 rs2) h =
     rw h.in_6_0 (rw (h.in_14_12, h.in_31_27) (rw amo_kind-of_code
+    (rw (h.in_11_7, h.in_19_15, h.in_24_20, h.in_25, h.in_26)
+    (rw (flag-of_code acquire, flag-of_code release) refl))))
+lookup_only word (LoadReserved acquire release rd rs1) h =
+    rw h.in_6_0 (rw (h.in_14_12, h.in_31_27, h.in_24_20) (rw (amo_kind-of_lr, reservation_kind-of_lr)
+    (rw (h.in_11_7, h.in_19_15, h.in_25, h.in_26)
+    (rw (flag-of_code acquire, flag-of_code release) refl))))
+lookup_only word (StoreConditional acquire release rd rs1 rs2) h =
+    rw h.in_6_0 (rw (h.in_14_12, h.in_31_27, h.in_24_20) (rw (amo_kind-of_sc, reservation_kind-of_sc)
     (rw (h.in_11_7, h.in_19_15, h.in_24_20, h.in_25, h.in_26)
     (rw (flag-of_code acquire, flag-of_code release) refl))))
 lookup_only word Ecall h = rw h insn_of-ecall

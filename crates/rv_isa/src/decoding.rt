@@ -1,6 +1,6 @@
 ghost use Rattle.std.specs.Prelude.{◌≡◌, IfSome};
 ghost use Rattle.rv_isa.specs.declared.instruction.Insn.{Insn};
-ghost use Rattle.rv_isa.specs.Table.{Agrees, insn_of, jalr_of, branch_of, load_of, store_of, op_immediate_of, shift_of, op_of, fence_of, amo_of, system_of};
+ghost use Rattle.rv_isa.specs.Table.{Agrees, insn_of, jalr_of, branch_of, load_of, store_of, op_immediate_of, shift_of, op_of, fence_of, amo_of, reservation_of, system_of};
 
 use super::fields::{
     branch_offset, fence_bits, field, funct3, immediate, jump_offset, opcode, rd, rs1, rs2,
@@ -8,11 +8,13 @@ use super::fields::{
 };
 use super::instruction::Insn;
 use super::kind_of_word::{
-    amo_kind, branch_kind, immediate_kind, load_kind, op_kind, shift_kind, store_kind,
+    amo_kind, branch_kind, immediate_kind, load_kind, op_kind, reservation_kind, shift_kind,
+    store_kind,
 };
+use super::kinds::ReservationKind;
 use super::opcodes;
 
-/// The instruction that a word stands for, or `None` for a word outside RV32I, M and Zaamo (unprivileged manual).
+/// The instruction that a word stands for, or `None` for a word outside RV32I, M and A (unprivileged manual).
 #[inline(always)]
 #[tactic(auto, using(crate::specs::TableLaws::found_agrees, crate::specs::TableLaws::only_agreeing))]
 pub fn decode(word: u32) -> Option<Insn>
@@ -177,15 +179,40 @@ fn fence(word: u32) -> Option<Insn>
 fn amo(word: u32) -> Option<Insn>
     ensures { result ≡ amo_of word }
 {
-    let kind = amo_kind(word)?;
-    Some(Insn::Amo {
-        kind,
-        acquire: field(word, 26, 26) == 1,
-        release: field(word, 25, 25) == 1,
-        rd: rd(word),
-        rs1: rs1(word),
-        rs2: rs2(word),
-    })
+    match amo_kind(word) {
+        Some(kind) => Some(Insn::Amo {
+            kind,
+            acquire: field(word, 26, 26) == 1,
+            release: field(word, 25, 25) == 1,
+            rd: rd(word),
+            rs1: rs1(word),
+            rs2: rs2(word),
+        }),
+        None => reservation(word),
+    }
+}
+
+#[inline(always)]
+#[tactic(auto, unfolding(crate::specs::Table::reservation_of))]
+fn reservation(word: u32) -> Option<Insn>
+    ensures { result ≡ reservation_of word }
+{
+    match reservation_kind(word) {
+        Some(ReservationKind::Lr) => Some(Insn::LoadReserved {
+            acquire: field(word, 26, 26) == 1,
+            release: field(word, 25, 25) == 1,
+            rd: rd(word),
+            rs1: rs1(word),
+        }),
+        Some(ReservationKind::Sc) => Some(Insn::StoreConditional {
+            acquire: field(word, 26, 26) == 1,
+            release: field(word, 25, 25) == 1,
+            rd: rd(word),
+            rs1: rs1(word),
+            rs2: rs2(word),
+        }),
+        None => None,
+    }
 }
 
 #[inline(always)]

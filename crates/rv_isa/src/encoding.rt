@@ -9,6 +9,12 @@ use super::kinds::{
 use super::opcodes;
 use super::operands::{BranchOffset, FenceBits, Immediate, JumpOffset, Reg, UpperImmediate};
 
+/// The upper five bits of LR.W.
+const LOAD_RESERVED: u32 = 0b00010;
+
+/// The upper five bits of SC.W.
+const STORE_CONDITIONAL: u32 = 0b00011;
+
 /// The word of an instruction, in the formats of the unprivileged manual.
 pub fn encode(insn: Insn) -> u32
     ensures found { Agrees result insn }
@@ -70,6 +76,25 @@ fn word_of(insn: Insn) -> u32
         } => {
             let ordering = (flag_code(acquire), flag_code(release));
             amo_format(amo_code(kind), ordering, rd, rs1, rs2)
+        }
+        Insn::LoadReserved {
+            acquire,
+            release,
+            rd,
+            rs1,
+        } => {
+            let ordering = (flag_code(acquire), flag_code(release));
+            amo_format(LOAD_RESERVED, ordering, rd, rs1, Reg::from_index(0))
+        }
+        Insn::StoreConditional {
+            acquire,
+            release,
+            rd,
+            rs1,
+            rs2,
+        } => {
+            let ordering = (flag_code(acquire), flag_code(release));
+            amo_format(STORE_CONDITIONAL, ordering, rd, rs1, rs2)
         }
         Insn::Ecall => 0x0000_0073,
         Insn::Ebreak => 0x0010_0073,

@@ -3,7 +3,7 @@ use super::operands::{
     BranchOffset, FenceBits, Immediate, JumpOffset, Reg, ShiftAmount, UpperImmediate,
 };
 
-/// An instruction of RV32I, M or Zaamo (unprivileged manual), with operands that are in range by their types.
+/// An instruction of RV32I, M or A (unprivileged manual), with operands that are in range by their types.
 ///
 /// Registers are named as in the manual: `rd` is written, `rs1` and `rs2` are read.
 #[derive(Clone, Copy, Debug, PartialEq, Eq)]
@@ -80,6 +80,21 @@ pub enum Insn {
     /// An atomic memory operation at `rs1`.
     Amo {
         kind: AmoKind,
+        acquire: bool,
+        release: bool,
+        rd: Reg,
+        rs1: Reg,
+        rs2: Reg,
+    },
+    /// Load reserved (LR.W): a load of the word at `rs1`, which it reserves.
+    LoadReserved {
+        acquire: bool,
+        release: bool,
+        rd: Reg,
+        rs1: Reg,
+    },
+    /// Store conditional (SC.W): a store of `rs2` to the word at `rs1`, if it is reserved.
+    StoreConditional {
         acquire: bool,
         release: bool,
         rd: Reg,

@@ -2,10 +2,12 @@
 //! Set Listings"). The opcode is not tested again.
 ghost use Rattle.std.specs.Prelude.{◌≡◌};
 ghost use Rattle.rv_isa.specs.Bits.{bits};
-ghost use Rattle.rv_isa.specs.Table.{branch_kind, load_kind, store_kind, immediate_kind, shift_kind, op_kind, amo_kind};
+ghost use Rattle.rv_isa.specs.Table.{branch_kind, load_kind, store_kind, immediate_kind, shift_kind, op_kind, amo_kind, reservation_kind};
 
 use super::fields::{field, funct3, funct7};
-use super::kinds::{AmoKind, BranchKind, ImmediateKind, LoadKind, OpKind, ShiftKind, StoreKind};
+use super::kinds::{
+    AmoKind, BranchKind, ImmediateKind, LoadKind, OpKind, ReservationKind, ShiftKind, StoreKind,
+};
 
 /// What a word of opcode BRANCH compares, if its funct3 stands for a comparison.
 #[inline(always)]
@@ -142,6 +144,22 @@ pub fn amo_kind(word: u32) -> Option<AmoKind>
         0b10100 => Some(AmoKind::Amomax),
         0b11000 => Some(AmoKind::Amominu),
         0b11100 => Some(AmoKind::Amomaxu),
+        _ => None,
+    }
+}
+
+/// What a word of opcode AMO does with a reservation, if its upper five bits and funct3 stand for LR.W, whose rs2 is 0, or SC.W.
+#[inline(always)]
+#[tactic(auto, unfolding(crate::specs::Table::reservation_kind))]
+pub fn reservation_kind(word: u32) -> Option<ReservationKind>
+    ensures { result ≡ reservation_kind (bits word 31 27) (bits word 24 20) (bits word 14 12) }
+{
+    if funct3(word) != 0b010 {
+        return None;
+    }
+    match (field(word, 31, 27), field(word, 24, 20)) {
+        (0b00010, 0) => Some(ReservationKind::Lr),
+        (0b00011, _) => Some(ReservationKind::Sc),
         _ => None,
     }
 }

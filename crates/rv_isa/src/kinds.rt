@@ -83,6 +83,13 @@ pub enum AmoKind {
     Amomaxu,
 }
 
+/// What is done with a reservation of a word (opcode AMO, Zalrsc): LR.W takes one, SC.W stores under it.
+#[derive(Clone, Copy, Debug, PartialEq, Eq)]
+pub enum ReservationKind {
+    Lr,
+    Sc,
+}
+
 /// The codes of the formats that have both.
 #[derive(Clone, Copy, Debug)]
 pub struct Code {

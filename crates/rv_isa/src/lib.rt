@@ -1,4 +1,4 @@
-//! The instruction codec: words of 32 bits, and the RISC-V instructions that they stand for.
+//! The instruction codec: words of 32 bits, and the RISC-V instructions (RV32I, M and A) that they stand for.
 //!
 //! `specs/Table.antt` has the instruction table as a relation between words and instructions, `Agrees`.
 //! [`decode`] and [`encode`] are that relation, read in its two directions.
@@ -24,9 +24,12 @@ pub use fields::{
 };
 pub use instruction::Insn;
 pub use kind_of_word::{
-    amo_kind, branch_kind, immediate_kind, load_kind, op_kind, shift_kind, store_kind,
+    amo_kind, branch_kind, immediate_kind, load_kind, op_kind, reservation_kind, shift_kind,
+    store_kind,
 };
-pub use kinds::{AmoKind, BranchKind, ImmediateKind, LoadKind, OpKind, ShiftKind, StoreKind};
+pub use kinds::{
+    AmoKind, BranchKind, ImmediateKind, LoadKind, OpKind, ReservationKind, ShiftKind, StoreKind,
+};
 pub use laws::{one_instruction, one_word, table_lookup};
 pub use operands::{
     BranchOffset, FenceBits, Immediate, JumpOffset, Reg, ShiftAmount, UpperImmediate,

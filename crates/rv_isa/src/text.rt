@@ -84,6 +84,25 @@ impl fmt::Display for Insn {
                 f.write_str(".w")?;
                 two_and_base(f, ordering_name(*acquire, *release), *rd, *rs2, *rs1)
             }
+            Insn::LoadReserved {
+                acquire,
+                release,
+                rd,
+                rs1,
+            } => {
+                f.write_str("lr.w")?;
+                one_and_base(f, ordering_name(*acquire, *release), *rd, *rs1)
+            }
+            Insn::StoreConditional {
+                acquire,
+                release,
+                rd,
+                rs1,
+                rs2,
+            } => {
+                f.write_str("sc.w")?;
+                two_and_base(f, ordering_name(*acquire, *release), *rd, *rs2, *rs1)
+            }
             Insn::Ecall => f.write_str("ecall"),
             Insn::Ebreak => f.write_str("ebreak"),
         }
@@ -127,6 +146,15 @@ fn one_and_address<W: fmt::Write>(
     base: Reg,
 ) -> fmt::Result {
     write!(f, "{name} {a},{}({base})", offset.value())
+}
+
+fn one_and_base<W: fmt::Write>(
+    f: &mut fmt::Formatter<W>,
+    name: &str,
+    a: Reg,
+    base: Reg,
+) -> fmt::Result {
+    write!(f, "{name} {a},({base})")
 }
 
 fn two_and_base<W: fmt::Write>(

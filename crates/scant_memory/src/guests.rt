@@ -49,31 +49,54 @@ fn calls() -> [Call; 18] {
 /// Whether calls give their answers and leave the output and the memory that they are to leave. A call that is refused memory is made
 /// again.
 pub(crate) fn serves_calls(alloc: Global) -> Result<bool, AllocError> {
-    let mut memory = FlatMemory::new(alloc)?;
-    memory.map_page(0x10, Page::zeroed(alloc, Rights::READ_WRITE)?)?;
+    let mut memory = one_page(alloc)?;
     let input = vec![in alloc; b'a', b'b']?;
     let mut env = Env::new(alloc, input, 0x1_1000, 65);
+    if !answers_each(&mut env, &mut memory)? {
+        return Ok(false);
+    }
+    Ok(env.output().len() == 4106 && is_left(&memory))
+}
+
+/// Memory whose page 0x10 may be read and written.
+fn one_page(alloc: Global) -> Result<FlatMemory, AllocError> {
+    let mut memory = FlatMemory::new(alloc)?;
+    memory.map_page(0x10, Page::zeroed(alloc, Rights::READ_WRITE)?)?;
+    Ok(memory)
+}
+
+/// Whether the memory has what was read, and a page up to the break.
+fn is_left(memory: &FlatMemory) -> bool {
+    let ends_where_broken = memory.byte(0x00FC_FFFF) == Some(0) && memory.byte(0x00FD_0000) == None;
+    ends_where_broken && memory.byte(0x0001_0801) == Some(b'b')
+}
+
+fn answers_each(env: &mut Env, memory: &mut FlatMemory) -> Result<bool, AllocError> {
     let mut regs = Regs::new(0x1_0000);
-    for Call {
-        number,
-        arguments: [a0, a1, a2],
-        answer,
-    } in calls() {
-        regs.set_x(17, number);
-        regs.set_x(10, a0);
-        regs.set_x(11, a1);
-        regs.set_x(12, a2);
-        match serve_again(&mut env, &mut regs, &mut memory) {
-            Ok(Served::Continue | Served::Spawned { .. }) => {}
-            Err(ServeStop::NoMemory) => return Err(AllocError),
-            _ => return Ok(false),
-        }
-        if regs.x(10) != answer {
+    for call in calls() {
+        if !answers_one(env, &mut regs, memory, call)? {
             return Ok(false);
         }
     }
-    let ends_where_broken = memory.byte(0x00FC_FFFF) == Some(0) && memory.byte(0x00FD_0000) == None;
-    Ok(env.output().len() == 4106 && ends_where_broken && memory.byte(0x0001_0801) == Some(b'b'))
+    Ok(true)
+}
+
+fn answers_one(
+    env: &mut Env,
+    regs: &mut Regs,
+    memory: &mut FlatMemory,
+    call: Call,
+) -> Result<bool, AllocError> {
+    let [a0, a1, a2] = call.arguments;
+    regs.set_x(17, call.number);
+    regs.set_x(10, a0);
+    regs.set_x(11, a1);
+    regs.set_x(12, a2);
+    match serve_again(env, regs, memory) {
+        Ok(Served::Continue | Served::Spawned { .. }) => Ok(regs.x(10) == call.answer),
+        Err(ServeStop::NoMemory) => Err(AllocError),
+        _ => Ok(false),
+    }
 }
 
 fn serve_again(

@@ -58,18 +58,22 @@ pub(crate) fn answers_calls<C: Clock>(alloc: Global) -> Result<bool, AllocError>
         return Err(AllocError);
     };
     for (call, answer) in calls() {
-        let mut told = make(&mut clock, call);
-        if told == Told::Refused(Refusal::NoMemory) {
-            told = make(&mut clock, call);
-        }
-        if told == Told::Refused(Refusal::NoMemory) {
-            return Err(AllocError);
-        }
-        if told != answer {
+        if make_again(&mut clock, call)? != answer {
             return Ok(false);
         }
     }
     has_entries(alloc, &clock)
+}
+
+fn make_again<C: Clock>(clock: &mut C, call: Call) -> Result<Told, AllocError> {
+    let mut told = make(clock, call);
+    if told == Told::Refused(Refusal::NoMemory) {
+        told = make(clock, call);
+    }
+    if told == Told::Refused(Refusal::NoMemory) {
+        return Err(AllocError);
+    }
+    Ok(told)
 }
 
 fn make<C: Clock>(clock: &mut C, call: Call) -> Told {

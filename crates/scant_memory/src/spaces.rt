@@ -70,31 +70,52 @@ pub(crate) fn keeps_a_page<L: Ledger>(alloc: Global, blank: Blank) -> Result<boo
     requires parts { blank.parts ≡ L.parts }
     requires one_each { L.parts ≡ 5 }
 {
-    let image = image_of(alloc, STORES_A_BYTE)?;
     let mut spare = Some(MemorySlot::new(alloc)?);
-    let mut space: Space<L, MemorySlot> = Space::new(alloc, 0, image, Vec::new(alloc))?;
-    let Ok(mut frames) = FramePool::new(alloc, 4, blank) else {
-        return Err(AllocError);
-    };
-    if !page_in(&mut space, &mut frames, 0x10)? {
+    let (mut space, mut frames) = begun::<L>(alloc, STORES_A_BYTE, blank)?;
+    if !stores(&mut space, &mut frames)? || !goes_out(&mut space, &mut spare) {
         return Ok(false);
     }
-    if !page_in(&mut space, &mut frames, 0x11)? {
+    Ok(comes_back(&mut space))
+}
+
+/// A process of a source, and four frames.
+fn begun<L: Ledger>(
+    alloc: Global,
+    source: &str,
+    blank: Blank,
+) -> Result<(Space<L, MemorySlot>, FramePool<L>), AllocError>
+    requires name { blank.name ≡ L.name }
+    requires parts { blank.parts ≡ L.parts }
+    requires one_each { L.parts ≡ 5 }
+{
+    let image = image_of(alloc, source)?;
+    let space = Space::new(alloc, 0, image, Vec::new(alloc))?;
+    match FramePool::new(alloc, 4, blank) {
+        Ok(frames) => Ok((space, frames)),
+        Err(_) => Err(AllocError),
+    }
+}
+
+/// Whether the process stores its byte, with both of its pages in frames, and the page of data begins to leave.
+fn stores<L: Ledger>(
+    space: &mut Space<L, MemorySlot>,
+    frames: &mut FramePool<L>,
+) -> Result<bool, AllocError> {
+    if !page_in(space, frames, 0x10)? {
         return Ok(false);
     }
-    if space.slice(0, 4).ran != 4 || space.begin_evict(0x11).is_err() {
+    if !page_in(space, frames, 0x11)? {
         return Ok(false);
     }
-    space.take_notices(0);
-    if !goes_out(&mut space, &mut spare) || space.slice(0, 100).stop != SliceStop::Ended {
+    if space.slice(0, 4).ran != 4 {
         return Ok(false);
     }
-    let mut bytes = [None];
-    Ok(space.peek(0x1_1003, &mut bytes).is_ok() && bytes == [Some(5)])
+    Ok(space.begin_evict(0x11).is_ok())
 }
 
 /// Whether the page of data is saved.
 fn goes_out<L: Ledger>(space: &mut Space<L, MemorySlot>, spare: &mut Option<MemorySlot>) -> bool {
+    space.take_notices(0);
     let Collected::Dirty(job) = space.collect(0x11, spare) else {
         return false;
     };
@@ -104,31 +125,48 @@ fn goes_out<L: Ledger>(space: &mut Space<L, MemorySlot>, spare: &mut Option<Memo
     space.state(0x11) == Some(PageState::Away)
 }
 
+/// Whether the process ends, and its byte stands where it was stored.
+fn comes_back<L: Ledger>(space: &mut Space<L, MemorySlot>) -> bool {
+    if space.slice(0, 100).stop != SliceStop::Ended {
+        return false;
+    }
+    let mut bytes = [None];
+    space.peek(0x1_1003, &mut bytes).is_ok() && bytes == [Some(5)]
+}
+
+/// What a process comes to by a slice.
+#[derive(Clone, Copy)]
+enum Onward {
+    GoesOn,
+    Refused,
+    Ended,
+    Astray,
+}
+
 /// Whether a process prints what it is to print, and has the page that it asked for. A slice that is refused memory goes on.
 pub(crate) fn writes_and_breaks<L: Ledger>(alloc: Global, blank: Blank) -> Result<bool, AllocError>
     requires name { blank.name ≡ L.name }
     requires parts { blank.parts ≡ L.parts }
     requires one_each { L.parts ≡ 5 }
 {
-    let image = image_of(alloc, WRITES_AND_BREAKS)?;
-    let mut space: Space<L, MemorySlot> = Space::new(alloc, 0, image, Vec::new(alloc))?;
-    let Ok(mut frames) = FramePool::new(alloc, 4, blank) else {
-        return Err(AllocError);
-    };
+    let (mut space, mut frames) = begun::<L>(alloc, WRITES_AND_BREAKS, blank)?;
+    ends_as_told(&mut space, &mut frames)
+}
+
+fn ends_as_told<L: Ledger>(
+    space: &mut Space<L, MemorySlot>,
+    frames: &mut FramePool<L>,
+) -> Result<bool, AllocError> {
     let mut ran = 0u32;
     let mut refusals = 0u32;
     for _ in 0..8 {
         let slice = space.slice(0, 100);
         ran = ran.wrapping_add(slice.ran);
-        match slice.stop {
-            SliceStop::Ended => return Ok(ran == 14 && is_done(&mut space)),
-            SliceStop::NoMemory => refusals += 1,
-            SliceStop::Absent(vpn) => {
-                if vpn >= 1 << 20 || !page_in(&mut space, &mut frames, vpn)? {
-                    return Ok(false);
-                }
-            }
-            _ => return Ok(false),
+        match brought_on(space, frames, slice.stop)? {
+            Onward::GoesOn => {}
+            Onward::Refused => refusals = refusals.saturating_add(1),
+            Onward::Ended => return Ok(ran == 14 && is_done(space)),
+            Onward::Astray => return Ok(false),
         }
     }
     if refusals > 1 {
@@ -136,6 +174,31 @@ pub(crate) fn writes_and_breaks<L: Ledger>(alloc: Global, blank: Blank) -> Resul
     } else {
         Ok(false)
     }
+}
+
+/// The page that a slice stopped for comes in.
+fn brought_on<L: Ledger>(
+    space: &mut Space<L, MemorySlot>,
+    frames: &mut FramePool<L>,
+    stop: SliceStop,
+) -> Result<Onward, AllocError> {
+    match stop {
+        SliceStop::Ended => Ok(Onward::Ended),
+        SliceStop::NoMemory => Ok(Onward::Refused),
+        SliceStop::Absent(vpn) => brings_in(space, frames, vpn),
+        _ => Ok(Onward::Astray),
+    }
+}
+
+fn brings_in<L: Ledger>(
+    space: &mut Space<L, MemorySlot>,
+    frames: &mut FramePool<L>,
+    vpn: u32,
+) -> Result<Onward, AllocError> {
+    if vpn >= 1 << 20 || !page_in(space, frames, vpn)? {
+        return Ok(Onward::Astray);
+    }
+    Ok(Onward::GoesOn)
 }
 
 fn is_done<L: Ledger>(space: &mut Space<L, MemorySlot>) -> bool {

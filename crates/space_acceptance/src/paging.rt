@@ -127,6 +127,51 @@ fn stores_while_it_leaves<L: Ledger>(
     Ok(())
 }
 
+/// A page is evicted and comes back between LR.W and SC.W, which stores all the same.
+const RESERVES: &str = "        la   s0, buf
+        lr.w t0, (s0)
+        li   t1, 7
+        sc.w t2, t1, (s0)
+end:    j    end
+
+        .data
+buf:    .word 5
+";
+
+fn reserves_over_an_eviction<L: Ledger>(
+    rt: &impl Abort,
+    alloc: Global,
+    blank: Blank,
+) -> Result<(), Fail>
+    requires name { blank.name ≡ L.name }
+    requires parts { blank.parts ≡ L.parts }
+    requires one_each { L.parts ≡ 5 }
+{
+    let slots = vec![in alloc; MemorySlot::new(alloc)?]?;
+    let mut bench: Bench<L, MemorySlot> = Bench::begin(alloc, RESERVES, slots, blank)?;
+    let calls = [
+        (Call::PageIn(0x10), Answer::Done),
+        (Call::PageIn(0x11), Answer::Done),
+        (slice(0, 3), ran(3, SliceStop::Budget)),
+        (Call::BeginEvict(0x11), Answer::Done),
+        (Call::TakeNotices(0), Answer::Done),
+        (Call::Collect(0x11), Answer::Clean),
+        (slice(0, 2), ran(1, SliceStop::Absent(0x11))),
+        (Call::PageIn(0x11), Answer::Done),
+        (slice(0, 1), ran(1, SliceStop::Budget)),
+        (
+            Call::Register {
+                hart: 0,
+                register: 7,
+            },
+            Answer::Word(Some(0)),
+        ),
+        (Call::Peek(0x1_1000), Answer::Byte(Ok(Some(7)))),
+    ];
+    expect(rt, &mut bench, &calls);
+    Ok(())
+}
+
 /// An unchanged page needs no slot, however often it comes and goes, and shows the image's bytes.
 fn drops_a_clean_page<L: Ledger>(rt: &impl Abort, alloc: Global, blank: Blank) -> Result<(), Fail>
     requires name { blank.name ≡ L.name }
@@ -190,6 +235,11 @@ fn a_process_runs_over_two_pages(rt: HostRuntime) -> Result<(), Fail> {
 #[test]
 fn a_hart_stores_while_its_page_leaves(rt: HostRuntime) -> Result<(), Fail> {
     stores_while_it_leaves::<Brand>(&rt, rt.alloc(), Blank::new(5))
+}
+
+#[test]
+fn a_reservation_outlasts_an_eviction(rt: HostRuntime) -> Result<(), Fail> {
+    reserves_over_an_eviction::<Brand>(&rt, rt.alloc(), Blank::new(5))
 }
 
 #[test]

@@ -28,57 +28,57 @@ Marked = (ℕ → Bool) → (ℕ → Bool) → Type 0
 
 -- ---- plain instructions
 
-pub plain_bound_none : (marked : Marked) (count : ℕ) (first : Registers) (memory : Memory) → BoundsPlain marked marked count first memory
-plain_bound_none marked count first memory = record { bound = λ u s each was. was }
+pub plain_bound_none : (hart : ℕ) (marked : Marked) (count : ℕ) (first : Registers) (memory : Memory) → BoundsPlain hart marked marked count first memory
+plain_bound_none hart marked count first memory = record { bound = λ u s each was. was }
 
-pub plain_bound_more : (before between after : Marked) (count : ℕ) (first : Registers) (memory : Memory) (registers : Registers) (now : Memory)
-    → plain_run count first memory ≡ Some (registers, now) → BoundsPlain before between count first memory → Bounds between after (pages_used registers now) (pages_stored registers now)
-    → BoundsPlain before after (count + 1) first memory
-plain_bound_more before between after count first memory registers now reached sofar one = record {
+pub plain_bound_more : (hart : ℕ) (before between after : Marked) (count : ℕ) (first : Registers) (memory : Memory) (registers : Registers) (now : Memory)
+    → plain_run hart count first memory ≡ Some (registers, now) → BoundsPlain hart before between count first memory → Bounds between after (pages_used registers now) (pages_stored registers now)
+    → BoundsPlain hart before after (count + 1) first memory
+plain_bound_more hart before between after count first memory registers now reached sofar one = record {
   bound = λ u s each was.
       let here = each count registers now (omega arith) reached in
       one.bound u s here.0 here.1 (sofar.bound u s (λ done at then h e. each done at then (omega (arith, h)) e) was);
 }
 
-pub plain_bound_wide : (before after : Marked) (count : ℕ) (first : Registers) (memory : Memory) → BoundsPlain before after count first memory → BoundsPlain before after (count + 1) first memory
-plain_bound_wide before after count first memory sofar = record {
+pub plain_bound_wide : (hart : ℕ) (before after : Marked) (count : ℕ) (first : Registers) (memory : Memory) → BoundsPlain hart before after count first memory → BoundsPlain hart before after (count + 1) first memory
+plain_bound_wide hart before after count first memory sofar = record {
   bound = λ u s each was. sofar.bound u s (λ done at then h e. each done at then (omega (arith, h)) e) was;
 }
 
 -- ---- in a process
 
-stores_are : (hart : ℕ) (process : Process) (r : Registers) → hart_registers hart process ≡ Some r → next_stores hart process ≡ step_stores r process.memory
+stores_are : (hart : ℕ) (process : Process) (r : Registers) → hart_registers hart process ≡ Some r → next_stores hart process ≡ step_stores hart r process.memory
 unfolding next_stores
-stores_are hart process r are = ap (λ o. unwrap_or (option_map (λ registers. step_stores registers process.memory) o) []) are
+stores_are hart process r are = ap (λ o. unwrap_or (option_map (λ registers. step_stores hart registers process.memory) o) []) are
 
 pub next_bound : (before after : Marked) (hart : ℕ) (process : Process) (r : Registers) → hart_registers hart process ≡ Some r
-    → Bounds before after (step_pages r process.memory) (step_stores r process.memory) → Bounds before after (next_pages hart process) (next_stores hart process)
+    → Bounds before after (step_pages hart r process.memory) (step_stores hart r process.memory) → Bounds before after (next_pages hart process) (next_stores hart process)
 next_bound before after hart process r are one = record {
   bound = λ u s passes stores was. one.bound u s (subst (Pass u) (pages_are hart process r are) passes) (subst (Pass s) (stores_are hart process r are) stores) was;
 }
 
 -- the pages of a step are those of its instruction too
-instruction_passes : (use_test store_test : ℕ → Bool) (r : Registers) (memory : Memory) → Pass use_test (step_pages r memory) → Pass store_test (step_stores r memory)
+instruction_passes : (hart : ℕ) (use_test store_test : ℕ → Bool) (r : Registers) (memory : Memory) → Pass use_test (step_pages hart r memory) → Pass store_test (step_stores hart r memory)
     → Pass use_test (pages_used r memory) × Pass store_test (pages_stored r memory)
-instruction_passes use_test store_test r memory passes stores =
-    (bound_first (λ u s. Unit {0}) (λ u s. Pass u (pages_used r memory) × Pass s (pages_stored r memory)) r memory (record { bound = λ u s p q was. (p, q) })).bound use_test store_test passes stores tt
+instruction_passes hart use_test store_test r memory passes stores =
+    (bound_first (λ u s. Unit {0}) (λ u s. Pass u (pages_used r memory) × Pass s (pages_stored r memory)) hart r memory (record { bound = λ u s p q was. (p, q) })).bound use_test store_test passes stores tt
 
 -- a hart's plain instructions are steps of its process
 pub process_bound : (before after : Marked) (count hart : ℕ) (process : Process) (first : Registers) → IsWhole process → may_step hart process ≡ true
-    → first ≡ slice_index_or process.harts hart first → BoundsPlain before after count first process.memory → BoundsEach before after hart count process
+    → first ≡ slice_index_or process.harts hart first → BoundsPlain hart before after count first process.memory → BoundsEach before after hart count process
 process_bound before after count hart process first whole may are plain = record {
   bound = λ u s each was. plain.bound u s (λ done at now h e. at_step u s each done at now h e) was;
 }
   where
     at_step : (u s : ℕ → Bool) → EachStep (λ at. Pass u (next_pages hart at) × Pass s (next_stores hart at)) hart count process
-        → EachPlain (λ at now. Pass u (pages_used at now) × Pass s (pages_stored at now)) count first process.memory
+        → EachPlain hart (λ at now. Pass u (pages_used at now) × Pass s (pages_stored at now)) count first process.memory
     at_step u s each done at now h e =
         let reached : Process = with_hart hart at process.environment now process in
         let passed = passed_plainly (λ page. Unit {0}) (λ page. Unit {0}) done hart process first at now whole may are e
         (λ k r m within ran. ((λ i d b. tt), (λ i d b. tt))) in
         let step = each done reached h passed.ran in
         let stands = here hart process at now whole may in
-        instruction_passes u s at now (subst (Pass u) (pages_are hart reached at stands) step.0) (subst (Pass s) (stores_are hart reached at stands) step.1)
+        instruction_passes hart u s at now (subst (Pass u) (pages_are hart reached at stands) step.0) (subst (Pass s) (stores_are hart reached at stands) step.1)
 
 -- ---- one after another
 

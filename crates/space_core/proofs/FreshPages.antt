@@ -4,16 +4,18 @@ use Rattle.std.specs.List.{range_with_len}
 use Rattle.std.specs.FinMap.{from_entries}
 use Rattle.std.proofs.lemmas.List.{map-append}
 use Rattle.frame_pool.specs.FrameValue.{zero_bytes}
-use Rattle.page_memory.specs.Memory as memory
-use Rattle.page_memory.specs.Memory.{Page, Memory}
+use Rattle.page_memory.specs.Pages as memory
+use Rattle.page_memory.specs.Pages.{Page}
+use Rattle.page_memory.specs.Reservations.{none_reserved}
 use Rattle.page_memory.specs.Entries.{place_of, added, with_added, map_by}
+use Rattle.page_memory.specs.Reservations.{none_reserved}
 use Rattle.page_memory.specs.EntriesLaws.{no_place, added_behind}
 use Rattle.page_memory.specs.StandsForLaws.{place_of-each}
 use Rattle.page_store.specs.PageValue.{PageValue}
 use Rattle.elf_image.specs.declared.image.ImagePage.{ImagePage}
 use Rattle.elf_image.specs.Image.{ArePages}
 use Rattle.paged_memory.specs.Growth.{fresh_zero_page}
-use Rattle.paged_memory.specs.Paged.{PagedValue, flat_page, memory_of}
+use Rattle.paged_memory.specs.Paged.{PagedValue, flat_page, flat_pages}
 use Rattle.tlb_core.specs.declared.translation.Translation.{Translation}
 use Rattle.sv32_table.specs.Entry.{blank}
 use Rattle.sv32_table.specs.EntryAt.{entry_at}
@@ -53,6 +55,7 @@ module _ (S : Type 0) where
     pub mapped : memory.pages ≡ all_fresh entries
     pub tables : (number : ℕ) → number < 2 ^ 20 → entry_at memory.tables number ≡ blank
     pub caches : memory.caches ≡ []
+    pub reserved : memory.reserved ≡ none_reserved
 
   pub one_more_mapped : (process : ℕ) (pages : List ImagePage) (i : ℕ) (listed : ImagePage) (page : Page) (old new : PagedValue S) → i < length pages → listed ≡ slice_index_or pages i listed → page ≡ listed.page
       → new ≡ record old { pages = old.pages ++ (listed.number, fresh page) ∷ [] } → MapsFresh process (map image_entry (take i pages)) old → MapsFresh process (map image_entry (take (i + 1) pages)) new
@@ -61,6 +64,7 @@ module _ (S : Type 0) where
     mapped = ap (λ (m : PagedValue S). m.pages) did ∙ (λ j. before.mapped j ++ (listed.number, fresh (same j)) ∷ []) ∙ image_more pages i listed within is;
     tables = λ number small. ap (λ (m : PagedValue S). entry_at m.tables number) did ∙ before.tables number small;
     caches = ap (λ (m : PagedValue S). m.caches) did ∙ before.caches;
+    reserved = ap (λ (m : PagedValue S). m.reserved) did ∙ before.reserved;
   }
 
   -- the pages of the stack
@@ -104,6 +108,6 @@ module _ (S : Type 0) where
   each_shown held [] = refl
   each_shown held (e ∷ es) = ap (λ l. e ∷ l) (each_shown held es)
 
-  pub memory_fresh : (held : S → List ℕ) (entries : List (ℕ × Page)) → memory_of held (all_fresh entries) ≡ from_entries entries
-  unfolding memory_of map_by
+  pub memory_fresh : (held : S → List ℕ) (entries : List (ℕ × Page)) → flat_pages held (all_fresh entries) ≡ from_entries entries
+  unfolding flat_pages map_by
   memory_fresh held entries = ap from_entries (each_shown held entries)

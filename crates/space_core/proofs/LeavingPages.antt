@@ -18,7 +18,7 @@ use Rattle.space_core.proofs.Standing.{stands_on}
 module _ {S : Type 0} where
   -- other pages that stand for the same memory where slots are honest
   pub space_moved : (held : S → List ℕ) (honest : Type 0) (old : SpaceValue S) (memory : PagedValue S) → memory.caches ≡ old.memory.caches
-      → (honest → memory_of held memory.pages ≡ memory_of held old.memory.pages)
+      → (honest → memory_of held memory ≡ memory_of held old.memory)
       → ((number : ℕ) → is_purged (page_at memory.pages number) ≡ false → is_purged (page_at old.memory.pages number) ≡ false)
       → IsSpace held honest old → IsSpace held honest (record old { memory = memory })
   space_moved held honest old memory caches same stays space = record {
@@ -28,7 +28,7 @@ module _ {S : Type 0} where
 
   -- the same where nothing but the pages changed
   pub pages_moved : (held : S → List ℕ) (honest : Type 0) (old : SpaceValue S) (memory : PagedValue S) → memory ≡ record old.memory { pages = memory.pages }
-      → (honest → memory_of held memory.pages ≡ memory_of held old.memory.pages)
+      → (honest → memory_of held memory ≡ memory_of held old.memory)
       → ((number : ℕ) → is_purged (page_at memory.pages number) ≡ false → is_purged (page_at old.memory.pages number) ≡ false)
       → IsSpace held honest old → IsSpace held honest (record old { memory = memory })
   pages_moved held honest old memory only same stays space = space_moved held honest old memory (ap (λ (m : PagedValue S). m.caches) only) same stays space

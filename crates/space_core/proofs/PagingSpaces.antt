@@ -7,7 +7,7 @@ use Rattle.std.proofs.lemmas.List.Elements.{All-nil, All-cons}
 use Rattle.std.proofs.lemmas.Option.{none-some, same_Some}
 use Rattle.std.specs.FinMap.{get}
 use Rattle.frame_pool.specs.FrameValue.{FrameValue}
-use Rattle.page_memory.specs.Memory.{Page}
+use Rattle.page_memory.specs.Pages.{Page}
 use Rattle.page_memory.specs.Words.{page_number, page_offset}
 use Rattle.page_store.specs.CopyValue.{CopyValue}
 use Rattle.page_store.specs.PageValue.{PageValue, Place, content, Known}
@@ -62,7 +62,7 @@ module _ {S : Type 0} where
 
   module _ (held : S → List ℕ) (honest : Type 0) where
     -- other pages and tables that stand for the same memory where slots are honest
-    space_shown : (old : SpaceValue S) (memory : PagedValue S) → memory.caches ≡ old.memory.caches → (honest → memory_of held memory.pages ≡ memory_of held old.memory.pages) → StaysPurged old.memory.pages memory.pages
+    space_shown : (old : SpaceValue S) (memory : PagedValue S) → memory.caches ≡ old.memory.caches → (honest → memory_of held memory ≡ memory_of held old.memory) → StaysPurged old.memory.pages memory.pages
         → IsSpace held honest old → IsSpace held honest (record old { memory = memory })
     space_shown old memory caches same stays space = record {
       stands = λ h. stands_on held old (record old { memory = memory }) refl refl refl refl (same h) stays (space.stands h);
@@ -92,7 +92,7 @@ module _ {S : Type 0} where
 
     pub space_paged_in : {U : Type 0} (failures : S → ℕ) (frame : FrameValue) (vpn : ℕ) (old : SpaceValue S) (memory : PagedValue S) (result : Result U (FrameValue × PageInFault)) → memory.caches ≡ old.memory.caches
         → OnOk result (ChangesBy (BroughtIn held honest frame) old.memory.pages memory.pages vpn) → IfErr result (λ back. RefusesPageIn held honest failures frame old.memory.pages memory.pages old.memory.tables vpn back.0 back.1)
-        → (honest → memory_of held memory.pages ≡ memory_of held old.memory.pages) → IsSpace held honest old → IsSpace held honest (record old { memory = memory })
+        → (honest → memory_of held memory ≡ memory_of held old.memory) → IsSpace held honest old → IsSpace held honest (record old { memory = memory })
     space_paged_in failures frame vpn old memory result caches ok refused same space = space_shown old memory caches same (paged_in_stays failures frame vpn old.memory.tables old.memory.pages memory.pages result ok refused) space
 
     -- ---- bytes are looked at
@@ -110,7 +110,7 @@ module _ {S : Type 0} where
         by_place place.Purged left = same_purged old new left
 
     pub space_peeked : (vpn : ℕ) (old : SpaceValue S) (memory : PagedValue S) → memory ≡ record old.memory { pages = memory.pages } → LeavesPage held honest old.memory.pages memory.pages vpn (page_at old.memory.pages vpn)
-        → (honest → memory_of held memory.pages ≡ memory_of held old.memory.pages) → IsSpace held honest old → IsSpace held honest (record old { memory = memory })
+        → (honest → memory_of held memory ≡ memory_of held old.memory) → IsSpace held honest old → IsSpace held honest (record old { memory = memory })
     space_peeked vpn old memory only left same space = space_shown old memory (ap (λ (m : PagedValue S). m.caches) only) same (peeked_stays old.memory.pages memory.pages vpn (page_at old.memory.pages vpn) left) space
 
     -- they are the flat process's
@@ -153,12 +153,13 @@ module _ {S : Type 0} where
     -- ---- a page is given up
 
     module _ (old : SpaceValue S) (memory : PagedValue S) (ending : End) (ended : old.running.ending ≡ Some ending) where
-      stands_given_up : {given : Option FrameValue × Option S} → GivesOne given old.memory.pages memory.pages old.memory.tables memory.tables → StandsFor held old → StandsFor held (record old { memory = memory })
-      stands_given_up gives stands = record {
+      stands_given_up : {given : Option FrameValue × Option S} → GivesOne given old.memory.pages memory.pages old.memory.tables memory.tables → memory.reserved ≡ old.memory.reserved → StandsFor held old → StandsFor held (record old { memory = memory })
+      stands_given_up gives reserved stands = record {
         memory = stands.memory;
         ran = stands.ran;
         mapped = λ number small. stands.mapped number small ∙ sym (same_mapped number);
         shown = shown;
+        reserved = stands.reserved ∙ sym reserved;
         still = λ goes. absurd (none-some _ (sym goes ∙ ended));
       }
         where
@@ -175,7 +176,7 @@ module _ {S : Type 0} where
                 | inr other ↦ ap paged_rights (at_other number other.0)
               ]
 
-          shown : (number : ℕ) (page : PageValue S) → number < 2 ^ 20 → page_at memory.pages number ≡ Some page → is_purged (Some page) ≡ false → get stands.memory number ≡ Some (flat_page held page)
+          shown : (number : ℕ) (page : PageValue S) → number < 2 ^ 20 → page_at memory.pages number ≡ Some page → is_purged (Some page) ≡ false → get stands.memory.pages number ≡ Some (flat_page held page)
           shown number page small at whole =
               elim (eqb_tells number gives.number) [
                 | inl same ↦
@@ -184,11 +185,11 @@ module _ {S : Type 0} where
                 | inr other ↦ stands.shown number page small (sym (at_other number other.0) ∙ at) whole
               ]
 
-      pub space_given_up : (mid : PagedValue S) (result : Option (Option FrameValue × Option S)) → mid ≡ emptied old.memory → IfNone result (memory ≡ mid) → IfSome result (λ given. GivesOne given mid.pages memory.pages mid.tables memory.tables) → memory.caches ≡ mid.caches
+      pub space_given_up : (mid : PagedValue S) (result : Option (Option FrameValue × Option S)) → mid ≡ emptied old.memory → IfNone result (memory ≡ mid) → IfSome result (λ given. GivesOne given mid.pages memory.pages mid.tables memory.tables) → memory.caches ≡ mid.caches → memory.reserved ≡ mid.reserved
           → IsSpace held honest old → IsSpace held honest (record old { memory = memory })
-      space_given_up mid None clear left gives caches space = subst (λ m. IsSpace held honest (record old { memory = m })) (sym (left ∙ clear)) (space_emptied held honest old space)
-      space_given_up mid (Some given) clear left gives caches space =
+      space_given_up mid None clear left gives caches reserved space = subst (λ m. IsSpace held honest (record old { memory = m })) (sym (left ∙ clear)) (space_emptied held honest old space)
+      space_given_up mid (Some given) clear left gives caches reserved space =
           record {
-            stands = λ h. stands_given_up (subst (λ (m : PagedValue S). GivesOne given m.pages memory.pages m.tables memory.tables) clear gives) (space.stands h);
+            stands = λ h. stands_given_up (subst (λ (m : PagedValue S). GivesOne given m.pages memory.pages m.tables memory.tables) clear gives) (reserved ∙ ap (λ (m : PagedValue S). m.reserved) clear) (space.stands h);
             cached = ap length (caches ∙ ap (λ (m : PagedValue S). m.caches) clear) ∙ length-map old.memory.caches (λ _. []) ∙ space.cached;
           }

@@ -11,7 +11,7 @@ use Rattle.page_store.specs.PageValue as place
 use Rattle.frame_pool.specs.FrameValue.{FrameValue}
 use Rattle.page_store.specs.declared.state.Keeping.{Keeping}
 use Rattle.page_store.specs.Moves.{IfResident}
-use Rattle.paged_memory.specs.Paged.{PagedValue, page_at, memory_of}
+use Rattle.paged_memory.specs.Paged.{PagedValue, page_at, memory_in, memory_of}
 use Rattle.paged_memory.specs.Calls.{ChangesBy, Leaves}
 use Rattle.flat_machine.specs.declared.end.End.TheVariants.{Killed}
 use Rattle.flat_machine.specs.declared.end.KillCause.{KillCause}
@@ -23,7 +23,7 @@ use Rattle.space_core.proofs.Standing.{stands_on, stands_killed}
 module _ {S : Type 0} where
   -- other pages, tables and caches that stand for the same memory
   pub space_memory : (held : S → List ℕ) (honest : Type 0) (old : SpaceValue S) (memory : PagedValue S) → length memory.caches ≡ length old.memory.caches
-      → memory_of held memory.pages ≡ memory_of held old.memory.pages
+      → memory_of held memory ≡ memory_of held old.memory
       → ((number : ℕ) → is_purged (page_at memory.pages number) ≡ false → is_purged (page_at old.memory.pages number) ≡ false)
       → IsSpace held honest old → IsSpace held honest (record old { memory = memory })
   space_memory held honest old memory caches same stays space = record {
@@ -31,11 +31,11 @@ module _ {S : Type 0} where
     cached = caches ∙ space.cached;
   }
 
-  -- the same pages
+  -- the same pages and reservations
   pub space_pages : (held : S → List ℕ) (honest : Type 0) (old : SpaceValue S) (memory : PagedValue S) → length memory.caches ≡ length old.memory.caches
-      → memory.pages ≡ old.memory.pages → IsSpace held honest old → IsSpace held honest (record old { memory = memory })
-  space_pages held honest old memory caches same space =
-      space_memory held honest old memory caches (ap (memory_of held) same) (λ number whole. ap (λ pages. is_purged (page_at pages number)) (sym same) ∙ whole) space
+      → memory.pages ≡ old.memory.pages → memory.reserved ≡ old.memory.reserved → IsSpace held honest old → IsSpace held honest (record old { memory = memory })
+  space_pages held honest old memory caches same reserved space =
+      space_memory held honest old memory caches (λ i. memory_in held (same i) (reserved i)) (λ number whole. ap (λ pages. is_purged (page_at pages number)) (sym same) ∙ whole) space
 
   -- caches whose translations were marked are as many
   doomed_are : (vpn : ℕ) (old new : PagedValue S) → new.caches ≡ map (doomed vpn) old.caches → length new.caches ≡ length old.caches
@@ -75,11 +75,11 @@ module _ {S : Type 0} where
       → IsSpace held honest old → IsSpace held honest (record old { memory = memory })
   space_noticed held honest hart cache old memory only space =
       space_pages held honest old memory
-      (ap (λ (m : PagedValue S). length m.caches) only ∙ length-set old.memory.caches hart cache) (ap (λ (m : PagedValue S). m.pages) only) space
+      (ap (λ (m : PagedValue S). length m.caches) only ∙ length-set old.memory.caches hart cache) (ap (λ (m : PagedValue S). m.pages) only) (ap (λ (m : PagedValue S). m.reserved) only) space
 
   -- its caches are emptied
   pub space_emptied : (held : S → List ℕ) (honest : Type 0) (old : SpaceValue S) → IsSpace held honest old → IsSpace held honest (record old { memory = emptied old.memory })
-  space_emptied held honest old space = space_pages held honest old (emptied old.memory) (length-map old.memory.caches (λ _. [])) refl space
+  space_emptied held honest old space = space_pages held honest old (emptied old.memory) (length-map old.memory.caches (λ _. [])) refl refl space
 
   -- the machine ends it, and its caches are emptied
   pub space_killed : (held : S → List ℕ) (honest : Type 0) (old : SpaceValue S) (cause : KillCause) (recorded : RecordedValue) (memory : PagedValue S)

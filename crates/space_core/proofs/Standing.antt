@@ -3,9 +3,10 @@ use Rattle.std.proofs.Common.{◌≡◌, ◌≢◌, ◌++◌, ◌&&◌, ◌∷�
 use Rattle.std.specs.FinMap.{get}
 use Rattle.std.specs.Option.{option_or}
 use Rattle.std.proofs.lemmas.Option.{none-some}
+use Rattle.page_memory.specs.Memory.{Memory}
 use Rattle.page_memory.specs.StandsForLaws.{get-map_by-place}
 use Rattle.page_store.specs.PageValue.{PageValue}
-use Rattle.paged_memory.specs.Paged.{page_at, flat_page, memory_of}
+use Rattle.paged_memory.specs.Paged.{PagedValue, page_at, flat_page, flat_pages, memory_of}
 use Rattle.rv_exec.specs.Registers.{Registers}
 use Rattle.env_calls.specs.Effect.{Effect, Runs, Yields, Spawns, Finishes, Exits, Traps}
 use Rattle.env_calls.specs.Step.{effect}
@@ -28,9 +29,9 @@ has_ended (Some e) cause = λ f. none-some _ (sym f)
 
 module _ {S : Type 0} where
   -- what memory has at a page number
-  pub get-memory_of : (held : S → List ℕ) (pages : List (ℕ × PageValue S)) (number : ℕ) → get (memory_of held pages) number ≡ option_map (flat_page held) (page_at pages number)
-  unfolding memory_of page_at
-  get-memory_of held pages number = get-map_by-place (flat_page held) pages number
+  pub get-memory_of : (held : S → List ℕ) (value : PagedValue S) (number : ℕ) → get (memory_of held value).pages number ≡ option_map (flat_page held) (page_at value.pages number)
+  unfolding flat_pages page_at
+  get-memory_of held value number = get-map_by-place (flat_page held) value.pages number
 
   pub same_rights : (held : S → List ℕ) (o : Option (PageValue S)) → rights_of (option_map (flat_page held) o) ≡ paged_rights o
   same_rights held None = refl
@@ -44,7 +45,7 @@ module _ {S : Type 0} where
   same_flat held (Some old) page e stays = (old, (refl, (stays, ap (λ o. unwrap_or o (flat_page held page)) e)))
 
   pub stands_on : (held : S → List ℕ) (old new : SpaceValue S) → new.image ≡ old.image → new.input ≡ old.input → new.running ≡ old.running → written_out new.schedule ≡ written_out old.schedule
-      → memory_of held new.memory.pages ≡ memory_of held old.memory.pages
+      → memory_of held new.memory ≡ memory_of held old.memory
       → ((number : ℕ) → is_purged (page_at new.memory.pages number) ≡ false → is_purged (page_at old.memory.pages number) ≡ false)
       → StandsFor held old → StandsFor held new
   stands_on held old new image input running schedule memory stays stands = record {
@@ -55,11 +56,12 @@ module _ {S : Type 0} where
     shown = λ number page small at whole.
         let found = same_flat held (page_at old.memory.pages number) page (same_at number ∙ ap (option_map (flat_page held)) at) (stays number (ap is_purged at ∙ whole)) in
         stands.shown number found.0 small found.1.0 found.1.1.0 ∙ ap Some found.1.1.1;
+    reserved = stands.reserved ∙ ap (λ (m : Memory). m.reserved) (sym memory);
     still = λ goes. stands.still (ap (λ (r : RunningValue). r.ending) (sym running) ∙ goes) ∙ sym memory;
   }
     where
       same_at : (number : ℕ) → option_map (flat_page held) (page_at old.memory.pages number) ≡ option_map (flat_page held) (page_at new.memory.pages number)
-      same_at number = sym (get-memory_of held old.memory.pages number) ∙ ap (λ m. get m number) (sym memory) ∙ get-memory_of held new.memory.pages number
+      same_at number = sym (get-memory_of held old.memory number) ∙ ap (λ (m : Memory). get m.pages number) (sym memory) ∙ get-memory_of held new.memory number
 
   -- ---- the machine ends it
 
@@ -70,6 +72,7 @@ module _ {S : Type 0} where
     ran = stands.ran ∙ ap (λ e. Some (with_memory (record old.running { ending = e }) stands.memory)) (sym (kept_ending old.running.ending cause));
     mapped = stands.mapped;
     shown = stands.shown;
+    reserved = stands.reserved;
     still = λ goes. absurd (has_ended old.running.ending cause goes);
   }
 
@@ -117,35 +120,36 @@ ended_runs_none (suc count) hart p q ending ended ran = absurd (none-some _ (ap 
 module _ {S : Type 0} where
   -- it goes on: it stands for the flat process that its instructions leave
   pub stands_run : (held : S → List ℕ) (old new : SpaceValue S) (hart ran : ℕ) → new.image ≡ old.image → new.input ≡ old.input
-      → flat_run (replicate ran hart) (with_memory old.running (memory_of held old.memory.pages)) ≡ Some (with_memory new.running (memory_of held new.memory.pages))
+      → flat_run (replicate ran hart) (with_memory old.running (memory_of held old.memory)) ≡ Some (with_memory new.running (memory_of held new.memory))
       → written_out new.schedule ≡ written_out old.schedule ++ replicate ran hart → old.running.ending ≡ None → StandsFor held old → StandsFor held new
   stands_run held old new hart ran image input step recorded goes stands =
       let own : own_ending old.running.ending ≡ old.running.ending = ap own_ending goes ∙ sym goes in
-      let now : flat_with old.running stands.memory ≡ with_memory old.running (memory_of held old.memory.pages) = λ i. with_memory (record old.running { ending = own i }) (stands.still goes i) in
-      let left = own_run (replicate ran hart) (with_memory old.running (memory_of held old.memory.pages)) (with_memory new.running (memory_of held new.memory.pages)) step own in
+      let now : flat_with old.running stands.memory ≡ with_memory old.running (memory_of held old.memory) = λ i. with_memory (record old.running { ending = own i }) (stands.still goes i) in
+      let left = own_run (replicate ran hart) (with_memory old.running (memory_of held old.memory)) (with_memory new.running (memory_of held new.memory)) step own in
       record {
-        memory = memory_of held new.memory.pages;
+        memory = memory_of held new.memory;
         ran = (λ i. flat_run (recorded i) (opening (image i) (input i)))
             ∙ flat_run_append (written_out old.schedule) (replicate ran hart) (opening old.image old.input) (flat_with old.running stands.memory) stands.ran
-            ∙ ap (flat_run (replicate ran hart)) now ∙ step ∙ ap (λ e. Some (with_memory (record new.running { ending = e }) (memory_of held new.memory.pages))) (sym left);
-        mapped = λ number small. ap rights_of (get-memory_of held new.memory.pages number) ∙ same_rights held (page_at new.memory.pages number);
-        shown = λ number page small at whole. get-memory_of held new.memory.pages number ∙ ap (option_map (flat_page held)) at;
+            ∙ ap (flat_run (replicate ran hart)) now ∙ step ∙ ap (λ e. Some (with_memory (record new.running { ending = e }) (memory_of held new.memory))) (sym left);
+        mapped = λ number small. ap rights_of (get-memory_of held new.memory number) ∙ same_rights held (page_at new.memory.pages number);
+        shown = λ number page small at whole. get-memory_of held new.memory number ∙ ap (option_map (flat_page held)) at;
+        reserved = refl;
         still = λ _. refl;
       }
 
   -- it has ended: nothing ran
   stands_ended : (held : S → List ℕ) (old new : SpaceValue S) (hart ran : ℕ) (ending : End) → new.image ≡ old.image → new.input ≡ old.input
-      → flat_run (replicate ran hart) (with_memory old.running (memory_of held old.memory.pages)) ≡ Some (with_memory new.running (memory_of held new.memory.pages))
+      → flat_run (replicate ran hart) (with_memory old.running (memory_of held old.memory)) ≡ Some (with_memory new.running (memory_of held new.memory))
       → written_out new.schedule ≡ written_out old.schedule ++ replicate ran hart → old.running.ending ≡ Some ending
       → ((number : ℕ) → is_purged (page_at new.memory.pages number) ≡ false → is_purged (page_at old.memory.pages number) ≡ false)
       → StandsFor held old → StandsFor held new
   stands_ended held old new hart ran ending image input step recorded ended stays stands =
-      let none = ended_runs_none ran hart (with_memory old.running (memory_of held old.memory.pages)) (with_memory new.running (memory_of held new.memory.pages)) ending ended step in
+      let none = ended_runs_none ran hart (with_memory old.running (memory_of held old.memory)) (with_memory new.running (memory_of held new.memory)) ending ended step in
       stands_on held old new image input (ap beside (sym none.1)) (recorded ∙ ap (λ n. written_out old.schedule ++ replicate n hart) none.0 ∙ append-nil (written_out old.schedule))
       (ap (λ (p : Process). p.memory) (sym none.1)) stays stands
 
   by_ending : (held : S → List ℕ) (old new : SpaceValue S) (hart ran : ℕ) (ending : Option End) → new.image ≡ old.image → new.input ≡ old.input
-      → flat_run (replicate ran hart) (with_memory old.running (memory_of held old.memory.pages)) ≡ Some (with_memory new.running (memory_of held new.memory.pages))
+      → flat_run (replicate ran hart) (with_memory old.running (memory_of held old.memory)) ≡ Some (with_memory new.running (memory_of held new.memory))
       → written_out new.schedule ≡ written_out old.schedule ++ replicate ran hart → old.running.ending ≡ ending
       → ((number : ℕ) → is_purged (page_at new.memory.pages number) ≡ false → is_purged (page_at old.memory.pages number) ≡ false)
       → StandsFor held old → StandsFor held new
@@ -154,7 +158,7 @@ module _ {S : Type 0} where
 
   -- a recorded slice
   pub stands_sliced : (held : S → List ℕ) (old new : SpaceValue S) (hart ran : ℕ) → new.image ≡ old.image → new.input ≡ old.input
-      → flat_run (replicate ran hart) (with_memory old.running (memory_of held old.memory.pages)) ≡ Some (with_memory new.running (memory_of held new.memory.pages))
+      → flat_run (replicate ran hart) (with_memory old.running (memory_of held old.memory)) ≡ Some (with_memory new.running (memory_of held new.memory))
       → written_out new.schedule ≡ written_out old.schedule ++ replicate ran hart
       → ((number : ℕ) → is_purged (page_at new.memory.pages number) ≡ false → is_purged (page_at old.memory.pages number) ≡ false)
       → StandsFor held old → StandsFor held new

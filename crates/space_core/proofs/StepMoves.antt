@@ -106,9 +106,9 @@ pub effect_is : (hart : ℕ) (process : Process) (r : Registers) → hart_regist
 unfolding next_effect
 effect_is hart process r are = ap (option_map (λ registers. effect hart registers process.environment process.memory)) are
 
-pub pages_are : (hart : ℕ) (process : Process) (r : Registers) → hart_registers hart process ≡ Some r → next_pages hart process ≡ step_pages r process.memory
+pub pages_are : (hart : ℕ) (process : Process) (r : Registers) → hart_registers hart process ≡ Some r → next_pages hart process ≡ step_pages hart r process.memory
 unfolding next_pages
-pages_are hart process r are = ap (λ o. unwrap_or (option_map (λ registers. step_pages registers process.memory) o) []) are
+pages_are hart process r are = ap (λ o. unwrap_or (option_map (λ registers. step_pages hart registers process.memory) o) []) are
 
 progress_is : (e : Effect) (s : Stepped) (regs : Registers) (env : Environment) (memory : Memory) → IsEffect e s regs env memory → progress_of e ≡ progress_of_step s
 progress_is e stepped.Ran regs env memory is = ap progress_of is
@@ -128,15 +128,15 @@ progressed hart inside now memory r regs env memory' s same are is =
 
 -- ---- the pages that it used
 
-pub used_pages : (has marks : ℕ → Type 0) (hart : ℕ) (process : Process) (r : Registers) → hart_registers hart process ≡ Some r → Used has marks (step_pages r process.memory) → Used has marks (next_pages hart process)
+pub used_pages : (has marks : ℕ → Type 0) (hart : ℕ) (process : Process) (r : Registers) → hart_registers hart process ≡ Some r → Used has marks (step_pages hart r process.memory) → Used has marks (next_pages hart process)
 used_pages has marks hart process r are used = subst (Used has marks) (sym (pages_are hart process r are)) used
 
 pub stopped_pages : (has marks lacks : ℕ → Type 0) (hart : ℕ) (process : Process) (r : Registers) (stop : ServeStop) → hart_registers hart process ≡ Some r
-    → UsesPages {A = Stepped} has marks lacks (step_pages r process.memory) (Err stop) → UsesPages {A = Progress} has marks lacks (next_pages hart process) (Err stop)
+    → UsesPages {A = Stepped} has marks lacks (step_pages hart r process.memory) (Err stop) → UsesPages {A = Progress} has marks lacks (next_pages hart process) (Err stop)
 stopped_pages has marks lacks hart process r stop are uses =
     subst (λ pages. UsesPages {A = Progress} has marks lacks pages (Err stop)) (sym (pages_are hart process r are)) (same_stop stop uses)
   where
-    same_stop : (stop : ServeStop) → UsesPages {A = Stepped} has marks lacks (step_pages r process.memory) (Err stop) → UsesPages {A = Progress} has marks lacks (step_pages r process.memory) (Err stop)
+    same_stop : (stop : ServeStop) → UsesPages {A = Stepped} has marks lacks (step_pages hart r process.memory) (Err stop) → UsesPages {A = Progress} has marks lacks (step_pages hart r process.memory) (Err stop)
     same_stop (serve.Absent page) uses = uses
     same_stop serve.NoMemory uses = uses
 

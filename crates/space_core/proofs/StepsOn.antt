@@ -89,13 +89,13 @@ module _ {S : Type 0} (held : S → List ℕ) (honest : Type 0) (hart : ℕ) whe
   one_on old regs regs' schedule new ready are plain recorded left =
       let has = HasPage old.memory.pages (cache_of old.memory.caches hart) in
       let marks = MarksSince new (cache_of old.memory.caches hart) in
-      let memory = memory_of held old.memory.pages in
-      let memory' = memory_of held new.pages in
-      let each : EachPlain (λ at now. Used has marks (pages_used at now)) (0 + 1) regs memory =
-      pages_plain has marks has marks 0 regs memory regs memory (λ page h. h) (λ page h. h) (plain_none regs memory) (none_plain (λ at now. Used has marks (pages_used at now)) regs memory) plain.pages in
+      let memory = memory_of held old.memory in
+      let memory' = memory_of held new in
+      let each : EachPlain hart (λ at now. Used has marks (pages_used at now)) (0 + 1) regs memory =
+      pages_plain hart has marks has marks 0 regs memory regs memory (λ page h. h) (λ page h. h) (plain_none hart regs memory) (none_plain hart (λ at now. Used has marks (pages_used at now)) regs memory) plain.pages in
       let passed : PassedOn has marks hart 1 (shown_process held old) (with_hart hart regs' old.running.environment memory' (shown_process held old)) =
       passed_plainly has marks 1 hart (shown_process held old) regs regs' memory' (ready.whole memory) ready.may are
-      (plain_more 0 regs memory regs memory regs' memory' (plain_none regs memory) plain.ran) each in
+      (plain_more hart 0 regs memory regs memory regs' memory' (plain_none hart regs memory) plain.ran) each in
       let cached : length new.caches ≡ length (slice_set old.running.harts hart regs') = plain.kept.harts ∙ ready.cached ∙ sym (length-set old.running.harts hart regs') in
       let stands : honest → StandsFor held (ran_as old regs' schedule new) =
       λ h. stands_sliced held old (ran_as old regs' schedule new) hart 1 refl refl passed.ran recorded (none_back old.memory.pages new.pages plain.kept.pages) (ready.stands h) in
@@ -110,7 +110,7 @@ module _ {S : Type 0} (held : S → List ℕ) (honest : Type 0) (hart : ℕ) whe
           bound = bound_one (MarksWithin old.memory.tables) (MarksWithin new.tables) hart (shown_process held old)
               (next_bound (MarksWithin old.memory.tables) (MarksWithin new.tables) hart (shown_process held old) regs
               (registers_are hart old.running old.running memory regs (ready.whole memory) refl ready.may are)
-              (bound_first (MarksWithin old.memory.tables) (MarksWithin new.tables) regs memory plain.bound));
+              (bound_first (MarksWithin old.memory.tables) (MarksWithin new.tables) hart regs memory plain.bound));
           kept = record {
             image = refl;
             input = refl;
@@ -152,7 +152,7 @@ module _ {S : Type 0} (held : S → List ℕ) (honest : Type 0) (hart : ℕ) whe
       let fits = more.left in
       let before = each_on n old regs now.0 more.after now.1 ready are each.1.0 more.recorded more.left more.none in
       let between : SpaceValue S = ran_as old now.0 more.after now.1 in
-      let within : hart < length old.running.harts = started hart (shown_process held old) (ready.whole (memory_of held old.memory.pages)) ready.may in
+      let within : hart < length old.running.harts = started hart (shown_process held old) (ready.whole (memory_of held old.memory)) ready.may in
       let last = one_on between now.0 regs' schedule new before.ready (sym (get_or-set_same old.running.harts hart now.0 now.0 within)) each.1.1
       (written_last (written_out old.schedule) (written_out more.after) (written_out schedule) n hart more.recorded recorded) (omega (arith, left, fits)) in
       let same : ran_as between regs' schedule new ≡ ran_as old regs' schedule new =
@@ -225,7 +225,7 @@ module _ {S : Type 0} (held : S → List ℕ) (honest : Type 0) (hart : ℕ) whe
   recorded_on : (n : ℕ) (old : SpaceValue S) (recorded : RecordedValue) (between : PagedValue S) (how : Registers → Registers → Type 0) → IsSpace held honest old → (r : IsRecorded hart n how (recorded_of old) recorded)
       → RunsEach held honest hart n r.runs.regs old.memory r.runs.regs' between → LeftRan n r.runs.regs' old (with_parts old recorded between)
   recorded_on n old recorded between how is r each =
-      let ready : Ready held honest hart old = record { whole = r.runs.whole; may = r.may (memory_of held old.memory.pages); cached = is.cached; stands = is.stands } in
+      let ready : Ready held honest hart old = record { whole = r.runs.whole; may = r.may (memory_of held old.memory); cached = is.cached; stands = is.stands } in
       let done = each_on held honest hart n old r.runs.regs r.runs.regs' recorded.schedule between ready r.runs.first each r.recorded r.left r.none in
       let same : ran_as held honest hart old r.runs.regs' recorded.schedule between ≡ with_parts old recorded between =
       ap (λ running. record { image = old.image; input = old.input; running = running; schedule = recorded.schedule; memory = between }) (sym r.runs.left) in
@@ -234,7 +234,7 @@ module _ {S : Type 0} (held : S → List ℕ) (honest : Type 0) (hart : ℕ) whe
         is = subst (IsSpace held honest) same (record { stands = done.ready.stands; cached = done.ready.cached });
         may = subst (λ (s : SpaceValue S). may_step hart (shown_process held s) ≡ true) same done.ready.may;
         registers = subst (λ (s : SpaceValue S). hart_registers hart (shown_process held s) ≡ Some r.runs.regs') same
-            (here hart (shown_process held old) r.runs.regs' (memory_of held between.pages) (ready.whole (memory_of held old.memory.pages)) ready.may);
+            (here hart (shown_process held old) r.runs.regs' (memory_of held between) (ready.whole (memory_of held old.memory)) ready.may);
       }
 
   still_on : (old : SpaceValue S) (recorded : RecordedValue) (memory : PagedValue S) → recorded ≡ recorded_of old → memory ≡ old.memory → with_parts old recorded memory ≡ old
@@ -298,7 +298,7 @@ module _ {S : Type 0} (held : S → List ℕ) (honest : Type 0) (hart : ℕ) whe
             omega (arith, fewer, fits),
             bound_one (MarksWithin between.tables) (MarksWithin memory.tables) hart (shown_process held space)
                 (next_bound (MarksWithin between.tables) (MarksWithin memory.tables) hart (shown_process held space) r.runs.regs' registers
-                (bound_first (MarksWithin between.tables) (MarksWithin memory.tables) r.runs.regs' (memory_of held between.pages) tried.1)),
+                (bound_first (MarksWithin between.tables) (MarksWithin memory.tables) hart r.runs.regs' (memory_of held between) tried.1)),
           )
 
   -- ---- a slice after a look-up is a slice

@@ -1,6 +1,6 @@
 -- Pages that were never brought in: what a process on paged memory begins with.
 use Rattle.std.specs.Prelude.{ℕ, List, map}
-use Rattle.page_memory.specs.Memory.{Page}
+use Rattle.page_memory.specs.Pages.{Page}
 use Rattle.page_store.specs.PageValue.{PageValue, Fresh}
 
 module _ {S : Type 0} where

@@ -28,11 +28,11 @@ next_progress hart process = option_map progress_of (next_effect hart process)
 
 -- the pages that the next step of a hart uses
 unfoldable pub next_pages : ℕ → Process → List ℕ
-next_pages hart process = unwrap_or (option_map (λ registers. step_pages registers process.memory) (hart_registers hart process)) []
+next_pages hart process = unwrap_or (option_map (λ registers. step_pages hart registers process.memory) (hart_registers hart process)) []
 
 -- the pages among them that it stores to
 unfoldable pub next_stores : ℕ → Process → List ℕ
-next_stores hart process = unwrap_or (option_map (λ registers. step_stores registers process.memory) (hart_registers hart process)) []
+next_stores hart process = unwrap_or (option_map (λ registers. step_stores hart registers process.memory) (hart_registers hart process)) []
 
 -- of how many instructions all pages were there: those that ran, and the next where memory was wanting for it
 abbrev pub answered : SliceStop → ℕ → ℕ

@@ -15,7 +15,7 @@ use Rattle.space_core.specs.StandsFor.{SpaceValue}
 
 -- the flat process with what its pages show, where slots hold this
 abbrev pub shown_process : {S : Type 0} → (S → List ℕ) → SpaceValue S → Process
-shown_process held space = with_memory space.running (memory_of held space.memory.pages)
+shown_process held space = with_memory space.running (memory_of held space.memory)
 
 -- the caches of all harts but one are the same
 abbrev pub OthersStay : ℕ → List (List Translation) → List (List Translation) → Type 0

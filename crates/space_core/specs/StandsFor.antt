@@ -1,7 +1,8 @@
 -- A process on paged memory stands for a flat process: the one that the flat run of its schedule leaves.
 use Rattle.std.specs.Prelude.{◌≡◌, ℕ, ◌^◌, ◌<◌, Bool, true, false, Option, Some, None, option_map, List, length}
 use Rattle.std.specs.FinMap.{get}
-use Rattle.page_memory.specs.Memory.{Page, Memory}
+use Rattle.page_memory.specs.Pages.{Page}
+use Rattle.page_memory.specs.Memory.{Memory}
 use Rattle.page_memory.specs.declared.rights.Rights.{Rights}
 use Rattle.elf_image.specs.Image.{ImageContent}
 use Rattle.page_store.specs.PageValue.{PageValue, Place}
@@ -55,14 +56,16 @@ module _ {S : Type 0} where
   paged_rights page = option_map (λ (p : PageValue S). p.origin.rights) page
 
   -- with slots that hold this, it stands for the flat process with this memory: the schedule's run leaves that process; the same
-  -- pages are mapped, with the same rights; each page that was not given up shows what that memory has; and until an ending none is given up
+  -- pages are mapped, with the same rights; each page that was not given up shows what that memory has; the same words are reserved;
+  -- and until an ending no page is given up
   pub record StandsFor (held : S → List ℕ) (space : SpaceValue S) : Type 0 where
     pub memory : Memory
     pub ran : flat_run (written_out space.schedule) (opening space.image space.input) ≡ Some (flat_with space.running memory)
-    pub mapped : (number : ℕ) → number < 2 ^ 20 → rights_of (get memory number) ≡ paged_rights (page_at space.memory.pages number)
+    pub mapped : (number : ℕ) → number < 2 ^ 20 → rights_of (get memory.pages number) ≡ paged_rights (page_at space.memory.pages number)
     pub shown : (number : ℕ) (page : PageValue S) → number < 2 ^ 20 → page_at space.memory.pages number ≡ Some page → is_purged (Some page) ≡ false
-        → get memory number ≡ Some (flat_page held page)
-    pub still : space.running.ending ≡ None → memory ≡ memory_of held space.memory.pages
+        → get memory.pages number ≡ Some (flat_page held page)
+    pub reserved : memory.reserved ≡ space.memory.reserved
+    pub still : space.running.ending ≡ None → memory ≡ memory_of held space.memory
 
   -- where slots are honest, this holds of the flat process that its schedule leaves, whatever process that is
   abbrev pub OfFlat : Type 0 → (Process → Type 0) → SpaceValue S → Type 0

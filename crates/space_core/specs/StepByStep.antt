@@ -24,18 +24,18 @@ module _ {S : Type 0} (held : S → List ℕ) (hart : ℕ) where
   -- no marks were set but those of the pages that the instruction at these registers uses
   abbrev pub MarksOne : Registers → PagedValue S → PagedValue S → Type 0
   MarksOne regs old new =
-      Bounds (MarksWithin old.tables) (MarksWithin new.tables) (pages_used regs (memory_of held old.pages)) (pages_stored regs (memory_of held old.pages))
+      Bounds (MarksWithin old.tables) (MarksWithin new.tables) (pages_used regs (memory_of held old)) (pages_stored regs (memory_of held old))
 
   -- an instruction that is not run, whose pages may have been looked up
   pub record Tries (old new : PagedValue S) : Type 0 where
-    pub shown : memory_of held new.pages ≡ memory_of held old.pages
+    pub shown : memory_of held new ≡ memory_of held old
     pub kept : KeepsAccess hart old new
 
 module _ {S : Type 0} (held : S → List ℕ) (honest : Type 0) (hart : ℕ) where
   -- a hart's instruction that neither calls nor traps, on its process's memory
   pub record RunsPlain (regs : Registers) (old : PagedValue S) (regs' : Registers) (new : PagedValue S) : Type 0 where
-    pub ran : line regs (memory_of held old.pages) ≡ Next regs' (memory_of held new.pages)
-    pub pages : Used (HasPage old.pages (cache_of old.caches hart)) (MarksSince new (cache_of old.caches hart)) (pages_used regs (memory_of held old.pages))
+    pub ran : line hart regs (memory_of held old) ≡ Next regs' (memory_of held new)
+    pub pages : Used (HasPage old.pages (cache_of old.caches hart)) (MarksSince new (cache_of old.caches hart)) (pages_used regs (memory_of held old))
     pub bound : MarksOne held hart regs old new
     pub kept : KeepsAccess hart old new
     pub coheres : Coheres held honest new

@@ -43,16 +43,16 @@ fn run_cached<L: Ledger, S: SwapSlot, O: Opening>(
 ) -> Slice
     requires started { hart < length memory.old.caches }
     requires opening { cache_of memory.old.caches hart ≡ O.opening }
-    ensures ran { let before = with_memory recorded.old.running (memory_of S.content memory.old.pages) in
-        flat_run (replicate result.ran hart) before ≡ Some (with_memory recorded.new.running (memory_of S.content memory.new.pages)) }
+    ensures ran { let before = with_memory recorded.old.running (memory_of S.content memory.old) in
+        flat_run (replicate result.ran hart) before ≡ Some (with_memory recorded.new.running (memory_of S.content memory.new)) }
     ensures recorded { written_out recorded.new.schedule ≡ written_out recorded.old.schedule ++ replicate result.ran hart }
     ensures left { room recorded.new.schedule hart + result.ran ≡ room recorded.old.schedule hart }
     ensures within { result.ran ≤ budget }
-    ensures stop { let before = with_memory recorded.old.running (memory_of S.content memory.old.pages) in
-        StopsRecorded (LacksPage memory.old.pages) hart budget (room recorded.old.schedule hart) before result.stop result.ran (with_memory recorded.new.running (memory_of S.content memory.new.pages)) }
-    ensures pages { let before = with_memory recorded.old.running (memory_of S.content memory.old.pages) in
+    ensures stop { let before = with_memory recorded.old.running (memory_of S.content memory.old) in
+        StopsRecorded (LacksPage memory.old.pages) hart budget (room recorded.old.schedule hart) before result.stop result.ran (with_memory recorded.new.running (memory_of S.content memory.new)) }
+    ensures pages { let before = with_memory recorded.old.running (memory_of S.content memory.old) in
         EachStep (λ at. Used (HasPage memory.old.pages (cache_of memory.old.caches hart)) (MarksSince memory.new O.opening) (next_pages hart at)) hart (answered result.stop result.ran) before }
-    ensures bound { let before = with_memory recorded.old.running (memory_of S.content memory.old.pages) in
+    ensures bound { let before = with_memory recorded.old.running (memory_of S.content memory.old) in
         BoundsEach (MarksWithin memory.old.tables) (MarksWithin memory.new.tables) hart (begun result.stop result.ran) before }
     ensures kept { KeepsAccess hart memory.old memory.new }
 {
@@ -69,7 +69,7 @@ fn stop_unstarted<L: Ledger, S: SwapSlot>(
 ) -> SliceStop
     requires unstarted { length recorded.now.running.environment.live ≤ hart }
     ensures none { answered result 0 ≡ 0 }
-    ensures stop { let now = with_memory recorded.now.running (memory_of S.content memory.now.pages) in
+    ensures stop { let now = with_memory recorded.now.running (memory_of S.content memory.now) in
         StopsRecorded (LacksPage memory.now.pages) hart budget (room recorded.now.schedule hart) now result 0 now }
 {
     if budget == 0 {
@@ -89,16 +89,16 @@ fn run<L: Ledger, S: SwapSlot>(
     budget: u32,
 ) -> Slice
     requires cached { length memory.old.caches ≡ length recorded.old.running.harts }
-    ensures ran { let before = with_memory recorded.old.running (memory_of S.content memory.old.pages) in
-        flat_run (replicate result.ran hart) before ≡ Some (with_memory recorded.new.running (memory_of S.content memory.new.pages)) }
+    ensures ran { let before = with_memory recorded.old.running (memory_of S.content memory.old) in
+        flat_run (replicate result.ran hart) before ≡ Some (with_memory recorded.new.running (memory_of S.content memory.new)) }
     ensures recorded { written_out recorded.new.schedule ≡ written_out recorded.old.schedule ++ replicate result.ran hart }
     ensures left { room recorded.new.schedule hart + result.ran ≡ room recorded.old.schedule hart }
     ensures within { result.ran ≤ budget }
-    ensures stop { let before = with_memory recorded.old.running (memory_of S.content memory.old.pages) in
-        StopsRecorded (LacksPage memory.old.pages) hart budget (room recorded.old.schedule hart) before result.stop result.ran (with_memory recorded.new.running (memory_of S.content memory.new.pages)) }
-    ensures pages { let before = with_memory recorded.old.running (memory_of S.content memory.old.pages) in
+    ensures stop { let before = with_memory recorded.old.running (memory_of S.content memory.old) in
+        StopsRecorded (LacksPage memory.old.pages) hart budget (room recorded.old.schedule hart) before result.stop result.ran (with_memory recorded.new.running (memory_of S.content memory.new)) }
+    ensures pages { let before = with_memory recorded.old.running (memory_of S.content memory.old) in
         EachStep (λ at. Used (HasPage memory.old.pages (cache_of memory.old.caches hart)) (MarksSince memory.new (cache_of memory.old.caches hart)) (next_pages hart at)) hart (answered result.stop result.ran) before }
-    ensures bound { let before = with_memory recorded.old.running (memory_of S.content memory.old.pages) in
+    ensures bound { let before = with_memory recorded.old.running (memory_of S.content memory.old) in
         BoundsEach (MarksWithin memory.old.tables) (MarksWithin memory.new.tables) hart (begun result.stop result.ran) before }
     ensures kept { KeepsAccess hart memory.old memory.new }
 {

@@ -1,5 +1,6 @@
 ghost use Rattle.std.specs.Prelude.{◌≡◌, ◌≢◌, ℕ, ◌<◌, ◌^◌, [], ◌∷◌, IfOk};
 ghost use Rattle.std.specs.Bool.{OnTrue, OnFalse};
+ghost use Rattle.page_memory.specs.Reservations.{none_reserved};
 ghost use Rattle.sv32_table.specs.Entry.{blank};
 ghost use Rattle.sv32_table.specs.EntryAt.{entry_at};
 ghost use Rattle.elf_image.specs.Image.{ArePages};
@@ -33,6 +34,7 @@ impl<L: Ledger, S: SwapSlot> Space<L, S> {
         ensures pages { IfOk result (λ space. space.memory.pages ≡ all_fresh (opening_pages image.pages)) }
         ensures tables { IfOk result (λ space. (number : ℕ) → number < 2 ^ 20 → entry_at space.memory.tables number ≡ blank) }
         ensures caches { IfOk result (λ space. space.memory.caches ≡ [] ∷ []) }
+        ensures reserved { IfOk result (λ space. space.memory.reserved ≡ none_reserved) }
     {
         let memory = opening_memory(alloc, process, image.pages())?;
         let whole = Vec::from_slice(alloc, &input)?;
@@ -68,6 +70,7 @@ fn opening_memory<L: Ledger, S: SwapSlot>(
     ensures pages { IfOk result (λ memory. memory.pages ≡ all_fresh (opening_pages pages.now)) }
     ensures tables { IfOk result (λ memory. (number : ℕ) → number < 2 ^ 20 → entry_at memory.tables number ≡ blank) }
     ensures caches { IfOk result (λ memory. memory.caches ≡ [] ∷ []) }
+    ensures reserved { IfOk result (λ memory. memory.reserved ≡ none_reserved) }
 {
     let mut memory = PagedMemory::new(alloc, process)?;
     for listed in pages {

@@ -56,6 +56,7 @@ impl<L: Ledger, S: SwapSlot> Space<L, S> {
         ensures stays { self.new ≡ record self.old { memory = self.new.memory } }
         ensures process { self.new.memory.process ≡ self.old.memory.process }
         ensures pages { self.new.memory.pages ≡ self.old.memory.pages }
+        ensures reserved { self.new.memory.reserved ≡ self.old.memory.reserved }
         ensures tables { OnSome result (ChangesEntry self.old.memory.tables self.new.memory.tables vpn (unaccessed_entry (entry_at self.old.memory.tables vpn))) }
         ensures tabled { SameTables self.old.memory.tables self.new.memory.tables }
         ensures caches { OnSome result (self.new.memory.caches ≡ map (doomed vpn) self.old.memory.caches) }
@@ -72,7 +73,7 @@ impl<L: Ledger, S: SwapSlot> Space<L, S> {
         ensures err { OnErr result (self.new ≡ self.old) }
         ensures stays { self.new ≡ record self.old { memory = self.new.memory } }
         ensures process { self.new.memory.process ≡ self.old.memory.process }
-        ensures memory { memory_of S.content self.new.memory.pages ≡ memory_of S.content self.old.memory.pages }
+        ensures memory { memory_of S.content self.new.memory ≡ memory_of S.content self.old.memory }
         ensures entries { OnOk result (ChangesEntry self.old.memory.tables self.new.memory.tables vpn blank) }
         ensures tabled { SameTables self.old.memory.tables self.new.memory.tables }
         ensures caches { OnOk result (self.new.memory.caches ≡ map (doomed vpn) self.old.memory.caches) }

@@ -18,7 +18,7 @@ impl<L: Ledger, S: SwapSlot> Space<L, S> {
         ensures answer { CollectsAt self.old.memory.process vpn (is_held vpn self.old.memory.caches) spare.old spare.new result self.old.memory.pages self.new.memory.pages (page_at self.old.memory.pages vpn) }
         ensures stays { self.new ≡ record self.old { memory = record self.old.memory { pages = self.new.memory.pages } } }
         ensures same { lets_go result ≡ false → self.new ≡ self.old }
-        ensures memory { S.honest → memory_of S.content self.new.memory.pages ≡ memory_of S.content self.old.memory.pages }
+        ensures memory { S.honest → memory_of S.content self.new.memory ≡ memory_of S.content self.old.memory }
     {
         self.memory.collect(vpn, spare)
     }
@@ -29,7 +29,7 @@ impl<L: Ledger, S: SwapSlot> Space<L, S> {
         ensures freed { IfOk result (λ frame. ChangesSaved self.old.memory.process job (Frees job frame) self.old.memory.pages self.new.memory.pages) }
         ensures refused { IfErr result (RefusesSaved self.old.memory.process job self.old.memory.pages self.new.memory.pages) }
         ensures stays { self.new ≡ record self.old { memory = record self.old.memory { pages = self.new.memory.pages } } }
-        ensures memory { S.honest → memory_of S.content self.new.memory.pages ≡ memory_of S.content self.old.memory.pages }
+        ensures memory { S.honest → memory_of S.content self.new.memory ≡ memory_of S.content self.old.memory }
     {
         self.memory.saved(job)
     }
@@ -44,7 +44,7 @@ impl<L: Ledger, S: SwapSlot> Space<L, S> {
         ensures stays { self.new ≡ record self.old { memory = self.new.memory } }
         ensures process { self.new.memory.process ≡ self.old.memory.process }
         ensures caches { self.new.memory.caches ≡ self.old.memory.caches }
-        ensures memory { memory_of S.content self.new.memory.pages ≡ memory_of S.content self.old.memory.pages }
+        ensures memory { memory_of S.content self.new.memory ≡ memory_of S.content self.old.memory }
     {
         self.memory.bring_back(vpn)
     }

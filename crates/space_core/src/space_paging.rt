@@ -35,13 +35,14 @@ impl<L: Ledger, S: SwapSlot> Space<L, S> {
         requires { vpn < 2 ^ 20 }
         ensures ok { OnOk result (ChangesBy (BroughtIn S.content S.honest frame) self.old.memory.pages self.new.memory.pages vpn) }
         ensures refused { IfErr result (λ back. RefusesPageIn S.content S.honest S.failures frame self.old.memory.pages self.new.memory.pages self.old.memory.tables vpn back.0 back.1) }
-        ensures memory { S.honest → memory_of S.content self.new.memory.pages ≡ memory_of S.content self.old.memory.pages }
+        ensures memory { S.honest → memory_of S.content self.new.memory ≡ memory_of S.content self.old.memory }
         ensures entries { OnOk result (IfSome (page_at self.old.memory.pages vpn) (λ page. ChangesEntry self.old.memory.tables self.new.memory.tables vpn (page_entry frame.number page.origin.rights true false))) }
         ensures tables { OnOk result (AddsTable self.old.memory.tables self.new.memory.tables vpn) }
         ensures unmapped { OnErr result (self.new.memory.tables ≡ self.old.memory.tables) }
         ensures stays { self.new ≡ record self.old { memory = self.new.memory } }
         ensures process { self.new.memory.process ≡ self.old.memory.process }
         ensures caches { self.new.memory.caches ≡ self.old.memory.caches }
+        ensures reserved { self.new.memory.reserved ≡ self.old.memory.reserved }
     {
         self.memory.page_in(vpn, frame)
     }
@@ -52,12 +53,12 @@ impl<L: Ledger, S: SwapSlot> Space<L, S> {
     pub fn peek(&mut self, address: u32, bytes: &mut [Option<u8>]) -> Result<(), PeekFault>
         requires { page_offset address + length bytes.old ≤ 4096 }
         ensures bytes { OnOk result (ShowsBytes S.content S.honest (page_at self.old.memory.pages (page_number address)) (page_offset address) (length bytes.old) bytes.new) }
-        ensures shown { S.honest → OnOk result (bytes_of (memory_of S.content self.old.memory.pages) address (length bytes.old) ≡ Some bytes.new) }
+        ensures shown { S.honest → OnOk result (bytes_of (memory_of S.content self.old.memory) address (length bytes.old) ≡ Some bytes.new) }
         ensures flat { S.honest → OnOk result ((flat : Process) → flat_run (written_out self.old.schedule) (opening self.old.image self.old.input) ≡ Some flat → bytes_of flat.memory address (length bytes.old) ≡ Some bytes.new) }
         ensures unread { OnErr result (bytes.new ≡ bytes.old) }
         ensures refused { IfErr result (RefusesPeek S.content S.honest S.failures self.old.memory.pages self.new.memory.pages (page_number address)) }
         ensures left { LeavesPage S.content S.honest self.old.memory.pages self.new.memory.pages (page_number address) (page_at self.old.memory.pages (page_number address)) }
-        ensures memory { S.honest → memory_of S.content self.new.memory.pages ≡ memory_of S.content self.old.memory.pages }
+        ensures memory { S.honest → memory_of S.content self.new.memory ≡ memory_of S.content self.old.memory }
         ensures stays { self.new ≡ record self.old { memory = record self.old.memory { pages = self.new.memory.pages } } }
     {
         self.memory.peek(address, bytes)
@@ -82,6 +83,7 @@ impl<L: Ledger, S: SwapSlot> Space<L, S> {
         ensures stays { self.new ≡ record self.old { memory = self.new.memory } }
         ensures process { self.new.memory.process ≡ self.old.memory.process }
         ensures caches { self.new.memory.caches ≡ (if_ended self.old.running.ending self.old.memory).caches }
+        ensures reserved { self.new.memory.reserved ≡ self.old.memory.reserved }
     {
         self.recorded.running().end()?;
         // An ending has emptied them already.

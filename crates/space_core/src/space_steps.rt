@@ -44,14 +44,14 @@ impl Running {
         memory: &mut PagedMemory<L, S>,
         most: u32,
     ) -> u32
-        requires may { may_step hart (with_memory self.old (memory_of S.content memory.old.pages)) ≡ true }
+        requires may { may_step hart (with_memory self.old (memory_of S.content memory.old)) ≡ true }
         requires cached { length memory.old.caches ≡ length self.old.harts }
         ensures within { result ≤ most }
         ensures short { HartRuns hart (λ regs regs'. RunsShort S.content S.honest hart most result regs memory.old regs' memory.new) self.old self.new }
         ensures all { result ≡ most → HartRuns hart (λ regs regs'. RunsEach S.content S.honest hart result regs memory.old regs' memory.new) self.old self.new }
     {
         let regs = &mut self.harts[hart as usize];
-        run_each(regs, memory, hart as usize, most)
+        run_each(regs, memory, hart, most)
     }
 }
 

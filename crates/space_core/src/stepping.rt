@@ -30,7 +30,7 @@ impl Running {
         ensures kept { B.keeps bus.old bus.new }
     {
         let regs = &mut self.harts[hart as usize];
-        run_plainly(regs, bus, most)
+        run_plainly(hart, regs, bus, most)
     }
 
     /// Takes one step of a hart that may step. A trap ends the process, and is a step.

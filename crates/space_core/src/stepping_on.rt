@@ -17,7 +17,7 @@ use swap_slots::SwapSlot;
 fn run_one<L: Ledger, S: SwapSlot, O: Opening>(
     regs: &mut Regs,
     memory: &mut PagedMemory<L, S>,
-    hart: usize,
+    hart: u32,
 ) -> bool
     requires started { hart < length memory.old.caches }
     requires opening { cache_of memory.old.caches hart ≡ O.opening }
@@ -26,8 +26,8 @@ fn run_one<L: Ledger, S: SwapSlot, O: Opening>(
     ensures marks { OnFalse result (MarksOne S.content hart regs.old memory.old memory.new) }
     ensures tried { OnFalse result (Tries S.content hart memory.old memory.new) }
 {
-    let mut bus: HartMemory<L, S, O> = HartMemory::new(memory, hart);
-    let done = matches!(execute(regs, &mut bus), Outcome::Done);
+    let mut bus: HartMemory<L, S, O> = HartMemory::new(memory, hart as usize);
+    let done = matches!(execute(hart, regs, &mut bus), Outcome::Done);
     memory.coherent();
     done
 }
@@ -38,7 +38,7 @@ fn run_one<L: Ledger, S: SwapSlot, O: Opening>(
 pub(crate) fn run_each<L: Ledger, S: SwapSlot>(
     regs: &mut Regs,
     memory: &mut PagedMemory<L, S>,
-    hart: usize,
+    hart: u32,
     most: u32,
 ) -> u32
     requires started { hart < length memory.old.caches }

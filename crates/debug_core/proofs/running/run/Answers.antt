@@ -1,5 +1,6 @@
 use Rattle.std.proofs.Common.{None, Some, refl, ◌∙◌}
 use Rattle.std.specs.FinMap as map
+use Rattle.page_memory.specs.Memory.{unreserved}
 use Rattle.debug_core.specs.Debugging.{first_moment}
 use Rattle.debug_core.specs.Stops.{Moment}
 use Rattle.debug_core.proofs.Passing.{advances_by, passes_none, passes_more, seen_nothing}
@@ -7,7 +8,7 @@ use Rattle.debug_core.proofs.running.run.Goals as goal
 
 pub steps-init : goal.steps-init
 steps-init g c = record {
-  was = map.empty;
+  was = unreserved map.empty;
   passes = passes_none c.args.points.now c.args.limit (first_moment (g.T.Target.shown c.args.target.now) c.args.turn.now);
   seen = seen_nothing c.args.points.now c.requires.few c.requires.points;
   room = refl;

@@ -1,5 +1,5 @@
 use Rattle.std.proofs.Common.{◌∙◌, ap}
-use Rattle.page_memory.specs.Memory.{Page, overwritten}
+use Rattle.page_memory.specs.Pages.{Page, overwritten}
 use Rattle.elf_image.proofs.PageCuts.{written_first}
 use Rattle.elf_image.proofs.byte_pages.page_with_bytes.Goals as goal
 

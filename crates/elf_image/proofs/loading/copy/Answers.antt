@@ -1,5 +1,5 @@
 use Rattle.std.proofs.Common.{◌∙◌, ◌*◌, ◌+◌, ◌-◌, ap, arith, ℕ}
-use Rattle.page_memory.specs.Memory.{Page}
+use Rattle.page_memory.specs.Pages.{Page}
 use Rattle.elf_image.proofs.PageBytes.{copied_between, nothing_copied}
 use Rattle.elf_image.proofs.loading.copy.Goals as goal
 

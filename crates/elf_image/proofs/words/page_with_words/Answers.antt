@@ -1,5 +1,5 @@
 use Rattle.std.proofs.Common.{◌∙◌, ap, arith, refl}
-use Rattle.page_memory.specs.Memory.{Page}
+use Rattle.page_memory.specs.Pages.{Page}
 use Rattle.elf_image.proofs.WordPages.{word_written, words_written}
 use Rattle.elf_image.proofs.words.page_with_words.Goals as goal
 

@@ -3,4 +3,4 @@ use Rattle.flat_machine.specs.PlainRun.{plain_run}
 use Rattle.flat_machine.proofs.plain_run.run_plainly.Given as goal
 
 abbrev pub invariant-loop-done : goal.invariant-loop-done
-invariant-loop-done l = plain_run l.done l.initial.regs l.initial.memory ≡ Some (l.regs, l.memory)
+invariant-loop-done l = plain_run l.hart l.done l.initial.regs l.initial.memory ≡ Some (l.regs, l.memory)

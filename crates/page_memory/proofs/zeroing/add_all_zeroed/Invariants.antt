@@ -1,5 +1,5 @@
 use Rattle.std.proofs.Common.{◌≡◌, ◌-◌}
-use Rattle.page_memory.specs.Memory.{zero_page}
+use Rattle.page_memory.specs.Pages.{zero_page}
 use Rattle.page_memory.specs.Entries.{with_added}
 use Rattle.page_memory.proofs.zeroing.add_all_zeroed.Given as goal
 

@@ -1,5 +1,5 @@
 use Rattle.std.proofs.Common.{ap, sym, ◌∙◌, ◌++◌, ◌∷◌, [], rules}
-use Rattle.page_memory.specs.Memory.{zero_page}
+use Rattle.page_memory.specs.Pages.{zero_page}
 use Rattle.page_memory.specs.EntriesLaws.{added_behind}
 use Rattle.page_memory.proofs.zeroing.add_zeroed.Goals as goal
 

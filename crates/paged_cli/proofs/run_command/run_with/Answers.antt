@@ -1,8 +1,12 @@
--- The run is of a machine that has just begun.
-use Rattle.paged_cli.proofs.Reported.{run_reported}
+-- The run is of a machine that has just begun, and is told as it stands there.
+use Rattle.std.proofs.Common.{max, subst}
+use Rattle.serial_driver.specs.Limit.{EndsByLimit}
+use Rattle.paged_cli.proofs.Reported.{run_written}
 use Rattle.paged_cli.proofs.run_command.run_with.Goals as goal
 
 pub returns : goal.returns
 returns g c =
-    run_reported g.S.SwapSlot.content g.S.SwapSlot.honest g.S.SwapSlot.failures c.args.frames c.args.slice c.args.limit c.args.slots.items _ c.in_ok-machine.machine c.run_serial.new.core c.run_serial.result c.in_ok-machine.ensures
-    c.run_serial.ensures.reached c.run_serial.ensures.limited c.run_serial.ensures.report c.run_serial.ensures.flat
+    let limited =
+    subst (λ n. EndsByLimit g.S.SwapSlot.content g.S.SwapSlot.honest g.S.SwapSlot.failures (max c.args.request.now.slice 1) n c.in_ok-machine.machine c.play.new.core) c.from.ensures c.play.ensures.limited in
+    run_written g.S.SwapSlot.content g.S.SwapSlot.honest g.S.SwapSlot.failures c.args.request.now.frames c.args.request.now.slice c.args.request.now.limit c.args.slots.items _ c.in_ok-machine.machine c.play.new.core _ _ _
+    c.in_ok-machine.ensures c.play.ensures.reached limited c.play.ensures.flat c.in_ok-write_machine.ensures c.status_of_machine.ensures

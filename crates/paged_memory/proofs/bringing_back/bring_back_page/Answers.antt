@@ -2,7 +2,7 @@ use Rattle.std.proofs.Common.{◌≡◌, Some, ap, sym, ◌∙◌}
 use Rattle.std.proofs.lemmas.Option.{same_Some}
 use Rattle.std.specs.Option.{option_copied}
 use Rattle.frame_pool.specs.FrameValue.{FrameValue}
-use Rattle.page_memory.specs.Memory.{Page}
+use Rattle.page_memory.specs.Pages.{Page}
 use Rattle.page_memory.specs.Entries.{place_of}
 use Rattle.page_store.specs.PageValue.{frame_of}
 use Rattle.paged_memory.specs.Leaving.{is_leaving, ReturnsAs}

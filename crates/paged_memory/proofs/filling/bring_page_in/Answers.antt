@@ -1,6 +1,6 @@
 use Rattle.std.proofs.Common.{true, false, ap, ◌∙◌, ◌==◌}
 use Rattle.std.specs.Prelude.{if◌then◌else◌}
-use Rattle.page_memory.specs.Memory.{Page}
+use Rattle.page_memory.specs.Pages.{Page}
 use Rattle.sv32_table.specs.Entry.{page_entry}
 use Rattle.sv32_table.specs.EntryAt.{entry_at}
 use Rattle.sv32_table.specs.EntryLaws.{leaf_entry-page_entry}

@@ -3,7 +3,7 @@ use Rattle.page_memory.specs.Words.{page_number}
 use Rattle.page_memory.specs.declared.words.Access.TheVariants.{Store}
 use Rattle.rv_exec.specs.Amo.{amo_result}
 use Rattle.paged_memory.specs.Access.{LacksPage}
-use Rattle.paged_memory.specs.Paged.{memory_of}
+use Rattle.paged_memory.specs.Paged.{flat_pages}
 use Rattle.paged_memory.proofs.ReadLaws.{refuses}
 use Rattle.paged_memory.proofs.LentLaws.{holds_lent, bare_lent, replaced_lent}
 use Rattle.paged_memory.proofs.WriteLaws.{replaced_refused, replaced_misaligned}
@@ -31,5 +31,5 @@ returns-in-Ok-clause-bare g c =
 
 pub returns-in-Err-clause-answer : goal.returns-in-Err-clause-answer
 returns-in-Err-clause-answer g c =
-    replaced_refused (LacksPage c.args.pages.now) (memory_of g.S.SwapSlot.content c.args.pages.now) (λ old. amo_result c.args.operation old c.args.operand) c.args.address c.in-Err.refusal c.if-address-ne0.false
+    replaced_refused (LacksPage c.args.pages.now) (flat_pages g.S.SwapSlot.content c.args.pages.now) (λ old. amo_result c.args.operation old c.args.operand) c.args.address c.in-Err.refusal c.if-address-ne0.false
     (refuses g.S.SwapSlot.content c.args.pages.now Store c.args.address c.in-Err.refusal c.in-Err.ensures.refused)

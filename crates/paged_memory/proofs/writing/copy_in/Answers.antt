@@ -2,7 +2,7 @@ use Rattle.std.proofs.Common.{◌<◌, ◌^◌, arith}
 use Rattle.page_memory.specs.Words.{page_number}
 use Rattle.page_memory.specs.declared.words.Access.TheVariants.{Store}
 use Rattle.paged_memory.specs.Access.{LacksPage}
-use Rattle.paged_memory.specs.Paged.{memory_of}
+use Rattle.paged_memory.specs.Paged.{flat_pages}
 use Rattle.paged_memory.proofs.ReadLaws.{refuses}
 use Rattle.paged_memory.proofs.LentLaws.{holds_lent, bare_lent, copied_lent}
 use Rattle.paged_memory.proofs.WriteLaws.{copied_refused}
@@ -27,5 +27,5 @@ returns-in-Ok-clause-bare g c =
 
 pub returns-in-Err-clause-answer : goal.returns-in-Err-clause-answer
 returns-in-Err-clause-answer g c =
-    copied_refused (LacksPage c.args.pages.now) (memory_of g.S.SwapSlot.content c.args.pages.now) c.args.address c.args.from.now c.in-Err.refusal
+    copied_refused (LacksPage c.args.pages.now) (flat_pages g.S.SwapSlot.content c.args.pages.now) c.args.address c.args.from.now c.in-Err.refusal
     (refuses g.S.SwapSlot.content c.args.pages.now Store c.args.address c.in-Err.refusal c.in-Err.ensures.refused)

@@ -3,7 +3,7 @@ use Rattle.page_memory.specs.AccessLaws.{stored_misaligned}
 use Rattle.page_memory.specs.Words.{page_number, bytes_in}
 use Rattle.page_memory.specs.declared.words.Access.TheVariants.{Store}
 use Rattle.paged_memory.specs.Access.{LacksPage}
-use Rattle.paged_memory.specs.Paged.{memory_of}
+use Rattle.paged_memory.specs.Paged.{flat_pages}
 use Rattle.paged_memory.proofs.ReadLaws.{refuses}
 use Rattle.paged_memory.proofs.LentLaws.{holds_lent, bare_lent, stored_lent}
 use Rattle.paged_memory.proofs.WriteLaws.{stored_refused}
@@ -35,5 +35,5 @@ returns-in-Ok-clause-bare g c =
 pub returns-in-Err-clause-answer : goal.returns-in-Err-clause-answer
 returns-in-Err-clause-answer g c =
     let aligned : c.args.address % bytes_in c.args.width ≡ 0 = ap (λ w. c.args.address % w) (sym c.bytes.ensures) ∙ c.if-address-bytes-ne0.false in
-    stored_refused (LacksPage c.args.pages.now) (memory_of g.S.SwapSlot.content c.args.pages.now) c.args.width c.args.address c.args.word c.in-Err.refusal aligned
+    stored_refused (LacksPage c.args.pages.now) (flat_pages g.S.SwapSlot.content c.args.pages.now) c.args.width c.args.address c.args.word c.in-Err.refusal aligned
     (refuses g.S.SwapSlot.content c.args.pages.now Store c.args.address c.in-Err.refusal c.in-Err.ensures.refused)

@@ -17,8 +17,8 @@ returns-in-Ok-clause-line g c =
     let memory = g.B.Bus.memory c.args.bus.now in
     let word = c.in-Ok.word in
     let fetch : fetched memory regs.pc ≡ Ok word = rw (← c.pc-pc.ensures) c.in-Ok.ensures.answer.0 in
-    let whole : line regs memory ≡ decoded_line regs (g.B.Bus.memory c.fetch.new.self) word (insn_of word) =
-    line_fetched regs memory word fetch ∙ ap (λ m. decoded_line regs m word (insn_of word)) (sym c.in-Ok.ensures.same) in
+    let whole : line c.args.hart regs memory ≡ decoded_line c.args.hart regs (g.B.Bus.memory c.fetch.new.self) word (insn_of word) =
+    line_fetched c.args.hart regs memory word fetch ∙ ap (λ m. decoded_line c.args.hart regs m word (insn_of word)) (sym c.in-Ok.ensures.same) in
     subst (λ l. Follows l c.perform.result c.perform.new.regs (g.B.Bus.memory c.perform.new.bus)) (sym whole) c.perform.ensures.line
 
 pub returns-in-Ok-clause-pages : goal.returns-in-Ok-clause-pages
@@ -41,7 +41,7 @@ pub returns-in-Err-Fault-clause-line : goal.returns-in-Err-Fault-clause-line
 returns-in-Err-Fault-clause-line g c =
     let fetch : fetched (g.B.Bus.memory c.args.bus.now) c.args.regs.now.pc ≡ Err c.in-Err-Fault.fault =
     rw (← c.pc-pc.ensures) (rw (c.in-Err-Fault.field-0-is) at c.in-Err-Fault.ensures.answer) in
-    rw (c.of_fetch.ensures, c.pc-pc.ensures) (line_fault c.args.regs.now (g.B.Bus.memory c.args.bus.now) c.in-Err-Fault.fault fetch)
+    rw (c.of_fetch.ensures, c.pc-pc.ensures) (line_fault c.args.hart c.args.regs.now (g.B.Bus.memory c.args.bus.now) c.in-Err-Fault.fault fetch)
 
 pub returns-in-Err-Fault-clause-pages : goal.returns-in-Err-Fault-clause-pages
 returns-in-Err-Fault-clause-pages g c =

@@ -7,7 +7,7 @@ use Rattle.space_core.proofs.StepsOn.{is_recorded, none_recorded, wider}
 use Rattle.space_core.proofs.space_steps.record_each.Goals as goal
 
 pub step_each-ran-requires-clause-may : goal.step_each-ran-requires-clause-may
-step_each-ran-requires-clause-may g c = sym (c.may_step.ensures (memory_of g.S.SwapSlot.content c.args.memory.now.pages)) ∙ c.if-not-may_step.false
+step_each-ran-requires-clause-may g c = sym (c.may_step.ensures (memory_of g.S.SwapSlot.content c.args.memory.now)) ∙ c.if-not-may_step.false
 
 pub returns-then-ran-gt0-clause-short : goal.returns-then-ran-gt0-clause-short
 returns-then-ran-gt0-clause-short g c =

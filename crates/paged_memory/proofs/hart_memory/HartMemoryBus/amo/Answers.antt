@@ -17,14 +17,14 @@ pub returns-clause-bound : goal.returns-clause-bound
 returns-clause-bound g c =
     let now = c.args.self.now.memory.now in
     let cache = cache_of now.caches c.args.self.now.hart in
-    let memory = memory_of g.S.SwapSlot.content now.pages in
+    let memory = memory_of g.S.SwapSlot.content now in
     bounds_access_with Store (HasPage now.pages cache) (MarksUse now.pages c.amo.new.self.tables cache Store) (LacksPage now.pages) c.args.address now.tables c.amo.new.self.tables
-    (replaced memory (λ old. amo_result c.args.operation old c.args.operand) c.args.address) (λ old. (old, memory_of g.S.SwapSlot.content c.amo.new.self.pages)) c.amo.result c.amo.ensures.answer c.amo.ensures.entries c.amo.ensures.unmarked
+    (replaced memory (λ old. amo_result c.args.operation old c.args.operand) c.args.address) (λ old. (old, memory_of g.S.SwapSlot.content c.amo.new.self)) c.amo.result c.amo.ensures.answer c.amo.ensures.entries c.amo.ensures.unmarked
 
 pub returns-clause-answer : goal.returns-clause-answer
 returns-clause-answer g c =
     let now = c.args.self.now.memory.now in
     let cache = cache_of now.caches c.args.self.now.hart in
-    let memory = memory_of g.S.SwapSlot.content now.pages in
+    let memory = memory_of g.S.SwapSlot.content now in
     answers_since c.args.self.now.hart g.O.Opening.opening Store now c.amo.new.self c.args.self.now.in_turn (seen_written now.pages c.amo.new.self.pages c.amo.ensures.bare)
-    (HasPage now.pages cache) (LacksPage now.pages) c.args.address (replaced memory (λ old. amo_result c.args.operation old c.args.operand) c.args.address) (with_answer (λ old. (old, memory_of g.S.SwapSlot.content c.amo.new.self.pages)) c.amo.result) c.ranges.address.fits c.amo.ensures.answer
+    (HasPage now.pages cache) (LacksPage now.pages) c.args.address (replaced memory (λ old. amo_result c.args.operation old c.args.operand) c.args.address) (with_answer (λ old. (old, memory_of g.S.SwapSlot.content c.amo.new.self)) c.amo.result) c.ranges.address.fits c.amo.ensures.answer

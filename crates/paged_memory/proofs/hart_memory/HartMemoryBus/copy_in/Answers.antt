@@ -16,14 +16,14 @@ pub returns-clause-bound : goal.returns-clause-bound
 returns-clause-bound g c =
     let now = c.args.self.now.memory.now in
     let cache = cache_of now.caches c.args.self.now.hart in
-    let memory = memory_of g.S.SwapSlot.content now.pages in
+    let memory = memory_of g.S.SwapSlot.content now in
     bounds_access_with Store (HasPage now.pages cache) (MarksUse now.pages c.copy_in.new.self.tables cache Store) (LacksPage now.pages) c.args.address now.tables c.copy_in.new.self.tables
-    (copied_in memory c.args.address c.args.from.now) (λ _. memory_of g.S.SwapSlot.content c.copy_in.new.self.pages) c.copy_in.result c.copy_in.ensures.answer c.copy_in.ensures.entries c.copy_in.ensures.unmarked
+    (copied_in memory c.args.address c.args.from.now) (λ _. memory_of g.S.SwapSlot.content c.copy_in.new.self) c.copy_in.result c.copy_in.ensures.answer c.copy_in.ensures.entries c.copy_in.ensures.unmarked
 
 pub returns-clause-answer : goal.returns-clause-answer
 returns-clause-answer g c =
     let now = c.args.self.now.memory.now in
     let cache = cache_of now.caches c.args.self.now.hart in
-    let memory = memory_of g.S.SwapSlot.content now.pages in
+    let memory = memory_of g.S.SwapSlot.content now in
     answers_since c.args.self.now.hart g.O.Opening.opening Store now c.copy_in.new.self c.args.self.now.in_turn (seen_written now.pages c.copy_in.new.self.pages c.copy_in.ensures.bare)
-    (HasPage now.pages cache) (LacksPage now.pages) c.args.address (copied_in memory c.args.address c.args.from.now) (with_answer (λ _. memory_of g.S.SwapSlot.content c.copy_in.new.self.pages) c.copy_in.result) c.ranges.address.fits c.copy_in.ensures.answer
+    (HasPage now.pages cache) (LacksPage now.pages) c.args.address (copied_in memory c.args.address c.args.from.now) (with_answer (λ _. memory_of g.S.SwapSlot.content c.copy_in.new.self) c.copy_in.result) c.ranges.address.fits c.copy_in.ensures.answer

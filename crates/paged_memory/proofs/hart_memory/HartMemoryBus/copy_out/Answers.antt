@@ -13,7 +13,7 @@ pub returns-clause-bound : goal.returns-clause-bound
 returns-clause-bound g c =
     let now = c.args.self.now.memory.now in
     let cache = cache_of now.caches c.args.self.now.hart in
-    let memory = memory_of g.S.SwapSlot.content now.pages in
+    let memory = memory_of g.S.SwapSlot.content now in
     bounds_access_with Load (HasPage now.pages cache) (MarksUse now.pages c.copy_out.new.self.tables cache Load) (LacksPage now.pages) c.args.address now.tables c.copy_out.new.self.tables
     (copied_out memory c.args.address (length c.args.to.now)) (λ _. c.copy_out.new.to) c.copy_out.result c.copy_out.ensures.answer c.copy_out.ensures.entries c.copy_out.ensures.unmarked
 
@@ -21,6 +21,6 @@ pub returns-clause-answer : goal.returns-clause-answer
 returns-clause-answer g c =
     let now = c.args.self.now.memory.now in
     let cache = cache_of now.caches c.args.self.now.hart in
-    let memory = memory_of g.S.SwapSlot.content now.pages in
+    let memory = memory_of g.S.SwapSlot.content now in
     answers_since c.args.self.now.hart g.O.Opening.opening Load now c.copy_out.new.self c.args.self.now.in_turn (λ page. ap (λ p. seen_at p page) c.copy_out.ensures.pages)
     (HasPage now.pages cache) (LacksPage now.pages) c.args.address (copied_out memory c.args.address (length c.args.to.now)) (with_answer (λ _. c.copy_out.new.to) c.copy_out.result) c.ranges.address.fits c.copy_out.ensures.answer

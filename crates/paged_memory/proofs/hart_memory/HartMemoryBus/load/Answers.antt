@@ -11,7 +11,7 @@ pub returns-clause-bound : goal.returns-clause-bound
 returns-clause-bound g c =
     let now = c.args.self.now.memory.now in
     let cache = cache_of now.caches c.args.self.now.hart in
-    let memory = memory_of g.S.SwapSlot.content now.pages in
+    let memory = memory_of g.S.SwapSlot.content now in
     bounds_access Load (HasPage now.pages cache) (MarksUse now.pages c.load.new.self.tables cache Load) (LacksPage now.pages) c.args.address now.tables c.load.new.self.tables
     (loaded memory c.args.width c.args.address) c.load.result c.load.ensures.answer c.load.ensures.entries c.load.ensures.unmarked
 
@@ -19,6 +19,6 @@ pub returns-clause-answer : goal.returns-clause-answer
 returns-clause-answer g c =
     let now = c.args.self.now.memory.now in
     let cache = cache_of now.caches c.args.self.now.hart in
-    let memory = memory_of g.S.SwapSlot.content now.pages in
+    let memory = memory_of g.S.SwapSlot.content now in
     answers_since c.args.self.now.hart g.O.Opening.opening Load now c.load.new.self c.args.self.now.in_turn (λ page. ap (λ p. seen_at p page) c.load.ensures.pages)
     (HasPage now.pages cache) (LacksPage now.pages) c.args.address (loaded memory c.args.width c.args.address) c.load.result c.ranges.address.fits c.load.ensures.answer

@@ -16,14 +16,14 @@ pub returns-clause-bound : goal.returns-clause-bound
 returns-clause-bound g c =
     let now = c.args.self.now.memory.now in
     let cache = cache_of now.caches c.args.self.now.hart in
-    let memory = memory_of g.S.SwapSlot.content now.pages in
+    let memory = memory_of g.S.SwapSlot.content now in
     bounds_access_with Store (HasPage now.pages cache) (MarksUse now.pages c.store.new.self.tables cache Store) (LacksPage now.pages) c.args.address now.tables c.store.new.self.tables
-    (stored memory c.args.width c.args.address c.args.word) (λ _. memory_of g.S.SwapSlot.content c.store.new.self.pages) c.store.result c.store.ensures.answer c.store.ensures.entries c.store.ensures.unmarked
+    (stored memory c.args.width c.args.address c.args.word) (λ _. memory_of g.S.SwapSlot.content c.store.new.self) c.store.result c.store.ensures.answer c.store.ensures.entries c.store.ensures.unmarked
 
 pub returns-clause-answer : goal.returns-clause-answer
 returns-clause-answer g c =
     let now = c.args.self.now.memory.now in
     let cache = cache_of now.caches c.args.self.now.hart in
-    let memory = memory_of g.S.SwapSlot.content now.pages in
+    let memory = memory_of g.S.SwapSlot.content now in
     answers_since c.args.self.now.hart g.O.Opening.opening Store now c.store.new.self c.args.self.now.in_turn (seen_written now.pages c.store.new.self.pages c.store.ensures.bare)
-    (HasPage now.pages cache) (LacksPage now.pages) c.args.address (stored memory c.args.width c.args.address c.args.word) (with_answer (λ _. memory_of g.S.SwapSlot.content c.store.new.self.pages) c.store.result) c.ranges.address.fits c.store.ensures.answer
+    (HasPage now.pages cache) (LacksPage now.pages) c.args.address (stored memory c.args.width c.args.address c.args.word) (with_answer (λ _. memory_of g.S.SwapSlot.content c.store.new.self) c.store.result) c.ranges.address.fits c.store.ensures.answer

@@ -1,3 +1,5 @@
+use Rattle.std.proofs.Common.{◌≡◌, ap, subst}
+use Rattle.paged_memory.specs.Paged.{memory_in, memory_of}
 use Rattle.paged_memory.proofs.ReturningLaws.{holds_returned, memory_returned, plain, entry_plain}
 use Rattle.paged_memory.proofs.memory.PagedMemory.bring_back.Goals as goal
 
@@ -12,4 +14,6 @@ returns-clause-ok g c =
     rw (← c.self.view_is) (record { mark = c.bring_back_page-frame.result.changed; page = plain told; entry = entry_plain told c.self.inside.tables c.remap.new.self c.remap.ensures.entries })
 
 pub returns-clause-memory : goal.returns-clause-memory
-returns-clause-memory g c = rw (← c.self.view_is) (memory_returned g.S.SwapSlot.content (plain c.bring_back_page-frame.ensures.back))
+returns-clause-memory g c =
+    subst (λ v. memory_in g.S.SwapSlot.content c.bring_back_page-frame.new.pages c.self.inside.reservations ≡ memory_of g.S.SwapSlot.content v) c.self.view_is
+    (ap (λ p. record { pages = p; reserved = c.self.inside.reservations }) (memory_returned g.S.SwapSlot.content (plain c.bring_back_page-frame.ensures.back)))

@@ -1,6 +1,6 @@
-use Rattle.std.proofs.Common.{subst}
+use Rattle.std.proofs.Common.{◌≡◌, ap, subst}
 use Rattle.paged_memory.specs.Leaving.{CollectsAt}
-use Rattle.paged_memory.specs.Paged.{page_at}
+use Rattle.paged_memory.specs.Paged.{page_at, memory_in, memory_of}
 use Rattle.paged_memory.proofs.CollectingLaws.{holds_collected, memory_collected}
 use Rattle.paged_memory.proofs.memory.PagedMemory.collect.Goals as goal
 
@@ -14,4 +14,5 @@ pub returns-clause-memory : goal.returns-clause-memory
 returns-clause-memory g c =
     let pages = c.self.inside.pages in
     let told = subst (λ cached. CollectsAt c.self.inside.process c.args.vpn cached c.args.spare.now c.collect_page.new.spare c.collect_page.result pages c.collect_page.new.pages (page_at pages c.args.vpn)) c.is_held-cached.ensures c.collect_page.ensures.answer in
-    rw (← c.self.view_is) (memory_collected c.self.inside.process c.args.vpn c.args.spare.now c.collect_page.new.spare c.collect_page.result c.requires c.self.invariant c.collect_page.new.pages (page_at pages c.args.vpn) told)
+    λ is_honest. subst (λ v. memory_in g.S.SwapSlot.content c.collect_page.new.pages c.self.inside.reservations ≡ memory_of g.S.SwapSlot.content v) c.self.view_is
+    (ap (λ p. record { pages = p; reserved = c.self.inside.reservations }) (memory_collected c.self.inside.process c.args.vpn c.args.spare.now c.collect_page.new.spare c.collect_page.result c.requires c.self.invariant c.collect_page.new.pages (page_at pages c.args.vpn) told is_honest))

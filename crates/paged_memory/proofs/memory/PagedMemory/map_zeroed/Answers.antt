@@ -1,7 +1,7 @@
 use Rattle.std.proofs.Common.{◌≡◌, subst, OnOk}
 use Rattle.page_memory.specs.Memory.{with_zeroed}
-use Rattle.paged_memory.specs.Paged.{memory_of}
-use Rattle.paged_memory.proofs.GrowthLaws.{holds_grown, memory_grown}
+use Rattle.paged_memory.specs.Paged.{memory_in, memory_of}
+use Rattle.paged_memory.proofs.GrowthLaws.{holds_grown, memory_grown_with}
 use Rattle.paged_memory.proofs.memory.PagedMemory.map_zeroed.Goals as goal
 
 pub invariant_of-self : goal.invariant_of-self
@@ -10,5 +10,5 @@ invariant_of-self g c =
 
 pub returns-clause-memory : goal.returns-clause-memory
 returns-clause-memory g c =
-    subst (λ v. OnOk c.add_all_zeroed.result (memory_of g.S.SwapSlot.content c.add_all_zeroed.new.pages ≡ with_zeroed c.args.first c.args.count (memory_of g.S.SwapSlot.content v.pages))) c.self.view_is
-    (memory_grown g.S.SwapSlot.content c.add_all_zeroed.result c.self.inside.pages c.add_all_zeroed.new.pages c.args.first c.args.count c.add_all_zeroed.ensures.ok)
+    subst (λ v. OnOk c.add_all_zeroed.result (memory_in g.S.SwapSlot.content c.add_all_zeroed.new.pages c.self.inside.reservations ≡ with_zeroed c.args.first c.args.count (memory_of g.S.SwapSlot.content v))) c.self.view_is
+    (memory_grown_with g.S.SwapSlot.content c.self.inside.reservations c.add_all_zeroed.result c.self.inside.pages c.add_all_zeroed.new.pages c.args.first c.args.count c.add_all_zeroed.ensures.ok)

@@ -1,6 +1,6 @@
-use Rattle.std.proofs.Common.{◌≡◌, Some, subst}
+use Rattle.std.proofs.Common.{◌≡◌, Some, ap, subst}
 use Rattle.std.specs.Prelude.{OnOk, length}
-use Rattle.paged_memory.specs.Paged.{page_at, memory_of}
+use Rattle.paged_memory.specs.Paged.{page_at, memory_in, memory_of}
 use Rattle.paged_memory.specs.Peeking.{bytes_of}
 use Rattle.paged_memory.proofs.PeekingLaws.{holds_peeked, memory_peeked, bytes_shown}
 use Rattle.paged_memory.proofs.memory.PagedMemory.peek.Goals as goal
@@ -11,11 +11,11 @@ invariant_of-self g c =
 
 pub returns-clause-shown : goal.returns-clause-shown
 returns-clause-shown g c is_honest =
-    subst (λ v. OnOk c.read_page.result (bytes_of (memory_of g.S.SwapSlot.content v.pages) c.args.address (length c.args.bytes.now) ≡ Some c.read_page.new.bytes)) c.self.view_is
-    (bytes_shown g.S.SwapSlot.content g.S.SwapSlot.honest c.self.inside.pages c.args.address c.page_of.result c.offset_in_page.result (length c.args.bytes.now) c.read_page.new.bytes c.read_page.result c.page_of.ensures.number
+    subst (λ v. OnOk c.read_page.result (bytes_of (memory_of g.S.SwapSlot.content v) c.args.address (length c.args.bytes.now) ≡ Some c.read_page.new.bytes)) c.self.view_is
+    (bytes_shown g.S.SwapSlot.content g.S.SwapSlot.honest c.self.inside.pages c.self.inside.reservations c.args.address c.page_of.result c.offset_in_page.result (length c.args.bytes.now) c.read_page.new.bytes c.read_page.result c.page_of.ensures.number
     c.offset_in_page.ensures.offset c.read_page.ensures.bytes is_honest)
 
 pub returns-clause-memory : goal.returns-clause-memory
 returns-clause-memory g c is_honest =
-    subst (λ v. memory_of g.S.SwapSlot.content c.read_page.new.pages ≡ memory_of g.S.SwapSlot.content v.pages) c.self.view_is
-    (memory_peeked g.S.SwapSlot.content g.S.SwapSlot.honest c.self.inside.pages c.read_page.new.pages c.page_of.result (page_at c.self.inside.pages c.page_of.result) c.read_page.ensures.left is_honest)
+    subst (λ v. memory_in g.S.SwapSlot.content c.read_page.new.pages c.self.inside.reservations ≡ memory_of g.S.SwapSlot.content v) c.self.view_is
+    (ap (λ p. record { pages = p; reserved = c.self.inside.reservations }) (memory_peeked g.S.SwapSlot.content g.S.SwapSlot.honest c.self.inside.pages c.read_page.new.pages c.page_of.result (page_at c.self.inside.pages c.page_of.result) c.read_page.ensures.left is_honest))

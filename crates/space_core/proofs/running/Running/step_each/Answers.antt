@@ -8,13 +8,13 @@ use Rattle.space_core.proofs.running.Running.step_each.Goals as goal
 
 pub index_mut-regs-requires : goal.index_mut-regs-requires
 index_mut-regs-requires g c =
-    let memory = memory_of g.S.SwapSlot.content c.args.memory.now.pages in
+    let memory = memory_of g.S.SwapSlot.content c.args.memory.now in
     let within = is_started c.args.hart (record { harts = c.self.inside.harts.items; environment = c.self.inside.env; ending = c.self.inside.end }) c.args.self.now memory (c.self.invariant.whole memory) c.self.view_is c.requires.may in
     omega (arith, within, c.self.inside.harts.ok.0)
 
 pub run_each-requires : goal.run_each-requires
 run_each-requires g c =
-    let memory = memory_of g.S.SwapSlot.content c.args.memory.now.pages in
+    let memory = memory_of g.S.SwapSlot.content c.args.memory.now in
     let within = is_started c.args.hart (record { harts = c.self.inside.harts.items; environment = c.self.inside.env; ending = c.self.inside.end }) c.args.self.now memory (c.self.invariant.whole memory) c.self.view_is c.requires.may in
     let cached = c.requires.cached in
     let same = ap (λ (v : RunningValue). length v.harts) c.self.view_is in

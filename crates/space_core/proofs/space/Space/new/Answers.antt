@@ -13,3 +13,4 @@ invariant_of-result g c =
     (ap (λ (r : RecordedValue). r.schedule) c.in_ok-recorded.ensures)
     (c.in_ok-memory.ensures.pages ∙ ap (λ l. all_fresh (opening_pages l)) c.pages.ensures.pages)
     c.in_ok-memory.ensures.caches
+    c.in_ok-memory.ensures.reserved

@@ -1,5 +1,5 @@
 use Rattle.std.proofs.Common.{◌≡◌, ◌∙◌, length, replicate, ap, arith, refl, sym, subst}
-use Rattle.paged_memory.specs.Paged.{PagedValue, page_at, memory_of}
+use Rattle.paged_memory.specs.Paged.{PagedValue, page_at, memory_in}
 use Rattle.paged_memory.specs.HartMemory.{MarksWithin}
 use Rattle.space_core.specs.Next.{begun}
 use Rattle.space_core.specs.Slices.{BoundsEach}
@@ -23,6 +23,9 @@ add_harts-requires-clause-more g c =
 pages_are : (g : Over) (c : goal.After-coherent g) → c.settle_caches.new.memory.pages ≡ c.run-slice.new.memory.pages
 pages_are g c = ap (λ (m : PagedValue g.row.S.Denot). m.pages) c.settle_caches.ensures.memory ∙ ap (λ (m : PagedValue g.row.S.Denot). m.pages) c.add_harts.ensures.memory
 
+reserved_are : (g : Over) (c : goal.After-coherent g) → c.settle_caches.new.memory.reserved ≡ c.run-slice.new.memory.reserved
+reserved_are g c = ap (λ (m : PagedValue g.row.S.Denot). m.reserved) c.settle_caches.ensures.memory ∙ ap (λ (m : PagedValue g.row.S.Denot). m.reserved) c.add_harts.ensures.memory
+
 abbrev left : (g : Over) (c : goal.After-coherent g) → PagedValue g.row.S.Denot → SpaceValue g.row.S.Denot
 left g c memory = record { image = c.self.inside.image; input = c.self.inside.input.items; running = c.run-slice.new.recorded.running; schedule = c.run-slice.new.recorded.schedule; memory = memory }
 
@@ -30,7 +33,7 @@ stands : (g : Over) (c : goal.After-coherent g) → g.S.SwapSlot.honest → Stan
 stands g c h =
     let inside : SpaceValue g.row.S.Denot = record { image = c.self.inside.image; input = c.self.inside.input.items; running = c.self.inside.recorded.running; schedule = c.self.inside.recorded.schedule; memory = c.self.inside.memory } in
     let did = c.run-slice.ensures in
-    stands_on g.S.SwapSlot.content (left g c c.run-slice.new.memory) (left g c c.settle_caches.new.memory) refl refl refl refl (ap (memory_of g.S.SwapSlot.content) (pages_are g c))
+    stands_on g.S.SwapSlot.content (left g c c.run-slice.new.memory) (left g c c.settle_caches.new.memory) refl refl refl refl (λ i. memory_in g.S.SwapSlot.content (pages_are g c i) (reserved_are g c i))
     (λ number whole. ap (λ pages. is_purged (page_at pages number)) (sym (pages_are g c)) ∙ whole)
     (stands_sliced g.S.SwapSlot.content inside (left g c c.run-slice.new.memory) c.args.hart c.run-slice.result.ran refl refl did.ran did.recorded (none_back _ _ did.kept.pages) (c.self.invariant.stands h))
 

@@ -1,4 +1,0 @@
-use Rattle.page_memory.proofs.flat_memory.FlatMemory.new.Goals as goal
-
-pub invariant_of-result : goal.invariant_of-result
-invariant_of-result c = c.new-2.ensures c.in_ok-new.field-0

@@ -75,27 +75,6 @@ fn pages_go_to_files(rt: HostRuntime) -> Result<(), Fail> {
     Ok(())
 }
 
-#[test]
-fn pages_go_to_files_on_threads(rt: HostRuntime) -> Result<(), Fail> {
-    let folder = new_folder(&rt, "pages_go_to_files_on_threads")?;
-    let prefix = format!(in rt.alloc(); "{folder}/page")?;
-    let image = TestFile::new(&rt, "pages_go_to_files_on_threads", SPREADS.as_bytes())?;
-    let (path, prefix) = (image.path.as_str(), prefix.as_str());
-    let swap = [
-        "run", "--frames", "4", "--slots", "64", "--swap", prefix, path,
-    ];
-    let done = run_words(&rt, &swap)?;
-    let process = "process 0 output 0\n\nprocess 0 exited 0 after 107 steps\nframes 4 page-ins ";
-    assert!(rt; done.out.as_str().starts_with(process));
-    assert!(rt; done.out.as_str().ends_with("\naudit ok\n"));
-    assert_eq!(rt; done.err.as_str(), "");
-    let whole = remove_files(&rt, prefix, 64)?;
-    assert!(rt; whole);
-    fs::remove_dir(&rt, folder.as_str())?;
-    image.remove(&rt)?;
-    Ok(())
-}
-
 /// Makes the files of eleven slots lead to a device.
 fn lead_to(rt: &HostRuntime, prefix: &str, device: &str) -> io::Result<()> {
     for number in 0..11u32 {

@@ -12,15 +12,13 @@ use std::alloc::{AllocError, Global};
 pub fn paged<'a>(alloc: Global) -> Result<Command<'a>, AllocError>
     ensures read_as { IfOk result (λ command. app_of command ≡ paged_app) }
 {
-    let (asm, flat, clock) = (asm(alloc)?, flat(alloc)?, clock(alloc)?);
-    let (drive, run, debug) = (drive(alloc)?, run(alloc)?, debug(alloc)?);
-    bare(alloc)
-        .subcommand(asm)?
-        .subcommand(flat)?
-        .subcommand(clock)?
-        .subcommand(drive)?
-        .subcommand(run)?
-        .subcommand(debug)
+    // One after another: of what is made at once, each way to give up is checked with all the others.
+    let app = bare(alloc).subcommand(asm(alloc)?)?;
+    let app = app.subcommand(flat(alloc)?)?;
+    let app = app.subcommand(clock(alloc)?)?;
+    let app = app.subcommand(drive(alloc)?)?;
+    let app = app.subcommand(run(alloc)?)?;
+    app.subcommand(debug(alloc)?)
 }
 
 fn bare<'a>(alloc: Global) -> Command<'a>

@@ -4,13 +4,12 @@ use clap::{Arg, ArgAction, Command};
 use std::alloc::{AllocError, Global};
 
 pub(crate) fn policies<'a>(alloc: Global) -> Result<Command<'a>, AllocError> {
-    let (misses, trace, replay) = (misses(alloc)?, trace(alloc)?, replay(alloc)?);
-    Command::new(alloc, "policies")
+    let app = Command::new(alloc, "policies")
         .no_binary_name(true)
-        .subcommand_required(true)
-        .subcommand(misses)?
-        .subcommand(trace)?
-        .subcommand(replay)
+        .subcommand_required(true);
+    let app = app.subcommand(misses(alloc)?)?;
+    let app = app.subcommand(trace(alloc)?)?;
+    app.subcommand(replay(alloc)?)
 }
 
 fn misses<'a>(alloc: Global) -> Result<Command<'a>, AllocError> {

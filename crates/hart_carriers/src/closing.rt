@@ -86,6 +86,7 @@ fn all_hold(agrees: bool, sized: bool, sound: bool, whole: bool, started: bool) 
     ensures sound { result ≡ true → sound ≡ true }
     ensures whole { result ≡ true → whole ≡ true }
     ensures started { result ≡ true → started ≡ true }
+    ensures exact { agrees ≡ true → sized ≡ true → sound ≡ true → whole ≡ true → started ≡ true → result ≡ true }
 {
     if !agrees || !sized {
         return false;

@@ -105,7 +105,10 @@ fn give_all_back<L: Ledger, S: SwapSlot, C: Clock>(
     requires { IsSome space.old.running.ending }
     ensures { GivesAllBack result pager.old pager.new slots.old slots.new space.old space.new }
 {
-    while let Some((frame, slot)) = space.take_one() {
+    let mut from = 0;
+    while let Some((given, next)) = space.take_from(from) {
+        from = next;
+        let (frame, slot) = given;
         let frame = free_frame(pager, frame);
         let slot = pool_slot(slots, slot);
         if frame.is_some() || slot.is_some() {

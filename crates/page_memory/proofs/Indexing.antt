@@ -1,5 +1,5 @@
 -- What a page index's invariant says of a look-up, and how it is kept.
-use Rattle.std.proofs.Common.{◌≡◌, ◌≢◌, ℕ, zero, suc, ◌+◌, ◌-◌, ◌/◌, ◌%◌, ◌^◌, ◌<◌, ◌≤◌, inl, inr, List, [], ◌∷◌, ◌++◌, length, slice_index, slice_set, slice_index_or, get_or, get_or-set_same, get_or-set_other, length-set, replicate, take, drop, Option, Some, None, position, ◌==◌, eqb, Bool, true, false, ◌||◌, if◌then◌else◌, arith, refl, sym, ap, ◌∙◌, subst, ne_eqb, eq-eqb, eqb-true, lt-ltb, le-ltb, below_more, eq-zero-or-pos}
+use Rattle.std.proofs.Common.{◌≡◌, ◌≢◌, ℕ, zero, suc, ◌+◌, ◌-◌, ◌*◌, ◌/◌, ◌%◌, ◌^◌, ◌<◌, ◌≤◌, inl, inr, List, [], ◌∷◌, ◌++◌, length, slice_index, slice_set, slice_index_or, get_or, get_or-set_same, get_or-set_other, length-set, replicate, take, drop, Option, Some, None, is_some, IfSome, IfNone, position, ◌==◌, eqb, Bool, true, false, ◌||◌, if◌then◌else◌, arith, refl, sym, ap, ◌∙◌, subst, ne_eqb, eq-eqb, eqb-true, lt-ltb, le-ltb, below_more, eq-zero-or-pos}
 use Rattle.std.specs.Global.{Box}
 use Rattle.std.specs.List.{position_or_len, list_any}
 use Rattle.std.proofs.lemmas.List.Sums.{position_or_len_is}
@@ -10,7 +10,7 @@ use Rattle.std.proofs.lemmas.List.{get_or_default, get_or_append_left, length_pu
 use Rattle.std.proofs.lemmas.Option.{none-some}
 use Rattle.std.proofs.Math.Seq.{get_or-append_seam}
 use Rattle.std.proofs.lemmas.Grind.{common_steps}
-use Rattle.page_memory.specs.PageIndex.{leaf_number, kept_number, Indexes, Keeps}
+use Rattle.page_memory.specs.PageIndex.{leaf_number, kept_number, Indexes, Keeps, KeepsNone}
 
 -- a list's first place of an element is the one place where it stands
 first_place : (pages : List ℕ) (page i : ℕ) → i ≤ length pages → ((k : ℕ) → k < i → slice_index pages k ≢ page) → (i < length pages → slice_index pages i ≡ page) → position_or_len (λ listed. listed == page) pages ≡ i
@@ -220,3 +220,45 @@ cut_off l n count e =
     ]
 
 pub ruleset cuts = (one_shorter, cut_off)
+
+-- nothing is kept for one page
+pub keeps_one : (directory : List (Option (Box (List ℕ)))) (page : ℕ) → kept_number directory page ≡ 0 → KeepsNone directory page (page + 1)
+keeps_one directory page none q low high = let same : q ≡ page = omega arith in ap (kept_number directory) same ∙ none
+
+-- nothing is kept for the pages of a leaf that is not there
+pub keeps_leaf : (directory : List (Option (Box (List ℕ)))) (page : ℕ) → slice_index_or directory (page / 1024) None ≡ None → KeepsNone directory page ((page / 1024 + 1) * 1024)
+keeps_leaf directory page none q low high =
+    let same : q / 1024 ≡ page / 1024 = omega arith in
+    ap (λ o. leaf_number o (q % 1024)) (ap (λ i. slice_index_or directory i None) same ∙ none)
+
+-- nothing is kept for pages that follow one another
+pub keeps_more : (directory : List (Option (Box (List ℕ)))) (from amid end : ℕ) → KeepsNone directory from amid → KeepsNone directory amid end → KeepsNone directory from end
+keeps_more directory from amid end first second q low high =
+    elim (leb_tells amid q) [
+      | inl past ↦ second q past.1 high
+      | inr before ↦ first q low before.1
+    ]
+
+-- nothing is kept for fewer pages
+pub keeps_fewer : (directory : List (Option (Box (List ℕ)))) (from end less : ℕ) → less ≤ end → KeepsNone directory from end → KeepsNone directory from less
+keeps_fewer directory from end less fewer none q low high = none q low (omega (arith, fewer))
+
+-- a page for which a number is kept is listed
+pub some_listed : (directory : List (Option (Box (List ℕ)))) (pages : List ℕ) (found : Option ℕ) → Indexes directory pages → IfSome found (λ page. 0 < kept_number directory page) → IfSome found (λ page. is_some (position (λ listed. listed == page) pages) ≡ true)
+some_listed directory pages None is kept = kept
+some_listed directory pages (Some page) is kept = ap is_some (listed directory pages page is kept)
+
+none_listed : (directory : List (Option (Box (List ℕ)))) (pages : List ℕ) (from end : ℕ) → Indexes directory pages → KeepsNone directory from end → (q : ℕ) → from ≤ q → q < end → position (λ listed. listed == q) pages ≡ None
+none_listed directory pages from end is none q low high = unlisted directory pages q is (none q low high)
+
+-- no page before the first one is listed
+pub none_before : (directory : List (Option (Box (List ℕ)))) (pages : List ℕ) (from : ℕ) (found : Option ℕ) → Indexes directory pages → IfSome found (λ page. KeepsNone directory from page)
+    → IfSome found (λ page. (q : ℕ) → from ≤ q → q < page → position (λ listed. listed == q) pages ≡ None)
+none_before directory pages from None is none = none
+none_before directory pages from (Some page) is none = none_listed directory pages from page is none
+
+-- no page is listed where none was found
+pub none_at_all : (directory : List (Option (Box (List ℕ)))) (pages : List ℕ) (from end : ℕ) (found : Option ℕ) → Indexes directory pages → IfNone found (KeepsNone directory from end)
+    → IfNone found ((q : ℕ) → from ≤ q → q < end → position (λ listed. listed == q) pages ≡ None)
+none_at_all directory pages from end None is none = none_listed directory pages from end is none
+none_at_all directory pages from end (Some page) is none = none

@@ -1,6 +1,6 @@
 -- Memory: its pages, and the words that harts have reserved; and what an access to it answers. Only what writes bytes ends
 -- reservations.
-use Rattle.std.specs.Prelude.{ℕ, Bool, true, false, List, length, Option, Result, if◌then◌else◌}
+use Rattle.std.specs.Prelude.{ℕ, Bool, true, false, List, length, Option, Result}
 use Rattle.page_memory.specs.declared.fault.MemoryFault.{MemoryFault}
 use Rattle.page_memory.specs.declared.words.Width.{Width}
 use Rattle.page_memory.specs.declared.words.Width.TheVariants.{Word}

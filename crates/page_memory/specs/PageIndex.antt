@@ -23,3 +23,7 @@ pub record Indexes (directory : List (Option (Box (List ℕ)))) (pages : List �
 pub record Keeps (old new : List (Option (Box (List ℕ)))) (page number : ℕ) : Type 0 where
   pub wide : length new ≡ length old
   pub numbers : (other : ℕ) → kept_number new other ≡ (if other == page then number else kept_number old other)
+
+-- the directory keeps 0 for each page number from one on and before another
+abbrev pub KeepsNone : List (Option (Box (List ℕ))) → ℕ → ℕ → Type 0
+KeepsNone directory from end = (q : ℕ) → from ≤ q → q < end → kept_number directory q ≡ 0

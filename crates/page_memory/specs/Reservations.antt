@@ -1,7 +1,7 @@
 -- The words that the harts of a process have reserved, and which writes end a reservation
 -- (unprivileged manual, "Zalrsc", Load-Reserved/Store-Conditional Instructions; that a write by the own hart ends one too, and that
 -- one aligned word is reserved, is this project's profile).
-use Rattle.std.specs.Prelude.{ℕ, ◌+◌, ◌==◌, ◌&&◌, nat_lt, Bool, true, false, List, map, replicate, slice_set, slice_index_or, Option, Some, None, if◌then◌else◌}
+use Rattle.std.specs.Prelude.{ℕ, ◌+◌, ◌==◌, ◌&&◌, nat_lt, Bool, false, List, map, replicate, slice_set, slice_index_or, Option, Some, None, if◌then◌else◌}
 
 -- by the hart's number: the address of the word that it has reserved, or none
 abbrev pub Reservations : Type 0

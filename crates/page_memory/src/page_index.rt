@@ -1,5 +1,5 @@
-ghost use Rattle.std.specs.Prelude.{◌≡◌, slice_index, ◌==◌, ◌+◌, ◌-◌, ◌<◌, ◌^◌, [], ◌∷◌, ◌++◌, IfOk, OnOk, OnErr, IfSome, length, take, position, ◌/◌};
-ghost use Rattle.page_memory.specs.PageIndex.{kept_number, Keeps};
+ghost use Rattle.std.specs.Prelude.{◌≡◌, ℕ, true, slice_index, ◌==◌, ◌+◌, ◌-◌, ◌<◌, ◌≤◌, ◌^◌, [], ◌∷◌, ◌++◌, None, is_some, IfOk, OnOk, OnErr, IfSome, IfNone, length, take, position, ◌/◌};
+ghost use Rattle.page_memory.specs.PageIndex.{kept_number, Keeps, KeepsNone};
 
 use crate::words::PAGE_COUNT;
 use std::alloc::{AllocError, Global};
@@ -78,6 +78,17 @@ impl PageIndex {
         }
     }
 
+    /// The first listed page number, in the order of numbers, from this one on.
+    pub fn first_from(&self, from: u32) -> Option<u32>
+        ensures within { IfSome result (λ page. (from ≤ page) × (page < 2 ^ 20)) }
+        ensures listed { IfSome result (λ page. is_some (position (λ listed. listed == page) self.now) ≡ true) }
+        ensures before { IfSome result (λ page. (q : ℕ) → from ≤ q → q < page → position (λ listed. listed == q) self.now ≡ None) }
+        ensures none { IfNone result ((q : ℕ) → from ≤ q → q < 2 ^ 20 → position (λ listed. listed == q) self.now ≡ None) }
+    {
+        let _ = &self.pages;
+        first_kept(&self.directory, from)
+    }
+
     /// Lists a page number that is not listed yet, behind the others.
     #[tactic(auto, using(crate::proofs::Indexing::few))]
     pub fn push(&mut self, alloc: Global, page: u32) -> Result<(), AllocError>
@@ -122,6 +133,43 @@ fn number_in(directory: &[Option<Box<[u32; 1024]>>], page: u32) -> u32
     match &directory[(page / LEAF_PAGES) as usize] {
         Some(leaf) => leaf[(page % LEAF_PAGES) as usize],
         None => 0,
+    }
+}
+
+/// The first page from this one on for which the directory keeps a number that is not 0.
+#[tactic(auto, using(crate::proofs::Indexing::keeps_more, crate::proofs::Indexing::keeps_fewer))]
+fn first_kept(directory: &[Option<Box<[u32; 1024]>>], from: u32) -> Option<u32>
+    requires { length directory.now ≡ 1024 }
+    ensures within { IfSome result (λ page. (from ≤ page) × (page < 2 ^ 20)) }
+    ensures kept { IfSome result (λ page. 0 < kept_number directory.now page) }
+    ensures before { IfSome result (λ page. KeepsNone directory.now from page) }
+    ensures none { IfNone result (KeepsNone directory.now from (2 ^ 20)) }
+{
+    let mut page = from;
+    while page < PAGE_COUNT {
+        if number_in(directory, page) != 0 {
+            return Some(page);
+        }
+        page = next_page(directory, page);
+    }
+    None
+}
+
+/// A page behind this one, for which the directory keeps 0, and before any other for which it does not.
+#[tactic(auto, using(crate::proofs::Indexing::keeps_one, crate::proofs::Indexing::keeps_leaf))]
+fn next_page(directory: &[Option<Box<[u32; 1024]>>], page: u32) -> u32
+    requires small { page < 2 ^ 20 }
+    requires wide { length directory.now ≡ 1024 }
+    requires nothing { kept_number directory.now page ≡ 0 }
+    ensures behind { page < result }
+    ensures small { result ≤ 2 ^ 20 }
+    ensures none { KeepsNone directory.now page result }
+{
+    let leaf = page / LEAF_PAGES;
+    if directory[leaf as usize].is_some() {
+        page + 1
+    } else {
+        (leaf + 1) * LEAF_PAGES
     }
 }
 

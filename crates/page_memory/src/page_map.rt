@@ -1,4 +1,4 @@
-ghost use Rattle.std.specs.Prelude.{◌≡◌, slice_index, ◌<◌, ◌^◌, [], ◌∷◌, ◌++◌, None, Some, IfOk, IfSome, OnErr, length, take};
+ghost use Rattle.std.specs.Prelude.{◌≡◌, ℕ, true, slice_index, ◌<◌, ◌≤◌, ◌^◌, [], ◌∷◌, ◌++◌, None, Some, is_some, IfOk, IfSome, IfNone, OnErr, length, take};
 ghost use Rattle.std.specs.Borrow.{sem};
 ghost use Rattle.page_memory.specs.Entries.{place_of, pages_of, value_at};
 ghost use Rattle.page_memory.specs.PageMap.{LendsValue};
@@ -74,6 +74,18 @@ impl<T> PageMap<T> {
     {
         let _ = &self.values;
         self.index.find(page)
+    }
+
+    /// The first page that has a value, in the order of numbers, from this one on.
+    #[tactic(auto, using(crate::proofs::PlacedEntries::of_values))]
+    pub fn first_from(&self, from: u32) -> Option<u32>
+        ensures within { IfSome result (λ page. (from ≤ page) × (page < 2 ^ 20)) }
+        ensures listed { IfSome result (λ page. is_some (place_of page self.now) ≡ true) }
+        ensures before { IfSome result (λ page. (q : ℕ) → from ≤ q → q < page → place_of q self.now ≡ None) }
+        ensures none { IfNone result ((q : ℕ) → from ≤ q → q < 2 ^ 20 → place_of q self.now ≡ None) }
+    {
+        let _ = &self.values;
+        self.index.first_from(from)
     }
 
     /// The value at a place.

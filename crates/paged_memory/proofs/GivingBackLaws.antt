@@ -1,11 +1,13 @@
 -- A page gives back its frame and its slot.
-use Rattle.std.specs.Prelude.{◌≡◌, ℕ, ◌^◌, ◌<◌, length, slice_index, ◌==◌, ◌≢◌, Bool, if◌then◌else◌, Option, Some, None, option_map, List, [], All, refl}
-use Rattle.std.proofs.Common.{sym, ap, ◌∙◌, subst, true≢false, eqb-true, arith}
+use Rattle.std.specs.Prelude.{◌≡◌, ℕ, ◌+◌, ◌^◌, ◌<◌, ◌≤◌, length, slice_index, ◌==◌, ◌≢◌, Bool, if◌then◌else◌, Option, Some, None, option_map, List, [], All, refl}
+use Rattle.std.proofs.Common.{inl, inr, sym, ap, ◌∙◌, subst, true≢false, eqb-true, arith}
+use Rattle.std.proofs.lemmas.Bool.Decides.{eqb_tells, leb_tells}
 use Rattle.std.proofs.lemmas.List.{length-map}
 use Rattle.std.proofs.lemmas.List.Quantifiers.{position-Some}
 use Rattle.std.proofs.lemmas.List.Elements.{All-nil, All-weaker}
 use Rattle.frame_pool.specs.FrameValue.{FrameValue}
 use Rattle.page_memory.specs.declared.rights.Rights.{Rights}
+use Rattle.page_store.specs.Moves.{given_back}
 use Rattle.page_store.specs.PageValue.{PageValue, Purged}
 use Rattle.sv32_table.specs.Entry.{blank}
 use Rattle.sv32_table.specs.EntryAt.{entry_at, ChangesEntry, SameTables, unmapped_entry}
@@ -15,7 +17,7 @@ use Rattle.paged_memory.specs.Seen.{Seen, Standing, Resident, Leaving, Elsewhere
 use Rattle.page_memory.specs.Entries.{pages_of, place_of}
 use Rattle.paged_memory.specs.Paged.{seen_of, page_at, seen_at, Holds, ChangesPage}
 use Rattle.paged_memory.specs.Calls.{ChangesBy}
-use Rattle.paged_memory.specs.GivingBack.{GivesBack}
+use Rattle.paged_memory.specs.GivingBack.{GivesBack, GivesNothing}
 use Rattle.paged_memory.proofs.SoundnessLaws.{Unheld}
 use Rattle.paged_memory.proofs.PagedLaws.{Change, Holds-unheld, page_at-nowhere}
 
@@ -70,3 +72,35 @@ every_page {S} P pages none each q =
           let many = length-map pages (λ (e : ℕ × PageValue S). e.0) in
           subst (λ n. P n (page_at pages n)) (eqb-true _ _ found.1) (each k (omega arith))
     ] refl
+
+module _ {S : Type 0} where
+  -- pages without a place have nothing
+  pub nothing_between : (pages : List (ℕ × PageValue S)) (from end : ℕ) → ((q : ℕ) → q < from → GivesNothing (page_at pages q)) → ((q : ℕ) → from ≤ q → q < end → place_of q pages ≡ None)
+      → (q : ℕ) → q < end → GivesNothing (page_at pages q)
+  nothing_between pages from end before absent q low =
+      elim (leb_tells from q) [
+        | inl behind ↦ subst GivesNothing (sym (page_at-nowhere pages q (absent q behind.1 low))) tt
+        | inr passed ↦ before q passed.1
+      ]
+
+  -- one page more has nothing
+  pub nothing_behind : (pages : List (ℕ × PageValue S)) (from number : ℕ) → ((q : ℕ) → q < from → GivesNothing (page_at pages q)) → ((q : ℕ) → from ≤ q → q < number → place_of q pages ≡ None)
+      → GivesNothing (page_at pages number) → (q : ℕ) → q < number + 1 → GivesNothing (page_at pages q)
+  nothing_behind pages from number before absent nothing q low =
+      elim (leb_tells number q) [
+        | inl behind ↦ let same : number ≡ q = let past = behind.1 in omega arith in subst (λ n. GivesNothing (page_at pages n)) same nothing
+        | inr passed ↦ nothing_between pages from number before absent q passed.1
+      ]
+
+  -- once a page has given back what it had, none up to it has anything
+  pub nothing_as_far : (given : Option FrameValue × Option S) (old new : List (ℕ × PageValue S)) (number : ℕ) → ChangesBy (GivesBack given) old new number → ((q : ℕ) → q < number → GivesNothing (page_at old q))
+      → (q : ℕ) → q < number + 1 → GivesNothing (page_at new q)
+  nothing_as_far given old new number gives before q low =
+      elim (eqb_tells q number) [
+        | inl same ↦ subst GivesNothing (sym (gives.changes.pages q ∙ ap (λ b. if b then Some gives.page' else page_at old q) same.0)) (ap (λ (p : PageValue S). given_back p.place) gives.how.1)
+        | inr apart ↦
+            elim (leb_tells number q) [
+              | inl behind ↦ absurd (apart.1 (let past = behind.1 in omega arith))
+              | inr passed ↦ subst GivesNothing (sym (gives.changes.pages q ∙ ap (λ b. if b then Some gives.page' else page_at old q) apart.0)) (before q passed.1)
+            ]
+      ]

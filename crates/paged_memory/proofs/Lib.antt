@@ -19,8 +19,8 @@ pub mod SavingLaws
 pub mod ReturningLaws
 pub mod FillingLaws
 pub mod GivingBackLaws
-pub mod FirstGiving
 pub mod PeekingLaws
 pub mod CoherenceLaws
 pub mod Marking
 pub mod Since
+pub mod Refusals

@@ -18,10 +18,14 @@ use swap_slots::SwapSlot;
 
 impl<L: Ledger, S: SwapSlot> PagedMemory<L, S> {
     /// Takes the frame and the slot of the first page, by number, that has either and is not being saved, once no hart has
-    /// a translation any more. The page is unmapped, and given up for good. `None` where there is no such page.
-    pub fn take_one(&mut self) -> Option<(Option<Frame<L>>, Option<S>)>
+    /// a translation any more. The page is unmapped, and given up for good. No page before `from` has anything; beside what
+    /// the page had stands the number from which on others may have something still. `None` where there is no such page.
+    #[tactic(auto, using(crate::proofs::GivingBackLaws::nothing_as_far))]
+    pub fn take_from(&mut self, from: u32) -> Option<((Option<Frame<L>>, Option<S>), u32)>
         requires quiet { All (λ cache. cache ≡ []) self.old.caches }
-        ensures given { IfSome result (λ given. GivesOne given self.old.pages self.new.pages self.old.tables self.new.tables) }
+        requires before { (q : ℕ) → q < from → GivesNothing (page_at self.old.pages q) }
+        ensures given { IfSome result (λ taken. GivesOne taken.0 self.old.pages self.new.pages self.old.tables self.new.tables) }
+        ensures next { IfSome result (λ taken. (q : ℕ) → q < taken.1 → GivesNothing (page_at self.new.pages q)) }
         ensures tabled { SameTables self.old.tables self.new.tables }
         ensures none { IfNone result ((q : ℕ) → q < 2 ^ 20 → GivesNothing (page_at self.old.pages q)) }
         ensures left { IfNone result (self.new ≡ self.old) }
@@ -29,35 +33,31 @@ impl<L: Ledger, S: SwapSlot> PagedMemory<L, S> {
         ensures caches { self.new.caches ≡ self.old.caches }
         ensures reserved { self.new.reserved ≡ self.old.reserved }
     {
-        let vpn = first_with_something(&self.pages)?;
-        Some(give_back(&mut self.pages, &mut self.tables, &self.caches, vpn))
+        let vpn = first_with_something(&self.pages, from)?;
+        let given = give_back(&mut self.pages, &mut self.tables, &self.caches, vpn);
+        Some((given, vpn + 1))
     }
 }
 
-/// The first page, by number, that has a frame or a slot and is not being saved.
-#[tactic(auto, using(crate::proofs::FirstGiving::first_of_all, crate::proofs::FirstGiving::none_of_all))]
-fn first_with_something<L: Ledger, S: SwapSlot>(pages: &PageMap<StoredPage<L, S>>) -> Option<u32>
+/// The first page, by number, that has a frame or a slot and is not being saved. None before `from` has.
+fn first_with_something<L: Ledger, S: SwapSlot>(
+    pages: &PageMap<StoredPage<L, S>>,
+    from: u32,
+) -> Option<u32>
+    requires { (q : ℕ) → q < from → GivesNothing (page_at pages.now q) }
     ensures small { IfSome result (λ first. first < 2 ^ 20) }
     ensures something { IfSome result (λ first. ¬ GivesNothing (page_at pages.now first)) }
     ensures first { IfSome result (λ first. (q : ℕ) → q < first → GivesNothing (page_at pages.now q)) }
-    ensures none { IfNone result ((q : ℕ) → GivesNothing (page_at pages.now q)) }
+    ensures none { IfNone result ((q : ℕ) → q < 2 ^ 20 → GivesNothing (page_at pages.now q)) }
 {
-    let mut first = None;
-    for place in 0..pages.len() {
-        let vpn = pages.page(place);
-        if is_before(vpn, first) && has_something(pages, vpn) {
-            first = Some(vpn);
+    let mut from = from;
+    while let Some(vpn) = pages.first_from(from) {
+        if has_something(pages, vpn) {
+            return Some(vpn);
         }
+        from = vpn + 1;
     }
-    first
-}
-
-/// Whether a page comes before another one, or there is no other.
-fn is_before(vpn: u32, other: Option<u32>) -> bool
-    ensures before { OnTrue result (IfSome other (λ other. vpn < other)) }
-    ensures behind { OnFalse result (¬ IfSome other (λ other. vpn < other)) }
-{
-    other.is_none_or(|other| vpn < other)
+    None
 }
 
 /// Whether a page has a frame or a slot, and is not being saved.

@@ -75,7 +75,8 @@ impl<L: Ledger, S: SwapSlot> PagedMemory<L, S> {
         requires { hart < length self.old.caches }
         ensures answer { let after = with_answer (λ _. memory_of S.content self.new) result in
             Answers (HasPage self.old.pages (cache_of self.old.caches hart)) (MarksUse self.old.pages self.new.tables (cache_of self.old.caches hart) Access.Store) (LacksPage self.old.pages) address (stored (memory_of S.content self.old) width address word) after }
-        ensures refused { OnErr result (memory_of S.content self.new ≡ memory_of S.content self.old) }
+        ensures refused { OnErr result (self.new.pages ≡ self.old.pages) }
+        ensures reserved { OnErr result (self.new.reserved ≡ self.old.reserved) }
         ensures process { self.new.process ≡ self.old.process }
         ensures bare { KeepsBare self.old.pages self.new.pages }
         ensures held { ServesHeld (cache_of self.old.caches hart) Access.Store (page_number address) result }
@@ -108,7 +109,8 @@ impl<L: Ledger, S: SwapSlot> PagedMemory<L, S> {
         ensures answer { let update = λ (old : ℕ). amo_result operation old operand in
             let after = with_answer (λ old. (old, memory_of S.content self.new)) result in
             Answers (HasPage self.old.pages (cache_of self.old.caches hart)) (MarksUse self.old.pages self.new.tables (cache_of self.old.caches hart) Access.Store) (LacksPage self.old.pages) address (replaced (memory_of S.content self.old) update address) after }
-        ensures refused { OnErr result (memory_of S.content self.new ≡ memory_of S.content self.old) }
+        ensures refused { OnErr result (self.new.pages ≡ self.old.pages) }
+        ensures reserved { OnErr result (self.new.reserved ≡ self.old.reserved) }
         ensures process { self.new.process ≡ self.old.process }
         ensures bare { KeepsBare self.old.pages self.new.pages }
         ensures held { ServesHeld (cache_of self.old.caches hart) Access.Store (page_number address) result }
@@ -133,7 +135,7 @@ impl<L: Ledger, S: SwapSlot> PagedMemory<L, S> {
         requires { hart < length self.old.caches }
         ensures answer { let after = with_answer (λ word. (word, memory_of S.content self.new)) result in
             Answers (HasPage self.old.pages (cache_of self.old.caches hart)) (MarksUse self.old.pages self.new.tables (cache_of self.old.caches hart) Access.Load) (LacksPage self.old.pages) address (loaded_reserved (memory_of S.content self.old) number address) after }
-        ensures refused { OnErr result (memory_of S.content self.new ≡ memory_of S.content self.old) }
+        ensures reserved { OnErr result (self.new.reserved ≡ self.old.reserved) }
         ensures process { self.new.process ≡ self.old.process }
         ensures pages { self.new.pages ≡ self.old.pages }
         ensures held { ServesHeld (cache_of self.old.caches hart) Access.Load (page_number address) result }
@@ -164,7 +166,8 @@ impl<L: Ledger, S: SwapSlot> PagedMemory<L, S> {
         requires { hart < length self.old.caches }
         ensures answer { let after = with_answer (λ is_stored. (is_stored, memory_of S.content self.new)) result in
             Answers (HasPage self.old.pages (cache_of self.old.caches hart)) (MarksUse self.old.pages self.new.tables (cache_of self.old.caches hart) Access.Store) (LacksPage self.old.pages) address (stored_conditionally (memory_of S.content self.old) number address word) after }
-        ensures refused { OnErr result (memory_of S.content self.new ≡ memory_of S.content self.old) }
+        ensures refused { OnErr result (self.new.pages ≡ self.old.pages) }
+        ensures reserved { OnErr result (self.new.reserved ≡ self.old.reserved) }
         ensures process { self.new.process ≡ self.old.process }
         ensures bare { KeepsBare self.old.pages self.new.pages }
         ensures held { ServesHeld (cache_of self.old.caches hart) Access.Store (page_number address) result }
@@ -215,7 +218,8 @@ impl<L: Ledger, S: SwapSlot> PagedMemory<L, S> {
         requires within { page_offset address + length from.now ≤ 4096 }
         ensures answer { let after = with_answer (λ _. memory_of S.content self.new) result in
             Answers (HasPage self.old.pages (cache_of self.old.caches hart)) (MarksUse self.old.pages self.new.tables (cache_of self.old.caches hart) Access.Store) (LacksPage self.old.pages) address (copied_in (memory_of S.content self.old) address from.now) after }
-        ensures refused { OnErr result (memory_of S.content self.new ≡ memory_of S.content self.old) }
+        ensures refused { OnErr result (self.new.pages ≡ self.old.pages) }
+        ensures reserved { OnErr result (self.new.reserved ≡ self.old.reserved) }
         ensures process { self.new.process ≡ self.old.process }
         ensures bare { KeepsBare self.old.pages self.new.pages }
         ensures held { ServesHeld (cache_of self.old.caches hart) Access.Store (page_number address) result }

@@ -36,7 +36,8 @@ pub(crate) fn store<L: Ledger, S: SwapSlot>(
     ensures holds { Holds S.content S.honest pages.new tables.new caches.new }
     ensures answer { let after = with_answer (λ _. memory_in S.content pages.new reservations.new) result in
         Answers (HasPage pages.old (cache_of caches.old hart)) (MarksUse pages.old tables.new (cache_of caches.old hart) Access.Store) (LacksPage pages.old) address (stored (memory_in S.content pages.old reservations.old) width address word) after }
-    ensures refused { OnErr result (memory_in S.content pages.new reservations.new ≡ memory_in S.content pages.old reservations.old) }
+    ensures refused { OnErr result (pages.new ≡ pages.old) }
+    ensures reserved { OnErr result (reservations.new ≡ reservations.old) }
     ensures bare { KeepsBare pages.old pages.new }
     ensures held { ServesHeld (cache_of caches.old hart) Access.Store (page_number address) result }
     ensures kept { KeepsTranslations pages.old hart tables.old tables.new caches.old caches.new }
@@ -69,7 +70,8 @@ pub(crate) fn amo<L: Ledger, S: SwapSlot>(
     ensures answer { let update = λ (old : ℕ). amo_result operation old operand in
         let after = with_answer (λ old. (old, memory_in S.content pages.new reservations.new)) result in
         Answers (HasPage pages.old (cache_of caches.old hart)) (MarksUse pages.old tables.new (cache_of caches.old hart) Access.Store) (LacksPage pages.old) address (replaced (memory_in S.content pages.old reservations.old) update address) after }
-    ensures refused { OnErr result (memory_in S.content pages.new reservations.new ≡ memory_in S.content pages.old reservations.old) }
+    ensures refused { OnErr result (pages.new ≡ pages.old) }
+    ensures reserved { OnErr result (reservations.new ≡ reservations.old) }
     ensures bare { KeepsBare pages.old pages.new }
     ensures held { ServesHeld (cache_of caches.old hart) Access.Store (page_number address) result }
     ensures kept { KeepsTranslations pages.old hart tables.old tables.new caches.old caches.new }
@@ -101,7 +103,8 @@ pub(crate) fn copy_in<L: Ledger, S: SwapSlot>(
     ensures holds { Holds S.content S.honest pages.new tables.new caches.new }
     ensures answer { let after = with_answer (λ _. memory_in S.content pages.new reservations.new) result in
         Answers (HasPage pages.old (cache_of caches.old hart)) (MarksUse pages.old tables.new (cache_of caches.old hart) Access.Store) (LacksPage pages.old) address (copied_in (memory_in S.content pages.old reservations.old) address from.now) after }
-    ensures refused { OnErr result (memory_in S.content pages.new reservations.new ≡ memory_in S.content pages.old reservations.old) }
+    ensures refused { OnErr result (pages.new ≡ pages.old) }
+    ensures reserved { OnErr result (reservations.new ≡ reservations.old) }
     ensures bare { KeepsBare pages.old pages.new }
     ensures held { ServesHeld (cache_of caches.old hart) Access.Store (page_number address) result }
     ensures kept { KeepsTranslations pages.old hart tables.old tables.new caches.old caches.new }
@@ -132,7 +135,7 @@ pub(crate) fn load_reserved<L: Ledger, S: SwapSlot>(
     ensures holds { Holds S.content S.honest pages.now tables.new caches.new }
     ensures answer { let after = with_answer (λ word. (word, memory_in S.content pages.now reservations.new)) result in
         Answers (HasPage pages.now (cache_of caches.old hart)) (MarksUse pages.now tables.new (cache_of caches.old hart) Access.Load) (LacksPage pages.now) address (loaded_reserved (memory_in S.content pages.now reservations.old) number address) after }
-    ensures refused { OnErr result (memory_in S.content pages.now reservations.new ≡ memory_in S.content pages.now reservations.old) }
+    ensures reserved { OnErr result (reservations.new ≡ reservations.old) }
     ensures held { ServesHeld (cache_of caches.old hart) Access.Load (page_number address) result }
     ensures kept { KeepsTranslations pages.now hart tables.old tables.new caches.old caches.new }
     ensures entries { MayWalk Access.Load (page_number address) tables.old tables.new }
@@ -163,7 +166,8 @@ pub(crate) fn store_conditional<L: Ledger, S: SwapSlot>(
     ensures holds { Holds S.content S.honest pages.new tables.new caches.new }
     ensures answer { let after = with_answer (λ is_stored. (is_stored, memory_in S.content pages.new reservations.new)) result in
         Answers (HasPage pages.old (cache_of caches.old hart)) (MarksUse pages.old tables.new (cache_of caches.old hart) Access.Store) (LacksPage pages.old) address (stored_conditionally (memory_in S.content pages.old reservations.old) number address word) after }
-    ensures refused { OnErr result (memory_in S.content pages.new reservations.new ≡ memory_in S.content pages.old reservations.old) }
+    ensures refused { OnErr result (pages.new ≡ pages.old) }
+    ensures reserved { OnErr result (reservations.new ≡ reservations.old) }
     ensures bare { KeepsBare pages.old pages.new }
     ensures held { ServesHeld (cache_of caches.old hart) Access.Store (page_number address) result }
     ensures kept { KeepsTranslations pages.old hart tables.old tables.new caches.old caches.new }

@@ -1,6 +1,6 @@
 //! Runs of `paged run --swap`.
 
-use crate::runs::{TestFile, run_words};
+use crate::runs::{Run, TestFile, run_words};
 use std::os::unix::fs::symlink;
 use std::test::Fail;
 use std::{env, fs, io, process};
@@ -70,6 +70,32 @@ fn pages_go_to_files(rt: HostRuntime) -> Result<(), Fail> {
         fs::remove_dir(&rt, folder.as_str())?;
         fs::create_dir(&rt, folder.as_str())?;
     }
+    fs::remove_dir(&rt, folder.as_str())?;
+    image.remove(&rt)?;
+    Ok(())
+}
+
+/// Runs a program on four frames, on threads, with slots in files.
+fn run_in_files<'a>(rt: &HostRuntime, prefix: &'a str, path: &'a str) -> io::Result<Run> {
+    let words = [
+        "run", "--frames", "4", "--slots", "64", "--swap", prefix, path,
+    ];
+    run_words(rt, &words)
+}
+
+/// Threads put pages into files, and find them there.
+#[test]
+fn pages_go_to_files_on_threads(rt: HostRuntime) -> Result<(), Fail> {
+    let folder = new_folder(&rt, "pages_go_to_files_on_threads")?;
+    let prefix = format!(in rt.alloc(); "{folder}/page")?;
+    let image = TestFile::new(&rt, "pages_go_to_files_on_threads", SPREADS.as_bytes())?;
+    let done = run_in_files(&rt, prefix.as_str(), image.path.as_str())?;
+    let process = "process 0 output 0\n\nprocess 0 exited 0 after 107 steps\nframes 4 page-ins ";
+    assert!(rt; done.out.as_str().starts_with(process));
+    assert!(rt; done.out.as_str().ends_with("\naudit ok\n"));
+    assert_eq!(rt; done.err.as_str(), "");
+    let whole = remove_files(&rt, prefix.as_str(), 64)?;
+    assert!(rt; whole);
     fs::remove_dir(&rt, folder.as_str())?;
     image.remove(&rt)?;
     Ok(())

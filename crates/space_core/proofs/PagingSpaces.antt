@@ -185,11 +185,11 @@ module _ {S : Type 0} where
                 | inr other ↦ stands.shown number page small (sym (at_other number other.0) ∙ at) whole
               ]
 
-      pub space_given_up : (mid : PagedValue S) (result : Option (Option FrameValue × Option S)) → mid ≡ emptied old.memory → IfNone result (memory ≡ mid) → IfSome result (λ given. GivesOne given mid.pages memory.pages mid.tables memory.tables) → memory.caches ≡ mid.caches → memory.reserved ≡ mid.reserved
+      pub space_given_up : (mid : PagedValue S) (result : Option ((Option FrameValue × Option S) × ℕ)) → mid ≡ emptied old.memory → IfNone result (memory ≡ mid) → IfSome result (λ taken. GivesOne taken.0 mid.pages memory.pages mid.tables memory.tables) → memory.caches ≡ mid.caches → memory.reserved ≡ mid.reserved
           → IsSpace held honest old → IsSpace held honest (record old { memory = memory })
       space_given_up mid None clear left gives caches reserved space = subst (λ m. IsSpace held honest (record old { memory = m })) (sym (left ∙ clear)) (space_emptied held honest old space)
-      space_given_up mid (Some given) clear left gives caches reserved space =
+      space_given_up mid (Some taken) clear left gives caches reserved space =
           record {
-            stands = λ h. stands_given_up (subst (λ (m : PagedValue S). GivesOne given m.pages memory.pages m.tables memory.tables) clear gives) (reserved ∙ ap (λ (m : PagedValue S). m.reserved) clear) (space.stands h);
+            stands = λ h. stands_given_up (subst (λ (m : PagedValue S). GivesOne taken.0 m.pages memory.pages m.tables memory.tables) clear gives) (reserved ∙ ap (λ (m : PagedValue S). m.reserved) clear) (space.stands h);
             cached = ap length (caches ∙ ap (λ (m : PagedValue S). m.caches) clear) ∙ length-map old.memory.caches (λ _. []) ∙ space.cached;
           }

@@ -85,9 +85,30 @@ impl<L: Ledger, S: SwapSlot> Space<L, S> {
         ensures caches { self.new.memory.caches ≡ (if_ended self.old.running.ending self.old.memory).caches }
         ensures reserved { self.new.memory.reserved ≡ self.old.memory.reserved }
     {
+        match self.take_from(0) {
+            Some((given, _)) => Some(given),
+            None => None,
+        }
+    }
+
+    /// The same where it is known that no page before `from` has anything. With what the page had comes the number from which
+    /// on others may have something still, so that whoever takes all looks at each page once.
+    pub fn take_from(&mut self, from: u32) -> Option<((Option<Frame<L>>, Option<S>), u32)>
+        requires { (q : ℕ) → q < from → GivesNothing (page_at self.old.memory.pages q) }
+        ensures given { IfSome result (λ taken. GivesOne taken.0 self.old.memory.pages self.new.memory.pages self.old.memory.tables self.new.memory.tables) }
+        ensures next { IfSome result (λ taken. (q : ℕ) → q < taken.1 → GivesNothing (page_at self.new.memory.pages q)) }
+        ensures tabled { SameTables self.old.memory.tables self.new.memory.tables }
+        ensures ended { IfSome result (λ _. IsSome self.old.running.ending) }
+        ensures none { IfNone result (IsSome self.old.running.ending → (q : ℕ) → q < 2 ^ 20 → GivesNothing (page_at self.old.memory.pages q)) }
+        ensures left { IfNone result (self.new ≡ record self.old { memory = if_ended self.old.running.ending self.old.memory }) }
+        ensures stays { self.new ≡ record self.old { memory = self.new.memory } }
+        ensures process { self.new.memory.process ≡ self.old.memory.process }
+        ensures caches { self.new.memory.caches ≡ (if_ended self.old.running.ending self.old.memory).caches }
+        ensures reserved { self.new.memory.reserved ≡ self.old.memory.reserved }
+    {
         self.recorded.running().end()?;
         // An ending has emptied them already.
         self.memory.clear_caches();
-        self.memory.take_one()
+        self.memory.take_from(from)
     }
 }

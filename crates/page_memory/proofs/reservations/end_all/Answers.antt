@@ -1,4 +1,4 @@
-use Rattle.std.proofs.Common.{◌≡◌, ℕ, ◌+◌, ◌<◌, None, length, get_or, set, ap, ◌∙◌, arith}
+use Rattle.std.proofs.Common.{◌<◌, None, length, get_or, set, ap, ◌∙◌, arith}
 use Rattle.page_memory.specs.Reservations.{unless_touched}
 use Rattle.page_memory.proofs.Reserving.{left_more}
 use Rattle.page_memory.proofs.reservations.end_all.Goals as goal

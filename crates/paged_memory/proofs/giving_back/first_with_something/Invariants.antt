@@ -1,5 +1,10 @@
-use Rattle.paged_memory.proofs.FirstGiving.{IsFirstOf}
+use Rattle.std.proofs.Common.{ℕ, ◌<◌, ◌-◌, ◌^◌}
+use Rattle.paged_memory.specs.GivingBack.{GivesNothing}
+use Rattle.paged_memory.specs.Paged.{page_at}
 use Rattle.paged_memory.proofs.giving_back.first_with_something.Given as goal
 
-abbrev pub invariant-loop-place : goal.invariant-loop-place
-invariant-loop-place g l = IsFirstOf l.pages l.place l.first
+abbrev pub invariant-loop-vpn : goal.invariant-loop-vpn
+invariant-loop-vpn g l = (q : ℕ) → q < l.from → GivesNothing (page_at l.pages q)
+
+abbrev pub decreases-loop-vpn : goal.decreases-loop-vpn
+decreases-loop-vpn g l = 2 ^ 20 - l.from

@@ -15,6 +15,3 @@ returns-in-Ok-clause-answer g c = (
 
 pub returns-in-Err-clause-answer : goal.returns-in-Err-clause-answer
 returns-in-Err-clause-answer g c = replace_refused (LacksPage c.args.pages.now) (memory_in g.S.SwapSlot.content c.args.pages.now c.args.reservations.now) c.args.address c.in-Err.refusal (λ old. amo_result c.args.operation old c.args.operand) c.in-Err.ensures.answer
-
-pub returns-in-Err-clause-refused : goal.returns-in-Err-clause-refused
-returns-in-Err-clause-refused g c = ap (λ p. memory_in g.S.SwapSlot.content p c.args.reservations.now) c.in-Err.ensures.refused

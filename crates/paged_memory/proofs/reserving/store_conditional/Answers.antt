@@ -16,9 +16,6 @@ returns-in-Ok-clause-answer g c = (
 pub returns-in-Err-clause-answer : goal.returns-in-Err-clause-answer
 returns-in-Err-clause-answer g c = conditional_refused (LacksPage c.args.pages.now) (memory_in g.S.SwapSlot.content c.args.pages.now c.args.reservations.now) c.args.address c.in-Err.refusal c.args.number c.args.word c.in-Err.ensures.answer
 
-pub returns-in-Err-clause-refused : goal.returns-in-Err-clause-refused
-returns-in-Err-clause-refused g c = ap (λ p. memory_in g.S.SwapSlot.content p c.args.reservations.now) c.in-Err.ensures.refused
-
 pub returns-in-Ok-load_to_replace-clause-answer : goal.returns-in-Ok-load_to_replace-clause-answer
 returns-in-Ok-load_to_replace-clause-answer g c = (
   untested (memory_in g.S.SwapSlot.content c.args.pages.now c.args.reservations.now) c.args.number c.args.address c.args.word _ c.in-Ok-load_to_replace.ensures.answer.0 (sym c.has.ensures ∙ c.if-has.false)

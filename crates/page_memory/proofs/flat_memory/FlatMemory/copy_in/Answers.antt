@@ -1,5 +1,4 @@
-use Rattle.std.proofs.Common.{◌≡◌, Ok, Err, sym, ap, ◌∙◌}
-use Rattle.page_memory.specs.Reservations.{left_by}
+use Rattle.std.proofs.Common.{Ok, sym, ap, ◌∙◌}
 use Rattle.page_memory.specs.Memory.{copied_in}
 use Rattle.page_memory.specs.MemoryLaws.{copied_of, copied_fault}
 use Rattle.page_memory.proofs.flat_memory.FlatMemory.copy_in.Goals as goal

@@ -1,5 +1,4 @@
-use Rattle.std.proofs.Common.{◌≡◌, Ok, Err, sym, ap, ◌∙◌}
-use Rattle.page_memory.specs.Words.{bytes_in}
+use Rattle.std.proofs.Common.{Ok, sym, ap, ◌∙◌}
 use Rattle.page_memory.specs.Reservations.{left_by}
 use Rattle.page_memory.specs.Memory.{stored}
 use Rattle.page_memory.specs.MemoryLaws.{stored_of, stored_fault}

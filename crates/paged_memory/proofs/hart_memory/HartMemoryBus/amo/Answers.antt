@@ -8,6 +8,7 @@ use Rattle.paged_memory.specs.Access.{HasPage, LacksPage, MarksUse, cache_of}
 use Rattle.paged_memory.specs.Paged.{memory_of}
 use Rattle.paged_memory.proofs.Marking.{bounds_access_with}
 use Rattle.paged_memory.proofs.Since.{answers_since, seen_written}
+use Rattle.paged_memory.proofs.Refusals.{refused_both}
 use Rattle.paged_memory.proofs.hart_memory.HartMemoryBus.amo.Goals as goal
 
 pub returns-clause-kept : goal.returns-clause-kept
@@ -28,3 +29,6 @@ returns-clause-answer g c =
     let memory = memory_of g.S.SwapSlot.content now in
     answers_since c.args.self.now.hart g.O.Opening.opening Store now c.amo.new.self c.args.self.now.in_turn (seen_written now.pages c.amo.new.self.pages c.amo.ensures.bare)
     (HasPage now.pages cache) (LacksPage now.pages) c.args.address (replaced memory (λ old. amo_result c.args.operation old c.args.operand) c.args.address) (with_answer (λ old. (old, memory_of g.S.SwapSlot.content c.amo.new.self)) c.amo.result) c.ranges.address.fits c.amo.ensures.answer
+
+pub returns-clause-refused : goal.returns-clause-refused
+returns-clause-refused g c = refused_both g.S.SwapSlot.content c.args.self.now.memory.now c.amo.new.self c.amo.result c.amo.ensures.refused c.amo.ensures.reserved

@@ -7,6 +7,7 @@ use Rattle.paged_memory.specs.Access.{HasPage, LacksPage, MarksUse, cache_of}
 use Rattle.paged_memory.specs.Paged.{memory_of}
 use Rattle.paged_memory.proofs.Marking.{bounds_access_with}
 use Rattle.paged_memory.proofs.Since.{answers_since, seen_written}
+use Rattle.paged_memory.proofs.Refusals.{refused_both}
 use Rattle.paged_memory.proofs.hart_memory.HartMemoryBus.copy_in.Goals as goal
 
 pub returns-clause-kept : goal.returns-clause-kept
@@ -27,3 +28,6 @@ returns-clause-answer g c =
     let memory = memory_of g.S.SwapSlot.content now in
     answers_since c.args.self.now.hart g.O.Opening.opening Store now c.copy_in.new.self c.args.self.now.in_turn (seen_written now.pages c.copy_in.new.self.pages c.copy_in.ensures.bare)
     (HasPage now.pages cache) (LacksPage now.pages) c.args.address (copied_in memory c.args.address c.args.from.now) (with_answer (λ _. memory_of g.S.SwapSlot.content c.copy_in.new.self) c.copy_in.result) c.ranges.address.fits c.copy_in.ensures.answer
+
+pub returns-clause-refused : goal.returns-clause-refused
+returns-clause-refused g c = refused_both g.S.SwapSlot.content c.args.self.now.memory.now c.copy_in.new.self c.copy_in.result c.copy_in.ensures.refused c.copy_in.ensures.reserved

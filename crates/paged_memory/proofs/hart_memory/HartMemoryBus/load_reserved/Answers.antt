@@ -9,6 +9,7 @@ use Rattle.paged_memory.specs.HartMemory.{MarksWithin}
 use Rattle.paged_memory.specs.Paged.{memory_of, seen_at}
 use Rattle.paged_memory.proofs.Marking.{bounds_access_with}
 use Rattle.paged_memory.proofs.Since.{answers_since}
+use Rattle.paged_memory.proofs.Refusals.{refused_reserving}
 use Rattle.paged_memory.proofs.hart_memory.HartMemoryBus.load_reserved.Goals as goal
 
 pub returns-clause-bound : goal.returns-clause-bound
@@ -27,3 +28,6 @@ returns-clause-answer g c =
     let memory = memory_of g.S.SwapSlot.content now in
     answers_since c.args.self.now.hart g.O.Opening.opening Load now c.load_reserved.new.self c.args.self.now.in_turn (λ page. ap (λ p. seen_at p page) c.load_reserved.ensures.pages)
     (HasPage now.pages cache) (LacksPage now.pages) c.args.address (loaded_reserved memory c.args.hart c.args.address) (with_answer (λ word. (word, memory_of g.S.SwapSlot.content c.load_reserved.new.self)) c.load_reserved.result) c.ranges.address.fits c.load_reserved.ensures.answer
+
+pub returns-clause-refused : goal.returns-clause-refused
+returns-clause-refused g c = refused_reserving g.S.SwapSlot.content c.args.self.now.memory.now c.load_reserved.new.self c.load_reserved.result c.load_reserved.ensures.pages c.load_reserved.ensures.reserved

@@ -7,6 +7,7 @@ use Rattle.paged_memory.specs.Access.{HasPage, LacksPage, MarksUse, cache_of}
 use Rattle.paged_memory.specs.Paged.{memory_of}
 use Rattle.paged_memory.proofs.Marking.{bounds_access_with}
 use Rattle.paged_memory.proofs.Since.{answers_since, seen_written}
+use Rattle.paged_memory.proofs.Refusals.{refused_both}
 use Rattle.paged_memory.proofs.hart_memory.HartMemoryBus.store.Goals as goal
 
 pub returns-clause-kept : goal.returns-clause-kept
@@ -27,3 +28,6 @@ returns-clause-answer g c =
     let memory = memory_of g.S.SwapSlot.content now in
     answers_since c.args.self.now.hart g.O.Opening.opening Store now c.store.new.self c.args.self.now.in_turn (seen_written now.pages c.store.new.self.pages c.store.ensures.bare)
     (HasPage now.pages cache) (LacksPage now.pages) c.args.address (stored memory c.args.width c.args.address c.args.word) (with_answer (λ _. memory_of g.S.SwapSlot.content c.store.new.self) c.store.result) c.ranges.address.fits c.store.ensures.answer
+
+pub returns-clause-refused : goal.returns-clause-refused
+returns-clause-refused g c = refused_both g.S.SwapSlot.content c.args.self.now.memory.now c.store.new.self c.store.result c.store.ensures.refused c.store.ensures.reserved

@@ -10,6 +10,7 @@ use Rattle.paged_memory.specs.HartMemoryLaws.{access_written}
 use Rattle.paged_memory.specs.Paged.{memory_of}
 use Rattle.paged_memory.proofs.Marking.{bounds_access_with}
 use Rattle.paged_memory.proofs.Since.{answers_since, seen_written}
+use Rattle.paged_memory.proofs.Refusals.{refused_both}
 use Rattle.paged_memory.proofs.hart_memory.HartMemoryBus.store_conditional.Goals as goal
 
 pub returns-clause-kept : goal.returns-clause-kept
@@ -31,3 +32,6 @@ returns-clause-answer g c =
     let memory = memory_of g.S.SwapSlot.content now in
     answers_since c.args.self.now.hart g.O.Opening.opening Store now c.store_conditional.new.self c.args.self.now.in_turn (seen_written now.pages c.store_conditional.new.self.pages c.store_conditional.ensures.bare)
     (HasPage now.pages cache) (LacksPage now.pages) c.args.address (stored_conditionally memory c.args.hart c.args.address c.args.word) (with_answer (λ is_stored. (is_stored, memory_of g.S.SwapSlot.content c.store_conditional.new.self)) c.store_conditional.result) c.ranges.address.fits c.store_conditional.ensures.answer
+
+pub returns-clause-refused : goal.returns-clause-refused
+returns-clause-refused g c = refused_both g.S.SwapSlot.content c.args.self.now.memory.now c.store_conditional.new.self c.store_conditional.result c.store_conditional.ensures.refused c.store_conditional.ensures.reserved

@@ -1,0 +1,22 @@
+use Rattle.std.proofs.Common.{◌≡◌, ℕ, ◌<◌, Some, All, [], sym, ap, ◌∙◌, subst}
+use Rattle.paged_memory.specs.GivingBack.{GivesNothing}
+use Rattle.paged_memory.specs.Paged.{PagedValue, page_at}
+use Rattle.space_core.specs.RunningValue.{RunningValue}
+use Rattle.space_core.specs.StandsFor.{SpaceValue}
+use Rattle.space_core.proofs.PagingSpaces.{quiet, space_given_up}
+use Rattle.space_core.proofs.space.Space.take_from.Goals as goal
+
+pub take_from-requires : goal.take_from-requires
+take_from-requires g c = record {
+  quiet = subst (λ (m : PagedValue g.row.S.Denot). All (λ cache. cache ≡ []) m.caches) (sym c.clear_caches.ensures) (quiet c.self.inside.memory.caches);
+  before =
+      subst (λ (m : PagedValue g.row.S.Denot). (q : ℕ) → q < c.args.from → GivesNothing (page_at m.pages q)) (sym c.clear_caches.ensures)
+      (subst (λ (s : SpaceValue g.row.S.Denot). (q : ℕ) → q < c.args.from → GivesNothing (page_at s.memory.pages q)) (sym c.self.view_is) c.requires);
+}
+
+pub invariant_of-self : goal.invariant_of-self
+invariant_of-self g c =
+    let inside : SpaceValue g.row.S.Denot = record { image = c.self.inside.image; input = c.self.inside.input.items; running = c.self.inside.recorded.running; schedule = c.self.inside.recorded.schedule; memory = c.self.inside.memory } in
+    let did = c.take_from.ensures in
+    let ended : c.self.inside.recorded.running.ending ≡ Some c.in_ok-end.field-0 = ap (λ (r : RunningValue). r.ending) (sym c.running.ensures) ∙ sym c.end.ensures ∙ c.in_ok-end.was in
+    space_given_up g.S.SwapSlot.content g.S.SwapSlot.honest inside c.take_from.new.self c.in_ok-end.field-0 ended c.clear_caches.new.self c.take_from.result c.clear_caches.ensures did.left did.given did.caches did.reserved c.self.invariant

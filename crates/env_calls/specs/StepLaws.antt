@@ -10,7 +10,6 @@ use Rattle.rv_exec.specs.LineLaws.{all_front, all_none}
 use Rattle.rv_exec.specs.Bounds.{Pass, Bounds}
 use Rattle.rv_exec.specs.Outcomes.{Used}
 use Rattle.rv_exec.specs.Uses.{pages_used, pages_stored}
-use Rattle.env_calls.specs.declared.served.Served.TheVariants as served
 use Rattle.env_calls.specs.declared.served.ServeStop.{ServeStop}
 use Rattle.env_calls.specs.declared.served.ServeStop.TheVariants.{Absent, NoMemory}
 use Rattle.env_calls.specs.Environment.{Environment}

@@ -1,4 +1,4 @@
-use Rattle.std.proofs.Common.{◌≡◌, true, false, Ok, sym, ap, ◌∙◌}
+use Rattle.std.proofs.Common.{true, false, Ok, sym, ap, ◌∙◌}
 use Rattle.page_memory.specs.Reservations.{left_by}
 use Rattle.page_memory.specs.MemoryLaws.{conditional_of, untested}
 use Rattle.paged_memory.specs.Access.{LacksPage}

@@ -1,8 +1,11 @@
 //! Runs of `paged run --swap`.
 
 use crate::runs::{Run, TestFile, run_words};
+use image_files::Folder;
 use std::os::unix::fs::symlink;
+use std::sync::Wait;
 use std::test::Fail;
+use std::thread::Threads;
 use std::{env, fs, io, process};
 
 /// Stores in the first eleven pages of its stack, and then exits with the sum of what it loads from them.
@@ -76,7 +79,11 @@ fn pages_go_to_files(rt: HostRuntime) -> Result<(), Fail> {
 }
 
 /// Runs a program on four frames, on threads, with slots in files.
-fn run_in_files<'a>(rt: &HostRuntime, prefix: &'a str, path: &'a str) -> io::Result<Run> {
+fn run_in_files<'a, R>(rt: &R, prefix: &'a str, path: &'a str) -> io::Result<Run>
+where
+    R: Folder + AllocGlobal + Threads + Wait + Sync,
+    R::File: Send,
+{
     let words = [
         "run", "--frames", "4", "--slots", "64", "--swap", prefix, path,
     ];

@@ -1,7 +1,7 @@
 -- The files of processes are read one after another.
 use Rattle.std.proofs.Common.{◌≡◌, ◌∙◌, ◌++◌, ◌∷◌, ◌+◌, ◌<◌, ◌≤◌, ℕ, List, [], length, map, drop, get_or, append_assoc, append-nil, ap, refl, sym, subst, suc, slice_index_or, slice_set, Option, None}
 use Rattle.std.proofs.lemmas.List.{map-append, drop_more, drop_all, nil_from_length}
-use Rattle.machine_sides.specs.Starting.{Start}
+use Rattle.elf_image.specs.Start.{Start}
 use Rattle.image_files.specs.Reading.{AreGiven, GivesImage, GivesInput}
 
 module _ (gives : List ℕ → List ℕ → Type 0) where

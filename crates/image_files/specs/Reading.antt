@@ -2,7 +2,7 @@
 use Rattle.std.specs.Prelude.{◌≡◌, ℕ, ⊤, List, [], ◌∷◌, Option, Some, None}
 use Rattle.elf_image.specs.ElfFiles.{file_image}
 use Rattle.elf_image.specs.Image.{ImageContent, image_of_words}
-use Rattle.machine_sides.specs.Starting.{Start}
+use Rattle.elf_image.specs.Start.{Start}
 use Rattle.rv_asm.specs.Assembly.{Assembles}
 use Rattle.rv_asm.specs.Listing.{ListingContent}
 use Rattle.image_files.specs.ImageKind.{BeginsAsElf, BeginsAsWords}

@@ -2,7 +2,7 @@
 
 ghost use Rattle.std.specs.Prelude.{◌≡◌, None, Ok, IfErr, IfOk, length, map, option_map};
 ghost use Rattle.elf_image.specs.Image.{image_of_words};
-ghost use Rattle.machine_sides.specs.Starting.{start_of};
+ghost use Rattle.elf_image.specs.Start.{start_of};
 ghost use Rattle.image_files.specs.Faults.{IsOfNoLine};
 ghost use Rattle.image_files.specs.Reading.{AreGiven, GivesImage, HoldsImage};
 ghost use Rattle.image_files.specs.WordsFile.{words_in};

@@ -25,7 +25,8 @@ use Rattle.pager_core.specs.Pager.{full_pager}
 use Rattle.space_core.specs.Fresh.{fresh, all_fresh}
 use Rattle.swap_slots.specs.PoolValue.{PoolValue}
 use Rattle.machine_core.specs.Machine.{CoreValue, IsMachine, IsSaveOut, total, jobs_where, numbers_below}
-use Rattle.machine_sides.specs.Starting.{Start, Begins}
+use Rattle.elf_image.specs.Start.{Start}
+use Rattle.machine_sides.specs.Starting.{Begins}
 use Rattle.machine_core.specs.Opening.{BeginsAt, AllBegin, MachineBegins}
 use Rattle.machine_sides.specs.Sides.{PagerSideValue, ProcessSideValue}
 use Rattle.machine_sides.specs.Together.{frames_where, residents_in, savings_in, frames_in, key_of}

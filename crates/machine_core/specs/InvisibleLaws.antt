@@ -6,7 +6,8 @@ use Rattle.machine_core.specs.Coherent.{EachCoherent}
 use Rattle.machine_core.specs.Faithful.{IsFaithful}
 use Rattle.machine_core.specs.Headline.{adds, order_of, Remains, ShowsFlatRun, ShowsRun, IsInvisible, AfterEach, PagingIsInvisible}
 use Rattle.machine_core.specs.Machine.{CoreValue}
-use Rattle.machine_sides.specs.Starting.{Start, Begins}
+use Rattle.elf_image.specs.Start.{Start}
+use Rattle.machine_sides.specs.Starting.{Begins}
 use Rattle.elf_image.specs.Image.{ImageContent}
 use Rattle.flat_machine.specs.Process.{opening, flat_run}
 use Rattle.std.proofs.lemmas.Option.{slice_get_within}

@@ -3,7 +3,8 @@ use Rattle.std.specs.Prelude.{◌≡◌, ℕ, ◌<◌, Some, slice_get, length, 
 use Rattle.pager_core.specs.Pager.{full_pager}
 use Rattle.machine_core.specs.Machine.{CoreValue}
 use Rattle.machine_sides.specs.Sides.{ProcessSideValue}
-use Rattle.machine_sides.specs.Starting.{Start, Begins}
+use Rattle.elf_image.specs.Start.{Start}
+use Rattle.machine_sides.specs.Starting.{Begins}
 
 module _ {S : Type 0} where
   -- the process of a number begins as the start of that number in a list says

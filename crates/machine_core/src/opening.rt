@@ -2,7 +2,7 @@
 
 ghost use Rattle.std.specs.Prelude.{◌≡◌, ◌+◌, ◌<◌, ◌≤◌, ◌↔◌, ◌⊎◌, map, length, IfOk, IsErrOf};
 ghost use Rattle.machine_core.specs.Opening.{AllBegin, MachineBegins};
-ghost use Rattle.machine_sides.specs.Starting.{start_of};
+ghost use Rattle.elf_image.specs.Start.{start_of};
 
 use crate::error::CoreError;
 use crate::machine::Core;

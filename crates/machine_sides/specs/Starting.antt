@@ -1,20 +1,12 @@
 -- A process begins: the pages of its image and of its stack are mapped, and none was brought in.
 use Rattle.std.specs.Prelude.{◌≡◌, ℕ, ◌<◌, ◌^◌, false, List, [], ◌∷◌}
-use Rattle.elf_image.specs.Image.{ImageContent}
+use Rattle.elf_image.specs.Start.{Start}
 use Rattle.flat_machine.specs.Process.{opening, opening_pages}
 use Rattle.space_core.specs.Fresh.{all_fresh}
 use Rattle.space_core.specs.RunningValue.{beside}
 use Rattle.sv32_table.specs.Entry.{blank}
 use Rattle.sv32_table.specs.EntryAt.{entry_at}
 use Rattle.machine_sides.specs.Sides.{ProcessSideValue}
-
--- what a process is started from
-pub record Start : Type 0 where
-  pub image : ImageContent
-  pub input : List ℕ
-
-abbrev pub start_of : ImageContent → List ℕ → Start
-start_of image input = record { image = image; input = input }
 
 module _ {S : Type 0} where
   -- the process of a number before its first instruction: the pages of its image and of its stack are mapped, none was brought in, and

@@ -1,7 +1,8 @@
 //! A process begins.
 
 ghost use Rattle.std.specs.Prelude.{IfOk};
-ghost use Rattle.machine_sides.specs.Starting.{start_of, Begins};
+ghost use Rattle.elf_image.specs.Start.{start_of};
+ghost use Rattle.machine_sides.specs.Starting.{Begins};
 
 use crate::process_side::ProcessSide;
 use elf_image::Image;

@@ -9,7 +9,7 @@ use Rattle.flat_machine.specs.declared.end.End.{End}
 use Rattle.machine_core.specs.Applying.{LeadsTo}
 use Rattle.machine_core.specs.Machine.{CoreValue}
 use Rattle.machine_core.specs.Opening.{MachineBegins}
-use Rattle.machine_sides.specs.Starting.{Start}
+use Rattle.elf_image.specs.Start.{Start}
 use Rattle.serial_driver.specs.FlatLines.{HaveLines}
 use Rattle.serial_driver.specs.Limit.{EndsByLimit}
 use Rattle.serial_driver.specs.Reporting.{Told, MachineTold, come_to}

@@ -11,7 +11,7 @@ use Rattle.elf_image.specs.Image.{ImageContent}
 use Rattle.flat_machine.specs.ByTurns.{by_turns, first_turn}
 use Rattle.flat_machine.specs.Process.{Process, opening}
 use Rattle.machine_core.specs.declared.event.Reply.{Reply}
-use Rattle.machine_sides.specs.Starting.{Start}
+use Rattle.elf_image.specs.Start.{Start}
 use Rattle.report_text.specs.ExitStatus.{exit_status, ending_of, worst_status}
 use Rattle.report_text.specs.ReportText.{machine_text, process_text}
 use Rattle.run_on_threads.specs.Running.{IsRunAsAsked}

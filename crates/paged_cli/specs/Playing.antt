@@ -7,7 +7,7 @@ use Rattle.swap_slots.specs.Slot.{zero_content}
 use Rattle.machine_core.specs.Applying.{Runs, LeadsTo}
 use Rattle.machine_core.specs.Headline.{PagingIsInvisible}
 use Rattle.machine_core.specs.Machine.{CoreValue}
-use Rattle.machine_sides.specs.Starting.{Start}
+use Rattle.elf_image.specs.Start.{Start}
 use Rattle.machine_core.specs.Opening.{MachineBegins}
 use Rattle.machine_core.specs.declared.event.Event.{Event}
 use Rattle.machine_core.specs.declared.event.Reply.{Reply}

@@ -2,7 +2,7 @@
 
 ghost use Rattle.std.specs.Prelude.{◌≡◌, ◌+◌, ◌≤◌, IfOk, IsOk, None, length, map};
 ghost use Rattle.command_line.specs.Requests.{IsDriveInRange};
-ghost use Rattle.machine_sides.specs.Starting.{start_of};
+ghost use Rattle.elf_image.specs.Start.{start_of};
 ghost use Rattle.paged_cli.specs.Asked.{PlaysAsAsked};
 ghost use Rattle.paged_cli.specs.Playing.{Plays};
 ghost use Rattle.text_lines.specs.Text.{lines_of};

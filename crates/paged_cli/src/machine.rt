@@ -1,7 +1,7 @@
 //! The machines that commands run.
 
 ghost use Rattle.std.specs.Prelude.{◌≡◌, ◌+◌, ◌≤◌, IfOk, length, map, replicate};
-ghost use Rattle.machine_sides.specs.Starting.{start_of};
+ghost use Rattle.elf_image.specs.Start.{start_of};
 ghost use Rattle.machine_core.specs.Opening.{MachineBegins};
 ghost use Rattle.swap_slots.specs.Slot.{zero_content};
 

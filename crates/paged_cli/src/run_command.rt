@@ -2,7 +2,7 @@
 
 ghost use Rattle.std.specs.Prelude.{◌≡◌, ◌+◌, ◌≤◌, IfOk, length, map, option_map};
 ghost use Rattle.command_line.specs.Requests.{IsRunInRange};
-ghost use Rattle.machine_sides.specs.Starting.{start_of};
+ghost use Rattle.elf_image.specs.Start.{start_of};
 ghost use Rattle.paged_cli.specs.Asked.{RunsAsAsked, RunsByThreading};
 ghost use Rattle.paged_cli.specs.Playing.{ReportsAsked, ReportsOver, WritesRun};
 

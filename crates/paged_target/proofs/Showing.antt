@@ -19,7 +19,8 @@ use Rattle.flat_machine.specs.declared.end.End.{End}
 use Rattle.space_core.specs.StandsFor.{StandsFor, flat_with, own_ending, paged_rights, rights_of}
 use Rattle.machine_sides.specs.Admitting.{stage_at}
 use Rattle.machine_sides.specs.Sides.{ProcessSideValue}
-use Rattle.machine_sides.specs.Starting.{Begins, Start, start_of}
+use Rattle.elf_image.specs.Start.{Start, start_of}
+use Rattle.machine_sides.specs.Starting.{Begins}
 use Rattle.machine_core.specs.Coherent.{EachCoherent}
 use Rattle.machine_core.specs.Faithful.{IsFaithful}
 use Rattle.machine_core.specs.Machine.{CoreValue}

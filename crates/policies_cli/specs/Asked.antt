@@ -1,7 +1,7 @@
 -- What the commands that run guests do with what they are asked for.
 use Rattle.std.specs.Prelude.{◌≡◌, ℕ, List, map, option_map}
 use Rattle.flat_machine.specs.Process.{Process, opening}
-use Rattle.machine_sides.specs.Starting.{Start}
+use Rattle.elf_image.specs.Start.{Start}
 use Rattle.miss_counts.specs.Counted.{IsTable, guest_pages}
 use Rattle.miss_counts.specs.declared.counts.Counts.{Counts}
 use Rattle.image_files.specs.Reading.{AreGiven}

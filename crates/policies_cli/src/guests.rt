@@ -1,7 +1,7 @@
 //! Guests whose references are wanted.
 
 ghost use Rattle.std.specs.Prelude.{◌≡◌, ◌≤◌, IfOk, length, map};
-ghost use Rattle.machine_sides.specs.Starting.{start_of};
+ghost use Rattle.elf_image.specs.Start.{start_of};
 ghost use Rattle.policies_cli.specs.Asked.{AreGuests, opened};
 
 use crate::request::GuestRequest;

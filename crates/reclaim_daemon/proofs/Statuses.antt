@@ -17,7 +17,8 @@ use Rattle.machine_sides.specs.ProcessCalls.{Slices, TakesNotices, IsKilled}
 use Rattle.machine_sides.specs.Purging.{Purges}
 use Rattle.machine_sides.specs.SavingBack.{EndsSave}
 use Rattle.machine_sides.specs.Sides.{PagerSideValue, ProcessSideValue}
-use Rattle.machine_sides.specs.Starting.{Start, Begins}
+use Rattle.elf_image.specs.Start.{Start}
+use Rattle.machine_sides.specs.Starting.{Begins}
 use Rattle.machine_sides.specs.Sweeping.{Sweeps, ReadsBit, HeedsVerdict}
 use Rattle.machine_sides.specs.declared.collecting.Looked.{Looked}
 use Rattle.machine_sides.specs.declared.collecting.Looked.TheVariants as look

@@ -3,7 +3,8 @@
 ghost use Rattle.std.specs.Prelude.{◌≡◌, ◌+◌, IfOk, IfErr, OnOk, OnErr, length, None, Some};
 ghost use Rattle.flat_machine.specs.Schedule.{written_out};
 ghost use Rattle.machine_sides.specs.Agreeing.{AgreeStill, AgreesWhereListed};
-ghost use Rattle.machine_sides.specs.Starting.{start_of, Begins};
+ghost use Rattle.elf_image.specs.Start.{start_of};
+ghost use Rattle.machine_sides.specs.Starting.{Begins};
 ghost use Rattle.machine_sides.specs.Together.{key_of};
 ghost use Rattle.pager_core.specs.Pager.{PagerState};
 ghost use Rattle.reclaim_daemon.specs.HeldValue.{status_of};

@@ -6,7 +6,7 @@ use Rattle.std.proofs.lemmas.Option.{slice_get-map, none-some}
 use Rattle.elf_image.specs.Image.{ImageContent}
 use Rattle.hart_carriers.specs.Ending.{EndsSound, IsCrewOf}
 use Rattle.hart_carriers.specs.declared.report.Report.{Report}
-use Rattle.machine_sides.specs.Starting.{Start, start_of}
+use Rattle.elf_image.specs.Start.{Start, start_of}
 use Rattle.run_report.specs.FlatLines.{counts_of, HasLine, StandsForRuns}
 use Rattle.run_report.specs.declared.line.Line.{Line}
 use Rattle.run_on_threads.specs.Running.{CameTo, HaveLines, starts_of}

@@ -10,7 +10,7 @@ use Rattle.image_files.specs.Reading.{AreGiven}
 use Rattle.image_files.specs.SlotFiles.{AreNewFiles}
 use Rattle.machine_core.specs.declared.report.ProcessReport.{ProcessReport}
 use Rattle.machine_core.specs.declared.report.Report as machine
-use Rattle.machine_sides.specs.Starting.{Start, start_of}
+use Rattle.elf_image.specs.Start.{Start, start_of}
 use Rattle.report_text.specs.ExitStatus.{worst_status}
 use Rattle.report_text.specs.ReportText.{report_text}
 use Rattle.run_report.specs.FlatLines.{counts_of, HasLine}

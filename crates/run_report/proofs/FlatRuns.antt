@@ -1,7 +1,7 @@
 -- What a process has come to, as its line tells it, is what a flat run comes to.
 use Rattle.std.proofs.Common.{◌≡◌, ℕ, List, ap, ◌∙◌}
 use Rattle.flat_machine.specs.Schedule.{written_out}
-use Rattle.machine_sides.specs.Starting.{Start}
+use Rattle.elf_image.specs.Start.{Start}
 use Rattle.space_core.specs.StandsFor.{SpaceValue, StandsFor, flat_with, own_ending}
 use Rattle.status_cell.specs.declared.status.Status.{Status}
 use Rattle.run_report.specs.Counts.{status_of}

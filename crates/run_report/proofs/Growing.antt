@@ -3,7 +3,7 @@ use Rattle.std.proofs.Common.{◌≡◌, ℕ, zero, suc, ◌<◌, ◌≤◌, ◌
 use Rattle.std.proofs.lemmas.List.Elements.{All-push, All-nil}
 use Rattle.std.proofs.lemmas.Option.{slice_get_within, slice_get_read}
 use Rattle.elf_image.specs.Image.{ImageContent}
-use Rattle.machine_sides.specs.Starting.{Start, start_of}
+use Rattle.elf_image.specs.Start.{Start, start_of}
 use Rattle.run_report.specs.FlatLines.{StandsForRun, HasLine, StandsForRuns, counts_of}
 use Rattle.run_report.specs.Telling.{Adds, ToldSoFar}
 use Rattle.run_report.specs.declared.line.Line.{Line}

@@ -2,7 +2,7 @@
 use Rattle.std.specs.Prelude.{◌≡◌, ℕ, List, Vec, length, Some, slice_get}
 use Rattle.elf_image.specs.Image.{ImageContent}
 use Rattle.flat_machine.specs.Process.{Process, opening, flat_run}
-use Rattle.machine_sides.specs.Starting.{Start, start_of}
+use Rattle.elf_image.specs.Start.{Start, start_of}
 use Rattle.space_core.specs.StandsFor.{own_ending}
 use Rattle.status_cell.specs.declared.status.Status.{Status}
 use Rattle.run_report.specs.declared.line.Line.{Line}

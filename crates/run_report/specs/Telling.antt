@@ -1,7 +1,7 @@
 -- A line more.
 use Rattle.std.specs.Prelude.{◌≡◌, ℕ, ◌<◌, ◌++◌, [], ◌∷◌, ◌&&◌, All, Bool, true, List, Vec, length, Some, slice_get}
 use Rattle.elf_image.specs.Image.{ImageContent}
-use Rattle.machine_sides.specs.Starting.{start_of}
+use Rattle.elf_image.specs.Start.{start_of}
 use Rattle.run_report.specs.declared.line.Line.{Line}
 use Rattle.run_report.specs.FlatLines.{counts_of, StandsForRun, HasLine}
 

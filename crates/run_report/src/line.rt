@@ -1,5 +1,5 @@
 ghost use Rattle.std.specs.Prelude.{◌≡◌, true};
-ghost use Rattle.machine_sides.specs.Starting.{start_of};
+ghost use Rattle.elf_image.specs.Start.{start_of};
 ghost use Rattle.run_report.specs.Counts.{status_of};
 ghost use Rattle.run_report.specs.FlatLines.{counts_of, StandsForRun};
 

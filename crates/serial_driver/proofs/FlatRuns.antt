@@ -9,7 +9,7 @@ use Rattle.machine_core.specs.Headline.{ShowsFlatRun}
 use Rattle.machine_core.specs.InvisibleLaws.{run_invisible}
 use Rattle.machine_core.specs.Machine.{CoreValue}
 use Rattle.machine_core.specs.Opening.{MachineBegins}
-use Rattle.machine_sides.specs.Starting.{Start}
+use Rattle.elf_image.specs.Start.{Start}
 use Rattle.machine_sides.specs.Sides.{ProcessSideValue}
 use Rattle.serial_driver.specs.FlatLines.{StandsForRun, HaveLines, StandsForRuns}
 use Rattle.serial_driver.specs.Reporting.{come_to, Reports}

@@ -2,7 +2,7 @@
 use Rattle.std.specs.Prelude.{◌≡◌, ℕ, List, length, Some, slice_get}
 use Rattle.flat_machine.specs.Process.{Process, opening, flat_run}
 use Rattle.machine_core.specs.declared.report.Report.{Report}
-use Rattle.machine_sides.specs.Starting.{Start}
+use Rattle.elf_image.specs.Start.{Start}
 use Rattle.serial_driver.specs.Reporting.{Told, told_by}
 use Rattle.space_core.specs.StandsFor.{own_ending}
 

@@ -3,7 +3,7 @@ ghost use Rattle.machine_core.specs.Applying.{LeadsTo};
 ghost use Rattle.machine_core.specs.declared.event.Event.TheVariants.{Step};
 ghost use Rattle.serial_driver.specs.Closing.{is_limit_kill};
 ghost use Rattle.machine_core.specs.Opening.{MachineBegins};
-ghost use Rattle.machine_sides.specs.Starting.{Start};
+ghost use Rattle.elf_image.specs.Start.{Start};
 ghost use Rattle.serial_driver.specs.Endings.{HasEnded};
 ghost use Rattle.serial_driver.specs.FlatLines.{HaveLines, StandsForRuns};
 ghost use Rattle.serial_driver.specs.Limit.{Closes, DoesSave, EndsByLimit, EndsOne, PlaysUpTo, PlaysWith};

@@ -1,6 +1,6 @@
 use Rattle.std.proofs.Common.{◌≡◌, ◌∷◌, ◌++◌, [], map, arith}
 use Rattle.std.proofs.lemmas.Grind.{common_steps}
-use Rattle.machine_sides.specs.Starting.{start_of}
+use Rattle.elf_image.specs.Start.{start_of}
 use Rattle.image_files.proofs.Given.{none_read, one_read, all_read}
 use Rattle.image_files.proofs.image_file.read_images.Goals as goal
 

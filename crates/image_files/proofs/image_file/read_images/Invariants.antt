@@ -1,5 +1,5 @@
 use Rattle.std.proofs.Common.{drop, map}
-use Rattle.machine_sides.specs.Starting.{start_of}
+use Rattle.elf_image.specs.Start.{start_of}
 use Rattle.image_files.proofs.Given.{Completes}
 use Rattle.image_files.proofs.image_file.read_images.Given as goal
 

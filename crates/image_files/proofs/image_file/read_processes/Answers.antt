@@ -1,6 +1,6 @@
 use Rattle.std.proofs.Common.{◌≡◌, ◌∙◌, refl, arith, length, map, option_map}
 use Rattle.std.proofs.lemmas.List.{length-map}
-use Rattle.machine_sides.specs.Starting.{start_of}
+use Rattle.elf_image.specs.Start.{start_of}
 use Rattle.image_files.proofs.Given.{none_given, first_given, as_many}
 use Rattle.image_files.proofs.image_file.read_processes.Goals as goal
 

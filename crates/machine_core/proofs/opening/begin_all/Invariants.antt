@@ -1,6 +1,6 @@
 -- So many processes as were started begin.
 use Rattle.std.proofs.Common.{map}
-use Rattle.machine_sides.specs.Starting.{start_of}
+use Rattle.elf_image.specs.Start.{start_of}
 use Rattle.machine_core.specs.Opening.{AllBegin}
 use Rattle.machine_core.proofs.opening.begin_all.Given as goal
 

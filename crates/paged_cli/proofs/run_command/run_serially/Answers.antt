@@ -1,6 +1,6 @@
 -- What was asked for reaches the machine, and what it came to is written.
 use Rattle.std.proofs.Common.{List, map, option_map, subst}
-use Rattle.machine_sides.specs.Starting.{Start, start_of}
+use Rattle.elf_image.specs.Start.{Start, start_of}
 use Rattle.image_files.specs.Reading.{AreGiven}
 use Rattle.paged_cli.proofs.run_command.run_serially.Goals as goal
 

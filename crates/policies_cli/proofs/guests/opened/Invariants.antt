@@ -1,5 +1,5 @@
 use Rattle.std.proofs.Common.{◌≡◌, map}
-use Rattle.machine_sides.specs.Starting.{start_of}
+use Rattle.elf_image.specs.Start.{start_of}
 use Rattle.policies_cli.specs.Asked.{opened}
 use Rattle.policies_cli.proofs.guests.opened.Given as goal
 

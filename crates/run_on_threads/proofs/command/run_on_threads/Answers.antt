@@ -1,7 +1,7 @@
 -- What was asked for reaches the machine, and what it came to is written.
 use Rattle.std.proofs.Common.{List, map, ap, option_map, subst, sym, ◌∙◌}
 use Rattle.machine_core.specs.declared.report.ProcessReport.{ProcessReport}
-use Rattle.machine_sides.specs.Starting.{Start}
+use Rattle.elf_image.specs.Start.{Start}
 use Rattle.report_text.specs.ExitStatus.{worst_status}
 use Rattle.image_files.specs.Reading.{AreGiven}
 use Rattle.run_on_threads.specs.Running.{starts_of}

@@ -1,7 +1,7 @@
 -- A machine that begins is one.
 use Rattle.std.proofs.Common.{◌≡◌, length, map, ◌∙◌, ap, arith}
 use Rattle.std.proofs.lemmas.List.{length-map}
-use Rattle.machine_sides.specs.Starting.{start_of}
+use Rattle.elf_image.specs.Start.{start_of}
 use Rattle.machine_sides.specs.Sides.{PagerSideValue}
 use Rattle.machine_core.proofs.Openings.{begun, machine_begins}
 use Rattle.machine_core.proofs.machine.Core.new.Goals as goal

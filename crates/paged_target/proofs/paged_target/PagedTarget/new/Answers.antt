@@ -1,5 +1,5 @@
 use Rattle.std.proofs.Common.{◌∙◌, ◌++◌, ◌∷◌, [], ap, map}
-use Rattle.machine_sides.specs.Starting.{start_of}
+use Rattle.elf_image.specs.Start.{start_of}
 use Rattle.paged_target.proofs.Showing.{begins_flat}
 use Rattle.paged_target.proofs.paged_target.PagedTarget.new.Goals as goal
 

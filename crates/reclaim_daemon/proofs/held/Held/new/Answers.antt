@@ -1,5 +1,5 @@
 use Rattle.std.proofs.Common.{rules, sym}
-use Rattle.machine_sides.specs.Starting.{start_of}
+use Rattle.elf_image.specs.Start.{start_of}
 use Rattle.reclaim_daemon.proofs.Statuses.{nothing_yet}
 use Rattle.reclaim_daemon.proofs.held.Held.new.Goals as goal
 

@@ -14,3 +14,5 @@ pub mod Peeking
 pub mod GivingBack
 pub mod Coherence
 pub mod PageStatus
+pub mod Stages
+pub mod Whole

@@ -1,2 +1,2 @@
-pub mod Reported
-mod LinesEnd
+pub mod Starts
+pub mod Written

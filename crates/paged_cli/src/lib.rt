@@ -1,15 +1,12 @@
-//! The program `paged`: what its commands come to, and what it prints.
+//! The program `paged`: its commands together, and those that take threads: what they come to, and what they print.
 #![tactic(auto)]
 
-mod asm_command;
-mod clock_command;
-mod debug_command;
-mod drive_command;
-mod flat_command;
 mod machine;
 mod program;
-mod replies;
+mod reports;
 mod run_command;
+mod status_lines;
+mod threads_command;
 
-pub use machine::new_machine;
 pub use program::run_paged;
+pub use status_lines::StatusLines;

@@ -1,56 +1,38 @@
-//! The machines that commands run.
+//! The machine that threads run.
 
-ghost use Rattle.std.specs.Prelude.{◌≡◌, ◌+◌, ◌≤◌, IfOk, length, map, replicate};
-ghost use Rattle.elf_image.specs.Start.{start_of};
-ghost use Rattle.machine_core.specs.Opening.{MachineBegins};
-ghost use Rattle.swap_slots.specs.Slot.{zero_content};
+ghost use Rattle.std.specs.Prelude.{◌<◌, IfOk};
+ghost use Rattle.paged_cli.specs.Running.{CameTo, starts_of};
 
 use clock_ring::ClockRing;
 use elf_image::Image;
-use image_files::memory_slots;
-use machine_core::Core;
+use hart_carriers::Report;
+use reclaim_daemon::Gate;
 use std::alloc::{AllocError, Global};
-use std::sync::ledger::{Blank, Ledger};
-use swap_slots::{MemorySlot, SwapSlot};
+use std::sync::Wait;
+use std::thread::Threads;
+use swap_slots::SwapSlot;
 
-/// A machine of so many frames and slots, in memory, that is to run images on inputs.
-pub fn new_machine<L: Ledger>(
+/// Runs copies of these images on copies of these inputs by so many workers, until each process has ended, on a machine that has its
+/// list on a ring.
+pub(crate) fn run_machine<S: SwapSlot + Send, G: Gate + Sync, R: Threads + Wait + Sync>(
+    rt: &R,
     alloc: Global,
     frames: u32,
-    blank: Blank,
-    slots: u32,
-    processes: Vec<(Image, Vec<u8>)>,
-) -> Result<Core<L, MemorySlot, ClockRing>, AllocError>
-    requires name { blank.name ≡ L.name }
-    requires parts { blank.parts ≡ L.parts }
-    requires one_each { L.parts ≡ frames + 1 }
-    requires least { 4 ≤ frames }
-    requires most { frames ≤ 4096 }
-    requires few { length processes.items ≤ 16 }
-    ensures { IfOk result (λ core. MachineBegins frames (replicate slots zero_content) (map (λ start. start_of start.0 start.1.items) processes.items) core) }
-{
-    let slots = memory_slots(alloc, slots)?;
-    machine_on(alloc, frames, blank, slots, processes)
-}
-
-/// The same on these slots.
-pub(crate) fn machine_on<L: Ledger, S: SwapSlot>(
-    alloc: Global,
-    frames: u32,
-    blank: Blank,
     slots: Vec<S>,
-    processes: Vec<(Image, Vec<u8>)>,
-) -> Result<Core<L, S, ClockRing>, AllocError>
-    requires name { blank.name ≡ L.name }
-    requires parts { blank.parts ≡ L.parts }
-    requires one_each { L.parts ≡ frames + 1 }
-    requires least { 4 ≤ frames }
-    requires most { frames ≤ 4096 }
-    requires few { length processes.items ≤ 16 }
-    ensures { IfOk result (λ core. MachineBegins frames slots.items (map (λ start. start_of start.0 start.1.items) processes.items) core) }
+    handed: &[(Image, Vec<u8>)],
+    workers: u32,
+    slice: u32,
+    gate: &G,
+) -> Result<Report, AllocError>
+    requires workers { 0 < workers }
+    requires slice { 0 < slice }
+    ensures { IfOk result (CameTo S.honest frames slots.items (starts_of handed.now) workers slice) }
 {
-    match Core::new(alloc, frames, blank, slots, processes) {
-        Ok(core) => Ok(core),
+    let ran = hart_carriers::run_machine::<S, ClockRing, G, R>(
+        rt, alloc, frames, slots, handed, workers, slice, gate,
+    );
+    match ran {
+        Ok(report) => Ok(report),
         Err(_) => Err(AllocError),
     }
 }

@@ -1,20 +1,14 @@
 //! A run of the program.
 
-use crate::asm_command::run_asm;
-use crate::clock_command::run_clock;
-use crate::debug_command::run_debug;
-use crate::drive_command::run_drive;
-use crate::flat_command::run_flat;
 use crate::run_command::run_machines;
 use command_line::{Request, read_request};
+use flat_commands::{finish, run_asm, run_flat};
 use image_files::{Fault, Folder};
+use serial_commands::{run_clock, run_debug, run_drive};
 use std::convert::AsStr;
 use std::io::{Read, Write};
 use std::sync::Wait;
 use std::thread::Threads;
-
-/// The exit status where a fault stopped the command.
-const FAULT: u8 = 2;
 
 /// Runs the program on the words behind its name, and answers its exit status: 0 or, of processes, how they ended; 2 for a fault,
 /// which is told on `err`. The files that the words name are read and written by `rt`, and the lines for a debugger come from `input`.
@@ -30,14 +24,7 @@ where
     R::File: Send,
 {
     let done = run_words(rt, words, input, out, err);
-    let flushed = out.flush();
-    match done {
-        Ok(status) => match flushed {
-            Ok(()) => status,
-            Err(_) => fail(Fault::CannotWrite, err),
-        },
-        Err(fault) => fail(fault, err),
-    }
+    finish(done, out, err)
 }
 
 fn run_words<'a, R, S: AsStr, I: Read, O: Write, E: Write + Send>(
@@ -71,11 +58,4 @@ where
             Ok(0)
         }
     }
-}
-
-/// Tells a fault. Where that can't be written either, the status alone tells it.
-fn fail<E: Write>(fault: Fault<'_>, err: &mut E) -> u8 {
-    let _ = writeln!(err, "paged: {fault}");
-    let _ = err.flush();
-    FAULT
 }

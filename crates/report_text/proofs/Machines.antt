@@ -6,7 +6,8 @@ use Rattle.std.proofs.KnownBytes.{Appends-trans}
 use Rattle.machine_core.specs.Machine.{CoreValue}
 use Rattle.serial_driver.specs.Audit.{IsSoundMachine}
 use Rattle.serial_driver.specs.Reporting.{MachineTold, Told, come_to}
-use Rattle.report_text.specs.ExitStatus.{ending_of, exit_status, worst_status}
+use Rattle.process_text.specs.ExitStatus.{ending_of, exit_status}
+use Rattle.report_text.specs.RunStatus.{worst_status}
 use Rattle.report_text.specs.MachineText.{WritesMachine}
 use Rattle.report_text.specs.ReportText.{audit_text, places_text, processes_text, savings_text}
 

@@ -1,3 +1,3 @@
-pub mod ExitStatus
 pub mod MachineText
 pub mod ReportText
+pub mod RunStatus

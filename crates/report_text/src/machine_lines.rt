@@ -4,15 +4,15 @@ ghost use Rattle.std.specs.Prelude.{◌≡◌, ◌++◌, OnOk, map};
 ghost use Rattle.std.specs.Io.KnownBytes.{Appends};
 ghost use Rattle.serial_driver.specs.Reporting.{Told, come_to};
 ghost use Rattle.serial_driver.specs.Stands.{told_of};
-ghost use Rattle.report_text.specs.ExitStatus.{worst_status};
+ghost use Rattle.report_text.specs.RunStatus.{worst_status};
 ghost use Rattle.report_text.specs.MachineText.{WritesMachine};
 ghost use Rattle.report_text.specs.ReportText.{processes_text, line_text, places_text, savings_text};
 
-use crate::exit_status::{end_of, status_of_end, worse};
-use crate::process_lines::write_process;
 use crate::report_lines::{write_audit, write_places, write_savings};
+use crate::run_status::worse;
 use clock_policy::Clock;
 use machine_core::Core;
+use process_text::{end_of, status_of_end, write_process};
 use serial_driver::{Standing, audit, standing_of};
 use std::io;
 use std::io::Write;

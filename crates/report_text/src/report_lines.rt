@@ -5,9 +5,8 @@ ghost use Rattle.std.specs.Io.KnownBytes.{Appends};
 ghost use Rattle.serial_driver.specs.Reporting.{told, told_by};
 ghost use Rattle.report_text.specs.ReportText.{report_text, processes_text, line_text, counts_text, places_text, savings_text, audit_text};
 
-use crate::exit_status::end_of;
-use crate::process_lines::write_process;
 use machine_core::{ProcessReport, Report};
+use process_text::{end_of, write_process};
 use std::io;
 use std::io::Write;
 

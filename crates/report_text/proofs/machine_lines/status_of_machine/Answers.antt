@@ -2,7 +2,7 @@
 use Rattle.std.proofs.Common.{ap, ◌∙◌}
 use Rattle.serial_driver.specs.Reporting.{come_to}
 use Rattle.serial_driver.specs.Stands.{told_of}
-use Rattle.report_text.specs.ExitStatus.{exit_status}
+use Rattle.process_text.specs.ExitStatus.{exit_status}
 use Rattle.report_text.proofs.Machines.{status_more}
 use Rattle.report_text.proofs.Written.{first_left}
 use Rattle.report_text.proofs.machine_lines.status_of_machine.Goals as goal

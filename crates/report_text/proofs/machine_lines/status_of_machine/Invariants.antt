@@ -1,6 +1,6 @@
 use Rattle.std.proofs.Common.{◌≡◌, drop, map}
 use Rattle.serial_driver.specs.Reporting.{Told, come_to}
-use Rattle.report_text.specs.ExitStatus.{worst_status}
+use Rattle.report_text.specs.RunStatus.{worst_status}
 use Rattle.report_text.proofs.machine_lines.status_of_machine.Given as goal
 
 -- The status so far, with the processes that are left, is that of them all.

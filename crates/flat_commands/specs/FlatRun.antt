@@ -1,0 +1,28 @@
+-- What the command that runs an image on flat memory does with what it is asked for. `gives` tells, of a name, the bytes that a file of it may
+-- be found to hold; `old` and `new` are what stands in the output before and after.
+use Rattle.std.specs.Prelude.{◌≡◌, ℕ, ◌≤◌, ◌<◌, List, Option, Some, IsSome, option_map}
+use Rattle.std.specs.Io.KnownBytes.{Appends}
+use Rattle.command_line.specs.declared.request.FlatRequest.{FlatRequest}
+use Rattle.elf_image.specs.Image.{ImageContent}
+use Rattle.flat_machine.specs.ByTurns.{by_turns, first_turn}
+use Rattle.flat_machine.specs.Process.{Process, opening}
+use Rattle.image_files.specs.Reading.{GivesImage, GivesInput}
+use Rattle.process_text.specs.ExitStatus.{exit_status, ending_of}
+use Rattle.process_text.specs.ProcessText.{process_text}
+
+module _ (gives : List ℕ → List ℕ → Type 0) where
+  -- An image ran on flat memory, its harts by turns, until it had ended or as many instructions had run as were asked for; its output, its
+  -- ending and the number of its steps are written, and the status is that of its ending. Where no file is named for it, its input is empty.
+  pub record FlatAsAsked (request : FlatRequest) (old new : Option (List ℕ)) (status : ℕ) : Type 0 where
+    pub image : ImageContent
+    pub input : List ℕ
+    pub image_given : GivesImage gives request.image.now image
+    pub input_given : GivesInput gives (option_map (λ s. s.now) request.input) input
+    pub steps : ℕ
+    pub turn : ℕ
+    pub flat : Process
+    pub ran : by_turns steps (first_turn (opening image input)) (opening image input) ≡ Some (turn, flat)
+    pub within : steps ≤ request.limit
+    pub ended : steps < request.limit → IsSome flat.ending
+    pub told : Appends old new (process_text 0 flat.environment.output (ending_of flat.ending) steps)
+    pub status_is : status ≡ exit_status (ending_of flat.ending)

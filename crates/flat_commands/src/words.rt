@@ -1,0 +1,17 @@
+//! The words that the program is run with.
+
+use image_files::Fault;
+use std::env;
+use std::env::Env;
+use std::io::ErrorKind;
+
+/// The words behind the program's name. One that is not UTF-8 is bad usage.
+pub fn read_words<'a, R: Env + AllocGlobal>(rt: &R) -> Result<Vec<String>, Fault<'a>> {
+    match env::args(rt) {
+        Ok(words) => Ok(words.skip(1).collect::<Vec<String>>(rt.alloc())?),
+        Err(error) => match error.kind() {
+            ErrorKind::OutOfMemory => Err(Fault::NoMemory),
+            _ => Err(Fault::BadUsage),
+        },
+    }
+}

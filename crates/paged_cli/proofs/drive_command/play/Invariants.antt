@@ -1,5 +1,0 @@
--- The ledger of the machine's frames is the one that the blank names.
-use Rattle.paged_cli.proofs.drive_command.play.Given as goal
-
-abbrev pub ghosts-play_with : goal.ghosts-play_with
-ghosts-play_with a = record { name = a.blank.name; parts = a.blank.parts }

@@ -1,5 +1,0 @@
--- The ledger of the machine's frames is the one that the blank names.
-use Rattle.paged_cli.proofs.run_command.run.Given as goal
-
-abbrev pub ghosts-run_with : goal.ghosts-run_with
-ghosts-run_with g a = record { name = a.blank.name; parts = a.blank.parts }

@@ -1,0 +1,97 @@
+//! `paged run`: images run to their end on one machine, by workers.
+
+ghost use Rattle.std.specs.Prelude.{◌≡◌, ◌<◌, IfOk, length, map, option_map};
+ghost use Rattle.command_line.specs.Requests.{IsRunInRange};
+ghost use Rattle.paged_cli.specs.Running.{starts_of, IsRunAsAsked, RunsAsked};
+
+use crate::machine::run_machine;
+use crate::reports::report_of;
+use crate::status_lines::StatusLines;
+use command_line::RunRequest;
+use elf_image::Image;
+use hart_carriers::Report;
+use image_files::{Fault, Folder, memory_slots, read_processes};
+use reclaim_daemon::{Gate, OpenGate};
+use report_text::{status_of_all, write_report};
+use std::io::Write;
+use std::sync::Wait;
+use std::thread::Threads;
+
+/// Runs a process for each image on a new machine by so many workers until all have ended, writes how it went, and answers the exit
+/// status. Files for the slots are made once images and input are read. While the processes run, lines that tell how far they are may
+/// be written to `err`.
+pub fn run_on_threads<
+    'a,
+    R: Folder + AllocGlobal + Threads + Wait + Sync,
+    O: Write,
+    E: Write + Send,
+>(
+    rt: &R,
+    request: &RunRequest<'a>,
+    workers: u32,
+    is_told: bool,
+    out: &mut O,
+    err: &mut E,
+) -> Result<u8, Fault<'a>>
+where
+    R::File: Send,
+    requires in_range { IsRunInRange request.now }
+    requires workers { 0 < workers }
+    ensures { IfOk result (λ status. IsRunAsAsked R.gives R.File request.now workers (O.contents out.old) (O.contents out.new) status) }
+{
+    let processes = read_processes(rt, request.images.as_slice(), request.input)?;
+    let room = Vec::with_capacity(rt.alloc(), processes.len())?;
+    let report = run_told(rt, request, processes.as_slice(), workers, is_told, err)?;
+    let told = report_of(report, room)?;
+    write_report(&told, out)?;
+    Ok(status_of_all(told.processes.as_slice()))
+}
+
+/// Runs processes on the machine that is asked for, and writes lines to `err` meanwhile, if they are wanted.
+fn run_told<'a, R: Folder + AllocGlobal + Threads + Wait + Sync, E: Write + Send>(
+    rt: &R,
+    request: &RunRequest<'a>,
+    handed: &[(Image, Vec<u8>)],
+    workers: u32,
+    is_told: bool,
+    err: &mut E,
+) -> Result<Report, Fault<'a>>
+where
+    R::File: Send,
+    requires in_range { IsRunInRange request.now }
+    requires workers { 0 < workers }
+    ensures { IfOk result (RunsAsked R.File (option_map (λ s. s.now) request.now.swap) request.now.frames request.now.slots (starts_of handed.now) workers request.now.slice) }
+{
+    if !is_told {
+        return run_asked(rt, request, handed, workers, &OpenGate);
+    }
+    let lines = StatusLines::new(rt, err);
+    run_asked(rt, request, handed, workers, &lines)
+}
+
+/// Runs processes on the machine that is asked for, and tells what it has come to.
+fn run_asked<'a, R: Folder + AllocGlobal + Threads + Wait + Sync, G: Gate + Sync>(
+    rt: &R,
+    request: &RunRequest<'a>,
+    handed: &[(Image, Vec<u8>)],
+    workers: u32,
+    gate: &G,
+) -> Result<Report, Fault<'a>>
+where
+    R::File: Send,
+    requires in_range { IsRunInRange request.now }
+    requires workers { 0 < workers }
+    ensures { IfOk result (RunsAsked R.File (option_map (λ s. s.now) request.now.swap) request.now.frames request.now.slots (starts_of handed.now) workers request.now.slice) }
+{
+    let (alloc, frames, slice) = (rt.alloc(), request.frames, request.slice);
+    match request.swap {
+        None => {
+            let slots = memory_slots(alloc, request.slots)?;
+            Ok(run_machine(rt, alloc, frames, slots, handed, workers, slice, gate)?)
+        }
+        Some(prefix) => {
+            let slots = rt.make_slots(prefix, request.slots)?;
+            Ok(run_machine(rt, alloc, frames, slots, handed, workers, slice, gate)?)
+        }
+    }
+}

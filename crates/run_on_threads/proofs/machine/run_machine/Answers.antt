@@ -1,8 +1,0 @@
--- What the run owes is what is reported of it.
-use Rattle.run_on_threads.proofs.Starts.{came_to}
-use Rattle.run_on_threads.proofs.machine.run_machine.Goals as goal
-
-pub returns-in-Ok : goal.returns-in-Ok
-returns-in-Ok g c =
-    let e = c.in-Ok.ensures in
-    came_to g.S.SwapSlot.honest c.args.frames c.args.slots c.args.handed.now c.args.workers c.args.slice c.in-Ok.report e.stands e.last e.many e.frames e.slots e.crew e.sound

@@ -1,0 +1,38 @@
+-- What the commands that run images do with what they are asked for. `gives` tells, of a name, the bytes that a file of it may be found to
+-- hold; `old` and `new` are what stands in the output before and after.
+use Rattle.std.specs.Prelude.{◌≡◌, ℕ, List, Option, None, map, option_map}
+use Rattle.std.specs.Io.KnownBytes.{Appends}
+use Rattle.command_line.specs.declared.request.DriveRequest.{DriveRequest}
+use Rattle.command_line.specs.declared.request.RunRequest.{RunRequest}
+use Rattle.machine_core.specs.declared.event.Reply.{Reply}
+use Rattle.elf_image.specs.Start.{Start}
+use Rattle.report_text.specs.RunStatus.{worst_status}
+use Rattle.report_text.specs.ReportText.{machine_text}
+use Rattle.serial_driver.specs.Reporting.{Told, MachineTold}
+use Rattle.text_lines.specs.Text.{lines_of}
+use Rattle.serial_commands.specs.Playing.{Plays, ReportsAsked}
+use Rattle.image_files.specs.Reading.{AreGiven}
+use Rattle.serial_commands.specs.Replies.{replies_text}
+
+module _ (gives : List ℕ → List ℕ → Type 0) where
+  -- A machine of the frames and slots that were asked for, in memory or in files of the type `F`, with a process
+  -- for each image, the first on the input, ran in slices of the length
+  -- that was asked for, until each process had ended or as many events had happened as were asked for; what is told of it is written, and
+  -- the status is that of what is told.
+  pub record RunsAsAsked (F : Type 0) (request : RunRequest) (old new : Option (List ℕ)) (status : ℕ) : Type 0 where
+    pub starts : List Start
+    pub machine : MachineTold
+    pub given : AreGiven gives (option_map (λ s. s.now) request.input) (map (λ s. s.now) request.images.items) starts
+    pub ran : ReportsAsked F (option_map (λ s. s.now) request.swap) request.frames request.slots starts request.slice request.limit machine
+    pub told : Appends old new (machine_text machine)
+    pub status_is : status ≡ worst_status 0 (map (λ (process : Told). process.end) machine.processes)
+
+  -- the same of a script that was played to its end or to its first bad line, with a line for each reply
+  pub record PlaysAsAsked (request : DriveRequest) (old new : Option (List ℕ)) (bad_line : Option ℕ) : Type 0 where
+    pub starts : List Start
+    pub script : List ℕ
+    pub replies : List Reply
+    pub given : AreGiven gives None (map (λ s. s.now) request.images.items) starts
+    pub read : gives request.script.now script
+    pub played : Plays request.frames request.slots starts (lines_of script) replies bad_line
+    pub told : Appends old new (replies_text replies)

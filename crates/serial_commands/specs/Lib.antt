@@ -1,0 +1,4 @@
+pub mod Asked
+pub mod Debugged
+pub mod Playing
+pub mod Replies

@@ -1,0 +1,127 @@
+//! `paged debug`: a debugger that answers the lines of its input.
+
+ghost use Rattle.std.specs.Prelude.{◌≡◌, ◌+◌, ◌≤◌, None, Some, Ok, Err, IfErr, IfOk, IfSome};
+ghost use Rattle.command_line.specs.Requests.{IsDebugInRange, IsFrom, least_frames, most_frames};
+ghost use Rattle.debug_core.specs.Debugging.{DebuggerValue};
+ghost use Rattle.debug_session.specs.Conversation.{HasConversed};
+ghost use Rattle.debug_session.specs.declared.conversation.SessionFault.TheVariants.{BadLine};
+ghost use Rattle.image_files.specs.Faults.{IfBadLine};
+ghost use Rattle.serial_commands.specs.Debugged.{new_debugger, ConversesOver, DebugsAsAsked, IfLinesEnd, IsTold};
+
+use clock_ring::ClockRing;
+use command_line::DebugRequest;
+use debug_core::{Debugger, Target};
+use debug_session::{SessionFault, converse};
+use elf_image::Image;
+use flat_machine::FlatProcess;
+use image_files::{Fault, Folder, memory_slots, read_image};
+use paged_target::PagedTarget;
+use std::alloc::Global;
+use std::io::{Read, Write};
+use std::marker::Brand;
+use std::sync::ledger::{Blank, Ledger};
+
+/// The slots of a debugger's machine: one for each page that a process may have.
+const SLOTS: u32 = 4096;
+
+/// Answers the lines of an input with a debugger of a new process, which runs an image on no input: on flat memory, or on as many
+/// frames as are asked for. It ends with the lines, or at one that is bad, which is then the fault.
+pub fn run_debug<'a, R: Folder + AllocGlobal, I: Read + Drop, W: Write>(
+    rt: &R,
+    request: &DebugRequest<'a>,
+    input: I,
+    out: &mut W,
+) -> Result<(), Fault<'a>>
+    requires { IsDebugInRange request.now }
+    ensures done { IfOk result (λ _. DebugsAsAsked R.gives request.now (I.remaining input) (W.contents out.old) (W.contents out.new) (Ok tt)) }
+    ensures bad_line { IfErr result (λ fault. IfBadLine fault (λ number. DebugsAsAsked R.gives request.now (I.remaining input) (W.contents out.old) (W.contents out.new) (Err (BadLine number)))) }
+{
+    let image = read_image(rt, request.image)?;
+    match debug_on(rt.alloc(), request.frames, image, input, out) {
+        Ok(()) => Ok(()),
+        Err(fault) => Err(fault_of(fault)),
+    }
+}
+
+/// The fault of a conversation as one of the command.
+fn fault_of<'a>(fault: SessionFault) -> Fault<'a>
+    ensures { IsTold fault result }
+{
+    match fault {
+        SessionFault::BadLine(number) => Fault::BadLine(number),
+        SessionFault::NoMemory => Fault::NoMemory,
+        SessionFault::CannotRead => Fault::CannotRead("standard input"),
+        SessionFault::CannotWrite => Fault::CannotWrite,
+    }
+}
+
+/// On flat memory, or on so many frames.
+fn debug_on<I: Read + Drop, W: Write>(
+    alloc: Global,
+    frames: Option<u32>,
+    image: Image,
+    input: I,
+    out: &mut W,
+) -> Result<(), SessionFault>
+    requires { IfSome frames (IsFrom least_frames most_frames) }
+    ensures { IfLinesEnd result (ConversesOver frames image (I.remaining input) (W.contents out.old) (W.contents out.new)) }
+{
+    match frames {
+        None => debug_flat(alloc, &image, input, out),
+        Some(frames) => {
+            let blank = Blank::new(u64::from(frames) + 1);
+            debug_paged::<Brand, I, W>(alloc, frames, blank, image, input, out)
+        }
+    }
+}
+
+fn debug_flat<I: Read + Drop, W: Write>(
+    alloc: Global,
+    image: &Image,
+    input: I,
+    out: &mut W,
+) -> Result<(), SessionFault>
+    ensures { IfLinesEnd result (ConversesOver None image.now (I.remaining input) (W.contents out.old) (W.contents out.new)) }
+{
+    let Ok(process) = FlatProcess::new(alloc, image, Vec::new(alloc)) else {
+        return Err(SessionFault::NoMemory);
+    };
+    debug(alloc, process, input, out)
+}
+
+fn debug_paged<L: Ledger, I: Read + Drop, W: Write>(
+    alloc: Global,
+    frames: u32,
+    blank: Blank,
+    image: Image,
+    input: I,
+    out: &mut W,
+) -> Result<(), SessionFault>
+    requires name { blank.name ≡ L.name }
+    requires parts { blank.parts ≡ L.parts }
+    requires one_each { L.parts ≡ frames + 1 }
+    requires least { 4 ≤ frames }
+    requires most { frames ≤ 4096 }
+    ensures { IfLinesEnd result (ConversesOver (Some frames) image (I.remaining input) (W.contents out.old) (W.contents out.new)) }
+{
+    let Ok(slots) = memory_slots(alloc, SLOTS) else {
+        return Err(SessionFault::NoMemory);
+    };
+    let Ok(target) = PagedTarget::<L, ClockRing>::new(alloc, frames, blank, slots, image) else {
+        return Err(SessionFault::NoMemory);
+    };
+    debug(alloc, target, input, out)
+}
+
+/// Answers the lines of an input with a new debugger of a target.
+fn debug<T: Target, I: Read + Drop, W: Write>(
+    alloc: Global,
+    target: T,
+    input: I,
+    out: &mut W,
+) -> Result<(), SessionFault>
+    ensures { (end : DebuggerValue T) × HasConversed T.shown T.fails result (I.remaining input) (new_debugger T.shown target) (W.contents out.old) end (W.contents out.new) }
+{
+    let mut debugger = Debugger::new(target);
+    converse(alloc, &mut debugger, input, out)
+}

@@ -34,7 +34,10 @@ fn run_words<'a, R: Folder + AllocGlobal, S: AsStr, O: Write>(
             Ok(0)
         }
         Request::Flat(request) => run_flat(rt, &request, out),
-        _ => Err(Fault::BadUsage),
+        Request::Clock(_request) => Err(Fault::BadUsage),
+        Request::Drive(_request) => Err(Fault::BadUsage),
+        Request::Run(_request) => Err(Fault::BadUsage),
+        Request::Debug(_request) => Err(Fault::BadUsage),
     }
 }
 

@@ -1,5 +1,5 @@
 -- The pages of an ended process give back their frames and slots.
-use Rattle.std.specs.Prelude.{◌≡◌, ℕ, ◌^◌, ◌<◌, Option, Some, None, List}
+use Rattle.std.specs.Prelude.{◌≡◌, ℕ, ◌+◌, ◌^◌, ◌<◌, ◌≤◌, Option, Some, None, List}
 use Rattle.frame_pool.specs.FrameValue.{FrameValue}
 use Rattle.page_store.specs.PageValue.{PageValue, Purged}
 use Rattle.page_store.specs.Moves.{given_back}
@@ -26,6 +26,13 @@ module _ {S : Type 0} where
     pub first : (q : ℕ) → q < number → GivesNothing (page_at old q)
     pub pages : ChangesBy (GivesBack given) old new number
     pub entries : ChangesEntry tables tables' number blank
+
+  -- a number lies just behind a page that has something, and that page not before the one from which on it was looked for
+  pub record LiesBehind (pages : List (ℕ × PageValue S)) (from next : ℕ) : Type 0 where
+    pub number : ℕ
+    pub next_is : next ≡ number + 1
+    pub looked : from ≤ number
+    pub something : ¬ GivesNothing (page_at pages number)
 
   -- some page is being saved
   pub record SavesOne (pages : List (ℕ × PageValue S)) : Type 0 where

@@ -1,10 +1,10 @@
-ghost use Rattle.std.specs.Prelude.{◌≡◌, ◌<◌, ◌+◌, ◌^◌, ℕ, [], All, IfSome, IfNone};
+ghost use Rattle.std.specs.Prelude.{◌≡◌, ◌<◌, ◌≤◌, ◌+◌, ◌^◌, ℕ, [], All, IfSome, IfNone};
 ghost use Rattle.std.specs.Bool.{OnTrue, OnFalse};
 ghost use Rattle.sv32_table.specs.Entry.{blank};
 ghost use Rattle.sv32_table.specs.EntryAt.{ChangesEntry, SameTables};
 ghost use Rattle.paged_memory.specs.Paged.{Holds, page_at};
 ghost use Rattle.paged_memory.specs.Calls.{ChangesBy};
-ghost use Rattle.paged_memory.specs.GivingBack.{GivesBack, GivesOne, GivesNothing};
+ghost use Rattle.paged_memory.specs.GivingBack.{GivesBack, GivesOne, GivesNothing, LiesBehind};
 
 use crate::caches::Caches;
 use crate::eviction::state_in;
@@ -26,6 +26,7 @@ impl<L: Ledger, S: SwapSlot> PagedMemory<L, S> {
         requires before { (q : ℕ) → q < from → GivesNothing (page_at self.old.pages q) }
         ensures given { IfSome result (λ taken. GivesOne taken.0 self.old.pages self.new.pages self.old.tables self.new.tables) }
         ensures next { IfSome result (λ taken. (q : ℕ) → q < taken.1 → GivesNothing (page_at self.new.pages q)) }
+        ensures behind { IfSome result (λ taken. LiesBehind self.old.pages from taken.1) }
         ensures tabled { SameTables self.old.tables self.new.tables }
         ensures none { IfNone result ((q : ℕ) → q < 2 ^ 20 → GivesNothing (page_at self.old.pages q)) }
         ensures left { IfNone result (self.new ≡ self.old) }
@@ -46,6 +47,7 @@ fn first_with_something<L: Ledger, S: SwapSlot>(
 ) -> Option<u32>
     requires { (q : ℕ) → q < from → GivesNothing (page_at pages.now q) }
     ensures small { IfSome result (λ first. first < 2 ^ 20) }
+    ensures looked { IfSome result (λ first. from ≤ first) }
     ensures something { IfSome result (λ first. ¬ GivesNothing (page_at pages.now first)) }
     ensures first { IfSome result (λ first. (q : ℕ) → q < first → GivesNothing (page_at pages.now q)) }
     ensures none { IfNone result ((q : ℕ) → q < 2 ^ 20 → GivesNothing (page_at pages.now q)) }

@@ -8,7 +8,7 @@ ghost use Rattle.flat_machine.specs.Schedule.{written_out};
 ghost use Rattle.paged_memory.specs.Paged.{page_at, memory_of};
 ghost use Rattle.paged_memory.specs.Calls.{ChangesBy};
 ghost use Rattle.paged_memory.specs.Filling.{BroughtIn, RefusesPageIn};
-ghost use Rattle.paged_memory.specs.GivingBack.{GivesOne, GivesNothing, SavesOne};
+ghost use Rattle.paged_memory.specs.GivingBack.{GivesOne, GivesNothing, LiesBehind, SavesOne};
 ghost use Rattle.paged_memory.specs.Leaving.{IsSaving};
 ghost use Rattle.paged_memory.specs.Peeking.{bytes_of, ShowsBytes, LeavesPage, RefusesPeek};
 ghost use Rattle.space_core.specs.Caches.{if_ended};
@@ -97,6 +97,7 @@ impl<L: Ledger, S: SwapSlot> Space<L, S> {
         requires { (q : ℕ) → q < from → GivesNothing (page_at self.old.memory.pages q) }
         ensures given { IfSome result (λ taken. GivesOne taken.0 self.old.memory.pages self.new.memory.pages self.old.memory.tables self.new.memory.tables) }
         ensures next { IfSome result (λ taken. (q : ℕ) → q < taken.1 → GivesNothing (page_at self.new.memory.pages q)) }
+        ensures behind { IfSome result (λ taken. LiesBehind self.old.memory.pages from taken.1) }
         ensures tabled { SameTables self.old.memory.tables self.new.memory.tables }
         ensures ended { IfSome result (λ _. IsSome self.old.running.ending) }
         ensures none { IfNone result (IsSome self.old.running.ending → (q : ℕ) → q < 2 ^ 20 → GivesNothing (page_at self.old.memory.pages q)) }

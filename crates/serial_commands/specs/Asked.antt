@@ -27,12 +27,16 @@ module _ (gives : List ℕ → List ℕ → Type 0) where
     pub told : Appends old new (machine_text machine)
     pub status_is : status ≡ worst_status 0 (map (λ (process : Told). process.end) machine.processes)
 
-  -- the same of a script that was played to its end or to its first bad line, with a line for each reply
-  pub record PlaysAsAsked (request : DriveRequest) (old new : Option (List ℕ)) (bad_line : Option ℕ) : Type 0 where
+  -- a machine likewise played a script, to its end or to its first bad line, with these replies
+  pub record IsPlayedAsAsked (request : DriveRequest) (replies : List Reply) (bad_line : Option ℕ) : Type 0 where
     pub starts : List Start
     pub script : List ℕ
-    pub replies : List Reply
     pub given : AreGiven gives None (map (λ s. s.now) request.images.items) starts
     pub read : gives request.script.now script
     pub played : Plays request.frames request.slots starts (lines_of script) replies bad_line
+
+  -- and a line for each reply is written
+  pub record PlaysAsAsked (request : DriveRequest) (old new : Option (List ℕ)) (bad_line : Option ℕ) : Type 0 where
+    pub replies : List Reply
+    pub played : IsPlayedAsAsked request replies bad_line
     pub told : Appends old new (replies_text replies)

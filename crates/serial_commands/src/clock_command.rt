@@ -5,6 +5,7 @@ use clock_ring::ClockRing;
 use command_line::ClockRequest;
 use event_scripts::{ClockCall, call_on_line};
 use image_files::{Fault, Folder, read_text};
+use std::alloc::Global;
 use std::io::Write;
 use std::{fmt, io};
 use text_lines::next_line;
@@ -16,14 +17,22 @@ pub fn run_clock<'a, R: Folder + AllocGlobal, W: Write>(
     out: &mut W,
 ) -> Result<(), Fault<'a>> {
     let text = read_text(rt, request.script)?;
-    match ClockRing::new(rt.alloc(), request.frames as usize) {
-        Ok(mut list) => {
-            let most_entries = 2 * request.frames as usize; // so that no later call wants memory
-            let mut entries = Vec::with_capacity(rt.alloc(), most_entries)?;
-            play(&mut list, &mut entries, text.as_str().as_bytes(), out)
-        }
-        Err(_) => Err(Fault::NoMemory),
-    }
+    play_on_ring(rt.alloc(), request.frames, text.as_str().as_bytes(), out)
+}
+
+/// Plays a script on a new list of so many frames.
+fn play_on_ring<'a, W: Write>(
+    alloc: Global,
+    frames: u32,
+    script: &[u8],
+    out: &mut W,
+) -> Result<(), Fault<'a>> {
+    let Ok(mut list) = ClockRing::new(alloc, frames as usize) else {
+        return Err(Fault::NoMemory);
+    };
+    let most_entries = 2 * frames as usize; // so that no later call wants memory
+    let mut entries = Vec::with_capacity(alloc, most_entries)?;
+    play(&mut list, &mut entries, script, out)
 }
 
 /// Writes a reply for each call of a script. A bad line ends it behind the replies so far.

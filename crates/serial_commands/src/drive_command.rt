@@ -3,7 +3,7 @@
 ghost use Rattle.std.specs.Prelude.{◌≡◌, ◌+◌, ◌≤◌, IfOk, IsOk, None, length, map};
 ghost use Rattle.command_line.specs.Requests.{IsDriveInRange};
 ghost use Rattle.elf_image.specs.Start.{start_of};
-ghost use Rattle.serial_commands.specs.Asked.{PlaysAsAsked};
+ghost use Rattle.serial_commands.specs.Asked.{IsPlayedAsAsked, PlaysAsAsked};
 ghost use Rattle.serial_commands.specs.Playing.{Plays};
 ghost use Rattle.text_lines.specs.Text.{lines_of};
 
@@ -44,12 +44,23 @@ fn play_file<'a, R: Folder + AllocGlobal, W: Write>(
     requires { IsDriveInRange request.now }
     ensures { IfOk result (PlaysAsAsked R.gives request.now (W.contents out.old) (W.contents out.new)) }
 {
+    let played = read_and_play(rt, request)?;
+    write_replies(played.replies.as_slice(), out)?;
+    Ok(played.bad_line)
+}
+
+/// Plays the script in a file on a new machine with a process for each image.
+fn read_and_play<'a, R: Folder + AllocGlobal>(
+    rt: &R,
+    request: &DriveRequest<'a>,
+) -> Result<Played, Fault<'a>>
+    requires { IsDriveInRange request.now }
+    ensures { IfOk result (λ played. IsPlayedAsAsked R.gives request.now played.replies.items played.bad_line) }
+{
     let script = read_text(rt, request.script)?;
     let processes = read_processes(rt, request.images.as_slice(), None)?;
     let script = script.as_str().as_bytes();
-    let played = play(rt.alloc(), request.frames, request.slots, processes, script)?;
-    write_replies(played.replies.as_slice(), out)?;
-    Ok(played.bad_line)
+    Ok(play(rt.alloc(), request.frames, request.slots, processes, script)?)
 }
 
 /// What a script comes to.

@@ -16,3 +16,4 @@ pub mod Coherence
 pub mod PageStatus
 pub mod Stages
 pub mod Whole
+pub mod Moving

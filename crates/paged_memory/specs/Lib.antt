@@ -17,3 +17,4 @@ pub mod PageStatus
 pub mod Stages
 pub mod Whole
 pub mod Moving
+pub mod MovingLaws

@@ -44,6 +44,20 @@ module _ {S : Type 0} where
   abbrev pub Empties : PagedValue S → PagedValue S → Type 0
   Empties old new = new ≡ emptied old
 
+-- what a call leaves of a memory
+
+module _ {S : Type 0} where
+  -- it with the pages of another
+  abbrev pub with_pages : PagedValue S → PagedValue S → PagedValue S
+  with_pages old new = record old { pages = new.pages }
+
+  -- the caches and the tables are what they were
+  abbrev pub SameCaches : PagedValue S → PagedValue S → Type 0
+  SameCaches old new = new.caches ≡ old.caches
+
+  abbrev pub SameEntries : PagedValue S → PagedValue S → Type 0
+  SameEntries old new = new.tables ≡ old.tables
+
 -- a page's use is read, and it begins to leave its frame
 
 module _ {S : Type 0} where
@@ -211,21 +225,34 @@ module _ {S : Type 0} (held : S → List ℕ) (honest : Type 0) where
     pub memory : honest → memory_of held new ≡ memory_of held old
 
   -- why it does not come in, with the frame that is handed back
+  abbrev pub RefusesIn : (S → ℕ) → FrameValue → ℕ → FrameValue → PageInFault → PagedValue S → PagedValue S → Type 0
+  RefusesIn failures frame vpn back fault old new = RefusesPageIn held honest failures frame old.pages new.pages old.tables vpn back fault
+
   pub record StaysOut (failures : S → ℕ) (frame : FrameValue) (vpn : ℕ) (back : FrameValue) (fault : PageInFault) (old new : PagedValue S) : Type 0 where
-    pub why : RefusesPageIn held honest failures frame old.pages new.pages old.tables vpn back fault
-    pub unmapped : new.tables ≡ old.tables
+    pub why : RefusesIn failures frame vpn back fault old new
+    pub unmapped : SameEntries old new
     pub process : new.process ≡ old.process
-    pub caches : new.caches ≡ old.caches
+    pub caches : SameCaches old new
     pub reserved : new.reserved ≡ old.reserved
     pub memory : honest → memory_of held new ≡ memory_of held old
 
+  -- so many bytes that the page of an address shows from it on; what a look at them leaves; and why they are not shown
+  abbrev pub ShowsIn : PagedValue S → ℕ → ℕ → List (Option ℕ) → Type 0
+  ShowsIn memory address count bytes = ShowsBytes held honest (page_at memory.pages (page_number address)) (page_offset address) count bytes
+
+  abbrev pub LeavesLookedAt : ℕ → PagedValue S → PagedValue S → Type 0
+  LeavesLookedAt address old new = LeavesPage held honest old.pages new.pages (page_number address) (page_at old.pages (page_number address))
+
+  abbrev pub DoesNotShow : (S → ℕ) → ℕ → PagedValue S → PagedValue S → PeekFault → Type 0
+  DoesNotShow failures address old new fault = RefusesPeek held honest failures old.pages new.pages (page_number address) fault
+
   -- a look at bytes of a page, from an address on: nothing changes but a slot that was read, and where it is refused the room is as it was
   pub record IsPeeked (failures : S → ℕ) (address : ℕ) (room bytes : List (Option ℕ)) (result : Result (Unit {0}) PeekFault) (old new : PagedValue S) : Type 0 where
-    pub read : OnOk result (ShowsBytes held honest (page_at old.pages (page_number address)) (page_offset address) (length room) bytes)
+    pub read : OnOk result (ShowsIn old address (length room) bytes)
     pub shown : honest → OnOk result (bytes_of (memory_of held old) address (length room) ≡ Some bytes)
     pub unread : OnErr result (bytes ≡ room)
-    pub refused : IfErr result (RefusesPeek held honest failures old.pages new.pages (page_number address))
-    pub left : LeavesPage held honest old.pages new.pages (page_number address) (page_at old.pages (page_number address))
+    pub refused : IfErr result (DoesNotShow failures address old new)
+    pub left : LeavesLookedAt address old new
     pub memory : honest → memory_of held new ≡ memory_of held old
     pub stays : new ≡ record old { pages = new.pages }
 
@@ -265,23 +292,38 @@ module _ {S : Type 0} where
   abbrev pub page_given : PageValue S → PageValue S
   page_given page = record page { place = place_given page.place }
 
+  -- whether the page of a number has something to give back
+  abbrev pub has_to_give_in : PagedValue S → ℕ → Bool
+  has_to_give_in memory number = has_to_give (page_at memory.pages number)
+
+  -- the page of a number is as it was; it has given what it had
+  abbrev pub SamePage : PagedValue S → PagedValue S → ℕ → Type 0
+  SamePage old new number = page_at new.pages number ≡ page_at old.pages number
+
+  abbrev pub PageGiven : PagedValue S → PagedValue S → ℕ → Type 0
+  PageGiven old new number = page_at new.pages number ≡ option_map page_given (page_at old.pages number)
+
+  -- no cache holds a translation
+  abbrev pub EmptiesCaches : PagedValue S → PagedValue S → Type 0
+  EmptiesCaches old new = new.caches ≡ map (λ _. []) old.caches
+
   -- a page gave back what it had, and is unmapped
   pub record IsGiven (old new : PagedValue S) (number : ℕ) : Type 0 where
-    pub had : has_to_give (page_at old.pages number) ≡ true
-    pub page : page_at new.pages number ≡ option_map page_given (page_at old.pages number)
+    pub had : has_to_give_in old number ≡ true
+    pub page : PageGiven old new number
     pub entry : entry_at new.tables number ≡ blank
 
   -- a page is as it was
   pub record IsLeft (old new : PagedValue S) (number : ℕ) : Type 0 where
-    pub page : page_at new.pages number ≡ page_at old.pages number
+    pub page : SamePage old new number
     pub entry : entry_at new.tables number ≡ entry_at old.tables number
 
   -- every page that had something has given it back, and no cache holds a translation
   pub record GivesAll (old new : PagedValue S) : Type 0 where
     pub process : new.process ≡ old.process
-    pub pages : (number : ℕ) → number < 2 ^ 20 → page_at new.pages number ≡ option_map page_given (page_at old.pages number)
-    pub entries : (number : ℕ) → number < 2 ^ 20 → entry_at new.tables number ≡ (if has_to_give (page_at old.pages number) then blank else entry_at old.tables number)
-    pub caches : new.caches ≡ map (λ _. []) old.caches
+    pub pages : (number : ℕ) → number < 2 ^ 20 → PageGiven old new number
+    pub entries : (number : ℕ) → number < 2 ^ 20 → entry_at new.tables number ≡ (if has_to_give_in old number then blank else entry_at old.tables number)
+    pub caches : EmptiesCaches old new
 
 -- a memory begins
 
@@ -290,9 +332,17 @@ module _ {S : Type 0} where
   abbrev pub fresh : Page → PageValue S
   fresh page = record { origin = page; place = Fresh }
 
-  -- the memory of the process of this number: these pages are mapped, and none was brought in; one hart has a cache, which is empty
+  -- these pages are mapped, and none was brought in
+  abbrev pub HasFresh : List (ℕ × Page) → PagedValue S → Type 0
+  HasFresh pages memory = memory.pages ≡ map (λ e. (e.0, fresh e.1)) pages
+
+  -- one hart has a cache, which is empty
+  abbrev pub HasOneCache : PagedValue S → Type 0
+  HasOneCache memory = memory.caches ≡ [] ∷ []
+
+  -- the memory of the process of this number, none of whose pages was brought in
   pub record IsNew (number : ℕ) (pages : List (ℕ × Page)) (memory : PagedValue S) : Type 0 where
     pub numbered : memory.process ≡ number
-    pub mapped : memory.pages ≡ map (λ e. (e.0, fresh e.1)) pages
+    pub mapped : HasFresh pages memory
     pub tables : (vpn : ℕ) → vpn < 2 ^ 20 → entry_at memory.tables vpn ≡ blank
-    pub caches : memory.caches ≡ [] ∷ []
+    pub caches : HasOneCache memory

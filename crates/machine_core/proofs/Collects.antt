@@ -13,13 +13,14 @@ use Rattle.page_store.specs.JobValue.{JobValue}
 use Rattle.page_store.specs.PageValue.{PageValue, Place, Fresh, Resident, Leaving, Saving, Away, Purged, page_state_of, frame_of}
 use Rattle.paged_memory.specs.Counting.{is_resident_place, is_saving_place, frame_passes}
 use Rattle.paged_memory.specs.Paged.{page_at}
+use Rattle.paged_memory.specs.Stages.{is_leaving_stage}
 use Rattle.space_core.specs.StandsFor.{SpaceValue}
 use Rattle.swap_slots.specs.PoolValue.{PoolValue}
 use Rattle.machine_sides.specs.declared.collecting.Looked.{Looked}
 use Rattle.machine_sides.specs.declared.collecting.Looked.TheVariants.{NotLeaving, NotYet, Freed, Dirty, NoSlot, NotRestored, HandedBack}
 use Rattle.machine_core.specs.declared.error.EventRefusal.TheVariants as refusal
 use Rattle.machine_core.specs.declared.event.Reply.{Reply}
-use Rattle.machine_sides.specs.Collecting.{is_leaving_at, is_leaving_stage, IsLeaving, Looks, IsDropped, IsCopied, LacksAndReturns, LacksAndLeaves}
+use Rattle.machine_sides.specs.Collecting.{is_leaving_at, IsLeaving, Looks, IsDropped, IsCopied, LacksAndReturns, LacksAndLeaves}
 use Rattle.machine_core.specs.CollectEvent.{leaving_reason, collect_refusal, CollectsTo, not_yet, freed, dirty, no_slot, no_memory, CollectsOnce, LooksAt, IsOwn, jobs_after, looked_reply}
 use Rattle.machine_sides.specs.CollectLaws.{dropped_together, dropped_rest, copied_together, copied_savings, copied_slots, copied_stays, copied_now, copied_place}
 use Rattle.machine_sides.specs.LookLaws.{same_sides}
@@ -137,16 +138,16 @@ module _ {S : Type 0} where
       unfolding SavingsStay
       copied_moves job copied jobs =
           let saving = copied.saving in
-          let number : job.process ≡ p = saving.process ∙ machine.numbered p q found in
+          let number : job.process ≡ p = saving.moves.process ∙ machine.numbered p q found in
           let out : IsSaveOut core'.processes job = record {
             process = q';
-            page = saving.page.page';
-            frame = saving.page.how.frame;
-            small = subst (λ n. n < 2 ^ 20) (sym saving.vpn_is) saving.small;
+            page = saving.moves.page.page';
+            frame = saving.moves.page.how.frame;
+            small = subst (λ n. n < 2 ^ 20) (sym saving.moves.vpn_is) saving.moves.small;
             found = ap (slice_get core'.processes) number ∙ ap (λ l. slice_get l p) processes ∙ get_set_same core.processes p q q' found;
-            at = ap (page_at q'.space.memory.pages) saving.vpn_is ∙ copied_now vpn job q q' core.slots core'.slots saving;
+            at = ap (page_at q'.space.memory.pages) saving.moves.vpn_is ∙ copied_now vpn job q q' core.slots core'.slots saving;
             saving = copied_place vpn job q q' core.slots core'.slots saving;
-            same = sym saving.page.how.copy;
+            same = sym saving.moves.page.how.copy;
           } in
           let others : All (IsSaveOut core'.processes) core.jobs = subst (λ l. All (IsSaveOut l) core.jobs) (sym processes) (out_stays core.processes p q q' core.jobs found (λ v page frame small at is. copied_stays vpn job q q' core.slots core'.slots saving v page frame at is) machine.out) in
           record {
@@ -157,7 +158,7 @@ module _ {S : Type 0} where
             frames = frames_still copied.pager_stays;
             saved = λ test.
                 let more : jobs_where test core'.jobs ≡ jobs_where test core.jobs + cond (test (key_of job.process job.vpn)) 1 0 = ap (jobs_where test) jobs ∙ more_jobs test core.jobs job in
-                let key : cond {A = ℕ} (test (key_of job.process job.vpn)) 1 0 ≡ cond (test (key_of q.space.memory.process vpn)) 1 0 = ap (λ k. cond {A = ℕ} (test k) 1 0) (one_key (key_of job.process job.vpn) (key_of q.space.memory.process vpn) saving.process saving.vpn_is) in
+                let key : cond {A = ℕ} (test (key_of job.process job.vpn)) 1 0 ≡ cond (test (key_of q.space.memory.process vpn)) 1 0 = ap (λ k. cond {A = ℕ} (test k) 1 0) (one_key (key_of job.process job.vpn) (key_of q.space.memory.process vpn) saving.moves.process saving.moves.vpn_is) in
                 let one = copied_savings vpn job q q' core.slots core'.slots saving test in
                 omega (arith, more, key, one);
             slotted =

@@ -20,7 +20,8 @@ use Rattle.paged_memory.specs.declared.filling.PageInFault.TheVariants as fault
 use Rattle.space_core.specs.StandsFor.{SpaceValue}
 use Rattle.sv32_table.specs.EntryAt.{has_table}
 use Rattle.swap_slots.specs.PoolValue.{PoolValue}
-use Rattle.machine_sides.specs.Admitting.{is_resident_stage, is_resident_at, is_absent_at, bars, told_by, taken_back}
+use Rattle.paged_memory.specs.Stages.{is_resident_stage}
+use Rattle.machine_sides.specs.Admitting.{is_resident_at, is_absent_at, bars, told_by, taken_back}
 use Rattle.machine_sides.specs.declared.admission.NotAdmitted.{NotAdmitted}
 use Rattle.machine_sides.specs.declared.admission.NotAdmitted.TheVariants.{Ended, NotAbsent, AlreadyResident, NoFrame, NoMemory}
 use Rattle.machine_core.specs.declared.error.EventRefusal.{EventRefusal}

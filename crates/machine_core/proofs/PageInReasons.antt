@@ -22,7 +22,8 @@ use Rattle.paged_memory.specs.Counting.{is_resident_place}
 use Rattle.paged_memory.specs.Filling.{IsAbsent}
 use Rattle.paged_memory.specs.Paged.{page_at}
 use Rattle.space_core.specs.StandsFor.{SpaceValue}
-use Rattle.machine_sides.specs.Admitting.{is_absent_stage, is_absent_at, page_bars, bars, bars_from, pager_refusal}
+use Rattle.paged_memory.specs.Stages.{is_absent_stage}
+use Rattle.machine_sides.specs.Admitting.{is_absent_at, page_bars, bars, bars_from, pager_refusal}
 use Rattle.machine_sides.specs.declared.admission.NotAdmitted.{NotAdmitted}
 use Rattle.machine_sides.specs.declared.admission.NotAdmitted.TheVariants.{Ended, NotAbsent, NoFrame}
 use Rattle.machine_core.specs.declared.error.EventRefusal.TheVariants as refusal

@@ -97,23 +97,23 @@ module _ {S : Type 0} where
       unfolding residents_in
       resident_more test =
           let passes : ℕ → Bool = λ vpn. test (key_of q.space.memory.process vpn) in
-          let renamed : residents_of q'.space.memory.pages (λ vpn. test (key_of q'.space.memory.process vpn)) ≡ residents_of q'.space.memory.pages passes = ap (λ n. residents_of q'.space.memory.pages (λ vpn. test (key_of n vpn))) comes.loads.rest.process in
-          let more = arrived_residents held honest comes.admission.frame q.space.memory.pages q'.space.memory.pages comes.admission.key.vpn comes.loads.small comes.loads.page passes in
+          let renamed : residents_of q'.space.memory.pages (λ vpn. test (key_of q'.space.memory.process vpn)) ≡ residents_of q'.space.memory.pages passes = ap (λ n. residents_of q'.space.memory.pages (λ vpn. test (key_of n vpn))) comes.loads.moves.process in
+          let more = arrived_residents held honest comes.admission.frame q.space.memory.pages q'.space.memory.pages comes.admission.key.vpn comes.loads.moves.small comes.loads.moves.page passes in
           let this : cond {A = ℕ} (passes comes.admission.key.vpn) 1 0 ≡ cond (test key) 1 0 = ap (λ v. cond {A = ℕ} (passes v) 1 0) vpn_is ∙ ap (λ k. cond {A = ℕ} (test k) 1 0) named in
           omega (arith, renamed, more, this)
 
       frame_more : (test : ℕ → Bool) → frames_in q'.space test ≡ frames_in q.space test + cond (test comes.admission.frame.number) 1 0
       unfolding frames_in
-      frame_more test = arrived_frames held honest comes.admission.frame q.space.memory.pages q'.space.memory.pages comes.admission.key.vpn comes.loads.small comes.loads.page test
+      frame_more test = arrived_frames held honest comes.admission.frame q.space.memory.pages q'.space.memory.pages comes.admission.key.vpn comes.loads.moves.small comes.loads.moves.page test
 
       savings_same : (test : Key → Bool) → savings_in q'.space test ≡ savings_in q.space test
       unfolding savings_in
       savings_same test =
-          ap (λ n. savings_of q'.space.memory.pages (λ vpn. test (key_of n vpn))) comes.loads.rest.process
-          ∙ arrived_savings held honest comes.admission.frame q.space.memory.pages q'.space.memory.pages comes.admission.key.vpn comes.loads.small comes.loads.page (λ vpn. test (key_of q.space.memory.process vpn))
+          ap (λ n. savings_of q'.space.memory.pages (λ vpn. test (key_of n vpn))) comes.loads.moves.process
+          ∙ arrived_savings held honest comes.admission.frame q.space.memory.pages q'.space.memory.pages comes.admission.key.vpn comes.loads.moves.small comes.loads.moves.page (λ vpn. test (key_of q.space.memory.process vpn))
 
       slots_same : slots_of q'.space.memory.pages ≡ slots_of q.space.memory.pages
-      slots_same = arrived_slots held honest comes.admission.frame q.space.memory.pages q'.space.memory.pages comes.admission.key.vpn comes.loads.small comes.loads.page
+      slots_same = arrived_slots held honest comes.admission.frame q.space.memory.pages q'.space.memory.pages comes.admission.key.vpn comes.loads.moves.small comes.loads.moves.page
 
       pub come_size : pager'.pager.size ≡ core.pager.pager.size
       come_size = same_size key core.pager pager' q.space comes.admission comes.admits
@@ -127,7 +127,7 @@ module _ {S : Type 0} where
           listed = λ test. let list = one_listed key core.pager pager' q.space comes.admission comes.admits test in let pages = resident_more test in omega (arith, list, pages);
           framed = λ test. let free = one_taken key core.pager pager' q.space comes.admission comes.admits test in let pages = frame_more test in omega (arith, free, pages);
           size = come_size;
-          process = comes.loads.rest.process;
+          process = comes.loads.moves.process;
         };
         lawful = comes.admits.lawful;
         frames = list_frames key core.pager pager' q.space comes.admission comes.admits ∙ machine.frames ∙ sym come_size;
@@ -135,7 +135,7 @@ module _ {S : Type 0} where
         slotted = let s = slots_same in omega (arith, s);
         slots = refl;
         out = out_stays core.processes key.process q q' core.jobs found
-            (λ v page f small at saving. arrived_stays held honest comes.admission.frame q.space.memory.pages q'.space.memory.pages comes.admission.key.vpn comes.loads.small comes.loads.page v page f at saving) machine.out;
+            (λ v page f small at saving. arrived_stays held honest comes.admission.frame q.space.memory.pages q'.space.memory.pages comes.admission.key.vpn comes.loads.moves.small comes.loads.moves.page v page f at saving) machine.out;
       }
 
       pub come_machine : IsMachine next

@@ -78,10 +78,10 @@ module _ {S : Type 0} where
     )
 
     -- the frame holds what was copied, so that it is the device that failed
-    device_failed : (failure : SaveFailure) (q' : ProcessSideValue S) → Settles saved (LeavesAgain failure saved) q q' → failure ≡ Device
+    device_failed : (failure : SaveFailure) (q' : ProcessSideValue S) → Settles (LeavesAgain failure saved) q q' → failure ≡ Device
     device_failed Device q' settles = refl
     device_failed Mismatch q' settles =
-        let told = settles.page.1.1 in
+        let told = settles.moves.page.1.1 in
         let page : told.page ≡ out.page = let a = told.found in let b = at in cc in
         let place : ◌≡◌ {A = Place S} (Saving told.how.frame) (Saving out.frame) = sym told.how.was ∙ ap (λ (p : PageValue S). p.place) page ∙ out.saving in
         let frame : told.how.frame ≡ out.frame = cc in

@@ -11,7 +11,8 @@ use Rattle.space_core.specs.StandsFor.{SpaceValue}
 use Rattle.machine_core.specs.declared.error.EventRefusal.TheVariants as refusal
 use Rattle.machine_core.specs.Machine.{CoreValue, IsMachine}
 use Rattle.machine_core.specs.MachineRun.{of_process}
-use Rattle.machine_sides.specs.SavingBack.{is_saving_at, is_saving_stage}
+use Rattle.paged_memory.specs.Stages.{is_saving_stage}
+use Rattle.machine_sides.specs.SavingBack.{is_saving_at}
 use Rattle.machine_core.specs.SavingOut.{saving_reason, saved_refusal, is_save_of}
 use Rattle.machine_sides.specs.Sides.{ProcessSideValue}
 use Rattle.machine_sides.specs.Together.{savings_in, key_of}

@@ -162,7 +162,7 @@ module _ {S : Type 0} where
   page_in_tells held honest failures key old new answer once =
       quiet_tells (PageIn key) old new answer key.process once.process once.process' once.found once.processes
       (elim once.how [
-        | inl comes ↦ same_beside once.process.space once.process'.space comes.loads.rest.stays
+        | inl comes ↦ same_beside once.process.space once.process'.space comes.loads.stays
         | inr not ↦ elim not [
           | inl back ↦ same_beside once.process.space once.process'.space back.rest.stays
           | inr unlisted ↦ same_all once.process.space once.process'.space (ap (λ (p : ProcessSideValue S). p.space) unlisted.process_is)

@@ -14,14 +14,6 @@ use Rattle.machine_core.specs.declared.event.Reply.TheVariants.{Refused}
 use Rattle.machine_core.specs.declared.event.Reply.TheVariants as reply
 
 module _ {S : Type 0} where
-  -- a process of which nothing but its pages changes
-  same_paged : (old new : ProcessSideValue S) → new ≡ record old { space = record old.space { memory = record old.space.memory { pages = new.space.memory.pages } } } → SameOrder old.space new.space
-  same_paged old new stays = record {
-    image = ap (λ (p : ProcessSideValue S). p.space.image) stays;
-    input = ap (λ (p : ProcessSideValue S). p.space.input) stays;
-    schedule = ap (λ (p : ProcessSideValue S). p.space.schedule) stays;
-  }
-
   -- the order of the process stays, and no victim is told
   record IsQuiet (process process' : ProcessSideValue S) (answer : Reply) : Type 0 where
     pub same : SameOrder process.space process'.space
@@ -33,11 +25,11 @@ module _ {S : Type 0} where
     no_victim = λ k is. let e : reply.NotYet ≡ reply.Victim k = sym told ∙ is in cc;
   }
   collected_quiet vpn old new process process' answer (freed how jobs told) = record {
-    same = same_paged process process' how.drops.stays;
+    same = same_side process process' how.drops.stays;
     no_victim = λ k is. let e : reply.Freed ≡ reply.Victim k = sym told ∙ is in cc;
   }
   collected_quiet vpn old new process process' answer (dirty job how jobs told) = record {
-    same = same_paged process process' how.saving.stays;
+    same = same_side process process' how.saving.stays;
     no_victim = λ k is. let e : reply.Dirty ≡ reply.Victim k = sym told ∙ is in cc;
   }
   collected_quiet vpn old new process process' answer (no_slot how jobs told) = record {
@@ -59,10 +51,10 @@ module _ {S : Type 0} where
   saved_tells held honest failures key old new answer once =
       quiet_tells (Saved key) old new answer key.process once.process once.process' once.found once.processes
       (elim once.ends [
-        | inl passed ↦ same_paged once.process once.process' passed.0.settles.stays
+        | inl passed ↦ same_side once.process once.process' passed.0.settles.stays
         | inr failed ↦ elim failed [
-          | inl back ↦ then_same once.process.space back.0.between.space once.process'.space (same_paged once.process back.0.between back.0.settles.stays) (same_side back.0.between once.process' back.0.returns.mapped.stays)
-          | inr left ↦ same_paged once.process once.process' left.0.settles.stays
+          | inl back ↦ then_same once.process.space back.0.between.space once.process'.space (same_side once.process back.0.between back.0.settles.stays) (same_side back.0.between once.process' back.0.returns.mapped.stays)
+          | inr left ↦ same_side once.process once.process' left.0.settles.stays
         ]
       ])
       (λ _. refl)

@@ -17,13 +17,14 @@ use Rattle.page_store.specs.PageValue.{PageValue, Place, Fresh, Resident, Leavin
 use Rattle.paged_memory.specs.Calls.{accessed_at}
 use Rattle.paged_memory.specs.Counting.{page_passes, is_resident_place, residents_of}
 use Rattle.paged_memory.specs.CountingLaws.{none_where_pass, same_where_pass}
-use Rattle.paged_memory.specs.Paged.{page_at, seen_at, seen_of, standing_of}
+use Rattle.paged_memory.specs.Paged.{PagedValue, page_at, seen_at, seen_of, standing_of}
+use Rattle.paged_memory.specs.Stages.{is_resident_stage}
 use Rattle.pager_core.specs.Pager.{PagerState, pager_answered, admitted_with}
 use Rattle.space_core.specs.StandsFor.{SpaceValue}
 use Rattle.swap_slots.specs.PoolValue.{PoolValue}
 use Rattle.page_store.specs.JobValue.{SavedValue}
 use Rattle.page_store.specs.Moves.{copy_of}
-use Rattle.machine_sides.specs.Admitting.{AdmissionValue, Admits, is_resident_at, is_resident_stage, taken_back}
+use Rattle.machine_sides.specs.Admitting.{AdmissionValue, Admits, is_resident_at, taken_back}
 use Rattle.machine_sides.specs.Agreeing.{Agree, AgreeStill, AsksOf, AgreesPurged}
 use Rattle.machine_sides.specs.CollectLaws.{dropped_process, copied_process}
 use Rattle.machine_sides.specs.Collecting.{Looks}
@@ -277,7 +278,7 @@ module _ {S : Type 0} where
     looked_process looked.NotYet how = ap (λ (q : ProcessSideValue S). q.space.memory.process) how.stays.process_stays
     looked_process looked.Freed how = dropped_process vpn how.frame old new how.drops
     looked_process (looked.Dirty job) how = copied_process vpn job old new slots slots' how.saving
-    looked_process looked.NoSlot how = how.returns.mapped.process
+    looked_process looked.NoSlot how = how.returns.mapped.moves.process
     looked_process (looked.NotRestored reason) how = ap (λ (q : ProcessSideValue S). q.space.memory.process) how.leaves.stays
     looked_process (looked.HandedBack frame) how = dropped_process vpn frame old new how.drops
 
@@ -288,12 +289,12 @@ module _ {S : Type 0} where
     pub saved_agrees : {L : Type 0} (outcome : SaveOutcome L S) → EndsSave job pager pager' process process' outcome → AgreeStill None pager.pager pager'.pager process.space process'.space
     saved_agrees saved.Freed how = together_agree pager.pager pager'.pager process.space process'.space (freed_ends job pager pager' process process' how).together
     saved_agrees (saved.HandedBack frame) how =
-        let told = how.settles.page.1.1 in
+        let told = how.settles.moves.page.1.1 in
         let is : told.page'.place ≡ Away (copy_of job) = ap (λ (p : PageValue S). p.place) told.how.is in
-        let same : process'.space.memory.process ≡ process.space.memory.process = ap (λ (q : ProcessSideValue S). q.space.memory.process) how.settles.stays in
+        let same : process'.space.memory.process ≡ process.space.memory.process = ap (λ (m : PagedValue S). m.process) how.settles.moves.stays in
         listed_agree pager.pager pager'.pager process.space process'.space same
         (λ test.
-        let moved : residents_in process'.space test + 0 ≡ residents_in process.space test + 0 = moved_residents _ process.space process'.space job.vpn how.settles.page.1.0 told _ _ told.how.was is same test in
+        let moved : residents_in process'.space test + 0 ≡ residents_in process.space test + 0 = moved_residents _ process.space process'.space job.vpn how.settles.moves.page.1.0 told _ _ told.how.was is same test in
         let listed : residents pager'.pager.list test ≡ residents pager.pager.list test = ap (λ (p : PagerSideValue). residents p.pager.list test) how.stays in
         omega (arith, moved, listed))
     saved_agrees (saved.WrongPage back) how = same_agree pager pager' process process' how.pager_stays how.process_stays
@@ -324,8 +325,8 @@ module _ {S : Type 0} where
   module _ (held : S → List ℕ) (honest : Type 0) (admission : AdmissionValue) (old new : SpaceValue S) where
     loaded_agree : (pager : PagerState) → Loads held honest admission old new → AgreeStill (Some (key_of old.memory.process admission.key.vpn)) pager pager old new
     loaded_agree pager loads = record {
-      process = loads.rest.process;
-      agree = λ vpn out agreed. agreed ∙ sym (left_counts old new vpn loads.rest.process (others_stay _ old.memory.pages new.memory.pages admission.key.vpn loads.page vpn (λ e. out (ap (λ n. Some (key_of old.memory.process n)) (sym e)))));
+      process = loads.moves.process;
+      agree = λ vpn out agreed. agreed ∙ sym (left_counts old new vpn loads.moves.process (others_stay _ old.memory.pages new.memory.pages admission.key.vpn loads.moves.page vpn (λ e. out (ap (λ n. Some (key_of old.memory.process n)) (sym e)))));
     }
 
     pub loads_agree : {A E : Type 0} (result : Result A E) → OnOk result (Loads held honest admission old new) → OnOk result ((pager : PagerState) → AgreeStill (Some (key_of old.memory.process admission.key.vpn)) pager pager old new)

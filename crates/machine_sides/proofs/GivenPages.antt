@@ -13,9 +13,10 @@ use Rattle.sv32_table.specs.EntryAt.{entry_at}
 use Rattle.paged_memory.specs.Counting.{pages_where, frame_passes, is_kept, frames_of, slots_of}
 use Rattle.paged_memory.specs.CountingLaws.{pages_changed}
 use Rattle.paged_memory.specs.GivingBack.{GivesOne, GivesNothing}
+use Rattle.paged_memory.specs.Moving.{has_to_give, place_given, page_given}
 use Rattle.paged_memory.specs.Paged.{page_at}
 use Rattle.space_core.specs.StandsFor.{SpaceValue}
-use Rattle.machine_sides.specs.Purging.{has_to_give, place_given, page_given, IsGiven, IsLeft}
+use Rattle.machine_sides.specs.Purging.{IsGiven, IsLeft}
 
 module _ {S : Type 0} where
   -- a place that gives this back

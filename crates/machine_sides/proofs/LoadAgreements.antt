@@ -18,9 +18,10 @@ use Rattle.paged_memory.specs.Filling.{StaysAbsent, RefusesPageIn}
 use Rattle.paged_memory.specs.Paged.{page_at}
 use Rattle.paged_memory.specs.declared.filling.PageInFault.{PageInFault}
 use Rattle.paged_memory.specs.declared.filling.PageInFault.TheVariants.{NotAbsent, Device, Damaged, NoMemory}
+use Rattle.paged_memory.specs.Stages.{is_resident_stage}
 use Rattle.pager_core.specs.Pager.{PagerState}
 use Rattle.space_core.specs.StandsFor.{SpaceValue}
-use Rattle.machine_sides.specs.Admitting.{AdmissionValue, is_resident_at, is_resident_stage}
+use Rattle.machine_sides.specs.Admitting.{AdmissionValue, is_resident_at}
 use Rattle.machine_sides.specs.Agreeing.{AgreeStill, AgreesWhereListed}
 use Rattle.machine_sides.specs.Loading.{Loads, DoesNotLoad}
 use Rattle.machine_sides.specs.MoveLaws.{moved_residents}
@@ -98,11 +99,11 @@ module _ {S : Type 0} where
     -- the page that came in is counted once
     loaded_counts : Loads held honest admission old new → residents_in new (is_key loaded_key) ≡ 1
     loaded_counts loads =
-        let came = came_in admission.frame loads.page.page loads.page.page' loads.page.how.filled in
-        let moved = moved_residents _ old new admission.key.vpn loads.small loads.page loads.page.page.place loads.page.page'.place refl refl loads.rest.process (is_key loaded_key) in
-        let before = counts_not (is_resident_place loads.page.page.place) (is_key loaded_key loaded_key) came.was in
-        let after = counts_one (is_resident_place loads.page.page'.place) (is_key loaded_key loaded_key) came.is (is_key_self loaded_key) in
-        let none = absent_counts old loaded_key (not_resident_at old admission.key.vpn loads.page.page loads.small loads.page.found came.stage) in
+        let came = came_in admission.frame loads.moves.page.page loads.moves.page.page' loads.moves.page.how.filled in
+        let moved = moved_residents _ old new admission.key.vpn loads.moves.small loads.moves.page loads.moves.page.page.place loads.moves.page.page'.place refl refl loads.moves.process (is_key loaded_key) in
+        let before = counts_not (is_resident_place loads.moves.page.page.place) (is_key loaded_key loaded_key) came.was in
+        let after = counts_one (is_resident_place loads.moves.page.page'.place) (is_key loaded_key loaded_key) came.is (is_key_self loaded_key) in
+        let none = absent_counts old loaded_key (not_resident_at old admission.key.vpn loads.moves.page.page loads.moves.small loads.moves.page.found came.stage) in
         omega (arith, moved, before, after, none)
 
     loaded_meets : Loads held honest admission old new → AgreesWhereListed new loaded_key

@@ -1,5 +1,5 @@
 -- A look at a page that is to leave its frame: first with no slot to spare, and then, for a changed page without one, with a free slot.
-use Rattle.std.proofs.Common.{◌≡◌, ℕ, ◌^◌, ◌<◌, Bool, true, false, ◌||◌, Option, Some, None, option_map, [], ◌∷◌, ◌++◌, IsNone, IfSome, IfNone, ◌↔◌, refl, sym, ap, ◌∙◌, subst}
+use Rattle.std.proofs.Common.{◌≡◌, ℕ, ◌^◌, ◌<◌, Bool, true, false, ◌||◌, Option, Some, None, option_map, option_and_then, [], ◌∷◌, ◌++◌, IsNone, IfSome, IfNone, ◌↔◌, refl, sym, ap, ◌∙◌, subst}
 use Rattle.std.specs.Prelude.{if◌then◌else◌}
 use borrow.Author.Tests.{lt-ltb}
 use Rattle.frame_pool.specs.FrameValue.{FrameValue}
@@ -9,13 +9,15 @@ use Rattle.page_store.specs.declared.state.Keeping.{Keeping}
 use Rattle.page_store.specs.declared.state.Keeping.TheVariants.{NoSlot, Unsaved, Saved}
 use Rattle.page_store.specs.Kept.{kept}
 use Rattle.page_store.specs.Moves.{CollectedPage, collected, collect_leaving, let_go, with_spare, job_of}
-use Rattle.page_store.specs.PageValue.{PageValue, Place, Fresh, Resident, Leaving, Saving, Away, Purged, page_state_of, is_unsaved}
+use Rattle.page_store.specs.PageValue.{PageValue, Place, Fresh, Resident, Leaving, Saving, Away, Purged, page_state_of, is_unsaved, slot_of}
 use Rattle.paged_memory.specs.Leaving.{CollectsAt, lets_go}
-use Rattle.paged_memory.specs.Paged.{page_at, ChangesPage}
+use Rattle.paged_memory.specs.Moving.{WantsSlot, counts_changed, dropped_to, slot_in}
+use Rattle.paged_memory.specs.Paged.{PagedValue, page_at, ChangesPage}
 use Rattle.paged_memory.specs.Soundness.{is_held}
+use Rattle.paged_memory.specs.Stages.{is_leaving_stage}
 use Rattle.space_core.specs.StandsFor.{SpaceValue}
 use Rattle.swap_slots.specs.PoolValue.{PoolValue}
-use Rattle.machine_sides.specs.Collecting.{is_leaving_stage, is_leaving_at, counts_changed, IsLeaving, Finds, Drops, StartsSaving, dropped_to, TakesSlot}
+use Rattle.machine_sides.specs.Collecting.{is_leaving_at, IsLeaving, Finds, Drops, StartsSaving, TakesSlot}
 use Rattle.machine_sides.specs.Sides.{ProcessSideValue}
 
 module _ {S : Type 0} where
@@ -25,11 +27,8 @@ module _ {S : Type 0} where
       ∙ ap (λ o. is_leaving_stage (option_map (λ page. page_state_of page.place) o)) at
 
   -- a page that is leaving, held by no cache, that counts as changed and has no slot
-  pub record IsSlotless (vpn : ℕ) (space : SpaceValue S) : Type 0 where
-    pub page : IsLeaving vpn space
-    pub held : is_held vpn space.memory.caches ≡ false
-    pub changed : counts_changed page.page ≡ true
-    pub slotless : page.slot ≡ NoSlot
+  abbrev pub IsSlotless : ℕ → SpaceValue S → Type 0
+  IsSlotless vpn space = WantsSlot vpn space.memory
 
 module _ (L S : Type 0) (vpn : ℕ) (old new : ProcessSideValue S) (slots slots' : PoolValue S) where
   -- what a look with no slot to spare comes to, or one with a slot that was not needed
@@ -50,6 +49,13 @@ module _ (L S : Type 0) (vpn : ℕ) (old new : ProcessSideValue S) (slots slots'
   module _ (small : vpn < 2 ^ 20) (stays : new ≡ record old { space = record old.space { memory = record old.space.memory { pages = new.space.memory.pages } } })
       (page page' : PageValue S) (found : page_at old.space.memory.pages vpn ≡ Some page) (origin : page'.origin ≡ page.origin)
       (changed : ChangesPage old.space.memory.pages new.space.memory.pages vpn page') where
+    -- what changes of the process is its memory, and of that its pages
+    memory_stays : new.space.memory ≡ record old.space.memory { pages = new.space.memory.pages }
+    memory_stays = ap (λ (q : ProcessSideValue S). q.space.memory) stays
+
+    side_stays : new ≡ record old { space = record old.space { memory = new.space.memory } }
+    side_stays = stays ∙ ap (λ (m : PagedValue S). record old { space = record old.space { memory = m } }) (sym memory_stays)
+
     moved : (place : Place S) → page'.place ≡ place → page' ≡ record page { place = place }
     moved place at = ap (λ o. record { origin = o; place = page'.place }) origin ∙ ap (λ p. record { origin = page.origin; place = p }) at
 
@@ -64,22 +70,28 @@ module _ (L S : Type 0) (vpn : ℕ) (old new : ProcessSideValue S) (slots slots'
 
     drops : (frame : FrameValue) (slot : Keeping S) (mark : Bool) → is_held vpn old.space.memory.caches ≡ false → page.place ≡ Leaving frame slot mark → (mark || is_unsaved slot) ≡ false → page'.place ≡ dropped_to slot → Drops vpn frame old new
     drops frame slot mark held at unchanged is = record {
-      small = small;
-      held = held;
-      page = record { page = page; page' = page'; found = found; changes = changed; how = record { slot = slot; mark = mark; was = at; unchanged = counts frame slot mark false at unchanged; is = moved (dropped_to slot) is } };
-      stays = stays;
+      moves = record {
+        small = small;
+        held = held;
+        page = record { page = page; page' = page'; found = found; changes = changed; how = record { slot = slot; mark = mark; was = at; unchanged = counts frame slot mark false at unchanged; is = moved (dropped_to slot) is } };
+        stays = memory_stays;
+      };
+      stays = side_stays;
     }
 
     saves : (frame : FrameValue) (slot : Keeping S) (mark : Bool) (taken : S) → is_held vpn old.space.memory.caches ≡ false → page.place ≡ Leaving frame slot mark → (mark || is_unsaved slot) ≡ true → page'.place ≡ Saving frame
         → TakesSlot (kept slot) taken slots.free slots'.free → slots'.size ≡ slots.size → StartsSaving vpn (job_of old.space.memory.process vpn frame taken) old new slots slots'
     saves frame slot mark taken held at counted is takes size = record {
-      small = small;
-      held = held;
-      page = record { page = page; page' = page'; found = found; changes = changed; how = record { frame = frame; slot = slot; mark = mark; was = at; changed = counts frame slot mark true at counted; is = moved (Saving frame) is; copy = refl } };
-      stays = stays;
-      process = refl;
-      vpn_is = refl;
-      slot = takes;
+      moves = record {
+        small = small;
+        held = held;
+        page = record { page = page; page' = page'; found = found; changes = changed; how = record { frame = frame; slot = slot; mark = mark; was = at; changed = counts frame slot mark true at counted; is = moved (Saving frame) is; copy = refl } };
+        stays = memory_stays;
+        process = refl;
+        vpn_is = refl;
+      };
+      stays = side_stays;
+      slot = subst (λ o. TakesSlot o taken slots.free slots'.free) (sym (ap (option_and_then (λ (p : PageValue S). kept (slot_of p.place))) found ∙ ap (λ p. kept (slot_of p)) at)) takes;
       size = size;
     }
 
@@ -153,7 +165,7 @@ module _ (L S : Type 0) (vpn : ℕ) (old new : ProcessSideValue S) (slots slots'
       second_look None spare' a how same empty taken none size =
           let told : a ≡ answer.NoSlot = ap (λ (t : CollectedPage L S). t.1.1) (reached None spare' a how) in
           subst (Finds vpn old new slots slots') (sym told)
-          (record { page = slotless.page; held = slotless.held; changed = slotless.changed; slotless = slotless.slotless; empty = empty.0 refl }, (same (ap lets_go told), same_pool none size))
+          (record { wants = slotless; empty = empty.0 refl }, (same (ap lets_go told), same_pool none size))
       second_look (Some slot) spare' a how same empty taken none size =
           let to = reached (Some slot) spare' a how in
           subst (Finds vpn old new slots slots') (sym (ap (λ (t : CollectedPage L S). t.1.1) to))

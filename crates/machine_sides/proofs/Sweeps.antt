@@ -84,8 +84,8 @@ module _ {S : Type 0} where
       by_place Purged is h = cc
 
   read_pages : (bit : Bit) (vpn : ℕ) (old new : SpaceValue S) → is_gone bit ≡ false → ReadsBit bit vpn old new → new.memory.pages ≡ old.memory.pages
-  read_pages Zero vpn old new there read = read.pages
-  read_pages One vpn old new there read = read.pages
+  read_pages Zero vpn old new there read = read.moves.pages
+  read_pages One vpn old new there read = read.moves.pages
   read_pages Gone vpn old new there read = cc
 
   -- a victim's page is resident when it begins to leave

@@ -5,9 +5,8 @@ use Rattle.clock_policy.specs.ClockPro.{ClockState, kind_of, withdrawn}
 use Rattle.clock_policy.specs.Lawful.{Lawful}
 use Rattle.frame_pool.specs.FrameValue.{FrameValue}
 use Rattle.page_store.specs.declared.state.PageState.{PageState}
-use Rattle.page_store.specs.declared.state.PageState.TheVariants as stage
-use Rattle.page_store.specs.PageValue.{page_state_of}
-use Rattle.paged_memory.specs.Paged.{page_at}
+use Rattle.paged_memory.specs.Stages.{is_absent_stage, is_resident_stage}
+use Rattle.paged_memory.specs.Whole.{stage_in}
 use Rattle.pager_core.specs.declared.refusal.AdmitRefusal.{AdmitRefusal}
 use Rattle.pager_core.specs.declared.refusal.AdmitRefusal.TheVariants as pager
 use Rattle.pager_core.specs.Pager.{PagerState, admission_refused, admitted_with}
@@ -20,24 +19,6 @@ use Rattle.machine_sides.specs.declared.admission.NotAdmitted.TheVariants.{Ended
 pub record AdmissionValue : Type 0 where
   pub key : Key
   pub frame : FrameValue
-
-abbrev pub is_absent_stage : Option PageState → Bool
-is_absent_stage None = false
-is_absent_stage (Some stage.Fresh) = true
-is_absent_stage (Some stage.Resident) = false
-is_absent_stage (Some stage.Leaving) = false
-is_absent_stage (Some stage.Saving) = false
-is_absent_stage (Some stage.Away) = true
-is_absent_stage (Some stage.Purged) = false
-
-abbrev pub is_resident_stage : Option PageState → Bool
-is_resident_stage None = false
-is_resident_stage (Some stage.Fresh) = false
-is_resident_stage (Some stage.Resident) = true
-is_resident_stage (Some stage.Leaving) = false
-is_resident_stage (Some stage.Saving) = false
-is_resident_stage (Some stage.Away) = false
-is_resident_stage (Some stage.Purged) = false
 
 -- why the pager does not admit a page
 abbrev pub pager_refusal : AdmitRefusal → NotAdmitted
@@ -61,7 +42,7 @@ told_by NoMemory = None
 module _ {S : Type 0} where
   -- where the page of a number is, whatever the number
   abbrev pub stage_at : SpaceValue S → ℕ → Option PageState
-  stage_at space vpn = if nat_lt vpn (2 ^ 20) then option_map (λ page. page_state_of page.place) (page_at space.memory.pages vpn) else None
+  stage_at space vpn = if nat_lt vpn (2 ^ 20) then stage_in space.memory vpn else None
 
   abbrev pub is_absent_at : SpaceValue S → ℕ → Bool
   is_absent_at space vpn = is_absent_stage (stage_at space vpn)

@@ -4,7 +4,7 @@ use Rattle.clock_policy.specs.declared.key.Key.{Key}
 use Rattle.clock_policy.specs.ClockPro.{question_of}
 use Rattle.clock_policy.specs.Lawful.{Lawful}
 use Rattle.clock_policy.specs.Residents.{residents, is_key, has_resident}
-use Rattle.paged_memory.specs.Paged.{page_at}
+use Rattle.paged_memory.specs.Moving.{SamePage}
 use Rattle.pager_core.specs.Pager.{PagerState}
 use Rattle.space_core.specs.StandsFor.{SpaceValue}
 use Rattle.machine_sides.specs.declared.purging.Purging.{Purging}
@@ -34,4 +34,4 @@ module _ {S : Type 0} where
   AgreesPurged pager pager' space space' Done = AgreeStill None pager pager' space space'
   AgreesPurged pager pager' space space' (Refused reason) = AgreeStill None pager pager' space space'
   AgreesPurged pager pager' space space' (HandedBack frame slot) =
-      (vpn : ℕ) → page_at space'.memory.pages vpn ≡ page_at space.memory.pages vpn → Agree pager space (key_of space.memory.process vpn) → Agree pager' space' (key_of space.memory.process vpn)
+      (vpn : ℕ) → SamePage space.memory space'.memory vpn → Agree pager space (key_of space.memory.process vpn) → Agree pager' space' (key_of space.memory.process vpn)

@@ -1,36 +1,20 @@
 -- A page that is to leave its frame is looked at: what becomes of its process, of the pager and of the free slots.
-use Rattle.std.specs.Prelude.{◌≡◌, ◌≢◌, ℕ, ◌^◌, ◌<◌, Bool, true, false, Option, Some, None, List, [], ◌∷◌, ◌++◌, length}
+use Rattle.std.specs.Prelude.{◌≡◌, ◌≢◌, ℕ, Bool, false, Option, Some, None, List, [], ◌∷◌, ◌++◌, length}
 use Rattle.clock_policy.specs.declared.refusal.Refusal.{Refusal}
 use Rattle.frame_pool.specs.FrameValue.{FrameValue}
 use Rattle.page_store.specs.JobValue.{JobValue}
-use Rattle.page_store.specs.Kept.{kept}
 use Rattle.page_store.specs.declared.answer.Collected.{Collected}
 use Rattle.page_store.specs.declared.answer.Collected.TheVariants as answer
-use Rattle.page_store.specs.declared.state.Keeping.{Keeping}
-use Rattle.page_store.specs.declared.state.Keeping.TheVariants as keeping
-use Rattle.page_store.specs.declared.state.PageState.{PageState}
-use Rattle.page_store.specs.declared.state.PageState.TheVariants as stage
-use Rattle.page_store.specs.PageValue.{PageValue, Place, Fresh, Leaving, Saving, Away, changed}
 use Rattle.pager_core.specs.Pager.{tallied}
-use Rattle.paged_memory.specs.Calls.{ChangesBy}
-use Rattle.paged_memory.specs.Paged.{page_at}
-use Rattle.paged_memory.specs.Soundness.{is_held}
+use Rattle.paged_memory.specs.Moving.{IsLeavingPage, IsCachedStill, WantsSlot, GoesToBacking, GoesToBeSaved, slot_in}
+use Rattle.paged_memory.specs.Stages.{is_leaving_stage}
 use Rattle.space_core.specs.StandsFor.{SpaceValue}
 use Rattle.swap_slots.specs.PoolValue.{PoolValue}
 use Rattle.machine_sides.specs.Admitting.{stage_at}
 use Rattle.machine_sides.specs.Returning.{ComesBack, StaysLeaving}
-use Rattle.machine_sides.specs.Sides.{PagerSideValue, ProcessSideValue}
+use Rattle.machine_sides.specs.Sides.{PagerSideValue, ProcessSideValue, MovesSide}
 use Rattle.machine_sides.specs.declared.collecting.Looked.{Looked}
 use Rattle.machine_sides.specs.declared.collecting.Looked.TheVariants.{NotLeaving, NotYet, Freed, Dirty, NoSlot, NotRestored, HandedBack}
-
-abbrev pub is_leaving_stage : Option PageState → Bool
-is_leaving_stage None = false
-is_leaving_stage (Some stage.Fresh) = false
-is_leaving_stage (Some stage.Resident) = false
-is_leaving_stage (Some stage.Leaving) = true
-is_leaving_stage (Some stage.Saving) = false
-is_leaving_stage (Some stage.Away) = false
-is_leaving_stage (Some stage.Purged) = false
 
 -- the frame of an unchanged page is free, and counted; one is missing there
 pub record FreesDropped (frame : FrameValue) (old new : PagerSideValue) : Type 0 where
@@ -42,62 +26,22 @@ module _ {S : Type 0} where
   abbrev pub is_leaving_at : SpaceValue S → ℕ → Bool
   is_leaving_at space vpn = is_leaving_stage (stage_at space vpn)
 
-  -- whether a page that is leaving counts as changed: by the mark that it took along, or since its slot holds nothing for it yet
-  abbrev pub counts_changed : PageValue S → Bool
-  counts_changed page = changed false page.place
-
   -- a page that is leaving, with its frame and its slot
-  pub record IsLeaving (vpn : ℕ) (space : SpaceValue S) : Type 0 where
-    pub small : vpn < 2 ^ 20
-    pub page : PageValue S
-    pub frame : FrameValue
-    pub slot : Keeping S
-    pub mark : Bool
-    pub found : page_at space.memory.pages vpn ≡ Some page
-    pub leaving : page.place ≡ Leaving frame slot mark
+  abbrev pub IsLeaving : ℕ → SpaceValue S → Type 0
+  IsLeaving vpn space = IsLeavingPage vpn space.memory
 
   -- a cache holds a translation of it still
-  pub record IsHeldByCache (vpn : ℕ) (space : SpaceValue S) : Type 0 where
-    pub page : IsLeaving vpn space
-    pub held : is_held vpn space.memory.caches ≡ true
+  abbrev pub IsHeldByCache : ℕ → SpaceValue S → Type 0
+  IsHeldByCache vpn space = IsCachedStill vpn space.memory
 
   -- no cache does; it counts as changed and has no slot, and none is free
   pub record LacksSlot (vpn : ℕ) (space : SpaceValue S) (slots : PoolValue S) : Type 0 where
-    pub page : IsLeaving vpn space
-    pub held : is_held vpn space.memory.caches ≡ false
-    pub changed : counts_changed page.page ≡ true
-    pub slotless : page.slot ≡ keeping.NoSlot
+    pub wants : WantsSlot vpn space.memory
     pub empty : slots.free ≡ []
 
-  -- where an unchanged page goes that lets its frame go: to its slot, or to what it began with; one whose slot holds nothing for it counts as changed, and
-  -- goes nowhere
-  abbrev pub dropped_to : Keeping S → Place S
-  dropped_to keeping.NoSlot = Fresh
-  dropped_to (keeping.Unsaved slot) = Away (record { slot = slot; digest = [] })
-  dropped_to (keeping.Saved copy) = Away copy
-
-  pub record GoesToBacking (frame : FrameValue) (page page' : PageValue S) : Type 0 where
-    pub slot : Keeping S
-    pub mark : Bool
-    pub was : page.place ≡ Leaving frame slot mark
-    pub unchanged : counts_changed page ≡ false
-    pub is : page' ≡ record page { place = dropped_to slot }
-
   -- an unchanged page that no cache holds goes to its backing, and lets this frame go
-  pub record Drops (vpn : ℕ) (frame : FrameValue) (old new : ProcessSideValue S) : Type 0 where
-    pub small : vpn < 2 ^ 20
-    pub held : is_held vpn old.space.memory.caches ≡ false
-    pub page : ChangesBy (GoesToBacking frame) old.space.memory.pages new.space.memory.pages vpn
-    pub stays : new ≡ record old { space = record old.space { memory = record old.space.memory { pages = new.space.memory.pages } } }
-
-  pub record GoesToBeSaved (job : JobValue S) (page page' : PageValue S) : Type 0 where
-    pub frame : FrameValue
-    pub slot : Keeping S
-    pub mark : Bool
-    pub was : page.place ≡ Leaving frame slot mark
-    pub changed : counts_changed page ≡ true
-    pub is : page' ≡ record page { place = Saving frame }
-    pub copy : job.copy ≡ frame.bytes
+  abbrev pub Drops : ℕ → FrameValue → ProcessSideValue S → ProcessSideValue S → Type 0
+  Drops vpn frame old new = MovesSide (GoesToBacking vpn frame) old new
 
   -- which slot a job takes: the page's own, or else one that was free
   abbrev pub TakesSlot : Option S → S → List S → List S → Type 0
@@ -106,13 +50,9 @@ module _ {S : Type 0} where
 
   -- a changed page that no cache holds is copied into a job, with its slot or else a free one, and is being saved
   pub record StartsSaving (vpn : ℕ) (job : JobValue S) (old new : ProcessSideValue S) (slots slots' : PoolValue S) : Type 0 where
-    pub small : vpn < 2 ^ 20
-    pub held : is_held vpn old.space.memory.caches ≡ false
-    pub page : ChangesBy (GoesToBeSaved job) old.space.memory.pages new.space.memory.pages vpn
-    pub stays : new ≡ record old { space = record old.space { memory = record old.space.memory { pages = new.space.memory.pages } } }
-    pub process : job.process ≡ old.space.memory.process
-    pub vpn_is : job.vpn ≡ vpn
-    pub slot : TakesSlot (kept page.how.slot) job.slot slots.free slots'.free
+    pub moves : GoesToBeSaved vpn job old.space.memory new.space.memory
+    pub stays : new ≡ record old { space = record old.space { memory = new.space.memory } }
+    pub slot : TakesSlot (slot_in old.space.memory vpn) job.slot slots.free slots'.free
     pub size : slots'.size ≡ slots.size
 
   module _ {L : Type 0} (vpn : ℕ) (old new : ProcessSideValue S) (slots slots' : PoolValue S) where

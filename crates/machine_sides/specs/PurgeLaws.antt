@@ -16,11 +16,12 @@ use Rattle.paged_memory.specs.Counting.{page_passes, pages_below, pages_where, i
 use Rattle.paged_memory.specs.CountingLaws.{none_where_pass, same_where_pass}
 use Rattle.paged_memory.specs.GivingBack.{SavesOne}
 use Rattle.paged_memory.specs.Leaving.{IsSaving}
-use Rattle.paged_memory.specs.Paged.{page_at}
+use Rattle.paged_memory.specs.Moving.{place_given, page_given}
+use Rattle.paged_memory.specs.Paged.{PagedValue, page_at}
 use Rattle.pager_core.specs.Pager.{PagerState, with_list}
 use Rattle.space_core.specs.StandsFor.{SpaceValue}
 use Rattle.swap_slots.specs.PoolValue.{PoolValue}
-use Rattle.machine_sides.specs.Purging.{is_saving_any, purge_bars, place_given, page_given, GivesAll, GivesToPools, PurgesAll}
+use Rattle.machine_sides.specs.Purging.{is_saving_any, purge_bars, GivesAll, GivesToPools, PurgesAll}
 use Rattle.machine_sides.specs.declared.purging.PurgeRefusal.TheVariants.{NotEnded, SavingStill, AlreadyPurged}
 use Rattle.machine_sides.specs.Sides.{PagerSideValue, ProcessSideValue}
 use Rattle.machine_sides.specs.Together.{Together, residents_in, savings_in, frames_in, frames_where, key_of}
@@ -117,21 +118,21 @@ module _ {S : Type 0} where
       by_place (Away slot) h = refl
       by_place Purged h = refl
 
-  pub is_saving_some : (pages : List (ℕ × PageValue S)) → SavesOne pages → is_saving_any pages ≡ true
+  pub is_saving_some : (memory : PagedValue S) → SavesOne memory.pages → is_saving_any memory ≡ true
   unfolding is_saving_any
-  is_saving_some pages one = by_number (eqb_tells (savings_of pages (λ _. true)) 0)
+  is_saving_some memory one = by_number (eqb_tells (savings_of memory.pages (λ _. true)) 0)
     where
-      by_number : (((savings_of pages (λ _. true) == 0) ≡ true) × (savings_of pages (λ _. true) ≡ 0)) ⊎ (((savings_of pages (λ _. true) == 0) ≡ false) × ((savings_of pages (λ _. true) ≡ 0) → ⊥)) → not (savings_of pages (λ _. true) == 0) ≡ true
+      by_number : (((savings_of memory.pages (λ _. true) == 0) ≡ true) × (savings_of memory.pages (λ _. true) ≡ 0)) ⊎ (((savings_of memory.pages (λ _. true) == 0) ≡ false) × ((savings_of memory.pages (λ _. true) ≡ 0) → ⊥)) → not (savings_of memory.pages (λ _. true) == 0) ≡ true
       by_number (inl same) =
-          let no = none_passes (λ number page. is_saving_place page.place && true) pages one.number one.small same.1 in
-          let yes = saving_passes (page_at pages one.number) one.saving in
+          let no = none_passes (λ number page. is_saving_place page.place && true) memory.pages one.number one.small same.1 in
+          let yes = saving_passes (page_at memory.pages one.number) one.saving in
           cc
       by_number (inr apart) = ap not apart.0
 
-  pub is_saving_none : (pages : List (ℕ × PageValue S)) → ((q : ℕ) → q < 2 ^ 20 → IsSaving (page_at pages q) → ⊥) → is_saving_any pages ≡ false
+  pub is_saving_none : (memory : PagedValue S) → ((q : ℕ) → q < 2 ^ 20 → IsSaving (page_at memory.pages q) → ⊥) → is_saving_any memory ≡ false
   unfolding is_saving_any
-  is_saving_none pages none =
-      let no : savings_of pages (λ _. true) ≡ 0 = none_where_pass (λ number page. is_saving_place page.place && true) pages (λ number small. passes_saving (page_at pages number) (none number small)) in
+  is_saving_none memory none =
+      let no : savings_of memory.pages (λ _. true) ≡ 0 = none_where_pass (λ number page. is_saving_place page.place && true) memory.pages (λ number small. passes_saving (page_at memory.pages number) (none number small)) in
       ap (λ n. not (n == 0)) no
 
   -- ---- what is left of pages that gave everything back
@@ -154,7 +155,7 @@ module _ {S : Type 0} where
       by_place (Away slot) h = record { resident = λ test. refl; frame = λ test. refl; slot = refl }
       by_place Purged h = record { resident = λ test. refl; frame = λ test. refl; slot = refl }
 
-  module _ (old new : SpaceValue S) (gives : GivesAll old new) (quiet : is_saving_any old.memory.pages ≡ false) where
+  module _ (old new : SpaceValue S) (gives : GivesAll old new) (quiet : is_saving_any old.memory ≡ false) where
     none_saving : savings_of old.memory.pages (λ _. true) ≡ 0
     unfolding is_saving_any
     none_saving =
@@ -212,9 +213,9 @@ module _ {S : Type 0} where
   -- ---- the whole call
 
   -- a process that may give back has ended, none of its pages is being saved, and it has not given back before
-  pub unbarred : (process : ProcessSideValue S) → purge_bars process ≡ None → (is_some process.space.running.ending ≡ true) × ((is_saving_any process.space.memory.pages ≡ false) × (process.purged ≡ false))
+  pub unbarred : (process : ProcessSideValue S) → purge_bars process ≡ None → (is_some process.space.running.ending ≡ true) × ((is_saving_any process.space.memory ≡ false) × (process.purged ≡ false))
   unfolding purge_bars
-  unbarred process h = not_barred (is_some process.space.running.ending) (is_saving_any process.space.memory.pages) process.purged h
+  unbarred process h = not_barred (is_some process.space.running.ending) (is_saving_any process.space.memory) process.purged h
 
   -- no page holds a slot
   pub purged_slots : (pager pager' : PagerSideValue) (process process' : ProcessSideValue S) (pool pool' : PoolValue S) → PurgesAll pager pager' process process' pool pool' → slots_of process'.space.memory.pages ≡ 0

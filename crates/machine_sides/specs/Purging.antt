@@ -1,14 +1,13 @@
 -- An ended process gives everything back: its entries in the list, its frames and its slots.
-use Rattle.std.specs.Prelude.{◌≡◌, ◌⊎◌, ℕ, ◌+◌, ◌++◌, ◌^◌, ◌<◌, ◌==◌, ◌||◌, Bool, true, false, not, cond, is_some, length, map, List, [], ◌∷◌, Option, Some, None, option_map, if◌then◌else◌}
+use Rattle.std.specs.Prelude.{◌≡◌, ◌⊎◌, ℕ, ◌+◌, ◌++◌, ◌^◌, ◌<◌, ◌==◌, ◌||◌, Bool, true, false, not, cond, is_some, length, List, [], ◌∷◌, Option, Some, None, if◌then◌else◌}
 use Rattle.clock_policy.specs.ClockPro.{purged}
 use Rattle.frame_pool.specs.FrameValue.{FrameValue}
 use Rattle.swap_slots.specs.PoolValue.{PoolValue}
-use Rattle.page_store.specs.Moves.{given_back}
-use Rattle.page_store.specs.PageValue.{PageValue, Place, Fresh, Resident, Leaving, Saving, Away, Purged}
 use Rattle.sv32_table.specs.Entry.{blank}
-use Rattle.sv32_table.specs.EntryAt.{entry_at}
-use Rattle.paged_memory.specs.Counting.{frame_passes, savings_of, slots_of}
-use Rattle.paged_memory.specs.Paged.{page_at}
+use Rattle.paged_memory.specs.Counting.{frame_passes}
+use Rattle.paged_memory.specs.Moving.{has_to_give_in, SamePage, PageGiven, EmptiesCaches}
+use Rattle.paged_memory.specs.Paged.{PagedValue}
+use Rattle.paged_memory.specs.Whole.{entry_in, savings_among, slots_within}
 use Rattle.pager_core.specs.Pager.{PagerState}
 use Rattle.space_core.specs.StandsFor.{SpaceValue}
 use Rattle.machine_sides.specs.Sides.{PagerSideValue, ProcessSideValue}
@@ -35,43 +34,26 @@ module _ {S : Type 0} where
   Pools slot (Some back) old new = (slot ≡ Some back) × ((length old.free ≡ old.size) × (new ≡ old))
 
   -- whether a page of a process is being saved
-  unfoldable pub is_saving_any : List (ℕ × PageValue S) → Bool
-  is_saving_any pages = not (savings_of pages (λ _. true) == 0)
+  unfoldable pub is_saving_any : PagedValue S → Bool
+  is_saving_any memory = not (savings_among memory (λ _. true) == 0)
 
   -- why a process gives nothing back: the first reason that holds
   unfoldable pub purge_bars : ProcessSideValue S → Option PurgeRefusal
   purge_bars process =
       if is_some process.space.running.ending
-      then (if is_saving_any process.space.memory.pages then Some SavingStill else (if process.purged then Some AlreadyPurged else None))
+      then (if is_saving_any process.space.memory then Some SavingStill else (if process.purged then Some AlreadyPurged else None))
       else Some NotEnded
-
-  -- whether a page has a frame or a slot to give back
-  abbrev pub has_to_give : Option (PageValue S) → Bool
-  has_to_give None = false
-  has_to_give (Some page) = is_some (given_back page.place)
-
-  -- a page that has is given up for good, and any other stays where it is
-  abbrev pub place_given : Place S → Place S
-  place_given Fresh = Fresh
-  place_given (Resident frame slot) = Purged
-  place_given (Leaving frame slot mark) = Purged
-  place_given (Saving frame) = Saving frame
-  place_given (Away slot) = Purged
-  place_given Purged = Purged
-
-  abbrev pub page_given : PageValue S → PageValue S
-  page_given page = record page { place = place_given page.place }
 
   -- a page gave back what it had, and is unmapped
   pub record IsGiven (old new : SpaceValue S) (number : ℕ) : Type 0 where
-    pub had : has_to_give (page_at old.memory.pages number) ≡ true
-    pub page : page_at new.memory.pages number ≡ option_map page_given (page_at old.memory.pages number)
-    pub entry : entry_at new.memory.tables number ≡ blank
+    pub had : has_to_give_in old.memory number ≡ true
+    pub page : PageGiven old.memory new.memory number
+    pub entry : entry_in new.memory number ≡ blank
 
   -- a page is as it was
   pub record IsLeft (old new : SpaceValue S) (number : ℕ) : Type 0 where
-    pub page : page_at new.memory.pages number ≡ page_at old.memory.pages number
-    pub entry : entry_at new.memory.tables number ≡ entry_at old.memory.tables number
+    pub page : SamePage old.memory new.memory number
+    pub entry : entry_in new.memory number ≡ entry_in old.memory number
 
   -- Some pages gave back what they had: the frames are free, behind those that were, and the slots are in the pool behind those that were. A frame and a
   -- slot that were handed back are of these pages too.
@@ -81,7 +63,7 @@ module _ {S : Type 0} where
     pub pager_is : pager' ≡ record pager { free = pager.free ++ frames }
     pub pool_is : pool' ≡ record pool { free = pool.free ++ slots }
     pub framed : (test : ℕ → Bool) → frames_where test frames + (cond (frame_passes test frame) 1 0 + frames_in new test) ≡ frames_in old test
-    pub slotted : length slots + (cond (is_some slot) 1 0 + slots_of new.memory.pages) ≡ slots_of old.memory.pages
+    pub slotted : length slots + (cond (is_some slot) 1 0 + slots_within new.memory) ≡ slots_within old.memory
     pub stays : new ≡ record old { memory = new.memory }
     pub process : new.memory.process ≡ old.memory.process
     pub each : (number : ℕ) → number < 2 ^ 20 → IsGiven old new number ⊎ IsLeft old new number
@@ -90,9 +72,9 @@ module _ {S : Type 0} where
   pub record GivesAll (old new : SpaceValue S) : Type 0 where
     pub stays : new ≡ record old { memory = new.memory }
     pub process : new.memory.process ≡ old.memory.process
-    pub pages : (number : ℕ) → number < 2 ^ 20 → page_at new.memory.pages number ≡ option_map page_given (page_at old.memory.pages number)
-    pub entries : (number : ℕ) → number < 2 ^ 20 → entry_at new.memory.tables number ≡ (if has_to_give (page_at old.memory.pages number) then blank else entry_at old.memory.tables number)
-    pub caches : new.memory.caches ≡ map (λ _. []) old.memory.caches
+    pub pages : (number : ℕ) → number < 2 ^ 20 → PageGiven old.memory new.memory number
+    pub entries : (number : ℕ) → number < 2 ^ 20 → entry_in new.memory number ≡ (if has_to_give_in old.memory number then blank else entry_in old.memory number)
+    pub caches : EmptiesCaches old.memory new.memory
 
   -- a frame or a slot was handed back: the frame since all of the pager's are free, the slot since all of its pool's are there
   pub record StopsGiving (frame : Option FrameValue) (slot : Option S) (pager pager' : PagerState) (pool pool' : PoolValue S) (old new : SpaceValue S) : Type 0 where
@@ -100,7 +82,7 @@ module _ {S : Type 0} where
     pub gave : GivesSome frame slot pager pager' pool pool' old new
     pub frame_full : is_some frame ≡ true → length pager'.free ≡ pager'.size
     pub slot_full : is_some slot ≡ true → length pool'.free ≡ pool'.size
-    pub caches : new.memory.caches ≡ map (λ _. []) old.memory.caches
+    pub caches : EmptiesCaches old.memory new.memory
 
   -- the pages' frames are free, and their slots in the pool
   pub record GivesToPools (pager pager' : PagerState) (pool pool' : PoolValue S) (old new : SpaceValue S) : Type 0 where
@@ -109,7 +91,7 @@ module _ {S : Type 0} where
     pub pager_is : pager' ≡ record pager { free = pager.free ++ frames }
     pub pool_is : pool' ≡ record pool { free = pool.free ++ slots }
     pub framed : (test : ℕ → Bool) → frames_where test frames + frames_in new test ≡ frames_in old test
-    pub slotted : length slots + slots_of new.memory.pages ≡ slots_of old.memory.pages
+    pub slotted : length slots + slots_within new.memory ≡ slots_within old.memory
     pub space : GivesAll old new
 
   -- all pages are asked for what they have
@@ -125,7 +107,7 @@ module _ {S : Type 0} where
     pub pager_is : pager' ≡ record pager { pager = record pager.pager { free = pager.pager.free ++ frames; list = purged process.space.memory.process pager.pager.list } }
     pub pool_is : pool' ≡ record pool { free = pool.free ++ slots }
     pub framed : (test : ℕ → Bool) → frames_where test frames ≡ frames_in process.space test
-    pub slotted : length slots ≡ slots_of process.space.memory.pages
+    pub slotted : length slots ≡ slots_within process.space.memory
     pub space : GivesAll process.space process'.space
     pub purged : process'.purged ≡ true
 

@@ -29,32 +29,32 @@ pub listed_frames : (key : Key) (old new : PagerSideValue) → ListsAgain key ol
 listed_frames key old new lists = ap (λ (p : PagerSideValue). p.pager.list.frames) lists.pager_is ∙ restored_frames key old.pager.list
 
 module _ {S : Type 0} (vpn : ℕ) (old new : ProcessSideValue S) (maps : MapsAgain vpn old new) where
-  abbrev returns : Returns maps.page.mark maps.page.page.page maps.page.page.page'
-  returns = maps.page.page.how
+  abbrev returns : Returns maps.moves.page.mark maps.moves.page.page.page maps.moves.page.page.page'
+  returns = maps.moves.page.page.how
 
-  placed : maps.page.page.page'.place ≡ Resident returns.frame returns.slot
+  placed : maps.moves.page.page.page'.place ≡ Resident returns.frame returns.slot
   placed = ap (λ (p : PageValue S). p.place) returns.is
 
   returned_residents : (test : Key → Bool) → residents_in new.space test ≡ residents_in old.space test + cond (test (key_of old.space.memory.process vpn)) 1 0
   returned_residents test =
-      let moved : residents_in new.space test + 0 ≡ residents_in old.space test + cond (test (key_of old.space.memory.process vpn)) 1 0 = moved_residents _ old.space new.space vpn maps.small maps.page.page _ _ returns.was placed maps.process test in
+      let moved : residents_in new.space test + 0 ≡ residents_in old.space test + cond (test (key_of old.space.memory.process vpn)) 1 0 = moved_residents _ old.space new.space vpn maps.moves.small maps.moves.page.page _ _ returns.was placed maps.moves.process test in
       omega (arith, moved)
 
   returned_frames : (test : ℕ → Bool) → frames_in new.space test ≡ frames_in old.space test
   returned_frames test =
-      let moved : frames_in new.space test + cond (test returns.frame.number) 1 0 ≡ frames_in old.space test + cond (test returns.frame.number) 1 0 = moved_frames _ old.space new.space vpn maps.small maps.page.page _ _ returns.was placed maps.process test in
+      let moved : frames_in new.space test + cond (test returns.frame.number) 1 0 ≡ frames_in old.space test + cond (test returns.frame.number) 1 0 = moved_frames _ old.space new.space vpn maps.moves.small maps.moves.page.page _ _ returns.was placed maps.moves.process test in
       omega (arith, moved)
 
   -- the rest of the counts stays
   pub returned_rest : LeavesRest old.space new.space
   returned_rest = record {
     savings = λ test.
-        let moved : savings_in new.space test + 0 ≡ savings_in old.space test + 0 = moved_savings _ old.space new.space vpn maps.small maps.page.page _ _ returns.was placed maps.process test in
+        let moved : savings_in new.space test + 0 ≡ savings_in old.space test + 0 = moved_savings _ old.space new.space vpn maps.moves.small maps.moves.page.page _ _ returns.was placed maps.moves.process test in
         omega (arith, moved);
     slots =
-        let moved = moved_slots _ old.space new.space vpn maps.small maps.page.page _ _ returns.was placed maps.process in
+        let moved = moved_slots _ old.space new.space vpn maps.moves.small maps.moves.page.page _ _ returns.was placed maps.moves.process in
         omega (arith, moved);
-    stay = moved_stays _ old.space new.space vpn maps.small maps.page.page _ _ returns.was placed maps.process refl;
+    stay = moved_stays _ old.space new.space vpn maps.moves.small maps.moves.page.page _ _ returns.was placed maps.moves.process refl;
   }
 
 module _ {S : Type 0} (vpn : ℕ) (pager pager' : PagerSideValue) (old new : ProcessSideValue S) where
@@ -70,5 +70,5 @@ module _ {S : Type 0} (vpn : ℕ) (pager pager' : PagerSideValue) (old new : Pro
         let pages = returned_frames vpn old new back.mapped test in
         omega (arith, free, pages);
     size = ap (λ (p : PagerSideValue). p.pager.size) back.listed.pager_is;
-    process = back.mapped.process;
+    process = back.mapped.moves.process;
   }

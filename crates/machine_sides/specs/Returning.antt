@@ -1,13 +1,13 @@
 -- A page that could not leave its frame is resident again: it is listed again, and then mapped again.
-use Rattle.std.specs.Prelude.{◌≡◌, ◌≢◌, ℕ, ◌^◌, ◌<◌, None, Err, IsOk}
+use Rattle.std.specs.Prelude.{◌≡◌, ◌≢◌, ℕ, None, Err, IsOk}
 use Rattle.clock_policy.specs.declared.key.Key.{Key}
 use Rattle.clock_policy.specs.declared.refusal.Refusal.{Refusal}
 use Rattle.clock_policy.specs.declared.refusal.Refusal.TheVariants.{NoMemory}
 use Rattle.clock_policy.specs.ClockPro.{kind_of, restored}
 use Rattle.clock_policy.specs.Lawful.{Lawful}
 use Rattle.pager_core.specs.Pager.{with_list}
-use Rattle.paged_memory.specs.Leaving.{BringsBack}
-use Rattle.machine_sides.specs.Sides.{PagerSideValue, ProcessSideValue}
+use Rattle.paged_memory.specs.Moving as moving
+use Rattle.machine_sides.specs.Sides.{PagerSideValue, ProcessSideValue, MovesSide}
 use Rattle.machine_sides.specs.Together.{key_of}
 
 -- the list takes the page back, as one in its test
@@ -25,12 +25,8 @@ pub record DoesNotList (key : Key) (old new : PagerSideValue) (refusal : Refusal
 
 module _ {S : Type 0} where
   -- a page that is leaving is mapped again, in its frame
-  pub record MapsAgain (vpn : ℕ) (old new : ProcessSideValue S) : Type 0 where
-    pub small : vpn < 2 ^ 20
-    pub page : BringsBack old.space.memory.pages new.space.memory.pages old.space.memory.tables new.space.memory.tables vpn
-    pub stays : new ≡ record old { space = record old.space { memory = new.space.memory } }
-    pub process : new.space.memory.process ≡ old.space.memory.process
-    pub caches : new.space.memory.caches ≡ old.space.memory.caches
+  abbrev pub MapsAgain : ℕ → ProcessSideValue S → ProcessSideValue S → Type 0
+  MapsAgain vpn old new = MovesSide (moving.MapsAgain vpn) old new
 
   -- the page is resident again
   pub record ComesBack (vpn : ℕ) (pager pager' : PagerSideValue) (old new : ProcessSideValue S) : Type 0 where

@@ -1,13 +1,12 @@
 -- A save comes back: its page goes to its slot and lets its frame go, or the save failed and the page is resident again.
-use Rattle.std.specs.Prelude.{◌≡◌, ◌≢◌, ℕ, Bool, true, false, Option, Some, None, ◌++◌, [], ◌∷◌, length, IsFalse}
+use Rattle.std.specs.Prelude.{◌≡◌, ◌≢◌, ℕ, Bool, ◌++◌, [], ◌∷◌, length, IsFalse}
 use Rattle.clock_policy.specs.declared.refusal.Refusal.{Refusal}
 use Rattle.frame_pool.specs.FrameValue.{FrameValue}
-use Rattle.page_store.specs.declared.state.Keeping.TheVariants.{Unsaved}
-use Rattle.page_store.specs.declared.state.PageState.{PageState}
-use Rattle.page_store.specs.declared.state.PageState.TheVariants as stage
 use Rattle.page_store.specs.JobValue.{SavedValue}
-use Rattle.page_store.specs.PageValue.{PageValue, Leaving, Saving}
-use Rattle.paged_memory.specs.Leaving.{ChangesSaved, Frees, IsOut}
+use Rattle.paged_memory.specs.Moving.{SavedAway, IsOutOf}
+use Rattle.paged_memory.specs.Moving as moving
+use Rattle.paged_memory.specs.Paged.{PagedValue}
+use Rattle.paged_memory.specs.Stages.{is_saving_stage}
 use Rattle.pager_core.specs.Pager.{tallied}
 use Rattle.space_core.specs.StandsFor.{SpaceValue}
 use Rattle.machine_sides.specs.Admitting.{stage_at}
@@ -18,22 +17,13 @@ use Rattle.machine_sides.specs.declared.saving_back.SaveEnd.TheVariants as end
 use Rattle.machine_sides.specs.declared.saving_back.SaveOutcome.{SaveOutcome}
 use Rattle.machine_sides.specs.declared.saving_back.SaveOutcome.TheVariants.{Freed, HandedBack, WrongPage, ResidentAgain, NotRestored}
 use Rattle.machine_sides.specs.Returning.{ComesBack, DoesNotList}
-use Rattle.machine_sides.specs.Sides.{PagerSideValue, ProcessSideValue}
+use Rattle.machine_sides.specs.Sides.{PagerSideValue, ProcessSideValue, MovesSide}
 use Rattle.machine_sides.specs.Together.{key_of}
 
 -- the frame of a page that was saved is free, and counted
 pub record FreesFrame (frame : FrameValue) (old new : PagerSideValue) : Type 0 where
   pub room : length old.pager.free ≢ old.pager.size
   pub freed : new ≡ record old { pager = record old.pager { free = old.pager.free ++ frame ∷ [] }; saves = tallied old.saves }
-
-abbrev pub is_saving_stage : Option PageState → Bool
-is_saving_stage None = false
-is_saving_stage (Some stage.Fresh) = false
-is_saving_stage (Some stage.Resident) = false
-is_saving_stage (Some stage.Leaving) = false
-is_saving_stage (Some stage.Saving) = true
-is_saving_stage (Some stage.Away) = false
-is_saving_stage (Some stage.Purged) = false
 
 module _ {S : Type 0} where
   -- whether the page of a number is being saved, whatever the number
@@ -46,41 +36,37 @@ module _ {S : Type 0} where
   ShowsFailure Device job frame = (frame.bytes ≡ job.copy) × IsFalse job.passed
 
   -- the page of a save that failed leaves again in its frame, with the slot of the save, and counts as changed
-  pub record LeavesAgain (failure : SaveFailure) (job : SavedValue S) (page page' : PageValue S) : Type 0 where
-    pub frame : FrameValue
-    pub was : page.place ≡ Saving frame
-    pub is : page' ≡ record page { place = Leaving frame (Unsaved job.slot) true }
-    pub failed : ShowsFailure failure job frame
+  abbrev pub LeavesAgain : SaveFailure → SavedValue S → PagedValue S → PagedValue S → Type 0
+  LeavesAgain failure job old new = moving.LeavesAgain (ShowsFailure failure job) job old new
+
+  -- what a save that comes back does to its process: its memory moves so, and nothing else
+  abbrev pub Settles : (PagedValue S → PagedValue S → Type 0) → ProcessSideValue S → ProcessSideValue S → Type 0
+  Settles by old new = MovesSide by old new
 
   module _ (job : SavedValue S) where
-    -- what a save that comes back does to its process: its page changes so, and nothing else
-    pub record Settles (by : PageValue S → PageValue S → Type 0) (old new : ProcessSideValue S) : Type 0 where
-      pub page : ChangesSaved old.space.memory.process job by old.space.memory.pages new.space.memory.pages
-      pub stays : new ≡ record old { space = record old.space { memory = record old.space.memory { pages = new.space.memory.pages } } }
-
     -- what a save that comes back is to its process: it passed, or it is of no page that is being saved, or it failed
     abbrev pub Ends : {L : Type 0} → ProcessSideValue S → ProcessSideValue S → SaveEnd L S → Type 0
-    Ends old new (end.Passed frame) = Settles (Frees job frame) old new
-    Ends old new (end.WrongPage back) = (back ≡ job) × ((new ≡ old) × (¬ IsOut old.space.memory.process job old.space.memory.pages))
+    Ends old new (end.Passed frame) = Settles (SavedAway job frame) old new
+    Ends old new (end.WrongPage back) = (back ≡ job) × ((new ≡ old) × (¬ IsOutOf job old.space.memory))
     Ends old new (end.Failed failure) = Settles (LeavesAgain failure job) old new
 
     module _ (pager pager' : PagerSideValue) (process process' : ProcessSideValue S) where
       -- the page is in its slot, and its frame, which holds what was saved, is free
       pub record IsFreed : Type 0 where
         pub frame : FrameValue
-        pub settles : Settles (Frees job frame) process process'
+        pub settles : Settles (SavedAway job frame) process process'
         pub frees : FreesFrame frame pager pager'
 
       -- the page is in its slot, and its frame is not the pager's, of which all are free
       pub record IsHandedBack (frame : FrameValue) : Type 0 where
-        pub settles : Settles (Frees job frame) process process'
+        pub settles : Settles (SavedAway job frame) process process'
         pub full : length pager.pager.free ≡ pager.pager.size
         pub stays : pager' ≡ pager
 
       -- no save of this page is out in the process
       pub record IsOfNoPage (back : SavedValue S) : Type 0 where
         pub back_is : back ≡ job
-        pub why : ¬ IsOut process.space.memory.process job process.space.memory.pages
+        pub why : ¬ IsOutOf job process.space.memory
         pub pager_stays : pager' ≡ pager
         pub process_stays : process' ≡ process
 

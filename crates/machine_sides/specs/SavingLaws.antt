@@ -12,7 +12,7 @@ use Rattle.page_store.specs.Moves.{copy_of}
 use Rattle.page_store.specs.PageValue.{PageValue, Leaving, Away, Resident}
 use Rattle.paged_memory.specs.Calls.{ChangesBy}
 use Rattle.paged_memory.specs.Counting.{is_saving_place, slots_of}
-use Rattle.paged_memory.specs.Paged.{page_at}
+use Rattle.paged_memory.specs.Paged.{PagedValue, page_at}
 use Rattle.pager_core.specs.Pager.{PagerState}
 use Rattle.space_core.specs.StandsFor.{SpaceValue}
 use Rattle.machine_sides.specs.declared.saving_back.SaveFailure.{SaveFailure}
@@ -61,10 +61,10 @@ module _ {S : Type 0} where
     -- the page is in its slot, and its frame is free
     pub freed_ends : IsFreed job pager pager' process process' → SaveEnds job.vpn pager.pager pager'.pager process.space process'.space
     freed_ends freed =
-        let told = freed.settles.page.1.1 in
-        let small = freed.settles.page.1.0 in
+        let told = freed.settles.moves.page.1.1 in
+        let small = freed.settles.moves.page.1.0 in
         let is : told.page'.place ≡ Away (copy_of job) = ap (λ (p : PageValue S). p.place) told.how.is in
-        let same : process'.space.memory.process ≡ process.space.memory.process = ap (λ (q : ProcessSideValue S). q.space.memory.process) freed.settles.stays in
+        let same : process'.space.memory.process ≡ process.space.memory.process = ap (λ (m : PagedValue S). m.process) freed.settles.moves.stays in
         let list : pager'.pager.list ≡ pager.pager.list = ap (λ (p : PagerSideValue). p.pager.list) freed.frees.freed in
         record {
           together = record {
@@ -92,12 +92,12 @@ module _ {S : Type 0} where
         }
 
     -- the page is leaving again, and the pager is as it was
-    failed_ends : (failure : SaveFailure) → Settles job (LeavesAgain failure job) process process' → pager' ≡ pager → SaveEnds job.vpn pager.pager pager'.pager process.space process'.space
+    failed_ends : (failure : SaveFailure) → Settles (LeavesAgain failure job) process process' → pager' ≡ pager → SaveEnds job.vpn pager.pager pager'.pager process.space process'.space
     failed_ends failure settles stays =
-        let told = settles.page.1.1 in
-        let small = settles.page.1.0 in
+        let told = settles.moves.page.1.1 in
+        let small = settles.moves.page.1.0 in
         let is : told.page'.place ≡ Leaving told.how.frame (Unsaved job.slot) true = ap (λ (p : PageValue S). p.place) told.how.is in
-        let same : process'.space.memory.process ≡ process.space.memory.process = ap (λ (q : ProcessSideValue S). q.space.memory.process) settles.stays in
+        let same : process'.space.memory.process ≡ process.space.memory.process = ap (λ (m : PagedValue S). m.process) settles.moves.stays in
         record {
           together = record {
             listed = λ test.
@@ -133,7 +133,7 @@ module _ {S : Type 0} where
     returned_ends failure fails =
         let first = failed_ends job pager pager process fails.between failure fails.settles refl in
         let maps = fails.returns.mapped in
-        let told = maps.page.page in
+        let told = maps.moves.page.page in
         let second = back_together job.vpn pager pager' fails.between process' fails.returns in
         let rest = returned_rest job.vpn fails.between process' maps in
         let is : told.page'.place ≡ Resident told.how.frame told.how.slot = ap (λ (p : PageValue S). p.place) told.how.is in

@@ -1,11 +1,11 @@
 -- A process begins: the pages of its image and of its stack are mapped, and none was brought in.
-use Rattle.std.specs.Prelude.{◌≡◌, ℕ, ◌<◌, ◌^◌, false, List, [], ◌∷◌}
+use Rattle.std.specs.Prelude.{◌≡◌, ℕ, ◌<◌, ◌^◌, false, []}
 use Rattle.elf_image.specs.Start.{Start}
 use Rattle.flat_machine.specs.Process.{opening, opening_pages}
-use Rattle.space_core.specs.Fresh.{all_fresh}
+use Rattle.paged_memory.specs.Moving.{HasFresh, HasOneCache}
+use Rattle.paged_memory.specs.Whole.{entry_in}
 use Rattle.space_core.specs.RunningValue.{beside}
 use Rattle.sv32_table.specs.Entry.{blank}
-use Rattle.sv32_table.specs.EntryAt.{entry_at}
 use Rattle.machine_sides.specs.Sides.{ProcessSideValue}
 
 module _ {S : Type 0} where
@@ -17,7 +17,7 @@ module _ {S : Type 0} where
     pub running : process.space.running ≡ beside (opening start.image start.input)
     pub schedule : process.space.schedule ≡ []
     pub numbered : process.space.memory.process ≡ number
-    pub pages : process.space.memory.pages ≡ all_fresh (opening_pages start.image.pages)
-    pub tables : (vpn : ℕ) → vpn < 2 ^ 20 → entry_at process.space.memory.tables vpn ≡ blank
-    pub caches : process.space.memory.caches ≡ [] ∷ []
+    pub pages : HasFresh (opening_pages start.image.pages) process.space.memory
+    pub tables : (vpn : ℕ) → vpn < 2 ^ 20 → entry_in process.space.memory vpn ≡ blank
+    pub caches : HasOneCache process.space.memory
     pub purged : process.purged ≡ false

@@ -29,8 +29,8 @@ module _ {S : Type 0} where
 
   pub read_same : (bit : Bit) (vpn : ℕ) (old new : SpaceValue S) → ReadsBit bit vpn old new → SameSpace old new
   read_same Gone vpn old new h = record { pages = ap (λ (s : SpaceValue S). s.memory.pages) h; process = ap (λ (s : SpaceValue S). s.memory.process) h }
-  read_same Zero vpn old new h = record { pages = h.pages; process = h.process }
-  read_same One vpn old new h = record { pages = h.pages; process = h.process }
+  read_same Zero vpn old new h = record { pages = h.moves.pages; process = h.moves.process }
+  read_same One vpn old new h = record { pages = h.moves.pages; process = h.moves.process }
 
   pub same_residents : (old new : SpaceValue S) (test : Key → Bool) → SameSpace old new → residents_in new test ≡ residents_in old test
   unfolding residents_in
@@ -45,12 +45,12 @@ module _ {S : Type 0} where
   evicted_residents : (vpn : ℕ) (old new : SpaceValue S) (test : Key → Bool) → vpn < 2 ^ 20 → Evicts vpn old new → residents_in new test + cond (test (key_of old.memory.process vpn)) 1 0 ≡ residents_in old test
   unfolding residents_in
   evicted_residents vpn old new test small evicts =
-      ap (λ number. residents_of new.memory.pages (λ v. test (key_of number v)) + cond (test (key_of old.memory.process vpn)) 1 0) evicts.process
-      ∙ left_residents _ old.memory.pages new.memory.pages vpn small evicts.page (λ v. test (key_of old.memory.process v))
+      ap (λ number. residents_of new.memory.pages (λ v. test (key_of number v)) + cond (test (key_of old.memory.process vpn)) 1 0) evicts.moves.process
+      ∙ left_residents _ old.memory.pages new.memory.pages vpn small evicts.moves.page (λ v. test (key_of old.memory.process v))
 
   evicted_frames : (vpn : ℕ) (old new : SpaceValue S) (test : ℕ → Bool) → vpn < 2 ^ 20 → Evicts vpn old new → frames_in new test ≡ frames_in old test
   unfolding frames_in
-  evicted_frames vpn old new test small evicts = left_frames _ old.memory.pages new.memory.pages vpn small evicts.page test
+  evicted_frames vpn old new test small evicts = left_frames _ old.memory.pages new.memory.pages vpn small evicts.moves.page test
 
   -- what the space loses the list does
   heeded_residents : (verdict : Verdict) (bit : Bit) (key : Key) (old new : SpaceValue S) (test : Key → Bool) → key.vpn < 2 ^ 20 → key.process ≡ old.memory.process → is_gone bit ≡ false
@@ -71,7 +71,7 @@ module _ {S : Type 0} where
 
   heeded_process : (verdict : Verdict) (vpn : ℕ) (old new : SpaceValue S) → HeedsVerdict verdict vpn old new → new.memory.process ≡ old.memory.process
   heeded_process GoOn vpn old new h = ap (λ (s : SpaceValue S). s.memory.process) h
-  heeded_process (Victim k) vpn old new h = h.process
+  heeded_process (Victim k) vpn old new h = h.moves.process
 
   -- an answer for a page that is resident keeps list and pages together
   pub answers_together : (pager pager' : PagerSideValue) (process process' : ProcessSideValue S) (key : Key) (bit : Bit) (verdict : Verdict) → Lawful pager.pager.list
@@ -117,10 +117,10 @@ module _ {S : Type 0} where
   unfolding savings_in
   evicted_rest vpn old new small evicts = record {
     savings = λ test.
-        ap (λ number. savings_of new.memory.pages (λ v. test (key_of number v))) evicts.process
-        ∙ left_savings _ old.memory.pages new.memory.pages vpn small evicts.page (λ v. test (key_of old.memory.process v));
-    slots = left_slots _ old.memory.pages new.memory.pages vpn small evicts.page;
-    stay = λ v page frame at saving. left_stays _ old.memory.pages new.memory.pages vpn small evicts.page v page frame at saving;
+        ap (λ number. savings_of new.memory.pages (λ v. test (key_of number v))) evicts.moves.process
+        ∙ left_savings _ old.memory.pages new.memory.pages vpn small evicts.moves.page (λ v. test (key_of old.memory.process v));
+    slots = left_slots _ old.memory.pages new.memory.pages vpn small evicts.moves.page;
+    stay = λ v page frame at saving. left_stays _ old.memory.pages new.memory.pages vpn small evicts.moves.page v page frame at saving;
   }
 
   heeded_rest : (verdict : Verdict) (vpn : ℕ) (old new : SpaceValue S) → vpn < 2 ^ 20 → HeedsVerdict verdict vpn old new → LeavesRest old new

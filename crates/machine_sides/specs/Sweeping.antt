@@ -1,19 +1,16 @@
 -- A question of the list and its answer: what it does to the pager and to the process that is asked for a page.
-use Rattle.std.specs.Prelude.{◌≡◌, ℕ, ◌^◌, Bool, true, false, cond, nat_lt, map, Option, Some, None, Ok}
+use Rattle.std.specs.Prelude.{◌≡◌, ℕ, ◌^◌, Bool, true, false, cond, nat_lt, Option, Some, None, Ok}
 use Rattle.clock_policy.specs.declared.key.Key.{Key}
 use Rattle.clock_policy.specs.declared.answer.Bit.{Bit}
 use Rattle.clock_policy.specs.declared.answer.Bit.TheVariants.{Zero, One, Gone}
 use Rattle.clock_policy.specs.declared.answer.Verdict.{Verdict}
 use Rattle.clock_policy.specs.declared.answer.Verdict.TheVariants as verdict
 use Rattle.clock_policy.specs.ClockPro.{question_of, answered}
-use Rattle.sv32_table.specs.Entry.{blank}
-use Rattle.sv32_table.specs.EntryAt.{entry_at, ChangesEntry, unaccessed_entry, dirty_of}
-use Rattle.tlb_core.specs.Cache.{doomed}
-use Rattle.paged_memory.specs.Calls.{accessed_at, ChangesBy, Leaves}
-use Rattle.paged_memory.specs.Paged.{seen_at}
+use Rattle.paged_memory.specs.Moving.{ForgetsUse, BeginsToLeave}
+use Rattle.paged_memory.specs.Whole.{accessed_in}
 use Rattle.pager_core.specs.Pager.{pager_answered}
 use Rattle.space_core.specs.StandsFor.{SpaceValue}
-use Rattle.machine_sides.specs.Sides.{PagerSideValue, ProcessSideValue}
+use Rattle.machine_sides.specs.Sides.{PagerSideValue, ProcessSideValue, MovesMemory}
 use Rattle.machine_sides.specs.declared.sweeping.Swept.{Swept}
 use Rattle.machine_sides.specs.declared.sweeping.Swept.TheVariants.{NothingResident, Asked, Victim}
 
@@ -26,15 +23,11 @@ bit_of (Some true) = One
 module _ {S : Type 0} where
   -- the accessed bit of the page of a number, whatever the number
   abbrev pub bit_at : SpaceValue S → ℕ → Bit
-  bit_at space vpn = cond (nat_lt vpn (2 ^ 20)) (bit_of (accessed_at (seen_at space.memory.pages vpn) (entry_at space.memory.tables vpn))) Gone
+  bit_at space vpn = cond (nat_lt vpn (2 ^ 20)) (bit_of (accessed_in space.memory vpn)) Gone
 
   -- a page's accessed bit is cleared, and its translations are to be dropped
-  pub record Clears (vpn : ℕ) (old new : SpaceValue S) : Type 0 where
-    pub stays : new ≡ record old { memory = new.memory }
-    pub process : new.memory.process ≡ old.memory.process
-    pub pages : new.memory.pages ≡ old.memory.pages
-    pub entry : ChangesEntry old.memory.tables new.memory.tables vpn (unaccessed_entry (entry_at old.memory.tables vpn))
-    pub caches : new.memory.caches ≡ map (doomed vpn) old.memory.caches
+  abbrev pub Clears : ℕ → SpaceValue S → SpaceValue S → Type 0
+  Clears vpn old new = MovesMemory (ForgetsUse vpn) old new
 
   -- a page's accessed bit is read and cleared
   abbrev pub ReadsBit : Bit → ℕ → SpaceValue S → SpaceValue S → Type 0
@@ -43,12 +36,8 @@ module _ {S : Type 0} where
   ReadsBit One vpn old new = Clears vpn old new
 
   -- a page begins to leave its frame
-  pub record Evicts (vpn : ℕ) (old new : SpaceValue S) : Type 0 where
-    pub stays : new ≡ record old { memory = new.memory }
-    pub process : new.memory.process ≡ old.memory.process
-    pub page : ChangesBy (Leaves (dirty_of (entry_at old.memory.tables vpn))) old.memory.pages new.memory.pages vpn
-    pub entry : ChangesEntry old.memory.tables new.memory.tables vpn blank
-    pub caches : new.memory.caches ≡ map (doomed vpn) old.memory.caches
+  abbrev pub Evicts : ℕ → SpaceValue S → SpaceValue S → Type 0
+  Evicts vpn old new = MovesMemory (BeginsToLeave vpn) old new
 
   -- what becomes of the process: a victim's page leaves
   abbrev pub HeedsVerdict : Verdict → ℕ → SpaceValue S → SpaceValue S → Type 0

@@ -3,7 +3,7 @@ use Rattle.std.specs.Prelude.{◌≡◌, ℕ, ◌+◌, Bool, cond, List, [], ◌
 use Rattle.frame_pool.specs.FrameValue.{FrameValue}
 use Rattle.clock_policy.specs.declared.key.Key.{Key}
 use Rattle.clock_policy.specs.Residents.{residents}
-use Rattle.paged_memory.specs.Counting.{residents_of, frames_of, savings_of}
+use Rattle.paged_memory.specs.Whole.{residents_among, frames_among, savings_among}
 use Rattle.pager_core.specs.Pager.{PagerState}
 use Rattle.space_core.specs.StandsFor.{SpaceValue}
 
@@ -19,15 +19,15 @@ frames_where test (frame ∷ frames) = cond (test frame.number) 1 0 + frames_whe
 module _ {S : Type 0} where
   -- how many resident pages' keys pass
   unfoldable pub residents_in : SpaceValue S → (Key → Bool) → ℕ
-  residents_in space test = residents_of space.memory.pages (λ vpn. test (key_of space.memory.process vpn))
+  residents_in space test = residents_among space.memory (λ vpn. test (key_of space.memory.process vpn))
 
   -- how many of the pages that are being saved pass by their keys
   unfoldable pub savings_in : SpaceValue S → (Key → Bool) → ℕ
-  savings_in space test = savings_of space.memory.pages (λ vpn. test (key_of space.memory.process vpn))
+  savings_in space test = savings_among space.memory (λ vpn. test (key_of space.memory.process vpn))
 
   -- how many pages hold a frame whose number passes
   unfoldable pub frames_in : SpaceValue S → (ℕ → Bool) → ℕ
-  frames_in space test = frames_of space.memory.pages test
+  frames_in space test = frames_among space.memory test
 
   -- what the list gains or loses the process's resident pages do, and what frames the pager gains or loses its pages lose or gain
   pub record Together (pager pager' : PagerState) (space space' : SpaceValue S) : Type 0 where

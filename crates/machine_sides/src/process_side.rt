@@ -101,6 +101,7 @@ impl<L: Ledger, S: SwapSlot> ProcessSide<L, S> {
     }
 
     /// A resident page begins to leave its frame.
+    #[tactic(auto, using(paged_memory::specs::MovingLaws::same_reserved))]
     pub(crate) fn evict(&mut self, vpn: u32)
         requires small { vpn < 2 ^ 20 }
         requires resident { is_resident (seen_at self.old.space.memory.pages vpn) ≡ true }

@@ -91,7 +91,7 @@ pub fn purge_bars<L: Ledger, S: SwapSlot>(process: &ProcessSide<L, S>) -> Option
 /// Whether a page of a process is being saved.
 #[tactic(auto, using(crate::specs::PurgeLaws::is_saving_some, crate::specs::PurgeLaws::is_saving_none))]
 fn is_saving<L: Ledger, S: SwapSlot>(space: &Space<L, S>) -> bool
-    ensures { result ≡ is_saving_any space.now.memory.pages }
+    ensures { result ≡ is_saving_any space.now.memory }
 {
     space.is_saving()
 }

@@ -16,3 +16,5 @@ pub mod Coherence
 pub mod PageStatus
 pub mod Stages
 pub mod Whole
+pub mod Moving
+pub mod MovingLaws

@@ -11,7 +11,8 @@ use Rattle.page_store.specs.PageValue.{PageValue, Place, Fresh, Resident, Leavin
 use Rattle.paged_memory.specs.Counting.{page_passes, pages_below, is_resident_place, frame_passes}
 use Rattle.paged_memory.specs.Paged.{page_at}
 use Rattle.space_core.specs.StandsFor.{SpaceValue}
-use Rattle.machine_sides.specs.Admitting.{is_resident_stage, stage_at}
+use Rattle.paged_memory.specs.Stages.{is_resident_stage}
+use Rattle.machine_sides.specs.Admitting.{stage_at}
 use Rattle.reclaim_daemon.specs.Audit.{has_frame_stage}
 
 module _ {A : Type 0} where

@@ -14,7 +14,8 @@ use Rattle.paged_memory.specs.Counting.{page_passes, pages_below, pages_where, i
 use Rattle.paged_memory.specs.CountingLaws.{none_where_pass}
 use Rattle.paged_memory.specs.Paged.{page_at}
 use Rattle.space_core.specs.StandsFor.{SpaceValue}
-use Rattle.machine_sides.specs.Admitting.{is_resident_stage, stage_at, is_resident_at}
+use Rattle.paged_memory.specs.Stages.{is_resident_stage}
+use Rattle.machine_sides.specs.Admitting.{stage_at, is_resident_at}
 use Rattle.machine_sides.specs.Agreeing.{Agree}
 use Rattle.machine_sides.specs.Together.{residents_in, key_of}
 use Rattle.reclaim_daemon.specs.Audit.{total, is_resident_of, resident_pages, IsListed, AreListed, IsSound, AgreeEverywhere}

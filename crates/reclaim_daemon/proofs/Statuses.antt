@@ -75,10 +75,6 @@ module _ {S : Type 0} where
   by_side_memory : (old new : ProcessSideValue S) → new ≡ record old { space = record old.space { memory = new.space.memory } } → status_of new.space ≡ status_of old.space
   by_side_memory old new e = by_memory old.space new.space (ap (λ (s : ProcessSideValue S). s.space) e)
 
-  by_side_pages : (old new : ProcessSideValue S) → new ≡ record old { space = record old.space { memory = record old.space.memory { pages = new.space.memory.pages } } } → status_of new.space ≡ status_of old.space
-  by_side_pages old new e =
-      by_both old.space new.space (ap (λ (s : ProcessSideValue S). s.space.schedule) e) (ap (λ (s : ProcessSideValue S). length s.space.running.environment.output) e)
-
   reads : (bit : Bit) (vpn : ℕ) (old new : SpaceValue S) → ReadsBit bit vpn old new → status_of new ≡ status_of old
   reads Gone vpn old new e = by_same old new e
   reads Zero vpn old new c = by_memory old new c.stays
@@ -97,19 +93,19 @@ module _ {S : Type 0} where
       → Looks vpn pager pager' old new slots slots' looked → status_of new.space ≡ status_of old.space
   look_leaves vpn pager pager' old new slots slots' look.NotLeaving h = by_side old new h.1.process_stays
   look_leaves vpn pager pager' old new slots slots' look.NotYet h = by_side old new h.stays.process_stays
-  look_leaves vpn pager pager' old new slots slots' look.Freed h = by_side_pages old new h.drops.stays
-  look_leaves vpn pager pager' old new slots slots' (look.Dirty job) h = by_side_pages old new h.saving.stays
+  look_leaves vpn pager pager' old new slots slots' look.Freed h = by_side_memory old new h.drops.stays
+  look_leaves vpn pager pager' old new slots slots' (look.Dirty job) h = by_side_memory old new h.saving.stays
   look_leaves vpn pager pager' old new slots slots' look.NoSlot h = by_side_memory old new h.returns.mapped.stays
   look_leaves vpn pager pager' old new slots slots' (look.NotRestored reason) h = by_side old new h.leaves.stays
-  look_leaves vpn pager pager' old new slots slots' (look.HandedBack frame) h = by_side_pages old new h.drops.stays
+  look_leaves vpn pager pager' old new slots slots' (look.HandedBack frame) h = by_side_memory old new h.drops.stays
 
   pub save_leaves : {L : Type 0} (job : SavedValue S) (pager pager' : PagerSideValue) (old new : ProcessSideValue S) (outcome : SaveOutcome L S)
       → EndsSave job pager pager' old new outcome → status_of new.space ≡ status_of old.space
-  save_leaves job pager pager' old new save.Freed h = by_side_pages old new h.settles.stays
-  save_leaves job pager pager' old new (save.HandedBack frame) h = by_side_pages old new h.settles.stays
+  save_leaves job pager pager' old new save.Freed h = by_side_memory old new h.settles.stays
+  save_leaves job pager pager' old new (save.HandedBack frame) h = by_side_memory old new h.settles.stays
   save_leaves job pager pager' old new (save.WrongPage back) h = by_side old new h.process_stays
-  save_leaves job pager pager' old new (save.ResidentAgain failure) h = by_side_memory h.between new h.returns.mapped.stays ∙ by_side_pages old h.between h.settles.stays
-  save_leaves job pager pager' old new (save.NotRestored failure reason) h = by_side_pages old new h.settles.stays
+  save_leaves job pager pager' old new (save.ResidentAgain failure) h = by_side_memory h.between new h.returns.mapped.stays ∙ by_side_memory old h.between h.settles.stays
+  save_leaves job pager pager' old new (save.NotRestored failure reason) h = by_side_memory old new h.settles.stays
 
   pub purge_leaves : {L : Type 0} (pager pager' : PagerSideValue) (old new : ProcessSideValue S) (slots slots' : PoolValue S) (outcome : Purging L S)
       → Purges pager pager' old new slots slots' outcome → status_of new.space ≡ status_of old.space
@@ -118,7 +114,7 @@ module _ {S : Type 0} where
   purge_leaves pager pager' old new slots slots' (purging.HandedBack frame slot) h = by_memory old.space new.space h.stops.gave.stays
 
   pub load_leaves : (held : S → List ℕ) (honest : Type 0) (admission : AdmissionValue) (old new : SpaceValue S) → Loads held honest admission old new → status_of new ≡ status_of old
-  load_leaves held honest admission old new h = by_memory old new h.rest.stays
+  load_leaves held honest admission old new h = by_memory old new h.stays
 
   pub no_load_leaves : (held : S → List ℕ) (honest : Type 0) (failures : S → ℕ) (admission back : AdmissionValue) (fault : PageInFault) (old new : SpaceValue S)
       → DoesNotLoad held honest failures admission back fault old new → status_of new ≡ status_of old

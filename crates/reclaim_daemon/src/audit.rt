@@ -2,7 +2,7 @@
 
 ghost use Rattle.std.specs.Prelude.{◌≡◌, ◌<◌, ◌≤◌, ◌*◌, ◌^◌, ◌&&◌, true, cond, IfSome, IsNone};
 ghost use Rattle.clock_policy.specs.Residents.{residents, in_frame};
-ghost use Rattle.machine_sides.specs.Admitting.{is_resident_stage};
+ghost use Rattle.paged_memory.specs.Stages.{is_resident_stage};
 ghost use Rattle.machine_sides.specs.Together.{residents_in, frames_in};
 ghost use Rattle.reclaim_daemon.specs.Audit.{has_frame_stage, is_resident_of, CountsMore, FindsSound, HoldsAll, IsListed};
 ghost use Rattle.reclaim_daemon.specs.SharedValue.{most_processes};

@@ -15,7 +15,8 @@ use Rattle.paged_memory.specs.Paged.{page_at}
 use Rattle.space_core.specs.StandsFor.{SpaceValue}
 use Rattle.machine_sides.specs.PurgeLaws.{is_saving_some}
 use Rattle.machine_sides.specs.Purging.{is_saving_any}
-use Rattle.machine_sides.specs.SavingBack.{is_saving_at, is_saving_stage}
+use Rattle.paged_memory.specs.Stages.{is_saving_stage}
+use Rattle.machine_sides.specs.SavingBack.{is_saving_at}
 use Rattle.machine_sides.specs.Sides.{ProcessSideValue}
 use Rattle.machine_sides.specs.Together.{key_of, savings_in}
 use Rattle.machine_core.specs.declared.error.EventRefusal.{EventRefusal}
@@ -135,7 +136,7 @@ module _ {S : Type 0} where
   nothing_saved : (space : SpaceValue S) (q : ℕ) → q < 2 ^ 20 → IsSaving (page_at space.memory.pages q) → savings_in space (λ _. true) ≡ 0 → ⊥
   unfolding savings_in is_saving_any
   nothing_saved space q small saving none =
-      let some = is_saving_some space.memory.pages (record { number = q; small = small; saving = saving }) in
+      let some = is_saving_some space.memory (record { number = q; small = small; saving = saving }) in
       let no = ap (λ n. not (n == 0)) none in
       cc
 
@@ -162,7 +163,7 @@ module _ {S : Type 0} (held : S → List ℕ) (honest : Type 0) (failures : S �
   collected_out key old new process process' answer number none (freed how jobs told) =
       out_none _ old.jobs new.jobs (no_save_collected key answer (ap is_dirty told)) none jobs
   collected_out key old new process process' answer number none (dirty job how jobs told) =
-      let page : key_of job.process job.vpn ≡ key = ap (λ p. key_of p job.vpn) (how.saving.process ∙ number) ∙ ap (λ v. key_of key.process v) how.saving.vpn_is in
+      let page : key_of job.process job.vpn ≡ key = ap (λ p. key_of p job.vpn) (how.saving.moves.process ∙ number) ∙ ap (λ v. key_of key.process v) how.saving.moves.vpn_is in
       subst (λ a. AreOut (owed_save (collect_owes key a)) new.jobs) (sym told) (job, (jobs ∙ ap (λ l. l ++ job ∷ []) none, page))
   collected_out key old new process process' answer number none (no_slot how jobs told) =
       out_none _ old.jobs new.jobs (no_save_collected key answer (ap is_dirty told)) none jobs

@@ -2,7 +2,7 @@
 
 ghost use Rattle.std.specs.Prelude.{◌≡◌, ◌↔◌, ◌<◌, ◌≤◌, ◌^◌, ◌&&◌, true, IsTrue, length, Some, slice_get, cond};
 ghost use Rattle.clock_policy.specs.Residents.{residents, in_frame};
-ghost use Rattle.machine_sides.specs.Admitting.{is_resident_stage};
+ghost use Rattle.paged_memory.specs.Stages.{is_resident_stage};
 ghost use Rattle.serial_driver.specs.Audit.{holds_resident, has_frame_stage, resident_pages, framed_pages, HoldsPages, IsSoundMachine};
 
 use clock_policy::{Clock, EntryKind, Key};

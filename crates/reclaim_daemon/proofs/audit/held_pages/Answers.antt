@@ -1,7 +1,8 @@
 -- One more page number, up to the last.
 use Rattle.std.proofs.Common.{◌≡◌, ◌^◌, ◌<◌, refl, ap, ◌∙◌, arith}
 use Rattle.paged_memory.specs.Counting.{pages_below, pages_where}
-use Rattle.machine_sides.specs.Admitting.{is_resident_stage, stage_at}
+use Rattle.paged_memory.specs.Stages.{is_resident_stage}
+use Rattle.machine_sides.specs.Admitting.{stage_at}
 use Rattle.machine_sides.specs.Together.{residents_in, frames_in}
 use Rattle.reclaim_daemon.specs.Audit.{has_frame_stage}
 use Rattle.reclaim_daemon.proofs.Counted.{residents_to, frames_to, residents_more, frames_more, one_by}

@@ -2,7 +2,8 @@
 use Rattle.std.proofs.Common.{◌≡◌, ◌^◌, ◌<◌, refl, ap, ◌∙◌, arith}
 use Rattle.std.specs.Option.{option_and_then}
 use Rattle.paged_memory.specs.Counting.{pages_below, pages_where}
-use Rattle.machine_sides.specs.Admitting.{is_resident_stage, stage_at}
+use Rattle.paged_memory.specs.Stages.{is_resident_stage}
+use Rattle.machine_sides.specs.Admitting.{stage_at}
 use Rattle.machine_sides.specs.Sides.{ProcessSideValue}
 use Rattle.machine_sides.specs.Together.{residents_in, frames_in}
 use Rattle.serial_driver.specs.Audit.{has_frame_stage}

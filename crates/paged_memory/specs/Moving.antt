@@ -1,0 +1,348 @@
+-- What each call on a process's pages does to its memory as a whole, by name: whatever stands on it says so by these.
+use Rattle.std.specs.Prelude.{◌≡◌, ℕ, ◌^◌, ◌<◌, Bool, true, false, nat_lt, is_some, length, map, List, [], ◌∷◌, Option, Some, None, option_map, option_and_then, if◌then◌else◌, Result, OnOk, OnErr, IfErr, IfSome, slice_index_or, slice_set}
+use Rattle.frame_pool.specs.FrameValue.{FrameValue}
+use Rattle.page_memory.specs.Pages.{Page}
+use Rattle.page_memory.specs.Words.{page_number, page_offset}
+use Rattle.page_store.specs.JobValue.{JobValue, SavedValue}
+use Rattle.page_store.specs.Kept.{kept}
+use Rattle.page_store.specs.Moves.{given_back}
+use Rattle.page_store.specs.PageValue.{PageValue, Place, Fresh, Resident, Leaving, Saving, Away, Purged, changed, slot_of}
+use Rattle.page_store.specs.declared.answer.Collected.{Collected}
+use Rattle.page_store.specs.declared.answer.SaveRefusal.{SaveRefusal}
+use Rattle.page_store.specs.declared.refusal.LeaveRefusal.{LeaveRefusal}
+use Rattle.page_store.specs.declared.state.Keeping.{Keeping}
+use Rattle.page_store.specs.declared.state.Keeping.TheVariants as keeping
+use Rattle.sv32_table.specs.Entry.{blank, page_entry}
+use Rattle.sv32_table.specs.EntryAt.{entry_at, ChangesEntry, SameTables, AddsTable, unaccessed_entry, dirty_of}
+use Rattle.tlb_core.specs.Cache.{doomed, undoomed}
+use Rattle.paged_memory.specs.Calls.{ChangesBy, Leaves, RefusesLeave}
+use Rattle.paged_memory.specs.Filling.{BroughtIn, RefusesPageIn}
+use Rattle.paged_memory.specs.GivingBack.{GivesBack, GivesNothing, SavesOne}
+use Rattle.paged_memory.specs.Leaving.{CollectsAt, lets_go, ChangesSaved, Frees, RefusesSaved, IsOut, IsSaving, BringsBack}
+use Rattle.paged_memory.specs.Paged.{PagedValue, page_at, memory_of}
+use Rattle.paged_memory.specs.Peeking.{bytes_of, ShowsBytes, LeavesPage, RefusesPeek}
+use Rattle.paged_memory.specs.Soundness.{is_held}
+use Rattle.paged_memory.specs.declared.filling.PageInFault.{PageInFault}
+use Rattle.paged_memory.specs.declared.peeking.PeekFault.{PeekFault}
+
+-- the caches of a hart, and of all harts
+
+module _ {S : Type 0} where
+  -- a hart has dropped its translations that were to be dropped; one that was not started has none
+  abbrev pub noticed : ℕ → PagedValue S → PagedValue S
+  noticed hart memory =
+      if nat_lt hart (length memory.caches) then record memory { caches = slice_set memory.caches hart (undoomed (slice_index_or memory.caches hart [])) }
+      else memory
+
+  -- the caches of all harts are emptied
+  abbrev pub emptied : PagedValue S → PagedValue S
+  emptied memory = record memory { caches = map (λ _. []) memory.caches }
+
+  abbrev pub Notices : ℕ → PagedValue S → PagedValue S → Type 0
+  Notices hart old new = new ≡ noticed hart old
+
+  abbrev pub Empties : PagedValue S → PagedValue S → Type 0
+  Empties old new = new ≡ emptied old
+
+-- what a call leaves of a memory
+
+module _ {S : Type 0} where
+  -- it with the pages of another
+  abbrev pub with_pages : PagedValue S → PagedValue S → PagedValue S
+  with_pages old new = record old { pages = new.pages }
+
+  -- the caches and the tables are what they were
+  abbrev pub SameCaches : PagedValue S → PagedValue S → Type 0
+  SameCaches old new = new.caches ≡ old.caches
+
+  abbrev pub SameEntries : PagedValue S → PagedValue S → Type 0
+  SameEntries old new = new.tables ≡ old.tables
+
+-- a page's use is read, and it begins to leave its frame
+
+module _ {S : Type 0} where
+  -- a resident page's accessed bit is cleared, and its translations are to be dropped
+  pub record ForgetsUse (vpn : ℕ) (old new : PagedValue S) : Type 0 where
+    pub process : new.process ≡ old.process
+    pub pages : new.pages ≡ old.pages
+    pub entry : ChangesEntry old.tables new.tables vpn (unaccessed_entry (entry_at old.tables vpn))
+    pub tabled : SameTables old.tables new.tables
+    pub caches : new.caches ≡ map (doomed vpn) old.caches
+    pub reserved : new.reserved ≡ old.reserved
+
+  -- it is read and cleared, where the page is resident
+  abbrev pub ReadsUse : Option Bool → ℕ → PagedValue S → PagedValue S → Type 0
+  ReadsUse None vpn old new = new ≡ old
+  ReadsUse (Some bit) vpn old new = ForgetsUse vpn old new
+
+  -- a resident page begins to leave its frame: it is unmapped, and its translations are to be dropped
+  pub record BeginsToLeave (vpn : ℕ) (old new : PagedValue S) : Type 0 where
+    pub process : new.process ≡ old.process
+    pub page : ChangesBy (Leaves (dirty_of (entry_at old.tables vpn))) old.pages new.pages vpn
+    pub entry : ChangesEntry old.tables new.tables vpn blank
+    pub tabled : SameTables old.tables new.tables
+    pub caches : new.caches ≡ map (doomed vpn) old.caches
+    pub reserved : new.reserved ≡ old.reserved
+
+  -- why it does not
+  abbrev pub DoesNotLeave : ℕ → LeaveRefusal → PagedValue S → Type 0
+  DoesNotLeave vpn refusal memory = RefusesLeave (page_at memory.pages vpn) refusal
+
+-- a page that is leaving is looked at
+
+module _ {S : Type 0} where
+  -- whether a page that is leaving counts as changed: by the mark that it took along, or since its slot holds nothing for it yet
+  abbrev pub counts_changed : PageValue S → Bool
+  counts_changed page = changed false page.place
+
+  -- the slot that the page of a number has at hand
+  abbrev pub slot_in : PagedValue S → ℕ → Option S
+  slot_in memory vpn = option_and_then (λ page. kept (slot_of page.place)) (page_at memory.pages vpn)
+
+  -- a page that is leaving, with its frame and its slot
+  pub record IsLeavingPage (vpn : ℕ) (memory : PagedValue S) : Type 0 where
+    pub small : vpn < 2 ^ 20
+    pub page : PageValue S
+    pub frame : FrameValue
+    pub slot : Keeping S
+    pub mark : Bool
+    pub found : page_at memory.pages vpn ≡ Some page
+    pub leaving : page.place ≡ Leaving frame slot mark
+
+  -- a cache holds a translation of it still
+  pub record IsCachedStill (vpn : ℕ) (memory : PagedValue S) : Type 0 where
+    pub page : IsLeavingPage vpn memory
+    pub held : is_held vpn memory.caches ≡ true
+
+  -- no cache does; it counts as changed and has no slot
+  pub record WantsSlot (vpn : ℕ) (memory : PagedValue S) : Type 0 where
+    pub page : IsLeavingPage vpn memory
+    pub held : is_held vpn memory.caches ≡ false
+    pub changed : counts_changed page.page ≡ true
+    pub slotless : page.slot ≡ keeping.NoSlot
+
+  -- where an unchanged page goes that lets its frame go: to its slot, or to what it began with; one whose slot holds nothing for it counts as changed, and
+  -- goes nowhere
+  abbrev pub dropped_to : Keeping S → Place S
+  dropped_to keeping.NoSlot = Fresh
+  dropped_to (keeping.Unsaved slot) = Away (record { slot = slot; digest = [] })
+  dropped_to (keeping.Saved copy) = Away copy
+
+  pub record LetsGo (frame : FrameValue) (page page' : PageValue S) : Type 0 where
+    pub slot : Keeping S
+    pub mark : Bool
+    pub was : page.place ≡ Leaving frame slot mark
+    pub unchanged : counts_changed page ≡ false
+    pub is : page' ≡ record page { place = dropped_to slot }
+
+  -- an unchanged page that no cache holds goes to its backing, and lets this frame go
+  pub record GoesToBacking (vpn : ℕ) (frame : FrameValue) (old new : PagedValue S) : Type 0 where
+    pub small : vpn < 2 ^ 20
+    pub held : is_held vpn old.caches ≡ false
+    pub page : ChangesBy (LetsGo frame) old.pages new.pages vpn
+    pub stays : new ≡ record old { pages = new.pages }
+
+  pub record IsCopied (job : JobValue S) (page page' : PageValue S) : Type 0 where
+    pub frame : FrameValue
+    pub slot : Keeping S
+    pub mark : Bool
+    pub was : page.place ≡ Leaving frame slot mark
+    pub changed : counts_changed page ≡ true
+    pub is : page' ≡ record page { place = Saving frame }
+    pub copy : job.copy ≡ frame.bytes
+
+  -- a changed page that no cache holds is copied into a job, and is being saved
+  pub record GoesToBeSaved (vpn : ℕ) (job : JobValue S) (old new : PagedValue S) : Type 0 where
+    pub small : vpn < 2 ^ 20
+    pub held : is_held vpn old.caches ≡ false
+    pub page : ChangesBy (IsCopied job) old.pages new.pages vpn
+    pub stays : new ≡ record old { pages = new.pages }
+    pub process : job.process ≡ old.process
+    pub vpn_is : job.vpn ≡ vpn
+
+  -- what a look at a page answers, which spare slot it leaves, and what it changes
+  pub record IsLookedAt {L : Type 0} (vpn : ℕ) (spare spare' : Option S) (answer : Collected L S) (old new : PagedValue S) : Type 0 where
+    pub looked : CollectsAt old.process vpn (is_held vpn old.caches) spare spare' answer old.pages new.pages (page_at old.pages vpn)
+    pub stays : new ≡ record old { pages = new.pages }
+    pub same : lets_go answer ≡ false → new ≡ old
+
+-- a save comes back, and a page that is leaving is mapped again
+
+module _ {S : Type 0} where
+  -- the page of a save goes to its slot, and lets this frame go, which holds what was saved
+  pub record SavedAway (job : SavedValue S) (frame : FrameValue) (old new : PagedValue S) : Type 0 where
+    pub page : ChangesSaved old.process job (Frees job frame) old.pages new.pages
+    pub stays : new ≡ record old { pages = new.pages }
+
+  -- the page of a save that failed leaves again in its frame, with the slot of the save, and counts as changed; the frame shows the failure
+  pub record IsUnsaved (shows : FrameValue → Type 0) (job : SavedValue S) (page page' : PageValue S) : Type 0 where
+    pub frame : FrameValue
+    pub was : page.place ≡ Saving frame
+    pub is : page' ≡ record page { place = Leaving frame (keeping.Unsaved job.slot) true }
+    pub failed : shows frame
+
+  pub record LeavesAgain (shows : FrameValue → Type 0) (job : SavedValue S) (old new : PagedValue S) : Type 0 where
+    pub page : ChangesSaved old.process job (IsUnsaved shows job) old.pages new.pages
+    pub stays : new ≡ record old { pages = new.pages }
+
+  -- why a save frees no frame, and what is left
+  pub record IsNotSaved (job : SavedValue S) (refusal : SaveRefusal S) (old new : PagedValue S) : Type 0 where
+    pub why : RefusesSaved old.process job old.pages new.pages refusal
+    pub stays : new ≡ record old { pages = new.pages }
+
+  -- a save is out of a page of this memory
+  abbrev pub IsOutOf : SavedValue S → PagedValue S → Type 0
+  IsOutOf job memory = IsOut memory.process job memory.pages
+
+  -- some page is being saved, or none is
+  abbrev pub SavesSome : PagedValue S → Type 0
+  SavesSome memory = SavesOne memory.pages
+
+  abbrev pub SavesNone : PagedValue S → Type 0
+  SavesNone memory = (q : ℕ) → q < 2 ^ 20 → ¬ IsSaving (page_at memory.pages q)
+
+  -- a page that is leaving is mapped again, in its frame
+  pub record MapsAgain (vpn : ℕ) (old new : PagedValue S) : Type 0 where
+    pub small : vpn < 2 ^ 20
+    pub page : BringsBack old.pages new.pages old.tables new.tables vpn
+    pub tabled : SameTables old.tables new.tables
+    pub process : new.process ≡ old.process
+    pub caches : new.caches ≡ old.caches
+    pub reserved : new.reserved ≡ old.reserved
+
+-- a page is brought in, or looked at
+
+module _ {S : Type 0} (held : S → List ℕ) (honest : Type 0) where
+  -- a page is in this frame, mapped with its rights, as used and not changed
+  pub record ComesIn (frame : FrameValue) (vpn : ℕ) (old new : PagedValue S) : Type 0 where
+    pub small : vpn < 2 ^ 20
+    pub page : ChangesBy (BroughtIn held honest frame) old.pages new.pages vpn
+    pub entry : IfSome (page_at old.pages vpn) (λ page. ChangesEntry old.tables new.tables vpn (page_entry frame.number page.origin.rights true false))
+    pub tables : AddsTable old.tables new.tables vpn
+    pub process : new.process ≡ old.process
+    pub caches : new.caches ≡ old.caches
+    pub reserved : new.reserved ≡ old.reserved
+    pub memory : honest → memory_of held new ≡ memory_of held old
+
+  -- why it does not come in, with the frame that is handed back
+  abbrev pub RefusesIn : (S → ℕ) → FrameValue → ℕ → FrameValue → PageInFault → PagedValue S → PagedValue S → Type 0
+  RefusesIn failures frame vpn back fault old new = RefusesPageIn held honest failures frame old.pages new.pages old.tables vpn back fault
+
+  pub record StaysOut (failures : S → ℕ) (frame : FrameValue) (vpn : ℕ) (back : FrameValue) (fault : PageInFault) (old new : PagedValue S) : Type 0 where
+    pub why : RefusesIn failures frame vpn back fault old new
+    pub unmapped : SameEntries old new
+    pub process : new.process ≡ old.process
+    pub caches : SameCaches old new
+    pub reserved : new.reserved ≡ old.reserved
+    pub memory : honest → memory_of held new ≡ memory_of held old
+
+  -- so many bytes that the page of an address shows from it on; what a look at them leaves; and why they are not shown
+  abbrev pub ShowsIn : PagedValue S → ℕ → ℕ → List (Option ℕ) → Type 0
+  ShowsIn memory address count bytes = ShowsBytes held honest (page_at memory.pages (page_number address)) (page_offset address) count bytes
+
+  abbrev pub LeavesLookedAt : ℕ → PagedValue S → PagedValue S → Type 0
+  LeavesLookedAt address old new = LeavesPage held honest old.pages new.pages (page_number address) (page_at old.pages (page_number address))
+
+  abbrev pub DoesNotShow : (S → ℕ) → ℕ → PagedValue S → PagedValue S → PeekFault → Type 0
+  DoesNotShow failures address old new fault = RefusesPeek held honest failures old.pages new.pages (page_number address) fault
+
+  -- a look at bytes of a page, from an address on: nothing changes but a slot that was read, and where it is refused the room is as it was
+  pub record IsPeeked (failures : S → ℕ) (address : ℕ) (room bytes : List (Option ℕ)) (result : Result (Unit {0}) PeekFault) (old new : PagedValue S) : Type 0 where
+    pub read : OnOk result (ShowsIn old address (length room) bytes)
+    pub shown : honest → OnOk result (bytes_of (memory_of held old) address (length room) ≡ Some bytes)
+    pub unread : OnErr result (bytes ≡ room)
+    pub refused : IfErr result (DoesNotShow failures address old new)
+    pub left : LeavesLookedAt address old new
+    pub memory : honest → memory_of held new ≡ memory_of held old
+    pub stays : new ≡ record old { pages = new.pages }
+
+-- pages give back what they have
+
+module _ {S : Type 0} where
+  -- no page below this number has a frame or a slot to give back, but one that is being saved
+  abbrev pub HasNothingBelow : ℕ → PagedValue S → Type 0
+  HasNothingBelow bound memory = (q : ℕ) → q < bound → GivesNothing (page_at memory.pages q)
+
+  -- the first page that has something gives it back, and is unmapped
+  pub record GivesUp (given : Option FrameValue × Option S) (old new : PagedValue S) : Type 0 where
+    pub number : ℕ
+    pub small : number < 2 ^ 20
+    pub first : HasNothingBelow number old
+    pub page : ChangesBy (GivesBack given) old.pages new.pages number
+    pub entry : ChangesEntry old.tables new.tables number blank
+    pub tabled : SameTables old.tables new.tables
+    pub process : new.process ≡ old.process
+    pub caches : new.caches ≡ old.caches
+    pub reserved : new.reserved ≡ old.reserved
+
+  -- whether a page has a frame or a slot to give back
+  abbrev pub has_to_give : Option (PageValue S) → Bool
+  has_to_give None = false
+  has_to_give (Some page) = is_some (given_back page.place)
+
+  -- a page that has is given up for good, and any other stays where it is
+  abbrev pub place_given : Place S → Place S
+  place_given Fresh = Fresh
+  place_given (Resident frame slot) = Purged
+  place_given (Leaving frame slot mark) = Purged
+  place_given (Saving frame) = Saving frame
+  place_given (Away slot) = Purged
+  place_given Purged = Purged
+
+  abbrev pub page_given : PageValue S → PageValue S
+  page_given page = record page { place = place_given page.place }
+
+  -- whether the page of a number has something to give back
+  abbrev pub has_to_give_in : PagedValue S → ℕ → Bool
+  has_to_give_in memory number = has_to_give (page_at memory.pages number)
+
+  -- the page of a number is as it was; it has given what it had
+  abbrev pub SamePage : PagedValue S → PagedValue S → ℕ → Type 0
+  SamePage old new number = page_at new.pages number ≡ page_at old.pages number
+
+  abbrev pub PageGiven : PagedValue S → PagedValue S → ℕ → Type 0
+  PageGiven old new number = page_at new.pages number ≡ option_map page_given (page_at old.pages number)
+
+  -- no cache holds a translation
+  abbrev pub EmptiesCaches : PagedValue S → PagedValue S → Type 0
+  EmptiesCaches old new = new.caches ≡ map (λ _. []) old.caches
+
+  -- a page gave back what it had, and is unmapped
+  pub record IsGiven (old new : PagedValue S) (number : ℕ) : Type 0 where
+    pub had : has_to_give_in old number ≡ true
+    pub page : PageGiven old new number
+    pub entry : entry_at new.tables number ≡ blank
+
+  -- a page is as it was
+  pub record IsLeft (old new : PagedValue S) (number : ℕ) : Type 0 where
+    pub page : SamePage old new number
+    pub entry : entry_at new.tables number ≡ entry_at old.tables number
+
+  -- every page that had something has given it back, and no cache holds a translation
+  pub record GivesAll (old new : PagedValue S) : Type 0 where
+    pub process : new.process ≡ old.process
+    pub pages : (number : ℕ) → number < 2 ^ 20 → PageGiven old new number
+    pub entries : (number : ℕ) → number < 2 ^ 20 → entry_at new.tables number ≡ (if has_to_give_in old number then blank else entry_at old.tables number)
+    pub caches : EmptiesCaches old new
+
+-- a memory begins
+
+module _ {S : Type 0} where
+  -- a page that was never brought in
+  abbrev pub fresh : Page → PageValue S
+  fresh page = record { origin = page; place = Fresh }
+
+  -- these pages are mapped, and none was brought in
+  abbrev pub HasFresh : List (ℕ × Page) → PagedValue S → Type 0
+  HasFresh pages memory = memory.pages ≡ map (λ e. (e.0, fresh e.1)) pages
+
+  -- one hart has a cache, which is empty
+  abbrev pub HasOneCache : PagedValue S → Type 0
+  HasOneCache memory = memory.caches ≡ [] ∷ []
+
+  -- the memory of the process of this number, none of whose pages was brought in
+  pub record IsNew (number : ℕ) (pages : List (ℕ × Page)) (memory : PagedValue S) : Type 0 where
+    pub numbered : memory.process ≡ number
+    pub mapped : HasFresh pages memory
+    pub tables : (vpn : ℕ) → vpn < 2 ^ 20 → entry_at memory.tables vpn ≡ blank
+    pub caches : HasOneCache memory

@@ -7,6 +7,7 @@ pub mod Access
 pub mod Growth
 pub mod Counting
 pub mod CountingLaws
+pub mod FewerLaws
 pub mod HartMemory
 pub mod HartMemoryLaws
 pub mod Filling

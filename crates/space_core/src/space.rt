@@ -1,9 +1,10 @@
-ghost use Rattle.std.specs.Prelude.{◌≡◌, ◌<◌, ◌^◌, Some, option_map, option_copied, map, slice_get, OnSome, IfNone, OnOk, OnErr, IfErr};
+ghost use Rattle.std.specs.Prelude.{◌≡◌, ◌<◌, ◌≤◌, ◌^◌, true, Some, option_map, option_copied, map, slice_get, OnSome, IfNone, OnOk, OnErr, IfErr};
 ghost use Rattle.std.specs.Option.{option_or};
 ghost use Rattle.sv32_table.specs.Entry.{blank};
 ghost use Rattle.sv32_table.specs.EntryAt.{entry_at, ChangesEntry, SameTables, unaccessed_entry, dirty_of};
 ghost use Rattle.tlb_core.specs.Cache.{doomed};
 ghost use Rattle.page_store.specs.PageValue.{page_state_of};
+ghost use Rattle.paged_memory.specs.Counting.{frames_of, residents_of};
 ghost use Rattle.paged_memory.specs.Paged.{page_at, seen_at, memory_of};
 ghost use Rattle.space_core.specs.Caches.{noticed, if_killed};
 ghost use Rattle.space_core.specs.StandsFor.{OfFlat, own_ending};
@@ -13,7 +14,7 @@ use crate::recorded::Recorded;
 use elf_image::Image;
 use flat_machine::{End, KillCause, Schedule};
 use page_store::{LeaveRefusal, PageState};
-use paged_memory::PagedMemory;
+use paged_memory::{HeldPages, PagedMemory};
 use rv_exec::Regs;
 use std::marker::Model;
 use std::sync::ledger::Ledger;
@@ -45,6 +46,16 @@ impl<L: Ledger, S: SwapSlot> Space<L, S> {
         ensures { result ≡ option_map (λ page. page_state_of page.place) (page_at self.now.memory.pages vpn) }
     {
         self.memory.state(vpn)
+    }
+
+    /// Counts the pages that stand in frames.
+    pub fn held_pages(&self) -> HeldPages
+        ensures resident { result.resident ≡ residents_of self.now.memory.pages (λ _. true) }
+        ensures framed { result.framed ≡ frames_of self.now.memory.pages (λ _. true) }
+        ensures few_resident { result.resident ≤ 2 ^ 20 }
+        ensures few_framed { result.framed ≤ 2 ^ 20 }
+    {
+        self.memory.held_pages()
     }
 
     /// Clears the mark that a resident page was used, and tells what it was, or `None` where the page is not resident.

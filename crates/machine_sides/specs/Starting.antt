@@ -2,7 +2,7 @@
 use Rattle.std.specs.Prelude.{◌≡◌, ℕ, ◌<◌, ◌^◌, false, List, [], ◌∷◌}
 use Rattle.elf_image.specs.Start.{Start}
 use Rattle.flat_machine.specs.Process.{opening, opening_pages}
-use Rattle.space_core.specs.Fresh.{all_fresh}
+use Rattle.paged_memory.specs.Fresh.{all_fresh}
 use Rattle.space_core.specs.RunningValue.{beside}
 use Rattle.sv32_table.specs.Entry.{blank}
 use Rattle.sv32_table.specs.EntryAt.{entry_at}

@@ -16,3 +16,12 @@ pub mod Coherence
 pub mod PageStatus
 pub mod Stages
 pub mod Whole
+pub mod Using
+pub mod UsingLaws
+pub mod Coheres
+pub mod Fresh
+pub mod FreshLaws
+pub mod Notices
+pub mod NoticesLaws
+pub mod Showing
+pub mod ShowingLaws

@@ -7,6 +7,7 @@ pub mod Access
 pub mod Growth
 pub mod Counting
 pub mod CountingLaws
+pub mod FewerLaws
 pub mod HartMemory
 pub mod HartMemoryLaws
 pub mod Filling
@@ -18,3 +19,12 @@ pub mod Stages
 pub mod Whole
 pub mod Moving
 pub mod MovingLaws
+pub mod Using
+pub mod UsingLaws
+pub mod Coheres
+pub mod Fresh
+pub mod FreshLaws
+pub mod Notices
+pub mod NoticesLaws
+pub mod Showing
+pub mod ShowingLaws

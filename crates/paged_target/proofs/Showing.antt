@@ -133,7 +133,7 @@ module _ {S : Type 0} (held : S → List ℕ) where
     pub page_shown : (number : ℕ) → number < 2 ^ 20 → is_some (page_at shows.side.space.memory.pages number) ≡ is_some (get (flat_at core).memory.pages number)
     page_shown number small =
         sym (map_some (λ (p : PageValue S). p.origin.rights) (page_at shows.side.space.memory.pages number))
-        ∙ ap is_some (sym (shows.stands.mapped number small))
+        ∙ ap is_some (sym (shows.stands.shows.mapped number small))
         ∙ map_some (λ (p : Page). p.rights) (get shows.stands.memory.pages number)
         ∙ ap (λ (p : Process). is_some (get p.memory.pages number)) (sym shows.flat)
 

@@ -28,3 +28,7 @@ pub mod Notices
 pub mod NoticesLaws
 pub mod Showing
 pub mod ShowingLaws
+pub mod AlikeLaws
+pub mod MoveLaws
+pub mod LeaveLaws
+pub mod SaveLaws

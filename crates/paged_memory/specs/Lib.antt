@@ -32,3 +32,5 @@ pub mod AlikeLaws
 pub mod MoveLaws
 pub mod LeaveLaws
 pub mod SaveLaws
+pub mod ComeLaws
+pub mod GivenLaws

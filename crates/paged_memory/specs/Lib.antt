@@ -16,6 +16,7 @@ pub mod GivingBack
 pub mod Coherence
 pub mod PageStatus
 pub mod Stages
+pub mod StagesLaws
 pub mod Whole
 pub mod Moving
 pub mod MovingLaws
@@ -28,6 +29,7 @@ pub mod Notices
 pub mod NoticesLaws
 pub mod Showing
 pub mod ShowingLaws
+pub mod AmongLaws
 pub mod AlikeLaws
 pub mod MoveLaws
 pub mod LeaveLaws

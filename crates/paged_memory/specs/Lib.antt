@@ -28,6 +28,7 @@ pub mod Notices
 pub mod NoticesLaws
 pub mod Showing
 pub mod ShowingLaws
+pub mod AmongLaws
 pub mod AlikeLaws
 pub mod MoveLaws
 pub mod LeaveLaws

@@ -35,4 +35,5 @@ pub mod MoveLaws
 pub mod LeaveLaws
 pub mod SaveLaws
 pub mod ComeLaws
+pub mod StillLaws
 pub mod GivenLaws

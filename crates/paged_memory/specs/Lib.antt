@@ -36,4 +36,5 @@ pub mod LeaveLaws
 pub mod SaveLaws
 pub mod ComeLaws
 pub mod StillLaws
+pub mod PeekLaws
 pub mod GivenLaws

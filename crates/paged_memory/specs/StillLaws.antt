@@ -14,7 +14,7 @@ use Rattle.paged_memory.specs.declared.filling.PageInFault.{PageInFault}
 use Rattle.paged_memory.specs.declared.filling.PageInFault.TheVariants.{NotAbsent, Device, Damaged, NoMemory}
 
 module _ {S : Type 0} where
-  still_where : (old new : Place S) → IfAbsent old (new ≡ Fresh) (λ _. IfAway new (λ _. Unit {0})) → page_state_of new ≡ page_state_of old
+  pub still_where : (old new : Place S) → IfAbsent old (new ≡ Fresh) (λ _. IfAway new (λ _. Unit {0})) → page_state_of new ≡ page_state_of old
   still_where Fresh new how = ap page_state_of how
   still_where (Resident f s) new how = absurd how
   still_where (Leaving f s m) new how = absurd how

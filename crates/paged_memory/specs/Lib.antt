@@ -36,3 +36,4 @@ pub mod LeaveLaws
 pub mod SaveLaws
 pub mod ComeLaws
 pub mod GivenLaws
+pub mod LooksLaws

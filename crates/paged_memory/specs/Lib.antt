@@ -35,5 +35,6 @@ pub mod MoveLaws
 pub mod LeaveLaws
 pub mod SaveLaws
 pub mod ComeLaws
+pub mod StillLaws
 pub mod GivenLaws
 pub mod LooksLaws

@@ -1,5 +1,5 @@
 -- What a look at a page that may be leaving comes to, by its answer.
-use Rattle.std.proofs.Common.{◌≡◌, ℕ, ◌^◌, ◌<◌, Bool, true, false, ◌||◌, List, Option, Some, None, option_map, option_and_then, refl, sym, ap, ◌∙◌, subst}
+use Rattle.std.proofs.Common.{◌≡◌, ℕ, ◌^◌, ◌<◌, Bool, true, false, ◌||◌, Option, Some, None, option_map, option_and_then, refl, sym, ap, ◌∙◌, subst}
 use Rattle.frame_pool.specs.FrameValue.{FrameValue}
 use Rattle.page_store.specs.Kept.{kept}
 use Rattle.page_store.specs.Moves.{CollectedPage, collected, collect_leaving, let_go, with_spare, job_of}
@@ -8,8 +8,7 @@ use Rattle.page_store.specs.declared.answer.Collected.{Collected}
 use Rattle.page_store.specs.declared.answer.Collected.TheVariants as answer
 use Rattle.page_store.specs.declared.state.Keeping.{Keeping}
 use Rattle.page_store.specs.declared.state.Keeping.TheVariants.{NoSlot, Unsaved, Saved}
-use Rattle.paged_memory.specs.Calls.{ChangesBy}
-use Rattle.paged_memory.specs.Leaving.{CollectsAt, Collects, lets_go}
+use Rattle.paged_memory.specs.Leaving.{CollectsAt}
 use Rattle.paged_memory.specs.Moving.{IsLeavingPage, IsCachedStill, WantsSlot, GoesToBacking, GoesToBeSaved, LooksAt, OnlyPages, counts_changed, dropped_to, slot_in}
 use Rattle.paged_memory.specs.Paged.{PagedValue, page_at, ChangesPage}
 use Rattle.paged_memory.specs.Soundness.{is_held}

@@ -1,25 +1,19 @@
--- What a page that does not come in leaves of where it is, and what notices and endings leave of a memory's pages.
-use Rattle.std.proofs.Common.{◌≡◌, ℕ, true, false, nat_lt, cond, List, length, slice_set, Option, Some, None, option_map, refl, sym, ap, ◌∙◌}
+-- What a page that does not come in leaves: it is where it was, its frame comes back, and one that is absent is not refused for that.
+use Rattle.std.proofs.Common.{◌≡◌, ℕ, true, List, Option, Some, None, option_map, refl, sym, ap, ◌∙◌}
 use Rattle.frame_pool.specs.FrameValue.{FrameValue}
 use Rattle.page_store.specs.Moves.{IfAbsent, IfAway}
 use Rattle.page_store.specs.PageValue.{PageValue, Place, Fresh, Resident, Leaving, Saving, Away, Purged, page_state_of}
-use Rattle.tlb_core.specs.Cache.{undoomed}
-use Rattle.paged_memory.specs.AlikeLaws.{CountsAlike, same_pages}
 use Rattle.paged_memory.specs.Calls.{ChangesBy}
 use Rattle.paged_memory.specs.Filling.{IsAbsent, StaysAbsent}
 use Rattle.paged_memory.specs.MoveLaws.{moved_now}
 use Rattle.paged_memory.specs.Moving.{RefusesIn}
-use Rattle.paged_memory.specs.Notices.{noticed, emptied}
 use Rattle.paged_memory.specs.Paged.{PagedValue, page_at}
 use Rattle.paged_memory.specs.Stages.{is_absent_stage}
-use Rattle.paged_memory.specs.Using.{cache_in}
 use Rattle.paged_memory.specs.Whole.{stage_in}
 use Rattle.paged_memory.specs.declared.filling.PageInFault.{PageInFault}
 use Rattle.paged_memory.specs.declared.filling.PageInFault.TheVariants.{NotAbsent, Device, Damaged, NoMemory}
 
 module _ {S : Type 0} where
-  -- ---- a page that does not come in
-
   still_where : (old new : Place S) → IfAbsent old (new ≡ Fresh) (λ _. IfAway new (λ _. Unit {0})) → page_state_of new ≡ page_state_of old
   still_where Fresh new how = ap page_state_of how
   still_where (Resident f s) new how = absurd how
@@ -72,15 +66,3 @@ module _ {S : Type 0} where
     refused_absent Device how absent same = cc
     refused_absent Damaged how absent same = cc
     refused_absent NoMemory how absent same = cc
-
-  -- ---- notices and endings
-
-  pub noticed_alike : (hart : ℕ) (memory : PagedValue S) → CountsAlike memory (noticed hart memory)
-  noticed_alike hart memory =
-      elim (nat_lt hart (length memory.caches)) as (λ t. CountsAlike memory (cond t (record memory { caches = slice_set memory.caches hart (undoomed (cache_in memory hart)) }) memory)) [
-        | true ↦ same_pages memory _ refl refl
-        | false ↦ same_pages memory _ refl refl
-      ]
-
-  pub emptied_alike : (memory : PagedValue S) → CountsAlike memory (emptied memory)
-  emptied_alike memory = same_pages memory _ refl refl

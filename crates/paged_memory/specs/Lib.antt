@@ -38,3 +38,4 @@ pub mod ComeLaws
 pub mod StillLaws
 pub mod PeekLaws
 pub mod GivenLaws
+pub mod LooksLaws

@@ -22,7 +22,7 @@ use Rattle.paged_memory.specs.Counting.{page_passes, pages_where, is_resident_pl
 use Rattle.paged_memory.specs.CountingLaws.{none_where_pass}
 use Rattle.paged_memory.specs.Paged.{page_at}
 use Rattle.pager_core.specs.Pager.{full_pager}
-use Rattle.space_core.specs.Fresh.{fresh, all_fresh}
+use Rattle.paged_memory.specs.Fresh.{fresh, all_fresh}
 use Rattle.swap_slots.specs.PoolValue.{PoolValue}
 use Rattle.machine_core.specs.Machine.{CoreValue, IsMachine, IsSaveOut, total, jobs_where, numbers_below}
 use Rattle.elf_image.specs.Start.{Start}

@@ -1,6 +1,6 @@
 -- What the pages, tables and caches of each process tell of one another at any time.
 use Rattle.std.specs.Prelude.{◌≡◌, ℕ, List, length, Some, slice_get}
-use Rattle.space_core.specs.Coheres.{Coheres}
+use Rattle.paged_memory.specs.Coheres.{Coheres}
 use Rattle.space_core.specs.StandsFor.{SpaceValue, StandsFor}
 use Rattle.machine_sides.specs.Sides.{ProcessSideValue}
 

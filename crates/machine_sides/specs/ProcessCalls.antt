@@ -9,7 +9,7 @@ use Rattle.rv_exec.specs.Outcomes.{Used}
 use Rattle.paged_memory.specs.Access.{HasPage, LacksPage, cache_of}
 use Rattle.paged_memory.specs.HartMemory.{MarksSince, MarksWithin}
 use Rattle.space_core.specs.Caches.{noticed, if_killed}
-use Rattle.space_core.specs.Coheres.{Coheres}
+use Rattle.paged_memory.specs.Coheres.{Coheres}
 use Rattle.space_core.specs.Next.{next_pages, answered, begun}
 use Rattle.space_core.specs.Slices.{EachStep, BoundsEach, StopsRecorded}
 use Rattle.space_core.specs.Slicing.{shown_process, KeepsSpace}

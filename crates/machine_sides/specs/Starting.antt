@@ -2,7 +2,7 @@
 use Rattle.std.specs.Prelude.{◌≡◌, ℕ, ◌<◌, ◌^◌, false, []}
 use Rattle.elf_image.specs.Start.{Start}
 use Rattle.flat_machine.specs.Process.{opening, opening_pages}
-use Rattle.paged_memory.specs.Moving.{HasFresh, HasOneCache}
+use Rattle.paged_memory.specs.Fresh.{HasFresh, HasOneCache}
 use Rattle.paged_memory.specs.Whole.{entry_in}
 use Rattle.space_core.specs.RunningValue.{beside}
 use Rattle.sv32_table.specs.Entry.{blank}

@@ -24,3 +24,4 @@ pub mod CoherenceLaws
 pub mod Marking
 pub mod Since
 pub mod Refusals
+pub mod HeldLaws

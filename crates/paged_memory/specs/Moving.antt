@@ -1,7 +1,6 @@
 -- What each call on a process's pages does to its memory as a whole, by name: whatever stands on it says so by these.
-use Rattle.std.specs.Prelude.{◌≡◌, ℕ, ◌^◌, ◌<◌, Bool, true, false, nat_lt, is_some, length, map, List, [], ◌∷◌, Option, Some, None, option_map, option_and_then, if◌then◌else◌, Result, OnOk, OnErr, IfErr, IfSome, slice_index_or, slice_set}
+use Rattle.std.specs.Prelude.{◌≡◌, ℕ, ◌^◌, ◌<◌, Bool, true, false, is_some, map, List, [], Option, Some, None, option_map, option_and_then, if◌then◌else◌, IfSome}
 use Rattle.frame_pool.specs.FrameValue.{FrameValue}
-use Rattle.page_memory.specs.Pages.{Page}
 use Rattle.page_memory.specs.Words.{page_number, page_offset}
 use Rattle.page_store.specs.JobValue.{JobValue, SavedValue}
 use Rattle.page_store.specs.Kept.{kept}
@@ -14,35 +13,16 @@ use Rattle.page_store.specs.declared.state.Keeping.{Keeping}
 use Rattle.page_store.specs.declared.state.Keeping.TheVariants as keeping
 use Rattle.sv32_table.specs.Entry.{blank, page_entry}
 use Rattle.sv32_table.specs.EntryAt.{entry_at, ChangesEntry, SameTables, AddsTable, unaccessed_entry, dirty_of}
-use Rattle.tlb_core.specs.Cache.{doomed, undoomed}
+use Rattle.tlb_core.specs.Cache.{doomed}
 use Rattle.paged_memory.specs.Calls.{ChangesBy, Leaves, RefusesLeave}
 use Rattle.paged_memory.specs.Filling.{BroughtIn, RefusesPageIn}
-use Rattle.paged_memory.specs.GivingBack.{GivesBack, GivesNothing, SavesOne}
-use Rattle.paged_memory.specs.Leaving.{CollectsAt, lets_go, ChangesSaved, Frees, RefusesSaved, IsOut, IsSaving, BringsBack}
+use Rattle.paged_memory.specs.GivingBack.{GivesBack, GivesNothing, GivesOne, LiesBehind, SavesOne}
+use Rattle.paged_memory.specs.Leaving.{CollectsAt, ChangesSaved, Frees, RefusesSaved, IsOut, IsSaving, BringsBack}
 use Rattle.paged_memory.specs.Paged.{PagedValue, page_at, memory_of}
-use Rattle.paged_memory.specs.Peeking.{bytes_of, ShowsBytes, LeavesPage, RefusesPeek}
-use Rattle.paged_memory.specs.Soundness.{is_held}
+use Rattle.paged_memory.specs.Peeking.{ShowsBytes, LeavesPage, RefusesPeek}
+use Rattle.paged_memory.specs.Whole.{is_cached}
 use Rattle.paged_memory.specs.declared.filling.PageInFault.{PageInFault}
 use Rattle.paged_memory.specs.declared.peeking.PeekFault.{PeekFault}
-
--- the caches of a hart, and of all harts
-
-module _ {S : Type 0} where
-  -- a hart has dropped its translations that were to be dropped; one that was not started has none
-  abbrev pub noticed : ℕ → PagedValue S → PagedValue S
-  noticed hart memory =
-      if nat_lt hart (length memory.caches) then record memory { caches = slice_set memory.caches hart (undoomed (slice_index_or memory.caches hart [])) }
-      else memory
-
-  -- the caches of all harts are emptied
-  abbrev pub emptied : PagedValue S → PagedValue S
-  emptied memory = record memory { caches = map (λ _. []) memory.caches }
-
-  abbrev pub Notices : ℕ → PagedValue S → PagedValue S → Type 0
-  Notices hart old new = new ≡ noticed hart old
-
-  abbrev pub Empties : PagedValue S → PagedValue S → Type 0
-  Empties old new = new ≡ emptied old
 
 -- what a call leaves of a memory
 
@@ -51,12 +31,23 @@ module _ {S : Type 0} where
   abbrev pub with_pages : PagedValue S → PagedValue S → PagedValue S
   with_pages old new = record old { pages = new.pages }
 
+  -- nothing changed but the pages; but what harts' caches hold, or how many have one
+  abbrev pub OnlyPages : PagedValue S → PagedValue S → Type 0
+  OnlyPages old new = new ≡ with_pages old new
+
+  abbrev pub OnlyCaches : PagedValue S → PagedValue S → Type 0
+  OnlyCaches old new = new ≡ record old { caches = new.caches }
+
   -- the caches and the tables are what they were
   abbrev pub SameCaches : PagedValue S → PagedValue S → Type 0
   SameCaches old new = new.caches ≡ old.caches
 
   abbrev pub SameEntries : PagedValue S → PagedValue S → Type 0
   SameEntries old new = new.tables ≡ old.tables
+
+  -- no table was added or taken away
+  abbrev pub SameTablesIn : PagedValue S → PagedValue S → Type 0
+  SameTablesIn old new = SameTables old.tables new.tables
 
 -- a page's use is read, and it begins to leave its frame
 
@@ -112,12 +103,12 @@ module _ {S : Type 0} where
   -- a cache holds a translation of it still
   pub record IsCachedStill (vpn : ℕ) (memory : PagedValue S) : Type 0 where
     pub page : IsLeavingPage vpn memory
-    pub held : is_held vpn memory.caches ≡ true
+    pub held : is_cached memory vpn ≡ true
 
   -- no cache does; it counts as changed and has no slot
   pub record WantsSlot (vpn : ℕ) (memory : PagedValue S) : Type 0 where
     pub page : IsLeavingPage vpn memory
-    pub held : is_held vpn memory.caches ≡ false
+    pub held : is_cached memory vpn ≡ false
     pub changed : counts_changed page.page ≡ true
     pub slotless : page.slot ≡ keeping.NoSlot
 
@@ -138,7 +129,7 @@ module _ {S : Type 0} where
   -- an unchanged page that no cache holds goes to its backing, and lets this frame go
   pub record GoesToBacking (vpn : ℕ) (frame : FrameValue) (old new : PagedValue S) : Type 0 where
     pub small : vpn < 2 ^ 20
-    pub held : is_held vpn old.caches ≡ false
+    pub held : is_cached old vpn ≡ false
     pub page : ChangesBy (LetsGo frame) old.pages new.pages vpn
     pub stays : new ≡ record old { pages = new.pages }
 
@@ -154,17 +145,15 @@ module _ {S : Type 0} where
   -- a changed page that no cache holds is copied into a job, and is being saved
   pub record GoesToBeSaved (vpn : ℕ) (job : JobValue S) (old new : PagedValue S) : Type 0 where
     pub small : vpn < 2 ^ 20
-    pub held : is_held vpn old.caches ≡ false
+    pub held : is_cached old vpn ≡ false
     pub page : ChangesBy (IsCopied job) old.pages new.pages vpn
     pub stays : new ≡ record old { pages = new.pages }
     pub process : job.process ≡ old.process
     pub vpn_is : job.vpn ≡ vpn
 
   -- what a look at a page answers, which spare slot it leaves, and what it changes
-  pub record IsLookedAt {L : Type 0} (vpn : ℕ) (spare spare' : Option S) (answer : Collected L S) (old new : PagedValue S) : Type 0 where
-    pub looked : CollectsAt old.process vpn (is_held vpn old.caches) spare spare' answer old.pages new.pages (page_at old.pages vpn)
-    pub stays : new ≡ record old { pages = new.pages }
-    pub same : lets_go answer ≡ false → new ≡ old
+  abbrev pub LooksAt : {L : Type 0} → ℕ → Option S → Option S → Collected L S → PagedValue S → PagedValue S → Type 0
+  LooksAt vpn spare spare' answer old new = CollectsAt old.process vpn (is_cached old vpn) spare spare' answer old.pages new.pages (page_at old.pages vpn)
 
 -- a save comes back, and a page that is leaving is mapped again
 
@@ -185,10 +174,9 @@ module _ {S : Type 0} where
     pub page : ChangesSaved old.process job (IsUnsaved shows job) old.pages new.pages
     pub stays : new ≡ record old { pages = new.pages }
 
-  -- why a save frees no frame, and what is left
-  pub record IsNotSaved (job : SavedValue S) (refusal : SaveRefusal S) (old new : PagedValue S) : Type 0 where
-    pub why : RefusesSaved old.process job old.pages new.pages refusal
-    pub stays : new ≡ record old { pages = new.pages }
+  -- why a save frees no frame, and what its page is then
+  abbrev pub IsNotSaved : SavedValue S → SaveRefusal S → PagedValue S → PagedValue S → Type 0
+  IsNotSaved job refusal old new = RefusesSaved old.process job old.pages new.pages refusal
 
   -- a save is out of a page of this memory
   abbrev pub IsOutOf : SavedValue S → PagedValue S → Type 0
@@ -246,22 +234,23 @@ module _ {S : Type 0} (held : S → List ℕ) (honest : Type 0) where
   abbrev pub DoesNotShow : (S → ℕ) → ℕ → PagedValue S → PagedValue S → PeekFault → Type 0
   DoesNotShow failures address old new fault = RefusesPeek held honest failures old.pages new.pages (page_number address) fault
 
-  -- a look at bytes of a page, from an address on: nothing changes but a slot that was read, and where it is refused the room is as it was
-  pub record IsPeeked (failures : S → ℕ) (address : ℕ) (room bytes : List (Option ℕ)) (result : Result (Unit {0}) PeekFault) (old new : PagedValue S) : Type 0 where
-    pub read : OnOk result (ShowsIn old address (length room) bytes)
-    pub shown : honest → OnOk result (bytes_of (memory_of held old) address (length room) ≡ Some bytes)
-    pub unread : OnErr result (bytes ≡ room)
-    pub refused : IfErr result (DoesNotShow failures address old new)
-    pub left : LeavesLookedAt address old new
-    pub memory : honest → memory_of held new ≡ memory_of held old
-    pub stays : new ≡ record old { pages = new.pages }
-
 -- pages give back what they have
 
 module _ {S : Type 0} where
-  -- no page below this number has a frame or a slot to give back, but one that is being saved
+  -- the page of a number has no frame and no slot to give back, or is being saved; the same of each below this number
+  abbrev pub GivesNothingIn : PagedValue S → ℕ → Type 0
+  GivesNothingIn memory number = GivesNothing (page_at memory.pages number)
+
   abbrev pub HasNothingBelow : ℕ → PagedValue S → Type 0
-  HasNothingBelow bound memory = (q : ℕ) → q < bound → GivesNothing (page_at memory.pages q)
+  HasNothingBelow bound memory = (q : ℕ) → q < bound → GivesNothingIn memory q
+
+  -- a number lies just behind a page that has something, and that page not before the one from which on it was looked for
+  abbrev pub LiesBehindIn : PagedValue S → ℕ → ℕ → Type 0
+  LiesBehindIn memory from next = LiesBehind memory.pages from next
+
+  -- the first page that has something gives it back, and is unmapped, whatever else changes
+  abbrev pub GivesIn : Option FrameValue × Option S → PagedValue S → PagedValue S → Type 0
+  GivesIn given old new = GivesOne given old.pages new.pages old.tables new.tables
 
   -- the first page that has something gives it back, and is unmapped
   pub record GivesUp (given : Option FrameValue × Option S) (old new : PagedValue S) : Type 0 where
@@ -324,25 +313,3 @@ module _ {S : Type 0} where
     pub pages : (number : ℕ) → number < 2 ^ 20 → PageGiven old new number
     pub entries : (number : ℕ) → number < 2 ^ 20 → entry_at new.tables number ≡ (if has_to_give_in old number then blank else entry_at old.tables number)
     pub caches : EmptiesCaches old new
-
--- a memory begins
-
-module _ {S : Type 0} where
-  -- a page that was never brought in
-  abbrev pub fresh : Page → PageValue S
-  fresh page = record { origin = page; place = Fresh }
-
-  -- these pages are mapped, and none was brought in
-  abbrev pub HasFresh : List (ℕ × Page) → PagedValue S → Type 0
-  HasFresh pages memory = memory.pages ≡ map (λ e. (e.0, fresh e.1)) pages
-
-  -- one hart has a cache, which is empty
-  abbrev pub HasOneCache : PagedValue S → Type 0
-  HasOneCache memory = memory.caches ≡ [] ∷ []
-
-  -- the memory of the process of this number, none of whose pages was brought in
-  pub record IsNew (number : ℕ) (pages : List (ℕ × Page)) (memory : PagedValue S) : Type 0 where
-    pub numbered : memory.process ≡ number
-    pub mapped : HasFresh pages memory
-    pub tables : (vpn : ℕ) → vpn < 2 ^ 20 → entry_at memory.tables vpn ≡ blank
-    pub caches : HasOneCache memory

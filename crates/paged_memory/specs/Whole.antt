@@ -4,7 +4,7 @@ use Rattle.frame_pool.specs.FrameValue.{FrameValue}
 use Rattle.page_memory.specs.Pages.{Page}
 use Rattle.page_memory.specs.declared.rights.Rights.{Rights}
 use Rattle.page_store.specs.declared.state.PageState.{PageState}
-use Rattle.page_store.specs.PageValue.{PageValue, page_state_of, frame_of}
+use Rattle.page_store.specs.PageValue.{page_state_of, frame_of}
 use Rattle.sv32_table.specs.Entry.{Entry}
 use Rattle.sv32_table.specs.EntryAt.{entry_at}
 use Rattle.paged_memory.specs.Calls.{accessed_at}

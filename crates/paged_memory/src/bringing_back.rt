@@ -1,8 +1,11 @@
-ghost use Rattle.std.specs.Prelude.{◌≡◌, ◌<◌, ◌^◌, ◌↔◌, true, false, ℕ, IfOk, OnOk, OnErr, IsErr};
+ghost use Rattle.std.specs.Prelude.{◌≡◌, ◌<◌, ◌^◌, ◌↔◌, true, false, ℕ, option_map, IfOk, OnOk, OnErr, IsErr};
+ghost use Rattle.page_store.specs.PageValue.{page_state_of};
 ghost use Rattle.sv32_table.specs.EntryAt.{SameTables};
 ghost use Rattle.paged_memory.specs.Calls.{ChangesBy};
 ghost use Rattle.paged_memory.specs.Leaving.{BringsBack, ReturnsAs, is_leaving};
 ghost use Rattle.paged_memory.specs.Paged.{page_at, memory_of};
+ghost use Rattle.paged_memory.specs.Stages.{is_leaving_stage};
+ghost use Rattle.paged_memory.specs.Whole.{stage_in};
 
 use crate::eviction::state_in;
 use crate::memory::PagedMemory;
@@ -17,7 +20,7 @@ impl<L: Ledger, S: SwapSlot> PagedMemory<L, S> {
         requires { vpn < 2 ^ 20 }
         ensures ok { OnOk result (BringsBack self.old.pages self.new.pages self.old.tables self.new.tables vpn) }
         ensures tabled { SameTables self.old.tables self.new.tables }
-        ensures refused { IsErr result ↔ (is_leaving (page_at self.old.pages vpn) ≡ false) }
+        ensures refused { IsErr result ↔ (is_leaving_stage (stage_in self.old vpn) ≡ false) }
         ensures err { OnErr result (self.new ≡ self.old) }
         ensures process { self.new.process ≡ self.old.process }
         ensures caches { self.new.caches ≡ self.old.caches }
@@ -39,7 +42,8 @@ impl<L: Ledger, S: SwapSlot> PagedMemory<L, S> {
 
 fn leaves<L: Ledger, S: SwapSlot>(pages: &PageMap<StoredPage<L, S>>, vpn: u32) -> bool
     requires { vpn < 2 ^ 20 }
-    ensures { result ≡ is_leaving (page_at pages.now vpn) }
+    ensures leaving { result ≡ is_leaving (page_at pages.now vpn) }
+    ensures stage { result ≡ is_leaving_stage (option_map (λ page. page_state_of page.place) (page_at pages.now vpn)) }
 {
     matches!(state_in(pages, vpn), Some(PageState::Leaving))
 }

@@ -6,6 +6,7 @@ mod bringing_back;
 mod caches;
 mod coherence;
 mod collecting;
+mod counting;
 mod eviction;
 mod filling;
 mod giving_back;
@@ -22,6 +23,7 @@ mod status;
 mod still_saving;
 mod writing;
 
+pub use counting::HeldPages;
 pub use filling::PageInFault;
 pub use hart_memory::{HartMemory, Opening};
 pub use memory::PagedMemory;

@@ -1,28 +1,24 @@
 -- How the pages that a process begins with are mapped, and the memory that they stand for.
-use Rattle.std.proofs.Common.{◌≡◌, ◌+◌, ◌-◌, ◌<◌, ◌^◌, ◌∷◌, [], ◌++◌, ℕ, zero, suc, List, length, map, take, slice_index_or, None, arith, refl, sym, ap, ◌∙◌, subst, append-nil}
+use Rattle.std.proofs.Common.{◌≡◌, ◌+◌, ◌-◌, ◌<◌, ◌∷◌, [], ◌++◌, ℕ, zero, suc, List, length, map, take, slice_index_or, None, arith, refl, sym, ap, ◌∙◌, subst, append-nil}
 use Rattle.std.specs.List.{range_with_len}
-use Rattle.std.specs.FinMap.{from_entries}
 use Rattle.std.proofs.lemmas.List.{map-append}
 use Rattle.frame_pool.specs.FrameValue.{zero_bytes}
 use Rattle.page_memory.specs.Pages as memory
 use Rattle.page_memory.specs.Pages.{Page}
-use Rattle.page_memory.specs.Reservations.{none_reserved}
-use Rattle.page_memory.specs.Entries.{place_of, added, with_added, map_by}
-use Rattle.page_memory.specs.Reservations.{none_reserved}
+use Rattle.page_memory.specs.Entries.{place_of, added, with_added}
 use Rattle.page_memory.specs.EntriesLaws.{no_place, added_behind}
 use Rattle.page_memory.specs.StandsForLaws.{place_of-each}
 use Rattle.page_store.specs.PageValue.{PageValue}
 use Rattle.elf_image.specs.declared.image.ImagePage.{ImagePage}
 use Rattle.elf_image.specs.Image.{ArePages}
 use Rattle.paged_memory.specs.Growth.{fresh_zero_page}
-use Rattle.paged_memory.specs.Paged.{PagedValue, flat_page, flat_pages}
+use Rattle.paged_memory.specs.Paged.{PagedValue}
 use Rattle.tlb_core.specs.declared.translation.Translation.{Translation}
-use Rattle.sv32_table.specs.Entry.{blank}
-use Rattle.sv32_table.specs.EntryAt.{entry_at}
 use Rattle.flat_machine.specs.Process.{image_entry, stack_entry, opening_pages}
 use Rattle.flat_machine.specs.PlainRunLaws.{next_is}
 use Rattle.flat_machine.specs.PagesLaws.{KeysBelow, unmapped, images_below, stack_below, one_more_image, one_more_stack}
-use Rattle.space_core.specs.Fresh.{fresh, all_fresh}
+use Rattle.paged_memory.specs.Fresh.{fresh, all_fresh, MapsFresh}
+use Rattle.paged_memory.specs.FreshLaws.{maps_one_more}
 
 so_far : List ImagePage → ℕ → List (ℕ × Page)
 so_far pages k = map image_entry pages ++ map stack_entry (range_with_len 524224 k)
@@ -42,30 +38,14 @@ module _ (S : Type 0) where
       above listed.number (map image_entry (take i pages))
       (subst (λ (p : ImagePage). KeysBelow p.number (map image_entry (take i pages))) (sym is) (images_below pages i listed are within))
 
-  image_more : (pages : List ImagePage) (i : ℕ) (listed : ImagePage) → i < length pages → listed ≡ slice_index_or pages i listed
-      → all_fresh {S = S} (map image_entry (take i pages)) ++ (listed.number, fresh listed.page) ∷ [] ≡ all_fresh (map image_entry (take (i + 1) pages))
-  image_more pages i listed within is =
-      one_more (map image_entry (take i pages)) listed.number listed.page
-      ∙ ap (λ (p : ImagePage). all_fresh (map image_entry (take i pages) ++ image_entry p ∷ [])) is
-      ∙ ap all_fresh (one_more_image pages i listed within)
-
-  -- a process's memory with these pages alone, none of them brought in
-  pub record MapsFresh (process : ℕ) (entries : List (ℕ × Page)) (memory : PagedValue S) : Type 0 where
-    pub process_is : memory.process ≡ process
-    pub mapped : memory.pages ≡ all_fresh entries
-    pub tables : (number : ℕ) → number < 2 ^ 20 → entry_at memory.tables number ≡ blank
-    pub caches : memory.caches ≡ []
-    pub reserved : memory.reserved ≡ none_reserved
-
   pub one_more_mapped : (process : ℕ) (pages : List ImagePage) (i : ℕ) (listed : ImagePage) (page : Page) (old new : PagedValue S) → i < length pages → listed ≡ slice_index_or pages i listed → page ≡ listed.page
       → new ≡ record old { pages = old.pages ++ (listed.number, fresh page) ∷ [] } → MapsFresh process (map image_entry (take i pages)) old → MapsFresh process (map image_entry (take (i + 1) pages)) new
-  one_more_mapped process pages i listed page old new within is same did before = record {
-    process_is = ap (λ (m : PagedValue S). m.process) did ∙ before.process_is;
-    mapped = ap (λ (m : PagedValue S). m.pages) did ∙ (λ j. before.mapped j ++ (listed.number, fresh (same j)) ∷ []) ∙ image_more pages i listed within is;
-    tables = λ number small. ap (λ (m : PagedValue S). entry_at m.tables number) did ∙ before.tables number small;
-    caches = ap (λ (m : PagedValue S). m.caches) did ∙ before.caches;
-    reserved = ap (λ (m : PagedValue S). m.reserved) did ∙ before.reserved;
-  }
+  one_more_mapped process pages i listed page old new within is same did before =
+      subst (λ l. MapsFresh process l new)
+      (ap (λ p. map image_entry (take i pages) ++ (listed.number, p) ∷ []) same
+      ∙ ap (λ (p : ImagePage). map image_entry (take i pages) ++ image_entry p ∷ []) is
+      ∙ one_more_image pages i listed within)
+      (maps_one_more process (map image_entry (take i pages)) listed.number page old new did before)
 
   -- the pages of the stack
   zeros_are : fresh_zero_page {S = S} ≡ fresh memory.zero_page
@@ -102,12 +82,3 @@ module _ (S : Type 0) where
       ap (λ (m : PagedValue S). m.pages) only ∙ stack
       ∙ ap (with_added 524224 64 fresh_zero_page) (maps.mapped ∙ ap (λ l. all_fresh (map image_entry l)) all)
       ∙ opening_added pages are
-
-  -- pages that were never brought in show what they began with
-  each_shown : (held : S → List ℕ) (entries : List (ℕ × Page)) → map (λ e. (e.0, flat_page held e.1)) (all_fresh entries) ≡ entries
-  each_shown held [] = refl
-  each_shown held (e ∷ es) = ap (λ l. e ∷ l) (each_shown held es)
-
-  pub memory_fresh : (held : S → List ℕ) (entries : List (ℕ × Page)) → flat_pages held (all_fresh entries) ≡ from_entries entries
-  unfolding flat_pages map_by
-  memory_fresh held entries = ap from_entries (each_shown held entries)

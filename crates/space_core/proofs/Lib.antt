@@ -5,7 +5,6 @@ pub mod Standing
 pub mod Spaces
 pub mod PlainSteps
 pub mod SliceLaws
-pub mod LeavingPages
 mod PagingSpaces
 pub mod FreshPages
 pub mod Opened

@@ -8,16 +8,14 @@ use Rattle.flat_machine.specs.Process.{Process, is_live, may_step, flat_run}
 use Rattle.flat_machine.specs.RunLaws.{flat_run_none, flat_run_append}
 use Rattle.flat_machine.specs.Schedule.{written_out, room}
 use Rattle.flat_machine.specs.StepLaws.{both, has_no_ending}
-use Rattle.paged_memory.specs.Access.{HasPage, LacksPage, cache_of}
-use Rattle.paged_memory.specs.HartMemory.{MarksSince, MarksWithin}
-use Rattle.paged_memory.specs.HartMemoryLaws.{pages_itself, pages_on, lacked, had_resident}
+use Rattle.paged_memory.specs.HartMemory.{MarksSince}
 use Rattle.paged_memory.specs.Paged.{PagedValue}
 use Rattle.space_core.specs.declared.progress.Slice.{Slice}
 use Rattle.space_core.specs.declared.progress.SliceStop.{SliceStop}
 use Rattle.space_core.specs.declared.progress.SliceStop.TheVariants.{Budget, Absent, Yield, HartDone, Ended, NoHart, ScheduleFull, NoMemory}
 use Rattle.space_core.specs.declared.progress.Progress.{Progress}
 use Rattle.space_core.specs.declared.progress.Progress.TheVariants as progress
-use Rattle.space_core.specs.Coheres.{Coheres}
+use Rattle.paged_memory.specs.Coheres.{Coheres}
 use Rattle.space_core.specs.Next.{next_pages, answered, begun}
 use Rattle.space_core.specs.Slices.{EachStep, BoundsEach, PassesOn, EndsWith, StopsShort, StopsRecorded}
 use Rattle.space_core.specs.Slicing.{shown_process, OthersStay, LeavesCaches, KeepsSpace}
@@ -25,6 +23,8 @@ use Rattle.space_core.specs.StandsFor.{SpaceValue, StandsFor, IsSpace}
 use Rattle.space_core.specs.StepByStep.{SlicesOne, StepsOn, StepsEach, SlicesEach, SliceEnds}
 use Rattle.space_core.proofs.Bounding.{bound_none, bound_then, bound_as}
 use Rattle.space_core.proofs.SliceMoves.{each_none, each_append, used_on}
+use Rattle.paged_memory.specs.Using.{cache_in, HasIn, LacksIn, MarkedIn}
+use Rattle.paged_memory.specs.UsingLaws.{kept_itself, kept_on, lacked_in, resident_in}
 
 -- ---- so many, and then more
 
@@ -129,12 +129,12 @@ begun_then NoMemory n ran = omega arith
 module _ {S : Type 0} (held : S → List ℕ) (honest : Type 0) (hart : ℕ) where
   -- ---- what stays
 
-  had_then : (old between : SpaceValue S) → KeepsSpace hart Budget old between → (page : ℕ) → HasPage between.memory.pages (cache_of between.memory.caches hart) page
-      → HasPage old.memory.pages (cache_of old.memory.caches hart) page
-  had_then old between kept page (inl resident) = inl (had_resident old.memory.pages between.memory.pages page kept.pages resident)
+  had_then : (old between : SpaceValue S) → KeepsSpace hart Budget old between → (page : ℕ) → HasIn between.memory hart page
+      → HasIn old.memory hart page
+  had_then old between kept page (inl resident) = inl (resident_in old.memory between.memory page kept.pages resident)
   had_then old between kept page (inr holds) = kept.caches.1.held page holds
 
-  others_then : (old between new : PagedValue S) → LeavesCaches Budget hart old between → OthersStay hart between.caches new.caches → OthersStay hart old.caches new.caches
+  others_then : (old between new : PagedValue S) → LeavesCaches Budget hart old between → OthersStay hart between new → OthersStay hart old new
   others_then old between new first others = λ h other. others h other ∙ first.0 h other
 
   caches_then : (why : SliceStop) (old between new : SpaceValue S) → KeepsSpace hart Budget old between → LeavesCaches why hart between.memory new.memory → LeavesCaches why hart old.memory new.memory
@@ -158,7 +158,7 @@ module _ {S : Type 0} (held : S → List ℕ) (honest : Type 0) (hart : ℕ) whe
     image = second.image ∙ first.image;
     input = second.input ∙ first.input;
     process = second.process ∙ first.process;
-    pages = pages_on old.memory.pages between.memory.pages new.memory.pages first.pages second.pages;
+    pages = kept_on old.memory between.memory new.memory first.pages second.pages;
     used = λ page small is. second.used page small (first.used page small is);
     changed = λ page small is. second.changed page small (first.changed page small is);
     harts = second.harts;
@@ -173,9 +173,9 @@ module _ {S : Type 0} (held : S → List ℕ) (honest : Type 0) (hart : ℕ) whe
     pub recorded : written_out new.schedule ≡ written_out old.schedule ++ replicate ran hart
     pub left : room new.schedule hart + ran ≡ room old.schedule hart
     pub within : ran ≤ budget
-    pub stops : StopsRecorded (LacksPage old.memory.pages) hart budget (room old.schedule hart) (shown_process held old) why ran (shown_process held new)
-    pub pages : EachStep (λ at. Used (HasPage old.memory.pages (cache_of old.memory.caches hart)) (MarksSince new.memory (cache_of old.memory.caches hart)) (next_pages hart at)) hart (answered why ran) (shown_process held old)
-    pub bound : BoundsEach (MarksWithin old.memory.tables) (MarksWithin new.memory.tables) hart (begun why ran) (shown_process held old)
+    pub stops : StopsRecorded (LacksIn old.memory) hart budget (room old.schedule hart) (shown_process held old) why ran (shown_process held new)
+    pub pages : EachStep (λ at. Used (HasIn old.memory hart) (MarksSince new.memory (cache_in old.memory hart)) (next_pages hart at)) hart (answered why ran) (shown_process held old)
+    pub bound : BoundsEach (MarkedIn old.memory) (MarkedIn new.memory) hart (begun why ran) (shown_process held old)
     pub kept : KeepsSpace hart why old new
     pub stands : honest → StandsFor held new
     pub coheres : Coheres held honest new.memory
@@ -188,12 +188,12 @@ module _ {S : Type 0} (held : S → List ℕ) (honest : Type 0) (hart : ℕ) whe
     within = omega arith;
     stops = (refl, (λ none. absurd (omega (arith, none))), each_none (PassesOn hart) hart (shown_process held space));
     pages = each_none _ hart (shown_process held space);
-    bound = bound_none (MarksWithin space.memory.tables) hart 0 (shown_process held space);
+    bound = bound_none (MarkedIn space.memory) hart 0 (shown_process held space);
     kept = record {
       image = refl;
       input = refl;
       process = refl;
-      pages = pages_itself space.memory.pages;
+      pages = kept_itself space.memory;
       used = λ page small was. was;
       changed = λ page small was. was;
       harts = is.cached;
@@ -206,38 +206,38 @@ module _ {S : Type 0} (held : S → List ℕ) (honest : Type 0) (hart : ℕ) whe
   one_more : (n ran : ℕ) (why : SliceStop) (old between new : SpaceValue S) → Together n n Budget old between → SlicesOne held honest hart ran why between new → Together (n + 1) (n + ran) why old new
   one_more n ran why old between new all one =
       let before = shown_process held old in
-      let opening = cache_of old.memory.caches hart in
+      let opening = cache_in old.memory hart in
       record {
         ran_is = run_then hart n ran before (shown_process held between) (shown_process held new) all.ran_is one.ran_is;
         recorded = written_then (written_out old.schedule) (written_out between.schedule) (written_out new.schedule) n ran hart all.recorded one.recorded;
         left = (let first = all.left in let rest = one.left in omega (arith, first, rest));
         within = (let within = one.within in omega (arith, within));
-        stops = stops_then (LacksPage old.memory.pages) (LacksPage between.memory.pages) hart n (room old.schedule hart) (room between.schedule hart) before (shown_process held between)
+        stops = stops_then (LacksIn old.memory) (LacksIn between.memory) hart n (room old.schedule hart) (room between.schedule hart) before (shown_process held between)
             (record {
               ran = all.ran_is;
               may = all.stops.1;
               on = all.stops.2;
               room_left = all.left;
-              backwards = λ page lacks. lacked old.memory.pages between.memory.pages page all.kept.pages lacks;
+              backwards = λ page lacks. lacked_in old.memory between.memory page all.kept.pages lacks;
             }) why ran (shown_process held new) one.stops;
-        pages = subst (λ k. EachStep (λ at. Used (HasPage old.memory.pages opening) (MarksSince new.memory opening) (next_pages hart at)) hart k before) (answered_then why n ran)
-            (each_append (λ at. Used (HasPage old.memory.pages opening) (MarksSince new.memory opening) (next_pages hart at)) hart n (answered why ran) before (shown_process held between)
-            (λ done at h e. used_on (HasPage old.memory.pages opening) (MarksSince between.memory opening) (HasPage old.memory.pages opening) (MarksSince new.memory opening) (next_pages hart at) (λ _ had. had) marks_on (all.pages done at h e))
+        pages = subst (λ k. EachStep (λ at. Used (HasIn old.memory hart) (MarksSince new.memory opening) (next_pages hart at)) hart k before) (answered_then why n ran)
+            (each_append (λ at. Used (HasIn old.memory hart) (MarksSince new.memory opening) (next_pages hart at)) hart n (answered why ran) before (shown_process held between)
+            (λ done at h e. used_on (HasIn old.memory hart) (MarksSince between.memory opening) (HasIn old.memory hart) (MarksSince new.memory opening) (next_pages hart at) (λ _ had. had) marks_on (all.pages done at h e))
             all.ran_is
-            (λ done at h e. used_on (HasPage between.memory.pages (cache_of between.memory.caches hart)) (MarksSince new.memory (cache_of between.memory.caches hart)) (HasPage old.memory.pages opening) (MarksSince new.memory opening) (next_pages hart at)
+            (λ done at h e. used_on (HasIn between.memory hart) (MarksSince new.memory (cache_in between.memory hart)) (HasIn old.memory hart) (MarksSince new.memory opening) (next_pages hart at)
             (λ page has. had_then old between all.kept page has) marks_back (one.pages done at h e)));
-        bound = bound_as (MarksWithin old.memory.tables) (MarksWithin new.memory.tables) hart (n + begun why ran) (begun why (n + ran)) before (begun_then why n ran)
-            (bound_then (MarksWithin old.memory.tables) (MarksWithin between.memory.tables) (MarksWithin new.memory.tables) hart n (begun why ran) before (shown_process held between) all.ran_is all.bound one.bound);
+        bound = bound_as (MarkedIn old.memory) (MarkedIn new.memory) hart (n + begun why ran) (begun why (n + ran)) before (begun_then why n ran)
+            (bound_then (MarkedIn old.memory) (MarkedIn between.memory) (MarkedIn new.memory) hart n (begun why ran) before (shown_process held between) all.ran_is all.bound one.bound);
         kept = kept_then why old between new all.kept one.kept;
         stands = one.stands;
         coheres = one.coheres;
       }
     where
-      marks_on : (page : ℕ) → MarksSince between.memory (cache_of old.memory.caches hart) page → MarksSince new.memory (cache_of old.memory.caches hart) page
+      marks_on : (page : ℕ) → MarksSince between.memory (cache_in old.memory hart) page → MarksSince new.memory (cache_in old.memory hart) page
       marks_on page (small, inl used) = (small, inl (one.kept.used page small used))
       marks_on page (small, inr doomed) = (small, inr doomed)
 
-      marks_back : (page : ℕ) → MarksSince new.memory (cache_of between.memory.caches hart) page → MarksSince new.memory (cache_of old.memory.caches hart) page
+      marks_back : (page : ℕ) → MarksSince new.memory (cache_in between.memory hart) page → MarksSince new.memory (cache_in old.memory hart) page
       marks_back page (small, inl used) = (small, inl used)
       marks_back page (small, inr doomed) = (small, inr (all.kept.caches.1.doomed page doomed))
 
@@ -254,7 +254,7 @@ module _ {S : Type 0} (held : S → List ℕ) (honest : Type 0) (hart : ℕ) whe
     recorded = all.recorded;
     left = all.left;
     within = (let within = all.within in omega (arith, within, fits));
-    stops = stops_wide (LacksPage old.memory.pages) hart n budget (room old.schedule hart) (shown_process held old) why ran (shown_process held new) fits other all.stops;
+    stops = stops_wide (LacksIn old.memory) hart n budget (room old.schedule hart) (shown_process held old) why ran (shown_process held new) fits other all.stops;
     pages = all.pages;
     bound = all.bound;
     kept = all.kept;

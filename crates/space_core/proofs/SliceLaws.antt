@@ -1,23 +1,20 @@
 -- What a slice of a process on paged memory leaves.
-use Rattle.std.proofs.Common.{◌≡◌, ◌++◌, ◌∷◌, ◌≤◌, [], ℕ, zero, suc, Bool, true, false, cond, List, length, map, slice_set, Option, Some, None, is_some, option_map, option_and_then, unwrap_or, ap, ◌∙◌, refl, sym, subst, arith}
+use Rattle.std.proofs.Common.{◌≡◌, ◌++◌, ◌∷◌, ◌≤◌, [], ℕ, zero, suc, Bool, true, false, cond, List, length, map, slice_set, Option, Some, None, is_some, option_map, option_and_then, unwrap_or, ap, ◌∙◌, refl, subst, arith}
 use Rattle.std.proofs.lemmas.Option.{none-some}
 use Rattle.std.proofs.lemmas.List.{length-append, length-set}
 use Rattle.tlb_core.specs.declared.translation.Translation.{Translation}
 use Rattle.tlb_core.specs.Cache.{translation_of}
-use Rattle.page_store.specs.PageValue.{PageValue, Place}
-use Rattle.page_store.specs.PageValue as place
-use Rattle.page_store.specs.Lending.{with_bytes, rewritten}
 use Rattle.rv_exec.specs.Registers.{Registers}
 use Rattle.env_calls.specs.Effect.{Effect, Runs, Yields, Spawns, Finishes, Exits, Traps}
 use Rattle.env_calls.specs.Step.{effect}
 use Rattle.flat_machine.specs.Process.{Process, hart_registers, may_step, stepped, after, flat_step, flat_run}
-use Rattle.paged_memory.specs.Paged.{PagedValue, page_at}
+use Rattle.paged_memory.specs.Paged.{PagedValue}
 use Rattle.paged_memory.specs.Access.{cache_of, is_doomed}
-use Rattle.paged_memory.specs.HartMemory.{KeepsPages, KeepsAccess}
+use Rattle.paged_memory.specs.HartMemory.{KeepsAccess}
 use Rattle.space_core.specs.declared.progress.SliceStop.{SliceStop}
 use Rattle.space_core.specs.declared.progress.SliceStop.TheVariants.{Budget, Absent, Yield, HartDone, Ended, NoHart, ScheduleFull, NoMemory}
 use Rattle.space_core.specs.Slicing.{OthersStay, SettlesCaches, LeavesCaches}
-use Rattle.space_core.specs.StandsFor.{is_purged, is_purged_place}
+use Rattle.paged_memory.specs.Using.{cache_in}
 
 -- ---- no hart that was started goes
 
@@ -69,10 +66,10 @@ all_emptied (c ∷ cs) zero = refl
 all_emptied (c ∷ cs) (suc h) = all_emptied cs h
 
 module _ {S : Type 0} where
-  settled_others : (hart : ℕ) (old between new : PagedValue S) → KeepsAccess hart old between → OthersStay hart between.caches new.caches × (cache_of new.caches hart ≡ []) → OthersStay hart old.caches new.caches × (cache_of new.caches hart ≡ [])
+  settled_others : (hart : ℕ) (old between new : PagedValue S) → KeepsAccess hart old between → OthersStay hart between new × (cache_in new hart ≡ []) → OthersStay hart old new × (cache_in new hart ≡ [])
   settled_others hart old between new kept (others, own) = (λ h other. others h other ∙ kept.others h other, own)
 
-  pub settled : (stop : SliceStop) (hart : ℕ) (old between new : PagedValue S) → KeepsAccess hart old between → SettlesCaches stop hart between.caches new.caches → LeavesCaches stop hart old new
+  pub settled : (stop : SliceStop) (hart : ℕ) (old between new : PagedValue S) → KeepsAccess hart old between → SettlesCaches stop hart between new → LeavesCaches stop hart old new
   settled Budget hart old between new kept same = (
     λ h other. same h ∙ kept.others h other,
     record {
@@ -87,27 +84,3 @@ module _ {S : Type 0} where
   settled NoHart hart old between new kept s = settled_others hart old between new kept s
   settled ScheduleFull hart old between new kept s = settled_others hart old between new kept s
   settled NoMemory hart old between new kept s = settled_others hart old between new kept s
-
-  -- ---- pages that were given up
-
-  purged_bare : (place : Place S) → is_purged_place (rewritten [] place) ≡ is_purged_place place
-  purged_bare place.Fresh = refl
-  purged_bare (place.Resident frame slot) = refl
-  purged_bare (place.Leaving frame slot mark) = refl
-  purged_bare (place.Saving frame) = refl
-  purged_bare (place.Away slot) = refl
-  purged_bare place.Purged = refl
-
-  purged_shape : (o : Option (PageValue S)) → is_purged (option_map (λ p. with_bytes p []) o) ≡ is_purged o
-  purged_shape None = refl
-  purged_shape (Some page) = purged_bare page.place
-
-  -- none comes back
-  pub none_back : (old new : List (ℕ × PageValue S)) → KeepsPages old new → (number : ℕ) → is_purged (page_at new number) ≡ false → is_purged (page_at old number) ≡ false
-  none_back old new kept number whole = by_page (page_at old number) refl
-    where
-      by_page : (o : Option (PageValue S)) → page_at old number ≡ o → is_purged o ≡ false
-      by_page None is = refl
-      by_page (Some page) is =
-          sym (purged_shape (Some page)) ∙ ap (λ o. is_purged (option_map (λ p. with_bytes p []) o)) (sym is)
-          ∙ ap is_purged (sym (kept.bare number (ap is_some is))) ∙ purged_shape (page_at new number) ∙ whole

@@ -1,12 +1,10 @@
 -- What keeps a process on paged memory standing for a flat process.
 use Rattle.std.proofs.Common.{◌≡◌, ◌≢◌, ◌++◌, ◌&&◌, ◌∷◌, [], ℕ, zero, suc, Bool, true, false, cond, List, replicate, Option, Some, None, is_none, option_map, option_and_then, unwrap_or, ap, ◌∙◌, refl, sym, subst, append-nil}
-use Rattle.std.specs.FinMap.{get}
 use Rattle.std.specs.Option.{option_or}
 use Rattle.std.proofs.lemmas.Option.{none-some}
-use Rattle.page_memory.specs.Memory.{Memory}
-use Rattle.page_memory.specs.StandsForLaws.{get-map_by-place}
-use Rattle.page_store.specs.PageValue.{PageValue}
-use Rattle.paged_memory.specs.Paged.{PagedValue, page_at, flat_page, flat_pages, memory_of}
+use Rattle.paged_memory.specs.Paged.{memory_of}
+use Rattle.paged_memory.specs.Showing.{KeepsGivenUp}
+use Rattle.paged_memory.specs.ShowingLaws.{shows_itself, shows_on}
 use Rattle.rv_exec.specs.Registers.{Registers}
 use Rattle.env_calls.specs.Effect.{Effect, Runs, Yields, Spawns, Finishes, Exits, Traps}
 use Rattle.env_calls.specs.Step.{effect}
@@ -17,7 +15,7 @@ use Rattle.flat_machine.specs.Process.{Process, opening, hart_registers, is_live
 use Rattle.flat_machine.specs.RunLaws.{flat_run_append}
 use Rattle.flat_machine.specs.Schedule.{written_out}
 use Rattle.space_core.specs.RunningValue.{RunningValue, with_memory, beside}
-use Rattle.space_core.specs.StandsFor.{SpaceValue, own_ending, flat_with, rights_of, paged_rights, is_purged, StandsFor}
+use Rattle.space_core.specs.StandsFor.{SpaceValue, own_ending, flat_with, StandsFor}
 
 kept_ending : (ending : Option End) (cause : KillCause) → own_ending (option_or ending (Some (Killed cause))) ≡ own_ending ending
 kept_ending None cause = refl
@@ -28,40 +26,19 @@ has_ended None cause = λ e. none-some _ (sym e)
 has_ended (Some e) cause = λ f. none-some _ (sym f)
 
 module _ {S : Type 0} where
-  -- what memory has at a page number
-  pub get-memory_of : (held : S → List ℕ) (value : PagedValue S) (number : ℕ) → get (memory_of held value).pages number ≡ option_map (flat_page held) (page_at value.pages number)
-  unfolding flat_pages page_at
-  get-memory_of held value number = get-map_by-place (flat_page held) value.pages number
-
-  pub same_rights : (held : S → List ℕ) (o : Option (PageValue S)) → rights_of (option_map (flat_page held) o) ≡ paged_rights o
-  same_rights held None = refl
-  same_rights held (Some page) = refl
-
   -- ---- other pages that stand for the same memory
-
-  same_flat : (held : S → List ℕ) (o : Option (PageValue S)) (page : PageValue S) → option_map (flat_page held) o ≡ Some (flat_page held page) → is_purged o ≡ false
-      → (old : PageValue S) × ((o ≡ Some old) × ((is_purged (Some old) ≡ false) × (flat_page held old ≡ flat_page held page)))
-  same_flat held None page e stays = absurd (none-some _ e)
-  same_flat held (Some old) page e stays = (old, (refl, (stays, ap (λ o. unwrap_or o (flat_page held page)) e)))
 
   pub stands_on : (held : S → List ℕ) (old new : SpaceValue S) → new.image ≡ old.image → new.input ≡ old.input → new.running ≡ old.running → written_out new.schedule ≡ written_out old.schedule
       → memory_of held new.memory ≡ memory_of held old.memory
-      → ((number : ℕ) → is_purged (page_at new.memory.pages number) ≡ false → is_purged (page_at old.memory.pages number) ≡ false)
+      → KeepsGivenUp old.memory new.memory
       → StandsFor held old → StandsFor held new
   stands_on held old new image input running schedule memory stays stands = record {
     memory = stands.memory;
     ran = subst (λ o. o ≡ Some (flat_with new.running stands.memory)) (λ i. flat_run (sym schedule i) (opening (sym image i) (sym input i)))
         (stands.ran ∙ ap (λ r. Some (flat_with r stands.memory)) (sym running));
-    mapped = λ number small. stands.mapped number small ∙ sym (same_rights held (page_at old.memory.pages number)) ∙ ap rights_of (same_at number) ∙ same_rights held (page_at new.memory.pages number);
-    shown = λ number page small at whole.
-        let found = same_flat held (page_at old.memory.pages number) page (same_at number ∙ ap (option_map (flat_page held)) at) (stays number (ap is_purged at ∙ whole)) in
-        stands.shown number found.0 small found.1.0 found.1.1.0 ∙ ap Some found.1.1.1;
-    reserved = stands.reserved ∙ ap (λ (m : Memory). m.reserved) (sym memory);
+    shows = shows_on held old.memory new.memory stands.memory memory stays stands.shows;
     still = λ goes. stands.still (ap (λ (r : RunningValue). r.ending) (sym running) ∙ goes) ∙ sym memory;
   }
-    where
-      same_at : (number : ℕ) → option_map (flat_page held) (page_at old.memory.pages number) ≡ option_map (flat_page held) (page_at new.memory.pages number)
-      same_at number = sym (get-memory_of held old.memory number) ∙ ap (λ (m : Memory). get m.pages number) (sym memory) ∙ get-memory_of held new.memory number
 
   -- ---- the machine ends it
 
@@ -70,9 +47,7 @@ module _ {S : Type 0} where
   stands_killed held old cause stands = record {
     memory = stands.memory;
     ran = stands.ran ∙ ap (λ e. Some (with_memory (record old.running { ending = e }) stands.memory)) (sym (kept_ending old.running.ending cause));
-    mapped = stands.mapped;
-    shown = stands.shown;
-    reserved = stands.reserved;
+    shows = stands.shows;
     still = λ goes. absurd (has_ended old.running.ending cause goes);
   }
 
@@ -131,9 +106,7 @@ module _ {S : Type 0} where
         ran = (λ i. flat_run (recorded i) (opening (image i) (input i)))
             ∙ flat_run_append (written_out old.schedule) (replicate ran hart) (opening old.image old.input) (flat_with old.running stands.memory) stands.ran
             ∙ ap (flat_run (replicate ran hart)) now ∙ step ∙ ap (λ e. Some (with_memory (record new.running { ending = e }) (memory_of held new.memory))) (sym left);
-        mapped = λ number small. ap rights_of (get-memory_of held new.memory number) ∙ same_rights held (page_at new.memory.pages number);
-        shown = λ number page small at whole. get-memory_of held new.memory number ∙ ap (option_map (flat_page held)) at;
-        reserved = refl;
+        shows = shows_itself held new.memory;
         still = λ _. refl;
       }
 
@@ -141,7 +114,7 @@ module _ {S : Type 0} where
   stands_ended : (held : S → List ℕ) (old new : SpaceValue S) (hart ran : ℕ) (ending : End) → new.image ≡ old.image → new.input ≡ old.input
       → flat_run (replicate ran hart) (with_memory old.running (memory_of held old.memory)) ≡ Some (with_memory new.running (memory_of held new.memory))
       → written_out new.schedule ≡ written_out old.schedule ++ replicate ran hart → old.running.ending ≡ Some ending
-      → ((number : ℕ) → is_purged (page_at new.memory.pages number) ≡ false → is_purged (page_at old.memory.pages number) ≡ false)
+      → KeepsGivenUp old.memory new.memory
       → StandsFor held old → StandsFor held new
   stands_ended held old new hart ran ending image input step recorded ended stays stands =
       let none = ended_runs_none ran hart (with_memory old.running (memory_of held old.memory)) (with_memory new.running (memory_of held new.memory)) ending ended step in
@@ -151,7 +124,7 @@ module _ {S : Type 0} where
   by_ending : (held : S → List ℕ) (old new : SpaceValue S) (hart ran : ℕ) (ending : Option End) → new.image ≡ old.image → new.input ≡ old.input
       → flat_run (replicate ran hart) (with_memory old.running (memory_of held old.memory)) ≡ Some (with_memory new.running (memory_of held new.memory))
       → written_out new.schedule ≡ written_out old.schedule ++ replicate ran hart → old.running.ending ≡ ending
-      → ((number : ℕ) → is_purged (page_at new.memory.pages number) ≡ false → is_purged (page_at old.memory.pages number) ≡ false)
+      → KeepsGivenUp old.memory new.memory
       → StandsFor held old → StandsFor held new
   by_ending held old new hart ran None image input step recorded goes stays stands = stands_run held old new hart ran image input step recorded goes stands
   by_ending held old new hart ran (Some ending) image input step recorded ended stays stands = stands_ended held old new hart ran ending image input step recorded ended stays stands
@@ -160,6 +133,6 @@ module _ {S : Type 0} where
   pub stands_sliced : (held : S → List ℕ) (old new : SpaceValue S) (hart ran : ℕ) → new.image ≡ old.image → new.input ≡ old.input
       → flat_run (replicate ran hart) (with_memory old.running (memory_of held old.memory)) ≡ Some (with_memory new.running (memory_of held new.memory))
       → written_out new.schedule ≡ written_out old.schedule ++ replicate ran hart
-      → ((number : ℕ) → is_purged (page_at new.memory.pages number) ≡ false → is_purged (page_at old.memory.pages number) ≡ false)
+      → KeepsGivenUp old.memory new.memory
       → StandsFor held old → StandsFor held new
   stands_sliced held old new hart ran image input step recorded stays stands = by_ending held old new hart ran old.running.ending image input step recorded refl stays stands

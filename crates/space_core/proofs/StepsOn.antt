@@ -12,9 +12,8 @@ use Rattle.flat_machine.specs.PlainRunLaws.{plain_none, plain_more, next_is}
 use Rattle.flat_machine.specs.Schedule.{written_out, room}
 use Rattle.flat_machine.specs.StepLaws.{both, has_no_ending, started}
 use Rattle.flat_machine.specs.TurnsLaws.{one_more}
-use Rattle.paged_memory.specs.Access.{HasPage, LacksPage, cache_of}
-use Rattle.paged_memory.specs.HartMemory.{KeepsAccess, MarksSince, MarksWithin}
-use Rattle.paged_memory.specs.HartMemoryLaws.{access_itself, had, lacked, pages_on}
+use Rattle.paged_memory.specs.HartMemory.{KeepsAccess, MarksSince}
+use Rattle.paged_memory.specs.HartMemoryLaws.{access_itself, lacked}
 use Rattle.paged_memory.specs.Paged.{PagedValue, memory_of}
 use Rattle.space_core.specs.declared.progress.SliceStop.{SliceStop}
 use Rattle.space_core.specs.declared.progress.SliceStop.TheVariants.{Budget, Absent, Yield, HartDone, Ended, NoHart, ScheduleFull, NoMemory}
@@ -28,9 +27,13 @@ use Rattle.space_core.specs.StepByStep.{RunsPlain, RunsEach, RunsShort, Tries, M
 use Rattle.space_core.proofs.PlainSteps.{none_plain, pages_plain, passed_plainly, whole_set, here}
 use Rattle.space_core.proofs.Bounding.{next_bound, bound_one, bound_again}
 use Rattle.space_core.proofs.StepMoves.{registers_are}
-use Rattle.space_core.proofs.SliceLaws.{none_back}
 use Rattle.space_core.proofs.SliceMoves.{used_on}
 use Rattle.space_core.proofs.Standing.{stands_on, stands_sliced}
+use Rattle.paged_memory.specs.ShowingLaws.{used_given_up}
+use Rattle.paged_memory.specs.Moving.{SameEntries}
+use Rattle.paged_memory.specs.Using.{cache_in, HasIn, LacksIn, MarkedIn}
+use Rattle.paged_memory.specs.UsingLaws.{kept_on, lacked_in, had_in, same_marks}
+use Rattle.paged_memory.specs.Whole.{harts_in}
 
 -- a schedule with so many more instructions of a hart
 record More (n : ℕ) (turns : List Turn) (hart : ℕ) : Type 0 where
@@ -72,7 +75,7 @@ module _ {S : Type 0} (held : S → List ℕ) (honest : Type 0) (hart : ℕ) whe
   pub record Ready (space : SpaceValue S) : Type 0 where
     pub whole : (memory : Memory) → IsWhole (with_memory space.running memory)
     pub may : may_step hart (shown_process held space) ≡ true
-    pub cached : length space.memory.caches ≡ length space.running.harts
+    pub cached : harts_in space.memory ≡ length space.running.harts
     pub stands : honest → StandsFor held space
 
   -- a process with other registers of the hart, another schedule and another memory
@@ -87,8 +90,8 @@ module _ {S : Type 0} (held : S → List ℕ) (honest : Type 0) (hart : ℕ) whe
       → RunsPlain held honest hart regs old.memory regs' new → written_out schedule ≡ written_out old.schedule ++ replicate 1 hart → room schedule hart + 1 ≡ room old.schedule hart
       → OneOn old (ran_as old regs' schedule new)
   one_on old regs regs' schedule new ready are plain recorded left =
-      let has = HasPage old.memory.pages (cache_of old.memory.caches hart) in
-      let marks = MarksSince new (cache_of old.memory.caches hart) in
+      let has = HasIn old.memory hart in
+      let marks = MarksSince new (cache_in old.memory hart) in
       let memory = memory_of held old.memory in
       let memory' = memory_of held new in
       let each : EachPlain hart (λ at now. Used has marks (pages_used at now)) (0 + 1) regs memory =
@@ -96,9 +99,9 @@ module _ {S : Type 0} (held : S → List ℕ) (honest : Type 0) (hart : ℕ) whe
       let passed : PassedOn has marks hart 1 (shown_process held old) (with_hart hart regs' old.running.environment memory' (shown_process held old)) =
       passed_plainly has marks 1 hart (shown_process held old) regs regs' memory' (ready.whole memory) ready.may are
       (plain_more hart 0 regs memory regs memory regs' memory' (plain_none hart regs memory) plain.ran) each in
-      let cached : length new.caches ≡ length (slice_set old.running.harts hart regs') = plain.kept.harts ∙ ready.cached ∙ sym (length-set old.running.harts hart regs') in
+      let cached : harts_in new ≡ length (slice_set old.running.harts hart regs') = plain.kept.harts ∙ ready.cached ∙ sym (length-set old.running.harts hart regs') in
       let stands : honest → StandsFor held (ran_as old regs' schedule new) =
-      λ h. stands_sliced held old (ran_as old regs' schedule new) hart 1 refl refl passed.ran recorded (none_back old.memory.pages new.pages plain.kept.pages) (ready.stands h) in
+      λ h. stands_sliced held old (ran_as old regs' schedule new) hart 1 refl refl passed.ran recorded (used_given_up old.memory new plain.kept.pages) (ready.stands h) in
       record {
         one = record {
           ran_is = passed.ran;
@@ -107,10 +110,10 @@ module _ {S : Type 0} (held : S → List ℕ) (honest : Type 0) (hart : ℕ) whe
           within = omega arith;
           stops = (refl, (λ _. passed.may), passed.on);
           pages = passed.pages;
-          bound = bound_one (MarksWithin old.memory.tables) (MarksWithin new.tables) hart (shown_process held old)
-              (next_bound (MarksWithin old.memory.tables) (MarksWithin new.tables) hart (shown_process held old) regs
+          bound = bound_one (MarkedIn old.memory) (MarkedIn new) hart (shown_process held old)
+              (next_bound (MarkedIn old.memory) (MarkedIn new) hart (shown_process held old) regs
               (registers_are hart old.running old.running memory regs (ready.whole memory) refl ready.may are)
-              (bound_first (MarksWithin old.memory.tables) (MarksWithin new.tables) hart regs memory plain.bound));
+              (bound_first (MarkedIn old.memory) (MarkedIn new) hart regs memory plain.bound));
           kept = record {
             image = refl;
             input = refl;
@@ -253,7 +256,7 @@ module _ {S : Type 0} (held : S → List ℕ) (honest : Type 0) (hart : ℕ) whe
   -- the pages of one more may have been looked up
   tried_is : (space : SpaceValue S) (memory : PagedValue S) → IsSpace held honest space → Tries held hart space.memory memory → IsSpace held honest (record space { memory = memory })
   tried_is space memory is tries = record {
-    stands = λ h. stands_on held space (record space { memory = memory }) refl refl refl refl tries.shown (none_back space.memory.pages memory.pages tries.kept.pages) (is.stands h);
+    stands = λ h. stands_on held space (record space { memory = memory }) refl refl refl refl tries.shown (used_given_up space.memory memory tries.kept.pages) (is.stands h);
     cached = tries.kept.harts ∙ is.cached;
   }
 
@@ -285,7 +288,7 @@ module _ {S : Type 0} (held : S → List ℕ) (honest : Type 0) (hart : ℕ) whe
       }
     where
       marks : may_step hart (shown_process held (with_parts old recorded r.runs.runs.between)) ≡ true → hart_registers hart (shown_process held (with_parts old recorded r.runs.runs.between)) ≡ Some r.runs.regs'
-          → (memory.tables ≡ r.runs.runs.between.tables) ⊎ ((n < room old.schedule hart) × MarksOne held hart r.runs.regs' r.runs.runs.between memory)
+          → SameEntries r.runs.runs.between memory ⊎ ((n < room old.schedule hart) × MarksOne held hart r.runs.regs' r.runs.runs.between memory)
           → MarksTried held honest hart (with_parts old recorded r.runs.runs.between) memory
       marks may registers (inl same) = inl same
       marks may registers (inr tried) =
@@ -296,9 +299,9 @@ module _ {S : Type 0} (held : S → List ℕ) (honest : Type 0) (hart : ℕ) whe
           inr (
             may,
             omega (arith, fewer, fits),
-            bound_one (MarksWithin between.tables) (MarksWithin memory.tables) hart (shown_process held space)
-                (next_bound (MarksWithin between.tables) (MarksWithin memory.tables) hart (shown_process held space) r.runs.regs' registers
-                (bound_first (MarksWithin between.tables) (MarksWithin memory.tables) hart r.runs.regs' (memory_of held between) tried.1)),
+            bound_one (MarkedIn between) (MarkedIn memory) hart (shown_process held space)
+                (next_bound (MarkedIn between) (MarkedIn memory) hart (shown_process held space) r.runs.regs' registers
+                (bound_first (MarkedIn between) (MarkedIn memory) hart r.runs.regs' (memory_of held between) tried.1)),
           )
 
   -- ---- a slice after a look-up is a slice
@@ -317,14 +320,14 @@ module _ {S : Type 0} (held : S → List ℕ) (honest : Type 0) (hart : ℕ) whe
   stops_back lacks lacked room ran before before' after ScheduleFull same back stops = subst (λ p. StopsRecorded lacks hart 1 room p ScheduleFull ran after) same stops
   stops_back lacks lacked room ran before before' after NoMemory same back stops = subst (λ p. StopsRecorded lacks hart 1 room p NoMemory ran after) same stops
 
-  others_back : (old between new : PagedValue S) → KeepsAccess hart old between → OthersStay hart between.caches new.caches → OthersStay hart old.caches new.caches
+  others_back : (old between new : PagedValue S) → KeepsAccess hart old between → OthersStay hart between new → OthersStay hart old new
   others_back old between new kept others = λ h other. others h other ∙ kept.others h other
 
   caches_back : (why : SliceStop) (old between new : PagedValue S) → KeepsAccess hart old between → LeavesCaches why hart between new → LeavesCaches why hart old new
   caches_back Budget old between new kept left = (
     others_back old between new kept left.0,
     record {
-      held = λ page is. had hart page old between kept (left.1.held page is);
+      held = λ page is. had_in hart page old between kept (left.1.held page is);
       doomed = λ page is. kept.doomed page (left.1.doomed page is);
     },
   )
@@ -336,7 +339,7 @@ module _ {S : Type 0} (held : S → List ℕ) (honest : Type 0) (hart : ℕ) whe
   caches_back ScheduleFull old between new kept left = (others_back old between new kept left.0, left.1)
   caches_back NoMemory old between new kept left = (others_back old between new kept left.0, left.1)
 
-  marks_back : (old between new : PagedValue S) → KeepsAccess hart old between → (page : ℕ) → MarksSince new (cache_of between.caches hart) page → MarksSince new (cache_of old.caches hart) page
+  marks_back : (old between new : PagedValue S) → KeepsAccess hart old between → (page : ℕ) → MarksSince new (cache_in between hart) page → MarksSince new (cache_in old hart) page
   marks_back old between new kept page marks = (marks.0, elim marks.1 [ inl used ↦ inl used | inr doomed ↦ inr (kept.doomed page doomed) ])
 
   -- an instruction that a slice of one tried was begun in it
@@ -353,16 +356,16 @@ module _ {S : Type 0} (held : S → List ℕ) (honest : Type 0) (hart : ℕ) whe
   one_begun lacks room ran before after NoMemory may fits stops = omega arith
 
   tried_bound : (ran : ℕ) (why : SliceStop) (old : SpaceValue S) (memory : PagedValue S) (new : SpaceValue S) → shown_process held (record old { memory = memory }) ≡ shown_process held old
-      → MarksTried held honest hart old memory → StopsRecorded (LacksPage memory.pages) hart 1 (room old.schedule hart) (shown_process held old) why ran (shown_process held new)
-      → BoundsEach (MarksWithin memory.tables) (MarksWithin new.memory.tables) hart (begun why ran) (shown_process held (record old { memory = memory }))
-      → BoundsEach (MarksWithin old.memory.tables) (MarksWithin new.memory.tables) hart (begun why ran) (shown_process held old)
+      → MarksTried held honest hart old memory → StopsRecorded (LacksIn memory) hart 1 (room old.schedule hart) (shown_process held old) why ran (shown_process held new)
+      → BoundsEach (MarkedIn memory) (MarkedIn new.memory) hart (begun why ran) (shown_process held (record old { memory = memory }))
+      → BoundsEach (MarkedIn old.memory) (MarkedIn new.memory) hart (begun why ran) (shown_process held old)
   tried_bound ran why old memory new same (inl tables) stops bound =
-      subst (λ t. BoundsEach (MarksWithin t) (MarksWithin new.memory.tables) hart (begun why ran) (shown_process held old)) tables
-      (subst (λ p. BoundsEach (MarksWithin memory.tables) (MarksWithin new.memory.tables) hart (begun why ran) p) same bound)
+      same_marks old.memory memory (λ marks. BoundsEach marks (MarkedIn new.memory) hart (begun why ran) (shown_process held old)) tables
+      (subst (λ p. BoundsEach (MarkedIn memory) (MarkedIn new.memory) hart (begun why ran) p) same bound)
   tried_bound ran why old memory new same (inr tried) stops bound =
-      bound_again (MarksWithin old.memory.tables) (MarksWithin memory.tables) (MarksWithin new.memory.tables) hart 1 (begun why ran) (shown_process held old)
-      (one_begun (LacksPage memory.pages) (room old.schedule hart) ran (shown_process held old) (shown_process held new) why tried.0 tried.1 stops) tried.2
-      (subst (λ p. BoundsEach (MarksWithin memory.tables) (MarksWithin new.memory.tables) hart (begun why ran) p) same bound)
+      bound_again (MarkedIn old.memory) (MarkedIn memory) (MarkedIn new.memory) hart 1 (begun why ran) (shown_process held old)
+      (one_begun (LacksIn memory) (room old.schedule hart) ran (shown_process held old) (shown_process held new) why tried.0 tried.1 stops) tried.2
+      (subst (λ p. BoundsEach (MarkedIn memory) (MarkedIn new.memory) hart (begun why ran) p) same bound)
 
   tried_slice : (ran : ℕ) (why : SliceStop) (old : SpaceValue S) (memory : PagedValue S) (new : SpaceValue S) → Tries held hart old.memory memory → MarksTried held honest hart old memory
       → SlicesOne held honest hart ran why (record old { memory = memory }) new → SlicesOne held honest hart ran why old new
@@ -373,18 +376,18 @@ module _ {S : Type 0} (held : S → List ℕ) (honest : Type 0) (hart : ℕ) whe
         recorded = slice.recorded;
         left = slice.left;
         within = slice.within;
-        stops = stops_back (LacksPage old.memory.pages) (LacksPage memory.pages) (room old.schedule hart) ran (shown_process held old) (shown_process held (record old { memory = memory })) (shown_process held new) why same
-            (λ page lacks. lacked old.memory.pages memory.pages page tries.kept.pages lacks) slice.stops;
-        pages = subst (λ p. EachStep (λ at. Used (HasPage old.memory.pages (cache_of old.memory.caches hart)) (MarksSince new.memory (cache_of old.memory.caches hart)) (next_pages hart at)) hart (answered why ran) p) same
-            (λ done at h e. used_on (HasPage memory.pages (cache_of memory.caches hart)) (MarksSince new.memory (cache_of memory.caches hart)) (HasPage old.memory.pages (cache_of old.memory.caches hart)) (MarksSince new.memory (cache_of old.memory.caches hart)) (next_pages hart at)
-            (λ page has. had hart page old.memory memory tries.kept has) (λ page marks. marks_back old.memory memory new.memory tries.kept page marks) (slice.pages done at h e));
+        stops = stops_back (LacksIn old.memory) (LacksIn memory) (room old.schedule hart) ran (shown_process held old) (shown_process held (record old { memory = memory })) (shown_process held new) why same
+            (λ page lacks. lacked_in old.memory memory page tries.kept.pages lacks) slice.stops;
+        pages = subst (λ p. EachStep (λ at. Used (HasIn old.memory hart) (MarksSince new.memory (cache_in old.memory hart)) (next_pages hart at)) hart (answered why ran) p) same
+            (λ done at h e. used_on (HasIn memory hart) (MarksSince new.memory (cache_in memory hart)) (HasIn old.memory hart) (MarksSince new.memory (cache_in old.memory hart)) (next_pages hart at)
+            (λ page has. had_in hart page old.memory memory tries.kept has) (λ page marks. marks_back old.memory memory new.memory tries.kept page marks) (slice.pages done at h e));
         bound = tried_bound ran why old memory new same marks
-            (subst (λ p. StopsRecorded (LacksPage memory.pages) hart 1 (room old.schedule hart) p why ran (shown_process held new)) same slice.stops) slice.bound;
+            (subst (λ p. StopsRecorded (LacksIn memory) hart 1 (room old.schedule hart) p why ran (shown_process held new)) same slice.stops) slice.bound;
         kept = record {
           image = slice.kept.image;
           input = slice.kept.input;
           process = slice.kept.process ∙ tries.kept.process;
-          pages = pages_on old.memory.pages memory.pages new.memory.pages tries.kept.pages slice.kept.pages;
+          pages = kept_on old.memory memory new.memory tries.kept.pages slice.kept.pages;
           used = λ page small is. slice.kept.used page small (tries.kept.used page small is);
           changed = λ page small is. slice.kept.changed page small (tries.kept.changed page small is);
           harts = slice.kept.harts;

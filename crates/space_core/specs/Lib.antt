@@ -5,8 +5,6 @@ pub mod Settling
 pub mod Caches
 pub mod Slices
 pub mod StandsFor
-pub mod Coheres
 pub mod StepByStep
 pub mod Plain
 pub mod Slicing
-pub mod Fresh

@@ -8,23 +8,24 @@ use Rattle.rv_exec.specs.Registers.{Registers}
 use Rattle.rv_exec.specs.Uses.{pages_used, pages_stored}
 use Rattle.flat_machine.specs.Process.{IsWhole, may_step, flat_run}
 use Rattle.flat_machine.specs.Schedule.{written_out, room}
-use Rattle.paged_memory.specs.Access.{HasPage, LacksPage, cache_of}
-use Rattle.paged_memory.specs.HartMemory.{KeepsAccess, MarksSince, MarksWithin}
+use Rattle.paged_memory.specs.HartMemory.{KeepsAccess, MarksSince}
 use Rattle.paged_memory.specs.Paged.{PagedValue, memory_of}
 use Rattle.space_core.specs.declared.progress.SliceStop.{SliceStop}
 use Rattle.space_core.specs.declared.progress.SliceStop.TheVariants.{Budget}
-use Rattle.space_core.specs.Coheres.{Coheres}
+use Rattle.paged_memory.specs.Coheres.{Coheres}
 use Rattle.space_core.specs.Next.{next_pages, answered, begun}
 use Rattle.space_core.specs.RunningValue.{RunningValue, RecordedValue, with_memory}
 use Rattle.space_core.specs.Slices.{EachStep, BoundsEach, StopsRecorded}
 use Rattle.space_core.specs.Slicing.{shown_process, KeepsSpace}
 use Rattle.space_core.specs.StandsFor.{SpaceValue, StandsFor}
+use Rattle.paged_memory.specs.Moving.{SameEntries}
+use Rattle.paged_memory.specs.Using.{cache_in, HasIn, LacksIn, MarkedIn}
 
 module _ {S : Type 0} (held : S → List ℕ) (hart : ℕ) where
   -- no marks were set but those of the pages that the instruction at these registers uses
   abbrev pub MarksOne : Registers → PagedValue S → PagedValue S → Type 0
   MarksOne regs old new =
-      Bounds (MarksWithin old.tables) (MarksWithin new.tables) (pages_used regs (memory_of held old)) (pages_stored regs (memory_of held old))
+      Bounds (MarkedIn old) (MarkedIn new) (pages_used regs (memory_of held old)) (pages_stored regs (memory_of held old))
 
   -- an instruction that is not run, whose pages may have been looked up
   pub record Tries (old new : PagedValue S) : Type 0 where
@@ -35,7 +36,7 @@ module _ {S : Type 0} (held : S → List ℕ) (honest : Type 0) (hart : ℕ) whe
   -- a hart's instruction that neither calls nor traps, on its process's memory
   pub record RunsPlain (regs : Registers) (old : PagedValue S) (regs' : Registers) (new : PagedValue S) : Type 0 where
     pub ran : line hart regs (memory_of held old) ≡ Next regs' (memory_of held new)
-    pub pages : Used (HasPage old.pages (cache_of old.caches hart)) (MarksSince new (cache_of old.caches hart)) (pages_used regs (memory_of held old))
+    pub pages : Used (HasIn old hart) (MarksSince new (cache_in old hart)) (pages_used regs (memory_of held old))
     pub bound : MarksOne held hart regs old new
     pub kept : KeepsAccess hart old new
     pub coheres : Coheres held honest new
@@ -50,7 +51,7 @@ module _ {S : Type 0} (held : S → List ℕ) (honest : Type 0) (hart : ℕ) whe
     pub between : PagedValue S
     pub each : RunsEach count regs old regs' between
     pub tries : Tries held hart between new
-    pub marks : (new.tables ≡ between.tables) ⊎ ((count < limit) × MarksOne held hart regs' between new)
+    pub marks : SameEntries between new ⊎ ((count < limit) × MarksOne held hart regs' between new)
 
 -- a hart's registers go on so, in a process whose harts are all there
 pub record HartRuns (hart : ℕ) (how : Registers → Registers → Type 0) (old new : RunningValue) : Type 0 where
@@ -80,9 +81,9 @@ module _ {S : Type 0} (held : S → List ℕ) (honest : Type 0) (hart : ℕ) whe
     pub recorded : written_out new.schedule ≡ written_out old.schedule ++ replicate ran hart
     pub left : room new.schedule hart + ran ≡ room old.schedule hart
     pub within : ran ≤ 1
-    pub stops : StopsRecorded (LacksPage old.memory.pages) hart 1 (room old.schedule hart) (shown_process held old) why ran (shown_process held new)
-    pub pages : EachStep (λ at. Used (HasPage old.memory.pages (cache_of old.memory.caches hart)) (MarksSince new.memory (cache_of old.memory.caches hart)) (next_pages hart at)) hart (answered why ran) (shown_process held old)
-    pub bound : BoundsEach (MarksWithin old.memory.tables) (MarksWithin new.memory.tables) hart (begun why ran) (shown_process held old)
+    pub stops : StopsRecorded (LacksIn old.memory) hart 1 (room old.schedule hart) (shown_process held old) why ran (shown_process held new)
+    pub pages : EachStep (λ at. Used (HasIn old.memory hart) (MarksSince new.memory (cache_in old.memory hart)) (next_pages hart at)) hart (answered why ran) (shown_process held old)
+    pub bound : BoundsEach (MarkedIn old.memory) (MarkedIn new.memory) hart (begun why ran) (shown_process held old)
     pub kept : KeepsSpace hart why old new
     pub stands : honest → StandsFor held new
     pub coheres : Coheres held honest new.memory
@@ -116,8 +117,8 @@ module _ {S : Type 0} (held : S → List ℕ) (honest : Type 0) (hart : ℕ) whe
 
   -- no marks were set; or a hart that may step, and whose next instruction the schedule takes, tried that one
   abbrev pub MarksTried : SpaceValue S → PagedValue S → Type 0
-  MarksTried space memory = (memory.tables ≡ space.memory.tables)
-      ⊎ ((may_step hart (shown_process held space) ≡ true) × (0 < room space.schedule hart) × BoundsEach (MarksWithin space.memory.tables) (MarksWithin memory.tables) hart 1 (shown_process held space))
+  MarksTried space memory = SameEntries space.memory memory
+      ⊎ ((may_step hart (shown_process held space) ≡ true) × (0 < room space.schedule hart) × BoundsEach (MarkedIn space.memory) (MarkedIn memory) hart 1 (shown_process held space))
 
   -- so many that went on, and then pages may have been looked up
   pub record StepsShort (count : ℕ) (old new : SpaceValue S) : Type 0 where

@@ -5,14 +5,16 @@ ghost use Rattle.rv_exec.specs.Outcomes.{Used};
 ghost use Rattle.flat_machine.specs.Process.{flat_run};
 ghost use Rattle.flat_machine.specs.Schedule.{written_out, room};
 ghost use Rattle.paged_memory.specs.Paged.{memory_of};
-ghost use Rattle.paged_memory.specs.Access.{HasPage, LacksPage, cache_of};
-ghost use Rattle.paged_memory.specs.HartMemory.{KeepsAccess, MarksSince, MarksWithin};
-ghost use Rattle.space_core.specs.Coheres.{Coheres};
+ghost use Rattle.paged_memory.specs.HartMemory.{KeepsAccess, MarksSince};
+ghost use Rattle.paged_memory.specs.Coheres.{Coheres};
 ghost use Rattle.space_core.specs.RunningValue.{with_memory};
 ghost use Rattle.space_core.specs.Next.{next_pages, answered, begun};
 ghost use Rattle.space_core.specs.Slices.{EachStep, BoundsEach, StopsRecorded};
 ghost use Rattle.space_core.specs.Slicing.{shown_process, SettlesCaches, KeepsSpace};
 ghost use Rattle.space_core.specs.StandsFor.{StandsFor};
+ghost use Rattle.paged_memory.specs.Moving.{OnlyCaches};
+ghost use Rattle.paged_memory.specs.Using.{cache_in, HasIn, LacksIn, MarkedIn};
+ghost use Rattle.paged_memory.specs.Whole.{harts_in};
 
 use crate::progress::{Slice, SliceStop};
 use crate::recorded::Recorded;
@@ -41,19 +43,19 @@ fn run_cached<L: Ledger, S: SwapSlot, O: Opening>(
     hart: u32,
     budget: u32,
 ) -> Slice
-    requires started { hart < length memory.old.caches }
-    requires opening { cache_of memory.old.caches hart ≡ O.opening }
+    requires started { hart < harts_in memory.old }
+    requires opening { cache_in memory.old hart ≡ O.opening }
     ensures ran { let before = with_memory recorded.old.running (memory_of S.content memory.old) in
         flat_run (replicate result.ran hart) before ≡ Some (with_memory recorded.new.running (memory_of S.content memory.new)) }
     ensures recorded { written_out recorded.new.schedule ≡ written_out recorded.old.schedule ++ replicate result.ran hart }
     ensures left { room recorded.new.schedule hart + result.ran ≡ room recorded.old.schedule hart }
     ensures within { result.ran ≤ budget }
     ensures stop { let before = with_memory recorded.old.running (memory_of S.content memory.old) in
-        StopsRecorded (LacksPage memory.old.pages) hart budget (room recorded.old.schedule hart) before result.stop result.ran (with_memory recorded.new.running (memory_of S.content memory.new)) }
+        StopsRecorded (LacksIn memory.old) hart budget (room recorded.old.schedule hart) before result.stop result.ran (with_memory recorded.new.running (memory_of S.content memory.new)) }
     ensures pages { let before = with_memory recorded.old.running (memory_of S.content memory.old) in
-        EachStep (λ at. Used (HasPage memory.old.pages (cache_of memory.old.caches hart)) (MarksSince memory.new O.opening) (next_pages hart at)) hart (answered result.stop result.ran) before }
+        EachStep (λ at. Used (HasIn memory.old hart) (MarksSince memory.new O.opening) (next_pages hart at)) hart (answered result.stop result.ran) before }
     ensures bound { let before = with_memory recorded.old.running (memory_of S.content memory.old) in
-        BoundsEach (MarksWithin memory.old.tables) (MarksWithin memory.new.tables) hart (begun result.stop result.ran) before }
+        BoundsEach (MarkedIn memory.old) (MarkedIn memory.new) hart (begun result.stop result.ran) before }
     ensures kept { KeepsAccess hart memory.old memory.new }
 {
     let mut bus: HartMemory<L, S, O> = HartMemory::new(memory, hart as usize);
@@ -70,7 +72,7 @@ fn stop_unstarted<L: Ledger, S: SwapSlot>(
     requires unstarted { length recorded.now.running.environment.live ≤ hart }
     ensures none { answered result 0 ≡ 0 }
     ensures stop { let now = with_memory recorded.now.running (memory_of S.content memory.now) in
-        StopsRecorded (LacksPage memory.now.pages) hart budget (room recorded.now.schedule hart) now result 0 now }
+        StopsRecorded (LacksIn memory.now) hart budget (room recorded.now.schedule hart) now result 0 now }
 {
     if budget == 0 {
         SliceStop::Budget
@@ -88,18 +90,18 @@ fn run<L: Ledger, S: SwapSlot>(
     hart: u32,
     budget: u32,
 ) -> Slice
-    requires cached { length memory.old.caches ≡ length recorded.old.running.harts }
+    requires cached { harts_in memory.old ≡ length recorded.old.running.harts }
     ensures ran { let before = with_memory recorded.old.running (memory_of S.content memory.old) in
         flat_run (replicate result.ran hart) before ≡ Some (with_memory recorded.new.running (memory_of S.content memory.new)) }
     ensures recorded { written_out recorded.new.schedule ≡ written_out recorded.old.schedule ++ replicate result.ran hart }
     ensures left { room recorded.new.schedule hart + result.ran ≡ room recorded.old.schedule hart }
     ensures within { result.ran ≤ budget }
     ensures stop { let before = with_memory recorded.old.running (memory_of S.content memory.old) in
-        StopsRecorded (LacksPage memory.old.pages) hart budget (room recorded.old.schedule hart) before result.stop result.ran (with_memory recorded.new.running (memory_of S.content memory.new)) }
+        StopsRecorded (LacksIn memory.old) hart budget (room recorded.old.schedule hart) before result.stop result.ran (with_memory recorded.new.running (memory_of S.content memory.new)) }
     ensures pages { let before = with_memory recorded.old.running (memory_of S.content memory.old) in
-        EachStep (λ at. Used (HasPage memory.old.pages (cache_of memory.old.caches hart)) (MarksSince memory.new (cache_of memory.old.caches hart)) (next_pages hart at)) hart (answered result.stop result.ran) before }
+        EachStep (λ at. Used (HasIn memory.old hart) (MarksSince memory.new (cache_in memory.old hart)) (next_pages hart at)) hart (answered result.stop result.ran) before }
     ensures bound { let before = with_memory recorded.old.running (memory_of S.content memory.old) in
-        BoundsEach (MarksWithin memory.old.tables) (MarksWithin memory.new.tables) hart (begun result.stop result.ran) before }
+        BoundsEach (MarkedIn memory.old) (MarkedIn memory.new) hart (begun result.stop result.ran) before }
     ensures kept { KeepsAccess hart memory.old memory.new }
 {
     if hart as usize >= recorded.running().started() {
@@ -114,11 +116,11 @@ fn run<L: Ledger, S: SwapSlot>(
 /// A cache for each hart that was started.
 #[tactic(auto, using(crate::proofs::SliceLaws::with_empty))]
 fn add_harts<L: Ledger, S: SwapSlot>(memory: &mut PagedMemory<L, S>, harts: usize)
-    requires more { length memory.old.caches ≤ harts }
+    requires more { harts_in memory.old ≤ harts }
     requires few { harts ≤ 8 }
-    ensures memory { memory.new ≡ record memory.old { caches = memory.new.caches } }
-    ensures harts { length memory.new.caches ≡ harts }
-    ensures caches { (h : ℕ) → cache_of memory.new.caches h ≡ cache_of memory.old.caches h }
+    ensures memory { OnlyCaches memory.old memory.new }
+    ensures harts { harts_in memory.new ≡ harts }
+    ensures caches { (h : ℕ) → cache_in memory.new h ≡ cache_in memory.old h }
 {
     for _hart in memory.harts()..harts {
         memory.add_hart();
@@ -132,9 +134,9 @@ fn settle_caches<L: Ledger, S: SwapSlot>(
     hart: usize,
     stop: SliceStop,
 )
-    ensures memory { memory.new ≡ record memory.old { caches = memory.new.caches } }
-    ensures harts { length memory.new.caches ≡ length memory.old.caches }
-    ensures caches { SettlesCaches stop hart memory.old.caches memory.new.caches }
+    ensures memory { OnlyCaches memory.old memory.new }
+    ensures harts { harts_in memory.new ≡ harts_in memory.old }
+    ensures caches { SettlesCaches stop hart memory.old memory.new }
 {
     match stop {
         SliceStop::Budget => {}
@@ -156,10 +158,10 @@ impl<L: Ledger, S: SwapSlot> Space<L, S> {
         ensures recorded { written_out self.new.schedule ≡ written_out self.old.schedule ++ replicate result.ran hart }
         ensures left { room self.new.schedule hart + result.ran ≡ room self.old.schedule hart }
         ensures within { result.ran ≤ 1 }
-        ensures stop { StopsRecorded (LacksPage self.old.memory.pages) hart 1 (room self.old.schedule hart) (shown_process S.content self.old) result.stop result.ran (shown_process S.content self.new) }
-        ensures pages { let opening = cache_of self.old.memory.caches hart in
-            EachStep (λ at. Used (HasPage self.old.memory.pages opening) (MarksSince self.new.memory opening) (next_pages hart at)) hart (answered result.stop result.ran) (shown_process S.content self.old) }
-        ensures bound { BoundsEach (MarksWithin self.old.memory.tables) (MarksWithin self.new.memory.tables) hart (begun result.stop result.ran) (shown_process S.content self.old) }
+        ensures stop { StopsRecorded (LacksIn self.old.memory) hart 1 (room self.old.schedule hart) (shown_process S.content self.old) result.stop result.ran (shown_process S.content self.new) }
+        ensures pages { let opening = cache_in self.old.memory hart in
+            EachStep (λ at. Used (HasIn self.old.memory hart) (MarksSince self.new.memory opening) (next_pages hart at)) hart (answered result.stop result.ran) (shown_process S.content self.old) }
+        ensures bound { BoundsEach (MarkedIn self.old.memory) (MarkedIn self.new.memory) hart (begun result.stop result.ran) (shown_process S.content self.old) }
         ensures kept { KeepsSpace hart result.stop self.old self.new }
         ensures stands { S.honest → StandsFor S.content self.new }
         ensures coheres { Coheres S.content S.honest self.new.memory }

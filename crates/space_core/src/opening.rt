@@ -1,11 +1,9 @@
-ghost use Rattle.std.specs.Prelude.{◌≡◌, ◌≢◌, ℕ, ◌<◌, ◌^◌, [], ◌∷◌, IfOk};
+ghost use Rattle.std.specs.Prelude.{◌≡◌, ◌≢◌, [], IfOk};
 ghost use Rattle.std.specs.Bool.{OnTrue, OnFalse};
 ghost use Rattle.page_memory.specs.Reservations.{none_reserved};
-ghost use Rattle.sv32_table.specs.Entry.{blank};
-ghost use Rattle.sv32_table.specs.EntryAt.{entry_at};
 ghost use Rattle.elf_image.specs.Image.{ArePages};
 ghost use Rattle.flat_machine.specs.Process.{opening, opening_pages};
-ghost use Rattle.space_core.specs.Fresh.{all_fresh};
+ghost use Rattle.paged_memory.specs.Fresh.{HasFresh, HasNoEntry, HasOneCache};
 ghost use Rattle.space_core.specs.RunningValue.{beside};
 
 use crate::recorded::Recorded;
@@ -31,9 +29,9 @@ impl<L: Ledger, S: SwapSlot> Space<L, S> {
         ensures running { IfOk result (λ space. space.running ≡ beside (opening image input.items)) }
         ensures schedule { IfOk result (λ space. space.schedule ≡ []) }
         ensures process { IfOk result (λ space. space.memory.process ≡ process) }
-        ensures pages { IfOk result (λ space. space.memory.pages ≡ all_fresh (opening_pages image.pages)) }
-        ensures tables { IfOk result (λ space. (number : ℕ) → number < 2 ^ 20 → entry_at space.memory.tables number ≡ blank) }
-        ensures caches { IfOk result (λ space. space.memory.caches ≡ [] ∷ []) }
+        ensures pages { IfOk result (λ space. HasFresh (opening_pages image.pages) space.memory) }
+        ensures tables { IfOk result (λ space. HasNoEntry space.memory) }
+        ensures caches { IfOk result (λ space. HasOneCache space.memory) }
         ensures reserved { IfOk result (λ space. space.memory.reserved ≡ none_reserved) }
     {
         let memory = opening_memory(alloc, process, image.pages())?;
@@ -67,9 +65,9 @@ fn opening_memory<L: Ledger, S: SwapSlot>(
 ) -> Result<PagedMemory<L, S>, AllocError>
     requires { ArePages pages.now }
     ensures process { IfOk result (λ memory. memory.process ≡ process) }
-    ensures pages { IfOk result (λ memory. memory.pages ≡ all_fresh (opening_pages pages.now)) }
-    ensures tables { IfOk result (λ memory. (number : ℕ) → number < 2 ^ 20 → entry_at memory.tables number ≡ blank) }
-    ensures caches { IfOk result (λ memory. memory.caches ≡ [] ∷ []) }
+    ensures pages { IfOk result (λ memory. HasFresh (opening_pages pages.now) memory) }
+    ensures tables { IfOk result (λ memory. HasNoEntry memory) }
+    ensures caches { IfOk result (λ memory. HasOneCache memory) }
     ensures reserved { IfOk result (λ memory. memory.reserved ≡ none_reserved) }
 {
     let mut memory = PagedMemory::new(alloc, process)?;

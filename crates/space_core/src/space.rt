@@ -1,19 +1,16 @@
-ghost use Rattle.std.specs.Prelude.{◌≡◌, ◌<◌, ◌^◌, Some, option_map, option_copied, map, slice_get, OnSome, IfNone, OnOk, OnErr, IfErr};
+ghost use Rattle.std.specs.Prelude.{◌≡◌, ◌<◌, ◌≤◌, ◌^◌, true, Some, option_copied, slice_get, OnSome, IfNone, OnOk, OnErr, IfErr};
 ghost use Rattle.std.specs.Option.{option_or};
-ghost use Rattle.sv32_table.specs.Entry.{blank};
-ghost use Rattle.sv32_table.specs.EntryAt.{entry_at, ChangesEntry, SameTables, unaccessed_entry, dirty_of};
-ghost use Rattle.tlb_core.specs.Cache.{doomed};
-ghost use Rattle.page_store.specs.PageValue.{page_state_of};
-ghost use Rattle.paged_memory.specs.Paged.{page_at, seen_at, memory_of};
+ghost use Rattle.paged_memory.specs.Moving.{ForgetsUse, BeginsToLeave, DoesNotLeave};
+ghost use Rattle.paged_memory.specs.Paged.{memory_of};
+ghost use Rattle.paged_memory.specs.Whole.{accessed_in, frames_among, residents_among, stage_in};
 ghost use Rattle.space_core.specs.Caches.{noticed, if_killed};
 ghost use Rattle.space_core.specs.StandsFor.{OfFlat, own_ending};
-ghost use Rattle.paged_memory.specs.Calls.{accessed_at, ChangesBy, Leaves, RefusesLeave};
 
 use crate::recorded::Recorded;
 use elf_image::Image;
 use flat_machine::{End, KillCause, Schedule};
 use page_store::{LeaveRefusal, PageState};
-use paged_memory::PagedMemory;
+use paged_memory::{HeldPages, PagedMemory};
 use rv_exec::Regs;
 use std::marker::Model;
 use std::sync::ledger::Ledger;
@@ -42,24 +39,31 @@ impl<L: Ledger, S: SwapSlot> Space<L, S> {
     /// Where a page is, or `None` where none is mapped.
     pub fn state(&self, vpn: u32) -> Option<PageState>
         requires { vpn < 2 ^ 20 }
-        ensures { result ≡ option_map (λ page. page_state_of page.place) (page_at self.now.memory.pages vpn) }
+        ensures { result ≡ stage_in self.now.memory vpn }
     {
         self.memory.state(vpn)
+    }
+
+    /// Counts the pages that stand in frames.
+    pub fn held_pages(&self) -> HeldPages
+        ensures resident { result.resident ≡ residents_among self.now.memory (λ _. true) }
+        ensures framed { result.framed ≡ frames_among self.now.memory (λ _. true) }
+        ensures few_resident { result.resident ≤ 2 ^ 20 }
+        ensures few_framed { result.framed ≤ 2 ^ 20 }
+    {
+        self.memory.held_pages()
     }
 
     /// Clears the mark that a resident page was used, and tells what it was, or `None` where the page is not resident.
     /// Its translations are marked as ones to be dropped, so that the next use marks it again.
     pub fn test_and_clear(&mut self, vpn: u32) -> Option<bool>
         requires { vpn < 2 ^ 20 }
-        ensures answer { result ≡ accessed_at (seen_at self.old.memory.pages vpn) (entry_at self.old.memory.tables vpn) }
+        ensures answer { result ≡ accessed_in self.old.memory vpn }
+        ensures forgets { OnSome result (ForgetsUse vpn self.old.memory self.new.memory) }
         ensures gone { IfNone result (self.new ≡ self.old) }
         ensures stays { self.new ≡ record self.old { memory = self.new.memory } }
         ensures process { self.new.memory.process ≡ self.old.memory.process }
-        ensures pages { self.new.memory.pages ≡ self.old.memory.pages }
         ensures reserved { self.new.memory.reserved ≡ self.old.memory.reserved }
-        ensures tables { OnSome result (ChangesEntry self.old.memory.tables self.new.memory.tables vpn (unaccessed_entry (entry_at self.old.memory.tables vpn))) }
-        ensures tabled { SameTables self.old.memory.tables self.new.memory.tables }
-        ensures caches { OnSome result (self.new.memory.caches ≡ map (doomed vpn) self.old.memory.caches) }
     {
         self.memory.test_and_clear_accessed(vpn)
     }
@@ -68,15 +72,12 @@ impl<L: Ledger, S: SwapSlot> Space<L, S> {
     /// The frame stays with it until it is collected.
     pub fn begin_evict(&mut self, vpn: u32) -> Result<(), LeaveRefusal>
         requires { vpn < 2 ^ 20 }
-        ensures ok { OnOk result (ChangesBy (Leaves (dirty_of (entry_at self.old.memory.tables vpn))) self.old.memory.pages self.new.memory.pages vpn) }
-        ensures refused { IfErr result (RefusesLeave (page_at self.old.memory.pages vpn)) }
+        ensures ok { OnOk result (BeginsToLeave vpn self.old.memory self.new.memory) }
+        ensures refused { IfErr result (λ refusal. DoesNotLeave vpn refusal self.old.memory) }
         ensures err { OnErr result (self.new ≡ self.old) }
         ensures stays { self.new ≡ record self.old { memory = self.new.memory } }
         ensures process { self.new.memory.process ≡ self.old.memory.process }
         ensures memory { memory_of S.content self.new.memory ≡ memory_of S.content self.old.memory }
-        ensures entries { OnOk result (ChangesEntry self.old.memory.tables self.new.memory.tables vpn blank) }
-        ensures tabled { SameTables self.old.memory.tables self.new.memory.tables }
-        ensures caches { OnOk result (self.new.memory.caches ≡ map (doomed vpn) self.old.memory.caches) }
     {
         self.memory.begin_evict(vpn)
     }

@@ -1,7 +1,7 @@
 ghost use Rattle.std.specs.Prelude.{◌≡◌, length};
-ghost use Rattle.paged_memory.specs.Paged.{Holds};
-ghost use Rattle.paged_memory.specs.Coherence.{MarksClear, HoldsFramed, WalksLead};
+ghost use Rattle.paged_memory.specs.Coheres.{HoldsIn, MarksClearIn, HoldsFramedIn, WalksLeadIn};
 ghost use Rattle.space_core.specs.StandsFor.{StandsFor};
+ghost use Rattle.paged_memory.specs.Whole.{harts_in};
 
 use crate::space::Space;
 use std::sync::ledger::Ledger;
@@ -12,11 +12,11 @@ impl<L: Ledger, S: SwapSlot> Space<L, S> {
     /// and caches go together. It does nothing.
     pub fn coherent(&self)
         ensures stands { S.honest → StandsFor S.content self.now }
-        ensures harts { length self.now.memory.caches ≡ length self.now.running.harts }
-        ensures agree { Holds S.content S.honest self.now.memory.pages self.now.memory.tables self.now.memory.caches }
-        ensures accessed { MarksClear self.now.memory.pages self.now.memory.tables self.now.memory.caches }
-        ensures framed { HoldsFramed self.now.memory.pages self.now.memory.caches }
-        ensures walks { WalksLead self.now.memory.pages self.now.memory.tables }
+        ensures harts { harts_in self.now.memory ≡ length self.now.running.harts }
+        ensures agree { HoldsIn S.content S.honest self.now.memory }
+        ensures accessed { MarksClearIn self.now.memory }
+        ensures framed { HoldsFramedIn self.now.memory }
+        ensures walks { WalksLeadIn self.now.memory }
     {
         let _ = &self.image;
         self.memory.coherent();

@@ -1,17 +1,17 @@
 //! Several instructions of a hart in a row.
 
-ghost use Rattle.std.specs.Prelude.{◌≡◌, ℕ, ◌≤◌, ◌+◌, ◌++◌, Some, replicate};
+ghost use Rattle.std.specs.Prelude.{◌≡◌, ◌≤◌, ◌+◌, ◌++◌, Some, replicate};
 ghost use Rattle.rv_exec.specs.Outcomes.{Used};
 ghost use Rattle.flat_machine.specs.Process.{flat_run};
 ghost use Rattle.flat_machine.specs.Schedule.{written_out, room};
-ghost use Rattle.paged_memory.specs.Access.{HasPage, LacksPage, cache_of};
-ghost use Rattle.paged_memory.specs.HartMemory.{MarksSince, MarksWithin};
-ghost use Rattle.space_core.specs.Coheres.{Coheres};
+ghost use Rattle.paged_memory.specs.HartMemory.{MarksSince};
+ghost use Rattle.paged_memory.specs.Coheres.{Coheres};
 ghost use Rattle.space_core.specs.Next.{next_pages, answered, begun};
 ghost use Rattle.space_core.specs.Slices.{EachStep, BoundsEach, StopsRecorded};
 ghost use Rattle.space_core.specs.Slicing.{shown_process, KeepsSpace};
 ghost use Rattle.space_core.specs.StandsFor.{StandsFor};
 ghost use Rattle.space_core.specs.StepByStep.{SlicesEach};
+ghost use Rattle.paged_memory.specs.Using.{cache_in, HasIn, LacksIn, MarkedIn};
 
 use crate::progress::{Slice, SliceStop};
 use crate::space::Space;
@@ -55,10 +55,10 @@ impl<L: Ledger, S: SwapSlot> Space<L, S> {
         ensures recorded { written_out self.new.schedule ≡ written_out self.old.schedule ++ replicate result.ran hart }
         ensures left { room self.new.schedule hart + result.ran ≡ room self.old.schedule hart }
         ensures within { result.ran ≤ budget }
-        ensures stop { StopsRecorded (LacksPage self.old.memory.pages) hart budget (room self.old.schedule hart) (shown_process S.content self.old) result.stop result.ran (shown_process S.content self.new) }
-        ensures pages { let opening = cache_of self.old.memory.caches hart in
-            EachStep (λ at. Used (HasPage self.old.memory.pages opening) (MarksSince self.new.memory opening) (next_pages hart at)) hart (answered result.stop result.ran) (shown_process S.content self.old) }
-        ensures bound { BoundsEach (MarksWithin self.old.memory.tables) (MarksWithin self.new.memory.tables) hart (begun result.stop result.ran) (shown_process S.content self.old) }
+        ensures stop { StopsRecorded (LacksIn self.old.memory) hart budget (room self.old.schedule hart) (shown_process S.content self.old) result.stop result.ran (shown_process S.content self.new) }
+        ensures pages { let opening = cache_in self.old.memory hart in
+            EachStep (λ at. Used (HasIn self.old.memory hart) (MarksSince self.new.memory opening) (next_pages hart at)) hart (answered result.stop result.ran) (shown_process S.content self.old) }
+        ensures bound { BoundsEach (MarkedIn self.old.memory) (MarkedIn self.new.memory) hart (begun result.stop result.ran) (shown_process S.content self.old) }
         ensures kept { KeepsSpace hart result.stop self.old self.new }
         ensures stands { S.honest → StandsFor S.content self.new }
         ensures coheres { Coheres S.content S.honest self.new.memory }

@@ -7,6 +7,7 @@ ghost use Rattle.paged_memory.specs.Paged.{memory_of};
 ghost use Rattle.page_memory.specs.Memory.{Memory};
 ghost use Rattle.space_core.specs.RunningValue.{with_memory};
 ghost use Rattle.space_core.specs.StepByStep.{HartRuns, RunsRecorded, RunsShort, RunsEach, StepsOn, StepsShort, StepsEach};
+ghost use Rattle.paged_memory.specs.Whole.{harts_in};
 
 use crate::progress::Slice;
 use crate::recorded::{Recorded, least};
@@ -45,7 +46,7 @@ impl Running {
         most: u32,
     ) -> u32
         requires may { may_step hart (with_memory self.old (memory_of S.content memory.old)) ≡ true }
-        requires cached { length memory.old.caches ≡ length self.old.harts }
+        requires cached { harts_in memory.old ≡ length self.old.harts }
         ensures within { result ≤ most }
         ensures short { HartRuns hart (λ regs regs'. RunsShort S.content S.honest hart most result regs memory.old regs' memory.new) self.old self.new }
         ensures all { result ≡ most → HartRuns hart (λ regs regs'. RunsEach S.content S.honest hart result regs memory.old regs' memory.new) self.old self.new }
@@ -63,7 +64,7 @@ fn record_each<L: Ledger, S: SwapSlot>(
     hart: u32,
     most: u32,
 ) -> u32
-    requires cached { length memory.old.caches ≡ length recorded.old.running.harts }
+    requires cached { harts_in memory.old ≡ length recorded.old.running.harts }
     ensures within { result ≤ most }
     ensures short { RunsRecorded hart result (λ regs regs'. RunsShort S.content S.honest hart (room recorded.old.schedule hart) result regs memory.old regs' memory.new) recorded.old recorded.new memory.old memory.new }
     ensures all { result ≡ most → RunsRecorded hart result (λ regs regs'. RunsEach S.content S.honest hart result regs memory.old regs' memory.new) recorded.old recorded.new memory.old memory.new }

@@ -1,9 +1,10 @@
 //! A hart's instructions one at a time, on its process's memory.
 
-ghost use Rattle.std.specs.Prelude.{◌≡◌, ◌≤◌, ◌<◌, ◌⊎◌, length};
+ghost use Rattle.std.specs.Prelude.{◌≡◌, ◌≤◌, ◌<◌};
 ghost use Rattle.std.specs.Bool.{OnTrue, OnFalse};
-ghost use Rattle.paged_memory.specs.Access.{cache_of};
 ghost use Rattle.space_core.specs.StepByStep.{RunsPlain, RunsEach, RunsShort, Tries, MarksOne};
+ghost use Rattle.paged_memory.specs.Using.{cache_in};
+ghost use Rattle.paged_memory.specs.Whole.{harts_in};
 
 use paged_memory::{HartMemory, Opening, PagedMemory};
 use rv_exec::{Outcome, Regs, execute};
@@ -19,8 +20,8 @@ fn run_one<L: Ledger, S: SwapSlot, O: Opening>(
     memory: &mut PagedMemory<L, S>,
     hart: u32,
 ) -> bool
-    requires started { hart < length memory.old.caches }
-    requires opening { cache_of memory.old.caches hart ≡ O.opening }
+    requires started { hart < harts_in memory.old }
+    requires opening { cache_in memory.old hart ≡ O.opening }
     ensures ran { OnTrue result (RunsPlain S.content S.honest hart regs.old memory.old regs.new memory.new) }
     ensures stays { OnFalse result (regs.new ≡ regs.old) }
     ensures marks { OnFalse result (MarksOne S.content hart regs.old memory.old memory.new) }
@@ -41,7 +42,7 @@ pub(crate) fn run_each<L: Ledger, S: SwapSlot>(
     hart: u32,
     most: u32,
 ) -> u32
-    requires started { hart < length memory.old.caches }
+    requires started { hart < harts_in memory.old }
     ensures within { result ≤ most }
     ensures ran { RunsShort S.content S.honest hart most result regs.old memory.old regs.new memory.new }
     ensures all { result ≡ most → RunsEach S.content S.honest hart result regs.old memory.old regs.new memory.new }

@@ -1,13 +1,14 @@
-use Rattle.std.proofs.Common.{◌≡◌, length}
-use Rattle.paged_memory.specs.Access.{cache_of}
+use Rattle.std.proofs.Common.{◌≡◌}
 use Rattle.space_core.specs.StepByStep.{RunsEach}
 use Rattle.space_core.proofs.stepping_on.run_each.Given as goal
+use Rattle.paged_memory.specs.Using.{cache_in}
+use Rattle.paged_memory.specs.Whole.{harts_in}
 
 abbrev pub invariant-loop-done : goal.invariant-loop-done
 invariant-loop-done g l = record {
   each : RunsEach g.S.SwapSlot.content g.S.SwapSlot.honest l.hart l.done l.initial.regs l.initial.memory l.regs l.memory;
-  started : length l.memory.caches ≡ length l.initial.memory.caches;
+  started : harts_in l.memory ≡ harts_in l.initial.memory;
 }
 
 abbrev pub ghosts-run_one : goal.ghosts-run_one
-ghosts-run_one g a = record { opening = cache_of a.memory.now.caches a.hart }
+ghosts-run_one g a = record { opening = cache_in a.memory.now a.hart }

@@ -1,6 +1,7 @@
-use Rattle.sv32_table.specs.EntryAt.{entry_at, dirty_of}
 use Rattle.space_core.specs.StandsFor.{SpaceValue}
-use Rattle.space_core.proofs.Spaces.{space_memory, caches_left, left_stays}
+use Rattle.paged_memory.specs.NoticesLaws.{left_harts}
+use Rattle.paged_memory.specs.ShowingLaws.{left_given_up}
+use Rattle.space_core.proofs.Spaces.{space_memory}
 use Rattle.space_core.proofs.space.Space.begin_evict.Goals as goal
 
 pub invariant_of-self : goal.invariant_of-self
@@ -8,6 +9,6 @@ invariant_of-self g c =
     let inside : SpaceValue g.row.S.Denot = record { image = c.self.inside.image; input = c.self.inside.input.items; running = c.self.inside.recorded.running; schedule = c.self.inside.recorded.schedule; memory = c.self.inside.memory } in
     let did = c.begin_evict.ensures in
     space_memory g.S.SwapSlot.content g.S.SwapSlot.honest inside c.begin_evict.new.self
-    (caches_left c.begin_evict.result c.args.vpn c.self.inside.memory c.begin_evict.new.self did.err did.caches) did.memory
-    (left_stays (dirty_of (entry_at c.self.inside.memory.tables c.args.vpn)) c.begin_evict.result c.self.inside.memory c.begin_evict.new.self c.args.vpn did.err did.ok)
+    (left_harts c.begin_evict.result c.args.vpn c.self.inside.memory c.begin_evict.new.self did.err did.caches) did.memory
+    (left_given_up _ c.begin_evict.result c.self.inside.memory c.begin_evict.new.self c.args.vpn did.err did.ok)
     c.self.invariant

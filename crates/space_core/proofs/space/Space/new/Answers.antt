@@ -1,7 +1,7 @@
 use Rattle.std.proofs.Common.{◌≡◌, ap, sym, ◌∙◌}
 use Rattle.flat_machine.specs.Process.{opening, opening_pages}
 use Rattle.space_core.specs.RunningValue.{RecordedValue, beside}
-use Rattle.space_core.specs.Fresh.{all_fresh}
+use Rattle.paged_memory.specs.Fresh.{all_fresh}
 use Rattle.space_core.proofs.Opened.{space_opened}
 use Rattle.space_core.proofs.space.Space.new.Goals as goal
 

@@ -4,15 +4,18 @@ use Rattle.page_memory.specs.Words.{page_number}
 use Rattle.flat_machine.specs.Process.{Process, flat_run, opening}
 use Rattle.flat_machine.specs.Schedule.{written_out}
 use Rattle.paged_memory.specs.Peeking.{bytes_of}
+use Rattle.paged_memory.specs.ShowingLaws.{peeked_given_up}
 use Rattle.space_core.specs.StandsFor.{SpaceValue}
-use Rattle.space_core.proofs.PagingSpaces.{space_peeked, bytes_flat}
+use Rattle.space_core.proofs.PagingSpaces.{bytes_flat}
+use Rattle.space_core.proofs.Spaces.{pages_moved}
 use Rattle.space_core.proofs.space.Space.peek.Goals as goal
 
 pub invariant_of-self : goal.invariant_of-self
 invariant_of-self g c =
     let inside : SpaceValue g.row.S.Denot = record { image = c.self.inside.image; input = c.self.inside.input.items; running = c.self.inside.recorded.running; schedule = c.self.inside.recorded.schedule; memory = c.self.inside.memory } in
     let did = c.peek.ensures in
-    space_peeked g.S.SwapSlot.content g.S.SwapSlot.honest (page_number c.args.address) inside c.peek.new.self did.stays did.left did.memory c.self.invariant
+    pages_moved g.S.SwapSlot.content g.S.SwapSlot.honest inside c.peek.new.self did.stays did.memory
+    (peeked_given_up g.S.SwapSlot.content g.S.SwapSlot.honest (page_number c.args.address) inside.memory c.peek.new.self did.left) c.self.invariant
 
 pub returns-clause-flat : goal.returns-clause-flat
 returns-clause-flat g c is_honest =

@@ -1,10 +1,11 @@
+use Rattle.paged_memory.specs.ShowingLaws.{saved_given_up}
 use Rattle.space_core.specs.StandsFor.{SpaceValue}
-use Rattle.space_core.proofs.LeavingPages.{pages_moved, saved_stays}
+use Rattle.space_core.proofs.Spaces.{pages_moved}
 use Rattle.space_core.proofs.space.Space.saved.Goals as goal
 
 pub invariant_of-self : goal.invariant_of-self
 invariant_of-self g c =
     let inside : SpaceValue g.row.S.Denot = record { image = c.self.inside.image; input = c.self.inside.input.items; running = c.self.inside.recorded.running; schedule = c.self.inside.recorded.schedule; memory = c.self.inside.memory } in
     pages_moved g.S.SwapSlot.content g.S.SwapSlot.honest inside c.saved.new.self c.saved.ensures.stays c.saved.ensures.memory
-    (saved_stays c.self.inside.memory.process c.args.job c.saved.result c.self.inside.memory.pages c.saved.new.self.pages c.saved.ensures.freed c.saved.ensures.refused)
+    (saved_given_up c.args.job c.saved.result c.self.inside.memory c.saved.new.self c.saved.ensures.freed c.saved.ensures.refused)
     c.self.invariant

@@ -1,5 +1,5 @@
 use Rattle.std.proofs.Common.{subst}
-use Rattle.space_core.specs.Coheres.{Coheres}
+use Rattle.paged_memory.specs.Coheres.{Coheres}
 use Rattle.space_core.specs.StandsFor.{SpaceValue, IsSpace}
 use Rattle.space_core.proofs.SliceChain.{Together, together}
 use Rattle.space_core.proofs.space.Space.slice.Given.{Over}

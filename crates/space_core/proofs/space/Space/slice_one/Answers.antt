@@ -1,12 +1,15 @@
-use Rattle.std.proofs.Common.{◌≡◌, ◌∙◌, length, replicate, ap, arith, refl, sym, subst}
-use Rattle.paged_memory.specs.Paged.{PagedValue, page_at, memory_in}
-use Rattle.paged_memory.specs.HartMemory.{MarksWithin}
+use Rattle.std.proofs.Common.{◌∙◌, length, replicate, ap, arith, refl, sym, subst}
+use Rattle.paged_memory.specs.Paged.{PagedValue}
+use Rattle.paged_memory.specs.ShowingLaws.{caches_given_up, used_given_up}
+use Rattle.paged_memory.specs.Moving.{OnlyCaches}
+use Rattle.paged_memory.specs.Using.{MarkedIn}
+use Rattle.paged_memory.specs.UsingLaws.{caches_on, caches_shown, caches_marks, same_marks}
 use Rattle.space_core.specs.Next.{begun}
 use Rattle.space_core.specs.Slices.{BoundsEach}
 use Rattle.space_core.specs.Slicing.{shown_process}
-use Rattle.space_core.specs.StandsFor.{SpaceValue, StandsFor, is_purged}
+use Rattle.space_core.specs.StandsFor.{SpaceValue, StandsFor}
 use Rattle.space_core.proofs.Standing.{stands_on, stands_sliced}
-use Rattle.space_core.proofs.SliceLaws.{harts_run, none_back}
+use Rattle.space_core.proofs.SliceLaws.{harts_run}
 use Rattle.space_core.proofs.space.Space.slice_one.Given.{Over}
 use Rattle.space_core.proofs.space.Space.slice_one.Goals as goal
 
@@ -19,12 +22,9 @@ add_harts-requires-clause-more g c =
     let cached = c.self.invariant.cached in
     omega (arith, more, count, ap (λ r. length r.harts) same, caches, cached)
 
--- the pages are those that the run left
-pages_are : (g : Over) (c : goal.After-coherent g) → c.settle_caches.new.memory.pages ≡ c.run-slice.new.memory.pages
-pages_are g c = ap (λ (m : PagedValue g.row.S.Denot). m.pages) c.settle_caches.ensures.memory ∙ ap (λ (m : PagedValue g.row.S.Denot). m.pages) c.add_harts.ensures.memory
-
-reserved_are : (g : Over) (c : goal.After-coherent g) → c.settle_caches.new.memory.reserved ≡ c.run-slice.new.memory.reserved
-reserved_are g c = ap (λ (m : PagedValue g.row.S.Denot). m.reserved) c.settle_caches.ensures.memory ∙ ap (λ (m : PagedValue g.row.S.Denot). m.reserved) c.add_harts.ensures.memory
+-- nothing but caches changed since the run
+only : (g : Over) (c : goal.After-coherent g) → OnlyCaches c.run-slice.new.memory c.settle_caches.new.memory
+only g c = caches_on c.run-slice.new.memory c.add_harts.new.memory c.settle_caches.new.memory c.add_harts.ensures.memory c.settle_caches.ensures.memory
 
 abbrev left : (g : Over) (c : goal.After-coherent g) → PagedValue g.row.S.Denot → SpaceValue g.row.S.Denot
 left g c memory = record { image = c.self.inside.image; input = c.self.inside.input.items; running = c.run-slice.new.recorded.running; schedule = c.run-slice.new.recorded.schedule; memory = memory }
@@ -33,9 +33,9 @@ stands : (g : Over) (c : goal.After-coherent g) → g.S.SwapSlot.honest → Stan
 stands g c h =
     let inside : SpaceValue g.row.S.Denot = record { image = c.self.inside.image; input = c.self.inside.input.items; running = c.self.inside.recorded.running; schedule = c.self.inside.recorded.schedule; memory = c.self.inside.memory } in
     let did = c.run-slice.ensures in
-    stands_on g.S.SwapSlot.content (left g c c.run-slice.new.memory) (left g c c.settle_caches.new.memory) refl refl refl refl (λ i. memory_in g.S.SwapSlot.content (pages_are g c i) (reserved_are g c i))
-    (λ number whole. ap (λ pages. is_purged (page_at pages number)) (sym (pages_are g c)) ∙ whole)
-    (stands_sliced g.S.SwapSlot.content inside (left g c c.run-slice.new.memory) c.args.hart c.run-slice.result.ran refl refl did.ran did.recorded (none_back _ _ did.kept.pages) (c.self.invariant.stands h))
+    stands_on g.S.SwapSlot.content (left g c c.run-slice.new.memory) (left g c c.settle_caches.new.memory) refl refl refl refl (caches_shown g.S.SwapSlot.content c.run-slice.new.memory c.settle_caches.new.memory (only g c))
+    (caches_given_up c.run-slice.new.memory c.settle_caches.new.memory (only g c))
+    (stands_sliced g.S.SwapSlot.content inside (left g c c.run-slice.new.memory) c.args.hart c.run-slice.result.ran refl refl did.ran did.recorded (used_given_up inside.memory c.run-slice.new.memory did.kept.pages) (c.self.invariant.stands h))
 
 pub invariant_of-self : goal.invariant_of-self
 invariant_of-self g c = record {
@@ -50,7 +50,6 @@ pub returns-clause-bound : goal.returns-clause-bound
 returns-clause-bound g c =
     let inside : SpaceValue g.row.S.Denot = record { image = c.self.inside.image; input = c.self.inside.input.items; running = c.self.inside.recorded.running; schedule = c.self.inside.recorded.schedule; memory = c.self.inside.memory } in
     let ran = begun c.run-slice.result.stop c.run-slice.result.ran in
-    let tables : c.run-slice.new.memory.tables ≡ c.settle_caches.new.memory.tables =
-    sym (ap (λ (m : PagedValue g.row.S.Denot). m.tables) c.settle_caches.ensures.memory ∙ ap (λ (m : PagedValue g.row.S.Denot). m.tables) c.add_harts.ensures.memory) in
-    subst (λ (s : SpaceValue g.row.S.Denot). BoundsEach (MarksWithin s.memory.tables) (MarksWithin c.settle_caches.new.memory.tables) c.args.hart ran (shown_process g.S.SwapSlot.content s)) c.self.view_is
-    (subst (λ t. BoundsEach (MarksWithin inside.memory.tables) (MarksWithin t) c.args.hart ran (shown_process g.S.SwapSlot.content inside)) tables c.run-slice.ensures.bound)
+    subst (λ (s : SpaceValue g.row.S.Denot). BoundsEach (MarkedIn s.memory) (MarkedIn c.settle_caches.new.memory) c.args.hart ran (shown_process g.S.SwapSlot.content s)) c.self.view_is
+    (same_marks c.settle_caches.new.memory c.run-slice.new.memory (λ marks. BoundsEach (MarkedIn inside.memory) marks c.args.hart ran (shown_process g.S.SwapSlot.content inside))
+    (sym (caches_marks c.run-slice.new.memory c.settle_caches.new.memory (only g c))) c.run-slice.ensures.bound)

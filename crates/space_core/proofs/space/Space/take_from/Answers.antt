@@ -1,17 +1,17 @@
-use Rattle.std.proofs.Common.{◌≡◌, ℕ, ◌<◌, Some, All, [], sym, ap, ◌∙◌, subst}
-use Rattle.paged_memory.specs.GivingBack.{GivesNothing}
-use Rattle.paged_memory.specs.Paged.{PagedValue, page_at}
+use Rattle.std.proofs.Common.{◌≡◌, Some, sym, ap, ◌∙◌, subst}
+use Rattle.paged_memory.specs.NoticesLaws.{emptied_quiet, emptied_before}
+use Rattle.paged_memory.specs.Moving.{HasNothingBelow}
 use Rattle.space_core.specs.RunningValue.{RunningValue}
 use Rattle.space_core.specs.StandsFor.{SpaceValue}
-use Rattle.space_core.proofs.PagingSpaces.{quiet, space_given_up}
+use Rattle.space_core.proofs.PagingSpaces.{space_given_up}
 use Rattle.space_core.proofs.space.Space.take_from.Goals as goal
 
 pub take_from-requires : goal.take_from-requires
 take_from-requires g c = record {
-  quiet = subst (λ (m : PagedValue g.row.S.Denot). All (λ cache. cache ≡ []) m.caches) (sym c.clear_caches.ensures) (quiet c.self.inside.memory.caches);
+  quiet = emptied_quiet c.self.inside.memory c.clear_caches.new.self c.clear_caches.ensures;
   before =
-      subst (λ (m : PagedValue g.row.S.Denot). (q : ℕ) → q < c.args.from → GivesNothing (page_at m.pages q)) (sym c.clear_caches.ensures)
-      (subst (λ (s : SpaceValue g.row.S.Denot). (q : ℕ) → q < c.args.from → GivesNothing (page_at s.memory.pages q)) (sym c.self.view_is) c.requires);
+      emptied_before c.self.inside.memory c.clear_caches.new.self c.args.from c.clear_caches.ensures
+      (subst (λ (s : SpaceValue g.row.S.Denot). HasNothingBelow c.args.from s.memory) (sym c.self.view_is) c.requires);
 }
 
 pub invariant_of-self : goal.invariant_of-self

@@ -3,9 +3,10 @@ pub mod Admitting
 pub mod Agreeing
 pub mod CollectLaws
 pub mod Collecting
+pub mod CountedLaws
+pub mod Held
 pub mod Loading
 pub mod LookLaws
-pub mod MoveLaws
 pub mod PageStatusAt
 pub mod ProcessCalls
 pub mod PurgeLaws

@@ -3,9 +3,10 @@ pub mod Admitting
 pub mod Agreeing
 pub mod CollectLaws
 pub mod Collecting
+pub mod CountedLaws
+pub mod Held
 pub mod Loading
 pub mod LookLaws
-pub mod MoveLaws
 pub mod PageStatusAt
 pub mod ProcessCalls
 pub mod PurgeLaws
@@ -16,6 +17,7 @@ pub mod SavingBack
 pub mod SavingLaws
 pub mod Showing
 pub mod Sides
+pub mod StageLaws
 pub mod Starting
 pub mod SweepLaws
 pub mod Sweeping

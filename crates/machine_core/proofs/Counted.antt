@@ -9,55 +9,13 @@ use Rattle.frame_pool.specs.FrameValue.{FrameValue}
 use Rattle.page_store.specs.JobValue.{JobValue}
 use Rattle.page_store.specs.PageValue.{PageValue, Place, Fresh, Resident, Leaving, Saving, Away, Purged, frame_of}
 use Rattle.paged_memory.specs.Counting.{page_passes, pages_below, pages_where, is_resident_place, is_saving_place, frame_passes}
+use Rattle.paged_memory.specs.FewerLaws.{Implies, fewer_where, one_fewer_where}
 use Rattle.paged_memory.specs.Paged.{page_at}
 use Rattle.space_core.specs.StandsFor.{SpaceValue}
 use Rattle.machine_core.specs.Machine.{CoreValue, IsMachine, total, numbers_below, jobs_where}
 use Rattle.machine_sides.specs.Sides.{ProcessSideValue}
 use Rattle.machine_sides.specs.Together.{residents_in, savings_in, frames_in, frames_where, key_of}
 use Rattle.machine_core.proofs.Finding.{total_some, has_resident as resident_of}
-
--- ---- what passes one test passes another
-
--- one truth brings the other
-abbrev pub Implies : Bool → Bool → Type 0
-Implies a b = a ≡ true → b ≡ true
-
-less_cond : (a b : Bool) → Implies a b → cond {A = ℕ} a 1 0 ≤ cond b 1 0
-less_cond true b h = rw (h refl) (omega arith)
-less_cond false b h = omega arith
-
-module _ {S : Type 0} (few many : ℕ → PageValue S → Bool) (pages : List (ℕ × PageValue S)) (all : (number : ℕ) (page : PageValue S) → Implies (few number page) (many number page)) where
-  here : (number : ℕ) → Implies (page_passes (few number) (page_at pages number)) (page_passes (many number) (page_at pages number))
-  here number = elim (page_at pages number) as (λ o. Implies (page_passes (few number) o) (page_passes (many number) o)) [ None ↦ λ h. h | Some page ↦ all number page ]
-
-  fewer_below : (bound : ℕ) → pages_below few pages bound ≤ pages_below many pages bound
-  unfolding pages_below
-  fewer_below zero = omega arith
-  fewer_below (suc bound) = omega (arith, less_cond (page_passes (few bound) (page_at pages bound)) (page_passes (many bound) (page_at pages bound)) (here bound), fewer_below bound)
-
-  pub fewer_where : pages_where few pages ≤ pages_where many pages
-  unfolding pages_where
-  fewer_where = fewer_below (2 ^ 20)
-
-  module _ (v : ℕ) (page : PageValue S) (at : page_at pages v ≡ Some page) (not : few v page ≡ false) (yes : many v page ≡ true) where
-    one_below : (bound : ℕ) → v < bound → pages_below few pages bound + 1 ≤ pages_below many pages bound
-    unfolding pages_below
-    one_below zero below = absurd (omega arith)
-    one_below (suc bound) below =
-        elim (eqb_tells bound v) [
-          | inl same ↦
-              let first : cond {A = ℕ} (page_passes (few bound) (page_at pages bound)) 1 0 ≡ 0 = ap (λ n. cond {A = ℕ} (page_passes (few n) (page_at pages n)) 1 0) same.1 ∙ ap (λ o. cond {A = ℕ} (page_passes (few v) o) 1 0) at ∙ ap (λ b. cond {A = ℕ} b 1 0) not in
-              let second : cond {A = ℕ} (page_passes (many bound) (page_at pages bound)) 1 0 ≡ 1 = ap (λ n. cond {A = ℕ} (page_passes (many n) (page_at pages n)) 1 0) same.1 ∙ ap (λ o. cond {A = ℕ} (page_passes (many v) o) 1 0) at ∙ ap (λ b. cond {A = ℕ} b 1 0) yes in
-              omega (arith, first, second, fewer_below bound)
-          | inr apart ↦
-              let less : v < bound = let ne = apart.1 in omega (arith, ne, below) in
-              omega (arith, less_cond (page_passes (few bound) (page_at pages bound)) (page_passes (many bound) (page_at pages bound)) (here bound), one_below bound less)
-        ]
-
-    -- a page that passes the second alone is one more
-    pub one_fewer_where : v < 2 ^ 20 → pages_where few pages + 1 ≤ pages_where many pages
-    unfolding pages_where
-    one_fewer_where small = one_below (2 ^ 20) small
 
 module _ {A : Type 0} (few many : A → ℕ) (all : (x : A) → few x ≤ many x) where
   pub fewer_total : (xs : List A) → total few xs ≤ total many xs

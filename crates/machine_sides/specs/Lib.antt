@@ -3,6 +3,8 @@ pub mod Admitting
 pub mod Agreeing
 pub mod CollectLaws
 pub mod Collecting
+pub mod CountedLaws
+pub mod Held
 pub mod Loading
 pub mod LookLaws
 pub mod MoveLaws

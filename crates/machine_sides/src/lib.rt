@@ -6,6 +6,7 @@
 
 mod admission;
 mod collecting;
+mod counting;
 mod loading;
 mod many_slices;
 mod pager_side;
@@ -20,6 +21,7 @@ mod sweeping;
 
 pub use admission::{Admission, NotAdmitted, admit, undo};
 pub use collecting::{Looked, collect};
+pub use counting::{entries_of_resident_pages, is_in_frame, resident_entries};
 pub use many_slices::ManySlices;
 pub use pager_side::{PagerSide, SideCounts};
 pub use process_side::ProcessSide;

@@ -1,14 +1,15 @@
 //! What a process shows beside its pages' places.
 
-ghost use Rattle.std.specs.Prelude.{◌≡◌, ◌≢◌, ◌+◌, ◌≤◌, length};
+ghost use Rattle.std.specs.Prelude.{◌≡◌, ◌≢◌, ◌+◌, ◌≤◌, ◌^◌, true, length};
 ghost use Rattle.std.specs.Bool.{OnTrue, OnFalse};
 ghost use Rattle.page_memory.specs.Words.{page_offset};
 ghost use Rattle.machine_sides.specs.Showing.{Peeks};
+ghost use Rattle.machine_sides.specs.Together.{residents_in, frames_in};
 ghost use Rattle.space_core.specs.StandsFor.{OfFlat};
 
 use crate::process_side::ProcessSide;
 use elf_image::Image;
-use paged_memory::PeekFault;
+use paged_memory::{HeldPages, PeekFault};
 use std::sync::ledger::Ledger;
 use swap_slots::SwapSlot;
 
@@ -26,6 +27,17 @@ impl<L: Ledger, S: SwapSlot> ProcessSide<L, S> {
         ensures different { OnFalse result (image.now ≡ self.now.space.image → input.now ≢ self.now.space.input) }
     {
         self.space.started_from(image, input)
+    }
+
+    /// Counts the pages that stand in frames.
+    #[tactic(auto, unfolding(crate::specs::Together::residents_in, crate::specs::Together::frames_in))]
+    pub fn held_pages(&self) -> HeldPages
+        ensures resident { result.resident ≡ residents_in self.now.space (λ _. true) }
+        ensures framed { result.framed ≡ frames_in self.now.space (λ _. true) }
+        ensures few_resident { result.resident ≤ 2 ^ 20 }
+        ensures few_framed { result.framed ≤ 2 ^ 20 }
+    {
+        self.space.held_pages()
     }
 
     /// Reads the bytes that the memory shows from an address on, as many as there is room for, all in one page, wherever it

@@ -68,7 +68,7 @@ impl<L: Ledger, S: SwapSlot> ProcessSide<L, S> {
     }
 
     /// Whether a page is mapped to its frame.
-    pub(crate) fn is_resident(&self, vpn: u32) -> bool
+    pub fn is_resident(&self, vpn: u32) -> bool
         ensures { result ≡ is_resident_at self.now.space vpn }
     {
         match self.state(vpn) {

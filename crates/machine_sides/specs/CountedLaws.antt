@@ -1,19 +1,11 @@
--- Counts over a list, and over pages, one more at a time.
-use Rattle.std.proofs.Common.{◌≡◌, ◌≤◌, ℕ, zero, suc, ◌+◌, ◌^◌, ◌<◌, Bool, true, false, ◌&&◌, cond, nat_lt, List, [], ◌∷◌, length, take, Option, Some, None, slice_get, option_map, refl, sym, ap, ◌∙◌, arith, add-one}
+-- Counts over the list, one more entry at a time.
+use Rattle.std.proofs.Common.{◌≡◌, ◌≤◌, ℕ, zero, suc, ◌+◌, Bool, true, false, ◌&&◌, cond, List, [], ◌∷◌, length, take, Option, Some, None, slice_get, option_map, refl, ap, ◌∙◌, arith, add-one}
 use Rattle.std.proofs.lemmas.List.{take_all}
-use Rattle.std.proofs.lemmas.Bool.Decides.{nat_tests}
 use Rattle.clock_policy.specs.declared.key.Key.{Key}
 use Rattle.clock_policy.specs.declared.entry.Entry.{Entry}
 use Rattle.clock_policy.specs.declared.entry.EntryKind.{EntryKind}
 use Rattle.clock_policy.specs.ClockPro.{number}
 use Rattle.clock_policy.specs.Residents.{in_frame, is_resident_that}
-use Rattle.page_store.specs.PageValue.{PageValue, Place, Fresh, Resident, Leaving, Saving, Away, Purged, frame_of, page_state_of}
-use Rattle.paged_memory.specs.Counting.{page_passes, pages_below, is_resident_place, frame_passes}
-use Rattle.paged_memory.specs.Paged.{page_at}
-use Rattle.space_core.specs.StandsFor.{SpaceValue}
-use Rattle.paged_memory.specs.Stages.{is_resident_stage}
-use Rattle.machine_sides.specs.Admitting.{stage_at}
-use Rattle.reclaim_daemon.specs.Audit.{has_frame_stage}
 
 module _ {A : Type 0} where
   -- nothing is behind a place where there is nothing
@@ -76,53 +68,3 @@ count_whole p es i count is few = is ∙ ap (number p) (take_all i es few)
 
 pub count_end : (p : Entry → Bool) (es : List Entry) (i count : ℕ) → count ≡ number p (take i es) → option_map shown (slice_get es i) ≡ None → count ≡ number p es
 count_end p es i count is none = is ∙ ap (number p) (entries_end es i none)
-
-module _ {S : Type 0} where
-  -- one more page number
-  pub page_more : (test : ℕ → PageValue S → Bool) (pages : List (ℕ × PageValue S)) (n : ℕ) → pages_below test pages (n + 1) ≡ pages_below test pages n + cond (page_passes (test n) (page_at pages n)) 1 0
-  unfolding pages_below
-  page_more test pages n = rw add-one (omega arith)
-
-  -- what a page's state tells of it
-  resident_state : (o : Option (PageValue S)) → is_resident_stage (option_map (λ (page : PageValue S). page_state_of page.place) o) ≡ page_passes (λ (page : PageValue S). is_resident_place page.place && true) o
-  resident_state None = refl
-  resident_state (Some page) = by_place page.place
-    where
-      by_place : (place : Place S) → is_resident_stage (Some (page_state_of place)) ≡ is_resident_place place && true
-      by_place Fresh = refl
-      by_place (Resident frame slot) = refl
-      by_place (Leaving frame slot mark) = refl
-      by_place (Saving frame) = refl
-      by_place (Away slot) = refl
-      by_place Purged = refl
-
-  framed_state : (o : Option (PageValue S)) → has_frame_stage (option_map (λ (page : PageValue S). page_state_of page.place) o) ≡ page_passes (λ (page : PageValue S). frame_passes (λ _. true) (frame_of page.place)) o
-  framed_state None = refl
-  framed_state (Some page) = by_place page.place
-    where
-      by_place : (place : Place S) → has_frame_stage (Some (page_state_of place)) ≡ frame_passes (λ _. true) (frame_of place)
-      by_place Fresh = refl
-      by_place (Resident frame slot) = refl
-      by_place (Leaving frame slot mark) = refl
-      by_place (Saving frame) = refl
-      by_place (Away slot) = refl
-      by_place Purged = refl
-
-  stage_below : (space : SpaceValue S) (n : ℕ) → n < 2 ^ 20 → stage_at space n ≡ option_map (λ (page : PageValue S). page_state_of page.place) (page_at space.memory.pages n)
-  stage_below space n small = let below : nat_lt n (2 ^ 20) ≡ true = grind (arith, nat_tests) in rw below
-
-  abbrev pub residents_to : SpaceValue S → ℕ → ℕ
-  residents_to space n = pages_below (λ number (page : PageValue S). is_resident_place page.place && true) space.memory.pages n
-
-  abbrev pub frames_to : SpaceValue S → ℕ → ℕ
-  frames_to space n = pages_below (λ number (page : PageValue S). frame_passes (λ _. true) (frame_of page.place)) space.memory.pages n
-
-  pub residents_more : (space : SpaceValue S) (n : ℕ) → n < 2 ^ 20 → residents_to space (n + 1) ≡ residents_to space n + cond (is_resident_stage (stage_at space n)) 1 0
-  residents_more space n small =
-      page_more (λ number (page : PageValue S). is_resident_place page.place && true) space.memory.pages n
-      ∙ ap (λ t. residents_to space n + cond t 1 0) (sym (ap is_resident_stage (stage_below space n small) ∙ resident_state (page_at space.memory.pages n)))
-
-  pub frames_more : (space : SpaceValue S) (n : ℕ) → n < 2 ^ 20 → frames_to space (n + 1) ≡ frames_to space n + cond (has_frame_stage (stage_at space n)) 1 0
-  frames_more space n small =
-      page_more (λ number (page : PageValue S). frame_passes (λ _. true) (frame_of page.place)) space.memory.pages n
-      ∙ ap (λ t. frames_to space n + cond t 1 0) (sym (ap has_frame_stage (stage_below space n small) ∙ framed_state (page_at space.memory.pages n)))

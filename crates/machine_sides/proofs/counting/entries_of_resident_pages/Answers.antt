@@ -1,9 +1,9 @@
 -- One more entry of the list, up to its end.
 use Rattle.std.proofs.Common.{◌&&◌, length, ◌≤◌, sym, ◌∙◌, arith}
 use Rattle.clock_policy.specs.Residents.{residents, is_resident_that, in_frame}
-use Rattle.reclaim_daemon.specs.Audit.{is_resident_of}
-use Rattle.reclaim_daemon.proofs.Counted.{entry_more, count_end, count_whole, one_by}
-use Rattle.reclaim_daemon.proofs.audit.entries_of_resident_pages.Goals as goal
+use Rattle.machine_sides.specs.Held.{is_resident_of}
+use Rattle.machine_sides.specs.CountedLaws.{entry_more, count_end, count_whole, one_by}
+use Rattle.machine_sides.proofs.counting.entries_of_resident_pages.Goals as goal
 
 pub returns-in_default : goal.returns-in_default
 unfolding residents

@@ -16,7 +16,7 @@ use Rattle.machine_sides.specs.SavingBack.{is_saving_at}
 use Rattle.machine_core.specs.SavingOut.{saving_reason, saved_refusal, is_save_of}
 use Rattle.machine_sides.specs.Sides.{ProcessSideValue}
 use Rattle.machine_sides.specs.Together.{savings_in, key_of}
-use Rattle.machine_core.proofs.Counted.{one_fewer_where}
+use Rattle.paged_memory.specs.FewerLaws.{one_fewer_where}
 use Rattle.machine_core.proofs.Finding.{some_where}
 use Rattle.machine_core.specs.TotalLaws.{total_at}
 use Rattle.machine_core.proofs.JobsOut.{both_true, same_key, none_found}

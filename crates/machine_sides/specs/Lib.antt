@@ -18,6 +18,7 @@ pub mod SavingBack
 pub mod SavingLaws
 pub mod Showing
 pub mod Sides
+pub mod StageLaws
 pub mod Starting
 pub mod SweepLaws
 pub mod Sweeping

@@ -8,6 +8,7 @@ pub mod Growth
 pub mod Counting
 pub mod CountingLaws
 pub mod FewerLaws
+pub mod AmongLaws
 pub mod HartMemory
 pub mod HartMemoryLaws
 pub mod Filling

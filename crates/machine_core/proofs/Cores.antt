@@ -34,8 +34,8 @@ use Rattle.machine_sides.specs.Sweeping.{AnswersQuestion, Sweeps}
 use Rattle.machine_sides.specs.SweepLaws.{answers_together, answers_rest}
 use Rattle.machine_core.specs.declared.error.EventRefusal.{EventRefusal}
 use Rattle.machine_core.proofs.Finding.{Asked, HasResident, asked_process, bit_there}
-use Rattle.machine_core.proofs.Kept.{moved_machine, out_stays, SavingsStay}
-use Rattle.machine_core.proofs.KeptPages.{CountAlike, same_pages, kept_pages}
+use Rattle.machine_core.proofs.Kept.{moved_machine, out_stays}
+use Rattle.machine_core.proofs.KeptPages.{CountAlike, memory_alike}
 
 -- a process that an event is not refused for is there
 pub is_there : {S : Type 0} (reason : ProcessSideValue S → Option EventRefusal) (processes : List (ProcessSideValue S)) (p : ℕ) → None ≡ of_process reason (slice_get processes p) → p < length processes
@@ -83,21 +83,17 @@ module _ {S : Type 0} where
       subst (λ l. IsMachine (record { pager = pager; slots = slots; processes = l; jobs = jobs })) all (alike_machine core p one.process one.process' machine found (alike one.process one.process' one.how))
 
   pub step_alike : (held : S → List ℕ) (honest : Type 0) (hart : ℕ) (why : SliceStop) (q q' : ProcessSideValue S) → StepsOnce held honest hart why q q' → CountAlike q.space q'.space
-  step_alike held honest hart why q q' how = kept_pages q.space q'.space how.slice.kept.process how.slice.kept.pages
+  step_alike held honest hart why q q' how = memory_alike q.space q'.space (kept_alike q.space.memory q'.space.memory how.slice.kept.process how.slice.kept.pages)
 
   noticed_same : (hart : ℕ) (q : ProcessSideValue S) → CountAlike q.space (record q.space { memory = noticed hart q.space.memory })
-  noticed_same hart q =
-      elim (nat_lt hart (length q.space.memory.caches)) as (λ t. CountAlike q.space (record q.space { memory = cond t (record q.space.memory { caches = slice_set q.space.memory.caches hart (undoomed (slice_index_or q.space.memory.caches hart [])) }) q.space.memory })) [
-        | true ↦ same_pages q.space _ refl refl
-        | false ↦ same_pages q.space _ refl refl
-      ]
+  noticed_same hart q = memory_alike q.space (record q.space { memory = noticed hart q.space.memory }) (noticed_alike hart q.space.memory)
 
   pub notice_alike : (hart : ℕ) (q q' : ProcessSideValue S) → TakesNotices hart q q' → CountAlike q.space q'.space
   notice_alike hart q q' how = subst (λ (r : ProcessSideValue S). CountAlike q.space r.space) (sym how) (noticed_same hart q)
 
   killed_same : (q : ProcessSideValue S) (running : RunningValue) (ending : Option End) → CountAlike q.space (record q.space { running = running; memory = if_killed ending q.space.memory })
-  killed_same q running None = same_pages q.space _ refl refl
-  killed_same q running (Some end) = same_pages q.space _ refl refl
+  killed_same q running None = memory_alike q.space (record q.space { running = running; memory = emptied q.space.memory }) (emptied_alike q.space.memory)
+  killed_same q running (Some end) = memory_alike q.space (record q.space { running = running }) (same_memory q.space.memory q.space.memory refl)
 
   pub kill_alike : (cause : KillCause) (q q' : ProcessSideValue S) → IsKilled cause q q' → CountAlike q.space q'.space
   kill_alike cause q q' how = subst (λ (r : ProcessSideValue S). CountAlike q.space r.space) (sym how) (killed_same q _ q.space.running.ending)

@@ -8,7 +8,6 @@ pub mod Growth
 pub mod Counting
 pub mod CountingLaws
 pub mod FewerLaws
-pub mod AmongLaws
 pub mod HartMemory
 pub mod HartMemoryLaws
 pub mod Filling
@@ -17,6 +16,7 @@ pub mod GivingBack
 pub mod Coherence
 pub mod PageStatus
 pub mod Stages
+pub mod StagesLaws
 pub mod Whole
 pub mod Moving
 pub mod MovingLaws
@@ -29,3 +29,10 @@ pub mod Notices
 pub mod NoticesLaws
 pub mod Showing
 pub mod ShowingLaws
+pub mod AmongLaws
+pub mod AlikeLaws
+pub mod MoveLaws
+pub mod LeaveLaws
+pub mod SaveLaws
+pub mod ComeLaws
+pub mod GivenLaws

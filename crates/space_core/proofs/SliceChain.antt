@@ -9,7 +9,6 @@ use Rattle.flat_machine.specs.RunLaws.{flat_run_none, flat_run_append}
 use Rattle.flat_machine.specs.Schedule.{written_out, room}
 use Rattle.flat_machine.specs.StepLaws.{both, has_no_ending}
 use Rattle.paged_memory.specs.HartMemory.{MarksSince}
-use Rattle.paged_memory.specs.HartMemoryLaws.{lacked}
 use Rattle.paged_memory.specs.Paged.{PagedValue}
 use Rattle.space_core.specs.declared.progress.Slice.{Slice}
 use Rattle.space_core.specs.declared.progress.SliceStop.{SliceStop}

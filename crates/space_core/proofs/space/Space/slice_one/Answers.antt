@@ -1,4 +1,4 @@
-use Rattle.std.proofs.Common.{◌≡◌, ◌∙◌, length, replicate, ap, arith, refl, sym, subst}
+use Rattle.std.proofs.Common.{◌∙◌, length, replicate, ap, arith, refl, sym, subst}
 use Rattle.paged_memory.specs.Paged.{PagedValue}
 use Rattle.paged_memory.specs.ShowingLaws.{caches_given_up, used_given_up}
 use Rattle.paged_memory.specs.Moving.{OnlyCaches}

@@ -1,0 +1,121 @@
+-- What it does to a memory that a resident page's use is read, that it begins to leave its frame, and that it is mapped again.
+use Rattle.std.proofs.Common.{◌≡◌, ℕ, ◌+◌, ◌^◌, ◌<◌, Bool, cond, Option, Some, None, refl, sym, ap, ◌∙◌, arith}
+use Rattle.frame_pool.specs.FrameValue.{FrameValue}
+use Rattle.page_store.specs.Moves.{IfResident}
+use Rattle.page_store.specs.PageValue.{PageValue, Place, Fresh, Resident, Leaving, Saving, Away, Purged}
+use Rattle.page_store.specs.declared.state.Keeping.{Keeping}
+use Rattle.page_store.specs.declared.state.PageState.TheVariants as stage
+use Rattle.sv32_table.specs.EntryAt.{entry_at, dirty_of}
+use Rattle.paged_memory.specs.AlikeLaws.{SavingsStay, CountsAlike, same_memory, same_pages}
+use Rattle.paged_memory.specs.Calls.{Leaves}
+use Rattle.paged_memory.specs.Leaving.{Returns}
+use Rattle.paged_memory.specs.MoveLaws.{KeepsOthers, moved_keeps, stage_before, stage_after, frame_before, frame_after, slot_before, slot_after, moved_stay, moved_residents, moved_savings, moved_frames, moved_slots}
+use Rattle.paged_memory.specs.Moving.{ReadsUse, ForgetsUse, BeginsToLeave, MapsAgain, SamePage, slot_in}
+use Rattle.paged_memory.specs.Paged.{PagedValue, page_at}
+use Rattle.paged_memory.specs.Whole.{stage_in, frame_in, residents_among, savings_among, frames_among, slots_within}
+
+module _ {S : Type 0} where
+  -- ---- a page's use is read
+
+  pub forgets_alike : (vpn : ℕ) (old new : PagedValue S) → ForgetsUse vpn old new → CountsAlike old new
+  forgets_alike vpn old new forgets = same_pages old new forgets.process forgets.pages
+
+  pub reads_alike : (bit : Option Bool) (vpn : ℕ) (old new : PagedValue S) → ReadsUse bit vpn old new → CountsAlike old new
+  reads_alike None vpn old new reads = same_memory old new reads
+  reads_alike (Some bit) vpn old new reads = forgets_alike vpn old new reads
+
+  -- each page is as it was
+  pub forgets_pages : (vpn : ℕ) (old new : PagedValue S) → ForgetsUse vpn old new → (number : ℕ) → SamePage old new number
+  forgets_pages vpn old new forgets number = ap (λ pages. page_at pages number) forgets.pages
+
+  -- ---- a page begins to leave
+
+  -- it keeps its frame and its slot, and is resident no more
+  pub record HasBegun (vpn : ℕ) (old new : PagedValue S) : Type 0 where
+    pub keeps : KeepsOthers vpn old new
+    pub was : stage_in old vpn ≡ Some stage.Resident
+    pub is : stage_in new vpn ≡ Some stage.Leaving
+    pub frame : frame_in new vpn ≡ frame_in old vpn
+    pub slot : slot_in new vpn ≡ slot_in old vpn
+    pub residents : (test : ℕ → Bool) → residents_among new test + cond (test vpn) 1 0 ≡ residents_among old test
+    pub savings : (test : ℕ → Bool) → savings_among new test ≡ savings_among old test
+    pub frames : (test : ℕ → Bool) → frames_among new test ≡ frames_among old test
+    pub slots : slots_within new ≡ slots_within old
+    pub stay : SavingsStay old new
+
+  record Left (mark : Bool) (page page' : PageValue S) : Type 0 where
+    pub frame : FrameValue
+    pub slot : Keeping S
+    pub was : page.place ≡ Resident frame slot
+    pub is : page' ≡ record page { place = Leaving frame slot mark }
+
+  left_page : (mark : Bool) (page page' : PageValue S) → Leaves mark page page' → Left mark page page'
+  left_page mark page page' how = by_place page.place refl how
+    where
+      by_place : (place : Place S) → page.place ≡ place → IfResident place (λ frame slot. page' ≡ record page { place = Leaving frame slot mark }) → Left mark page page'
+      by_place Fresh at how = absurd how
+      by_place (Resident frame slot) at how = record { frame = frame; slot = slot; was = at; is = how }
+      by_place (Leaving frame slot m) at how = absurd how
+      by_place (Saving frame) at how = absurd how
+      by_place (Away slot) at how = absurd how
+      by_place Purged at how = absurd how
+
+  module _ (vpn : ℕ) (old new : PagedValue S) (small : vpn < 2 ^ 20) (leaves : BeginsToLeave vpn old new) where
+    abbrev mark : Bool
+    mark = dirty_of (entry_at old.tables vpn)
+
+    left : Left mark leaves.page.page leaves.page.page'
+    left = left_page mark leaves.page.page leaves.page.page' leaves.page.how
+
+    left_to : leaves.page.page'.place ≡ Leaving left.frame left.slot mark
+    left_to = ap (λ (p : PageValue S). p.place) left.is
+
+    pub begun : HasBegun vpn old new
+    begun = record {
+      keeps = moved_keeps (Leaves mark) old new vpn leaves.page leaves.process (ap (λ (p : PageValue S). p.origin) left.is);
+      was = stage_before (Leaves mark) old new vpn leaves.page _ _ left.was left_to;
+      is = stage_after (Leaves mark) old new vpn leaves.page _ _ left.was left_to;
+      frame = frame_after (Leaves mark) old new vpn leaves.page _ _ left.was left_to ∙ sym (frame_before (Leaves mark) old new vpn leaves.page _ _ left.was left_to);
+      slot = slot_after (Leaves mark) old new vpn leaves.page _ _ left.was left_to ∙ sym (slot_before (Leaves mark) old new vpn leaves.page _ _ left.was left_to);
+      residents = λ test. let moved : residents_among new test + cond (test vpn) 1 0 ≡ residents_among old test + 0 = moved_residents (Leaves mark) old new vpn leaves.page _ _ left.was left_to small test in omega (arith, moved);
+      savings = λ test. let moved : savings_among new test + 0 ≡ savings_among old test + 0 = moved_savings (Leaves mark) old new vpn leaves.page _ _ left.was left_to small test in omega (arith, moved);
+      frames = λ test. let moved : frames_among new test + cond (test left.frame.number) 1 0 ≡ frames_among old test + cond (test left.frame.number) 1 0 = moved_frames (Leaves mark) old new vpn leaves.page _ _ left.was left_to small test in omega (arith, moved);
+      slots = let moved = moved_slots (Leaves mark) old new vpn leaves.page _ _ left.was left_to small in omega (arith, moved);
+      stay = moved_stay (Leaves mark) old new vpn leaves.page _ _ left.was left_to refl;
+    }
+
+  -- ---- a page that is leaving is mapped again
+
+  -- it keeps its frame and its slot, and is resident
+  pub record HasReturned (vpn : ℕ) (old new : PagedValue S) : Type 0 where
+    pub keeps : KeepsOthers vpn old new
+    pub was : stage_in old vpn ≡ Some stage.Leaving
+    pub is : stage_in new vpn ≡ Some stage.Resident
+    pub frame : frame_in new vpn ≡ frame_in old vpn
+    pub slot : slot_in new vpn ≡ slot_in old vpn
+    pub residents : (test : ℕ → Bool) → residents_among new test ≡ residents_among old test + cond (test vpn) 1 0
+    pub savings : (test : ℕ → Bool) → savings_among new test ≡ savings_among old test
+    pub frames : (test : ℕ → Bool) → frames_among new test ≡ frames_among old test
+    pub slots : slots_within new ≡ slots_within old
+    pub stay : SavingsStay old new
+
+  module _ (vpn : ℕ) (old new : PagedValue S) (maps : MapsAgain vpn old new) where
+    abbrev how : Returns maps.page.mark maps.page.page.page maps.page.page.page'
+    how = maps.page.page.how
+
+    back_to : maps.page.page.page'.place ≡ Resident how.frame how.slot
+    back_to = ap (λ (p : PageValue S). p.place) how.is
+
+    pub returned : HasReturned vpn old new
+    returned = record {
+      keeps = moved_keeps (Returns maps.page.mark) old new vpn maps.page.page maps.process (ap (λ (p : PageValue S). p.origin) how.is);
+      was = stage_before (Returns maps.page.mark) old new vpn maps.page.page _ _ how.was back_to;
+      is = stage_after (Returns maps.page.mark) old new vpn maps.page.page _ _ how.was back_to;
+      frame = frame_after (Returns maps.page.mark) old new vpn maps.page.page _ _ how.was back_to ∙ sym (frame_before (Returns maps.page.mark) old new vpn maps.page.page _ _ how.was back_to);
+      slot = slot_after (Returns maps.page.mark) old new vpn maps.page.page _ _ how.was back_to ∙ sym (slot_before (Returns maps.page.mark) old new vpn maps.page.page _ _ how.was back_to);
+      residents = λ test. let moved : residents_among new test + 0 ≡ residents_among old test + cond (test vpn) 1 0 = moved_residents (Returns maps.page.mark) old new vpn maps.page.page _ _ how.was back_to maps.small test in omega (arith, moved);
+      savings = λ test. let moved : savings_among new test + 0 ≡ savings_among old test + 0 = moved_savings (Returns maps.page.mark) old new vpn maps.page.page _ _ how.was back_to maps.small test in omega (arith, moved);
+      frames = λ test. let moved : frames_among new test + cond (test how.frame.number) 1 0 ≡ frames_among old test + cond (test how.frame.number) 1 0 = moved_frames (Returns maps.page.mark) old new vpn maps.page.page _ _ how.was back_to maps.small test in omega (arith, moved);
+      slots = let moved = moved_slots (Returns maps.page.mark) old new vpn maps.page.page _ _ how.was back_to maps.small in omega (arith, moved);
+      stay = moved_stay (Returns maps.page.mark) old new vpn maps.page.page _ _ how.was back_to refl;
+    }

@@ -1,5 +1,6 @@
 -- Memories whose pages count alike, and what the counts tell of pages and pages of the counts.
-use Rattle.std.proofs.Common.{◌≡◌, ℕ, ◌^◌, ◌<◌, Bool, true, false, ◌&&◌, List, [], Option, Some, None, option_map, option_and_then, is_some, refl, sym, ap, ◌∙◌}
+use Rattle.std.proofs.Common.{◌≡◌, ℕ, ◌^◌, ◌<◌, Bool, true, false, ◌&&◌, List, [], Option, Some, None, option_map, option_and_then, is_some, length, nat_lt, slice_set, refl, sym, ap, ◌∙◌}
+use Rattle.std.specs.Prelude.{if◌then◌else◌}
 use Rattle.page_store.specs.Kept.{kept}
 use Rattle.page_store.specs.Lending.{with_bytes, rewritten}
 use Rattle.page_store.specs.PageValue.{PageValue, Place, Fresh, Resident, Leaving, Saving, Away, Purged, frame_of, slot_of, page_state_of}
@@ -7,10 +8,14 @@ use Rattle.paged_memory.specs.Counting.{page_passes, pages_where, is_resident_pl
 use Rattle.paged_memory.specs.CountingLaws.{same_where_pass}
 use Rattle.paged_memory.specs.Growth.{fresh_zero_page}
 use Rattle.paged_memory.specs.HartMemory.{KeepsPages}
-use Rattle.paged_memory.specs.Moving.{SamePage, slot_in}
+use Rattle.paged_memory.specs.Moving.{SamePage, slot_in, OnlyCaches}
+use Rattle.paged_memory.specs.Notices.{noticed, emptied}
 use Rattle.paged_memory.specs.Paged.{PagedValue, page_at}
 use Rattle.paged_memory.specs.Stages.{is_saving_stage}
+use Rattle.paged_memory.specs.Using.{cache_in}
 use Rattle.paged_memory.specs.Whole.{stage_in, rights_in, frame_in, residents_among, savings_among, frames_among, slots_within}
+use Rattle.tlb_core.specs.Cache.{undoomed}
+use Rattle.tlb_core.specs.declared.translation.Translation.{Translation}
 
 module _ {S : Type 0} where
   -- pages that are being saved are so still, each in its frame
@@ -76,6 +81,26 @@ module _ {S : Type 0} where
   -- nothing changed
   pub same_memory : (old new : PagedValue S) → new ≡ old → CountsAlike old new
   same_memory old new same = same_pages old new (ap (λ (m : PagedValue S). m.process) same) (ap (λ (m : PagedValue S). m.pages) same)
+
+  -- nothing changed but what harts' caches hold
+  pub caches_alike : (old new : PagedValue S) → OnlyCaches old new → CountsAlike old new
+  caches_alike old new only = same_pages old new (ap (λ (m : PagedValue S). m.process) only) (ap (λ (m : PagedValue S). m.pages) only)
+
+  noticed_pages : (b : Bool) (memory : PagedValue S) (caches : List (List Translation)) → (if b then record memory { caches = caches } else memory).pages ≡ memory.pages
+  noticed_pages true memory caches = refl
+  noticed_pages false memory caches = refl
+
+  noticed_process : (b : Bool) (memory : PagedValue S) (caches : List (List Translation)) → (if b then record memory { caches = caches } else memory).process ≡ memory.process
+  noticed_process true memory caches = refl
+  noticed_process false memory caches = refl
+
+  pub noticed_alike : (hart : ℕ) (memory : PagedValue S) → CountsAlike memory (noticed hart memory)
+  noticed_alike hart memory =
+      let caches : List (List Translation) = slice_set memory.caches hart (undoomed (cache_in memory hart)) in
+      same_pages memory (noticed hart memory) (noticed_process (nat_lt hart (length memory.caches)) memory caches) (noticed_pages (nat_lt hart (length memory.caches)) memory caches)
+
+  pub emptied_alike : (memory : PagedValue S) → CountsAlike memory (emptied memory)
+  emptied_alike memory = same_pages memory (emptied memory) refl refl
 
   -- ---- pages that are where they were but for the bytes in their frames, and pages of zeros that are new
 
@@ -176,3 +201,21 @@ module _ {S : Type 0} where
     slots = kept_where (λ number page. is_kept (slot_of page.place)) (λ number page. same_kept page.place) (λ number. refl) old.pages new.pages keeps;
     stay = same_stay old new (λ number small is. kept_same old new keeps number is);
   }
+
+  -- pages that are as they were are counted as before, where only they are asked for
+  passes_same : (test : Bool) (o o' : Option (PageValue S)) → (test ≡ true → o' ≡ o) → page_passes (λ page. is_resident_place page.place && test) o' ≡ page_passes (λ page. is_resident_place page.place && test) o
+  passes_same true o o' same = ap (page_passes (λ page. is_resident_place page.place && true)) (same refl)
+  passes_same false o o' same = none o' ∙ sym (none o)
+    where
+      not : (b : Bool) → b && false ≡ false
+      not true = refl
+      not false = refl
+
+      none : (o : Option (PageValue S)) → page_passes (λ page. is_resident_place page.place && false) o ≡ false
+      none None = refl
+      none (Some page) = not (is_resident_place page.place)
+
+  pub same_residents : (old new : PagedValue S) (test : ℕ → Bool) → ((number : ℕ) → number < 2 ^ 20 → test number ≡ true → SamePage old new number) → residents_among new test ≡ residents_among old test
+  same_residents old new test same =
+      same_where_pass (λ number page. is_resident_place page.place && test number) old.pages new.pages
+      (λ number small. passes_same (test number) (page_at old.pages number) (page_at new.pages number) (λ is. same number small is))

@@ -13,9 +13,9 @@ use Rattle.sv32_table.specs.EntryAt.{entry_at}
 use Rattle.paged_memory.specs.AlikeLaws.{SavingsStay, same_stay}
 use Rattle.paged_memory.specs.Counting.{page_passes, pages_where, is_resident_place, is_saving_place, frame_passes, is_kept}
 use Rattle.paged_memory.specs.CountingLaws.{pages_changed, none_where_pass, same_where_pass}
-use Rattle.paged_memory.specs.GivingBack.{GivesBack, GivesOne, GivesNothing}
+use Rattle.paged_memory.specs.GivingBack.{GivesBack, GivesNothing}
 use Rattle.paged_memory.specs.MoveLaws.{KeepsOthers, moved_keeps, moved_stay, moved_residents, moved_savings, moved_frames, moved_slots}
-use Rattle.paged_memory.specs.Moving.{has_to_give, has_to_give_in, place_given, page_given, SamePage, PageGiven, IsGiven, IsLeft, GivesAll, HasNothingBelow}
+use Rattle.paged_memory.specs.Moving.{has_to_give, has_to_give_in, place_given, page_given, SamePage, PageGiven, IsGiven, IsLeft, GivesIn, GivesAll, HasNothingBelow}
 use Rattle.paged_memory.specs.Paged.{PagedValue, page_at}
 use Rattle.paged_memory.specs.Stages.{is_saving_stage}
 use Rattle.paged_memory.specs.Whole.{stage_in, residents_among, savings_among, frames_among, slots_within}
@@ -69,7 +69,7 @@ module _ {S : Type 0} where
   }
   gives_at given Purged h = cc
 
-  module _ (given : Option FrameValue × Option S) (old new : PagedValue S) (one : GivesOne given old.pages new.pages old.tables new.tables) where
+  module _ (given : Option FrameValue × Option S) (old new : PagedValue S) (one : GivesIn given old new) where
     at : GivesAt given one.pages.page.place
     at = gives_at given one.pages.page.place one.pages.how.0
 

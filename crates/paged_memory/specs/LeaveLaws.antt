@@ -1,18 +1,20 @@
 -- What it does to a memory that a resident page's use is read, that it begins to leave its frame, and that it is mapped again.
-use Rattle.std.proofs.Common.{◌≡◌, ℕ, ◌+◌, ◌^◌, ◌<◌, Bool, cond, Option, Some, None, refl, sym, ap, ◌∙◌, arith}
+use Rattle.std.proofs.Common.{◌≡◌, ℕ, ◌+◌, ◌^◌, ◌<◌, Bool, true, cond, Option, Some, None, option_map, is_some, refl, sym, ap, ◌∙◌, arith}
 use Rattle.frame_pool.specs.FrameValue.{FrameValue}
 use Rattle.page_store.specs.Moves.{IfResident}
-use Rattle.page_store.specs.PageValue.{PageValue, Place, Fresh, Resident, Leaving, Saving, Away, Purged}
+use Rattle.page_store.specs.PageValue.{PageValue, Place, Fresh, Resident, Leaving, Saving, Away, Purged, page_state_of}
+use Rattle.page_store.specs.declared.refusal.LeaveRefusal.{LeaveRefusal}
 use Rattle.page_store.specs.declared.state.Keeping.{Keeping}
 use Rattle.page_store.specs.declared.state.PageState.TheVariants as stage
 use Rattle.sv32_table.specs.EntryAt.{entry_at, dirty_of}
 use Rattle.paged_memory.specs.AlikeLaws.{SavingsStay, CountsAlike, same_memory, same_pages}
-use Rattle.paged_memory.specs.Calls.{Leaves}
+use Rattle.paged_memory.specs.Calls.{Leaves, RefusesLeave, accessed_at}
 use Rattle.paged_memory.specs.Leaving.{Returns}
 use Rattle.paged_memory.specs.MoveLaws.{KeepsOthers, moved_keeps, stage_before, stage_after, frame_before, frame_after, slot_before, slot_after, moved_stay, moved_residents, moved_savings, moved_frames, moved_slots}
-use Rattle.paged_memory.specs.Moving.{ReadsUse, ForgetsUse, BeginsToLeave, MapsAgain, SamePage, slot_in}
-use Rattle.paged_memory.specs.Paged.{PagedValue, page_at}
-use Rattle.paged_memory.specs.Whole.{stage_in, frame_in, residents_among, savings_among, frames_among, slots_within}
+use Rattle.paged_memory.specs.Moving.{ReadsUse, ForgetsUse, BeginsToLeave, DoesNotLeave, MapsAgain, SamePage, slot_in}
+use Rattle.paged_memory.specs.Paged.{PagedValue, page_at, seen_of}
+use Rattle.paged_memory.specs.Stages.{is_resident_stage}
+use Rattle.paged_memory.specs.Whole.{stage_in, frame_in, accessed_in, residents_among, savings_among, frames_among, slots_within}
 
 module _ {S : Type 0} where
   -- ---- a page's use is read
@@ -28,7 +30,39 @@ module _ {S : Type 0} where
   pub forgets_pages : (vpn : ℕ) (old new : PagedValue S) → ForgetsUse vpn old new → (number : ℕ) → SamePage old new number
   forgets_pages vpn old new forgets number = ap (λ pages. page_at pages number) forgets.pages
 
+  -- a page has an accessed bit exactly where it is resident
+  pub accessed_stage : (memory : PagedValue S) (vpn : ℕ) → is_some (accessed_in memory vpn) ≡ is_resident_stage (stage_in memory vpn)
+  accessed_stage memory vpn = by_page (page_at memory.pages vpn)
+    where
+      by_place : (page : PageValue S) (place : Place S) → is_some (accessed_at (Some (seen_of (record page { place = place }))) (entry_at memory.tables vpn)) ≡ is_resident_stage (Some (page_state_of place))
+      by_place page Fresh = refl
+      by_place page (Resident frame slot) = refl
+      by_place page (Leaving frame slot mark) = refl
+      by_place page (Saving frame) = refl
+      by_place page (Away slot) = refl
+      by_place page Purged = refl
+
+      by_page : (o : Option (PageValue S)) → is_some (accessed_at (option_map seen_of o) (entry_at memory.tables vpn)) ≡ is_resident_stage (option_map (λ (page : PageValue S). page_state_of page.place) o)
+      by_page None = refl
+      by_page (Some page) = by_place page page.place
+
   -- ---- a page begins to leave
+
+  -- a resident page does
+  pub resident_leaves : (memory : PagedValue S) (vpn : ℕ) (refusal : LeaveRefusal) → is_resident_stage (stage_in memory vpn) ≡ true → DoesNotLeave vpn refusal memory → ⊥
+  resident_leaves memory vpn refusal is refuses = by_page (page_at memory.pages vpn) is refuses
+    where
+      by_place : (page : PageValue S) (place : Place S) → is_resident_stage (Some (page_state_of place)) ≡ true → RefusesLeave (Some (record page { place = place })) refusal → ⊥
+      by_place page Fresh is h = cc
+      by_place page (Resident frame slot) is h = let g = h true in cc
+      by_place page (Leaving frame slot mark) is h = cc
+      by_place page (Saving frame) is h = cc
+      by_place page (Away slot) is h = cc
+      by_place page Purged is h = cc
+
+      by_page : (o : Option (PageValue S)) → is_resident_stage (option_map (λ (page : PageValue S). page_state_of page.place) o) ≡ true → RefusesLeave o refusal → ⊥
+      by_page None is h = cc
+      by_page (Some page) is h = by_place page page.place is h
 
   -- it keeps its frame and its slot, and is resident no more
   pub record HasBegun (vpn : ℕ) (old new : PagedValue S) : Type 0 where

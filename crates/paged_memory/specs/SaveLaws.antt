@@ -1,21 +1,23 @@
 -- What it does to a memory that a page that is leaving goes to its backing or to be saved, and that a save of it comes back.
-use Rattle.std.proofs.Common.{◌≡◌, ℕ, ◌+◌, ◌^◌, ◌<◌, Bool, true, false, ◌&&◌, cond, List, Option, Some, None, is_some, refl, sym, ap, ◌∙◌, arith}
+use Rattle.std.proofs.Common.{◌≡◌, ℕ, ◌+◌, ◌^◌, ◌<◌, ◌≤◌, Bool, true, false, ◌&&◌, cond, List, Option, Some, None, option_map, is_some, refl, sym, ap, ◌∙◌, arith}
 use Rattle.std.specs.Prelude.{IsTrue}
 use Rattle.frame_pool.specs.FrameValue.{FrameValue}
 use Rattle.page_store.specs.JobValue.{JobValue, SavedValue}
 use Rattle.page_store.specs.Kept.{kept}
-use Rattle.page_store.specs.Moves.{copy_of}
+use Rattle.page_store.specs.Moves.{copy_of, IfSaving}
 use Rattle.page_store.specs.PageValue.{PageValue, Place, Fresh, Resident, Leaving, Saving, Away, Purged, frame_of, slot_of, page_state_of}
 use Rattle.page_store.specs.declared.state.Keeping.{Keeping}
 use Rattle.page_store.specs.declared.state.Keeping.TheVariants.{NoSlot, Unsaved, Saved}
 use Rattle.page_store.specs.declared.state.PageState.TheVariants as stage
 use Rattle.paged_memory.specs.AlikeLaws.{SavingsStay}
-use Rattle.paged_memory.specs.Counting.{is_resident_place, is_saving_place, frame_passes, is_kept}
-use Rattle.paged_memory.specs.Leaving.{Frees}
+use Rattle.paged_memory.specs.AmongLaws.{some_saving}
+use Rattle.paged_memory.specs.Counting.{page_passes, is_resident_place, is_saving_place, frame_passes, is_kept}
+use Rattle.paged_memory.specs.CountingLaws.{none_where_pass}
+use Rattle.paged_memory.specs.Leaving.{Frees, IsSaving}
 use Rattle.paged_memory.specs.MoveLaws.{KeepsOthers, moved_keeps, stage_before, stage_after, frame_before, frame_after, slot_before, moved_stay, moved_residents, moved_savings, moved_frames, moved_slots}
-use Rattle.paged_memory.specs.Moving.{dropped_to, LetsGo, GoesToBacking, IsCopied, GoesToBeSaved, SavedAway, IsUnsaved, LeavesAgain, slot_in}
-use Rattle.paged_memory.specs.Paged.{PagedValue}
-use Rattle.paged_memory.specs.Stages.{is_absent_stage}
+use Rattle.paged_memory.specs.Moving.{dropped_to, LetsGo, GoesToBacking, IsCopied, GoesToBeSaved, SavedAway, IsUnsaved, LeavesAgain, slot_in, IsOutOf, SavesSome, SavesNone}
+use Rattle.paged_memory.specs.Paged.{PagedValue, page_at}
+use Rattle.paged_memory.specs.Stages.{is_absent_stage, is_saving_stage}
 use Rattle.paged_memory.specs.Whole.{stage_in, frame_in, residents_among, savings_among, frames_among, slots_within}
 
 module _ {S : Type 0} where
@@ -218,3 +220,63 @@ module _ {S : Type 0} where
       frames = λ test. let moved : frames_among new test + cond (test failed_frame.number) 1 0 ≡ frames_among old test + cond (test failed_frame.number) 1 0 = moved_frames (IsUnsaved shows job) old new job.vpn leaves.page.1.1 _ _ leaves.page.1.1.how.was again_to leaves.page.1.0 test in omega (arith, moved);
       slots = let moved : slots_within new + 0 ≡ slots_within old + 1 = moved_slots (IsUnsaved shows job) old new job.vpn leaves.page.1.1 _ _ leaves.page.1.1.how.was again_to leaves.page.1.0 in omega (arith, moved);
     }
+
+  -- ---- whether a save is out
+
+  saving_is : (o : Option (PageValue S)) → is_saving_stage (option_map (λ (page : PageValue S). page_state_of page.place) o) ≡ true → IsSaving o
+  saving_is None h = cc
+  saving_is (Some page) h = by_place page.place h
+    where
+      by_place : (place : Place S) → is_saving_stage (Some (page_state_of place)) ≡ true → IfSaving place (λ _. Unit {0})
+      by_place Fresh h = cc
+      by_place (Resident frame slot) h = cc
+      by_place (Leaving frame slot mark) h = cc
+      by_place (Saving frame) h = tt
+      by_place (Away slot) h = cc
+      by_place Purged h = cc
+
+  is_saving : (o : Option (PageValue S)) → IsSaving o → is_saving_stage (option_map (λ (page : PageValue S). page_state_of page.place) o) ≡ true
+  is_saving None h = absurd h
+  is_saving (Some page) h = by_place page.place h
+    where
+      by_place : (place : Place S) → IfSaving place (λ _. Unit {0}) → is_saving_stage (Some (page_state_of place)) ≡ true
+      by_place Fresh h = absurd h
+      by_place (Resident frame slot) h = absurd h
+      by_place (Leaving frame slot mark) h = absurd h
+      by_place (Saving frame) h = refl
+      by_place (Away slot) h = absurd h
+      by_place Purged h = absurd h
+
+  pub out_of : (job : SavedValue S) (memory : PagedValue S) → job.process ≡ memory.process → job.vpn < 2 ^ 20 → is_saving_stage (stage_in memory job.vpn) ≡ true → IsOutOf job memory
+  out_of job memory process small is = (process, (small, saving_is (page_at memory.pages job.vpn) is))
+
+  -- some page is being saved, and so one at least is counted
+  pub one_saves : (memory : PagedValue S) (number : ℕ) → number < 2 ^ 20 → is_saving_stage (stage_in memory number) ≡ true → SavesSome memory
+  one_saves memory number small is = record { number = number; small = small; saving = saving_is (page_at memory.pages number) is }
+
+  pub some_save : (memory : PagedValue S) → SavesSome memory → 1 ≤ savings_among memory (λ _. true)
+  some_save memory saves = some_saving memory (λ _. true) saves.number saves.small (is_saving (page_at memory.pages saves.number) saves.saving) refl
+
+  no_page : (o : Option (PageValue S)) → (IsSaving o → ⊥) → page_passes (λ page. is_saving_place page.place && true) o ≡ false
+  no_page None h = refl
+  no_page (Some page) h = by_place page.place h
+    where
+      by_place : (place : Place S) → (IfSaving place (λ _. Unit {0}) → ⊥) → is_saving_place place && true ≡ false
+      by_place Fresh h = refl
+      by_place (Resident frame slot) h = refl
+      by_place (Leaving frame slot mark) h = refl
+      by_place (Saving frame) h = absurd (h tt)
+      by_place (Away slot) h = refl
+      by_place Purged h = refl
+
+  -- none is, and so none is counted
+  pub none_save : (memory : PagedValue S) → SavesNone memory → savings_among memory (λ _. true) ≡ 0
+  none_save memory none = none_where_pass (λ number page. is_saving_place page.place && true) memory.pages (λ number small. no_page (page_at memory.pages number) (none number small))
+
+  -- where none is counted, each page tells so
+  pub none_saved : (memory : PagedValue S) → savings_among memory (λ _. true) ≡ 0 → (number : ℕ) → number < 2 ^ 20 → is_saving_stage (stage_in memory number) ≡ false
+  none_saved memory none number small = by_test (is_saving_stage (stage_in memory number)) refl
+    where
+      by_test : (b : Bool) → is_saving_stage (stage_in memory number) ≡ b → is_saving_stage (stage_in memory number) ≡ false
+      by_test true is = let one = some_saving memory (λ _. true) number small is refl in absurd (omega (arith, one, none))
+      by_test false is = is

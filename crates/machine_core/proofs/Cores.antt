@@ -14,8 +14,9 @@ use Rattle.clock_policy.specs.Residents.{is_gone}
 use Rattle.pager_core.specs.Pager.{PagerState, pager_answered}
 use Rattle.flat_machine.specs.declared.end.End.{End}
 use Rattle.flat_machine.specs.declared.end.KillCause.{KillCause}
-use Rattle.tlb_core.specs.Cache.{undoomed}
-use Rattle.space_core.specs.Caches.{noticed, if_killed}
+use Rattle.paged_memory.specs.AlikeLaws.{same_memory, kept_alike, noticed_alike, emptied_alike}
+use Rattle.paged_memory.specs.Notices.{noticed, emptied}
+use Rattle.space_core.specs.Caches.{if_killed}
 use Rattle.space_core.specs.RunningValue.{RunningValue}
 use Rattle.space_core.specs.declared.progress.SliceStop.{SliceStop}
 use Rattle.machine_core.specs.Machine.{CoreValue, IsMachine}
@@ -101,7 +102,7 @@ module _ {S : Type 0} where
   -- the same of a sweep, whose page is resident
   pub swept_machine : (core : CoreValue S) (pager' : PagerSideValue) (q q' : ProcessSideValue S) (key : Key) (bit : Bit) (verdict : Verdict) → IsMachine core → slice_get core.processes key.process ≡ Some q
       → HasResident q.space key → AnswersQuestion core.pager pager' q q' key bit verdict → IsMachine (record core { pager = pager'; processes = slice_set core.processes key.process q' })
-  unfolding pager_answered SavingsStay
+  unfolding pager_answered
   swept_machine core pager' q q' key bit verdict machine found there answers =
       let not_gone : is_gone bit ≡ false = ap is_gone (sym answers.bit_is) ∙ bit_there q.space key there in
       let now : pager'.pager ≡ pager_answered bit core.pager.pager = ap (λ (p : PagerSideValue). p.pager) answers.pager_is in
@@ -115,7 +116,7 @@ module _ {S : Type 0} where
         saved = λ test. let a = rest.savings test in omega (arith, a);
         slotted = let a = rest.slots in omega (arith, a);
         slots = refl;
-        out = out_stays core.processes key.process q q' core.jobs found (λ v page frame small at saving. rest.stay v page frame at saving) machine.out;
+        out = out_stays core.processes key.process q q' core.jobs found rest.stay machine.out;
       })
 
   -- the sweep that was made for the page of the question

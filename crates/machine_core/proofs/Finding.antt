@@ -38,6 +38,12 @@ both_true true true h = (refl, refl)
 both_true true false h = cc
 both_true false b h = cc
 
+-- a bit that is told is not gone
+bit_told : (bit : Option Bool) → is_some bit ≡ true → is_gone (bit_of bit) ≡ false
+bit_told None h = cc
+bit_told (Some true) h = refl
+bit_told (Some false) h = refl
+
 module _ {S : Type 0} where
   -- where a process has a key's page resident
   pub record HasResident (space : SpaceValue S) (key : Key) : Type 0 where
@@ -75,13 +81,8 @@ module _ {S : Type 0} where
       let found : slice_get core.processes key.process ≡ Some one.item = ap (slice_get core.processes) (sym same) ∙ one.found in
       record { process = one.item; found = found; within = slice_get_within core.processes key.process one.item found; resident = there }
 
-  told : (bit : Option Bool) → is_some bit ≡ true → is_gone (bit_of bit) ≡ false
-  told None h = cc
-  told (Some true) h = refl
-  told (Some false) h = refl
-
   -- so its bit is told, and it is not gone
   pub bit_there : (space : SpaceValue S) (key : Key) → HasResident space key → is_gone (bit_at space key.vpn) ≡ false
   bit_there space key there =
       ap (λ b. is_gone (cond b (bit_of (accessed_in space.memory key.vpn)) Gone)) (lt-ltb key.vpn (2 ^ 20) there.small)
-      ∙ told (accessed_in space.memory key.vpn) (resident_accessed space.memory key.vpn there.resident)
+      ∙ bit_told (accessed_in space.memory key.vpn) (resident_accessed space.memory key.vpn there.resident)

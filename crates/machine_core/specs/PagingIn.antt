@@ -5,7 +5,7 @@ use Rattle.clock_policy.specs.ClockPro.{kind_of, withdrawn}
 use Rattle.frame_pool.specs.FrameValue.{FrameValue}
 use Rattle.paged_memory.specs.Moving.{RefusesIn, SameEntries}
 use Rattle.paged_memory.specs.declared.filling.PageInFault.{PageInFault}
-use Rattle.paged_memory.specs.declared.filling.PageInFault.TheVariants as fault
+use Rattle.paged_memory.specs.declared.filling.PageInFault.TheVariants as load
 use Rattle.pager_core.specs.Pager.{none_free}
 use Rattle.machine_sides.specs.declared.admission.NotAdmitted.{NotAdmitted}
 use Rattle.machine_sides.specs.declared.admission.NotAdmitted.TheVariants as unadmitted
@@ -29,10 +29,10 @@ admit_reason unadmitted.NoMemory = NoMemory
 
 -- what is replied for a page that was not loaded
 abbrev pub fault_reply : PageInFault → Reply
-fault_reply fault.NotAbsent = Refused NotAbsent
-fault_reply fault.Device = Device
-fault_reply fault.Damaged = Damaged
-fault_reply fault.NoMemory = Refused NoMemory
+fault_reply load.NotAbsent = Refused NotAbsent
+fault_reply load.Device = Device
+fault_reply load.Damaged = Damaged
+fault_reply load.NoMemory = Refused NoMemory
 
 module _ {S : Type 0} where
   pub record IsBarred (key : Key) (pager pager' : PagerSideValue) (process process' : ProcessSideValue S) (reply : Reply) : Type 0 where
@@ -76,7 +76,7 @@ module _ {S : Type 0} where
       pub between : PagerSideValue
       pub admits : Admits key pager between process.space admission
       pub why : RefusesIn held honest failures admission.frame key.vpn back fault process.space.memory process'.space.memory
-      pub absent : fault ≢ fault.NotAbsent
+      pub absent : fault ≢ load.NotAbsent
       pub tables : SameEntries process.space.memory process'.space.memory
       pub rest : KeepsRest held honest process.space process'.space
       pub purged : process'.purged ≡ process.purged

@@ -1,28 +1,25 @@
 -- What it does to a memory that an absent page comes into a frame, that it does not, and that a page is looked at.
-use Rattle.std.proofs.Common.{◌≡◌, ℕ, ◌+◌, ◌^◌, ◌<◌, Bool, true, false, ◌&&◌, cond, List, Option, Some, None, option_map, option_and_then, refl, sym, ap, ◌∙◌, arith}
+use Rattle.std.proofs.Common.{◌≡◌, ℕ, ◌+◌, ◌^◌, ◌<◌, Bool, true, false, ◌&&◌, cond, List, Option, Some, None, option_map, refl, ap, ◌∙◌, arith}
 use Rattle.frame_pool.specs.FrameValue.{FrameValue}
 use Rattle.page_memory.specs.Words.{page_number}
-use Rattle.page_store.specs.CopyValue.{CopyValue}
-use Rattle.page_store.specs.Moves.{Filled, IfAbsent, IfAway, IfResident, IfSaved}
+use Rattle.page_store.specs.Moves.{IfAbsent, IfAway, IfResident, IfSaved}
 use Rattle.page_store.specs.PageValue.{PageValue, Place, Fresh, Resident, Leaving, Saving, Away, Purged, frame_of, slot_of, page_state_of}
 use Rattle.page_store.specs.declared.state.Keeping.{Keeping}
 use Rattle.page_store.specs.declared.state.Keeping.TheVariants.{NoSlot, Unsaved, Saved}
 use Rattle.page_store.specs.declared.state.PageState.{PageState}
 use Rattle.page_store.specs.declared.state.PageState.TheVariants as stage
-use Rattle.paged_memory.specs.AlikeLaws.{SavingsStay, CountsAlike, same_pages, same_stage, same_frame}
+use Rattle.paged_memory.specs.AlikeLaws.{SavingsStay, CountsAlike, same_pages}
 use Rattle.paged_memory.specs.Calls.{ChangesBy}
 use Rattle.paged_memory.specs.Counting.{is_resident_place, is_saving_place, frame_passes, is_kept}
-use Rattle.paged_memory.specs.Filling.{BroughtIn, StaysAbsent, FailsToLoad, ComesDamaged, StaysUnmapped}
-use Rattle.paged_memory.specs.MoveLaws.{KeepsOthers, moved_keeps, moved_others, stage_before, stage_after, frame_before, frame_after, moved_stay, moved_residents, moved_savings, moved_frames, moved_slots}
-use Rattle.paged_memory.specs.Moving.{ComesIn, RefusesIn, StaysOut, LeavesLookedAt, IsPeeked}
+use Rattle.paged_memory.specs.Filling.{BroughtIn, StaysAbsent}
+use Rattle.paged_memory.specs.MoveLaws.{KeepsOthers, moved_keeps, stage_before, stage_after, frame_before, frame_after, moved_stay, moved_residents, moved_savings, moved_frames, moved_slots}
+use Rattle.paged_memory.specs.Moving.{ComesIn, RefusesIn, StaysOut, LeavesLookedAt}
 use Rattle.paged_memory.specs.Paged.{PagedValue, page_at}
 use Rattle.paged_memory.specs.Peeking.{LeavesPlace, LeavesPage}
 use Rattle.paged_memory.specs.Stages.{is_absent_stage}
 use Rattle.paged_memory.specs.Whole.{stage_in, frame_in, residents_among, savings_among, frames_among, slots_within}
 use Rattle.paged_memory.specs.declared.filling.PageInFault.{PageInFault}
 use Rattle.paged_memory.specs.declared.filling.PageInFault.TheVariants.{NotAbsent, Device, Damaged, NoMemory}
-use Rattle.paged_memory.specs.declared.peeking.PeekFault.{PeekFault}
-use Rattle.std.specs.Prelude.{Result}
 
 number_passes : (test : ℕ → Bool) (o : Option FrameValue) (number : ℕ) → option_map (λ (f : FrameValue). f.number) o ≡ Some number → frame_passes test o ≡ test number
 number_passes test None number h = cc

@@ -1,5 +1,5 @@
 -- What it does to a memory that a page gives back its frame and its slot, and that all of them do.
-use Rattle.std.proofs.Common.{◌≡◌, ℕ, ◌+◌, ◌^◌, ◌<◌, ◌==◌, Bool, true, false, ◌&&◌, cond, List, Option, Some, None, option_map, is_some, inl, inr, refl, sym, ap, ◌∙◌, arith}
+use Rattle.std.proofs.Common.{◌≡◌, ℕ, ◌+◌, ◌^◌, ◌<◌, ◌==◌, Bool, true, false, ◌&&◌, cond, Option, Some, None, option_map, is_some, inl, inr, refl, sym, ap, ◌∙◌, arith}
 use Rattle.std.specs.Prelude.{◌⊎◌, if◌then◌else◌}
 use Rattle.std.proofs.lemmas.Bool.Decides.{eqb_tells}
 use Rattle.frame_pool.specs.FrameValue.{FrameValue}
@@ -14,8 +14,8 @@ use Rattle.paged_memory.specs.AlikeLaws.{SavingsStay, same_stay}
 use Rattle.paged_memory.specs.Counting.{page_passes, pages_where, is_resident_place, is_saving_place, frame_passes, is_kept}
 use Rattle.paged_memory.specs.CountingLaws.{pages_changed, none_where_pass, same_where_pass}
 use Rattle.paged_memory.specs.GivingBack.{GivesBack, GivesNothing}
-use Rattle.paged_memory.specs.MoveLaws.{KeepsOthers, moved_keeps, moved_stay, moved_residents, moved_savings, moved_frames, moved_slots}
-use Rattle.paged_memory.specs.Moving.{has_to_give, has_to_give_in, place_given, page_given, SamePage, PageGiven, IsGiven, IsLeft, GivesIn, GivesAll, HasNothingBelow}
+use Rattle.paged_memory.specs.MoveLaws.{moved_stay, moved_savings, moved_frames, moved_slots}
+use Rattle.paged_memory.specs.Moving.{has_to_give, has_to_give_in, place_given, page_given, PageGiven, IsGiven, IsLeft, GivesIn, GivesAll, HasNothingBelow}
 use Rattle.paged_memory.specs.Paged.{PagedValue, page_at}
 use Rattle.paged_memory.specs.Stages.{is_saving_stage}
 use Rattle.paged_memory.specs.Whole.{stage_in, residents_among, savings_among, frames_among, slots_within}

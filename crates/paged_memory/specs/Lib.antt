@@ -35,4 +35,7 @@ pub mod MoveLaws
 pub mod LeaveLaws
 pub mod SaveLaws
 pub mod ComeLaws
+pub mod StillLaws
+pub mod PeekLaws
 pub mod GivenLaws
+pub mod LooksLaws

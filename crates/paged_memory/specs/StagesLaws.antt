@@ -1,5 +1,5 @@
 -- What one test of where a page is tells of another, and of the page.
-use Rattle.std.proofs.Common.{◌≡◌, ℕ, Bool, true, false, Option, Some, None, option_map, is_some, refl, sym, ap, ◌∙◌}
+use Rattle.std.proofs.Common.{◌≡◌, ℕ, true, false, Option, Some, None, option_map, is_some, refl, ap, ◌∙◌}
 use Rattle.page_store.specs.declared.state.PageState.{PageState}
 use Rattle.page_store.specs.declared.state.PageState.TheVariants as stage
 use Rattle.page_store.specs.PageValue.{PageValue, Place, Fresh, Resident, Leaving, Saving, Away, Purged, page_state_of}

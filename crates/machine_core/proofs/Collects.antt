@@ -28,7 +28,7 @@ use Rattle.machine_core.specs.MachineRun.{of_process}
 use Rattle.machine_sides.specs.ReturnLaws.{returned_rest, listed_frames, back_together}
 use Rattle.machine_sides.specs.Sides.{PagerSideValue, ProcessSideValue}
 use Rattle.machine_sides.specs.StageLaws.{stage_passes}
-use Rattle.machine_sides.specs.SweepLaws.{LeavesRest}
+use Rattle.machine_sides.specs.TogetherLaws.{LeavesRest}
 use Rattle.machine_sides.specs.Together.{Together, key_of}
 use Rattle.machine_core.proofs.Cores.{lent_back}
 use Rattle.machine_core.proofs.Counted.{HoldsFrame, frame_missing, job_fits, takes_back}

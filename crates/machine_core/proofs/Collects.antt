@@ -9,7 +9,6 @@ use Rattle.clock_policy.specs.declared.refusal.Refusal.TheVariants as list
 use Rattle.clock_policy.specs.AdmitLaws.{one_key}
 use Rattle.clock_policy.specs.Lawful.{Lawful}
 use Rattle.page_store.specs.JobValue.{JobValue}
-use Rattle.paged_memory.specs.SaveLaws.{being_saved}
 use Rattle.paged_memory.specs.Stages.{is_leaving_stage, is_saving_stage}
 use Rattle.paged_memory.specs.StagesLaws.{leaving_framed, leaving_not_resident, leaving_not_saving}
 use Rattle.paged_memory.specs.Whole.{stage_in, frame_in}
@@ -21,7 +20,7 @@ use Rattle.machine_core.specs.declared.error.EventRefusal.TheVariants as refusal
 use Rattle.machine_core.specs.declared.event.Reply.{Reply}
 use Rattle.machine_sides.specs.Collecting.{is_leaving_at, Looks, IsDropped, IsCopied, LacksAndReturns, LacksAndLeaves}
 use Rattle.machine_core.specs.CollectEvent.{leaving_reason, collect_refusal, CollectsTo, not_yet, freed, dirty, no_slot, no_memory, CollectsOnce, LooksAt, IsOwn, jobs_after, looked_reply}
-use Rattle.machine_sides.specs.CollectLaws.{dropped_together, dropped_rest, copied_together, copied_savings, copied_slots}
+use Rattle.machine_sides.specs.CollectLaws.{dropped_together, dropped_rest, copied_together, copied_savings, copied_slots, copied_now}
 use Rattle.machine_sides.specs.LookLaws.{same_sides}
 use Rattle.machine_core.specs.Machine.{CoreValue, IsMachine, IsSaveOut, jobs_where, total}
 use Rattle.machine_core.specs.MachineRun.{of_process}
@@ -114,7 +113,7 @@ module _ {S : Type 0} where
       copied_moves : (job : JobValue S) → IsCopied vpn core.pager core'.pager q q' core.slots core'.slots job → core'.jobs ≡ core.jobs ++ job ∷ [] → Moves core core' p q q'
       copied_moves job copied jobs =
           let saving = copied.saving in
-          let at = being_saved vpn job q.space.memory q'.space.memory saving.moves in
+          let at = copied_now vpn job q q' core.slots core'.slots saving in
           let number : job.process ≡ p = saving.moves.process ∙ machine.numbered p q found in
           let out : IsSaveOut core'.processes job = record {
             process = q';

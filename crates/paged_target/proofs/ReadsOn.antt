@@ -5,7 +5,7 @@ use Rattle.machine_core.specs.Machine.{CoreValue}
 use Rattle.debug_core.specs.declared.target.ReadFault.{ReadFault}
 use Rattle.debug_core.specs.declared.target.ReadFault.TheVariants as fault
 use Rattle.paged_target.specs.Reads.{FailsToReadFrom, KeepsShown}
-use Rattle.paged_target.specs.Shown.{place_at}
+use Rattle.paged_target.specs.Shown.{stage_shown}
 
 module _ {S : Type 0} where
   pub keeps_same : (core : CoreValue S) → IsSome (slice_get core.processes 0) → KeepsShown core core
@@ -26,6 +26,6 @@ module _ {S : Type 0} where
       record {
         offset = i + fails.offset;
         within = omega (arith, first, within);
-        purged = keeps.purged (page_number (address + (i + fails.offset))) (ap (λ a. place_at now (page_number a)) same ∙ fails.purged);
+        purged = keeps.purged (page_number (address + (i + fails.offset))) (ap (λ a. stage_shown now (page_number a)) same ∙ fails.purged);
       }
   fails_among address count i some old now fault.Device within keeps fails = absurd fails

@@ -1,14 +1,14 @@
 -- What the machine tells of its process is the flat process's.
 use Rattle.std.proofs.Common.{◌≡◌, ◌<◌, ◌≤◌, ℕ, Bool, true, false, List, [], length, Option, Some, None, IsSome, is_some, option_map, slice_get, slice_index, slice_index_or, unwrap_or, arith, refl, sym, ap, ◌∙◌, subst, true≢false, lt-ltb}
-use Rattle.std.specs.Prelude.{◌^◌, ◌∷◌, if◌then◌else◌, option_and_then, nat_lt}
+use Rattle.std.specs.Prelude.{◌^◌, ◌∷◌, if◌then◌else◌, option_and_then}
 use Rattle.std.specs.FinMap.{get}
 use Rattle.page_memory.specs.Pages.{Page}
 use Rattle.page_memory.specs.Pages as plain
 use Rattle.page_memory.specs.Memory.{byte_at}
 use Rattle.page_memory.specs.Words.{page_number, page_offset}
-use Rattle.page_store.specs.PageValue.{PageValue, page_state_of}
 use Rattle.elf_image.specs.Image.{ImageContent}
-use Rattle.paged_memory.specs.Paged.{page_at}
+use Rattle.paged_memory.specs.PeekLaws.{rights_staged}
+use Rattle.paged_memory.specs.Whole.{stage_in}
 use Rattle.env_calls.specs.Environment.{any_live, most_harts, next_live}
 use Rattle.env_calls.specs.LiveLaws.{next_is_live, next_is_some}
 use Rattle.flat_machine.specs.ByTurns.{turn_after}
@@ -16,7 +16,7 @@ use Rattle.flat_machine.specs.Process.{Process, IsWhole, hart_registers, is_live
 use Rattle.flat_machine.specs.StepLaws.{has_no_ending}
 use Rattle.flat_machine.specs.Schedule.{written_out}
 use Rattle.flat_machine.specs.declared.end.End.{End}
-use Rattle.space_core.specs.StandsFor.{StandsFor, flat_with, own_ending, paged_rights, rights_of}
+use Rattle.space_core.specs.StandsFor.{StandsFor, flat_with, own_ending}
 use Rattle.machine_sides.specs.Admitting.{stage_at}
 use Rattle.machine_sides.specs.Sides.{ProcessSideValue}
 use Rattle.elf_image.specs.Start.{Start, start_of}
@@ -130,9 +130,9 @@ module _ {S : Type 0} (held : S → List ℕ) where
     end_there e = let is = sym (ap (option_map (λ (side : ProcessSideValue S). side.space.running.ending)) shows.found) ∙ e in cc
 
     -- a page is mapped where the flat process has one
-    pub page_shown : (number : ℕ) → number < 2 ^ 20 → is_some (page_at shows.side.space.memory.pages number) ≡ is_some (get (flat_at core).memory.pages number)
+    pub page_shown : (number : ℕ) → number < 2 ^ 20 → is_some (stage_in shows.side.space.memory number) ≡ is_some (get (flat_at core).memory.pages number)
     page_shown number small =
-        sym (map_some (λ (p : PageValue S). p.origin.rights) (page_at shows.side.space.memory.pages number))
+        sym (rights_staged shows.side.space.memory number)
         ∙ ap is_some (sym (shows.stands.shows.mapped number small))
         ∙ map_some (λ (p : Page). p.rights) (get shows.stands.memory.pages number)
         ∙ ap (λ (p : Process). is_some (get p.memory.pages number)) (sym shows.flat)
@@ -146,8 +146,7 @@ module _ {S : Type 0} (held : S → List ℕ) where
         → is_some (option_and_then (λ (side : ProcessSideValue S). stage_at side.space vpn) (slice_get core.processes 0)) ≡ is_some (byte_at (shown_as full (flat_at core)).memory address)
     mapped_shown full address vpn at small =
         ap (λ o. is_some (option_and_then (λ (side : ProcessSideValue S). stage_at side.space vpn) o)) shows.found
-        ∙ ap (λ b. is_some (if b then option_map (λ (page : PageValue S). page_state_of page.place) (page_at shows.side.space.memory.pages vpn) else None)) (lt-ltb vpn (2 ^ 20) small)
-        ∙ map_some (λ (page : PageValue S). page_state_of page.place) (page_at shows.side.space.memory.pages vpn)
+        ∙ ap (λ b. is_some (if b then stage_in shows.side.space.memory vpn else None)) (lt-ltb vpn (2 ^ 20) small)
         ∙ page_shown vpn small
         ∙ ap (λ n. is_some (get (flat_at core).memory.pages n)) at
         ∙ sym (byte_shown address)

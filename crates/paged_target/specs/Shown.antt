@@ -1,8 +1,9 @@
 -- What a machine of one process shows of it: the flat process that its recorded instructions leave.
-use Rattle.std.specs.Prelude.{◌≡◌, ℕ, ◌+◌, ◌<◌, Bool, true, false, List, [], slice_get, option_map, option_and_then, Option, Some, None, unwrap_or}
+use Rattle.std.specs.Prelude.{◌≡◌, ℕ, ◌+◌, ◌<◌, Bool, true, false, List, [], slice_get, option_and_then, Option, Some, None, unwrap_or}
 use Rattle.page_memory.specs.Words.{page_number}
-use Rattle.page_store.specs.PageValue.{Place, Purged}
-use Rattle.paged_memory.specs.Paged.{page_at}
+use Rattle.page_store.specs.declared.state.PageState.{PageState}
+use Rattle.page_store.specs.declared.state.PageState.TheVariants.{Purged}
+use Rattle.paged_memory.specs.Whole.{stage_in}
 use Rattle.flat_machine.specs.Process.{Process, opening, flat_run}
 use Rattle.flat_machine.specs.Schedule.{written_out}
 use Rattle.space_core.specs.StandsFor.{SpaceValue}
@@ -33,17 +34,17 @@ module _ {S : Type 0} where
   flat_at core = flat_in (slice_get core.processes 0)
 
   -- where a page of that process is
-  abbrev pub place_in : ℕ → ProcessSideValue S → Option (Place S)
-  place_in number side = option_map (λ page. page.place) (page_at side.space.memory.pages number)
+  abbrev pub stage_of : ℕ → ProcessSideValue S → Option PageState
+  stage_of number side = stage_in side.space.memory number
 
-  abbrev pub place_at : CoreValue S → ℕ → Option (Place S)
-  place_at core number = option_and_then (place_in number) (slice_get core.processes 0)
+  abbrev pub stage_shown : CoreValue S → ℕ → Option PageState
+  stage_shown core number = option_and_then (stage_of number) (slice_get core.processes 0)
 
   -- one of so many bytes from an address on lies in a page that was given back
   pub record IsGivenBack (address count : ℕ) (core : CoreValue S) : Type 0 where
     pub offset : ℕ
     pub within : offset < count
-    pub purged : place_at core (page_number (address + offset)) ≡ Some Purged
+    pub purged : stage_shown core (page_number (address + offset)) ≡ Some Purged
 
 abbrev pub shown_as : Bool → Process → Process
 shown_as false flat = flat

@@ -1,12 +1,12 @@
 -- Laws of what notices, endings and clearings do to the caches of a process's harts.
 use Rattle.std.specs.Prelude.{IfNone, OnSome, OnOk, OnErr}
-use Rattle.std.proofs.Common.{◌≡◌, ℕ, Bool, List, [], ◌∷◌, All, length, map, slice_set, Option, Some, None, Result, Ok, Err, ap, ◌∙◌, refl, sym, subst, length-set}
+use Rattle.std.proofs.Common.{◌≡◌, ℕ, Bool, List, [], ◌∷◌, All, length, map, slice_set, Option, Some, None, Result, Ok, Err, ap, ◌∙◌, refl, sym, subst, length-set, arith}
 use Rattle.std.proofs.lemmas.List.{length-map}
 use Rattle.std.proofs.lemmas.List.Elements.{All-nil, All-cons}
 use Rattle.page_store.specs.declared.refusal.LeaveRefusal.{LeaveRefusal}
 use Rattle.tlb_core.specs.Cache.{doomed}
 use Rattle.tlb_core.specs.declared.translation.Translation.{Translation}
-use Rattle.paged_memory.specs.Moving.{HasNothingBelow, OnlyCaches}
+use Rattle.paged_memory.specs.Moving.{EmptiesCaches, HasNothingBelow, OnlyCaches}
 use Rattle.paged_memory.specs.Notices.{emptied}
 use Rattle.paged_memory.specs.Paged.{PagedValue}
 use Rattle.paged_memory.specs.Whole.{harts_in}
@@ -15,6 +15,13 @@ use Rattle.paged_memory.specs.Whole.{harts_in}
 quiet : (caches : List (List Translation)) → All {X = List Translation} (λ cache. cache ≡ []) (map (λ _. []) caches)
 quiet [] = All-nil {X = List Translation} (λ cache. cache ≡ [])
 quiet (cache ∷ caches) = All-cons {X = List Translation} (λ cache. cache ≡ []) [] (map (λ _. []) caches) refl (quiet caches)
+
+-- as many of them are the same
+empty_as : (few many : List (List Translation)) → length few ≡ length many → map {B = List Translation} (λ _. []) few ≡ map (λ _. []) many
+empty_as [] [] same = refl
+empty_as [] (b ∷ more) same = absurd (omega (arith, same))
+empty_as (a ∷ few) [] same = absurd (omega (arith, same))
+empty_as (a ∷ few) (b ∷ many) same = ap (λ l. [] ∷ l) (empty_as few many (omega (arith, same)))
 
 module _ {S : Type 0} where
   pub emptied_quiet : (old mid : PagedValue S) → mid ≡ emptied old → All {X = List Translation} (λ cache. cache ≡ []) mid.caches
@@ -42,3 +49,12 @@ module _ {S : Type 0} where
   pub left_harts : (r : Result Unit LeaveRefusal) (vpn : ℕ) (old new : PagedValue S) → OnErr r (new ≡ old) → OnOk r (new.caches ≡ map (doomed vpn) old.caches) → harts_in new ≡ harts_in old
   left_harts (Err refusal) vpn old new same marked = ap (λ (m : PagedValue S). length m.caches) same
   left_harts (Ok done) vpn old new same marked = ap length marked ∙ length-map old.caches (doomed vpn)
+
+  -- ---- no cache holds a translation
+
+  -- emptied caches are those of any memory with as many
+  pub empties_as : (old between new : PagedValue S) → harts_in between ≡ harts_in old → EmptiesCaches between new → EmptiesCaches old new
+  empties_as old between new same empties = empties ∙ empty_as between.caches old.caches same
+
+  pub empties_harts : (old new : PagedValue S) → EmptiesCaches old new → harts_in new ≡ harts_in old
+  empties_harts old new empties = ap length empties ∙ length-map old.caches (λ _. [])

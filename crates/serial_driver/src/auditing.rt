@@ -80,10 +80,7 @@ fn held_pages<L: Ledger, S: SwapSlot, C: Clock>(core: &Core<L, S, C>) -> HeldPag
 }
 
 /// Counts the pages of one process that stand in frames.
-fn held_pages_of<L: Ledger, S: SwapSlot, C: Clock>(
-    core: &Core<L, S, C>,
-    process: u32,
-) -> HeldPages
+fn held_pages_of<L: Ledger, S: SwapSlot, C: Clock>(core: &Core<L, S, C>, process: u32) -> HeldPages
     requires { process < length core.now.processes }
     ensures held { HoldsPages core.now process result }
     ensures few_resident { result.resident ≤ 2 ^ 20 }

@@ -1,5 +1,5 @@
 -- What each call on a process's pages does to its memory as a whole, by name: whatever stands on it says so by these.
-use Rattle.std.specs.Prelude.{◌≡◌, ℕ, ◌^◌, ◌<◌, Bool, true, false, is_some, length, map, List, [], Option, Some, None, option_map, option_and_then, if◌then◌else◌, Result, OnOk, OnErr, IfErr, IfSome}
+use Rattle.std.specs.Prelude.{◌≡◌, ℕ, ◌^◌, ◌<◌, Bool, true, false, is_some, map, List, [], Option, Some, None, option_map, option_and_then, if◌then◌else◌, IfSome}
 use Rattle.frame_pool.specs.FrameValue.{FrameValue}
 use Rattle.page_memory.specs.Words.{page_number, page_offset}
 use Rattle.page_store.specs.JobValue.{JobValue, SavedValue}
@@ -19,8 +19,8 @@ use Rattle.paged_memory.specs.Filling.{BroughtIn, RefusesPageIn}
 use Rattle.paged_memory.specs.GivingBack.{GivesBack, GivesNothing, GivesOne, LiesBehind, SavesOne}
 use Rattle.paged_memory.specs.Leaving.{CollectsAt, ChangesSaved, Frees, RefusesSaved, IsOut, IsSaving, BringsBack}
 use Rattle.paged_memory.specs.Paged.{PagedValue, page_at, memory_of}
-use Rattle.paged_memory.specs.Peeking.{bytes_of, ShowsBytes, LeavesPage, RefusesPeek}
-use Rattle.paged_memory.specs.Soundness.{is_held}
+use Rattle.paged_memory.specs.Peeking.{ShowsBytes, LeavesPage, RefusesPeek}
+use Rattle.paged_memory.specs.Whole.{is_cached}
 use Rattle.paged_memory.specs.declared.filling.PageInFault.{PageInFault}
 use Rattle.paged_memory.specs.declared.peeking.PeekFault.{PeekFault}
 
@@ -103,12 +103,12 @@ module _ {S : Type 0} where
   -- a cache holds a translation of it still
   pub record IsCachedStill (vpn : ℕ) (memory : PagedValue S) : Type 0 where
     pub page : IsLeavingPage vpn memory
-    pub held : is_held vpn memory.caches ≡ true
+    pub held : is_cached memory vpn ≡ true
 
   -- no cache does; it counts as changed and has no slot
   pub record WantsSlot (vpn : ℕ) (memory : PagedValue S) : Type 0 where
     pub page : IsLeavingPage vpn memory
-    pub held : is_held vpn memory.caches ≡ false
+    pub held : is_cached memory vpn ≡ false
     pub changed : counts_changed page.page ≡ true
     pub slotless : page.slot ≡ keeping.NoSlot
 
@@ -129,7 +129,7 @@ module _ {S : Type 0} where
   -- an unchanged page that no cache holds goes to its backing, and lets this frame go
   pub record GoesToBacking (vpn : ℕ) (frame : FrameValue) (old new : PagedValue S) : Type 0 where
     pub small : vpn < 2 ^ 20
-    pub held : is_held vpn old.caches ≡ false
+    pub held : is_cached old vpn ≡ false
     pub page : ChangesBy (LetsGo frame) old.pages new.pages vpn
     pub stays : new ≡ record old { pages = new.pages }
 
@@ -145,7 +145,7 @@ module _ {S : Type 0} where
   -- a changed page that no cache holds is copied into a job, and is being saved
   pub record GoesToBeSaved (vpn : ℕ) (job : JobValue S) (old new : PagedValue S) : Type 0 where
     pub small : vpn < 2 ^ 20
-    pub held : is_held vpn old.caches ≡ false
+    pub held : is_cached old vpn ≡ false
     pub page : ChangesBy (IsCopied job) old.pages new.pages vpn
     pub stays : new ≡ record old { pages = new.pages }
     pub process : job.process ≡ old.process
@@ -153,7 +153,7 @@ module _ {S : Type 0} where
 
   -- what a look at a page answers, which spare slot it leaves, and what it changes
   abbrev pub LooksAt : {L : Type 0} → ℕ → Option S → Option S → Collected L S → PagedValue S → PagedValue S → Type 0
-  LooksAt vpn spare spare' answer old new = CollectsAt old.process vpn (is_held vpn old.caches) spare spare' answer old.pages new.pages (page_at old.pages vpn)
+  LooksAt vpn spare spare' answer old new = CollectsAt old.process vpn (is_cached old vpn) spare spare' answer old.pages new.pages (page_at old.pages vpn)
 
 -- a save comes back, and a page that is leaving is mapped again
 
@@ -233,16 +233,6 @@ module _ {S : Type 0} (held : S → List ℕ) (honest : Type 0) where
 
   abbrev pub DoesNotShow : (S → ℕ) → ℕ → PagedValue S → PagedValue S → PeekFault → Type 0
   DoesNotShow failures address old new fault = RefusesPeek held honest failures old.pages new.pages (page_number address) fault
-
-  -- a look at bytes of a page, from an address on: nothing changes but a slot that was read, and where it is refused the room is as it was
-  pub record IsPeeked (failures : S → ℕ) (address : ℕ) (room bytes : List (Option ℕ)) (result : Result (Unit {0}) PeekFault) (old new : PagedValue S) : Type 0 where
-    pub read : OnOk result (ShowsIn old address (length room) bytes)
-    pub shown : honest → OnOk result (bytes_of (memory_of held old) address (length room) ≡ Some bytes)
-    pub unread : OnErr result (bytes ≡ room)
-    pub refused : IfErr result (DoesNotShow failures address old new)
-    pub left : LeavesLookedAt address old new
-    pub memory : honest → memory_of held new ≡ memory_of held old
-    pub stays : new ≡ record old { pages = new.pages }
 
 -- pages give back what they have
 

@@ -11,9 +11,9 @@ use Rattle.clock_policy.specs.Lawful.{Lawful}
 use Rattle.clock_policy.specs.Residents.{residents, is_key, has_resident}
 use Rattle.frame_pool.specs.FrameValue.{FrameValue}
 use Rattle.pager_core.specs.Pager.{admitted_with}
+use Rattle.paged_memory.specs.AlikeLaws.{CountsAlike}
 use Rattle.paged_memory.specs.ComeLaws.{HasCome, come, refused_alike}
 use Rattle.paged_memory.specs.StillLaws.{refused_number}
-use Rattle.paged_memory.specs.Whole.{residents_among, savings_among}
 use Rattle.space_core.specs.StandsFor.{SpaceValue}
 use Rattle.machine_sides.specs.Admitting.{AdmissionValue, Admits}
 use Rattle.machine_core.specs.declared.event.Reply.{Reply}
@@ -21,8 +21,8 @@ use Rattle.machine_core.specs.Machine.{CoreValue, IsMachine}
 use Rattle.machine_core.specs.PagingIn.{ComesIn, GoesBack}
 use Rattle.machine_sides.specs.Sides.{PagerSideValue, ProcessSideValue}
 use Rattle.machine_sides.specs.Together.{frames_where, residents_in, savings_in, frames_in, key_of}
+use Rattle.machine_sides.specs.TogetherLaws.{residents_more, savings_same, alike_residents, alike_frames, alike_rest}
 use Rattle.machine_core.proofs.Kept.{Moves, moved_machine, out_stays}
-use Rattle.machine_core.proofs.KeptPages.{CountAlike, memory_alike}
 use Rattle.machine_core.proofs.PageInReasons.{Unbarred, unbarred}
 
 frames-append : (test : ℕ → Bool) (frames : List FrameValue) (frame : FrameValue) → frames_where test (frames ++ frame ∷ []) ≡ frames_where test frames + cond (test frame.number) 1 0
@@ -92,21 +92,17 @@ module _ {S : Type 0} where
       come_at = come held honest comes.admission.frame comes.admission.key.vpn q.space.memory q'.space.memory comes.loads.moves
 
       resident_more : (test : Key → Bool) → residents_in q'.space test ≡ residents_in q.space test + cond (test key) 1 0
-      unfolding residents_in
       resident_more test =
-          let passes : ℕ → Bool = λ vpn. test (key_of q.space.memory.process vpn) in
-          let renamed : residents_among q'.space.memory (λ vpn. test (key_of q'.space.memory.process vpn)) ≡ residents_among q'.space.memory passes = ap (λ n. residents_among q'.space.memory (λ vpn. test (key_of n vpn))) comes.loads.moves.process in
-          let more = come_at.residents passes in
-          let this : cond {A = ℕ} (passes comes.admission.key.vpn) 1 0 ≡ cond (test key) 1 0 = ap (λ v. cond {A = ℕ} (passes v) 1 0) vpn_is ∙ ap (λ k. cond {A = ℕ} (test k) 1 0) named in
-          omega (arith, renamed, more, this)
+          let more = residents_more q.space q'.space comes.loads.moves.process test comes.admission.key.vpn come_at.residents in
+          let this : cond {A = ℕ} (test (key_of q.space.memory.process comes.admission.key.vpn)) 1 0 ≡ cond (test key) 1 0 = ap (λ v. cond {A = ℕ} (test (key_of q.space.memory.process v)) 1 0) vpn_is ∙ ap (λ k. cond {A = ℕ} (test k) 1 0) named in
+          omega (arith, more, this)
 
       frame_more : (test : ℕ → Bool) → frames_in q'.space test ≡ frames_in q.space test + cond (test comes.admission.frame.number) 1 0
       unfolding frames_in
       frame_more test = come_at.frames test
 
-      savings_same : (test : Key → Bool) → savings_in q'.space test ≡ savings_in q.space test
-      unfolding savings_in
-      savings_same test = ap (λ n. savings_among q'.space.memory (λ vpn. test (key_of n vpn))) comes.loads.moves.process ∙ come_at.savings (λ vpn. test (key_of q.space.memory.process vpn))
+      saved_same : (test : Key → Bool) → savings_in q'.space test ≡ savings_in q.space test
+      saved_same test = savings_same q.space q'.space comes.loads.moves.process test come_at.savings
 
       pub come_size : pager'.pager.size ≡ core.pager.pager.size
       come_size = same_size key core.pager pager' q.space comes.admission comes.admits
@@ -123,7 +119,7 @@ module _ {S : Type 0} where
         };
         lawful = comes.admits.lawful;
         frames = list_frames key core.pager pager' q.space comes.admission comes.admits ∙ machine.frames ∙ sym come_size;
-        saved = λ test. let s = savings_same test in omega (arith, s);
+        saved = λ test. let s = saved_same test in omega (arith, s);
         slotted = let s = come_at.slots in omega (arith, s);
         slots = refl;
         out = out_stays core.processes key.process q q' core.jobs found come_at.stay machine.out;
@@ -138,8 +134,8 @@ module _ {S : Type 0} where
       small : key.vpn < 2 ^ 20
       small = (unbarred key core.pager.pager q.space goes.admits.allowed).there.small
 
-      pub goes_alike : CountAlike q.space q'.space
-      goes_alike = memory_alike q.space q'.space (refused_alike held honest q.space.memory q'.space.memory goes.rest.process key.vpn small failures goes.admission.frame goes.back goes.fault goes.why)
+      goes_alike : CountsAlike q.space.memory q'.space.memory
+      goes_alike = refused_alike held honest q.space.memory q'.space.memory goes.rest.process key.vpn small failures goes.admission.frame goes.back goes.fault goes.why
 
       number_same : goes.back.number ≡ goes.admission.frame.number
       number_same = refused_number held honest failures goes.admission.frame key.vpn goes.back q.space.memory q'.space.memory goes.fault goes.why
@@ -171,14 +167,14 @@ module _ {S : Type 0} where
         found = found;
         processes = refl;
         together = record {
-          listed = λ test. let list = list_same test in let pages = goes_alike.residents test in omega (arith, list, pages);
-          framed = λ test. let free = frames_same test in let pages = goes_alike.frames test in omega (arith, free, pages);
+          listed = λ test. let list = list_same test in let pages = alike_residents q.space q'.space goes_alike test in omega (arith, list, pages);
+          framed = λ test. let free = frames_same test in let pages = alike_frames q.space q'.space goes_alike test in omega (arith, free, pages);
           size = back_size;
           process = goes_alike.process;
         };
         lawful = subst Lawful (sym list_now) (withdrawn_lawful key goes.between.pager.list goes.admits.lawful);
         frames = ap (λ (list : ClockState). list.frames) list_now ∙ withdrawn_frames key goes.between.pager.list ∙ list_frames key core.pager goes.between q.space goes.admission goes.admits ∙ machine.frames ∙ sym back_size;
-        saved = λ test. let s = goes_alike.savings test in omega (arith, s);
+        saved = λ test. let s = (alike_rest q.space q'.space goes_alike).savings test in omega (arith, s);
         slotted = let s = goes_alike.slots in omega (arith, s);
         slots = refl;
         out = out_stays core.processes key.process q q' core.jobs found goes_alike.stay machine.out;

@@ -1,7 +1,6 @@
 -- List and process agree still, call by call.
-use Rattle.std.proofs.Common.{◌≡◌, ℕ, ◌+◌, ◌^◌, ◌<◌, ◌==◌, nat_lt, Bool, true, false, ◌&&◌, cond, List, Option, Some, None, option_map, Ok, Err, Result, inl, inr, refl, sym, ap, ◌∙◌, arith, subst}
-use Rattle.std.specs.Prelude.{◌⊎◌, is_ok, OnOk}
-use Rattle.std.proofs.lemmas.Bool.Decides.{eqb_tells}
+use Rattle.std.proofs.Common.{◌≡◌, ℕ, ◌+◌, ◌^◌, ◌==◌, nat_lt, Bool, true, false, ◌&&◌, cond, List, Option, Some, None, is_some, Ok, Err, Result, refl, sym, ap, ◌∙◌, arith, subst}
+use Rattle.std.specs.Prelude.{is_ok, OnOk}
 use borrow.Author.Tests.{eqb-true, lt-ltb}
 use Rattle.clock_policy.specs.declared.key.Key.{Key}
 use Rattle.clock_policy.specs.declared.answer.Bit.{Bit}
@@ -13,17 +12,18 @@ use Rattle.clock_policy.specs.ClockPro.{withdrawn, admitted, answered}
 use Rattle.clock_policy.specs.Lawful.{Lawful}
 use Rattle.clock_policy.specs.ResidentLaws.{answered_residents}
 use Rattle.clock_policy.specs.Residents.{residents, is_key, has_resident, is_gone, takes}
-use Rattle.page_store.specs.PageValue.{PageValue, Place, Fresh, Resident, Leaving, Saving, Away, Purged, page_state_of}
-use Rattle.paged_memory.specs.Calls.{accessed_at}
-use Rattle.paged_memory.specs.Counting.{page_passes, is_resident_place, residents_of}
-use Rattle.paged_memory.specs.CountingLaws.{none_where_pass, same_where_pass}
-use Rattle.paged_memory.specs.Paged.{PagedValue, page_at, seen_at, seen_of, standing_of}
+use Rattle.paged_memory.specs.AlikeLaws.{CountsAlike, same_residents}
+use Rattle.paged_memory.specs.AmongLaws.{no_residents}
+use Rattle.paged_memory.specs.ComeLaws.{come}
+use Rattle.paged_memory.specs.LeaveLaws.{accessed_stage}
+use Rattle.paged_memory.specs.Moving.{SamePage}
+use Rattle.paged_memory.specs.SaveLaws.{gone_away}
 use Rattle.paged_memory.specs.Stages.{is_resident_stage}
+use Rattle.paged_memory.specs.Whole.{stage_in, accessed_in, residents_among}
 use Rattle.pager_core.specs.Pager.{PagerState, pager_answered, admitted_with}
 use Rattle.space_core.specs.StandsFor.{SpaceValue}
 use Rattle.swap_slots.specs.PoolValue.{PoolValue}
 use Rattle.page_store.specs.JobValue.{SavedValue}
-use Rattle.page_store.specs.Moves.{copy_of}
 use Rattle.machine_sides.specs.Admitting.{AdmissionValue, Admits, is_resident_at, taken_back}
 use Rattle.machine_sides.specs.Agreeing.{Agree, AgreeStill, AsksOf, AgreesPurged}
 use Rattle.machine_sides.specs.CollectLaws.{dropped_process, copied_process}
@@ -38,17 +38,16 @@ use Rattle.machine_sides.specs.declared.sweeping.Swept.{Swept}
 use Rattle.machine_sides.specs.declared.sweeping.Swept.TheVariants as swept
 use Rattle.machine_sides.specs.Loading.{Loads}
 use Rattle.machine_sides.specs.LookLaws.{looks_listed}
-use Rattle.machine_sides.specs.MoveLaws.{moved_residents}
 use Rattle.machine_sides.specs.PurgeLaws.{neither, given_residents, unbarred}
 use Rattle.machine_sides.specs.Purging.{PurgesAll, Purges}
 use Rattle.machine_sides.specs.SavingBack.{EndsSave}
-use Rattle.machine_sides.specs.SavingLaws.{freed_ends, left_ends, returned_ends, others_stay}
+use Rattle.machine_sides.specs.SavingLaws.{freed_ends, left_ends, returned_ends}
 use Rattle.machine_sides.specs.Sides.{PagerSideValue, ProcessSideValue}
-use Rattle.machine_sides.specs.SweepLaws.{SameSpace, read_same, same_residents, answers_together}
+use Rattle.machine_sides.specs.SweepLaws.{read_alike, answers_together}
 use Rattle.machine_sides.specs.Sweeping.{bit_of, bit_at, AnswersQuestion, Sweeps}
-use Rattle.sv32_table.specs.EntryAt.{entry_at}
 use Rattle.machine_sides.proofs.Sweeps.{victim_is_there, read_resident}
 use Rattle.machine_sides.specs.Together.{Together, residents_in, key_of}
+use Rattle.machine_sides.specs.TogetherLaws.{alike_residents, residents_same}
 
 -- a key's test passes that key alone
 key_tested : (a b : Key) → is_key a b ≡ true → b ≡ a
@@ -71,6 +70,11 @@ counts_none : (a b : Bool) → b ≡ false → cond {A = ℕ} (a && b) 1 0 ≡ 0
 counts_none true b h = ap (λ t. cond {A = ℕ} t 1 0) h
 counts_none false b h = refl
 
+no_bit : (o : Option Bool) → is_gone (bit_of o) ≡ true → is_some o ≡ false
+no_bit None h = refl
+no_bit (Some true) h = cc
+no_bit (Some false) h = cc
+
 module _ {S : Type 0} where
   -- what the list gains or loses the process's resident pages do, and so they agree still
   pub listed_agree : (pager pager' : PagerState) (space space' : SpaceValue S) → space'.memory.process ≡ space.memory.process
@@ -90,61 +94,28 @@ module _ {S : Type 0} where
 
   -- ---- pages that are not resident
 
-  unresident_counts : (b : Bool) (o : Option (PageValue S)) → is_resident_stage (option_map (λ page. page_state_of page.place) o) ≡ false → page_passes (λ page. is_resident_place page.place && b) o ≡ false
-  unresident_counts b None h = refl
-  unresident_counts b (Some page) h = by_place page.place h
-    where
-      by_place : (place : Place S) → is_resident_stage (Some (page_state_of place)) ≡ false → is_resident_place place && b ≡ false
-      by_place Fresh h = refl
-      by_place (Resident frame slot) h = cc
-      by_place (Leaving frame slot mark) h = refl
-      by_place (Saving frame) h = refl
-      by_place (Away slot) h = refl
-      by_place Purged h = refl
-
-  untested_counts : (b : Bool) (o : Option (PageValue S)) → b ≡ false → page_passes (λ page. is_resident_place page.place && b) o ≡ false
-  untested_counts b None h = refl
-  untested_counts true (Some page) h = cc
-  untested_counts false (Some page) h = by_bool (is_resident_place page.place)
-    where
-      by_bool : (r : Bool) → r && false ≡ false
-      by_bool true = refl
-      by_bool false = refl
-
   -- a page that is not resident is not counted
   pub absent_counts : (space : SpaceValue S) (key : Key) → is_resident_at space key.vpn ≡ false → residents_in space (is_key key) ≡ 0
   unfolding residents_in
   absent_counts space key absent =
-      none_where_pass (λ number page. is_resident_place page.place && is_key key (key_of space.memory.process number)) space.memory.pages
-      (λ number small. at number small (eqb_tells number key.vpn))
-    where
-      at : (number : ℕ) → number < 2 ^ 20 → (((number == key.vpn) ≡ true) × (number ≡ key.vpn)) ⊎ (((number == key.vpn) ≡ false) × ((number ≡ key.vpn) → ⊥))
-          → page_passes (λ page. is_resident_place page.place && is_key key (key_of space.memory.process number)) (page_at space.memory.pages number) ≡ false
-      at number small (inl same) =
-          let bounded : nat_lt number (2 ^ 20) ≡ true = lt-ltb number (2 ^ 20) small in
-          let here : is_resident_at space number ≡ false = ap (is_resident_at space) same.1 ∙ absent in
-          unresident_counts (is_key key (key_of space.memory.process number)) (page_at space.memory.pages number)
-          (sym (ap (λ b. is_resident_stage (cond b (option_map (λ page. page_state_of page.place) (page_at space.memory.pages number)) None)) bounded) ∙ here)
-      at number small (inr apart) =
-          untested_counts (is_key key (key_of space.memory.process number)) (page_at space.memory.pages number) (not_tested key (key_of space.memory.process number) (λ e. apart.1 (ap (λ (k : Key). k.vpn) e)))
+      no_residents space.memory (λ vpn. is_key key (key_of space.memory.process vpn))
+      (λ vpn small resident passes.
+      let here : vpn ≡ key.vpn = ap (λ (k : Key). k.vpn) (key_tested key (key_of space.memory.process vpn) passes) in
+      let bounded : nat_lt vpn (2 ^ 20) ≡ true = lt-ltb vpn (2 ^ 20) small in
+      let there : is_resident_at space vpn ≡ true = ap (λ b. is_resident_stage (cond b (stage_in space.memory vpn) None)) bounded ∙ resident in
+      let same : is_resident_at space vpn ≡ false = ap (is_resident_at space) here ∙ absent in
+      cc)
 
   -- a page that stays is counted as before
-  pub left_counts : (old new : SpaceValue S) (vpn : ℕ) → new.memory.process ≡ old.memory.process → page_at new.memory.pages vpn ≡ page_at old.memory.pages vpn
+  pub left_counts : (old new : SpaceValue S) (vpn : ℕ) → new.memory.process ≡ old.memory.process → SamePage old.memory new.memory vpn
       → residents_in new (is_key (key_of old.memory.process vpn)) ≡ residents_in old (is_key (key_of old.memory.process vpn))
   unfolding residents_in
   left_counts old new vpn same page =
-      ap (λ n. residents_of new.memory.pages (λ number. is_key (key_of old.memory.process vpn) (key_of n number))) same
-      ∙ same_where_pass (λ number page. is_resident_place page.place && is_key (key_of old.memory.process vpn) (key_of old.memory.process number)) old.memory.pages new.memory.pages (λ number small. at number (eqb_tells number vpn))
-    where
-      at : (number : ℕ) → (((number == vpn) ≡ true) × (number ≡ vpn)) ⊎ (((number == vpn) ≡ false) × ((number ≡ vpn) → ⊥))
-          → page_passes (λ page. is_resident_place page.place && is_key (key_of old.memory.process vpn) (key_of old.memory.process number)) (page_at new.memory.pages number)
-          ≡ page_passes (λ page. is_resident_place page.place && is_key (key_of old.memory.process vpn) (key_of old.memory.process number)) (page_at old.memory.pages number)
-      at number (inl here) =
-          ap (page_passes (λ page. is_resident_place page.place && is_key (key_of old.memory.process vpn) (key_of old.memory.process number)))
-          (ap (page_at new.memory.pages) here.1 ∙ page ∙ ap (page_at old.memory.pages) (sym here.1))
-      at number (inr apart) =
-          let other = not_tested (key_of old.memory.process vpn) (key_of old.memory.process number) (λ e. apart.1 (ap (λ (k : Key). k.vpn) e)) in
-          untested_counts _ (page_at new.memory.pages number) other ∙ sym (untested_counts _ (page_at old.memory.pages number) other)
+      ap (λ n. residents_among new.memory (λ number. is_key (key_of old.memory.process vpn) (key_of n number))) same
+      ∙ same_residents old.memory new.memory (λ number. is_key (key_of old.memory.process vpn) (key_of old.memory.process number))
+      (λ number small passes.
+      let here : number ≡ vpn = ap (λ (k : Key). k.vpn) (key_tested (key_of old.memory.process vpn) (key_of old.memory.process number) passes) in
+      subst (SamePage old.memory new.memory) (sym here) page)
 
   -- ---- an admission
 
@@ -198,43 +169,26 @@ module _ {S : Type 0} where
 
   -- ---- a question
 
-  module _ (space : SpaceValue S) (vpn : ℕ) where
-    gone_page : (o : Option (PageValue S)) → is_gone (bit_of (accessed_at (option_map seen_of o) (entry_at space.memory.tables vpn))) ≡ true → is_resident_stage (option_map (λ page. page_state_of page.place) o) ≡ false
-    gone_page None h = refl
-    gone_page (Some page) h = by_place page.place h
-      where
-        told : (b : Bool) → is_gone (bit_of (Some b)) ≡ true → true ≡ false
-        told true h = cc
-        told false h = cc
-
-        by_place : (place : Place S) → is_gone (bit_of (accessed_at (Some (record { rights = page.origin.rights; standing = standing_of place })) (entry_at space.memory.tables vpn))) ≡ true → is_resident_stage (Some (page_state_of place)) ≡ false
-        by_place Fresh h = refl
-        by_place (Resident frame slot) h = told (entry_at space.memory.tables vpn).accessed h
-        by_place (Leaving frame slot mark) h = refl
-        by_place (Saving frame) h = refl
-        by_place (Away slot) h = refl
-        by_place Purged h = refl
-
-    gone_absent : is_gone (bit_at space vpn) ≡ true → is_resident_at space vpn ≡ false
-    gone_absent h =
-        elim (nat_lt vpn (2 ^ 20)) as (λ t. is_gone (cond t (bit_of (accessed_at (seen_at space.memory.pages vpn) (entry_at space.memory.tables vpn))) Gone) ≡ true → is_resident_stage (cond t (option_map (λ page. page_state_of page.place) (page_at space.memory.pages vpn)) None) ≡ false) [
-          | true ↦ λ g. gone_page (page_at space.memory.pages vpn) g
-          | false ↦ λ g. refl
-        ] h
+  gone_absent : (space : SpaceValue S) (vpn : ℕ) → is_gone (bit_at space vpn) ≡ true → is_resident_at space vpn ≡ false
+  gone_absent space vpn h =
+      elim (nat_lt vpn (2 ^ 20)) as (λ t. is_gone (cond t (bit_of (accessed_in space.memory vpn)) Gone) ≡ true → is_resident_stage (cond t (stage_in space.memory vpn) None) ≡ false) [
+        | true ↦ λ g. sym (accessed_stage space.memory vpn) ∙ no_bit (accessed_in space.memory vpn) g
+        | false ↦ λ g. refl
+      ] h
 
   module _ (pager pager' : PagerSideValue) (process process' : ProcessSideValue S) (key : Key) (bit : Bit) (lawful : Lawful pager.pager.list) where
     gone_agrees : is_gone bit ≡ true → AnswersQuestion pager pager' process process' key bit GoOn → AgreeStill None pager.pager pager'.pager process.space process'.space
     unfolding pager_answered
-    gone_agrees gone answers = record { process = heeded_same ∙ same.process; agree = λ vpn out agreed. at (key_of process.space.memory.process vpn) agreed }
+    gone_agrees gone answers = record { process = heeded_same ∙ alike.process; agree = λ vpn out agreed. at (key_of process.space.memory.process vpn) agreed }
       where
-        same : SameSpace process.space answers.between
-        same = read_same bit key.vpn process.space answers.between answers.read
+        alike : CountsAlike process.space.memory answers.between.memory
+        alike = read_alike bit key.vpn process.space answers.between answers.read
 
         heeded_same : process'.space.memory.process ≡ answers.between.memory.process
         heeded_same = ap (λ (s : SpaceValue S). s.memory.process) answers.heeded
 
         kept : (k : Key) → residents_in process'.space (is_key k) ≡ residents_in process.space (is_key k)
-        kept k = ap (λ (s : SpaceValue S). residents_in s (is_key k)) answers.heeded ∙ same_residents process.space answers.between (is_key k) same
+        kept k = ap (λ (s : SpaceValue S). residents_in s (is_key k)) answers.heeded ∙ alike_residents process.space answers.between alike (is_key k)
 
         at : (k : Key) → Agree pager.pager process.space k → Agree pager'.pager process'.space k
         at k agreed =
@@ -289,14 +243,12 @@ module _ {S : Type 0} where
     pub saved_agrees : {L : Type 0} (outcome : SaveOutcome L S) → EndsSave job pager pager' process process' outcome → AgreeStill None pager.pager pager'.pager process.space process'.space
     saved_agrees saved.Freed how = together_agree pager.pager pager'.pager process.space process'.space (freed_ends job pager pager' process process' how).together
     saved_agrees (saved.HandedBack frame) how =
-        let told = how.settles.moves.page.1.1 in
-        let is : told.page'.place ≡ Away (copy_of job) = ap (λ (p : PageValue S). p.place) told.how.is in
-        let same : process'.space.memory.process ≡ process.space.memory.process = ap (λ (m : PagedValue S). m.process) how.settles.moves.stays in
-        listed_agree pager.pager pager'.pager process.space process'.space same
+        let told = gone_away job frame process.space.memory process'.space.memory how.settles.moves in
+        listed_agree pager.pager pager'.pager process.space process'.space told.keeps.process
         (λ test.
-        let moved : residents_in process'.space test + 0 ≡ residents_in process.space test + 0 = moved_residents _ process.space process'.space job.vpn how.settles.moves.page.1.0 told _ _ told.how.was is same test in
+        let pages = residents_same process.space process'.space told.keeps.process test told.residents in
         let listed : residents pager'.pager.list test ≡ residents pager.pager.list test = ap (λ (p : PagerSideValue). residents p.pager.list test) how.stays in
-        omega (arith, moved, listed))
+        omega (arith, pages, listed))
     saved_agrees (saved.WrongPage back) how = same_agree pager pager' process process' how.pager_stays how.process_stays
     saved_agrees (saved.ResidentAgain failure) how = together_agree pager.pager pager'.pager process.space process'.space (returned_ends job pager pager' process process' failure how).together
     saved_agrees (saved.NotRestored failure refusal) how = together_agree pager.pager pager'.pager process.space process'.space (left_ends job pager pager' process process' failure refusal how).together
@@ -326,7 +278,7 @@ module _ {S : Type 0} where
     loaded_agree : (pager : PagerState) → Loads held honest admission old new → AgreeStill (Some (key_of old.memory.process admission.key.vpn)) pager pager old new
     loaded_agree pager loads = record {
       process = loads.moves.process;
-      agree = λ vpn out agreed. agreed ∙ sym (left_counts old new vpn loads.moves.process (others_stay _ old.memory.pages new.memory.pages admission.key.vpn loads.moves.page vpn (λ e. out (ap (λ n. Some (key_of old.memory.process n)) (sym e)))));
+      agree = λ vpn out agreed. agreed ∙ sym (left_counts old new vpn loads.moves.process ((come held honest admission.frame admission.key.vpn old.memory new.memory loads.moves).keeps.others vpn (λ e. out (ap (λ n. Some (key_of old.memory.process n)) (sym e)))));
     }
 
     pub loads_agree : {A E : Type 0} (result : Result A E) → OnOk result (Loads held honest admission old new) → OnOk result ((pager : PagerState) → AgreeStill (Some (key_of old.memory.process admission.key.vpn)) pager pager old new)

@@ -1,6 +1,5 @@
 pub mod Admissions
 pub mod Agreements
-pub mod GivenPages
 pub mod LoadAgreements
 pub mod Looking
 pub mod PurgeSteps

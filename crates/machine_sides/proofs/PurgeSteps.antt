@@ -1,20 +1,21 @@
 -- Pages give back what they have, one after another.
-use Rattle.std.proofs.Common.{◌≡◌, ℕ, ◌+◌, ◌++◌, ◌^◌, ◌<◌, Bool, true, false, ◌||◌, cond, map, List, [], ◌∷◌, length, Option, Some, None, is_some, IsSome, inr, refl, sym, ap, ◌∙◌, arith, subst}
+use Rattle.std.proofs.Common.{◌≡◌, ℕ, ◌+◌, ◌++◌, ◌^◌, Bool, true, false, ◌||◌, cond, List, [], length, Option, Some, None, is_some, IsSome, refl, sym, ap, ◌∙◌, arith, subst}
 use Rattle.std.proofs.lemmas.List.{append-nil, append_assoc, length-append}
 use Rattle.flat_machine.specs.declared.end.End.{End}
 use Rattle.frame_pool.specs.FrameValue.{FrameValue}
 use Rattle.swap_slots.specs.PoolValue.{PoolValue}
-use Rattle.tlb_core.specs.declared.translation.Translation.{Translation}
 use Rattle.paged_memory.specs.Counting.{frame_passes}
-use Rattle.paged_memory.specs.GivingBack.{GivesOne, GivesNothing}
-use Rattle.paged_memory.specs.Paged.{PagedValue, page_at}
+use Rattle.paged_memory.specs.GivenLaws.{has_given, none_given, then_given, all_pages, all_entries}
+use Rattle.paged_memory.specs.Moving.{GivesIn, HasNothingBelow, EmptiesCaches, SameCaches}
+use Rattle.paged_memory.specs.NoticesLaws.{empties_as}
+use Rattle.paged_memory.specs.Paged.{PagedValue}
+use Rattle.paged_memory.specs.Whole.{harts_in}
 use Rattle.pager_core.specs.Pager.{PagerState}
 use Rattle.space_core.specs.Caches.{if_ended, emptied}
 use Rattle.space_core.specs.StandsFor.{SpaceValue}
 use Rattle.machine_sides.specs.Together.{frames_where, frames_in}
 use Rattle.machine_sides.specs.PurgeLaws.{frames_where-append}
 use Rattle.machine_sides.specs.Purging.{as_list, FreesAnyFrame, Pools, GivesSome, StopsGiving, GivesToPools}
-use Rattle.machine_sides.proofs.GivenPages.{given_frames, given_slots, one_given, then_given, given_page, given_entry}
 
 frames_where-as_list : (test : ℕ → Bool) (o : Option FrameValue) → frames_where test (as_list o) ≡ cond (frame_passes test o) 1 0
 unfolding frames_where
@@ -42,10 +43,6 @@ frees_more pager between pager' frames given (Some back) was frees = record {
   is = frees.1.1 ∙ was;
   counts = λ test. ap (λ o. frames_where test frames + cond (frame_passes test o) 1 0) (sym frees.0);
 }
-
-pub emptied_twice : (caches : List (List Translation)) → map {B = List Translation} (λ _. []) (map {B = List Translation} (λ _. []) caches) ≡ map (λ _. []) caches
-emptied_twice [] = refl
-emptied_twice (cache ∷ caches) = ap (λ l. [] ∷ l) (emptied_twice caches)
 
 frame_stays : (given frame : Option FrameValue) (old new : PagerState) → FreesAnyFrame given frame old new → is_some frame ≡ true → length new.free ≡ new.size
 frame_stays given None old new frees h = cc
@@ -96,19 +93,20 @@ module _ {S : Type 0} where
     slotted = omega arith;
     stays = refl;
     process = refl;
-    each = λ number small. inr (record { page = refl; entry = refl });
+    each = λ number small. none_given space.memory number;
   }
 
   -- one page more gives back
   pub one_more_gave : (given : Option FrameValue × Option S) (frame : Option FrameValue) (slot : Option S) (pager between pager' : PagerState) (pool amid pool' : PoolValue S) (old mid new : SpaceValue S)
       → GivesSome None None pager between pool amid old mid
-      → GivesOne given mid.memory.pages new.memory.pages mid.memory.tables new.memory.tables → new ≡ record mid { memory = new.memory } → new.memory.process ≡ mid.memory.process
+      → GivesIn given mid.memory new.memory → new ≡ record mid { memory = new.memory } → new.memory.process ≡ mid.memory.process
       → FreesAnyFrame given.0 frame between pager' → Pools given.1 slot amid pool'
       → GivesSome frame slot pager pager' pool pool' old new
   unfolding frames_in
   one_more_gave given frame slot pager between pager' pool amid pool' old mid new gave one stays process frees pools =
       let f = frees_more pager between pager' gave.frames given.0 frame gave.pager_is frees in
       let p = pools_more pool amid pool' gave.slots given.1 slot gave.pool_is pools in
+      let told = has_given given mid.memory new.memory one in
       record {
         frames = f.more;
         slots = p.more;
@@ -117,19 +115,20 @@ module _ {S : Type 0} where
         framed = λ test.
             let a = gave.framed test in
             let b = f.counts test in
-            let c = given_frames given mid.memory.pages new.memory.pages mid.memory.tables new.memory.tables one test in
+            let c = told.frames test in
             omega (arith, a, b, c);
         slotted =
             let a = gave.slotted in
             let b = p.counts in
-            let c = given_slots given mid.memory.pages new.memory.pages mid.memory.tables new.memory.tables one in
+            let c = told.slots in
             omega (arith, a, b, c);
         stays = stays ∙ ap (λ (s : SpaceValue S). record s { memory = new.memory }) gave.stays;
         process = process ∙ gave.process;
-        each = λ number small. then_given old mid new number (gave.each number small) (one_given given mid new one number small);
+        each = λ number small. then_given old.memory mid.memory new.memory number (gave.each number small) (told.each number small);
       }
 
-  pub ended_caches : (o : Option End) (memory : PagedValue S) → IsSome o → (if_ended o memory).caches ≡ map (λ _. []) memory.caches
+  -- a call on a process that has ended empties its caches
+  ended_caches : (o : Option End) (memory : PagedValue S) → IsSome o → EmptiesCaches memory (if_ended o memory)
   ended_caches None memory h = cc
   ended_caches (Some end) memory h = refl
 
@@ -139,11 +138,11 @@ module _ {S : Type 0} where
 
   -- no page has anything left
   pub all_gave : (pager pager' : PagerState) (pool pool' : PoolValue S) (old mid new : SpaceValue S)
-      → GivesSome None None pager pager' pool pool' old mid → IsSome mid.running.ending → map {B = List Translation} (λ _. []) mid.memory.caches ≡ map (λ _. []) old.memory.caches
+      → GivesSome None None pager pager' pool pool' old mid → IsSome mid.running.ending → harts_in mid.memory ≡ harts_in old.memory
       → new ≡ record mid { memory = if_ended mid.running.ending mid.memory }
-      → ((number : ℕ) → number < 2 ^ 20 → GivesNothing (page_at mid.memory.pages number)) → GivesToPools pager pager' pool pool' old new
+      → HasNothingBelow (2 ^ 20) mid.memory → GivesToPools pager pager' pool pool' old new
   unfolding frames_in
-  all_gave pager pager' pool pool' old mid new gave ended caches left none = subst (λ (s : SpaceValue S). GivesToPools pager pager' pool pool' old s) (sym (left ∙ emptied_all)) (record {
+  all_gave pager pager' pool pool' old mid new gave ended harts left none = subst (λ (s : SpaceValue S). GivesToPools pager pager' pool pool' old s) (sym (left ∙ emptied_all)) (record {
     frames = gave.frames;
     slots = gave.slots;
     pager_is = gave.pager_is;
@@ -153,9 +152,9 @@ module _ {S : Type 0} where
     space = record {
       stays = ap (λ (s : SpaceValue S). record s { memory = emptied mid.memory }) gave.stays;
       process = gave.process;
-      pages = λ number small. given_page old mid number (none number small) (gave.each number small);
-      entries = λ number small. given_entry old mid number (none number small) (gave.each number small);
-      caches = caches;
+      pages = all_pages old.memory mid.memory none gave.each;
+      entries = all_entries old.memory mid.memory none gave.each;
+      caches = empties_as old.memory mid.memory (emptied mid.memory) harts refl;
     };
   })
     where
@@ -173,9 +172,9 @@ module _ {S : Type 0} where
   -- what a page gave does not come where it is to
   pub stopped : (given : Option FrameValue × Option S) (frame : Option FrameValue) (slot : Option S) (pager between pager' : PagerState) (pool amid pool' : PoolValue S) (old mid new : SpaceValue S)
       → GivesSome None None pager between pool amid old mid
-      → GivesOne given mid.memory.pages new.memory.pages mid.memory.tables new.memory.tables → new ≡ record mid { memory = new.memory } → new.memory.process ≡ mid.memory.process
+      → GivesIn given mid.memory new.memory → new ≡ record mid { memory = new.memory } → new.memory.process ≡ mid.memory.process
       → FreesAnyFrame given.0 frame between pager' → Pools given.1 slot amid pool'
-      → new.memory.caches ≡ map {B = List Translation} (λ _. []) old.memory.caches → is_some frame || is_some slot ≡ true
+      → EmptiesCaches old.memory new.memory → is_some frame || is_some slot ≡ true
       → StopsGiving frame slot pager pager' pool pool' old new
   stopped given frame slot pager between pager' pool amid pool' old mid new gave one stays process frees pools caches some = record {
     some = some;
@@ -186,14 +185,13 @@ module _ {S : Type 0} where
   }
 
   -- a call that gave one empties the caches
-  pub caches_now : (old mid new : SpaceValue S) → IsSome mid.running.ending → map {B = List Translation} (λ _. []) mid.memory.caches ≡ map (λ _. []) old.memory.caches
-      → new.memory.caches ≡ (if_ended mid.running.ending mid.memory).caches → new.memory.caches ≡ map (λ _. []) old.memory.caches
-  caches_now old mid new ended caches is = is ∙ ended_caches mid.running.ending mid.memory ended ∙ caches
+  pub caches_now : (old mid new : SpaceValue S) → IsSome mid.running.ending → harts_in mid.memory ≡ harts_in old.memory → SameCaches (if_ended mid.running.ending mid.memory) new.memory → EmptiesCaches old.memory new.memory
+  caches_now old mid new ended harts same = empties_as old.memory mid.memory new.memory harts (same ∙ ended_caches mid.running.ending mid.memory ended)
 
   -- what a page gave has come where it is to
   pub went_on : (given : Option FrameValue × Option S) (frame : Option FrameValue) (slot : Option S) (pager between pager' : PagerState) (pool amid pool' : PoolValue S) (old mid new : SpaceValue S)
       → GivesSome None None pager between pool amid old mid
-      → GivesOne given mid.memory.pages new.memory.pages mid.memory.tables new.memory.tables → new ≡ record mid { memory = new.memory } → new.memory.process ≡ mid.memory.process
+      → GivesIn given mid.memory new.memory → new ≡ record mid { memory = new.memory } → new.memory.process ≡ mid.memory.process
       → FreesAnyFrame given.0 frame between pager' → Pools given.1 slot amid pool' → is_some frame ≡ false → is_some slot ≡ false
       → GivesSome None None pager pager' pool pool' old new
   went_on given frame slot pager between pager' pool amid pool' old mid new gave one stays process frees pools no_frame no_slot =

@@ -1,5 +1,5 @@
 -- A question's page, its accessed bit and what the list makes of it.
-use Rattle.std.proofs.Common.{◌≡◌, ℕ, ◌^◌, ◌<◌, true, false, cond, nat_lt, Option, Some, None, option_map, Result, Ok, refl, sym, ap, ◌∙◌}
+use Rattle.std.proofs.Common.{◌≡◌, ℕ, ◌^◌, ◌<◌, Bool, true, false, cond, nat_lt, Option, Some, None, is_some, Result, Ok, refl, sym, ap, ◌∙◌}
 use borrow.Author.Tests.{ltb-true}
 use Rattle.clock_policy.specs.declared.key.Key.{Key}
 use Rattle.clock_policy.specs.declared.entry.Entry.{Entry}
@@ -13,15 +13,11 @@ use Rattle.clock_policy.specs.declared.refusal.Refusal.{Refusal}
 use Rattle.clock_policy.specs.ResidentLaws.{victim_asked}
 use Rattle.clock_policy.specs.ClockPro.{ClockState, question_of, answered, asked_entry, entry_answered, kind_answered, gone_on}
 use Rattle.clock_policy.specs.Residents.{is_gone}
-use Rattle.page_store.specs.declared.refusal.LeaveRefusal.{LeaveRefusal}
-use Rattle.page_store.specs.PageValue.{PageValue, Place, Fresh, Resident, Leaving, Saving, Away, Purged}
-use Rattle.sv32_table.specs.Entry.{Entry as TableEntry}
-use Rattle.paged_memory.specs.Access.{is_resident}
-use Rattle.paged_memory.specs.Calls.{accessed_at, RefusesLeave}
-use Rattle.paged_memory.specs.Paged.{seen_at, seen_of}
-use Rattle.paged_memory.specs.Seen.{Seen}
-use Rattle.paged_memory.specs.Seen as seen
-use Rattle.sv32_table.specs.EntryAt.{entry_at}
+use Rattle.paged_memory.specs.AlikeLaws.{same_stage}
+use Rattle.paged_memory.specs.LeaveLaws.{forgets_pages, accessed_stage}
+use Rattle.paged_memory.specs.Moving.{SamePage}
+use Rattle.paged_memory.specs.Stages.{is_resident_stage}
+use Rattle.paged_memory.specs.Whole.{stage_in, accessed_in}
 use Rattle.space_core.specs.StandsFor.{SpaceValue}
 use Rattle.pager_core.specs.Pager.{PagerState, pager_answered}
 use Rattle.machine_sides.specs.Sides.{PagerSideValue, ProcessSideValue}
@@ -48,14 +44,9 @@ victim_is_there Zero s k h = refl
 victim_is_there One s k h = refl
 victim_is_there Gone s k h = absurd (gone_stays s k h)
 
-seen_resident : (o : Option Seen) (e : TableEntry) → is_gone (bit_of (accessed_at o e)) ≡ false → is_resident o ≡ true
-seen_resident None e h = cc
-seen_resident (Some s) e h = by_standing s.standing h
-  where
-    by_standing : (t : seen.Standing) → is_gone (bit_of (accessed_at (Some (record { rights = s.rights; standing = t })) e)) ≡ false → is_resident (Some (record { rights = s.rights; standing = t })) ≡ true
-    by_standing (seen.Resident frame) h = refl
-    by_standing (seen.Leaving frame mark) h = cc
-    by_standing seen.Elsewhere h = cc
+bit_there : (o : Option Bool) → is_gone (bit_of o) ≡ false → is_some o ≡ true
+bit_there None h = cc
+bit_there (Some b) h = refl
 
 -- the verdict on what the list named
 pub victim_told : (bit : Bit) (list : ClockState) (k : Key) (answer : Result Verdict Refusal) (verdict : Verdict) → answer ≡ (answered bit list).1 → answer ≡ Ok verdict → verdict ≡ Victim k → (answered bit list).1 ≡ Ok (Victim k)
@@ -63,38 +54,25 @@ victim_told bit list k answer verdict exact ok victim = sym exact ∙ ok ∙ ap 
 
 module _ {S : Type 0} where
   -- a page whose bit was read is resident
-  pub read_resident : (space : SpaceValue S) (vpn : ℕ) → is_gone (bit_at space vpn) ≡ false → (vpn < 2 ^ 20) × (is_resident (seen_at space.memory.pages vpn) ≡ true)
+  pub read_resident : (space : SpaceValue S) (vpn : ℕ) → is_gone (bit_at space vpn) ≡ false → (vpn < 2 ^ 20) × (is_resident_stage (stage_in space.memory vpn) ≡ true)
   read_resident space vpn h =
-      elim (nat_lt vpn (2 ^ 20)) as (λ t. nat_lt vpn (2 ^ 20) ≡ t → is_gone (cond t (bit_of (accessed_at (seen_at space.memory.pages vpn) (entry_at space.memory.tables vpn))) Gone) ≡ false → (vpn < 2 ^ 20) × (is_resident (seen_at space.memory.pages vpn) ≡ true)) [
-        | true ↦ λ small there. (ltb-true vpn (2 ^ 20) small, seen_resident (seen_at space.memory.pages vpn) (entry_at space.memory.tables vpn) there)
+      elim (nat_lt vpn (2 ^ 20)) as (λ t. nat_lt vpn (2 ^ 20) ≡ t → is_gone (cond t (bit_of (accessed_in space.memory vpn)) Gone) ≡ false → (vpn < 2 ^ 20) × (is_resident_stage (stage_in space.memory vpn) ≡ true)) [
+        | true ↦ λ small there. (ltb-true vpn (2 ^ 20) small, sym (accessed_stage space.memory vpn) ∙ bit_there (accessed_in space.memory vpn) there)
         | false ↦ λ large there. cc
       ] refl h
 
-  -- and it may begin to leave
-  pub resident_leaves : (o : Option (PageValue S)) (refusal : LeaveRefusal) → is_resident (option_map seen_of o) ≡ true → RefusesLeave o refusal → ⊥
-  resident_leaves None refusal is h = cc
-  resident_leaves (Some page) refusal is h = by_place page.place is h
-    where
-      by_place : (place : Place S) → is_resident (Some (seen_of (record { origin = page.origin; place = place }))) ≡ true → RefusesLeave (Some (record { origin = page.origin; place = place })) refusal → ⊥
-      by_place Fresh is h = cc
-      by_place (Resident frame slot) is h = let g = h true in cc
-      by_place (Leaving frame slot mark) is h = cc
-      by_place (Saving frame) is h = cc
-      by_place (Away slot) is h = cc
-      by_place Purged is h = cc
-
-  read_pages : (bit : Bit) (vpn : ℕ) (old new : SpaceValue S) → is_gone bit ≡ false → ReadsBit bit vpn old new → new.memory.pages ≡ old.memory.pages
-  read_pages Zero vpn old new there read = read.moves.pages
-  read_pages One vpn old new there read = read.moves.pages
+  read_pages : (bit : Bit) (vpn : ℕ) (old new : SpaceValue S) → is_gone bit ≡ false → ReadsBit bit vpn old new → SamePage old.memory new.memory vpn
+  read_pages Zero vpn old new there read = forgets_pages vpn old.memory new.memory read.moves vpn
+  read_pages One vpn old new there read = forgets_pages vpn old.memory new.memory read.moves vpn
   read_pages Gone vpn old new there read = cc
 
   -- a victim's page is resident when it begins to leave
   pub victim_resident : (bit : Bit) (vpn : ℕ) (space between : SpaceValue S) (s : ClockState) (k : Key) → (answered bit s).1 ≡ Ok (Victim k) → bit ≡ bit_at space vpn → ReadsBit bit vpn space between
-      → (vpn < 2 ^ 20) × (is_resident (seen_at between.memory.pages vpn) ≡ true)
+      → (vpn < 2 ^ 20) × (is_resident_stage (stage_in between.memory vpn) ≡ true)
   victim_resident bit vpn space between s k told is read =
       let there = victim_is_there bit s k told in
       let resident = read_resident space vpn (ap is_gone (sym is) ∙ there) in
-      (resident.0, ap (λ pages. is_resident (seen_at pages vpn)) (read_pages bit vpn space between there read) ∙ resident.1)
+      (resident.0, ap is_resident_stage (same_stage space.memory between.memory vpn (read_pages bit vpn space between there read)) ∙ resident.1)
 
   victim_answers : (pager pager' : PagerSideValue) (process process' : ProcessSideValue S) (between : SpaceValue S) (key k : Key) (bit : Bit)
       → question_of pager.pager.list ≡ Some key → (answered bit pager.pager.list).1 ≡ Ok (Victim k) → pager' ≡ record pager { pager = pager_answered bit pager.pager }

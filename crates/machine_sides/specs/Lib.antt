@@ -7,7 +7,6 @@ pub mod CountedLaws
 pub mod Held
 pub mod Loading
 pub mod LookLaws
-pub mod MoveLaws
 pub mod PageStatusAt
 pub mod ProcessCalls
 pub mod PurgeLaws

@@ -6,10 +6,11 @@ use Rattle.flat_machine.specs.Schedule.{written_out, room}
 use Rattle.flat_machine.specs.declared.end.KillCause.{KillCause}
 use Rattle.flat_machine.specs.declared.end.End.TheVariants.{Killed as KilledBy}
 use Rattle.rv_exec.specs.Outcomes.{Used}
-use Rattle.paged_memory.specs.Access.{HasPage, LacksPage, cache_of}
-use Rattle.paged_memory.specs.HartMemory.{MarksSince, MarksWithin}
-use Rattle.space_core.specs.Caches.{noticed, if_killed}
 use Rattle.paged_memory.specs.Coheres.{Coheres}
+use Rattle.paged_memory.specs.HartMemory.{MarksSince}
+use Rattle.paged_memory.specs.Notices.{noticed}
+use Rattle.paged_memory.specs.Using.{cache_in, HasIn, LacksIn, MarkedIn}
+use Rattle.space_core.specs.Caches.{if_killed}
 use Rattle.space_core.specs.Next.{next_pages, answered, begun}
 use Rattle.space_core.specs.Slices.{EachStep, BoundsEach, StopsRecorded}
 use Rattle.space_core.specs.Slicing.{shown_process, KeepsSpace}
@@ -27,9 +28,9 @@ module _ {S : Type 0} where
     pub recorded : written_out new.schedule ≡ written_out old.schedule ++ replicate ran hart
     pub left : room new.schedule hart + ran ≡ room old.schedule hart
     pub within : ran ≤ budget
-    pub stops : StopsRecorded (LacksPage old.memory.pages) hart budget (room old.schedule hart) (shown_process held old) why ran (shown_process held new)
-    pub pages : EachStep (λ at. Used (HasPage old.memory.pages (cache_of old.memory.caches hart)) (MarksSince new.memory (cache_of old.memory.caches hart)) (next_pages hart at)) hart (answered why ran) (shown_process held old)
-    pub bound : BoundsEach (MarksWithin old.memory.tables) (MarksWithin new.memory.tables) hart (begun why ran) (shown_process held old)
+    pub stops : StopsRecorded (LacksIn old.memory) hart budget (room old.schedule hart) (shown_process held old) why ran (shown_process held new)
+    pub pages : EachStep (λ at. Used (HasIn old.memory hart) (MarksSince new.memory (cache_in old.memory hart)) (next_pages hart at)) hart (answered why ran) (shown_process held old)
+    pub bound : BoundsEach (MarkedIn old.memory) (MarkedIn new.memory) hart (begun why ran) (shown_process held old)
     pub kept : KeepsSpace hart why old new
     pub stands : honest → StandsFor held new
     pub coheres : Coheres held honest new.memory

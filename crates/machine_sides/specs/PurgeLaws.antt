@@ -1,6 +1,6 @@
 -- A purge keeps list and pages together, where they agreed on the process's pages.
-use Rattle.std.proofs.Common.{◌≡◌, ℕ, zero, suc, ◌+◌, ◌++◌, ◌^◌, ◌<◌, ◌==◌, Bool, true, false, ◌&&◌, not, cond, List, [], ◌∷◌, length, Option, Some, None, option_map, is_some, IsSome, inl, inr, refl, sym, ap, ◌∙◌, arith, subst}
-use Rattle.std.specs.Prelude.{◌⊎◌, if◌then◌else◌}
+use Rattle.std.proofs.Common.{◌≡◌, ℕ, ◌+◌, ◌++◌, ◌==◌, Bool, true, false, ◌&&◌, not, cond, List, [], ◌∷◌, length, Option, Some, None, is_some, IsSome, inl, inr, refl, ap, ◌∙◌, arith, subst}
+use Rattle.std.specs.Prelude.{if◌then◌else◌}
 use Rattle.std.proofs.lemmas.Bool.Decides.{eqb_tells}
 use Rattle.std.proofs.lemmas.List.{length-append}
 use Rattle.clock_policy.specs.declared.entry.Entry.{Entry}
@@ -10,14 +10,13 @@ use Rattle.clock_policy.specs.ClockPro.{ClockState, number, purged}
 use Rattle.clock_policy.specs.Residents.{in_frame, is_resident_that, residents}
 use Rattle.flat_machine.specs.declared.end.End.{End}
 use Rattle.frame_pool.specs.FrameValue.{FrameValue}
-use Rattle.page_store.specs.Moves.{IfSaving}
-use Rattle.page_store.specs.PageValue.{PageValue, Place, Fresh, Resident, Leaving, Saving, Away, Purged, frame_of, slot_of}
-use Rattle.paged_memory.specs.Counting.{page_passes, pages_below, pages_where, is_resident_place, is_saving_place, frame_passes, is_kept, savings_of, slots_of}
-use Rattle.paged_memory.specs.CountingLaws.{none_where_pass, same_where_pass}
-use Rattle.paged_memory.specs.GivingBack.{SavesOne}
-use Rattle.paged_memory.specs.Leaving.{IsSaving}
-use Rattle.paged_memory.specs.Moving.{place_given, page_given}
-use Rattle.paged_memory.specs.Paged.{PagedValue, page_at}
+use Rattle.paged_memory.specs.AlikeLaws.{SavingsStay}
+use Rattle.paged_memory.specs.GivenLaws.{HoldsNothing, bare_all, all_savings, all_stay}
+use Rattle.paged_memory.specs.Moving.{SavesSome, SavesNone}
+use Rattle.paged_memory.specs.Moving as moving
+use Rattle.paged_memory.specs.Paged.{PagedValue}
+use Rattle.paged_memory.specs.SaveLaws.{some_save, none_save, none_saved}
+use Rattle.paged_memory.specs.Whole.{savings_among, slots_within}
 use Rattle.pager_core.specs.Pager.{PagerState, with_list}
 use Rattle.space_core.specs.StandsFor.{SpaceValue}
 use Rattle.swap_slots.specs.PoolValue.{PoolValue}
@@ -25,6 +24,7 @@ use Rattle.machine_sides.specs.Purging.{is_saving_any, purge_bars, GivesAll, Giv
 use Rattle.machine_sides.specs.declared.purging.PurgeRefusal.TheVariants.{NotEnded, SavingStill, AlreadyPurged}
 use Rattle.machine_sides.specs.Sides.{PagerSideValue, ProcessSideValue}
 use Rattle.machine_sides.specs.Together.{Together, residents_in, savings_in, frames_in, frames_where, key_of}
+use Rattle.machine_sides.specs.TogetherLaws.{savings_same}
 
 pub frames_where-append : (test : ℕ → Bool) (a b : List FrameValue) → frames_where test (a ++ b) ≡ frames_where test a + frames_where test b
 unfolding frames_where
@@ -74,141 +74,53 @@ some_ended (Some end) h = refl
 module _ {S : Type 0} where
   -- ---- whether a page is being saved
 
-  one_below : (test : ℕ → PageValue S → Bool) (pages : List (ℕ × PageValue S)) (bound number : ℕ) → number < bound → page_passes (test number) (page_at pages number) ≡ true → pages_below test pages bound ≡ 0 → ⊥
-  unfolding pages_below
-  one_below test pages zero number below passes none = omega arith
-  one_below test pages (suc bound) number below passes none = by_number (eqb_tells number bound) (λ less. one_below test pages bound number less passes)
-    where
-      by_number : (((number == bound) ≡ true) × (number ≡ bound)) ⊎ (((number == bound) ≡ false) × ((number ≡ bound) → ⊥)) → (number < bound → pages_below test pages bound ≡ 0 → ⊥) → ⊥
-      by_number (inl same) more =
-          let here : cond {A = ℕ} (page_passes (test bound) (page_at pages bound)) 1 0 ≡ 1 = ap (λ n. cond (page_passes (test n) (page_at pages n)) 1 0) (sym same.1) ∙ ap (λ b. cond b 1 0) passes in
-          omega (arith, here, none)
-      by_number (inr apart) more = let ne = apart.1 in more (omega (arith, ne, below)) (omega (arith, none))
-
-  -- where no page passes, this one does not
-  pub none_passes : (test : ℕ → PageValue S → Bool) (pages : List (ℕ × PageValue S)) (number : ℕ) → number < 2 ^ 20 → pages_where test pages ≡ 0 → page_passes (test number) (page_at pages number) ≡ false
-  unfolding pages_where
-  none_passes test pages number small none = by_test (page_passes (test number) (page_at pages number)) refl
-    where
-      by_test : (b : Bool) → page_passes (test number) (page_at pages number) ≡ b → page_passes (test number) (page_at pages number) ≡ false
-      by_test true is = absurd (one_below test pages (2 ^ 20) number small is none)
-      by_test false is = is
-
-  saving_passes : (o : Option (PageValue S)) → IsSaving o → page_passes (λ page. is_saving_place page.place && true) o ≡ true
-  saving_passes None h = absurd h
-  saving_passes (Some page) h = by_place page.place h
-    where
-      by_place : (place : Place S) → IfSaving place (λ _. Unit {0}) → is_saving_place place && true ≡ true
-      by_place Fresh h = absurd h
-      by_place (Resident frame slot) h = absurd h
-      by_place (Leaving frame slot mark) h = absurd h
-      by_place (Saving frame) h = refl
-      by_place (Away slot) h = absurd h
-      by_place Purged h = absurd h
-
-  passes_saving : (o : Option (PageValue S)) → (IsSaving o → ⊥) → page_passes (λ page. is_saving_place page.place && true) o ≡ false
-  passes_saving None h = refl
-  passes_saving (Some page) h = by_place page.place h
-    where
-      by_place : (place : Place S) → (IfSaving place (λ _. Unit {0}) → ⊥) → is_saving_place place && true ≡ false
-      by_place Fresh h = refl
-      by_place (Resident frame slot) h = refl
-      by_place (Leaving frame slot mark) h = refl
-      by_place (Saving frame) h = absurd (h tt)
-      by_place (Away slot) h = refl
-      by_place Purged h = refl
-
-  pub is_saving_some : (memory : PagedValue S) → SavesOne memory.pages → is_saving_any memory ≡ true
+  pub is_saving_some : (memory : PagedValue S) → SavesSome memory → is_saving_any memory ≡ true
   unfolding is_saving_any
-  is_saving_some memory one = by_number (eqb_tells (savings_of memory.pages (λ _. true)) 0)
-    where
-      by_number : (((savings_of memory.pages (λ _. true) == 0) ≡ true) × (savings_of memory.pages (λ _. true) ≡ 0)) ⊎ (((savings_of memory.pages (λ _. true) == 0) ≡ false) × ((savings_of memory.pages (λ _. true) ≡ 0) → ⊥)) → not (savings_of memory.pages (λ _. true) == 0) ≡ true
-      by_number (inl same) =
-          let no = none_passes (λ number page. is_saving_place page.place && true) memory.pages one.number one.small same.1 in
-          let yes = saving_passes (page_at memory.pages one.number) one.saving in
-          cc
-      by_number (inr apart) = ap not apart.0
+  is_saving_some memory saves =
+      elim (eqb_tells (savings_among memory (λ _. true)) 0) [
+        | inl same ↦ let some = some_save memory saves in let none = same.1 in absurd (omega (arith, some, none))
+        | inr apart ↦ ap not apart.0
+      ]
 
-  pub is_saving_none : (memory : PagedValue S) → ((q : ℕ) → q < 2 ^ 20 → IsSaving (page_at memory.pages q) → ⊥) → is_saving_any memory ≡ false
+  pub is_saving_none : (memory : PagedValue S) → SavesNone memory → is_saving_any memory ≡ false
   unfolding is_saving_any
-  is_saving_none memory none =
-      let no : savings_of memory.pages (λ _. true) ≡ 0 = none_where_pass (λ number page. is_saving_place page.place && true) memory.pages (λ number small. passes_saving (page_at memory.pages number) (none number small)) in
-      ap (λ n. not (n == 0)) no
+  is_saving_none memory none = ap (λ n. not (n == 0)) (none_save memory none)
+
+  none_counted : (memory : PagedValue S) → is_saving_any memory ≡ false → savings_among memory (λ _. true) ≡ 0
+  unfolding is_saving_any
+  none_counted memory quiet =
+      elim (eqb_tells (savings_among memory (λ _. true)) 0) [
+        | inl same ↦ same.1
+        | inr apart ↦ let e = ap not apart.0 in let q = quiet in cc
+      ]
 
   -- ---- what is left of pages that gave everything back
 
-  -- a page that gave everything back, and was not being saved, holds nothing
-  record Bare (o : Option (PageValue S)) : Type 0 where
-    pub resident : (test : Bool) → page_passes (λ page. is_resident_place page.place && test) (option_map page_given o) ≡ false
-    pub frame : (test : ℕ → Bool) → page_passes (λ page. frame_passes test (frame_of page.place)) (option_map page_given o) ≡ false
-    pub slot : page_passes (λ page. is_kept (slot_of page.place)) (option_map page_given o) ≡ false
+  module _ (old new : SpaceValue S) (gives : GivesAll old new) where
+    abbrev gave : moving.GivesAll old.memory new.memory
+    gave = record { process = gives.process; pages = gives.pages; entries = gives.entries; caches = gives.caches }
 
-  bare : (o : Option (PageValue S)) → page_passes (λ page. is_saving_place page.place && true) o ≡ false → Bare o
-  bare None h = record { resident = λ test. refl; frame = λ test. refl; slot = refl }
-  bare (Some page) h = by_place page.place h
-    where
-      by_place : (place : Place S) → is_saving_place place && true ≡ false → Bare (Some (record { origin = page.origin; place = place }))
-      by_place Fresh h = record { resident = λ test. refl; frame = λ test. refl; slot = refl }
-      by_place (Resident frame slot) h = record { resident = λ test. refl; frame = λ test. refl; slot = refl }
-      by_place (Leaving frame slot mark) h = record { resident = λ test. refl; frame = λ test. refl; slot = refl }
-      by_place (Saving frame) h = cc
-      by_place (Away slot) h = record { resident = λ test. refl; frame = λ test. refl; slot = refl }
-      by_place Purged h = record { resident = λ test. refl; frame = λ test. refl; slot = refl }
+    module _ (quiet : is_saving_any old.memory ≡ false) where
+      abbrev bare : HoldsNothing new.memory
+      bare = bare_all old.memory new.memory gave (none_saved old.memory (none_counted old.memory quiet))
 
-  module _ (old new : SpaceValue S) (gives : GivesAll old new) (quiet : is_saving_any old.memory ≡ false) where
-    none_saving : savings_of old.memory.pages (λ _. true) ≡ 0
-    unfolding is_saving_any
-    none_saving =
-        elim (eqb_tells (savings_of old.memory.pages (λ _. true)) 0) [
-          | inl same ↦ same.1
-          | inr apart ↦ let e = ap not apart.0 in let q = quiet in cc
-        ]
+      pub given_residents : (test : Key → Bool) → residents_in new test ≡ 0
+      unfolding residents_in
+      given_residents test = bare.residents (λ vpn. test (key_of new.memory.process vpn))
 
-    bare_at : (number : ℕ) → number < 2 ^ 20 → Bare (page_at old.memory.pages number)
-    bare_at number small = bare (page_at old.memory.pages number) (none_passes (λ number page. is_saving_place page.place && true) old.memory.pages number small none_saving)
+      given_frames : (test : ℕ → Bool) → frames_in new test ≡ 0
+      unfolding frames_in
+      given_frames test = bare.frames test
 
-    pub given_residents : (test : Key → Bool) → residents_in new test ≡ 0
-    unfolding residents_in
-    given_residents test =
-        none_where_pass (λ number page. is_resident_place page.place && test (key_of new.memory.process number)) new.memory.pages
-        (λ number small. ap (page_passes (λ page. is_resident_place page.place && test (key_of new.memory.process number))) (gives.pages number small) ∙ (bare_at number small).resident (test (key_of new.memory.process number)))
+      given_slots : slots_within new.memory ≡ 0
+      given_slots = bare.slots
 
-    pub given_frames : (test : ℕ → Bool) → frames_in new test ≡ 0
-    unfolding frames_in
-    given_frames test =
-        none_where_pass (λ number page. frame_passes test (frame_of page.place)) new.memory.pages
-        (λ number small. ap (page_passes (λ page. frame_passes test (frame_of page.place))) (gives.pages number small) ∙ (bare_at number small).frame test)
+    -- as many pages are being saved, and they stay so
+    pub given_savings : (test : Key → Bool) → savings_in new test ≡ savings_in old test
+    given_savings test = savings_same old new gives.process test (all_savings old.memory new.memory gave)
 
-    pub given_slots : slots_of new.memory.pages ≡ 0
-    given_slots =
-        none_where_pass (λ number page. is_kept (slot_of page.place)) new.memory.pages
-        (λ number small. ap (page_passes (λ page. is_kept (slot_of page.place))) (gives.pages number small) ∙ (bare_at number small).slot)
-
-  -- as many pages are being saved
-  same_saving : (test : Bool) (o : Option (PageValue S)) → page_passes (λ page. is_saving_place page.place && test) (option_map page_given o) ≡ page_passes (λ page. is_saving_place page.place && test) o
-  same_saving test None = refl
-  same_saving test (Some page) = ap (λ b. b && test) (by_place page.place)
-    where
-      by_place : (place : Place S) → is_saving_place (place_given place) ≡ is_saving_place place
-      by_place Fresh = refl
-      by_place (Resident frame slot) = refl
-      by_place (Leaving frame slot mark) = refl
-      by_place (Saving frame) = refl
-      by_place (Away slot) = refl
-      by_place Purged = refl
-
-  pub given_savings : (old new : SpaceValue S) → GivesAll old new → (test : Key → Bool) → savings_in new test ≡ savings_in old test
-  unfolding savings_in
-  given_savings old new gives test =
-      ap (λ n. savings_of new.memory.pages (λ vpn. test (key_of n vpn))) gives.process
-      ∙ same_where_pass (λ number page. is_saving_place page.place && test (key_of old.memory.process number)) old.memory.pages new.memory.pages
-      (λ number small. ap (page_passes (λ page. is_saving_place page.place && test (key_of old.memory.process number))) (gives.pages number small) ∙ same_saving (test (key_of old.memory.process number)) (page_at old.memory.pages number))
-
-  -- a page that is being saved stays as it is
-  pub given_stays : (old new : SpaceValue S) → GivesAll old new → (number : ℕ) (page : PageValue S) (frame : FrameValue) → number < 2 ^ 20 → page_at old.memory.pages number ≡ Some page → page.place ≡ Saving frame → page_at new.memory.pages number ≡ Some page
-  given_stays old new gives number page frame small at saving =
-      gives.pages number small ∙ ap (option_map page_given) at
-      ∙ ap (λ p. Some (record page { place = p })) (ap place_given saving ∙ sym saving)
+    pub given_stays : SavingsStay old.memory new.memory
+    given_stays = all_stay old.memory new.memory gave
 
   -- ---- the whole call
 
@@ -218,7 +130,7 @@ module _ {S : Type 0} where
   unbarred process h = not_barred (is_some process.space.running.ending) (is_saving_any process.space.memory) process.purged h
 
   -- no page holds a slot
-  pub purged_slots : (pager pager' : PagerSideValue) (process process' : ProcessSideValue S) (pool pool' : PoolValue S) → PurgesAll pager pager' process process' pool pool' → slots_of process'.space.memory.pages ≡ 0
+  pub purged_slots : (pager pager' : PagerSideValue) (process process' : ProcessSideValue S) (pool pool' : PoolValue S) → PurgesAll pager pager' process process' pool pool' → slots_within process'.space.memory ≡ 0
   purged_slots pager pager' process process' pool pool' all = given_slots process.space process'.space all.space (unbarred process all.allowed).1.0
 
   -- where list and pages agreed on the process's pages, nothing is counted on one side alone
@@ -248,7 +160,7 @@ module _ {S : Type 0} where
 
   -- slots move from the pages to their pool
   pub purged_pool : (pager pager' : PagerSideValue) (process process' : ProcessSideValue S) (pool pool' : PoolValue S) → PurgesAll pager pager' process process' pool pool'
-      → length pool'.free + slots_of process'.space.memory.pages ≡ length pool.free + slots_of process.space.memory.pages
+      → length pool'.free + slots_within process'.space.memory ≡ length pool.free + slots_within process.space.memory
   purged_pool pager pager' process process' pool pool' all =
       let now : length pool'.free ≡ length (pool.free ++ all.slots) = ap (λ (p : PoolValue S). length p.free) all.pool_is in
       let none = purged_slots pager pager' process process' pool pool' all in

@@ -1,11 +1,11 @@
 -- An ended process gives everything back: its entries in the list, its frames and its slots.
-use Rattle.std.specs.Prelude.{◌≡◌, ◌⊎◌, ℕ, ◌+◌, ◌++◌, ◌^◌, ◌<◌, ◌==◌, ◌||◌, Bool, true, false, not, cond, is_some, length, List, [], ◌∷◌, Option, Some, None, if◌then◌else◌}
+use Rattle.std.specs.Prelude.{◌≡◌, ◌⊎◌, ℕ, ◌+◌, ◌++◌, ◌^◌, ◌<◌, ◌==◌, ◌||◌, Bool, true, not, cond, is_some, length, List, [], ◌∷◌, Option, Some, None, if◌then◌else◌}
 use Rattle.clock_policy.specs.ClockPro.{purged}
 use Rattle.frame_pool.specs.FrameValue.{FrameValue}
 use Rattle.swap_slots.specs.PoolValue.{PoolValue}
 use Rattle.sv32_table.specs.Entry.{blank}
 use Rattle.paged_memory.specs.Counting.{frame_passes}
-use Rattle.paged_memory.specs.Moving.{has_to_give_in, SamePage, PageGiven, EmptiesCaches}
+use Rattle.paged_memory.specs.Moving.{has_to_give_in, IsGiven, IsLeft, PageGiven, EmptiesCaches}
 use Rattle.paged_memory.specs.Paged.{PagedValue}
 use Rattle.paged_memory.specs.Whole.{entry_in, savings_among, slots_within}
 use Rattle.pager_core.specs.Pager.{PagerState}
@@ -44,17 +44,6 @@ module _ {S : Type 0} where
       then (if is_saving_any process.space.memory then Some SavingStill else (if process.purged then Some AlreadyPurged else None))
       else Some NotEnded
 
-  -- a page gave back what it had, and is unmapped
-  pub record IsGiven (old new : SpaceValue S) (number : ℕ) : Type 0 where
-    pub had : has_to_give_in old.memory number ≡ true
-    pub page : PageGiven old.memory new.memory number
-    pub entry : entry_in new.memory number ≡ blank
-
-  -- a page is as it was
-  pub record IsLeft (old new : SpaceValue S) (number : ℕ) : Type 0 where
-    pub page : SamePage old.memory new.memory number
-    pub entry : entry_in new.memory number ≡ entry_in old.memory number
-
   -- Some pages gave back what they had: the frames are free, behind those that were, and the slots are in the pool behind those that were. A frame and a
   -- slot that were handed back are of these pages too.
   pub record GivesSome (frame : Option FrameValue) (slot : Option S) (pager pager' : PagerState) (pool pool' : PoolValue S) (old new : SpaceValue S) : Type 0 where
@@ -66,7 +55,7 @@ module _ {S : Type 0} where
     pub slotted : length slots + (cond (is_some slot) 1 0 + slots_within new.memory) ≡ slots_within old.memory
     pub stays : new ≡ record old { memory = new.memory }
     pub process : new.memory.process ≡ old.memory.process
-    pub each : (number : ℕ) → number < 2 ^ 20 → IsGiven old new number ⊎ IsLeft old new number
+    pub each : (number : ℕ) → number < 2 ^ 20 → IsGiven old.memory new.memory number ⊎ IsLeft old.memory new.memory number
 
   -- every page that had something has given it back, and no cache holds a translation
   pub record GivesAll (old new : SpaceValue S) : Type 0 where

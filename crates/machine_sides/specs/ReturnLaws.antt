@@ -6,13 +6,11 @@ use Rattle.clock_policy.specs.AdmitLaws.{restored_residents}
 use Rattle.clock_policy.specs.ClockPro.{restored}
 use Rattle.clock_policy.specs.KeptLaws.{restored_frames}
 use Rattle.clock_policy.specs.Residents.{residents}
-use Rattle.page_store.specs.PageValue.{PageValue, Resident}
-use Rattle.paged_memory.specs.Leaving.{Returns}
-use Rattle.machine_sides.specs.MoveLaws.{moved_residents, moved_savings, moved_frames, moved_slots, moved_stays}
+use Rattle.paged_memory.specs.LeaveLaws.{HasReturned, returned}
 use Rattle.machine_sides.specs.Returning.{ListsAgain, MapsAgain, ComesBack}
 use Rattle.machine_sides.specs.Sides.{PagerSideValue, ProcessSideValue}
-use Rattle.machine_sides.specs.SweepLaws.{LeavesRest}
-use Rattle.machine_sides.specs.Together.{Together, residents_in, savings_in, frames_in, frames_where, key_of}
+use Rattle.machine_sides.specs.Together.{Together, residents_in, frames_in, frames_where, key_of}
+use Rattle.machine_sides.specs.TogetherLaws.{LeavesRest, residents_more, savings_same, frames_same}
 
 -- the list has one more
 listed_again : (key : Key) (old new : PagerSideValue) (test : Key → Bool) → ListsAgain key old new → residents new.pager.list test ≡ residents old.pager.list test + cond (test key) 1 0
@@ -29,33 +27,18 @@ pub listed_frames : (key : Key) (old new : PagerSideValue) → ListsAgain key ol
 listed_frames key old new lists = ap (λ (p : PagerSideValue). p.pager.list.frames) lists.pager_is ∙ restored_frames key old.pager.list
 
 module _ {S : Type 0} (vpn : ℕ) (old new : ProcessSideValue S) (maps : MapsAgain vpn old new) where
-  abbrev returns : Returns maps.moves.page.mark maps.moves.page.page.page maps.moves.page.page.page'
-  returns = maps.moves.page.page.how
-
-  placed : maps.moves.page.page.page'.place ≡ Resident returns.frame returns.slot
-  placed = ap (λ (p : PageValue S). p.place) returns.is
+  abbrev told : HasReturned vpn old.space.memory new.space.memory
+  told = returned vpn old.space.memory new.space.memory maps.moves
 
   returned_residents : (test : Key → Bool) → residents_in new.space test ≡ residents_in old.space test + cond (test (key_of old.space.memory.process vpn)) 1 0
-  returned_residents test =
-      let moved : residents_in new.space test + 0 ≡ residents_in old.space test + cond (test (key_of old.space.memory.process vpn)) 1 0 = moved_residents _ old.space new.space vpn maps.moves.small maps.moves.page.page _ _ returns.was placed maps.moves.process test in
-      omega (arith, moved)
+  returned_residents test = residents_more old.space new.space maps.moves.process test vpn told.residents
 
   returned_frames : (test : ℕ → Bool) → frames_in new.space test ≡ frames_in old.space test
-  returned_frames test =
-      let moved : frames_in new.space test + cond (test returns.frame.number) 1 0 ≡ frames_in old.space test + cond (test returns.frame.number) 1 0 = moved_frames _ old.space new.space vpn maps.moves.small maps.moves.page.page _ _ returns.was placed maps.moves.process test in
-      omega (arith, moved)
+  returned_frames test = frames_same old.space new.space told.frames test
 
   -- the rest of the counts stays
   pub returned_rest : LeavesRest old.space new.space
-  returned_rest = record {
-    savings = λ test.
-        let moved : savings_in new.space test + 0 ≡ savings_in old.space test + 0 = moved_savings _ old.space new.space vpn maps.moves.small maps.moves.page.page _ _ returns.was placed maps.moves.process test in
-        omega (arith, moved);
-    slots =
-        let moved = moved_slots _ old.space new.space vpn maps.moves.small maps.moves.page.page _ _ returns.was placed maps.moves.process in
-        omega (arith, moved);
-    stay = moved_stays _ old.space new.space vpn maps.moves.small maps.moves.page.page _ _ returns.was placed maps.moves.process refl;
-  }
+  returned_rest = record { savings = λ test. savings_same old.space new.space maps.moves.process test told.savings; slots = told.slots; stay = told.stay }
 
 module _ {S : Type 0} (vpn : ℕ) (pager pager' : PagerSideValue) (old new : ProcessSideValue S) where
   -- the list gains what the process does

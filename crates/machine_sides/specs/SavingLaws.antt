@@ -1,26 +1,24 @@
 -- A save that comes back keeps list, pages and frames together.
-use Rattle.std.proofs.Common.{◌≡◌, ℕ, ◌+◌, Bool, true, false, cond, List, [], ◌∷◌, ◌++◌, Some, inl, inr, refl, sym, ap, ◌∙◌, arith, subst}
-use Rattle.std.proofs.lemmas.Bool.Decides.{eqb_tells}
+use Rattle.std.proofs.Common.{◌≡◌, ℕ, ◌+◌, Bool, false, cond, List, [], ◌∷◌, ◌++◌, refl, sym, ap, ◌∙◌, arith, subst}
 use Rattle.clock_policy.specs.declared.key.Key.{Key}
 use Rattle.clock_policy.specs.declared.refusal.Refusal.{Refusal}
 use Rattle.clock_policy.specs.Lawful.{Lawful}
 use Rattle.clock_policy.specs.Residents.{residents}
 use Rattle.frame_pool.specs.FrameValue.{FrameValue}
-use Rattle.page_store.specs.declared.state.Keeping.TheVariants.{Unsaved}
 use Rattle.page_store.specs.JobValue.{SavedValue}
-use Rattle.page_store.specs.Moves.{copy_of}
-use Rattle.page_store.specs.PageValue.{PageValue, Leaving, Away, Resident}
-use Rattle.paged_memory.specs.Calls.{ChangesBy}
-use Rattle.paged_memory.specs.Counting.{is_saving_place, slots_of}
-use Rattle.paged_memory.specs.Paged.{PagedValue, page_at}
+use Rattle.paged_memory.specs.LeaveLaws.{returned}
+use Rattle.paged_memory.specs.Moving.{SamePage}
+use Rattle.paged_memory.specs.SaveLaws.{gone_away, leaving_again}
+use Rattle.paged_memory.specs.Stages.{is_saving_stage}
+use Rattle.paged_memory.specs.Whole.{stage_in, slots_within}
 use Rattle.pager_core.specs.Pager.{PagerState}
 use Rattle.space_core.specs.StandsFor.{SpaceValue}
 use Rattle.machine_sides.specs.declared.saving_back.SaveFailure.{SaveFailure}
-use Rattle.machine_sides.specs.MoveLaws.{moved_residents, moved_savings, moved_frames, moved_slots}
 use Rattle.machine_sides.specs.ReturnLaws.{returned_rest, listed_frames, back_together}
-use Rattle.machine_sides.specs.SavingBack.{Settles, LeavesAgain, IsFreed, FailsAndReturns, FailsAndLeaves}
+use Rattle.machine_sides.specs.SavingBack.{Settles, LeavesAgain, ShowsFailure, IsFreed, FailsAndReturns, FailsAndLeaves}
 use Rattle.machine_sides.specs.Sides.{PagerSideValue, ProcessSideValue}
-use Rattle.machine_sides.specs.Together.{Together, residents_in, savings_in, frames_in, frames_where, key_of}
+use Rattle.machine_sides.specs.Together.{Together, savings_in, frames_where, key_of}
+use Rattle.machine_sides.specs.TogetherLaws.{residents_same, savings_fewer, frames_same, frames_fewer}
 
 -- a frame more that is free
 pub one_more_free : (test : ℕ → Bool) (free : List FrameValue) (frame : FrameValue) → frames_where test (free ++ frame ∷ []) ≡ frames_where test free + cond (test frame.number) 1 0
@@ -33,60 +31,35 @@ module _ {S : Type 0} where
   pub record SaveEnds (vpn : ℕ) (pager pager' : PagerState) (old new : SpaceValue S) : Type 0 where
     pub together : Together pager pager' old new
     pub savings : (test : Key → Bool) → savings_in new test + cond (test (key_of old.memory.process vpn)) 1 0 ≡ savings_in old test
-    pub slots : slots_of new.memory.pages ≡ slots_of old.memory.pages + 1
-    pub stay : (v : ℕ) → (v ≡ vpn → ⊥) → page_at new.memory.pages v ≡ page_at old.memory.pages v
-    pub page' : PageValue S
-    pub at : page_at new.memory.pages vpn ≡ Some page'
-    pub ended : is_saving_place page'.place ≡ false
+    pub slots : slots_within new.memory ≡ slots_within old.memory + 1
+    pub stay : (v : ℕ) → (v ≡ vpn → ⊥) → SamePage old.memory new.memory v
+    pub ended : is_saving_stage (stage_in new.memory vpn) ≡ false
     pub frames : pager'.list.frames ≡ pager.list.frames
     pub lawful : Lawful pager.list → Lawful pager'.list
-
-  -- pages but the one that changes are what they were, and it is what it became
-  module _ (by : PageValue S → PageValue S → Type 0) (old new : List (ℕ × PageValue S)) (v : ℕ) (told : ChangesBy by old new v) where
-    pub others_stay : (q : ℕ) → (q ≡ v → ⊥) → page_at new q ≡ page_at old q
-    others_stay q apart =
-        elim (eqb_tells q v) [
-          | inl here ↦ absurd (apart here.1)
-          | inr other ↦ told.changes.pages q ∙ ap (λ b. cond b (Some told.page') (page_at old q)) other.0
-        ]
-
-    pub page_now : page_at new v ≡ Some told.page'
-    page_now =
-        elim (eqb_tells v v) [
-          | inl here ↦ told.changes.pages v ∙ ap (λ b. cond b (Some told.page') (page_at old v)) here.0
-          | inr other ↦ absurd (other.1 refl)
-        ]
 
   module _ (job : SavedValue S) (pager pager' : PagerSideValue) (process process' : ProcessSideValue S) where
     -- the page is in its slot, and its frame is free
     pub freed_ends : IsFreed job pager pager' process process' → SaveEnds job.vpn pager.pager pager'.pager process.space process'.space
     freed_ends freed =
-        let told = freed.settles.moves.page.1.1 in
-        let small = freed.settles.moves.page.1.0 in
-        let is : told.page'.place ≡ Away (copy_of job) = ap (λ (p : PageValue S). p.place) told.how.is in
-        let same : process'.space.memory.process ≡ process.space.memory.process = ap (λ (m : PagedValue S). m.process) freed.settles.moves.stays in
+        let told = gone_away job freed.frame process.space.memory process'.space.memory freed.settles.moves in
         let list : pager'.pager.list ≡ pager.pager.list = ap (λ (p : PagerSideValue). p.pager.list) freed.frees.freed in
         record {
           together = record {
             listed = λ test.
-                let moved : residents_in process'.space test + 0 ≡ residents_in process.space test + 0 = moved_residents _ process.space process'.space job.vpn small told _ _ told.how.was is same test in
+                let pages = residents_same process.space process'.space told.keeps.process test told.residents in
                 let listed : residents pager'.pager.list test ≡ residents pager.pager.list test = ap (λ l. residents l test) list in
-                omega (arith, moved, listed);
+                omega (arith, pages, listed);
             framed = λ test.
-                let moved : frames_in process'.space test + cond (test freed.frame.number) 1 0 ≡ frames_in process.space test + 0 = moved_frames _ process.space process'.space job.vpn small told _ _ told.how.was is same test in
+                let pages = frames_fewer process.space process'.space freed.frame.number told.frames test in
                 let free : frames_where test pager'.pager.free ≡ frames_where test pager.pager.free + cond (test freed.frame.number) 1 0 = ap (λ (p : PagerSideValue). frames_where test p.pager.free) freed.frees.freed ∙ one_more_free test pager.pager.free freed.frame in
-                omega (arith, moved, free);
+                omega (arith, pages, free);
             size = ap (λ (p : PagerSideValue). p.pager.size) freed.frees.freed;
-            process = same;
+            process = told.keeps.process;
           };
-          savings = λ test.
-              let moved : savings_in process'.space test + cond (test (key_of process.space.memory.process job.vpn)) 1 0 ≡ savings_in process.space test + 0 = moved_savings _ process.space process'.space job.vpn small told _ _ told.how.was is same test in
-              omega (arith, moved);
-          slots = let moved : slots_of process'.space.memory.pages + 0 ≡ slots_of process.space.memory.pages + 1 = moved_slots _ process.space process'.space job.vpn small told _ _ told.how.was is same in omega (arith, moved);
-          stay = others_stay _ process.space.memory.pages process'.space.memory.pages job.vpn told;
-          page' = told.page';
-          at = page_now _ process.space.memory.pages process'.space.memory.pages job.vpn told;
-          ended = ap is_saving_place is;
+          savings = λ test. savings_fewer process.space process'.space told.keeps.process test job.vpn told.savings;
+          slots = told.slots;
+          stay = told.keeps.others;
+          ended = ap is_saving_stage told.is;
           frames = ap (λ l. l.frames) list;
           lawful = λ lawful. subst Lawful (sym list) lawful;
         }
@@ -94,31 +67,24 @@ module _ {S : Type 0} where
     -- the page is leaving again, and the pager is as it was
     failed_ends : (failure : SaveFailure) → Settles (LeavesAgain failure job) process process' → pager' ≡ pager → SaveEnds job.vpn pager.pager pager'.pager process.space process'.space
     failed_ends failure settles stays =
-        let told = settles.moves.page.1.1 in
-        let small = settles.moves.page.1.0 in
-        let is : told.page'.place ≡ Leaving told.how.frame (Unsaved job.slot) true = ap (λ (p : PageValue S). p.place) told.how.is in
-        let same : process'.space.memory.process ≡ process.space.memory.process = ap (λ (m : PagedValue S). m.process) settles.moves.stays in
+        let told = leaving_again (ShowsFailure failure job) job process.space.memory process'.space.memory settles.moves in
         record {
           together = record {
             listed = λ test.
-                let moved : residents_in process'.space test + 0 ≡ residents_in process.space test + 0 = moved_residents _ process.space process'.space job.vpn small told _ _ told.how.was is same test in
+                let pages = residents_same process.space process'.space told.keeps.process test told.residents in
                 let listed : residents pager'.pager.list test ≡ residents pager.pager.list test = ap (λ (p : PagerSideValue). residents p.pager.list test) stays in
-                omega (arith, moved, listed);
+                omega (arith, pages, listed);
             framed = λ test.
-                let moved : frames_in process'.space test + cond (test told.how.frame.number) 1 0 ≡ frames_in process.space test + cond (test told.how.frame.number) 1 0 = moved_frames _ process.space process'.space job.vpn small told _ _ told.how.was is same test in
+                let pages = frames_same process.space process'.space told.frames test in
                 let free : frames_where test pager'.pager.free ≡ frames_where test pager.pager.free = ap (λ (p : PagerSideValue). frames_where test p.pager.free) stays in
-                omega (arith, moved, free);
+                omega (arith, pages, free);
             size = ap (λ (p : PagerSideValue). p.pager.size) stays;
-            process = same;
+            process = told.keeps.process;
           };
-          savings = λ test.
-              let moved : savings_in process'.space test + cond (test (key_of process.space.memory.process job.vpn)) 1 0 ≡ savings_in process.space test + 0 = moved_savings _ process.space process'.space job.vpn small told _ _ told.how.was is same test in
-              omega (arith, moved);
-          slots = let moved : slots_of process'.space.memory.pages + 0 ≡ slots_of process.space.memory.pages + 1 = moved_slots _ process.space process'.space job.vpn small told _ _ told.how.was is same in omega (arith, moved);
-          stay = others_stay _ process.space.memory.pages process'.space.memory.pages job.vpn told;
-          page' = told.page';
-          at = page_now _ process.space.memory.pages process'.space.memory.pages job.vpn told;
-          ended = ap is_saving_place is;
+          savings = λ test. savings_fewer process.space process'.space told.keeps.process test job.vpn told.savings;
+          slots = told.slots;
+          stay = told.keeps.others;
+          ended = ap is_saving_stage told.is;
           frames = ap (λ (p : PagerSideValue). p.pager.list.frames) stays;
           lawful = λ lawful. subst (λ (p : PagerSideValue). Lawful p.pager.list) (sym stays) lawful;
         }
@@ -132,11 +98,9 @@ module _ {S : Type 0} where
     pub returned_ends : (failure : SaveFailure) → FailsAndReturns job pager pager' process process' failure → SaveEnds job.vpn pager.pager pager'.pager process.space process'.space
     returned_ends failure fails =
         let first = failed_ends job pager pager process fails.between failure fails.settles refl in
-        let maps = fails.returns.mapped in
-        let told = maps.moves.page.page in
+        let told = returned job.vpn fails.between.space.memory process'.space.memory fails.returns.mapped.moves in
         let second = back_together job.vpn pager pager' fails.between process' fails.returns in
-        let rest = returned_rest job.vpn fails.between process' maps in
-        let is : told.page'.place ≡ Resident told.how.frame told.how.slot = ap (λ (p : PageValue S). p.place) told.how.is in
+        let rest = returned_rest job.vpn fails.between process' fails.returns.mapped in
         record {
           together = record {
             listed = λ test. let a = first.together.listed test in let b = second.listed test in omega (arith, a, b);
@@ -146,10 +110,8 @@ module _ {S : Type 0} where
           };
           savings = λ test. let a = first.savings test in let b = rest.savings test in omega (arith, a, b);
           slots = let a = first.slots in let b = rest.slots in omega (arith, a, b);
-          stay = λ v apart. others_stay _ fails.between.space.memory.pages process'.space.memory.pages job.vpn told v apart ∙ first.stay v apart;
-          page' = told.page';
-          at = page_now _ fails.between.space.memory.pages process'.space.memory.pages job.vpn told;
-          ended = ap is_saving_place is;
+          stay = λ v apart. told.keeps.others v apart ∙ first.stay v apart;
+          ended = ap is_saving_stage told.is;
           frames = listed_frames (key_of fails.between.space.memory.process job.vpn) pager pager' fails.returns.listed;
           lawful = λ lawful. fails.returns.listed.lawful;
         }

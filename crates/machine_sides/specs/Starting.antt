@@ -1,11 +1,9 @@
 -- A process begins: the pages of its image and of its stack are mapped, and none was brought in.
-use Rattle.std.specs.Prelude.{◌≡◌, ℕ, ◌<◌, ◌^◌, false, []}
+use Rattle.std.specs.Prelude.{◌≡◌, ℕ, false, []}
 use Rattle.elf_image.specs.Start.{Start}
 use Rattle.flat_machine.specs.Process.{opening, opening_pages}
-use Rattle.paged_memory.specs.Fresh.{HasFresh, HasOneCache}
-use Rattle.paged_memory.specs.Whole.{entry_in}
+use Rattle.paged_memory.specs.Fresh.{HasFresh, HasNoEntry, HasOneCache}
 use Rattle.space_core.specs.RunningValue.{beside}
-use Rattle.sv32_table.specs.Entry.{blank}
 use Rattle.machine_sides.specs.Sides.{ProcessSideValue}
 
 module _ {S : Type 0} where
@@ -18,6 +16,6 @@ module _ {S : Type 0} where
     pub schedule : process.space.schedule ≡ []
     pub numbered : process.space.memory.process ≡ number
     pub pages : HasFresh (opening_pages start.image.pages) process.space.memory
-    pub tables : (vpn : ℕ) → vpn < 2 ^ 20 → entry_in process.space.memory vpn ≡ blank
+    pub tables : HasNoEntry process.space.memory
     pub caches : HasOneCache process.space.memory
     pub purged : process.purged ≡ false

@@ -1,68 +1,70 @@
--- What a page's move does to the counts.
-use Rattle.std.proofs.Common.{◌≡◌, ℕ, ◌+◌, ◌^◌, ◌<◌, Bool, true, false, ◌&&◌, cond, List, Some, inl, inr, refl, sym, ap, ◌∙◌, arith}
-use Rattle.std.proofs.lemmas.Bool.Decides.{eqb_tells}
-use Rattle.frame_pool.specs.FrameValue.{FrameValue}
-use Rattle.paged_memory.specs.Paged.{page_at}
-use Rattle.page_store.specs.PageValue.{PageValue, Place, Fresh, Resident, Leaving, Saving, Away, Purged, frame_of, slot_of}
-use Rattle.page_store.specs.Moves.{IfResident}
-use Rattle.paged_memory.specs.Calls.{ChangesBy, Leaves}
-use Rattle.paged_memory.specs.Counting.{is_resident_place, is_saving_place, frame_passes, is_kept, residents_of, frames_of, savings_of, slots_of}
-use Rattle.paged_memory.specs.CountingLaws.{pages_changed, pages_kept}
+-- Counts of a process's pages by their keys are counts by their numbers.
+use Rattle.std.proofs.Common.{◌≡◌, ℕ, ◌+◌, Bool, cond, ap, ◌∙◌}
+use Rattle.clock_policy.specs.declared.key.Key.{Key}
+use Rattle.paged_memory.specs.AlikeLaws.{SavingsStay, CountsAlike}
+use Rattle.paged_memory.specs.Whole.{residents_among, savings_among, frames_among, slots_within}
+use Rattle.space_core.specs.StandsFor.{SpaceValue}
+use Rattle.machine_sides.specs.Together.{residents_in, savings_in, frames_in, key_of}
 
-module _ {S : Type 0} where
-  -- a resident page that begins to leave keeps its frame and its slot
-  pub record Unlisted (page page' : PageValue S) : Type 0 where
-    pub was : is_resident_place page.place ≡ true
-    pub is : is_resident_place page'.place ≡ false
-    pub saving : is_saving_place page'.place ≡ is_saving_place page.place
-    pub frame : frame_of page'.place ≡ frame_of page.place
-    pub slot : slot_of page'.place ≡ slot_of page.place
+module _ {S : Type 0} (old new : SpaceValue S) where
+  module _ (process : new.memory.process ≡ old.memory.process) (test : Key → Bool) where
+    abbrev numbered : ℕ → Bool
+    numbered vpn = test (key_of old.memory.process vpn)
 
-  left_page : (mark : Bool) (page page' : PageValue S) → Leaves mark page page' → Unlisted page page'
-  left_page mark page page' how = by_place page.place refl how
-    where
-      by_place : (place : Place S) → page.place ≡ place → IfResident place (λ frame slot. page' ≡ record page { place = Leaving frame slot mark }) → Unlisted page page'
-      by_place Fresh at how = absurd how
-      by_place (Resident frame slot) at how = record {
-        was = ap is_resident_place at;
-        is = ap (λ (p : PageValue S). is_resident_place p.place) how;
-        saving = ap (λ (p : PageValue S). is_saving_place p.place) how ∙ sym (ap is_saving_place at);
-        frame = ap (λ (p : PageValue S). frame_of p.place) how ∙ sym (ap frame_of at);
-        slot = ap (λ (p : PageValue S). slot_of p.place) how ∙ sym (ap slot_of at);
-      }
-      by_place (Leaving frame slot m) at how = absurd how
-      by_place (Saving frame) at how = absurd how
-      by_place (Away slot) at how = absurd how
-      by_place Purged at how = absurd how
+    residents_named : residents_in new test ≡ residents_among new.memory numbered
+    unfolding residents_in
+    residents_named = ap (λ n. residents_among new.memory (λ vpn. test (key_of n vpn))) process
 
-  module _ (mark : Bool) (old new : List (ℕ × PageValue S)) (v : ℕ) (small : v < 2 ^ 20) (leaves : ChangesBy (Leaves mark) old new v) where
-    moved : Unlisted leaves.page leaves.page'
-    moved = left_page mark leaves.page leaves.page' leaves.how
+    savings_named : savings_in new test ≡ savings_among new.memory numbered
+    unfolding savings_in
+    savings_named = ap (λ n. savings_among new.memory (λ vpn. test (key_of n vpn))) process
 
-    pub left_residents : (test : ℕ → Bool) → residents_of new test + cond (test v) 1 0 ≡ residents_of old test
-    left_residents test =
-        let before : cond {A = ℕ} (is_resident_place leaves.page.place && test v) 1 0 ≡ cond (test v) 1 0 = ap (λ b. cond (b && test v) 1 0) moved.was in
-        let after : cond {A = ℕ} (is_resident_place leaves.page'.place && test v) 1 0 ≡ 0 = ap (λ b. cond (b && test v) 1 0) moved.is in
-        let changed = pages_changed (λ number page. is_resident_place page.place && test number) old new v leaves.page leaves.page' leaves.found leaves.changes small in
-        omega (arith, before, after, changed)
+    -- as many are resident; one more is; one fewer is
+    pub residents_same : ((numbers : ℕ → Bool) → residents_among new.memory numbers ≡ residents_among old.memory numbers) → residents_in new test ≡ residents_in old test
+    unfolding residents_in
+    residents_same same = residents_named ∙ same numbered
 
-    pub left_savings : (test : ℕ → Bool) → savings_of new test ≡ savings_of old test
-    left_savings test = pages_kept (λ number page. is_saving_place page.place && test number) old new v leaves.page leaves.page' leaves.found leaves.changes small (ap (λ b. b && test v) moved.saving)
+    pub residents_more : (vpn : ℕ) → ((numbers : ℕ → Bool) → residents_among new.memory numbers ≡ residents_among old.memory numbers + cond (numbers vpn) 1 0) → residents_in new test ≡ residents_in old test + cond (test (key_of old.memory.process vpn)) 1 0
+    unfolding residents_in
+    residents_more vpn more = residents_named ∙ more numbered
 
-    pub left_frames : (test : ℕ → Bool) → frames_of new test ≡ frames_of old test
-    left_frames test = pages_kept (λ number page. frame_passes test (frame_of page.place)) old new v leaves.page leaves.page' leaves.found leaves.changes small (ap (frame_passes test) moved.frame)
+    pub residents_fewer : (vpn : ℕ) → ((numbers : ℕ → Bool) → residents_among new.memory numbers + cond (numbers vpn) 1 0 ≡ residents_among old.memory numbers) → residents_in new test + cond (test (key_of old.memory.process vpn)) 1 0 ≡ residents_in old test
+    unfolding residents_in
+    residents_fewer vpn fewer = ap (λ n. n + cond (test (key_of old.memory.process vpn)) 1 0) residents_named ∙ fewer numbered
 
-    pub left_slots : slots_of new ≡ slots_of old
-    left_slots = pages_kept (λ number page. is_kept (slot_of page.place)) old new v leaves.page leaves.page' leaves.found leaves.changes small (ap is_kept moved.slot)
+    -- the same of those that are being saved
+    pub savings_same : ((numbers : ℕ → Bool) → savings_among new.memory numbers ≡ savings_among old.memory numbers) → savings_in new test ≡ savings_in old test
+    unfolding savings_in
+    savings_same same = savings_named ∙ same numbered
 
-    -- pages that are being saved stay as they are
-    pub left_stays : (q : ℕ) (page : PageValue S) (frame : FrameValue) → page_at old q ≡ Some page → page.place ≡ Saving frame → page_at new q ≡ Some page
-    left_stays q page frame at saving =
-        elim (eqb_tells q v) [
-          | inl same ↦
-              let here : leaves.page ≡ page = let a = leaves.found in let b = at in let c = same.1 in cc in
-              let was : is_resident_place page.place ≡ true = ap (λ (p : PageValue S). is_resident_place p.place) (sym here) ∙ moved.was in
-              let is : is_resident_place page.place ≡ false = ap is_resident_place saving in
-              cc
-          | inr other ↦ leaves.changes.pages q ∙ ap (λ b. cond b (Some leaves.page') (page_at old q)) other.0 ∙ at
-        ]
+    pub savings_more : (vpn : ℕ) → ((numbers : ℕ → Bool) → savings_among new.memory numbers ≡ savings_among old.memory numbers + cond (numbers vpn) 1 0) → savings_in new test ≡ savings_in old test + cond (test (key_of old.memory.process vpn)) 1 0
+    unfolding savings_in
+    savings_more vpn more = savings_named ∙ more numbered
+
+    pub savings_fewer : (vpn : ℕ) → ((numbers : ℕ → Bool) → savings_among new.memory numbers + cond (numbers vpn) 1 0 ≡ savings_among old.memory numbers) → savings_in new test + cond (test (key_of old.memory.process vpn)) 1 0 ≡ savings_in old test
+    unfolding savings_in
+    savings_fewer vpn fewer = ap (λ n. n + cond (test (key_of old.memory.process vpn)) 1 0) savings_named ∙ fewer numbered
+
+  -- pages that hold a frame: as many do; one fewer does
+  pub frames_same : ((test : ℕ → Bool) → frames_among new.memory test ≡ frames_among old.memory test) → (test : ℕ → Bool) → frames_in new test ≡ frames_in old test
+  unfolding frames_in
+  frames_same same test = same test
+
+  pub frames_fewer : (number : ℕ) → ((test : ℕ → Bool) → frames_among new.memory test + cond (test number) 1 0 ≡ frames_among old.memory test) → (test : ℕ → Bool) → frames_in new test + cond (test number) 1 0 ≡ frames_in old test
+  unfolding frames_in
+  frames_fewer number fewer test = fewer test
+
+  -- what a call leaves of a process, beside which pages are resident, and which hold frames
+  pub record LeavesRest : Type 0 where
+    pub savings : (test : Key → Bool) → savings_in new test ≡ savings_in old test
+    pub slots : slots_within new.memory ≡ slots_within old.memory
+    pub stay : SavingsStay old.memory new.memory
+
+  pub alike_rest : CountsAlike old.memory new.memory → LeavesRest
+  alike_rest alike = record { savings = λ test. savings_same alike.process test alike.savings; slots = alike.slots; stay = alike.stay }
+
+  pub alike_residents : CountsAlike old.memory new.memory → (test : Key → Bool) → residents_in new test ≡ residents_in old test
+  alike_residents alike test = residents_same alike.process test alike.residents
+
+  pub alike_frames : CountsAlike old.memory new.memory → (test : ℕ → Bool) → frames_in new test ≡ frames_in old test
+  alike_frames alike test = frames_same alike.frames test

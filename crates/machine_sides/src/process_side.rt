@@ -1,8 +1,8 @@
 ghost use Rattle.std.specs.Prelude.{◌≡◌, ◌<◌, ◌^◌, true, false, length, option_copied, slice_get, slice_index_or};
-ghost use Rattle.paged_memory.specs.Access.{is_resident};
 ghost use Rattle.machine_sides.specs.Admitting.{stage_at, is_absent_at, is_resident_at};
-ghost use Rattle.paged_memory.specs.Coherence.{MarksClear, HoldsFramed, WalksLead};
-ghost use Rattle.paged_memory.specs.Paged.{Holds, seen_at};
+ghost use Rattle.paged_memory.specs.Coheres.{HoldsIn, MarksClearIn, HoldsFramedIn, WalksLeadIn};
+ghost use Rattle.paged_memory.specs.Stages.{is_resident_stage};
+ghost use Rattle.paged_memory.specs.Whole.{harts_in, stage_in};
 ghost use Rattle.machine_sides.specs.ProcessCalls.{Slices, StepsOnce, TakesNotices, IsKilled};
 ghost use Rattle.machine_sides.specs.Sweeping.{bit_at, ReadsBit, Evicts};
 ghost use Rattle.space_core.specs.StandsFor.{StandsFor, OfFlat, own_ending};
@@ -35,11 +35,11 @@ impl<L: Ledger, S: SwapSlot> ProcessSide<L, S> {
     /// What holds of it between any two calls: see [`Space::coherent`]. It does nothing.
     pub fn coherent(&self)
         ensures stands { S.honest → StandsFor S.content self.now.space }
-        ensures harts { length self.now.space.memory.caches ≡ length self.now.space.running.harts }
-        ensures agree { Holds S.content S.honest self.now.space.memory.pages self.now.space.memory.tables self.now.space.memory.caches }
-        ensures accessed { MarksClear self.now.space.memory.pages self.now.space.memory.tables self.now.space.memory.caches }
-        ensures framed { HoldsFramed self.now.space.memory.pages self.now.space.memory.caches }
-        ensures walks { WalksLead self.now.space.memory.pages self.now.space.memory.tables }
+        ensures harts { harts_in self.now.space.memory ≡ length self.now.space.running.harts }
+        ensures agree { HoldsIn S.content S.honest self.now.space.memory }
+        ensures accessed { MarksClearIn self.now.space.memory }
+        ensures framed { HoldsFramedIn self.now.space.memory }
+        ensures walks { WalksLeadIn self.now.space.memory }
     {
         self.space.coherent();
     }
@@ -104,7 +104,7 @@ impl<L: Ledger, S: SwapSlot> ProcessSide<L, S> {
     #[tactic(auto, using(paged_memory::specs::MovingLaws::same_reserved))]
     pub(crate) fn evict(&mut self, vpn: u32)
         requires small { vpn < 2 ^ 20 }
-        requires resident { is_resident (seen_at self.old.space.memory.pages vpn) ≡ true }
+        requires resident { is_resident_stage (stage_in self.old.space.memory vpn) ≡ true }
         ensures evicts { Evicts vpn self.old.space self.new.space }
         ensures purged { self.new.purged ≡ self.old.purged }
     {

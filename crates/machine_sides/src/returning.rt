@@ -1,8 +1,9 @@
 //! A page that could not leave its frame is resident again.
 
 ghost use Rattle.std.specs.Prelude.{◌≡◌, ◌<◌, ◌^◌, true, OnOk, IfErr};
-ghost use Rattle.paged_memory.specs.Leaving.{is_leaving};
-ghost use Rattle.paged_memory.specs.Paged.{page_at, memory_of};
+ghost use Rattle.paged_memory.specs.Paged.{memory_of};
+ghost use Rattle.paged_memory.specs.Stages.{is_leaving_stage};
+ghost use Rattle.paged_memory.specs.Whole.{stage_in};
 ghost use Rattle.machine_sides.specs.Returning.{ComesBack, StaysLeaving};
 
 use crate::pager_side::PagerSide;
@@ -19,7 +20,7 @@ pub(crate) fn bring_back<L: Ledger, S: SwapSlot, C: Clock>(
     vpn: u32,
 ) -> Result<(), Refusal>
     requires small { vpn < 2 ^ 20 }
-    requires leaving { is_leaving (page_at process.old.space.memory.pages vpn) ≡ true }
+    requires leaving { is_leaving_stage (stage_in process.old.space.memory vpn) ≡ true }
     ensures back { OnOk result (ComesBack vpn pager.old pager.new process.old process.new) }
     ensures refused { IfErr result (StaysLeaving vpn pager.old pager.new process.old process.new) }
     ensures memory { memory_of S.content process.new.space.memory ≡ memory_of S.content process.old.space.memory }

@@ -1,18 +1,19 @@
 -- One page after another gives back what it has.
-use Rattle.std.proofs.Common.{is_some, refl, sym, ap, ◌∙◌, arith, map, []}
-use Rattle.machine_sides.proofs.GivenPages.{given_fewer}
-use Rattle.machine_sides.proofs.PurgeSteps.{none_gave, stopped, all_gave, caches_now, ended_still, emptied_twice, first_some, then_some, went_on}
+use Rattle.std.proofs.Common.{is_some, refl, sym, ◌∙◌, arith}
+use Rattle.paged_memory.specs.GivenLaws.{has_given}
+use Rattle.paged_memory.specs.NoticesLaws.{empties_harts}
+use Rattle.machine_sides.proofs.PurgeSteps.{none_gave, stopped, all_gave, caches_now, ended_still, first_some, then_some, went_on}
 use Rattle.machine_sides.proofs.purging.give_all_back.Goals as goal
 use Rattle.machine_sides.proofs.purging.give_all_back.Goals.{then-is_some-via-then-is_some, then-is_some-via-else-is_some+then-is_some-2}
 
 pub loop-given-init : goal.loop-given-init
-loop-given-init g c = record { gave = none_gave c.args.pager.now c.args.slots.now c.args.space.now; given = λ q low. absurd (omega arith); caches = refl }
+loop-given-init g c = record { gave = none_gave c.args.pager.now c.args.slots.now c.args.space.now; given = λ q low. absurd (omega arith); harts = refl }
 
 pub returns-then-is_some : goal.returns-then-is_some
 returns-then-is_some g c =
     stopped c.in-Some.given c.free_frame-frame.result c.pool_slot-slot.result c.args.pager.now c.loop-given.pager c.free_frame-frame.new.pager c.args.slots.now c.loop-given.slots c.pool_slot-slot.new.slots
     c.args.space.now c.loop-given.space c.take_from.new.self c.loop-given.invariant.gave c.in-Some.ensures.given c.take_from.ensures.stays c.take_from.ensures.process c.free_frame-frame.ensures c.pool_slot-slot.ensures
-    (caches_now c.args.space.now c.loop-given.space c.take_from.new.self c.in-Some.ensures.ended c.loop-given.invariant.caches c.take_from.ensures.caches)
+    (caches_now c.args.space.now c.loop-given.space c.take_from.new.self c.in-Some.ensures.ended c.loop-given.invariant.harts c.take_from.ensures.caches)
     (elim c.then-is_some.branch [
       | then-is_some-via-then-is_some w ↦ first_some c.free_frame-frame.result (is_some c.pool_slot-slot.result) (sym c.is_some.ensures ∙ w.if-is_some.true)
       | then-is_some-via-else-is_some+then-is_some-2 w ↦ then_some (is_some c.free_frame-frame.result) (is_some c.pool_slot-slot.result) (sym w.is_some-else-is_some.ensures ∙ w.if-is_some-2.true)
@@ -20,23 +21,23 @@ returns-then-is_some g c =
 
 pub loop-given-smaller : goal.loop-given-smaller
 loop-given-smaller g c =
-    let fewer = given_fewer c.in-Some.given c.loop-given.space.memory.pages c.take_from.new.self.memory.pages c.loop-given.space.memory.tables c.take_from.new.self.memory.tables c.in-Some.ensures.given in
+    let fewer = (has_given c.in-Some.given c.loop-given.space.memory c.take_from.new.self.memory c.in-Some.ensures.given).fewer in
     omega (arith, fewer)
 
 pub loop-given-preserved : goal.loop-given-preserved
 loop-given-preserved g c =
-    let emptied = caches_now c.args.space.now c.loop-given.space c.take_from.new.self c.in-Some.ensures.ended c.loop-given.invariant.caches c.take_from.ensures.caches in
+    let emptied = caches_now c.args.space.now c.loop-given.space c.take_from.new.self c.in-Some.ensures.ended c.loop-given.invariant.harts c.take_from.ensures.caches in
     record {
       gave = went_on c.in-Some.given c.free_frame-frame.result c.pool_slot-slot.result c.args.pager.now c.loop-given.pager c.free_frame-frame.new.pager c.args.slots.now c.loop-given.slots c.pool_slot-slot.new.slots
           c.args.space.now c.loop-given.space c.take_from.new.self c.loop-given.invariant.gave c.in-Some.ensures.given c.take_from.ensures.stays c.take_from.ensures.process c.free_frame-frame.ensures c.pool_slot-slot.ensures
           (sym c.is_some.ensures ∙ c.if-is_some.false) (sym c.is_some-else-is_some.ensures ∙ c.if-is_some-2.false);
       given = c.in-Some.ensures.next;
-      caches = ap (map (λ _. [])) emptied ∙ emptied_twice c.args.space.now.memory.caches;
+      harts = empties_harts c.args.space.now.memory c.take_from.new.self.memory emptied;
     }
 
 pub returns : goal.returns
 returns g c =
     all_gave c.args.pager.now c.loop-given.pager c.args.slots.now c.loop-given.slots c.args.space.now c.loop-given.space c.take_from.new.self c.loop-given.invariant.gave
     (ended_still c.args.pager.now c.loop-given.pager c.args.slots.now c.loop-given.slots c.args.space.now c.loop-given.space c.loop-given.invariant.gave c.requires)
-    c.loop-given.invariant.caches c.in_default.ensures.left
+    c.loop-given.invariant.harts c.in_default.ensures.left
     (c.in_default.ensures.none (ended_still c.args.pager.now c.loop-given.pager c.args.slots.now c.loop-given.slots c.args.space.now c.loop-given.space c.loop-given.invariant.gave c.requires))

@@ -1,5 +1,5 @@
 -- The machine stays one by a look at a page, and what that comes to.
-use Rattle.std.proofs.Common.{◌≡◌, ℕ, ◌+◌, ◌<◌, ◌^◌, Bool, true, false, cond, nat_lt, take, drop, List, [], ◌∷◌, ◌++◌, length, length-append, Option, Some, None, option_map, slice_get, refl, sym, ap, ◌∙◌, arith, subst}
+use Rattle.std.proofs.Common.{◌≡◌, ℕ, ◌+◌, ◌<◌, ◌^◌, Bool, true, false, cond, take, drop, List, [], ◌∷◌, ◌++◌, length, length-append, Some, None, slice_get, refl, sym, ap, ◌∙◌, arith, subst}
 use Rattle.std.specs.Prelude.{slice_set, All, if◌then◌else◌}
 use Rattle.std.proofs.lemmas.List.{length-set}
 use Rattle.std.proofs.lemmas.List.Elements.{All-nil, All-cons, All-append}

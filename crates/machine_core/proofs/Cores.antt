@@ -1,6 +1,6 @@
 -- The machine stays one by each event of a process, and by a sweep.
-use Rattle.std.proofs.Common.{◌≡◌, ℕ, ◌<◌, true, false, cond, nat_lt, ◌≤◌, ◌++◌, take, drop, List, [], length, Option, Some, None, slice_get, refl, sym, ap, ◌∙◌, arith, subst}
-use Rattle.std.specs.Prelude.{slice_set, slice_index_or}
+use Rattle.std.proofs.Common.{◌≡◌, ℕ, ◌<◌, false, ◌≤◌, ◌++◌, take, drop, List, length, Option, Some, None, slice_get, refl, sym, ap, ◌∙◌, arith, subst}
+use Rattle.std.specs.Prelude.{slice_set}
 use Rattle.std.proofs.lemmas.Option.{slice_get_within}
 use Rattle.std.proofs.lemmas.List.{length-set, take_all, drop_all, append-nil}
 use Rattle.clock_policy.specs.declared.key.Key.{Key}

@@ -1,6 +1,5 @@
 -- What the machine's counts tell of a page that holds a frame and is not resident: a frame is missing, a save has room, and the list takes the page back.
-use Rattle.std.proofs.Common.{◌≡◌, ℕ, zero, suc, ◌+◌, ◌≤◌, ◌<◌, ◌^◌, Bool, true, false, ◌&&◌, cond, List, [], ◌∷◌, length, Some, None, Err, slice_get, inl, inr, refl, sym, ap, ◌∙◌, arith}
-use Rattle.std.proofs.lemmas.Bool.Decides.{eqb_tells}
+use Rattle.std.proofs.Common.{◌≡◌, ℕ, zero, suc, ◌+◌, ◌≤◌, ◌<◌, ◌^◌, true, false, cond, List, [], ◌∷◌, length, Some, Err, slice_get, inl, inr, refl, sym, ap, ◌∙◌, arith}
 use Rattle.clock_policy.specs.declared.refusal.Refusal.{Refusal}
 use Rattle.clock_policy.specs.AdmitLaws.{restored_barred, key_residents}
 use Rattle.clock_policy.specs.ClockPro.{restored}

@@ -1,5 +1,5 @@
 -- A look at bytes leaves the counts: a page that is away stays so.
-use Rattle.std.proofs.Common.{◌≡◌, ℕ, ◌^◌, ◌<◌, List, Option, ap}
+use Rattle.std.proofs.Common.{ℕ, ◌^◌, ◌<◌, List, Option, ap}
 use Rattle.std.specs.Prelude.{Result}
 use Rattle.paged_memory.specs.AlikeLaws.{CountsAlike}
 use Rattle.paged_memory.specs.ComeLaws.{looked_alike}

@@ -1,7 +1,7 @@
 -- List and process agree still, call by call.
 use Rattle.std.proofs.Common.{◌≡◌, ℕ, ◌+◌, ◌^◌, ◌==◌, nat_lt, Bool, true, false, ◌&&◌, cond, List, Option, Some, None, is_some, Ok, Err, Result, refl, sym, ap, ◌∙◌, arith, subst}
 use Rattle.std.specs.Prelude.{is_ok, OnOk}
-use borrow.Author.Tests.{eqb-true, lt-ltb}
+use borrow.Author.Tests.{eqb-true}
 use Rattle.clock_policy.specs.declared.key.Key.{Key}
 use Rattle.clock_policy.specs.declared.answer.Bit.{Bit}
 use Rattle.clock_policy.specs.declared.answer.Bit.TheVariants.{Gone}
@@ -43,6 +43,7 @@ use Rattle.machine_sides.specs.Purging.{PurgesAll, Purges}
 use Rattle.machine_sides.specs.SavingBack.{EndsSave}
 use Rattle.machine_sides.specs.SavingLaws.{freed_ends, left_ends, returned_ends}
 use Rattle.machine_sides.specs.Sides.{PagerSideValue, ProcessSideValue}
+use Rattle.machine_sides.specs.StageLaws.{stage_below}
 use Rattle.machine_sides.specs.SweepLaws.{read_alike, answers_together}
 use Rattle.machine_sides.specs.Sweeping.{bit_of, bit_at, AnswersQuestion, Sweeps}
 use Rattle.machine_sides.proofs.Sweeps.{victim_is_there, read_resident}
@@ -101,8 +102,7 @@ module _ {S : Type 0} where
       no_residents space.memory (λ vpn. is_key key (key_of space.memory.process vpn))
       (λ vpn small resident passes.
       let here : vpn ≡ key.vpn = ap (λ (k : Key). k.vpn) (key_tested key (key_of space.memory.process vpn) passes) in
-      let bounded : nat_lt vpn (2 ^ 20) ≡ true = lt-ltb vpn (2 ^ 20) small in
-      let there : is_resident_at space vpn ≡ true = ap (λ b. is_resident_stage (cond b (stage_in space.memory vpn) None)) bounded ∙ resident in
+      let there : is_resident_at space vpn ≡ true = ap is_resident_stage (stage_below space vpn small) ∙ resident in
       let same : is_resident_at space vpn ≡ false = ap (is_resident_at space) here ∙ absent in
       cc)
 

@@ -1,8 +1,7 @@
 -- List and process agree on a page that was loaded, and as before where none was.
 use Rattle.std.proofs.Common.{◌≡◌, ℕ, ◌^◌, ◌<◌, Bool, true, false, cond, None, Ok, Err, Result, List, inl, inr, refl, sym, ap, ◌∙◌, arith}
-use Rattle.std.specs.Prelude.{if◌then◌else◌, OnOk, OnErr, IfErr}
+use Rattle.std.specs.Prelude.{OnOk, OnErr, IfErr}
 use Rattle.std.proofs.lemmas.Bool.Decides.{leb_tells}
-use borrow.Author.Tests.{lt-ltb}
 use Rattle.clock_policy.specs.declared.key.Key.{Key}
 use Rattle.clock_policy.specs.AdmitLaws.{is_key_self, key_residents}
 use Rattle.clock_policy.specs.Residents.{is_key}
@@ -16,6 +15,7 @@ use Rattle.space_core.specs.StandsFor.{SpaceValue}
 use Rattle.machine_sides.specs.Admitting.{AdmissionValue, is_resident_at}
 use Rattle.machine_sides.specs.Agreeing.{AgreeStill, AgreesWhereListed}
 use Rattle.machine_sides.specs.Loading.{Loads, DoesNotLoad}
+use Rattle.machine_sides.specs.StageLaws.{stage_below}
 use Rattle.machine_sides.specs.Together.{residents_in, key_of}
 use Rattle.machine_sides.specs.TogetherLaws.{residents_more, alike_residents}
 use Rattle.machine_sides.proofs.Agreements.{listed_agree, absent_counts}
@@ -24,7 +24,7 @@ module _ {S : Type 0} where
   -- an absent page is not resident
   absent_at : (space : SpaceValue S) (vpn : ℕ) → vpn < 2 ^ 20 → is_absent_stage (stage_in space.memory vpn) ≡ true → is_resident_at space vpn ≡ false
   absent_at space vpn small absent =
-      ap (λ b. is_resident_stage (if b then stage_in space.memory vpn else None)) (lt-ltb vpn (2 ^ 20) small)
+      ap is_resident_stage (stage_below space vpn small)
       ∙ by_test (is_resident_stage (stage_in space.memory vpn)) refl
     where
       by_test : (b : Bool) → is_resident_stage (stage_in space.memory vpn) ≡ b → is_resident_stage (stage_in space.memory vpn) ≡ false

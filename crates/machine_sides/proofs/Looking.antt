@@ -1,7 +1,5 @@
 -- A look at a page that is to leave its frame: first with no slot to spare, and then, for a changed page without one, with a free slot.
 use Rattle.std.proofs.Common.{◌≡◌, ℕ, ◌^◌, ◌<◌, Bool, false, List, Option, Some, None, [], ◌∷◌, ◌++◌, IsNone, IfSome, IfNone, ◌↔◌, refl, sym, ap, ◌∙◌, subst}
-use Rattle.std.specs.Prelude.{if◌then◌else◌}
-use borrow.Author.Tests.{lt-ltb}
 use Rattle.page_store.specs.declared.answer.Collected.{Collected}
 use Rattle.page_store.specs.declared.answer.Collected.TheVariants as answer
 use Rattle.paged_memory.specs.Leaving.{lets_go}
@@ -9,15 +7,11 @@ use Rattle.paged_memory.specs.LooksLaws.{ComesTo, TakesSpare, comes_to, wants_sl
 use Rattle.paged_memory.specs.Moving.{WantsSlot, LooksAt, OnlyPages, with_pages, slot_in}
 use Rattle.paged_memory.specs.Paged.{PagedValue}
 use Rattle.paged_memory.specs.Stages.{is_leaving_stage}
-use Rattle.paged_memory.specs.Whole.{stage_in}
 use Rattle.space_core.specs.StandsFor.{SpaceValue}
 use Rattle.swap_slots.specs.PoolValue.{PoolValue}
-use Rattle.machine_sides.specs.Collecting.{is_leaving_at, Finds, TakesSlot}
+use Rattle.machine_sides.specs.Collecting.{Finds, TakesSlot}
+use Rattle.machine_sides.specs.StageLaws.{stage_below}
 use Rattle.machine_sides.specs.Sides.{ProcessSideValue}
-
-module _ {S : Type 0} where
-  leaving_at : (space : SpaceValue S) (vpn : ℕ) → vpn < 2 ^ 20 → is_leaving_at space vpn ≡ is_leaving_stage (stage_in space.memory vpn)
-  leaving_at space vpn small = ap (λ b. is_leaving_stage (if b then stage_in space.memory vpn else None)) (lt-ltb vpn (2 ^ 20) small)
 
 module _ (L S : Type 0) (vpn : ℕ) (small : vpn < 2 ^ 20) (purged : Bool) where
   abbrev side : SpaceValue S → ProcessSideValue S
@@ -36,7 +30,7 @@ module _ (L S : Type 0) (vpn : ℕ) (small : vpn < 2 ^ 20) (purged : Bool) where
     own_slot (Some own) slot spare' free takes = (takes.0, refl)
 
     pub first_found : (slots : PoolValue S) (spare' : Option S) (a : Collected L S) → ComesTo vpn None spare' space.memory space'.memory a → (lets_go a ≡ false → space' ≡ space) → (a ≡ answer.NoSlot → ⊥) → Finds vpn (side space) (side space') slots slots a
-    first_found slots spare' answer.NotLeaving to same apart = (leaving_at space vpn small ∙ to.0, (ap side (same refl), refl))
+    first_found slots spare' answer.NotLeaving to same apart = (ap is_leaving_stage (stage_below space vpn small) ∙ to.0, (ap side (same refl), refl))
     first_found slots spare' answer.NotYet to same apart = (to.0, (ap side (same refl), refl))
     first_found slots spare' (answer.Clean frame) to same apart = (record { moves = to.0; stays = side_stays }, refl)
     first_found slots spare' (answer.Dirty job) to same apart = record {

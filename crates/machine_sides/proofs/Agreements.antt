@@ -265,7 +265,7 @@ module _ {S : Type 0} where
 
   pub purge_agrees : {L : Type 0} (pager pager' : PagerSideValue) (process process' : ProcessSideValue S) (pool pool' : PoolValue S) (purging : Purging L S)
       → Purges pager pager' process process' pool pool' purging → AgreesPurged pager.pager pager'.pager process.space process'.space purging
-  purge_agrees pager pager' process process' pool pool' purge.Done how = record { process = how.space.process; agree = λ vpn out agreed. purged_agree pager pager' process process' pool pool' how vpn }
+  purge_agrees pager pager' process process' pool pool' purge.Done how = record { process = how.space.moves.process; agree = λ vpn out agreed. purged_agree pager pager' process process' pool pool' how vpn }
   purge_agrees pager pager' process process' pool pool' (purge.Refused reason) how = same_agree pager pager' process process' how.pager_stays how.process_stays
   purge_agrees pager pager' process process' pool pool' (purge.HandedBack frame slot) how =
       λ vpn same agreed.

@@ -150,11 +150,13 @@ module _ {S : Type 0} where
     framed = λ test. let a = gave.framed test in omega (arith, a);
     slotted = let a = gave.slotted in omega (arith, a);
     space = record {
+      moves = record {
+        process = gave.process;
+        pages = all_pages old.memory mid.memory none gave.each;
+        entries = all_entries old.memory mid.memory none gave.each;
+        caches = empties_as old.memory mid.memory (emptied mid.memory) harts refl;
+      };
       stays = ap (λ (s : SpaceValue S). record s { memory = emptied mid.memory }) gave.stays;
-      process = gave.process;
-      pages = all_pages old.memory mid.memory none gave.each;
-      entries = all_entries old.memory mid.memory none gave.each;
-      caches = empties_as old.memory mid.memory (emptied mid.memory) harts refl;
     };
   })
     where

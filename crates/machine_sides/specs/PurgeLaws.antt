@@ -13,7 +13,6 @@ use Rattle.frame_pool.specs.FrameValue.{FrameValue}
 use Rattle.paged_memory.specs.AlikeLaws.{SavingsStay}
 use Rattle.paged_memory.specs.GivenLaws.{HoldsNothing, bare_all, all_savings, all_stay}
 use Rattle.paged_memory.specs.Moving.{SavesSome, SavesNone}
-use Rattle.paged_memory.specs.Moving as moving
 use Rattle.paged_memory.specs.Paged.{PagedValue}
 use Rattle.paged_memory.specs.SaveLaws.{some_save, none_save, none_saved}
 use Rattle.paged_memory.specs.Whole.{savings_among, slots_within}
@@ -97,12 +96,9 @@ module _ {S : Type 0} where
   -- ---- what is left of pages that gave everything back
 
   module _ (old new : SpaceValue S) (gives : GivesAll old new) where
-    abbrev gave : moving.GivesAll old.memory new.memory
-    gave = record { process = gives.process; pages = gives.pages; entries = gives.entries; caches = gives.caches }
-
     module _ (quiet : is_saving_any old.memory ≡ false) where
       abbrev bare : HoldsNothing new.memory
-      bare = bare_all old.memory new.memory gave (none_saved old.memory (none_counted old.memory quiet))
+      bare = bare_all old.memory new.memory gives.moves (none_saved old.memory (none_counted old.memory quiet))
 
       pub given_residents : (test : Key → Bool) → residents_in new test ≡ 0
       unfolding residents_in
@@ -117,10 +113,10 @@ module _ {S : Type 0} where
 
     -- as many pages are being saved, and they stay so
     pub given_savings : (test : Key → Bool) → savings_in new test ≡ savings_in old test
-    given_savings test = savings_same old new gives.process test (all_savings old.memory new.memory gave)
+    given_savings test = savings_same old new gives.moves.process test (all_savings old.memory new.memory gives.moves)
 
     pub given_stays : SavingsStay old.memory new.memory
-    given_stays = all_stay old.memory new.memory gave
+    given_stays = all_stay old.memory new.memory gives.moves
 
   -- ---- the whole call
 
@@ -155,7 +151,7 @@ module _ {S : Type 0} where
             let none = given_frames process.space process'.space all.space quiet test in
             omega (arith, free, both, gave, none);
         size = ap (λ (p : PagerState). p.size) now;
-        process = all.space.process;
+        process = all.space.moves.process;
       }
 
   -- slots move from the pages to their pool
@@ -178,7 +174,7 @@ module _ {S : Type 0} where
         frames = gives.frames;
         slots = gives.slots;
         pager_is =
-            let of_process : number ≡ process.space.memory.process = is ∙ gives.space.process in
+            let of_process : number ≡ process.space.memory.process = is ∙ gives.space.moves.process in
             ap (λ (p : PagerState). record pager { pager = p }) (moved ∙ ap (λ (p : PagerState). with_list (purged number p.list) p) gives.pager_is)
             ∙ ap (λ n. record pager { pager = record pager.pager { free = pager.pager.free ++ gives.frames; list = purged n pager.pager.list } }) of_process;
         pool_is = gives.pool_is;

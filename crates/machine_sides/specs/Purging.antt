@@ -3,14 +3,14 @@ use Rattle.std.specs.Prelude.{◌≡◌, ◌⊎◌, ℕ, ◌+◌, ◌++◌, ◌^
 use Rattle.clock_policy.specs.ClockPro.{purged}
 use Rattle.frame_pool.specs.FrameValue.{FrameValue}
 use Rattle.swap_slots.specs.PoolValue.{PoolValue}
-use Rattle.sv32_table.specs.Entry.{blank}
 use Rattle.paged_memory.specs.Counting.{frame_passes}
-use Rattle.paged_memory.specs.Moving.{has_to_give_in, IsGiven, IsLeft, PageGiven, EmptiesCaches}
+use Rattle.paged_memory.specs.Moving.{IsGiven, IsLeft, EmptiesCaches}
+use Rattle.paged_memory.specs.Moving as moving
 use Rattle.paged_memory.specs.Paged.{PagedValue}
-use Rattle.paged_memory.specs.Whole.{entry_in, savings_among, slots_within}
+use Rattle.paged_memory.specs.Whole.{savings_among, slots_within}
 use Rattle.pager_core.specs.Pager.{PagerState}
 use Rattle.space_core.specs.StandsFor.{SpaceValue}
-use Rattle.machine_sides.specs.Sides.{PagerSideValue, ProcessSideValue}
+use Rattle.machine_sides.specs.Sides.{PagerSideValue, ProcessSideValue, MovesMemory}
 use Rattle.machine_sides.specs.Together.{frames_where, frames_in}
 use Rattle.machine_sides.specs.declared.purging.PurgeRefusal.{PurgeRefusal}
 use Rattle.machine_sides.specs.declared.purging.PurgeRefusal.TheVariants.{NotEnded, SavingStill, AlreadyPurged}
@@ -58,12 +58,8 @@ module _ {S : Type 0} where
     pub each : (number : ℕ) → number < 2 ^ 20 → IsGiven old.memory new.memory number ⊎ IsLeft old.memory new.memory number
 
   -- every page that had something has given it back, and no cache holds a translation
-  pub record GivesAll (old new : SpaceValue S) : Type 0 where
-    pub stays : new ≡ record old { memory = new.memory }
-    pub process : new.memory.process ≡ old.memory.process
-    pub pages : (number : ℕ) → number < 2 ^ 20 → PageGiven old.memory new.memory number
-    pub entries : (number : ℕ) → number < 2 ^ 20 → entry_in new.memory number ≡ (if has_to_give_in old.memory number then blank else entry_in old.memory number)
-    pub caches : EmptiesCaches old.memory new.memory
+  abbrev pub GivesAll : SpaceValue S → SpaceValue S → Type 0
+  GivesAll old new = MovesMemory moving.GivesAll old new
 
   -- a frame or a slot was handed back: the frame since all of the pager's are free, the slot since all of its pool's are there
   pub record StopsGiving (frame : Option FrameValue) (slot : Option S) (pager pager' : PagerState) (pool pool' : PoolValue S) (old new : SpaceValue S) : Type 0 where

@@ -1,12 +1,9 @@
 -- What an audit counts of one process beside the pager, and what it looks for over all of them.
-use Rattle.std.specs.Prelude.{◌≡◌, ℕ, ⊤, ◌+◌, ◌==◌, ◌&&◌, ◌≤◌, ◌*◌, ◌^◌, Bool, true, List, [], ◌∷◌, length, Some, slice_get}
-use Rattle.clock_policy.specs.declared.key.Key.{Key}
+use Rattle.std.specs.Prelude.{◌≡◌, ℕ, ⊤, ◌+◌, ◌≤◌, ◌*◌, ◌^◌, true, List, [], ◌∷◌, length, Some, slice_get}
 use Rattle.clock_policy.specs.Residents.{residents}
-use Rattle.machine_sides.specs.Admitting.{is_resident_at}
 use Rattle.machine_sides.specs.Agreeing.{Agree}
 use Rattle.machine_sides.specs.Held.{is_resident_of}
 use Rattle.machine_sides.specs.Together.{residents_in, frames_in, key_of}
-use Rattle.space_core.specs.StandsFor.{SpaceValue}
 use Rattle.paged_memory.specs.declared.counting.HeldPages.{HeldPages}
 use Rattle.reclaim_daemon.specs.DeskValue.{DeskValue}
 use Rattle.reclaim_daemon.specs.HeldValue.{HeldValue}

@@ -1,38 +1,37 @@
 -- The machine stays one by a look at a page, and what that comes to.
-use Rattle.std.proofs.Common.{◌≡◌, ℕ, ◌+◌, ◌<◌, ◌^◌, Bool, true, false, cond, nat_lt, take, drop, List, [], ◌∷◌, ◌++◌, length, length-append, Option, Some, None, option_map, slice_get, refl, sym, ap, ◌∙◌, arith, subst}
+use Rattle.std.proofs.Common.{◌≡◌, ℕ, ◌+◌, ◌<◌, ◌^◌, Bool, true, false, cond, take, drop, List, [], ◌∷◌, ◌++◌, length, length-append, Some, None, slice_get, refl, sym, ap, ◌∙◌, arith, subst}
 use Rattle.std.specs.Prelude.{slice_set, All, if◌then◌else◌}
 use Rattle.std.proofs.lemmas.List.{length-set}
 use Rattle.std.proofs.lemmas.List.Elements.{All-nil, All-cons, All-append}
-use borrow.Author.Tests.{ltb-true}
 use Rattle.clock_policy.specs.declared.key.Key.{Key}
 use Rattle.clock_policy.specs.declared.refusal.Refusal.{Refusal}
 use Rattle.clock_policy.specs.declared.refusal.Refusal.TheVariants as list
 use Rattle.clock_policy.specs.AdmitLaws.{one_key}
 use Rattle.clock_policy.specs.Lawful.{Lawful}
 use Rattle.page_store.specs.JobValue.{JobValue}
-use Rattle.page_store.specs.PageValue.{PageValue, Place, Fresh, Resident, Leaving, Saving, Away, Purged, page_state_of, frame_of}
-use Rattle.paged_memory.specs.Counting.{is_resident_place, is_saving_place, frame_passes}
-use Rattle.paged_memory.specs.Paged.{page_at}
-use Rattle.paged_memory.specs.Stages.{is_leaving_stage}
+use Rattle.paged_memory.specs.Stages.{is_leaving_stage, is_saving_stage}
+use Rattle.paged_memory.specs.StagesLaws.{leaving_framed, leaving_not_resident, leaving_not_saving}
+use Rattle.paged_memory.specs.Whole.{stage_in, frame_in}
 use Rattle.space_core.specs.StandsFor.{SpaceValue}
 use Rattle.swap_slots.specs.PoolValue.{PoolValue}
 use Rattle.machine_sides.specs.declared.collecting.Looked.{Looked}
 use Rattle.machine_sides.specs.declared.collecting.Looked.TheVariants.{NotLeaving, NotYet, Freed, Dirty, NoSlot, NotRestored, HandedBack}
 use Rattle.machine_core.specs.declared.error.EventRefusal.TheVariants as refusal
 use Rattle.machine_core.specs.declared.event.Reply.{Reply}
-use Rattle.machine_sides.specs.Collecting.{is_leaving_at, IsLeaving, Looks, IsDropped, IsCopied, LacksAndReturns, LacksAndLeaves}
+use Rattle.machine_sides.specs.Collecting.{is_leaving_at, Looks, IsDropped, IsCopied, LacksAndReturns, LacksAndLeaves}
 use Rattle.machine_core.specs.CollectEvent.{leaving_reason, collect_refusal, CollectsTo, not_yet, freed, dirty, no_slot, no_memory, CollectsOnce, LooksAt, IsOwn, jobs_after, looked_reply}
-use Rattle.machine_sides.specs.CollectLaws.{dropped_together, dropped_rest, copied_together, copied_savings, copied_slots, copied_stays, copied_now, copied_place}
+use Rattle.machine_sides.specs.CollectLaws.{dropped_together, dropped_rest, copied_together, copied_savings, copied_slots, copied_now}
 use Rattle.machine_sides.specs.LookLaws.{same_sides}
 use Rattle.machine_core.specs.Machine.{CoreValue, IsMachine, IsSaveOut, jobs_where, total}
 use Rattle.machine_core.specs.MachineRun.{of_process}
 use Rattle.machine_sides.specs.ReturnLaws.{returned_rest, listed_frames, back_together}
 use Rattle.machine_sides.specs.Sides.{PagerSideValue, ProcessSideValue}
-use Rattle.machine_sides.specs.SweepLaws.{LeavesRest}
+use Rattle.machine_sides.specs.StageLaws.{stage_passes}
+use Rattle.machine_sides.specs.TogetherLaws.{LeavesRest}
 use Rattle.machine_sides.specs.Together.{Together, key_of}
 use Rattle.machine_core.proofs.Cores.{lent_back}
 use Rattle.machine_core.proofs.Counted.{HoldsFrame, frame_missing, job_fits, takes_back}
-use Rattle.machine_core.proofs.Kept.{Moves, moved_machine, out_stays, SavingsStay}
+use Rattle.machine_core.proofs.Kept.{Moves, moved_machine, out_stays}
 use Rattle.machine_core.specs.TotalLaws.{get_set_same}
 
 -- a refusal that can be no other is want of memory
@@ -46,33 +45,11 @@ only_memory list.NoMemory h = refl
 module _ {S : Type 0} where
   -- ---- a page that is leaving holds a frame, and is neither resident nor being saved
 
-  pub leaving_found : (space : SpaceValue S) (vpn : ℕ) → is_leaving_at space vpn ≡ true → IsLeaving vpn space
-  leaving_found space vpn h =
-      elim (nat_lt vpn (2 ^ 20)) as (λ t. nat_lt vpn (2 ^ 20) ≡ t → is_leaving_stage (if t then option_map (λ page. page_state_of page.place) (page_at space.memory.pages vpn) else None) ≡ true → IsLeaving vpn space) [
-        | true ↦ λ small is. by_page (ltb-true vpn (2 ^ 20) small) (page_at space.memory.pages vpn) refl is
-        | false ↦ λ large is. cc
-      ] refl h
-    where
-      by_place : vpn < 2 ^ 20 → (page : PageValue S) → page_at space.memory.pages vpn ≡ Some page → (place : Place S) → page.place ≡ place → is_leaving_stage (Some (page_state_of place)) ≡ true → IsLeaving vpn space
-      by_place small page found Fresh at is = cc
-      by_place small page found (Resident frame slot) at is = cc
-      by_place small page found (Leaving frame slot mark) at is = record { small = small; page = page; frame = frame; slot = slot; mark = mark; found = found; leaving = at }
-      by_place small page found (Saving frame) at is = cc
-      by_place small page found (Away slot) at is = cc
-      by_place small page found Purged at is = cc
-
-      by_page : vpn < 2 ^ 20 → (o : Option (PageValue S)) → page_at space.memory.pages vpn ≡ o → is_leaving_stage (option_map (λ page. page_state_of page.place) o) ≡ true → IsLeaving vpn space
-      by_page small None found is = cc
-      by_page small (Some page) found is = by_place small page found page.place refl is
-
-  abbrev leaving_holds : (space : SpaceValue S) (vpn : ℕ) → IsLeaving vpn space → HoldsFrame space vpn
-  leaving_holds space vpn leaving = record {
-    small = leaving.small;
-    page = leaving.page;
-    at = leaving.found;
-    framed = ap (λ p. frame_passes (λ _. true) (frame_of p)) leaving.leaving;
-    apart = ap is_resident_place leaving.leaving;
-  }
+  leaving_holds : (space : SpaceValue S) (vpn : ℕ) → is_leaving_at space vpn ≡ true → HoldsFrame space vpn
+  leaving_holds space vpn leaving =
+      let there = stage_passes space is_leaving_stage vpn refl leaving in
+      let page = stage_in space.memory vpn in
+      record { small = there.0; framed = leaving_framed page there.1; apart = leaving_not_resident page there.1 }
 
   -- ---- sums of saves
 
@@ -86,7 +63,6 @@ module _ {S : Type 0} where
   module _ (core core' : CoreValue S) (p : ℕ) (q q' : ProcessSideValue S) (machine : IsMachine core) (found : slice_get core.processes p ≡ Some q) (processes : core'.processes ≡ slice_set core.processes p q') where
     -- where neither slots nor saves change
     quiet_moves : Together core.pager.pager core'.pager.pager q.space q'.space → Lawful core'.pager.pager.list → core'.pager.pager.list.frames ≡ core'.pager.pager.size → LeavesRest q.space q'.space → core'.slots ≡ core.slots → core'.jobs ≡ core.jobs → Moves core core' p q q'
-    unfolding SavingsStay
     quiet_moves together lawful frames rest slots jobs = record {
       found = found;
       processes = processes;
@@ -103,11 +79,11 @@ module _ {S : Type 0} where
           let a = rest.slots in
           omega (arith, free, same, a);
       slots = ap (λ (s : PoolValue S). s.size) slots;
-      out = subst (λ l. All (IsSaveOut l) core'.jobs) (sym processes) (subst (All (IsSaveOut (slice_set core.processes p q'))) (sym jobs) (out_stays core.processes p q q' core.jobs found (λ v page frame small at saving. rest.stay v page frame at saving) machine.out));
+      out = subst (λ l. All (IsSaveOut l) core'.jobs) (sym processes) (subst (All (IsSaveOut (slice_set core.processes p q'))) (sym jobs) (out_stays core.processes p q q' core.jobs found rest.stay machine.out));
     }
 
     same_rest : q' ≡ q → LeavesRest q.space q'.space
-    same_rest same = subst (λ (r : ProcessSideValue S). LeavesRest q.space r.space) (sym same) (record { savings = λ test. refl; slots = refl; stay = λ v page frame at saving. at })
+    same_rest same = subst (λ (r : ProcessSideValue S). LeavesRest q.space r.space) (sym same) (record { savings = λ test. refl; slots = refl; stay = λ number small is. (refl, refl) })
 
     lawful_still : core'.pager ≡ core.pager → Lawful core'.pager.pager.list
     lawful_still pager = subst (λ (s : PagerSideValue). Lawful s.pager.list) (sym pager) machine.lawful
@@ -135,21 +111,20 @@ module _ {S : Type 0} where
           (returned_rest vpn q q' back.returns.mapped) back.slots_stay jobs
 
       copied_moves : (job : JobValue S) → IsCopied vpn core.pager core'.pager q q' core.slots core'.slots job → core'.jobs ≡ core.jobs ++ job ∷ [] → Moves core core' p q q'
-      unfolding SavingsStay
       copied_moves job copied jobs =
           let saving = copied.saving in
+          let at = copied_now vpn job q q' core.slots core'.slots saving in
           let number : job.process ≡ p = saving.moves.process ∙ machine.numbered p q found in
           let out : IsSaveOut core'.processes job = record {
             process = q';
-            page = saving.moves.page.page';
-            frame = saving.moves.page.how.frame;
+            frame = at.frame;
             small = subst (λ n. n < 2 ^ 20) (sym saving.moves.vpn_is) saving.moves.small;
             found = ap (slice_get core'.processes) number ∙ ap (λ l. slice_get l p) processes ∙ get_set_same core.processes p q q' found;
-            at = ap (page_at q'.space.memory.pages) saving.moves.vpn_is ∙ copied_now vpn job q q' core.slots core'.slots saving;
-            saving = copied_place vpn job q q' core.slots core'.slots saving;
-            same = sym saving.moves.page.how.copy;
+            saving = ap (λ v. is_saving_stage (stage_in q'.space.memory v)) saving.moves.vpn_is ∙ ap is_saving_stage at.is;
+            framed = ap (frame_in q'.space.memory) saving.moves.vpn_is ∙ at.framed_still;
+            same = sym at.copy;
           } in
-          let others : All (IsSaveOut core'.processes) core.jobs = subst (λ l. All (IsSaveOut l) core.jobs) (sym processes) (out_stays core.processes p q q' core.jobs found (λ v page frame small at is. copied_stays vpn job q q' core.slots core'.slots saving v page frame at is) machine.out) in
+          let others : All (IsSaveOut core'.processes) core.jobs = subst (λ l. All (IsSaveOut l) core.jobs) (sym processes) (out_stays core.processes p q q' core.jobs found at.stay machine.out) in
           record {
             found = found;
             processes = processes;
@@ -193,7 +168,7 @@ module _ {S : Type 0} where
 
   module _ (core : CoreValue S) (p : ℕ) (q q' : ProcessSideValue S) (vpn : ℕ) (machine : IsMachine core) (found : slice_get core.processes p ≡ Some q) (leaving : is_leaving_at q.space vpn ≡ true) where
     holds : HoldsFrame q.space vpn
-    holds = leaving_holds q.space vpn (leaving_found q.space vpn leaving)
+    holds = leaving_holds q.space vpn leaving
 
     pub looked_own : {L : Type 0} (pager' : PagerSideValue) (slots' : PoolValue S) (looked : Looked L S) → Looks vpn core.pager pager' q q' core.slots slots' looked → IsOwn looked
     looked_own pager' slots' NotLeaving how = let no = how.0 in let yes = leaving in cc
@@ -206,11 +181,7 @@ module _ {S : Type 0} where
 
     -- a save of the page has room
     pub looked_room : length core.jobs < core.pager.pager.size
-    unfolding holds
-    looked_room = job_fits core p q vpn machine found holds (unsaving (leaving_found q.space vpn leaving))
-      where
-        unsaving : (l : IsLeaving vpn q.space) → is_saving_place l.page.place ≡ false
-        unsaving l = ap is_saving_place l.leaving
+    looked_room = job_fits core p q vpn machine found holds (leaving_not_saving (stage_in q.space.memory vpn) (stage_passes q.space is_leaving_stage vpn refl leaving).1)
 
   -- ---- the event
 

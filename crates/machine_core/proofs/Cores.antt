@@ -1,6 +1,6 @@
 -- The machine stays one by each event of a process, and by a sweep.
-use Rattle.std.proofs.Common.{◌≡◌, ℕ, ◌<◌, true, false, cond, nat_lt, ◌≤◌, ◌++◌, take, drop, List, [], length, Option, Some, None, slice_get, refl, sym, ap, ◌∙◌, arith, subst}
-use Rattle.std.specs.Prelude.{slice_set, slice_index_or}
+use Rattle.std.proofs.Common.{◌≡◌, ℕ, ◌<◌, false, ◌≤◌, ◌++◌, take, drop, List, length, Option, Some, None, slice_get, refl, sym, ap, ◌∙◌, arith, subst}
+use Rattle.std.specs.Prelude.{slice_set}
 use Rattle.std.proofs.lemmas.Option.{slice_get_within}
 use Rattle.std.proofs.lemmas.List.{length-set, take_all, drop_all, append-nil}
 use Rattle.clock_policy.specs.declared.key.Key.{Key}
@@ -14,9 +14,9 @@ use Rattle.clock_policy.specs.Residents.{is_gone}
 use Rattle.pager_core.specs.Pager.{PagerState, pager_answered}
 use Rattle.flat_machine.specs.declared.end.End.{End}
 use Rattle.flat_machine.specs.declared.end.KillCause.{KillCause}
-use Rattle.tlb_core.specs.Cache.{undoomed}
-use Rattle.space_core.specs.Caches.{noticed, if_killed}
-use Rattle.space_core.specs.RunningValue.{RunningValue}
+use Rattle.paged_memory.specs.AlikeLaws.{CountsAlike, same_memory, kept_alike, noticed_alike, emptied_alike}
+use Rattle.paged_memory.specs.Paged.{PagedValue}
+use Rattle.space_core.specs.Caches.{if_killed}
 use Rattle.space_core.specs.declared.progress.SliceStop.{SliceStop}
 use Rattle.machine_core.specs.Machine.{CoreValue, IsMachine}
 use Rattle.page_store.specs.JobValue.{JobValue}
@@ -32,10 +32,10 @@ use Rattle.machine_sides.specs.ProcessCalls.{StepsOnce, TakesNotices, IsKilled}
 use Rattle.machine_sides.specs.Sides.{PagerSideValue, ProcessSideValue}
 use Rattle.machine_sides.specs.Sweeping.{AnswersQuestion, Sweeps}
 use Rattle.machine_sides.specs.SweepLaws.{answers_together, answers_rest}
+use Rattle.machine_sides.specs.TogetherLaws.{alike_residents, alike_frames, alike_rest}
 use Rattle.machine_core.specs.declared.error.EventRefusal.{EventRefusal}
 use Rattle.machine_core.proofs.Finding.{Asked, HasResident, asked_process, bit_there}
-use Rattle.machine_core.proofs.Kept.{moved_machine, out_stays, SavingsStay}
-use Rattle.machine_core.proofs.KeptPages.{CountAlike, same_pages, kept_pages}
+use Rattle.machine_core.proofs.Kept.{moved_machine, out_stays}
 
 -- a process that an event is not refused for is there
 pub is_there : {S : Type 0} (reason : ProcessSideValue S → Option EventRefusal) (processes : List (ProcessSideValue S)) (p : ℕ) → None ≡ of_process reason (slice_get processes p) → p < length processes
@@ -50,28 +50,28 @@ pub lent_back : {A : Type 0} (items new : List A) (n : ℕ) → n ≡ length ite
 lent_back items new n long same = let past : length items ≤ length new = omega (arith, same) in rw (drop_all (length new) items past, append-nil new) (take_all n new (omega (arith, long, same)))
 
 module _ {S : Type 0} where
-  pub alike_machine : (core : CoreValue S) (p : ℕ) (q q' : ProcessSideValue S) → IsMachine core → slice_get core.processes p ≡ Some q → CountAlike q.space q'.space
+  pub alike_machine : (core : CoreValue S) (p : ℕ) (q q' : ProcessSideValue S) → IsMachine core → slice_get core.processes p ≡ Some q → CountsAlike q.space.memory q'.space.memory
       → IsMachine (record core { processes = slice_set core.processes p q' })
   alike_machine core p q q' machine found alike =
       moved_machine core (record core { processes = slice_set core.processes p q' }) p q q' machine (record {
         found = found;
         processes = refl;
         together = record {
-          listed = λ test. let a = alike.residents test in omega (arith, a);
-          framed = λ test. let a = alike.frames test in omega (arith, a);
+          listed = λ test. let a = alike_residents q.space q'.space alike test in omega (arith, a);
+          framed = λ test. let a = alike_frames q.space q'.space alike test in omega (arith, a);
           size = refl;
           process = alike.process;
         };
         lawful = machine.lawful;
         frames = machine.frames;
-        saved = λ test. let a = alike.savings test in omega (arith, a);
+        saved = λ test. let a = (alike_rest q.space q'.space alike).savings test in omega (arith, a);
         slotted = let a = alike.slots in omega (arith, a);
         slots = refl;
         out = out_stays core.processes p q q' core.jobs found alike.stay machine.out;
       })
 
   -- the processes that were lent as a slice, of which one changed
-  pub lent_machine : (by : ProcessSideValue S → ProcessSideValue S → Type 0) (alike : (q q' : ProcessSideValue S) → by q q' → CountAlike q.space q'.space)
+  pub lent_machine : (by : ProcessSideValue S → ProcessSideValue S → Type 0) (alike : (q q' : ProcessSideValue S) → by q q' → CountsAlike q.space.memory q'.space.memory)
       (pager : PagerSideValue) (slots : PoolValue S) (jobs : List (JobValue S)) (items lent new : List (ProcessSideValue S)) (n p : ℕ)
       → IsMachine (record { pager = pager; slots = slots; processes = items; jobs = jobs }) → n ≡ length items → lent ≡ items → ChangesOne by p lent new
       → IsMachine (record { pager = pager; slots = slots; processes = take n (new ++ drop (length new) items); jobs = jobs })
@@ -82,30 +82,23 @@ module _ {S : Type 0} where
       let all : slice_set items p one.process' ≡ take n (new ++ drop (length new) items) = sym is ∙ sym (lent_back items new n long (ap length is ∙ length-set items p one.process')) in
       subst (λ l. IsMachine (record { pager = pager; slots = slots; processes = l; jobs = jobs })) all (alike_machine core p one.process one.process' machine found (alike one.process one.process' one.how))
 
-  pub step_alike : (held : S → List ℕ) (honest : Type 0) (hart : ℕ) (why : SliceStop) (q q' : ProcessSideValue S) → StepsOnce held honest hart why q q' → CountAlike q.space q'.space
-  step_alike held honest hart why q q' how = kept_pages q.space q'.space how.slice.kept.process how.slice.kept.pages
+  pub step_alike : (held : S → List ℕ) (honest : Type 0) (hart : ℕ) (why : SliceStop) (q q' : ProcessSideValue S) → StepsOnce held honest hart why q q' → CountsAlike q.space.memory q'.space.memory
+  step_alike held honest hart why q q' how = kept_alike q.space.memory q'.space.memory how.slice.kept.process how.slice.kept.pages
 
-  noticed_same : (hart : ℕ) (q : ProcessSideValue S) → CountAlike q.space (record q.space { memory = noticed hart q.space.memory })
-  noticed_same hart q =
-      elim (nat_lt hart (length q.space.memory.caches)) as (λ t. CountAlike q.space (record q.space { memory = cond t (record q.space.memory { caches = slice_set q.space.memory.caches hart (undoomed (slice_index_or q.space.memory.caches hart [])) }) q.space.memory })) [
-        | true ↦ same_pages q.space _ refl refl
-        | false ↦ same_pages q.space _ refl refl
-      ]
+  pub notice_alike : (hart : ℕ) (q q' : ProcessSideValue S) → TakesNotices hart q q' → CountsAlike q.space.memory q'.space.memory
+  notice_alike hart q q' how = subst (λ (r : ProcessSideValue S). CountsAlike q.space.memory r.space.memory) (sym how) (noticed_alike hart q.space.memory)
 
-  pub notice_alike : (hart : ℕ) (q q' : ProcessSideValue S) → TakesNotices hart q q' → CountAlike q.space q'.space
-  notice_alike hart q q' how = subst (λ (r : ProcessSideValue S). CountAlike q.space r.space) (sym how) (noticed_same hart q)
+  killed_same : (memory : PagedValue S) (ending : Option End) → CountsAlike memory (if_killed ending memory)
+  killed_same memory None = emptied_alike memory
+  killed_same memory (Some end) = same_memory memory memory refl
 
-  killed_same : (q : ProcessSideValue S) (running : RunningValue) (ending : Option End) → CountAlike q.space (record q.space { running = running; memory = if_killed ending q.space.memory })
-  killed_same q running None = same_pages q.space _ refl refl
-  killed_same q running (Some end) = same_pages q.space _ refl refl
-
-  pub kill_alike : (cause : KillCause) (q q' : ProcessSideValue S) → IsKilled cause q q' → CountAlike q.space q'.space
-  kill_alike cause q q' how = subst (λ (r : ProcessSideValue S). CountAlike q.space r.space) (sym how) (killed_same q _ q.space.running.ending)
+  pub kill_alike : (cause : KillCause) (q q' : ProcessSideValue S) → IsKilled cause q q' → CountsAlike q.space.memory q'.space.memory
+  kill_alike cause q q' how = subst (λ (r : ProcessSideValue S). CountsAlike q.space.memory r.space.memory) (sym how) (killed_same q.space.memory q.space.running.ending)
 
   -- the same of a sweep, whose page is resident
   pub swept_machine : (core : CoreValue S) (pager' : PagerSideValue) (q q' : ProcessSideValue S) (key : Key) (bit : Bit) (verdict : Verdict) → IsMachine core → slice_get core.processes key.process ≡ Some q
       → HasResident q.space key → AnswersQuestion core.pager pager' q q' key bit verdict → IsMachine (record core { pager = pager'; processes = slice_set core.processes key.process q' })
-  unfolding pager_answered SavingsStay
+  unfolding pager_answered
   swept_machine core pager' q q' key bit verdict machine found there answers =
       let not_gone : is_gone bit ≡ false = ap is_gone (sym answers.bit_is) ∙ bit_there q.space key there in
       let now : pager'.pager ≡ pager_answered bit core.pager.pager = ap (λ (p : PagerSideValue). p.pager) answers.pager_is in
@@ -119,7 +112,7 @@ module _ {S : Type 0} where
         saved = λ test. let a = rest.savings test in omega (arith, a);
         slotted = let a = rest.slots in omega (arith, a);
         slots = refl;
-        out = out_stays core.processes key.process q q' core.jobs found (λ v page frame small at saving. rest.stay v page frame at saving) machine.out;
+        out = out_stays core.processes key.process q q' core.jobs found rest.stay machine.out;
       })
 
   -- the sweep that was made for the page of the question

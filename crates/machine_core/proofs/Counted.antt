@@ -1,63 +1,19 @@
 -- What the machine's counts tell of a page that holds a frame and is not resident: a frame is missing, a save has room, and the list takes the page back.
-use Rattle.std.proofs.Common.{◌≡◌, ℕ, zero, suc, ◌+◌, ◌≤◌, ◌<◌, ◌^◌, Bool, true, false, ◌&&◌, cond, List, [], ◌∷◌, length, Some, None, Err, slice_get, inl, inr, refl, sym, ap, ◌∙◌, arith}
-use Rattle.std.proofs.lemmas.Bool.Decides.{eqb_tells}
+use Rattle.std.proofs.Common.{◌≡◌, ℕ, zero, suc, ◌+◌, ◌≤◌, ◌<◌, ◌^◌, true, false, cond, List, [], ◌∷◌, length, Some, Err, slice_get, inl, inr, refl, sym, ap, ◌∙◌, arith}
 use Rattle.clock_policy.specs.declared.refusal.Refusal.{Refusal}
 use Rattle.clock_policy.specs.AdmitLaws.{restored_barred, key_residents}
 use Rattle.clock_policy.specs.ClockPro.{restored}
 use Rattle.clock_policy.specs.Residents.{residents, is_key, has_resident}
 use Rattle.frame_pool.specs.FrameValue.{FrameValue}
 use Rattle.page_store.specs.JobValue.{JobValue}
-use Rattle.page_store.specs.PageValue.{PageValue, Place, Fresh, Resident, Leaving, Saving, Away, Purged, frame_of}
-use Rattle.paged_memory.specs.Counting.{page_passes, pages_below, pages_where, is_resident_place, is_saving_place, frame_passes}
-use Rattle.paged_memory.specs.Paged.{page_at}
+use Rattle.paged_memory.specs.AmongLaws.{residents_framed as among_framed, savings_framed as saved_framed, one_resident_less, one_saving_less}
+use Rattle.paged_memory.specs.Stages.{is_resident_stage, is_saving_stage, has_frame_stage}
+use Rattle.paged_memory.specs.Whole.{stage_in}
 use Rattle.space_core.specs.StandsFor.{SpaceValue}
 use Rattle.machine_core.specs.Machine.{CoreValue, IsMachine, total, numbers_below, jobs_where}
 use Rattle.machine_sides.specs.Sides.{ProcessSideValue}
 use Rattle.machine_sides.specs.Together.{residents_in, savings_in, frames_in, frames_where, key_of}
 use Rattle.machine_core.proofs.Finding.{total_some, has_resident as resident_of}
-
--- ---- what passes one test passes another
-
--- one truth brings the other
-abbrev pub Implies : Bool → Bool → Type 0
-Implies a b = a ≡ true → b ≡ true
-
-less_cond : (a b : Bool) → Implies a b → cond {A = ℕ} a 1 0 ≤ cond b 1 0
-less_cond true b h = rw (h refl) (omega arith)
-less_cond false b h = omega arith
-
-module _ {S : Type 0} (few many : ℕ → PageValue S → Bool) (pages : List (ℕ × PageValue S)) (all : (number : ℕ) (page : PageValue S) → Implies (few number page) (many number page)) where
-  here : (number : ℕ) → Implies (page_passes (few number) (page_at pages number)) (page_passes (many number) (page_at pages number))
-  here number = elim (page_at pages number) as (λ o. Implies (page_passes (few number) o) (page_passes (many number) o)) [ None ↦ λ h. h | Some page ↦ all number page ]
-
-  fewer_below : (bound : ℕ) → pages_below few pages bound ≤ pages_below many pages bound
-  unfolding pages_below
-  fewer_below zero = omega arith
-  fewer_below (suc bound) = omega (arith, less_cond (page_passes (few bound) (page_at pages bound)) (page_passes (many bound) (page_at pages bound)) (here bound), fewer_below bound)
-
-  pub fewer_where : pages_where few pages ≤ pages_where many pages
-  unfolding pages_where
-  fewer_where = fewer_below (2 ^ 20)
-
-  module _ (v : ℕ) (page : PageValue S) (at : page_at pages v ≡ Some page) (not : few v page ≡ false) (yes : many v page ≡ true) where
-    one_below : (bound : ℕ) → v < bound → pages_below few pages bound + 1 ≤ pages_below many pages bound
-    unfolding pages_below
-    one_below zero below = absurd (omega arith)
-    one_below (suc bound) below =
-        elim (eqb_tells bound v) [
-          | inl same ↦
-              let first : cond {A = ℕ} (page_passes (few bound) (page_at pages bound)) 1 0 ≡ 0 = ap (λ n. cond {A = ℕ} (page_passes (few n) (page_at pages n)) 1 0) same.1 ∙ ap (λ o. cond {A = ℕ} (page_passes (few v) o) 1 0) at ∙ ap (λ b. cond {A = ℕ} b 1 0) not in
-              let second : cond {A = ℕ} (page_passes (many bound) (page_at pages bound)) 1 0 ≡ 1 = ap (λ n. cond {A = ℕ} (page_passes (many n) (page_at pages n)) 1 0) same.1 ∙ ap (λ o. cond {A = ℕ} (page_passes (many v) o) 1 0) at ∙ ap (λ b. cond {A = ℕ} b 1 0) yes in
-              omega (arith, first, second, fewer_below bound)
-          | inr apart ↦
-              let less : v < bound = let ne = apart.1 in omega (arith, ne, below) in
-              omega (arith, less_cond (page_passes (few bound) (page_at pages bound)) (page_passes (many bound) (page_at pages bound)) (here bound), one_below bound less)
-        ]
-
-    -- a page that passes the second alone is one more
-    pub one_fewer_where : v < 2 ^ 20 → pages_where few pages + 1 ≤ pages_where many pages
-    unfolding pages_where
-    one_fewer_where small = one_below (2 ^ 20) small
 
 module _ {A : Type 0} (few many : A → ℕ) (all : (x : A) → few x ≤ many x) where
   pub fewer_total : (xs : List A) → total few xs ≤ total many xs
@@ -94,51 +50,29 @@ all_jobs (job ∷ jobs) = omega (arith, all_jobs jobs)
 
 -- ---- the machine's counts
 
--- a page holds a frame where it is resident or is being saved
-resident_framed : {S : Type 0} (place : Place S) → Implies (is_resident_place place && true) (frame_passes (λ _. true) (frame_of place))
-resident_framed Fresh h = cc
-resident_framed (Resident frame slot) h = refl
-resident_framed (Leaving frame slot mark) h = cc
-resident_framed (Saving frame) h = cc
-resident_framed (Away slot) h = cc
-resident_framed Purged h = cc
-
-saving_framed : {S : Type 0} (place : Place S) → Implies (is_saving_place place && true) (frame_passes (λ _. true) (frame_of place))
-saving_framed Fresh h = cc
-saving_framed (Resident frame slot) h = cc
-saving_framed (Leaving frame slot mark) h = cc
-saving_framed (Saving frame) h = refl
-saving_framed (Away slot) h = cc
-saving_framed Purged h = cc
-
 module _ {S : Type 0} where
+  -- a page holds a frame where it is resident or is being saved
   pub residents_framed : (q : ProcessSideValue S) → residents_in q.space (λ _. true) ≤ frames_in q.space (λ _. true)
   unfolding residents_in frames_in
-  residents_framed q = fewer_where (λ number page. is_resident_place page.place && true) (λ number page. frame_passes (λ _. true) (frame_of page.place)) q.space.memory.pages (λ number page. resident_framed page.place)
+  residents_framed q = among_framed q.space.memory
 
-  savings_framed : (q : ProcessSideValue S) → savings_in q.space (λ _. true) ≤ frames_in q.space (λ _. true)
+  pub savings_framed : (q : ProcessSideValue S) → savings_in q.space (λ _. true) ≤ frames_in q.space (λ _. true)
   unfolding savings_in frames_in
-  savings_framed q = fewer_where (λ number page. is_saving_place page.place && true) (λ number page. frame_passes (λ _. true) (frame_of page.place)) q.space.memory.pages (λ number page. saving_framed page.place)
+  savings_framed q = saved_framed q.space.memory
 
   -- a page that holds a frame and is not resident
   pub record HoldsFrame (space : SpaceValue S) (vpn : ℕ) : Type 0 where
     pub small : vpn < 2 ^ 20
-    pub page : PageValue S
-    pub at : page_at space.memory.pages vpn ≡ Some page
-    pub framed : frame_passes (λ _. true) (frame_of page.place) ≡ true
-    pub apart : is_resident_place page.place ≡ false
+    pub framed : has_frame_stage (stage_in space.memory vpn) ≡ true
+    pub apart : is_resident_stage (stage_in space.memory vpn) ≡ false
 
-  one_resident_less : (space : SpaceValue S) (vpn : ℕ) → HoldsFrame space vpn → residents_in space (λ _. true) + 1 ≤ frames_in space (λ _. true)
+  one_resident_fewer_in : (space : SpaceValue S) (vpn : ℕ) → HoldsFrame space vpn → residents_in space (λ _. true) + 1 ≤ frames_in space (λ _. true)
   unfolding residents_in frames_in
-  one_resident_less space vpn holds =
-      one_fewer_where (λ number page. is_resident_place page.place && true) (λ number page. frame_passes (λ _. true) (frame_of page.place)) space.memory.pages (λ number page. resident_framed page.place)
-      vpn holds.page holds.at (ap (λ b. b && true) holds.apart) holds.framed holds.small
+  one_resident_fewer_in space vpn holds = one_resident_less space.memory vpn holds.small holds.framed holds.apart
 
-  one_saving_less : (space : SpaceValue S) (vpn : ℕ) (holds : HoldsFrame space vpn) → is_saving_place holds.page.place ≡ false → savings_in space (λ _. true) + 1 ≤ frames_in space (λ _. true)
+  one_saving_fewer_in : (space : SpaceValue S) (vpn : ℕ) → HoldsFrame space vpn → is_saving_stage (stage_in space.memory vpn) ≡ false → savings_in space (λ _. true) + 1 ≤ frames_in space (λ _. true)
   unfolding savings_in frames_in
-  one_saving_less space vpn holds unsaved =
-      one_fewer_where (λ number page. is_saving_place page.place && true) (λ number page. frame_passes (λ _. true) (frame_of page.place)) space.memory.pages (λ number page. saving_framed page.place)
-      vpn holds.page holds.at (ap (λ b. b && true) unsaved) holds.framed holds.small
+  one_saving_fewer_in space vpn holds unsaved = one_saving_less space.memory vpn holds.small holds.framed unsaved
 
   module _ (core : CoreValue S) (p : ℕ) (q : ProcessSideValue S) (vpn : ℕ) (machine : IsMachine core) (found : slice_get core.processes p ≡ Some q) (holds : HoldsFrame q.space vpn) where
     -- as many frames are in pages as are not free
@@ -146,16 +80,16 @@ module _ {S : Type 0} where
     frames_in_pages = let framed = machine.framed (λ _. true) in omega (arith, framed, all_frames core.pager.pager.free, all_numbers core.pager.pager.size)
 
     one_resident_fewer : total (λ (r : ProcessSideValue S). residents_in r.space (λ _. true)) core.processes + 1 ≤ total (λ (r : ProcessSideValue S). frames_in r.space (λ _. true)) core.processes
-    one_resident_fewer = one_fewer_total _ _ residents_framed core.processes p q found (one_resident_less q.space vpn holds)
+    one_resident_fewer = one_fewer_total _ _ residents_framed core.processes p q found (one_resident_fewer_in q.space vpn holds)
 
     -- a frame is missing among the free ones
     pub frame_missing : length core.pager.pager.free < core.pager.pager.size
     frame_missing = omega (arith, frames_in_pages, one_resident_fewer)
 
     -- a save of the page has room
-    pub job_fits : is_saving_place holds.page.place ≡ false → length core.jobs < core.pager.pager.size
+    pub job_fits : is_saving_stage (stage_in q.space.memory vpn) ≡ false → length core.jobs < core.pager.pager.size
     job_fits unsaved =
-        let fewer : total (λ (r : ProcessSideValue S). savings_in r.space (λ _. true)) core.processes + 1 ≤ total (λ (r : ProcessSideValue S). frames_in r.space (λ _. true)) core.processes = one_fewer_total _ _ savings_framed core.processes p q found (one_saving_less q.space vpn holds unsaved) in
+        let fewer : total (λ (r : ProcessSideValue S). savings_in r.space (λ _. true)) core.processes + 1 ≤ total (λ (r : ProcessSideValue S). frames_in r.space (λ _. true)) core.processes = one_fewer_total _ _ savings_framed core.processes p q found (one_saving_fewer_in q.space vpn holds unsaved) in
         let saved = machine.saved (λ _. true) in
         omega (arith, frames_in_pages, fewer, saved, all_jobs core.jobs)
 
@@ -176,8 +110,7 @@ module _ {S : Type 0} where
         let there = resident_of one.item.space key one.some in
         let place : one.place ≡ p = sym (machine.numbered one.place one.item one.found) ∙ there.of_process in
         let same : one.item ≡ q = let a = one.found in let b = found in let c = place in cc in
-        let page : there.page ≡ holds.page = let a = there.at in let b = holds.at in let c = ap (λ (r : ProcessSideValue S). page_at r.space.memory.pages vpn) same in cc in
-        let yes : is_resident_place holds.page.place ≡ true = ap (λ (g : PageValue S). is_resident_place g.place) (sym page) ∙ there.resident in
+        let yes : is_resident_stage (stage_in q.space.memory vpn) ≡ true = ap (λ (r : ProcessSideValue S). is_resident_stage (stage_in r.space.memory vpn)) (sym same) ∙ there.resident in
         let no = holds.apart in
         cc
 

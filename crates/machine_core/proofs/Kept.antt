@@ -1,25 +1,20 @@
 -- The machine stays one where one process and what it shares change together.
-use Rattle.std.proofs.Common.{◌≡◌, ℕ, ◌+◌, ◌^◌, ◌<◌, Bool, List, length, Some, slice_get, inl, inr, sym, ap, ◌∙◌, arith}
+use Rattle.std.proofs.Common.{◌≡◌, ℕ, ◌+◌, Bool, true, List, length, Some, slice_get, inl, inr, sym, ap, ◌∙◌, arith}
 use Rattle.std.specs.Prelude.{slice_set, All}
 use Rattle.std.proofs.lemmas.Bool.Decides.{eqb_tells}
 use Rattle.std.proofs.lemmas.List.{length-set}
 use Rattle.clock_policy.specs.declared.key.Key.{Key}
 use Rattle.clock_policy.specs.Lawful.{Lawful}
-use Rattle.frame_pool.specs.FrameValue.{FrameValue}
 use Rattle.page_store.specs.JobValue.{JobValue}
-use Rattle.page_store.specs.PageValue.{PageValue, Saving}
-use Rattle.paged_memory.specs.Counting.{slots_of}
-use Rattle.paged_memory.specs.Paged.{page_at}
+use Rattle.paged_memory.specs.AlikeLaws.{SavingsStay}
+use Rattle.paged_memory.specs.Stages.{is_saving_stage}
+use Rattle.paged_memory.specs.Whole.{stage_in, frame_in, slots_within}
 use Rattle.machine_sides.specs.Sides.{ProcessSideValue}
 use Rattle.machine_sides.specs.Together.{Together, residents_in, savings_in, frames_in}
 use Rattle.machine_core.specs.Machine.{CoreValue, IsMachine, IsSaveOut, total, jobs_where, numbers_below}
 use Rattle.machine_core.specs.TotalLaws.{total_set, got_set, get_set_same, get_set_other, All_map}
 
 module _ {S : Type 0} where
-  -- pages that are being saved stay as they are
-  unfoldable pub SavingsStay : List (ℕ × PageValue S) → List (ℕ × PageValue S) → Type 0
-  SavingsStay old new = (v : ℕ) (page : PageValue S) (frame : FrameValue) → v < 2 ^ 20 → page_at old v ≡ Some page → page.place ≡ Saving frame → page_at new v ≡ Some page
-
   -- what one process and what it shares become
   pub record Moves (core core' : CoreValue S) (p : ℕ) (process process' : ProcessSideValue S) : Type 0 where
     pub found : slice_get core.processes p ≡ Some process
@@ -28,7 +23,7 @@ module _ {S : Type 0} where
     pub lawful : Lawful core'.pager.pager.list
     pub frames : core'.pager.pager.list.frames ≡ core'.pager.pager.size
     pub saved : (test : Key → Bool) → jobs_where test core'.jobs + savings_in process.space test ≡ jobs_where test core.jobs + savings_in process'.space test
-    pub slotted : length core'.slots.free + (slots_of process'.space.memory.pages + length core'.jobs) ≡ length core.slots.free + (slots_of process.space.memory.pages + length core.jobs)
+    pub slotted : length core'.slots.free + (slots_within process'.space.memory + length core'.jobs) ≡ length core.slots.free + (slots_within process.space.memory + length core.jobs)
     pub slots : core'.slots.size ≡ core.slots.size
     pub out : All (IsSaveOut core'.processes) core'.jobs
 
@@ -59,7 +54,7 @@ module _ {S : Type 0} where
         omega (arith, t, saved, both);
     out = moves.out;
     slotted =
-        let t = totals (λ (q : ProcessSideValue S). slots_of q.space.memory.pages) in
+        let t = totals (λ (q : ProcessSideValue S). slots_within q.space.memory) in
         let slotted = machine.slotted in
         let both = moves.slotted in
         let size = moves.slots in
@@ -78,8 +73,7 @@ module _ {S : Type 0} where
 
   -- saves that are out stay so where the pages that are being saved stay
   pub out_stays : (processes : List (ProcessSideValue S)) (p : ℕ) (process process' : ProcessSideValue S) (jobs : List (JobValue S)) → slice_get processes p ≡ Some process
-      → SavingsStay process.space.memory.pages process'.space.memory.pages → All (IsSaveOut processes) jobs → All (IsSaveOut (slice_set processes p process')) jobs
-  unfolding SavingsStay
+      → SavingsStay process.space.memory process'.space.memory → All (IsSaveOut processes) jobs → All (IsSaveOut (slice_set processes p process')) jobs
   out_stays processes p process process' jobs found stay all = All_map (IsSaveOut processes) (IsSaveOut (slice_set processes p process')) one jobs all
     where
       one : (job : JobValue S) → IsSaveOut processes job → IsSaveOut (slice_set processes p process') job
@@ -87,24 +81,24 @@ module _ {S : Type 0} where
           elim (eqb_tells job.process p) [
             | inl same ↦
                 let there : out.process ≡ process = let a = out.found in let b = found in let c = same.1 in cc in
+                let was : is_saving_stage (stage_in process.space.memory job.vpn) ≡ true = ap (λ (q : ProcessSideValue S). is_saving_stage (stage_in q.space.memory job.vpn)) (sym there) ∙ out.saving in
+                let still = stay job.vpn out.small was in
                 record {
                   process = process';
-                  page = out.page;
                   frame = out.frame;
                   small = out.small;
                   found = ap (slice_get (slice_set processes p process')) same.1 ∙ get_set_same processes p process process' found;
-                  at = stay job.vpn out.page out.frame out.small (ap (λ (q : ProcessSideValue S). page_at q.space.memory.pages job.vpn) (sym there) ∙ out.at) out.saving;
-                  saving = out.saving;
+                  saving = ap is_saving_stage still.0 ∙ was;
+                  framed = still.1 ∙ ap (λ (q : ProcessSideValue S). frame_in q.space.memory job.vpn) (sym there) ∙ out.framed;
                   same = out.same;
                 }
             | inr apart ↦ record {
               process = out.process;
-              page = out.page;
               frame = out.frame;
               small = out.small;
               found = get_set_other processes p job.process process' apart.1 ∙ out.found;
-              at = out.at;
               saving = out.saving;
+              framed = out.framed;
               same = out.same;
             }
           ]

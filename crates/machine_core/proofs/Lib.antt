@@ -4,7 +4,6 @@ pub mod Counted
 pub mod Finding
 pub mod JobsOut
 pub mod Kept
-pub mod KeptPages
 pub mod Openings
 pub mod PageInEvents
 pub mod PageInReasons

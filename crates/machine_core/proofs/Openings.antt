@@ -1,8 +1,7 @@
 -- A machine that begins is one: no page is in a frame or being saved, so each frame is free and each slot.
-use Rattle.std.proofs.Common.{◌≡◌, ℕ, zero, suc, ◌+◌, ◌<◌, ◌≤◌, ◌&&◌, ◌++◌, ◌==◌, Bool, true, false, cond, List, [], ◌∷◌, length, map, Option, Some, None, slice_get, ◌⊎◌, inl, inr, refl, sym, ap, ◌∙◌, arith, subst, length-append}
+use Rattle.std.proofs.Common.{◌≡◌, ℕ, zero, suc, ◌+◌, ◌<◌, ◌≤◌, ◌++◌, ◌==◌, Bool, true, false, cond, List, [], ◌∷◌, length, map, Some, slice_get, ◌⊎◌, inl, inr, refl, sym, ap, ◌∙◌, arith, subst, length-append}
 use Rattle.std.specs.Prelude.{All}
 use Rattle.std.specs.List.{range_with_len}
-use Rattle.std.specs.Option.{option_and_then}
 use Rattle.std.proofs.lemmas.Bool.Decides.{eqb_tells}
 use Rattle.std.proofs.lemmas.List.{map-append}
 use Rattle.std.proofs.lemmas.List.Elements.{All-nil}
@@ -15,14 +14,10 @@ use Rattle.clock_policy.specs.Residents.{residents}
 use Rattle.flat_machine.specs.Process.{opening_pages}
 use Rattle.frame_pool.specs.FrameValue.{zero_frame}
 use Rattle.page_memory.specs.Pages.{Page}
-use Rattle.page_memory.specs.Entries.{place_of, value_at, values_of}
 use Rattle.page_store.specs.JobValue.{JobValue}
-use Rattle.page_store.specs.PageValue.{PageValue, Fresh, frame_of, slot_of}
-use Rattle.paged_memory.specs.Counting.{page_passes, pages_where, is_resident_place, is_saving_place, frame_passes, is_kept, residents_of, savings_of, frames_of, slots_of}
-use Rattle.paged_memory.specs.CountingLaws.{none_where_pass}
-use Rattle.paged_memory.specs.Paged.{page_at}
+use Rattle.paged_memory.specs.AmongLaws.{fresh_residents, fresh_savings, fresh_frames, fresh_slots}
+use Rattle.paged_memory.specs.Whole.{slots_within}
 use Rattle.pager_core.specs.Pager.{full_pager}
-use Rattle.paged_memory.specs.Fresh.{fresh, all_fresh}
 use Rattle.swap_slots.specs.PoolValue.{PoolValue}
 use Rattle.machine_core.specs.Machine.{CoreValue, IsMachine, IsSaveOut, total, jobs_where, numbers_below}
 use Rattle.elf_image.specs.Start.{Start}
@@ -61,53 +56,25 @@ get_last [] y = refl
 get_last (z ∷ zs) y = get_last zs y
 
 module _ {S : Type 0} where
-  -- a page that was never brought in
-  fresh_values : (entries : List (ℕ × Page)) (place : ℕ) (page : PageValue S) → slice_get (values_of (all_fresh entries)) place ≡ Some page → page.place ≡ Fresh
-  fresh_values [] place page h = cc
-  fresh_values (e ∷ es) zero page h = let same : fresh e.1 ≡ page = cc in ap (λ (p : PageValue S). p.place) (sym same)
-  fresh_values (e ∷ es) (suc place) page h = fresh_values es place page h
-
-  fresh_at : (entries : List (ℕ × Page)) (number : ℕ) (page : PageValue S) → page_at (all_fresh entries) number ≡ Some page → page.place ≡ Fresh
-  unfolding page_at
-  fresh_at entries number page h = by_place (place_of number (all_fresh {S = S} entries)) h
-    where
-      by_place : (o : Option ℕ) → option_and_then (λ place. value_at place (all_fresh entries)) o ≡ Some page → page.place ≡ Fresh
-      by_place None h = cc
-      by_place (Some place) h = fresh_values entries place page h
-
-  none_fresh : (test : ℕ → PageValue S → Bool) (entries : List (ℕ × Page)) → ((number : ℕ) (page : PageValue S) → page.place ≡ Fresh → test number page ≡ false) → pages_where test (all_fresh entries) ≡ 0
-  none_fresh test entries none = none_where_pass test (all_fresh entries) (λ number small. by_page number (page_at (all_fresh entries) number) refl)
-    where
-      by_page : (number : ℕ) (o : Option (PageValue S)) → page_at (all_fresh entries) number ≡ o → page_passes (test number) (page_at (all_fresh entries) number) ≡ false
-      by_page number None at = ap (page_passes (test number)) at
-      by_page number (Some page) at = ap (page_passes (test number)) at ∙ none number page (fresh_at entries number page at)
-
   -- a process that begins counts nowhere
   module _ (number : ℕ) (start : Start) (process : ProcessSideValue S) (begins : Begins number start process) where
+    abbrev mapped : List (ℕ × Page)
+    mapped = opening_pages start.image.pages
+
     no_residents : (test : Key → Bool) → residents_in process.space test ≡ 0
     unfolding residents_in
-    no_residents test =
-        let passes : ℕ → Bool = λ vpn. test (key_of process.space.memory.process vpn) in
-        ap (λ pages. residents_of pages passes) begins.pages
-        ∙ none_fresh (λ v page. is_resident_place page.place && passes v) (opening_pages start.image.pages) (λ v page is. ap (λ p. is_resident_place p && passes v) is)
+    no_residents test = fresh_residents mapped process.space.memory begins.pages (λ vpn. test (key_of process.space.memory.process vpn))
 
     no_savings : (test : Key → Bool) → savings_in process.space test ≡ 0
     unfolding savings_in
-    no_savings test =
-        let passes : ℕ → Bool = λ vpn. test (key_of process.space.memory.process vpn) in
-        ap (λ pages. savings_of pages passes) begins.pages
-        ∙ none_fresh (λ v page. is_saving_place page.place && passes v) (opening_pages start.image.pages) (λ v page is. ap (λ p. is_saving_place p && passes v) is)
+    no_savings test = fresh_savings mapped process.space.memory begins.pages (λ vpn. test (key_of process.space.memory.process vpn))
 
     no_frames : (test : ℕ → Bool) → frames_in process.space test ≡ 0
     unfolding frames_in
-    no_frames test =
-        ap (λ pages. frames_of pages test) begins.pages
-        ∙ none_fresh (λ v page. frame_passes test (frame_of page.place)) (opening_pages start.image.pages) (λ v page is. ap (λ p. frame_passes test (frame_of p)) is)
+    no_frames test = fresh_frames mapped process.space.memory begins.pages test
 
-    no_slots : slots_of process.space.memory.pages ≡ 0
-    no_slots =
-        ap slots_of begins.pages
-        ∙ none_fresh (λ v page. is_kept (slot_of page.place)) (opening_pages start.image.pages) (λ v page is. ap (λ p. is_kept (slot_of p)) is)
+    no_slots : slots_within process.space.memory ≡ 0
+    no_slots = fresh_slots mapped process.space.memory begins.pages
 
   -- the process of a number that is there begins
   begins_there : (starts : List Start) (processes : List (ProcessSideValue S)) (number : ℕ) (process : ProcessSideValue S) → AllBegin starts processes → slice_get processes number ≡ Some process → (start : Start) × Begins number start process
@@ -186,7 +153,7 @@ module _ {S : Type 0} where
         ∙ sym (none_counts starts core.processes begins.processes (λ (process : ProcessSideValue S). savings_in process.space test) (λ number start process b. no_savings number start process b test));
     out = subst (All (IsSaveOut core.processes)) (sym begins.jobs) (All-nil _);
     slotted =
-        let none = none_counts starts core.processes begins.processes (λ (process : ProcessSideValue S). slots_of process.space.memory.pages) (λ number start process b. no_slots number start process b) in
+        let none = none_counts starts core.processes begins.processes (λ (process : ProcessSideValue S). slots_within process.space.memory) (λ number start process b. no_slots number start process b) in
         let jobs : length core.jobs ≡ 0 = ap length begins.jobs in
         let same : length core.slots.free ≡ core.slots.size = ap (λ (p : PoolValue S). length p.free) begins.slots ∙ sym (ap (λ (p : PoolValue S). p.size) begins.slots) in
         omega (arith, none, jobs, same);

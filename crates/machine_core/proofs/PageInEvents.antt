@@ -1,26 +1,18 @@
 -- The event of a page that comes in: it is refused, or served, and leaves a machine.
-use Rattle.std.proofs.Common.{◌≡◌, ℕ, zero, suc, ◌≤◌, ◌<◌, ◌^◌, ◌==◌, ◌⊎◌, ◌++◌, Bool, true, false, List, [], ◌∷◌, length, take, drop, Option, Some, None, option_map, is_some, slice_get, inl, inr, refl, sym, ap, ◌∙◌, arith, subst}
-use Rattle.std.specs.Prelude.{slice_set, if◌then◌else◌}
-use borrow.Author.Tests.{lt-ltb}
-use Rattle.std.proofs.lemmas.Bool.Decides.{nat_tests}
+use Rattle.std.proofs.Common.{◌≡◌, ℕ, zero, suc, ◌≤◌, ◌<◌, ◌^◌, ◌⊎◌, ◌++◌, Bool, true, false, List, [], ◌∷◌, length, take, drop, Option, Some, None, option_map, is_some, slice_get, inl, inr, refl, sym, ap, ◌∙◌, arith, subst}
+use Rattle.std.specs.Prelude.{slice_set}
 use Rattle.std.proofs.lemmas.List.{length-set}
 use Rattle.clock_policy.specs.ClockPro.{kind_of, withdrawn}
 use Rattle.clock_policy.specs.declared.key.Key.{Key}
-use Rattle.frame_pool.specs.FrameValue.{FrameValue}
 use Rattle.page_store.specs.JobValue.{JobValue}
-use Rattle.page_store.specs.Moves.{IfAbsent, IfAway}
-use Rattle.page_store.specs.PageValue.{PageValue, Place, Fresh, Resident, Leaving, Saving, Away, Purged, page_state_of}
-use Rattle.page_store.specs.declared.state.PageState.{PageState}
 use Rattle.pager_core.specs.Pager.{none_free}
-use Rattle.paged_memory.specs.Calls.{ChangesBy}
-use Rattle.paged_memory.specs.Filling.{IsAbsent, StaysAbsent, RefusesAbsent, RefusesPageIn}
-use Rattle.paged_memory.specs.Paged.{page_at}
-use Rattle.paged_memory.specs.declared.filling.PageInFault.{PageInFault}
-use Rattle.paged_memory.specs.declared.filling.PageInFault.TheVariants as fault
 use Rattle.space_core.specs.StandsFor.{SpaceValue}
-use Rattle.sv32_table.specs.EntryAt.{has_table}
 use Rattle.swap_slots.specs.PoolValue.{PoolValue}
-use Rattle.paged_memory.specs.Stages.{is_resident_stage}
+use Rattle.paged_memory.specs.Moving.{RefusesIn}
+use Rattle.paged_memory.specs.Stages.{is_absent_stage, is_resident_stage}
+use Rattle.paged_memory.specs.StagesLaws.{resident_not_absent}
+use Rattle.paged_memory.specs.StillLaws.{refused_still, refused_absent}
+use Rattle.paged_memory.specs.Whole.{stage_in}
 use Rattle.machine_sides.specs.Admitting.{is_resident_at, is_absent_at, bars, told_by, taken_back}
 use Rattle.machine_sides.specs.declared.admission.NotAdmitted.{NotAdmitted}
 use Rattle.machine_sides.specs.declared.admission.NotAdmitted.TheVariants.{Ended, NotAbsent, AlreadyResident, NoFrame, NoMemory}
@@ -32,10 +24,11 @@ use Rattle.machine_core.specs.Machine.{CoreValue, IsMachine}
 use Rattle.machine_core.specs.MachineRun.{of_process, RefusesEvent}
 use Rattle.machine_core.specs.PagingIn.{admit_reason, ComesIn, IsTakenBack, GoesBack, PagesIn, PagesInAt, PagesInOnce, page_in_reason, page_in_refusal}
 use Rattle.machine_sides.specs.Sides.{PagerSideValue, ProcessSideValue}
+use Rattle.machine_sides.specs.StageLaws.{stage_below}
 use Rattle.machine_core.proofs.Counted.{all_frames, all_numbers}
 use Rattle.machine_core.proofs.Cores.{lent_back}
 use Rattle.machine_core.proofs.PageInReasons.{unbarred, first_reason, bars_are, reason_is}
-use Rattle.machine_core.proofs.PageIns.{come_machine, come_size, go_machine, back_size, stays_so}
+use Rattle.machine_core.proofs.PageIns.{come_machine, come_size, go_machine, back_size}
 
 set_same : {A : Type 0} (xs : List A) (i : ℕ) (x : A) → slice_get xs i ≡ Some x → slice_set xs i x ≡ xs
 set_same [] i x h = cc
@@ -64,64 +57,33 @@ module _ {S : Type 0} where
       omega (arith, framed, all_frames core.pager.pager.free, all_numbers core.pager.pager.size)
 
   -- a page that is absent still is not resident
-  still_away : (held : S → List ℕ) (honest : Type 0) (page page' : PageValue S) → StaysAbsent held honest page page' → is_resident_stage (Some (page_state_of page'.place)) ≡ false
-  still_away held honest page page' stays = by_place page.place page'.place stays.place
+  away_still : (old new : SpaceValue S) (v : ℕ) → v < 2 ^ 20 → is_absent_stage (stage_in old.memory v) ≡ true → stage_in new.memory v ≡ stage_in old.memory v → is_resident_at new v ≡ false
+  away_still old new v small absent same = ap is_resident_stage (stage_below new v small ∙ same) ∙ by_test (is_resident_stage (stage_in old.memory v)) refl
     where
-      by_place : (old new : Place S) → IfAbsent old (new ≡ Fresh) (λ _. IfAway new (λ _. Unit {0})) → is_resident_stage (Some (page_state_of new)) ≡ false
-      by_place Fresh new how = ap (λ (p : Place S). is_resident_stage (Some (page_state_of p))) how
-      by_place (Resident f s) new how = absurd how
-      by_place (Leaving f s m) new how = absurd how
-      by_place (Saving f) new how = absurd how
-      by_place (Away s) Fresh how = absurd how
-      by_place (Away s) (Resident f k) how = absurd how
-      by_place (Away s) (Leaving f k m) how = absurd how
-      by_place (Away s) (Saving f) how = absurd how
-      by_place (Away s) (Away t) how = refl
-      by_place (Away s) Purged how = absurd how
-      by_place Purged new how = absurd how
-
-  away_still : (held : S → List ℕ) (honest : Type 0) (old new : SpaceValue S) (v : ℕ) → v < 2 ^ 20 → ChangesBy (StaysAbsent held honest) old.memory.pages new.memory.pages v → is_resident_at new v ≡ false
-  away_still held honest old new v small stays =
-      let staged : Option (PageValue S) → Option PageState = λ o. option_map (λ (page : PageValue S). page_state_of page.place) o in
-      let self : v == v ≡ true = grind (arith, nat_tests) in
-      ap (λ b. is_resident_stage (if b then staged (page_at new.memory.pages v) else None)) (lt-ltb v (2 ^ 20) small)
-      ∙ ap (λ o. is_resident_stage (staged o)) (stays.changes.pages v)
-      ∙ ap (λ b. is_resident_stage (staged (if b then Some stays.page' else page_at old.memory.pages v))) self
-      ∙ still_away held honest stays.page stays.page' stays.how
+      by_test : (b : Bool) → is_resident_stage (stage_in old.memory v) ≡ b → is_resident_stage (stage_in old.memory v) ≡ false
+      by_test false is = is
+      by_test true is = let no = resident_not_absent (stage_in old.memory v) is in let so = absent in cc
 
   module _ (held : S → List ℕ) (honest : Type 0) (failures : S → ℕ) (core : CoreValue S) (key : Key) (pager' : PagerSideValue) (q q' : ProcessSideValue S) (reply : Reply) (machine : IsMachine core) (found : slice_get core.processes key.process ≡ Some q) where
     -- an admission that was taken back: the page is absent as it was
-    page_back : (why : PageInFault) (frame back : FrameValue) (v : ℕ) → IsAbsent (page_at q.space.memory.pages v) → RefusesPageIn held honest failures frame q.space.memory.pages q'.space.memory.pages q.space.memory.tables v back why
-        → ChangesBy (λ page page'. RefusesAbsent held honest failures frame (has_table q.space.memory.tables v) page page' back why) q.space.memory.pages q'.space.memory.pages v
-    page_back fault.NotAbsent frame back v absent how = absurd (how.0 absent)
-    page_back fault.Device frame back v absent how = record { page = how.0.page; page' = how.0.page'; found = how.0.found; changes = how.0.changes; how = (how.0.how, how.1) }
-    page_back fault.Damaged frame back v absent how = record { page = how.0.page; page' = how.0.page'; found = how.0.found; changes = how.0.changes; how = (how.0.how, how.1) }
-    page_back fault.NoMemory frame back v absent how = record { page = how.1.0.page; page' = how.1.0.page'; found = how.1.0.found; changes = how.1.0.changes; how = (how.0, (how.1.0.how, how.1.1)) }
-
     goes_back : IsTakenBack held honest failures key core.pager pager' q q' reply → GoesBack held honest failures key core.pager pager' q q' reply
     goes_back taken =
         let there = (unbarred key core.pager.pager q.space taken.admits.allowed).there in
         let vpn_is : taken.admission.key.vpn ≡ key.vpn = ap (λ (k : Key). k.vpn) taken.admits.key_is in
         let key_is : taken.back.key ≡ key = taken.fails.key ∙ taken.admits.key_is in
         let small : taken.admission.key.vpn < 2 ^ 20 = let s = there.small in omega (arith, s, vpn_is) in
-        let why : RefusesPageIn held honest failures taken.admission.frame q.space.memory.pages q'.space.memory.pages q.space.memory.tables key.vpn taken.back.frame taken.fault =
-        subst (λ v. RefusesPageIn held honest failures taken.admission.frame q.space.memory.pages q'.space.memory.pages q.space.memory.tables v taken.back.frame taken.fault) vpn_is (taken.fails.why small) in
-        let page = page_back taken.fault taken.admission.frame taken.back.frame key.vpn there.absent why in
-        let stays : ChangesBy (StaysAbsent held honest) q.space.memory.pages q'.space.memory.pages key.vpn = record {
-          page = page.page;
-          page' = page.page';
-          found = page.found;
-          changes = page.changes;
-          how = (stays_so held honest failures core key pager' q q' reply machine found taken.fault taken.admission.frame taken.back.frame (has_table q.space.memory.tables key.vpn) page.page page.page' page.how).0;
-        } in
-        let away : is_resident_at q'.space taken.back.key.vpn ≡ false = ap (λ (k : Key). is_resident_at q'.space k.vpn) key_is ∙ away_still held honest q.space q'.space key.vpn there.small stays in
+        let why : RefusesIn held honest failures taken.admission.frame key.vpn taken.back.frame taken.fault q.space.memory q'.space.memory =
+        subst (λ v. RefusesIn held honest failures taken.admission.frame v taken.back.frame taken.fault q.space.memory q'.space.memory) vpn_is (taken.fails.why small) in
+        let still = refused_still held honest failures taken.admission.frame key.vpn taken.back.frame q.space.memory q'.space.memory taken.fault why in
+        let away : is_resident_at q'.space taken.back.key.vpn ≡ false = ap (λ (k : Key). is_resident_at q'.space k.vpn) key_is ∙ away_still q.space q'.space key.vpn there.small there.absent still in
         record {
           admission = taken.admission;
           back = taken.back.frame;
           fault = taken.fault;
           between = taken.between;
           admits = taken.admits;
-          page = page;
+          why = why;
+          absent = λ same. refused_absent held honest failures taken.admission.frame key.vpn taken.back.frame q.space.memory q'.space.memory taken.fault why there.absent same;
           tables = taken.fails.unmapped;
           rest = taken.fails.rest;
           purged = taken.purged;

@@ -1,8 +1,8 @@
 -- Why a page is not brought in, on the machine: what is absent is not listed, and the list is full only where no frame is free.
-use Rattle.std.proofs.Common.{◌≡◌, ℕ, ◌<◌, ◌^◌, ◌==◌, ◌||◌, Bool, true, false, cond, nat_lt, List, [], ◌∷◌, length, Option, Some, None, option_map, is_some, Result, Ok, Err, slice_get, inl, inr, refl, sym, ap, ◌∙◌, arith, subst}
+use Rattle.std.proofs.Common.{◌≡◌, ℕ, ◌<◌, ◌^◌, ◌==◌, ◌||◌, Bool, true, false, cond, List, [], ◌∷◌, length, Option, Some, None, option_map, is_some, Result, Ok, Err, slice_get, inl, inr, refl, sym, ap, ◌∙◌, arith, subst}
 use Rattle.std.specs.Prelude.{if◌then◌else◌}
 use Rattle.std.specs.Result.{is_ok}
-use borrow.Author.Tests.{eqb-true, ltb-true, lt-ltb}
+use borrow.Author.Tests.{eqb-true}
 use Rattle.std.proofs.lemmas.Bool.Decides.{nat_tests}
 use Rattle.clock_policy.specs.declared.answer.Kind.{Kind}
 use Rattle.clock_policy.specs.declared.entry.EntryKind.{EntryKind}
@@ -13,16 +13,13 @@ use Rattle.clock_policy.specs.AdmitLaws.{admitted_barred, key_residents, full_is
 use Rattle.clock_policy.specs.ClockPro.{ClockState, is_full, kind_of, admitted}
 use Rattle.clock_policy.specs.Residents.{residents, is_key, has_resident, found_in_frame}
 use Rattle.frame_pool.specs.FrameValue.{FrameValue}
-use Rattle.page_store.specs.PageValue.{PageValue, Place, Fresh, Resident, Leaving, Saving, Away, Purged, page_state_of}
-use Rattle.page_store.specs.declared.state.PageState.{PageState}
 use Rattle.pager_core.specs.declared.refusal.AdmitRefusal.{AdmitRefusal}
 use Rattle.pager_core.specs.declared.refusal.AdmitRefusal.TheVariants as pager_refused
 use Rattle.pager_core.specs.Pager.{PagerState, resident_kind, is_listed_resident, none_free, has_no_frame, admission_refused}
-use Rattle.paged_memory.specs.Counting.{is_resident_place}
-use Rattle.paged_memory.specs.Filling.{IsAbsent}
-use Rattle.paged_memory.specs.Paged.{page_at}
 use Rattle.space_core.specs.StandsFor.{SpaceValue}
 use Rattle.paged_memory.specs.Stages.{is_absent_stage}
+use Rattle.paged_memory.specs.StagesLaws.{resident_not_absent}
+use Rattle.paged_memory.specs.Whole.{stage_in}
 use Rattle.machine_sides.specs.Admitting.{is_absent_at, page_bars, bars, bars_from, pager_refusal}
 use Rattle.machine_sides.specs.declared.admission.NotAdmitted.{NotAdmitted}
 use Rattle.machine_sides.specs.declared.admission.NotAdmitted.TheVariants.{Ended, NotAbsent, NoFrame}
@@ -30,6 +27,7 @@ use Rattle.machine_core.specs.declared.error.EventRefusal.TheVariants as refusal
 use Rattle.machine_core.specs.Machine.{CoreValue, IsMachine}
 use Rattle.machine_core.specs.PagingIn.{admit_reason, page_in_reason}
 use Rattle.machine_sides.specs.Sides.{ProcessSideValue}
+use Rattle.machine_sides.specs.StageLaws.{stage_below, stage_passes}
 use Rattle.machine_sides.specs.Together.{residents_in, frames_in}
 use Rattle.machine_core.proofs.Counted.{fewer_total, all_frames, all_numbers, residents_framed}
 use Rattle.machine_core.proofs.Finding.{HasResident, total_some, has_resident as resident_of}
@@ -64,45 +62,17 @@ event_told false false none = refl
 module _ {S : Type 0} where
   -- ---- an absent page
 
-  resident_stage : (place : Place S) → is_resident_place place ≡ true → is_absent_stage (Some (page_state_of place)) ≡ false
-  resident_stage Fresh h = cc
-  resident_stage (Resident frame slot) h = refl
-  resident_stage (Leaving frame slot mark) h = cc
-  resident_stage (Saving frame) h = cc
-  resident_stage (Away slot) h = cc
-  resident_stage Purged h = cc
-
   -- a resident page is not absent
   resident_there : (space : SpaceValue S) (key : Key) → HasResident space key → is_absent_at space key.vpn ≡ false
-  resident_there space key there =
-      let staged : Option (PageValue S) → Option PageState = λ o. option_map (λ (page : PageValue S). page_state_of page.place) o in
-      ap (λ b. is_absent_stage (if b then staged (page_at space.memory.pages key.vpn) else None)) (lt-ltb key.vpn (2 ^ 20) there.small)
-      ∙ ap (λ o. is_absent_stage (staged o)) there.at
-      ∙ resident_stage there.page.place there.resident
+  resident_there space key there = ap is_absent_stage (stage_below space key.vpn there.small) ∙ resident_not_absent (stage_in space.memory key.vpn) there.resident
 
   -- an absent page is mapped, and has no frame
   pub record IsThere (space : SpaceValue S) (vpn : ℕ) : Type 0 where
     pub small : vpn < 2 ^ 20
-    pub absent : IsAbsent (page_at space.memory.pages vpn)
-
-  absent_page : (o : Option (PageValue S)) → is_absent_stage (option_map (λ (page : PageValue S). page_state_of page.place) o) ≡ true → IsAbsent o
-  absent_page None h = cc
-  absent_page (Some page) h = by_place page.place h
-    where
-      by_place : (place : Place S) → is_absent_stage (Some (page_state_of place)) ≡ true → IsAbsent (Some (record { origin = page.origin; place = place }))
-      by_place Fresh h = tt
-      by_place (Resident frame slot) h = cc
-      by_place (Leaving frame slot mark) h = cc
-      by_place (Saving frame) h = cc
-      by_place (Away slot) h = tt
-      by_place Purged h = cc
+    pub absent : is_absent_stage (stage_in space.memory vpn) ≡ true
 
   pub absent_there : (space : SpaceValue S) (vpn : ℕ) → is_absent_at space vpn ≡ true → IsThere space vpn
-  absent_there space vpn h =
-      elim (nat_lt vpn (2 ^ 20)) as (λ t. nat_lt vpn (2 ^ 20) ≡ t → is_absent_stage (if t then option_map (λ (page : PageValue S). page_state_of page.place) (page_at space.memory.pages vpn) else None) ≡ true → IsThere space vpn) [
-        | true ↦ λ small is. record { small = ltb-true vpn (2 ^ 20) small; absent = absent_page (page_at space.memory.pages vpn) is }
-        | false ↦ λ large is. cc
-      ] refl h
+  absent_there space vpn h = let there = stage_passes space is_absent_stage vpn refl h in record { small = there.0; absent = there.1 }
 
   module _ (core : CoreValue S) (key : Key) (q : ProcessSideValue S) (machine : IsMachine core) (found : slice_get core.processes key.process ≡ Some q) where
     -- the list does not have an absent page as a resident one

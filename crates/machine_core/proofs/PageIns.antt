@@ -10,24 +10,19 @@ use Rattle.clock_policy.specs.KeptLaws.{admitted_frames, withdrawn_frames}
 use Rattle.clock_policy.specs.Lawful.{Lawful}
 use Rattle.clock_policy.specs.Residents.{residents, is_key, has_resident}
 use Rattle.frame_pool.specs.FrameValue.{FrameValue}
-use Rattle.page_store.specs.PageValue.{PageValue}
 use Rattle.pager_core.specs.Pager.{admitted_with}
-use Rattle.paged_memory.specs.Calls.{ChangesBy}
-use Rattle.paged_memory.specs.Counting.{residents_of, savings_of, slots_of}
-use Rattle.paged_memory.specs.Filling.{StaysAbsent, RefusesAbsent}
-use Rattle.paged_memory.specs.declared.filling.PageInFault.{PageInFault}
-use Rattle.paged_memory.specs.declared.filling.PageInFault.TheVariants as fault
+use Rattle.paged_memory.specs.AlikeLaws.{CountsAlike}
+use Rattle.paged_memory.specs.ComeLaws.{HasCome, come, refused_alike}
+use Rattle.paged_memory.specs.StillLaws.{refused_number}
 use Rattle.space_core.specs.StandsFor.{SpaceValue}
-use Rattle.sv32_table.specs.EntryAt.{has_table}
 use Rattle.machine_sides.specs.Admitting.{AdmissionValue, Admits}
 use Rattle.machine_core.specs.declared.event.Reply.{Reply}
 use Rattle.machine_core.specs.Machine.{CoreValue, IsMachine}
 use Rattle.machine_core.specs.PagingIn.{ComesIn, GoesBack}
-use Rattle.machine_core.specs.PagingLaws.{arrived_residents, arrived_frames, arrived_savings, arrived_slots, arrived_stays, absent_residents, absent_frames, absent_savings, absent_slots, absent_stays}
 use Rattle.machine_sides.specs.Sides.{PagerSideValue, ProcessSideValue}
 use Rattle.machine_sides.specs.Together.{frames_where, residents_in, savings_in, frames_in, key_of}
-use Rattle.machine_core.proofs.Kept.{Moves, moved_machine, out_stays, SavingsStay}
-use Rattle.machine_core.proofs.KeptPages.{CountAlike}
+use Rattle.machine_sides.specs.TogetherLaws.{residents_more, savings_same, alike_residents, alike_frames, alike_rest}
+use Rattle.machine_core.proofs.Kept.{Moves, moved_machine, out_stays}
 use Rattle.machine_core.proofs.PageInReasons.{Unbarred, unbarred}
 
 frames-append : (test : ℕ → Bool) (frames : List FrameValue) (frame : FrameValue) → frames_where test (frames ++ frame ∷ []) ≡ frames_where test frames + cond (test frame.number) 1 0
@@ -93,33 +88,26 @@ module _ {S : Type 0} where
       vpn_is : comes.admission.key.vpn ≡ key.vpn
       vpn_is = ap (λ (k : Key). k.vpn) comes.admits.key_is
 
+      come_at : HasCome comes.admission.frame comes.admission.key.vpn q.space.memory q'.space.memory
+      come_at = come held honest comes.admission.frame comes.admission.key.vpn q.space.memory q'.space.memory comes.loads.moves
+
       resident_more : (test : Key → Bool) → residents_in q'.space test ≡ residents_in q.space test + cond (test key) 1 0
-      unfolding residents_in
       resident_more test =
-          let passes : ℕ → Bool = λ vpn. test (key_of q.space.memory.process vpn) in
-          let renamed : residents_of q'.space.memory.pages (λ vpn. test (key_of q'.space.memory.process vpn)) ≡ residents_of q'.space.memory.pages passes = ap (λ n. residents_of q'.space.memory.pages (λ vpn. test (key_of n vpn))) comes.loads.moves.process in
-          let more = arrived_residents held honest comes.admission.frame q.space.memory.pages q'.space.memory.pages comes.admission.key.vpn comes.loads.moves.small comes.loads.moves.page passes in
-          let this : cond {A = ℕ} (passes comes.admission.key.vpn) 1 0 ≡ cond (test key) 1 0 = ap (λ v. cond {A = ℕ} (passes v) 1 0) vpn_is ∙ ap (λ k. cond {A = ℕ} (test k) 1 0) named in
-          omega (arith, renamed, more, this)
+          let more = residents_more q.space q'.space comes.loads.moves.process test comes.admission.key.vpn come_at.residents in
+          let this : cond {A = ℕ} (test (key_of q.space.memory.process comes.admission.key.vpn)) 1 0 ≡ cond (test key) 1 0 = ap (λ v. cond {A = ℕ} (test (key_of q.space.memory.process v)) 1 0) vpn_is ∙ ap (λ k. cond {A = ℕ} (test k) 1 0) named in
+          omega (arith, more, this)
 
       frame_more : (test : ℕ → Bool) → frames_in q'.space test ≡ frames_in q.space test + cond (test comes.admission.frame.number) 1 0
       unfolding frames_in
-      frame_more test = arrived_frames held honest comes.admission.frame q.space.memory.pages q'.space.memory.pages comes.admission.key.vpn comes.loads.moves.small comes.loads.moves.page test
+      frame_more test = come_at.frames test
 
-      savings_same : (test : Key → Bool) → savings_in q'.space test ≡ savings_in q.space test
-      unfolding savings_in
-      savings_same test =
-          ap (λ n. savings_of q'.space.memory.pages (λ vpn. test (key_of n vpn))) comes.loads.moves.process
-          ∙ arrived_savings held honest comes.admission.frame q.space.memory.pages q'.space.memory.pages comes.admission.key.vpn comes.loads.moves.small comes.loads.moves.page (λ vpn. test (key_of q.space.memory.process vpn))
-
-      slots_same : slots_of q'.space.memory.pages ≡ slots_of q.space.memory.pages
-      slots_same = arrived_slots held honest comes.admission.frame q.space.memory.pages q'.space.memory.pages comes.admission.key.vpn comes.loads.moves.small comes.loads.moves.page
+      saved_same : (test : Key → Bool) → savings_in q'.space test ≡ savings_in q.space test
+      saved_same test = savings_same q.space q'.space comes.loads.moves.process test come_at.savings
 
       pub come_size : pager'.pager.size ≡ core.pager.pager.size
       come_size = same_size key core.pager pager' q.space comes.admission comes.admits
 
       come_moves : Moves core next key.process q q'
-      unfolding SavingsStay
       come_moves = record {
         found = found;
         processes = refl;
@@ -131,11 +119,10 @@ module _ {S : Type 0} where
         };
         lawful = comes.admits.lawful;
         frames = list_frames key core.pager pager' q.space comes.admission comes.admits ∙ machine.frames ∙ sym come_size;
-        saved = λ test. let s = savings_same test in omega (arith, s);
-        slotted = let s = slots_same in omega (arith, s);
+        saved = λ test. let s = saved_same test in omega (arith, s);
+        slotted = let s = come_at.slots in omega (arith, s);
         slots = refl;
-        out = out_stays core.processes key.process q q' core.jobs found
-            (λ v page f small at saving. arrived_stays held honest comes.admission.frame q.space.memory.pages q'.space.memory.pages comes.admission.key.vpn comes.loads.moves.small comes.loads.moves.page v page f at saving) machine.out;
+        out = out_stays core.processes key.process q q' core.jobs found come_at.stay machine.out;
       }
 
       pub come_machine : IsMachine next
@@ -143,36 +130,15 @@ module _ {S : Type 0} where
 
     -- ---- the page goes back
 
-    pub stays_so : (why : PageInFault) (frame back : FrameValue) (tabled : Bool) (page page' : PageValue S) → RefusesAbsent held honest failures frame tabled page page' back why → StaysAbsent held honest page page' × (back.number ≡ frame.number)
-    stays_so fault.NotAbsent frame back tabled page page' h = absurd h
-    stays_so fault.Device frame back tabled page page' h = (h.0.stays, h.1)
-    stays_so fault.Damaged frame back tabled page page' h = (h.0.stays, h.1)
-    stays_so fault.NoMemory frame back tabled page page' h = (h.1.0.stays, h.1.1)
-
     module _ (goes : GoesBack held honest failures key core.pager pager' q q' reply) where
       small : key.vpn < 2 ^ 20
       small = (unbarred key core.pager.pager q.space goes.admits.allowed).there.small
 
-      stays : StaysAbsent held honest goes.page.page goes.page.page' × (goes.back.number ≡ goes.admission.frame.number)
-      stays = stays_so goes.fault goes.admission.frame goes.back (has_table q.space.memory.tables key.vpn) goes.page.page goes.page.page' goes.page.how
+      goes_alike : CountsAlike q.space.memory q'.space.memory
+      goes_alike = refused_alike held honest q.space.memory q'.space.memory goes.rest.process key.vpn small failures goes.admission.frame goes.back goes.fault goes.why
 
-      kept_page : ChangesBy (StaysAbsent held honest) q.space.memory.pages q'.space.memory.pages key.vpn
-      kept_page = record { page = goes.page.page; page' = goes.page.page'; found = goes.page.found; changes = goes.page.changes; how = stays.0 }
-
-      pub goes_alike : CountAlike q.space q'.space
-      unfolding residents_in savings_in frames_in SavingsStay
-      goes_alike = record {
-        process = goes.rest.process;
-        residents = λ test.
-            ap (λ n. residents_of q'.space.memory.pages (λ vpn. test (key_of n vpn))) goes.rest.process
-            ∙ absent_residents held honest q.space.memory.pages q'.space.memory.pages key.vpn small kept_page (λ vpn. test (key_of q.space.memory.process vpn));
-        savings = λ test.
-            ap (λ n. savings_of q'.space.memory.pages (λ vpn. test (key_of n vpn))) goes.rest.process
-            ∙ absent_savings held honest q.space.memory.pages q'.space.memory.pages key.vpn small kept_page (λ vpn. test (key_of q.space.memory.process vpn));
-        frames = λ test. absent_frames held honest q.space.memory.pages q'.space.memory.pages key.vpn small kept_page test;
-        slots = absent_slots held honest q.space.memory.pages q'.space.memory.pages key.vpn small kept_page;
-        stay = λ v page f below at saving. absent_stays held honest q.space.memory.pages q'.space.memory.pages key.vpn small kept_page v page f at saving;
-      }
+      number_same : goes.back.number ≡ goes.admission.frame.number
+      number_same = refused_number held honest failures goes.admission.frame key.vpn goes.back q.space.memory q'.space.memory goes.fault goes.why
 
       list_now : pager'.pager.list ≡ (withdrawn key goes.between.pager.list).0
       list_now = ap (λ (p : PagerSideValue). p.pager.list) goes.withdraws
@@ -193,7 +159,7 @@ module _ {S : Type 0} where
           let now : frames_where test pager'.pager.free ≡ frames_where test (goes.between.pager.free ++ goes.back ∷ []) = ap (λ (p : PagerSideValue). frames_where test p.pager.free) goes.withdraws in
           let more = frames-append test goes.between.pager.free goes.back in
           let taken = one_taken key core.pager goes.between q.space goes.admission goes.admits test in
-          let this : cond {A = ℕ} (test goes.back.number) 1 0 ≡ cond (test goes.admission.frame.number) 1 0 = ap (λ n. cond {A = ℕ} (test n) 1 0) stays.1 in
+          let this : cond {A = ℕ} (test goes.back.number) 1 0 ≡ cond (test goes.admission.frame.number) 1 0 = ap (λ n. cond {A = ℕ} (test n) 1 0) number_same in
           omega (arith, now, more, taken, this)
 
       go_moves : Moves core next key.process q q'
@@ -201,14 +167,14 @@ module _ {S : Type 0} where
         found = found;
         processes = refl;
         together = record {
-          listed = λ test. let list = list_same test in let pages = goes_alike.residents test in omega (arith, list, pages);
-          framed = λ test. let free = frames_same test in let pages = goes_alike.frames test in omega (arith, free, pages);
+          listed = λ test. let list = list_same test in let pages = alike_residents q.space q'.space goes_alike test in omega (arith, list, pages);
+          framed = λ test. let free = frames_same test in let pages = alike_frames q.space q'.space goes_alike test in omega (arith, free, pages);
           size = back_size;
           process = goes_alike.process;
         };
         lawful = subst Lawful (sym list_now) (withdrawn_lawful key goes.between.pager.list goes.admits.lawful);
         frames = ap (λ (list : ClockState). list.frames) list_now ∙ withdrawn_frames key goes.between.pager.list ∙ list_frames key core.pager goes.between q.space goes.admission goes.admits ∙ machine.frames ∙ sym back_size;
-        saved = λ test. let s = goes_alike.savings test in omega (arith, s);
+        saved = λ test. let s = (alike_rest q.space q'.space goes_alike).savings test in omega (arith, s);
         slotted = let s = goes_alike.slots in omega (arith, s);
         slots = refl;
         out = out_stays core.processes key.process q q' core.jobs found goes_alike.stay machine.out;

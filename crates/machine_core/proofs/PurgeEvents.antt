@@ -11,10 +11,8 @@ use Rattle.clock_policy.specs.Lawful.{Lawful}
 use Rattle.clock_policy.specs.Residents.{residents}
 use Rattle.frame_pool.specs.FrameValue.{FrameValue}
 use Rattle.page_store.specs.JobValue.{JobValue}
-use Rattle.page_store.specs.PageValue.{PageValue}
-use Rattle.paged_memory.specs.Counting.{page_passes, pages_where, is_resident_place, slots_of}
-use Rattle.paged_memory.specs.CountingLaws.{none_where_pass}
-use Rattle.paged_memory.specs.Paged.{page_at}
+use Rattle.paged_memory.specs.AmongLaws.{no_residents}
+use Rattle.paged_memory.specs.Whole.{residents_among, slots_within}
 use Rattle.pager_core.specs.Pager.{PagerState}
 use Rattle.space_core.specs.StandsFor.{SpaceValue}
 use Rattle.swap_slots.specs.PoolValue.{PoolValue}
@@ -32,7 +30,7 @@ use Rattle.machine_sides.specs.Sides.{PagerSideValue, ProcessSideValue}
 use Rattle.machine_sides.specs.Together.{residents_in, frames_in, key_of}
 use Rattle.machine_core.proofs.Cores.{lent_back}
 use Rattle.machine_core.proofs.Counted.{all_frames, all_numbers}
-use Rattle.machine_core.proofs.Kept.{moved_machine, out_stays, SavingsStay}
+use Rattle.machine_core.proofs.Kept.{moved_machine, out_stays}
 use Rattle.machine_core.specs.TotalLaws.{total_at}
 
 -- ---- a sum of which one place alone counts
@@ -52,10 +50,6 @@ total_one f (z ∷ zs) zero x at others =
 total_one f (z ∷ zs) (suc p) x at others =
     omega (arith, others 0 z refl (λ same. omega (arith, same)), total_one f zs p x at (λ i y found apart. others (suc i) y found (λ same. apart (omega (arith, same)))))
 
-and_false : (a b : Bool) → a && (false && b) ≡ false
-and_false true b = refl
-and_false false b = refl
-
 same_number : (n : ℕ) → (n == n) ≡ true
 same_number n = elim (eqb_tells n n) [ inl same ↦ same.0 | inr apart ↦ absurd (apart.1 refl) ]
 
@@ -64,15 +58,12 @@ module _ {S : Type 0} where
   none_of_other : (space : SpaceValue S) (number : ℕ) (test : Key → Bool) → (space.memory.process == number) ≡ false → residents_in space (λ q. (q.process == number) && test q) ≡ 0
   unfolding residents_in
   none_of_other space number test other =
-      none_where_pass (λ v page. is_resident_place page.place && ((space.memory.process == number) && test (key_of space.memory.process v))) space.memory.pages (λ v small. none v (page_at space.memory.pages v))
-    where
-      none : (v : ℕ) (o : Option (PageValue S)) → page_passes (λ page. is_resident_place page.place && ((space.memory.process == number) && test (key_of space.memory.process v))) o ≡ false
-      none v None = refl
-      none v (Some page) = ap (λ b. is_resident_place page.place && (b && test (key_of space.memory.process v))) other ∙ and_false (is_resident_place page.place) (test (key_of space.memory.process v))
+      no_residents space.memory (λ v. (space.memory.process == number) && test (key_of space.memory.process v))
+      (λ v small is passes. let no : (space.memory.process == number) && test (key_of space.memory.process v) ≡ false = ap (λ b. b && test (key_of space.memory.process v)) other in cc)
 
   all_of_own : (space : SpaceValue S) (test : Key → Bool) → residents_in space (λ q. (q.process == space.memory.process) && test q) ≡ residents_in space test
   unfolding residents_in
-  all_of_own space test = ap (λ b. pages_where (λ v page. is_resident_place page.place && (b && test (key_of space.memory.process v))) space.memory.pages) (same_number space.memory.process)
+  all_of_own space test = ap (λ b. residents_among space.memory (λ v. b && test (key_of space.memory.process v))) (same_number space.memory.process)
 
   -- list and pages of a process of the machine agree
   agreed : (core : CoreValue S) (p : ℕ) (q : ProcessSideValue S) → IsMachine core → slice_get core.processes p ≡ Some q → (test : Key → Bool)
@@ -113,7 +104,7 @@ module _ {S : Type 0} where
       let size : pool'.size ≡ core.slots.size = ap (λ (s : PoolValue S). s.size) gave.pool_is in
       let slotted = gave.slotted in
       let all = machine.slotted in
-      let part = total_at (λ (r : ProcessSideValue S). slots_of r.space.memory.pages) core.processes p q found in
+      let part = total_at (λ (r : ProcessSideValue S). slots_within r.space.memory) core.processes p q found in
       omega (arith, full, free, size, slotted, all, part, length-append core.slots.free gave.slots)
 
   nothing_back : (core : CoreValue S) (pager' : PagerSideValue) (pool' : PoolValue S) (p : ℕ) (q q' : ProcessSideValue S) (frame : Option FrameValue) (slot : Option S) → IsMachine core → slice_get core.processes p ≡ Some q
@@ -132,7 +123,6 @@ module _ {S : Type 0} where
 
   purged_machine : (core : CoreValue S) (pager' : PagerSideValue) (pool' : PoolValue S) (p : ℕ) (q q' : ProcessSideValue S) → IsMachine core → slice_get core.processes p ≡ Some q
       → PurgesAll core.pager pager' q q' core.slots pool' → IsMachine (record core { pager = pager'; slots = pool'; processes = slice_set core.processes p q' })
-  unfolding SavingsStay
   purged_machine core pager' pool' p q q' machine found all =
       let now : pager'.pager ≡ record core.pager.pager { free = core.pager.pager.free ++ all.frames; list = purged q.space.memory.process core.pager.pager.list } = ap (λ (s : PagerSideValue). s.pager) all.pager_is in
       moved_machine core (record core { pager = pager'; slots = pool'; processes = slice_set core.processes p q' }) p q q' machine (record {

@@ -12,12 +12,12 @@ use Rattle.clock_policy.specs.AdmitLaws.{one_key}
 use Rattle.clock_policy.specs.Residents.{is_key}
 use Rattle.frame_pool.specs.FrameValue.{FrameValue}
 use Rattle.page_store.specs.JobValue.{JobValue, SavedValue}
-use Rattle.page_store.specs.Moves.{IfSaving}
-use Rattle.page_store.specs.PageValue.{PageValue, Place, Saving, frame_of}
-use Rattle.paged_memory.specs.Counting.{is_resident_place, is_saving_place, frame_passes}
-use Rattle.paged_memory.specs.Leaving.{IsSaving}
-use Rattle.paged_memory.specs.Leaving as pages
-use Rattle.paged_memory.specs.Paged.{page_at}
+use Rattle.paged_memory.specs.AlikeLaws.{same_stage, same_frame}
+use Rattle.paged_memory.specs.Moving.{IsOutOf}
+use Rattle.paged_memory.specs.SaveLaws.{leaving_again, out_of}
+use Rattle.paged_memory.specs.Stages.{is_saving_stage}
+use Rattle.paged_memory.specs.StagesLaws.{saving_framed, saving_not_resident}
+use Rattle.paged_memory.specs.Whole.{stage_in, frame_in}
 use Rattle.machine_core.specs.declared.event.Reply.{Reply}
 use Rattle.machine_sides.specs.declared.saving_back.SaveFailure.{SaveFailure}
 use Rattle.machine_sides.specs.declared.saving_back.SaveFailure.TheVariants.{Mismatch, Device}
@@ -25,7 +25,7 @@ use Rattle.machine_sides.specs.declared.saving_back.SaveOutcome.{SaveOutcome}
 use Rattle.machine_sides.specs.declared.saving_back.SaveOutcome.TheVariants.{Freed, HandedBack, WrongPage, ResidentAgain, NotRestored}
 use Rattle.machine_core.specs.Machine.{CoreValue, IsMachine, IsSaveOut, total, jobs_where}
 use Rattle.machine_sides.specs.Returning.{DoesNotList}
-use Rattle.machine_sides.specs.SavingBack.{EndsSave, Settles, LeavesAgain, FailsAndReturns, FailsAndLeaves}
+use Rattle.machine_sides.specs.SavingBack.{ShowsFailure, EndsSave, Settles, LeavesAgain, FailsAndReturns, FailsAndLeaves}
 use Rattle.machine_sides.specs.SavingLaws.{SaveEnds, freed_ends, returned_ends, left_ends}
 use Rattle.machine_core.specs.SavingOut.{saved_refusal, is_save_of, MakesSave, EndsSaving, SavesOnce, SavedAt, IsOwn, RepliesTo}
 use Rattle.machine_sides.specs.Sides.{PagerSideValue, ProcessSideValue}
@@ -40,9 +40,6 @@ use Rattle.machine_core.proofs.JobsOut.{same_key, total_permuted}
 use Rattle.machine_core.proofs.SavingPages.{saving_counted}
 
 module _ {S : Type 0} where
-  held_frame : (place : Place S) (frame : FrameValue) → place ≡ Saving frame → (frame_passes (λ _. true) (frame_of place) ≡ true) × (is_resident_place place ≡ false)
-  held_frame place frame is = (ap (λ p. frame_passes (λ _. true) (frame_of p)) is, ap is_resident_place is)
-
   module _ (held : S → List ℕ) (honest : Type 0) (failures : S → ℕ) (core : CoreValue S) (key : Key) (q : ProcessSideValue S) (jobs' : List (JobValue S)) (saved : SavedValue S)
       (machine : IsMachine core) (found : slice_get core.processes key.process ≡ Some q) (makes : MakesSave held honest failures key core.jobs jobs' saved) where
     outs : All (IsSaveOut core.processes) (makes.job ∷ jobs')
@@ -63,29 +60,29 @@ module _ {S : Type 0} where
     small : saved.vpn < 2 ^ 20
     small = let s = out.small in let e = makes.page in omega (arith, s, e)
 
-    at : page_at q.space.memory.pages saved.vpn ≡ Some out.page
-    at = ap (page_at q.space.memory.pages) makes.page ∙ ap (λ (r : ProcessSideValue S). page_at r.space.memory.pages makes.job.vpn) (sym here) ∙ out.at
+    saving : is_saving_stage (stage_in q.space.memory saved.vpn) ≡ true
+    saving =
+        ap (λ v. is_saving_stage (stage_in q.space.memory v)) makes.page
+        ∙ ap (λ (r : ProcessSideValue S). is_saving_stage (stage_in r.space.memory makes.job.vpn)) (sym here)
+        ∙ out.saving
+
+    framed : frame_in q.space.memory saved.vpn ≡ Some out.frame
+    framed = ap (frame_in q.space.memory) makes.page ∙ ap (λ (r : ProcessSideValue S). frame_in r.space.memory makes.job.vpn) (sym here) ∙ out.framed
 
     holds : HoldsFrame q.space saved.vpn
-    holds =
-        let h = held_frame out.page.place out.frame out.saving in
-        record { small = small; page = out.page; at = at; framed = h.0; apart = h.1 }
+    holds = record { small = small; framed = saving_framed (stage_in q.space.memory saved.vpn) saving; apart = saving_not_resident (stage_in q.space.memory saved.vpn) saving }
 
-    found_out : pages.IsOut q.space.memory.process saved q.space.memory.pages
-    found_out = (
-      makes.process ∙ makes.job_process ∙ sym number,
-      (small, subst IsSaving (sym at) (subst (λ (p : Place S). IfSaving p (λ _. Unit {0})) (sym out.saving) tt)),
-    )
+    found_out : IsOutOf saved q.space.memory
+    found_out = out_of saved q.space.memory (makes.process ∙ makes.job_process ∙ sym number) small saving
 
     -- the frame holds what was copied, so that it is the device that failed
     device_failed : (failure : SaveFailure) (q' : ProcessSideValue S) → Settles (LeavesAgain failure saved) q q' → failure ≡ Device
     device_failed Device q' settles = refl
     device_failed Mismatch q' settles =
-        let told = settles.moves.page.1.1 in
-        let page : told.page ≡ out.page = let a = told.found in let b = at in cc in
-        let place : ◌≡◌ {A = Place S} (Saving told.how.frame) (Saving out.frame) = sym told.how.was ∙ ap (λ (p : PageValue S). p.place) page ∙ out.saving in
-        let frame : told.how.frame ≡ out.frame = cc in
-        absurd (told.how.failed (ap (λ (f : FrameValue). f.bytes) frame ∙ out.same ∙ sym makes.copy))
+        let again = leaving_again (ShowsFailure Mismatch saved) saved q.space.memory q'.space.memory settles.moves in
+        let one : Some again.frame ≡ Some out.frame = sym again.framed ∙ framed in
+        let frame : again.frame ≡ out.frame = cc in
+        absurd (again.failed (ap (λ (f : FrameValue). f.bytes) frame ∙ out.same ∙ sym makes.copy))
 
     takes : (refusal : Refusal) (pager' : PagerSideValue) → DoesNotList (key_of q.space.memory.process saved.vpn) core.pager pager' refusal → (refusal ≡ NoMemory → ⊥) → ⊥
     takes refusal pager' unlisted other = takes_back core key.process q saved.vpn machine found holds refusal (unlisted.why other)
@@ -162,12 +159,8 @@ module _ {S : Type 0} where
                 let both : Some r ≡ Some q' = sym at ∙ ap (slice_get now) i_is ∙ mine in
                 cc
           ] in
-          let page : there.1.page ≡ ends.page' =
-          let a : page_at q'.space.memory.pages key.vpn ≡ Some there.1.page = ap (λ (s : ProcessSideValue S). page_at s.space.memory.pages key.vpn) (sym is) ∙ there.1.at in
-          let b : page_at q'.space.memory.pages key.vpn ≡ Some ends.page' = ap (page_at q'.space.memory.pages) (sym vpn_is) ∙ ends.at in
-          cc in
-          let yes : is_saving_place ends.page'.place ≡ true = ap (λ (p : PageValue S). is_saving_place p.place) (sym page) ∙ there.1.saving in
-          let no = ends.ended in
+          let yes : is_saving_stage (stage_in q'.space.memory key.vpn) ≡ true = ap (λ (s : ProcessSideValue S). is_saving_stage (stage_in s.space.memory key.vpn)) (sym is) ∙ there.1.saving in
+          let no : is_saving_stage (stage_in q'.space.memory key.vpn) ≡ false = ap (λ v. is_saving_stage (stage_in q'.space.memory v)) (sym vpn_is) ∙ ends.ended in
           cc
 
       none_left : jobs_where (is_key key) jobs' ≡ 0
@@ -186,24 +179,26 @@ module _ {S : Type 0} where
             | inl same ↦
                 let there : out_job.process ≡ q = let a = out_job.found in let b = found in let c = same.1 in cc in
                 let apart : job.vpn ≡ saved.vpn → ⊥ = λ e. let yes = same_key key job.process job.vpn same.1 (e ∙ vpn_is) in let no = apart_of in cc in
+                let still = ends.stay job.vpn apart in
                 record {
                   process = q';
-                  page = out_job.page;
                   frame = out_job.frame;
                   small = out_job.small;
                   found = ap (slice_get now) same.1 ∙ get_set_same core.processes key.process q q' found;
-                  at = ends.stay job.vpn apart ∙ ap (λ (r : ProcessSideValue S). page_at r.space.memory.pages job.vpn) (sym there) ∙ out_job.at;
-                  saving = out_job.saving;
+                  saving =
+                      ap is_saving_stage (same_stage q.space.memory q'.space.memory job.vpn still)
+                      ∙ ap (λ (r : ProcessSideValue S). is_saving_stage (stage_in r.space.memory job.vpn)) (sym there)
+                      ∙ out_job.saving;
+                  framed = same_frame q.space.memory q'.space.memory job.vpn still ∙ ap (λ (r : ProcessSideValue S). frame_in r.space.memory job.vpn) (sym there) ∙ out_job.framed;
                   same = out_job.same;
                 }
             | inr other ↦ record {
               process = out_job.process;
-              page = out_job.page;
               frame = out_job.frame;
               small = out_job.small;
               found = get_set_other core.processes key.process job.process q' other.1 ∙ out_job.found;
-              at = out_job.at;
               saving = out_job.saving;
+              framed = out_job.framed;
               same = out_job.same;
             }
           ]

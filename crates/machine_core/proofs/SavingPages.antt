@@ -1,51 +1,32 @@
 -- A page that is being saved counts once, and its save is out.
-use Rattle.std.proofs.Common.{◌≡◌, ℕ, ◌≤◌, ◌<◌, ◌^◌, ◌==◌, ◌&&◌, Bool, true, false, nat_lt, List, Option, Some, None, option_map, slice_get, position, refl, sym, ap, ◌∙◌, arith}
+use Rattle.std.proofs.Common.{◌≡◌, ℕ, ◌≤◌, ◌<◌, ◌^◌, ◌==◌, Bool, true, false, List, Option, Some, None, slice_get, position, refl, sym, ap, ◌∙◌, arith}
 use Rattle.std.specs.Prelude.{if◌then◌else◌}
-use borrow.Author.Tests.{eqb-true, ltb-true}
+use borrow.Author.Tests.{eqb-true}
 use Rattle.clock_policy.specs.declared.key.Key.{Key}
 use Rattle.clock_policy.specs.Residents.{is_key}
-use Rattle.page_store.specs.PageValue.{PageValue, Place, Fresh, Resident, Leaving, Saving, Away, Purged, page_state_of}
-use Rattle.paged_memory.specs.Counting.{is_saving_place}
-use Rattle.paged_memory.specs.Paged.{page_at}
+use Rattle.paged_memory.specs.AmongLaws.{some_saving, saving_there}
 use Rattle.space_core.specs.StandsFor.{SpaceValue}
 use Rattle.machine_core.specs.declared.error.EventRefusal.TheVariants as refusal
 use Rattle.machine_core.specs.Machine.{CoreValue, IsMachine}
 use Rattle.machine_core.specs.MachineRun.{of_process}
 use Rattle.paged_memory.specs.Stages.{is_saving_stage}
+use Rattle.paged_memory.specs.Whole.{stage_in}
 use Rattle.machine_sides.specs.SavingBack.{is_saving_at}
+use Rattle.machine_sides.specs.StageLaws.{stage_passes}
 use Rattle.machine_core.specs.SavingOut.{saving_reason, saved_refusal, is_save_of}
 use Rattle.machine_sides.specs.Sides.{ProcessSideValue}
 use Rattle.machine_sides.specs.Together.{savings_in, key_of}
-use Rattle.machine_core.proofs.Counted.{one_fewer_where}
-use Rattle.machine_core.proofs.Finding.{some_where}
 use Rattle.machine_core.specs.TotalLaws.{total_at}
 use Rattle.machine_core.proofs.JobsOut.{both_true, same_key, none_found}
 
 module _ {S : Type 0} where
+  -- a page that is being saved, of a number that there is
   pub record IsSavingAt (space : SpaceValue S) (vpn : ℕ) : Type 0 where
     pub small : vpn < 2 ^ 20
-    pub page : PageValue S
-    pub at : page_at space.memory.pages vpn ≡ Some page
-    pub saving : is_saving_place page.place ≡ true
-
-  saving_place : (place : Place S) → is_saving_stage (Some (page_state_of place)) ≡ true → is_saving_place place ≡ true
-  saving_place Fresh h = cc
-  saving_place (Resident frame slot) h = cc
-  saving_place (Leaving frame slot mark) h = cc
-  saving_place (Saving frame) h = refl
-  saving_place (Away slot) h = cc
-  saving_place Purged h = cc
+    pub saving : is_saving_stage (stage_in space.memory vpn) ≡ true
 
   pub saving_at : (space : SpaceValue S) (vpn : ℕ) → is_saving_at space vpn ≡ true → IsSavingAt space vpn
-  saving_at space vpn h = by_test (nat_lt vpn (2 ^ 20)) refl h
-    where
-      by_page : (o : Option (PageValue S)) → vpn < 2 ^ 20 → page_at space.memory.pages vpn ≡ o → is_saving_stage (option_map (λ (page : PageValue S). page_state_of page.place) o) ≡ true → IsSavingAt space vpn
-      by_page None small at is = cc
-      by_page (Some page) small at is = record { small = small; page = page; at = at; saving = saving_place page.place is }
-
-      by_test : (b : Bool) → nat_lt vpn (2 ^ 20) ≡ b → is_saving_stage (if b then option_map (λ (page : PageValue S). page_state_of page.place) (page_at space.memory.pages vpn) else None) ≡ true → IsSavingAt space vpn
-      by_test true small is = by_page (page_at space.memory.pages vpn) (ltb-true vpn (2 ^ 20) small) refl is
-      by_test false large is = cc
+  saving_at space vpn h = let there = stage_passes space is_saving_stage vpn refl h in record { small = there.0; saving = there.1 }
 
   -- the process of a save that is not refused, and its page
   pub record SavesPage (processes : List (ProcessSideValue S)) (key : Key) : Type 0 where
@@ -67,10 +48,7 @@ module _ {S : Type 0} where
   counted_at : (q : ProcessSideValue S) (key : Key) → q.space.memory.process ≡ key.process → IsSavingAt q.space key.vpn → 1 ≤ savings_in q.space (is_key key)
   unfolding savings_in
   counted_at q key number saving =
-      let test : ℕ → PageValue S → Bool = λ number page. is_saving_place page.place && is_key key (key_of q.space.memory.process number) in
-      let is : test key.vpn saving.page ≡ true = ap (λ b. b && is_key key (key_of q.space.memory.process key.vpn)) saving.saving ∙ same_key key q.space.memory.process key.vpn number refl in
-      let one = one_fewer_where (λ number page. false) test q.space.memory.pages (λ number page h. cc) key.vpn saving.page saving.at refl is saving.small in
-      omega (arith, one)
+      some_saving q.space.memory (λ vpn. is_key key (key_of q.space.memory.process vpn)) key.vpn saving.small saving.saving (same_key key q.space.memory.process key.vpn number refl)
 
   -- the save of a page that is being saved is out
   pub is_out : (core : CoreValue S) (key : Key) → IsMachine core → saved_refusal key core.processes ≡ None → position (is_save_of key) core.jobs ≡ None → ⊥
@@ -86,16 +64,10 @@ module _ {S : Type 0} where
   pub saving_counted : (space : SpaceValue S) (key : Key) → 1 ≤ savings_in space (is_key key) → (space.memory.process ≡ key.process) × IsSavingAt space key.vpn
   unfolding savings_in
   saving_counted space key h =
-      let found = some_where (λ number page. is_saving_place page.place && is_key key (key_of space.memory.process number)) space.memory.pages h in
-      let parts = both_true (is_saving_place found.page.place) (is_key key (key_of space.memory.process found.number)) found.passes in
-      let same = both_true (space.memory.process == key.process) (found.number == key.vpn) parts.1 in
+      let found = saving_there space.memory (λ vpn. is_key key (key_of space.memory.process vpn)) h in
+      let same = both_true (space.memory.process == key.process) (found.number == key.vpn) found.passes in
       let vpn : found.number ≡ key.vpn = eqb-true found.number key.vpn same.1 in
       let small = found.small in (
         eqb-true space.memory.process key.process same.0,
-        record {
-          small = omega (arith, small, vpn);
-          page = found.page;
-          at = ap (page_at space.memory.pages) (sym vpn) ∙ found.at;
-          saving = parts.0;
-        },
+        record { small = omega (arith, small, vpn); saving = ap (λ v. is_saving_stage (stage_in space.memory v)) (sym vpn) ∙ found.saving },
       )

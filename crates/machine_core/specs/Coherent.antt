@@ -1,6 +1,7 @@
 -- What the pages, tables and caches of each process tell of one another at any time.
 use Rattle.std.specs.Prelude.{◌≡◌, ℕ, List, length, Some, slice_get}
 use Rattle.paged_memory.specs.Coheres.{Coheres}
+use Rattle.paged_memory.specs.Whole.{harts_in}
 use Rattle.space_core.specs.StandsFor.{SpaceValue, StandsFor}
 use Rattle.machine_sides.specs.Sides.{ProcessSideValue}
 
@@ -9,7 +10,7 @@ module _ {S : Type 0} (held : S → List ℕ) (honest : Type 0) where
   -- caches go together
   pub record IsCoherent (space : SpaceValue S) : Type 0 where
     pub stands : honest → StandsFor held space
-    pub harts : length space.memory.caches ≡ length space.running.harts
+    pub harts : harts_in space.memory ≡ length space.running.harts
     pub memory : Coheres held honest space.memory
 
   unfoldable pub EachCoherent : List (ProcessSideValue S) → Type 0

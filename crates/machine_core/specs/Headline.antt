@@ -20,9 +20,9 @@ use Rattle.machine_core.specs.Opening.{MachineBegins}
 use Rattle.machine_sides.specs.Sides.{ProcessSideValue}
 use Rattle.machine_sides.specs.Sweeping.{bit_at}
 use Rattle.machine_sides.specs.Together.{residents_in}
-use Rattle.page_store.specs.PageValue.{PageValue}
-use Rattle.paged_memory.specs.Paged.{page_at, flat_page}
-use Rattle.space_core.specs.StandsFor.{SpaceValue, own_ending, rights_of, paged_rights, is_purged}
+use Rattle.paged_memory.specs.Showing.{rights_of, is_given_up}
+use Rattle.paged_memory.specs.Whole.{rights_in, shown_in}
+use Rattle.space_core.specs.StandsFor.{SpaceValue, own_ending}
 
 -- whether a step that is answered so ran its instruction
 abbrev pub has_run : Reply → Bool
@@ -96,9 +96,8 @@ module _ {S : Type 0} (held : S → List ℕ) where
     pub registers : space.running.harts ≡ flat.harts
     pub environment : space.running.environment ≡ flat.environment
     pub ending : own_ending space.running.ending ≡ flat.ending
-    pub mapped : (number : ℕ) → number < 2 ^ 20 → paged_rights (page_at space.memory.pages number) ≡ rights_of (get flat.memory.pages number)
-    pub memory : (number : ℕ) (page : PageValue S) → number < 2 ^ 20 → page_at space.memory.pages number ≡ Some page → is_purged (Some page) ≡ false
-        → get flat.memory.pages number ≡ Some (flat_page held page)
+    pub mapped : (number : ℕ) → number < 2 ^ 20 → rights_in space.memory number ≡ rights_of (get flat.memory.pages number)
+    pub memory : (number : ℕ) → number < 2 ^ 20 → is_given_up space.memory number ≡ false → get flat.memory.pages number ≡ shown_in held space.memory number
     pub reserved : space.memory.reserved ≡ flat.memory.reserved
 
   -- the process of a number, in a machine that began with this start of it, shows what the steps of a run leave that ran

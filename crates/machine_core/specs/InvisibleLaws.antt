@@ -1,5 +1,5 @@
 -- Each event of a run leaves paging invisible, and so does the run.
-use Rattle.std.proofs.Common.{◌≡◌, ℕ, List, [], ◌∷◌, ◌++◌, Some, option_map, slice_get, inl, inr, refl, sym, ap, ◌∙◌, subst}
+use Rattle.std.proofs.Common.{◌≡◌, ℕ, List, [], ◌∷◌, ◌++◌, Some, slice_get, inl, inr, refl, sym, ap, ◌∙◌, subst}
 use Rattle.flat_machine.specs.Schedule.{written_out}
 use Rattle.machine_core.specs.Applying.{ServesEvent, Applies, Runs}
 use Rattle.machine_core.specs.Coherent.{EachCoherent}
@@ -16,8 +16,6 @@ use Rattle.machine_sides.specs.Sides.{ProcessSideValue}
 use Rattle.machine_core.specs.declared.event.Event.{Event}
 use Rattle.machine_core.specs.declared.event.Event.TheVariants.{Step, Notice, Sweep, Collect, Saved, PageIn, Kill, Purge}
 use Rattle.machine_core.specs.declared.event.Reply.{Reply}
-use Rattle.paged_memory.specs.Paged.{flat_page}
-use Rattle.paged_memory.specs.Showing.{is_purged}
 use Rattle.space_core.specs.StandsFor.{SpaceValue, StandsFor, flat_with}
 use Rattle.machine_core.specs.LeavingOrderLaws.{collect_tells, saved_tells, purge_tells}
 use Rattle.machine_core.specs.OrderLaws.{Tells, still_remains, refused_tells}
@@ -48,7 +46,7 @@ module _ {S : Type 0} where
       environment = refl;
       ending = refl;
       mapped = λ number small. sym (stands.shows.mapped number small);
-      memory = λ number page small at whole. stands.shows.shown number small (ap is_purged at ∙ whole) ∙ ap (option_map (flat_page held)) at;
+      memory = stands.shows.shown;
       reserved = sym stands.shows.reserved;
     }
 

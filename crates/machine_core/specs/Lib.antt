@@ -12,7 +12,6 @@ pub mod ManySteps
 pub mod Opening
 pub mod OrderLaws
 pub mod PagingIn
-pub mod PagingLaws
 pub mod PurgeEvent
 pub mod Reading
 pub mod RefusalNumber

@@ -1,13 +1,12 @@
 -- The whole machine: the pager, the free slots, the processes by their numbers, and the saves that are out.
-use Rattle.std.specs.Prelude.{◌≡◌, ℕ, zero, suc, ◌+◌, ◌^◌, ◌<◌, ◌≤◌, Bool, cond, Some, slice_get, length, List, [], ◌∷◌, All}
+use Rattle.std.specs.Prelude.{◌≡◌, ℕ, zero, suc, ◌+◌, ◌^◌, ◌<◌, ◌≤◌, Bool, true, cond, Some, slice_get, length, List, [], ◌∷◌, All}
 use Rattle.clock_policy.specs.declared.key.Key.{Key}
 use Rattle.clock_policy.specs.Lawful.{Lawful}
 use Rattle.clock_policy.specs.Residents.{residents}
 use Rattle.frame_pool.specs.FrameValue.{FrameValue}
 use Rattle.page_store.specs.JobValue.{JobValue}
-use Rattle.page_store.specs.PageValue.{PageValue, Saving}
-use Rattle.paged_memory.specs.Counting.{slots_of}
-use Rattle.paged_memory.specs.Paged.{page_at}
+use Rattle.paged_memory.specs.Stages.{is_saving_stage}
+use Rattle.paged_memory.specs.Whole.{stage_in, frame_in, slots_within}
 use Rattle.swap_slots.specs.PoolValue.{PoolValue}
 use Rattle.machine_sides.specs.Sides.{PagerSideValue, ProcessSideValue}
 use Rattle.machine_sides.specs.Together.{frames_where, residents_in, savings_in, frames_in, key_of}
@@ -36,12 +35,11 @@ module _ {S : Type 0} where
   -- a save's page is being saved, in a frame that holds what was copied
   pub record IsSaveOut (processes : List (ProcessSideValue S)) (job : JobValue S) : Type 0 where
     pub process : ProcessSideValue S
-    pub page : PageValue S
     pub frame : FrameValue
     pub small : job.vpn < 2 ^ 20
     pub found : slice_get processes job.process ≡ Some process
-    pub at : page_at process.space.memory.pages job.vpn ≡ Some page
-    pub saving : page.place ≡ Saving frame
+    pub saving : is_saving_stage (stage_in process.space.memory job.vpn) ≡ true
+    pub framed : frame_in process.space.memory job.vpn ≡ Some frame
     pub same : frame.bytes ≡ job.copy
 
   -- The list's resident entries are the processes' resident pages; each frame's number stands once, among the free frames or in
@@ -55,4 +53,4 @@ module _ {S : Type 0} where
     pub framed : (test : ℕ → Bool) → frames_where test core.pager.pager.free + total (λ (process : ProcessSideValue S). frames_in process.space test) core.processes ≡ numbers_below core.pager.pager.size test
     pub saved : (test : Key → Bool) → jobs_where test core.jobs ≡ total (λ (process : ProcessSideValue S). savings_in process.space test) core.processes
     pub out : All (IsSaveOut core.processes) core.jobs
-    pub slotted : length core.slots.free + (total (λ (process : ProcessSideValue S). slots_of process.space.memory.pages) core.processes + length core.jobs) ≡ core.slots.size
+    pub slotted : length core.slots.free + (total (λ (process : ProcessSideValue S). slots_within process.space.memory) core.processes + length core.jobs) ≡ core.slots.size

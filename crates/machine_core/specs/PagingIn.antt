@@ -1,14 +1,12 @@
 -- A page is brought in: it is admitted and then mapped, or else the admission is taken back.
-use Rattle.std.specs.Prelude.{◌≡◌, ◌⊎◌, ℕ, List, ◌++◌, [], ◌∷◌, is_some, slice_get, slice_set, Option, Some, None, if◌then◌else◌}
+use Rattle.std.specs.Prelude.{◌≡◌, ◌≢◌, ◌⊎◌, ℕ, List, ◌++◌, [], ◌∷◌, is_some, slice_get, slice_set, Option, Some, None, if◌then◌else◌}
 use Rattle.clock_policy.specs.declared.key.Key.{Key}
 use Rattle.clock_policy.specs.ClockPro.{kind_of, withdrawn}
 use Rattle.frame_pool.specs.FrameValue.{FrameValue}
-use Rattle.paged_memory.specs.Calls.{ChangesBy}
-use Rattle.paged_memory.specs.Filling.{RefusesAbsent}
+use Rattle.paged_memory.specs.Moving.{RefusesIn, SameEntries}
 use Rattle.paged_memory.specs.declared.filling.PageInFault.{PageInFault}
-use Rattle.paged_memory.specs.declared.filling.PageInFault.TheVariants as fault
+use Rattle.paged_memory.specs.declared.filling.PageInFault.TheVariants as load
 use Rattle.pager_core.specs.Pager.{none_free}
-use Rattle.sv32_table.specs.EntryAt.{has_table}
 use Rattle.machine_sides.specs.declared.admission.NotAdmitted.{NotAdmitted}
 use Rattle.machine_sides.specs.declared.admission.NotAdmitted.TheVariants as unadmitted
 use Rattle.machine_core.specs.declared.error.EventRefusal.{EventRefusal}
@@ -31,10 +29,10 @@ admit_reason unadmitted.NoMemory = NoMemory
 
 -- what is replied for a page that was not loaded
 abbrev pub fault_reply : PageInFault → Reply
-fault_reply fault.NotAbsent = Refused NotAbsent
-fault_reply fault.Device = Device
-fault_reply fault.Damaged = Damaged
-fault_reply fault.NoMemory = Refused NoMemory
+fault_reply load.NotAbsent = Refused NotAbsent
+fault_reply load.Device = Device
+fault_reply load.Damaged = Damaged
+fault_reply load.NoMemory = Refused NoMemory
 
 module _ {S : Type 0} where
   pub record IsBarred (key : Key) (pager pager' : PagerSideValue) (process process' : ProcessSideValue S) (reply : Reply) : Type 0 where
@@ -70,15 +68,16 @@ module _ {S : Type 0} where
     abbrev pub PagesIn : Type 0
     PagesIn = IsBarred key pager pager' process process' reply ⊎ (ComesIn ⊎ IsTakenBack)
 
-    -- in the machine: an admitted page is not loaded, the frame comes free, the page is withdrawn, and is where it was
+    -- in the machine: an admitted page, which was absent, is not loaded, the frame comes free, the page is withdrawn, and is where it was
     pub record GoesBack : Type 0 where
       pub admission : AdmissionValue
       pub back : FrameValue
       pub fault : PageInFault
       pub between : PagerSideValue
       pub admits : Admits key pager between process.space admission
-      pub page : ChangesBy (λ page page'. RefusesAbsent held honest failures admission.frame (has_table process.space.memory.tables key.vpn) page page' back fault) process.space.memory.pages process'.space.memory.pages key.vpn
-      pub tables : process'.space.memory.tables ≡ process.space.memory.tables
+      pub why : RefusesIn held honest failures admission.frame key.vpn back fault process.space.memory process'.space.memory
+      pub absent : fault ≢ load.NotAbsent
+      pub tables : SameEntries process.space.memory process'.space.memory
       pub rest : KeepsRest held honest process.space process'.space
       pub purged : process'.purged ≡ process.purged
       pub withdraws : pager' ≡ record between {

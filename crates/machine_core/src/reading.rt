@@ -1,11 +1,12 @@
 //! What the machine shows of its processes.
 
-ghost use Rattle.std.specs.Prelude.{◌≡◌, ◌≢◌, ◌↔◌, ◌+◌, ◌*◌, ◌<◌, ◌≤◌, Some, true, false, IsNone, IfSome, length, slice_get, option_copied, option_map};
+ghost use Rattle.std.specs.Prelude.{◌≡◌, ◌≢◌, ◌↔◌, ◌+◌, ◌*◌, ◌<◌, ◌≤◌, ◌^◌, Some, true, false, None, IsNone, IfNone, IfSome, length, slice_get, option_copied, option_map};
 ghost use Rattle.std.specs.Option.{option_and_then};
+ghost use Rattle.clock_policy.specs.Residents.{residents};
 ghost use Rattle.page_memory.specs.Words.{page_offset};
 ghost use Rattle.machine_sides.specs.Admitting.{stage_at};
 ghost use Rattle.machine_core.specs.MachineRun.{ChangesOne};
-ghost use Rattle.machine_core.specs.Reading.{is_live_in, IfThere, PeeksAt};
+ghost use Rattle.machine_core.specs.Reading.{holds_resident, is_live_in, HoldsPages, IfThere, PeeksAt};
 ghost use Rattle.machine_sides.specs.Showing.{Peeks};
 ghost use Rattle.space_core.specs.StandsFor.{own_ending};
 
@@ -13,9 +14,9 @@ use crate::machine::Core;
 use clock_policy::{Clock, EntryKind, Key};
 use elf_image::Image;
 use flat_machine::{End, Schedule};
-use machine_sides::{ProcessSide, SideCounts};
+use machine_sides::{ProcessSide, SideCounts, resident_entries};
 use page_store::PageState;
-use paged_memory::PeekFault;
+use paged_memory::{HeldPages, PeekFault};
 use rv_exec::Regs;
 use std::sync::ledger::Ledger;
 use swap_slots::SwapSlot;
@@ -77,6 +78,16 @@ impl<L: Ledger, S: SwapSlot, C: Clock> Core<L, S, C> {
         self.processes.get(process as usize)?.state(vpn)
     }
 
+    /// Whether a page is resident, where there is its process.
+    pub fn is_resident(&self, key: Key) -> bool
+        ensures { result ≡ holds_resident self.now key }
+    {
+        match self.processes.get(key.process as usize) {
+            None => false,
+            Some(side) => side.is_resident(key.vpn),
+        }
+    }
+
     /// The entry of the list at a place, counted from the front.
     pub fn entry(&self, i: usize) -> Option<(Key, EntryKind)>
         ensures entry { result ≡ option_map (λ e. (e.key, e.kind)) (slice_get self.now.pager.pager.list.entries i) }
@@ -84,6 +95,23 @@ impl<L: Ledger, S: SwapSlot, C: Clock> Core<L, S, C> {
     {
         let _ = &self.pager;
         self.pager.entry(i)
+    }
+
+    /// How many entries of the list are resident.
+    pub fn resident_entries(&self) -> usize
+        ensures { result ≡ residents self.now.pager.pager.list (λ _. true) }
+    {
+        let _ = &self.processes;
+        resident_entries(&self.pager)
+    }
+
+    /// How many pages of a process are resident, and how many hold a frame, where there is such a process.
+    pub fn held_pages(&self, process: u32) -> Option<HeldPages>
+        ensures none { IfNone result (slice_get self.now.processes process ≡ None) }
+        ensures held { IfSome result (HoldsPages self.now process) }
+        ensures few { IfSome result (λ held. (held.resident ≤ 2 ^ 20) × (held.framed ≤ 2 ^ 20)) }
+    {
+        Some(self.processes.get(process as usize)?.held_pages())
     }
 
     /// How many frames are free, and what was counted.

@@ -1,10 +1,8 @@
 -- An audit goes through the processes, one after another.
-use Rattle.std.proofs.Common.{◌≡◌, ℕ, zero, suc, ◌+◌, ◌*◌, ◌^◌, ◌≤◌, ◌<◌, List, [], ◌∷◌, ◌++◌, length, take, get_or, Some, slice_get, refl, sym, ap, ◌∙◌, arith, subst, length-append, add-one}
-use Rattle.std.specs.Prelude.{⊤}
+use Rattle.std.proofs.Common.{◌≡◌, ℕ, zero, suc, ◌+◌, ◌*◌, ◌^◌, ◌≤◌, ◌<◌, List, [], ◌∷◌, ◌++◌, length, take, get_or, Some, slice_get, refl, sym, ap, ◌∙◌, arith, subst, length-append}
 use Rattle.std.proofs.lemmas.List.{take_more}
 use Rattle.std.proofs.lemmas.Option.{slice_get_read}
-use Rattle.clock_policy.specs.Residents.{residents}
-use Rattle.reclaim_daemon.specs.declared.audit.HeldPages.{HeldPages}
+use Rattle.paged_memory.specs.declared.counting.HeldPages.{HeldPages}
 use Rattle.reclaim_daemon.specs.Audit.{total, resident_pages, framed_pages, IsListed, AreListed, CountsMore, IsSound, HoldsAll, FindsSound}
 use Rattle.reclaim_daemon.specs.DeskValue.{DeskValue}
 use Rattle.reclaim_daemon.specs.HeldValue.{HeldValue}

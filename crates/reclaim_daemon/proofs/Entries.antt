@@ -1,13 +1,12 @@
 -- Entries whose keys differ are no more than the pages that they are of.
-use Rattle.std.proofs.Common.{◌≡◌, ℕ, zero, suc, ◌+◌, ◌≤◌, ◌<◌, ◌^◌, ◌==◌, Bool, true, false, ◌&&◌, not, cond, List, [], ◌∷◌, inl, inr, refl, sym, ap, ◌∙◌, arith, subst}
+use Rattle.std.proofs.Common.{◌≡◌, ℕ, ◌+◌, ◌≤◌, ◌==◌, Bool, true, false, ◌&&◌, not, cond, List, [], ◌∷◌, inl, inr, refl, sym, ap, ◌∙◌, arith}
 use Rattle.std.specs.Prelude.{◌⊎◌}
 use Rattle.std.proofs.lemmas.Bool.Decides.{eqb_tells}
-use borrow.Author.Tests.{eqb-true, lt-ltb}
-use Rattle.clock_policy.specs.AdmitLaws.{one_key}
+use borrow.Author.Tests.{eqb-true}
 use Rattle.clock_policy.specs.declared.key.Key.{Key}
 use Rattle.clock_policy.specs.declared.entry.Entry.{Entry}
-use Rattle.clock_policy.specs.ClockPro.{ClockState, number, has_key}
-use Rattle.clock_policy.specs.Residents.{residents, in_frame, is_resident_that, is_key}
+use Rattle.clock_policy.specs.ClockPro.{number, has_key}
+use Rattle.clock_policy.specs.Residents.{in_frame, is_resident_that, is_key}
 
 -- both parts of a truth
 pub both : (a b : Bool) → a && b ≡ true → (a ≡ true) × (b ≡ true)

@@ -1,68 +1,29 @@
 -- What an audit counts comes to, page by page: the list has a page as a resident one exactly where it is resident.
-use Rattle.std.proofs.Common.{◌≡◌, ℕ, zero, suc, ◌+◌, ◌≤◌, ◌<◌, ◌^◌, ◌==◌, nat_lt, Bool, true, false, ◌&&◌, cond, List, [], ◌∷◌, Option, Some, None, option_map, slice_get, inl, inr, refl, sym, ap, ◌∙◌, arith, subst}
-use Rattle.std.specs.Prelude.{◌⊎◌, ⊤}
+use Rattle.std.proofs.Common.{◌≡◌, ℕ, zero, suc, ◌+◌, ◌≤◌, ◌==◌, Bool, true, false, ◌&&◌, List, [], ◌∷◌, Option, Some, slice_get, inl, inr, refl, sym, ap, ◌∙◌, arith, subst}
+use Rattle.std.specs.Prelude.{◌⊎◌}
 use Rattle.std.proofs.lemmas.Bool.Decides.{eqb_tells}
-use borrow.Author.Tests.{eqb-true, lt-ltb}
+use borrow.Author.Tests.{eqb-true}
 use Rattle.clock_policy.specs.declared.key.Key.{Key}
 use Rattle.clock_policy.specs.declared.entry.Entry.{Entry}
 use Rattle.clock_policy.specs.AdmitLaws.{residents_once}
-use Rattle.clock_policy.specs.ClockPro.{ClockState, number}
+use Rattle.clock_policy.specs.ClockPro.{number}
 use Rattle.clock_policy.specs.Lawful.{Lawful}
 use Rattle.clock_policy.specs.Residents.{residents, in_frame, is_resident_that, is_key}
-use Rattle.page_store.specs.PageValue.{PageValue, Place, Fresh, Resident, Leaving, Saving, Away, Purged, page_state_of}
-use Rattle.paged_memory.specs.Counting.{page_passes, pages_below, pages_where, is_resident_place, residents_of}
-use Rattle.paged_memory.specs.CountingLaws.{none_where_pass}
-use Rattle.paged_memory.specs.Paged.{page_at}
-use Rattle.space_core.specs.StandsFor.{SpaceValue}
+use Rattle.paged_memory.specs.AmongLaws.{fewer_residents, one_resident, no_residents}
 use Rattle.paged_memory.specs.Stages.{is_resident_stage}
-use Rattle.machine_sides.specs.Admitting.{stage_at, is_resident_at}
+use Rattle.paged_memory.specs.Whole.{residents_among}
+use Rattle.space_core.specs.StandsFor.{SpaceValue}
+use Rattle.machine_sides.specs.Admitting.{is_resident_at}
 use Rattle.machine_sides.specs.Agreeing.{Agree}
 use Rattle.machine_sides.specs.Together.{residents_in, key_of}
-use Rattle.reclaim_daemon.specs.Audit.{total, is_resident_of, resident_pages, IsListed, AreListed, IsSound, AgreeEverywhere}
+use Rattle.machine_sides.specs.Held.{is_resident_of}
+use Rattle.machine_sides.specs.StageLaws.{stage_below, stage_passes}
+use Rattle.reclaim_daemon.specs.Audit.{total, resident_pages, IsListed, AreListed, IsSound, AgreeEverywhere}
 use Rattle.reclaim_daemon.specs.DeskValue.{DeskValue}
 use Rattle.reclaim_daemon.specs.HeldValue.{HeldValue}
 use Rattle.reclaim_daemon.proofs.Apart.{Numbered, no_other}
 use Rattle.reclaim_daemon.proofs.Audited.{listed_at}
 use Rattle.reclaim_daemon.proofs.Entries.{both, together, less_numbers, one_missing}
-
--- ---- more pages that pass
-
--- one truth brings the other
-abbrev Implies : Bool → Bool → Type 0
-Implies a b = a ≡ true → b ≡ true
-
-less_cond : (a b : Bool) → Implies a b → cond {A = ℕ} a 1 0 ≤ cond b 1 0
-less_cond true b h = rw (h refl) (omega arith)
-less_cond false b h = omega arith
-
-module _ {S : Type 0} (few many : ℕ → PageValue S → Bool) (pages : List (ℕ × PageValue S)) (all : (number : ℕ) (page : PageValue S) → Implies (few number page) (many number page)) where
-  here : (number : ℕ) → Implies (page_passes (few number) (page_at pages number)) (page_passes (many number) (page_at pages number))
-  here number = elim (page_at pages number) as (λ o. Implies (page_passes (few number) o) (page_passes (many number) o)) [ None ↦ λ h. h | Some page ↦ all number page ]
-
-  fewer_below : (bound : ℕ) → pages_below few pages bound ≤ pages_below many pages bound
-  unfolding pages_below
-  fewer_below zero = omega arith
-  fewer_below (suc bound) = omega (arith, less_cond (page_passes (few bound) (page_at pages bound)) (page_passes (many bound) (page_at pages bound)) (here bound), fewer_below bound)
-
-  module _ (v : ℕ) (page : PageValue S) (at : page_at pages v ≡ Some page) (not : few v page ≡ false) (yes : many v page ≡ true) where
-    one_below : (bound : ℕ) → v < bound → pages_below few pages bound + 1 ≤ pages_below many pages bound
-    unfolding pages_below
-    one_below zero below = absurd (omega arith)
-    one_below (suc bound) below =
-        elim (eqb_tells bound v) [
-          | inl same ↦
-              let first : cond {A = ℕ} (page_passes (few bound) (page_at pages bound)) 1 0 ≡ 0 = ap (λ n. cond {A = ℕ} (page_passes (few n) (page_at pages n)) 1 0) same.1 ∙ ap (λ o. cond {A = ℕ} (page_passes (few v) o) 1 0) at ∙ ap (λ b. cond {A = ℕ} b 1 0) not in
-              let second : cond {A = ℕ} (page_passes (many bound) (page_at pages bound)) 1 0 ≡ 1 = ap (λ n. cond {A = ℕ} (page_passes (many n) (page_at pages n)) 1 0) same.1 ∙ ap (λ o. cond {A = ℕ} (page_passes (many v) o) 1 0) at ∙ ap (λ b. cond {A = ℕ} b 1 0) yes in
-              omega (arith, first, second, fewer_below bound)
-          | inr apart ↦
-              let less : v < bound = let ne = apart.1 in omega (arith, ne, below) in
-              omega (arith, less_cond (page_passes (few bound) (page_at pages bound)) (page_passes (many bound) (page_at pages bound)) (here bound), one_below bound less)
-        ]
-
-    -- a page that passes the second test alone is one more
-    one_fewer : v < 2 ^ 20 → pages_where few pages + 1 ≤ pages_where many pages
-    unfolding pages_where
-    one_fewer small = one_below (2 ^ 20) small
 
 equal : (n m : ℕ) → n ≡ m → (n == m) ≡ true
 equal n m same = by_tells (eqb_tells n m)
@@ -74,139 +35,41 @@ equal n m same = by_tells (eqb_tells n m)
 module _ {S : Type 0} where
   -- ---- one process
 
-  -- a resident page
-  record IsThere (space : SpaceValue S) (v : ℕ) : Type 0 where
-    small : v < 2 ^ 20
-    page : PageValue S
-    at : page_at space.memory.pages v ≡ Some page
-    resident : is_resident_place page.place ≡ true
-
-  place_there : (place : Place S) → is_resident_stage (Some (page_state_of place)) ≡ true → is_resident_place place ≡ true
-  place_there Fresh h = cc
-  place_there (Resident frame slot) h = refl
-  place_there (Leaving frame slot mark) h = cc
-  place_there (Saving frame) h = cc
-  place_there (Away slot) h = cc
-  place_there Purged h = cc
-
-  is_there : (space : SpaceValue S) (v : ℕ) → is_resident_at space v ≡ true → IsThere space v
-  is_there space v is = by_bound (nat_lt v (2 ^ 20)) refl is
-    where
-      by_page : v < 2 ^ 20 → (o : Option (PageValue S)) → page_at space.memory.pages v ≡ o → is_resident_stage (option_map (λ page. page_state_of page.place) o) ≡ true → IsThere space v
-      by_page small None at h = cc
-      by_page small (Some page) at h = record { small = small; page = page; at = at; resident = place_there page.place h }
-
-      by_bound : (b : Bool) → nat_lt v (2 ^ 20) ≡ b → is_resident_stage (cond b (option_map (λ page. page_state_of page.place) (page_at space.memory.pages v)) None) ≡ true → IsThere space v
-      by_bound false bound h = cc
-      by_bound true bound h = by_page (ltb_less v (2 ^ 20) bound) (page_at space.memory.pages v) refl h
-        where
-          ltb_less : (a b : ℕ) → nat_lt a b ≡ true → a < b
-          ltb_less a b t = grind (arith, Rattle.std.proofs.lemmas.Bool.Decides.nat_tests)
-
   module _ (space : SpaceValue S) where
     -- how many resident pages pass by their numbers
     abbrev count : (ℕ → Bool) → ℕ
-    count test = residents_of space.memory.pages test
+    count test = residents_among space.memory test
 
     fewer : (few many : ℕ → Bool) (v : ℕ) → ((w : ℕ) → few w ≡ true → many w ≡ true) → is_resident_at space v ≡ true → few v ≡ false → many v ≡ true → count few + 1 ≤ count many
     fewer few many v all is not passes =
-        let there = is_there space v is in
-        one_fewer (λ number page. is_resident_place page.place && few number) (λ number page. is_resident_place page.place && many number) space.memory.pages
-        (λ number page h. let parts = both (is_resident_place page.place) (few number) h in together (is_resident_place page.place) (many number) parts.0 (all number parts.1))
-        v there.page there.at (none (is_resident_place there.page.place) (few v) not) (together (is_resident_place there.page.place) (many v) there.resident passes) there.small
-      where
-        none : (a b : Bool) → b ≡ false → a && b ≡ false
-        none true b h = h
-        none false b h = refl
+        let there = stage_passes space is_resident_stage v refl is in
+        fewer_residents space.memory few many v all there.0 there.1 not passes
 
-  -- ---- the pages of a key
+    -- ---- the pages of a key
 
-  module _ (test : ℕ → PageValue S → Bool) (pages : List (ℕ × PageValue S)) (v : ℕ) (alone : (number : ℕ) (page : PageValue S) → test number page ≡ true → number ≡ v) where
-    not_here : (number : ℕ) → (number ≡ v → ⊥) → page_passes (test number) (page_at pages number) ≡ false
-    not_here number apart = by_page (page_at pages number)
-      where
-        by_page : (o : Option (PageValue S)) → page_passes (test number) o ≡ false
-        by_page None = refl
-        by_page (Some page) = by_test (test number page) refl
-          where
-            by_test : (b : Bool) → test number page ≡ b → test number page ≡ false
-            by_test true is = absurd (apart (alone number page is))
-            by_test false is = is
+    -- whether a page's number is a key's
+    abbrev of_key : Key → ℕ → Bool
+    of_key key number = is_key key (key_of space.memory.process number)
 
-    none_before : (bound : ℕ) → bound ≤ v → pages_below test pages bound ≡ 0
-    unfolding pages_below
-    none_before zero small = refl
-    none_before (suc bound) small =
-        let no : cond {A = ℕ} (page_passes (test bound) (page_at pages bound)) 1 0 ≡ 0 = ap (λ b. cond {A = ℕ} b 1 0) (not_here bound (λ same. omega (arith, small, same))) in
-        omega (arith, no, none_before bound (omega (arith, small)))
+    same_number : (key : Key) (number : ℕ) → of_key key number ≡ true → number ≡ key.vpn
+    same_number key number h = eqb-true number key.vpn (both (space.memory.process == key.process) (number == key.vpn) h).1
 
-    few_cond : (b : Bool) → cond {A = ℕ} b 1 0 ≤ 1
-    few_cond true = omega arith
-    few_cond false = omega arith
+    -- a resident page is one of its key
+    counts_one : (key : Key) → space.memory.process ≡ key.process → is_resident_at space key.vpn ≡ true → residents_in space (is_key key) ≡ 1
+    unfolding residents_in
+    counts_one key own is =
+        let there = stage_passes space is_resident_stage key.vpn refl is in
+        one_resident space.memory (of_key key) key.vpn (same_number key) there.0 there.1
+        (together (space.memory.process == key.process) (key.vpn == key.vpn) (equal space.memory.process key.process own) (equal key.vpn key.vpn refl))
 
-    once_below : (bound : ℕ) → pages_below test pages bound ≤ 1
-    unfolding pages_below
-    once_below zero = omega arith
-    once_below (suc bound) =
-        elim (eqb_tells bound v) [
-          | inl same ↦
-              let rest = none_before bound (let e = same.1 in omega (arith, e)) in
-              omega (arith, rest, few_cond (page_passes (test bound) (page_at pages bound)))
-          | inr apart ↦
-              let no : cond {A = ℕ} (page_passes (test bound) (page_at pages bound)) 1 0 ≡ 0 = ap (λ b. cond {A = ℕ} b 1 0) (not_here bound apart.1) in
-              omega (arith, no, once_below bound)
-        ]
-
-    once_where : pages_where test pages ≤ 1
-    unfolding pages_where
-    once_where = once_below (2 ^ 20)
-
-  -- the test of a key's page
-  abbrev of_key : SpaceValue S → Key → ℕ → PageValue S → Bool
-  of_key space key number page = is_resident_place page.place && is_key key (key_of space.memory.process number)
-
-  same_number : (space : SpaceValue S) (key : Key) (number : ℕ) (page : PageValue S) → of_key space key number page ≡ true → number ≡ key.vpn
-  same_number space key number page h =
-      let parts = both (is_resident_place page.place) (is_key key (key_of space.memory.process number)) h in
-      eqb-true number key.vpn (both (space.memory.process == key.process) (number == key.vpn) parts.1).1
-
-  -- a resident page is one of its key
-  counts_one : (space : SpaceValue S) (key : Key) → space.memory.process ≡ key.process → is_resident_at space key.vpn ≡ true → residents_in space (is_key key) ≡ 1
-  unfolding residents_in
-  counts_one space key own is =
-      let there = is_there space key.vpn is in
-      let yes : of_key space key key.vpn there.page ≡ true = together (is_resident_place there.page.place) (is_key key (key_of space.memory.process key.vpn)) there.resident
-      (together (space.memory.process == key.process) (key.vpn == key.vpn) (equal space.memory.process key.process own) (equal key.vpn key.vpn refl)) in
-      let more = one_fewer (λ number page. false) (of_key space key) space.memory.pages (λ number page h. absurd (cc)) key.vpn there.page there.at refl yes there.small in
-      let few = once_where (of_key space key) space.memory.pages key.vpn (same_number space key) in
-      omega (arith, more, few)
-
-  -- another is none
-  counts_none : (space : SpaceValue S) (key : Key) → is_resident_at space key.vpn ≡ false → residents_in space (is_key key) ≡ 0
-  unfolding residents_in
-  counts_none space key not = none_where_pass (of_key space key) space.memory.pages (λ number small. by_page number small (page_at space.memory.pages number) refl)
-    where
-      by_page : (number : ℕ) → number < 2 ^ 20 → (o : Option (PageValue S)) → page_at space.memory.pages number ≡ o → page_passes (of_key space key number) o ≡ false
-      by_page number small None at = refl
-      by_page number small (Some page) at = by_test (of_key space key number page) refl
-        where
-          placed : (place : Place S) → is_resident_place place ≡ true → is_resident_stage (Some (page_state_of place)) ≡ true
-          placed Fresh h = cc
-          placed (Resident frame slot) h = refl
-          placed (Leaving frame slot mark) h = cc
-          placed (Saving frame) h = cc
-          placed (Away slot) h = cc
-          placed Purged h = cc
-
-          by_test : (b : Bool) → of_key space key number page ≡ b → of_key space key number page ≡ false
-          by_test false is = is
-          by_test true is =
-              let resident = (both (is_resident_place page.place) (is_key key (key_of space.memory.process number)) is).0 in
-              let yes : is_resident_at space number ≡ true =
-              ap (λ b. is_resident_stage (cond b (option_map (λ page. page_state_of page.place) (page_at space.memory.pages number)) None)) (lt-ltb number (2 ^ 20) small)
-              ∙ ap (λ o. is_resident_stage (option_map (λ page. page_state_of page.place) o)) at ∙ placed page.place resident in
-              let here : is_resident_at space key.vpn ≡ true = ap (is_resident_at space) (sym (same_number space key number page is)) ∙ yes in
-              absurd (cc)
+    -- another is none
+    counts_none : (key : Key) → is_resident_at space key.vpn ≡ false → residents_in space (is_key key) ≡ 0
+    unfolding residents_in
+    counts_none key not =
+        no_residents space.memory (of_key key) (λ number small is own.
+        let here : is_resident_at space number ≡ true = ap is_resident_stage (stage_below space number small) ∙ is in
+        let there : is_resident_at space key.vpn ≡ true = ap (is_resident_at space) (sym (same_number key number own)) ∙ here in
+        absurd (cc))
 
   -- ---- all processes
 

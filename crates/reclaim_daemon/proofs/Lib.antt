@@ -2,7 +2,6 @@ pub mod Outputs
 pub mod Statuses
 pub mod Heeded
 pub mod Brought
-pub mod Counted
 pub mod Entries
 pub mod Apart
 pub mod Audited

@@ -1,30 +1,12 @@
 -- What an audit counts of one process beside the pager, and what it looks for over all of them.
-use Rattle.std.specs.Prelude.{◌≡◌, ℕ, ⊤, ◌+◌, ◌==◌, ◌&&◌, ◌≤◌, ◌*◌, ◌^◌, Bool, true, false, List, [], ◌∷◌, length, Option, Some, None, slice_get}
-use Rattle.clock_policy.specs.declared.key.Key.{Key}
+use Rattle.std.specs.Prelude.{◌≡◌, ℕ, ⊤, ◌+◌, ◌≤◌, ◌*◌, ◌^◌, true, List, [], ◌∷◌, length, Some, slice_get}
 use Rattle.clock_policy.specs.Residents.{residents}
-use Rattle.page_store.specs.declared.state.PageState.{PageState}
-use Rattle.page_store.specs.declared.state.PageState.TheVariants as stage
-use Rattle.machine_sides.specs.Admitting.{is_resident_at}
 use Rattle.machine_sides.specs.Agreeing.{Agree}
+use Rattle.machine_sides.specs.Held.{is_resident_of}
 use Rattle.machine_sides.specs.Together.{residents_in, frames_in, key_of}
-use Rattle.space_core.specs.StandsFor.{SpaceValue}
-use Rattle.reclaim_daemon.specs.declared.audit.HeldPages.{HeldPages}
+use Rattle.paged_memory.specs.declared.counting.HeldPages.{HeldPages}
 use Rattle.reclaim_daemon.specs.DeskValue.{DeskValue}
 use Rattle.reclaim_daemon.specs.HeldValue.{HeldValue}
-
--- whether a page that is there stands in a frame
-abbrev pub has_frame_stage : Option PageState → Bool
-has_frame_stage None = false
-has_frame_stage (Some stage.Fresh) = false
-has_frame_stage (Some stage.Resident) = true
-has_frame_stage (Some stage.Leaving) = true
-has_frame_stage (Some stage.Saving) = true
-has_frame_stage (Some stage.Away) = false
-has_frame_stage (Some stage.Purged) = false
-
--- whether a key is of a process's page that is resident
-abbrev pub is_resident_of : {S : Type 0} → SpaceValue S → Key → Bool
-is_resident_of space key = (key.process == space.memory.process) && is_resident_at space key.vpn
 
 -- the sum of a number over all of a list
 unfoldable pub total : {A : Type 0} → (A → ℕ) → List A → ℕ

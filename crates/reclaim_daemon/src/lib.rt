@@ -17,7 +17,6 @@ mod reclaiming;
 mod replies;
 mod shared;
 
-pub use audit::{HeldPages, entries_of_resident_pages, held_pages, resident_entries};
 pub use desk::Desk;
 pub use gate::{Gate, OpenGate};
 pub use held::Held;

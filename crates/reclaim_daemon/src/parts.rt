@@ -4,10 +4,11 @@ ghost use Rattle.std.specs.Prelude.{◌≡◌, ◌≤◌, true, vec_len};
 ghost use Rattle.reclaim_daemon.specs.Audit.{IsSound, AgreeEverywhere};
 ghost use Rattle.reclaim_daemon.specs.SharedValue.{most_processes};
 
-use crate::audit::{HeldPages, count_more, is_all};
+use crate::audit::{count_more, is_all};
 use crate::desk::Desk;
 use crate::held::Held;
 use clock_policy::Clock;
+use paged_memory::HeldPages;
 use std::sync::ledger::Ledger;
 use swap_slots::{SlotPool, SwapSlot};
 

@@ -1,23 +1,19 @@
 -- A save is out exactly while it is owed.
-use Rattle.std.proofs.Common.{◌≡◌, ℕ, ◌+◌, ◌<◌, ◌^◌, ◌==◌, Bool, true, false, not, nat_le, nat_lt, List, [], ◌∷◌, ◌++◌, length, Option, Some, None, option_map, All, IsPermutation, inl, inr, refl, sym, ap, ◌∙◌, arith, subst}
+use Rattle.std.proofs.Common.{◌≡◌, ℕ, ◌+◌, ◌<◌, ◌^◌, Bool, true, false, nat_le, List, [], ◌∷◌, ◌++◌, length, Option, Some, None, All, IsPermutation, inl, inr, refl, sym, ap, ◌∙◌, arith, subst}
 use Rattle.std.specs.Prelude.{if◌then◌else◌}
 use Rattle.std.proofs.lemmas.List.Elements.{All-head}
 use Rattle.std.proofs.lemmas.List.Sorted.{length_permutation}
-use borrow.Author.Tests.{lt-ltb}
 use Rattle.clock_policy.specs.declared.key.Key.{Key}
 use Rattle.flat_machine.specs.declared.end.KillCause.{KillCause}
 use Rattle.flat_machine.specs.declared.end.KillCause.TheVariants as cause
 use Rattle.page_store.specs.JobValue.{JobValue}
-use Rattle.page_store.specs.Moves.{IfSaving}
-use Rattle.page_store.specs.PageValue.{PageValue, page_state_of}
-use Rattle.paged_memory.specs.Leaving.{IsSaving}
-use Rattle.paged_memory.specs.Paged.{page_at}
+use Rattle.paged_memory.specs.SaveLaws.{none_saved}
 use Rattle.space_core.specs.StandsFor.{SpaceValue}
-use Rattle.machine_sides.specs.PurgeLaws.{is_saving_some}
-use Rattle.machine_sides.specs.Purging.{is_saving_any}
 use Rattle.paged_memory.specs.Stages.{is_saving_stage}
+use Rattle.paged_memory.specs.Whole.{stage_in}
 use Rattle.machine_sides.specs.SavingBack.{is_saving_at}
 use Rattle.machine_sides.specs.Sides.{ProcessSideValue}
+use Rattle.machine_sides.specs.StageLaws.{stage_below}
 use Rattle.machine_sides.specs.Together.{key_of, savings_in}
 use Rattle.machine_core.specs.declared.error.EventRefusal.{EventRefusal}
 use Rattle.machine_core.specs.declared.error.EventRefusal.TheVariants as refusal
@@ -104,11 +100,7 @@ module _ {S : Type 0} where
       empty jobs' (omega (arith, count, single))
 
   stage_saving : (processes : List (ProcessSideValue S)) (job : JobValue S) (out : IsSaveOut processes job) → is_saving_at out.process.space job.vpn ≡ true
-  stage_saving processes job out =
-      let inside : nat_lt job.vpn (2 ^ 20) ≡ true = lt-ltb job.vpn (2 ^ 20) out.small in
-      ap (λ b. is_saving_stage (if b then option_map (λ (p : PageValue S). page_state_of p.place) (page_at out.process.space.memory.pages job.vpn) else None)) inside
-      ∙ ap (λ o. is_saving_stage (option_map (λ (p : PageValue S). page_state_of p.place) o)) out.at
-      ∙ ap (λ p. is_saving_stage (Some (page_state_of p))) out.saving
+  stage_saving processes job out = ap is_saving_stage (stage_below out.process.space job.vpn out.small) ∙ out.saving
 
   reason_none : (vpn : ℕ) (process : ProcessSideValue S) → is_saving_at process.space vpn ≡ true → saving_reason vpn process ≡ None
   reason_none vpn process saving = ap (λ (b : Bool). if b then None else Some refusal.NotSaving) saving
@@ -129,16 +121,13 @@ module _ {S : Type 0} where
       by_jobs [] all = refl
       by_jobs (job ∷ jobs) all =
           let out = All-head (IsSaveOut core.processes) job jobs all in
-          let saving : IsSaving (page_at out.process.space.memory.pages job.vpn) =
-          subst (λ o. IsSaving o) (sym out.at) (subst (λ place. IfSaving place (λ _. Unit {0})) (sym out.saving) tt) in
-          absurd (none job.process out.process out.found job.vpn out.small saving)
+          let saving = out.saving in
+          let not = none job.process out.process out.found job.vpn out.small in
+          absurd (cc)
 
-  nothing_saved : (space : SpaceValue S) (q : ℕ) → q < 2 ^ 20 → IsSaving (page_at space.memory.pages q) → savings_in space (λ _. true) ≡ 0 → ⊥
-  unfolding savings_in is_saving_any
-  nothing_saved space q small saving none =
-      let some = is_saving_some space.memory (record { number = q; small = small; saving = saving }) in
-      let no = ap (λ n. not (n == 0)) none in
-      cc
+  nothing_saved : (space : SpaceValue S) → savings_in space (λ _. true) ≡ 0 → (q : ℕ) → q < 2 ^ 20 → is_saving_stage (stage_in space.memory q) ≡ false
+  unfolding savings_in
+  nothing_saved space none q small = none_saved space.memory none q small
 
   no_jobs : (jobs : List (JobValue S)) → jobs ≡ [] → jobs_where (λ _. true) jobs ≡ 0
   unfolding jobs_where total
@@ -147,11 +136,11 @@ module _ {S : Type 0} where
 
   -- where no save is out, no page is being saved
   pub none_saving : (core : CoreValue S) → IsMachine core → core.jobs ≡ [] → SavesNone core
-  none_saving core machine none = λ number process found q small saving.
+  none_saving core machine none = λ number process found q small.
       let most = total_at (λ (p : ProcessSideValue S). savings_in p.space (λ _. true)) core.processes number process found in
       let same = machine.saved (λ _. true) in
       let zero = no_jobs core.jobs none in
-      nothing_saved process.space q small saving (omega (arith, most, same, zero))
+      nothing_saved process.space (omega (arith, most, same, zero)) q small
 
 module _ {S : Type 0} (held : S → List ℕ) (honest : Type 0) (failures : S → ℕ) where
   -- ---- one event

@@ -1,8 +1,8 @@
 -- A run of so many events at most, and how it is closed.
 use Rattle.std.specs.Prelude.{◌≡◌, ◌≢◌, ℕ, ◌*◌, ◌^◌, ◌<◌, ◌≤◌, false, List, All, length, slice_get, Option, Some, None, IsSome}
 use Rattle.clock_policy.specs.declared.key.Key.{Key}
-use Rattle.paged_memory.specs.Leaving.{IsSaving}
-use Rattle.paged_memory.specs.Paged.{page_at}
+use Rattle.paged_memory.specs.Stages.{is_saving_stage}
+use Rattle.paged_memory.specs.Whole.{stage_in}
 use Rattle.machine_sides.specs.Sides.{ProcessSideValue}
 use Rattle.machine_core.specs.declared.event.Event.{Event}
 use Rattle.machine_core.specs.declared.event.Event.TheVariants.{Saved}
@@ -18,7 +18,7 @@ use Rattle.serial_driver.specs.declared.patience.Patience.{Patience}
 module _ {S : Type 0} where
   -- no page of the machine is being saved
   abbrev pub SavesNone : CoreValue S → Type 0
-  SavesNone core = (number : ℕ) (process : ProcessSideValue S) → slice_get core.processes number ≡ Some process → (q : ℕ) → q < 2 ^ 20 → ¬ IsSaving (page_at process.space.memory.pages q)
+  SavesNone core = (number : ℕ) (process : ProcessSideValue S) → slice_get core.processes number ≡ Some process → (q : ℕ) → q < 2 ^ 20 → is_saving_stage (stage_in process.space.memory q) ≡ false
 
 module _ {S : Type 0} (held : S → List ℕ) (honest : Type 0) (failures : S → ℕ) where
   -- So many events lead from one machine to the other, each in turn. None of them ends a process for the limit. Each event that is owed, for an answer

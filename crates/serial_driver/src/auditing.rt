@@ -2,31 +2,22 @@
 
 ghost use Rattle.std.specs.Prelude.{◌≡◌, ◌↔◌, ◌<◌, ◌≤◌, ◌^◌, ◌&&◌, true, IsTrue, length, Some, slice_get, cond};
 ghost use Rattle.clock_policy.specs.Residents.{residents, in_frame};
-ghost use Rattle.paged_memory.specs.Stages.{is_resident_stage};
-ghost use Rattle.serial_driver.specs.Audit.{holds_resident, has_frame_stage, resident_pages, framed_pages, HoldsPages, IsSoundMachine};
+ghost use Rattle.machine_core.specs.Reading.{holds_resident, HoldsPages};
+ghost use Rattle.serial_driver.specs.Audit.{resident_pages, framed_pages, IsSoundMachine};
 
 use clock_policy::{Clock, EntryKind, Key};
 use machine_core::Core;
-use page_store::PageState;
+use machine_sides::is_in_frame;
+use paged_memory::HeldPages;
 use std::sync::ledger::Ledger;
 use swap_slots::SwapSlot;
-
-/// How many page numbers there are.
-const PAGE_NUMBERS: u32 = 1 << 20;
-
-/// How many pages are resident, and how many hold a frame.
-#[derive(Clone, Copy)]
-struct Held {
-    resident: usize,
-    framed: usize,
-}
 
 /// Whether the list's resident entries are exactly the resident pages, and the frames that are free or in pages are as many
 /// as the machine was made with. It takes no memory.
 pub fn audit<L: Ledger, S: SwapSlot, C: Clock>(core: &Core<L, S, C>) -> bool
     ensures { IsTrue result ↔ IsSoundMachine core.now }
 {
-    let listed = resident_entries(core);
+    let listed = core.resident_entries();
     if entries_of_resident_pages(core) != listed {
         return false;
     }
@@ -42,22 +33,7 @@ pub fn audit<L: Ledger, S: SwapSlot, C: Clock>(core: &Core<L, S, C>) -> bool
     pages.framed == size - free
 }
 
-/// How many entries of the list are resident.
-fn resident_entries<L: Ledger, S: SwapSlot, C: Clock>(core: &Core<L, S, C>) -> usize
-    ensures { result ≡ residents core.now.pager.pager.list (λ _. true) }
-{
-    core.faithful();
-    let mut count = 0;
-    'entries: for i in 0..usize::MAX {
-        let Some((_, kind)) = core.entry(i) else {
-            return count;
-        };
-        count += one_if(is_in_frame(kind));
-    }
-    count
-}
-
-/// How many of them are of resident pages.
+/// How many of the list's resident entries are of resident pages.
 fn entries_of_resident_pages<L: Ledger, S: SwapSlot, C: Clock>(core: &Core<L, S, C>) -> usize
     ensures { result ≡ residents core.now.pager.pager.list (holds_resident core.now) }
 {
@@ -83,15 +59,15 @@ fn is_of_resident_page<L: Ledger, S: SwapSlot, C: Clock>(
     if !is_in_frame(kind) {
         return false;
     }
-    is_resident(core.state(key.process, key.vpn))
+    core.is_resident(key)
 }
 
 /// Counts the pages of all processes that stand in frames.
-fn held_pages<L: Ledger, S: SwapSlot, C: Clock>(core: &Core<L, S, C>) -> Held
+fn held_pages<L: Ledger, S: SwapSlot, C: Clock>(core: &Core<L, S, C>) -> HeldPages
     ensures resident { result.resident ≡ resident_pages core.now }
     ensures framed { result.framed ≡ framed_pages core.now }
 {
-    let mut held = Held {
+    let mut held = HeldPages {
         resident: 0,
         framed: 0,
     };
@@ -104,22 +80,16 @@ fn held_pages<L: Ledger, S: SwapSlot, C: Clock>(core: &Core<L, S, C>) -> Held
 }
 
 /// Counts the pages of one process that stand in frames.
-fn held_pages_of<L: Ledger, S: SwapSlot, C: Clock>(core: &Core<L, S, C>, process: u32) -> Held
+fn held_pages_of<L: Ledger, S: SwapSlot, C: Clock>(core: &Core<L, S, C>, process: u32) -> HeldPages
     requires { process < length core.now.processes }
-    ensures held { HoldsPages core.now process result.resident result.framed }
+    ensures held { HoldsPages core.now process result }
     ensures few_resident { result.resident ≤ 2 ^ 20 }
     ensures few_framed { result.framed ≤ 2 ^ 20 }
 {
-    let mut held = Held {
-        resident: 0,
-        framed: 0,
-    };
-    'pages: for vpn in 0..PAGE_NUMBERS {
-        let state = core.state(process, vpn);
-        held.resident += one_if(is_resident(state));
-        held.framed += one_if(has_frame(state));
+    match core.held_pages(process) {
+        Some(held) => held,
+        None => unreachable!(),
     }
-    held
 }
 
 fn one_if(flag: bool) -> usize
@@ -127,39 +97,4 @@ fn one_if(flag: bool) -> usize
     ensures small { result ≤ 1 }
 {
     if flag { 1 } else { 0 }
-}
-
-fn is_in_frame(kind: EntryKind) -> bool
-    ensures { result ≡ in_frame kind }
-{
-    match kind {
-        EntryKind::Hot | EntryKind::Test | EntryKind::Cold => true,
-        EntryKind::Shadow => false,
-    }
-}
-
-fn is_resident(state: Option<PageState>) -> bool
-    ensures { result ≡ is_resident_stage state }
-{
-    match state {
-        Some(PageState::Resident) => true,
-        Some(
-            PageState::Fresh
-            | PageState::Leaving
-            | PageState::Saving
-            | PageState::Away
-            | PageState::Purged,
-        ) => false,
-        None => false,
-    }
-}
-
-fn has_frame(state: Option<PageState>) -> bool
-    ensures { result ≡ has_frame_stage state }
-{
-    match state {
-        Some(PageState::Resident | PageState::Leaving | PageState::Saving) => true,
-        Some(PageState::Fresh | PageState::Away | PageState::Purged) => false,
-        None => false,
-    }
 }

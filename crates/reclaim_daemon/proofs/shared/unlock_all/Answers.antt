@@ -1,8 +1,8 @@
 -- The iterator gives the locks in their order.
-use Rattle.std.proofs.Common.{◌≡◌, ◌<◌, length, map, sym, ap, ◌∙◌, arith}
+use Rattle.std.proofs.Common.{◌≡◌, ◌<◌, length, sym, ap, ◌∙◌, arith}
 use Rattle.std.proofs.lemmas.Iterator.Adapters.{YieldsList-from_vec}
 use Rattle.std.proofs.lemmas.Iterator.Consumers.{YieldsList-turn, YieldsList-end}
-use Rattle.std.proofs.lemmas.List.{map-id, length-map}
+use Rattle.std.proofs.lemmas.List.{map-id}
 use Rattle.reclaim_daemon.proofs.shared.unlock_all.Goals as goal
 
 pub push_reserved-requires : goal.push_reserved-requires

@@ -1,5 +1,5 @@
 -- As many are unlocked as were passed, and the room stays.
-use Rattle.std.proofs.Common.{◌≡◌, ◌≤◌, length, vec_capacity}
+use Rattle.std.proofs.Common.{◌≡◌, length, vec_capacity}
 use Rattle.reclaim_daemon.proofs.shared.unlock_all.Given as goal
 
 abbrev pub invariant-loop-lock : goal.invariant-loop-lock

@@ -1,8 +1,8 @@
 -- One more entry of the list, up to its end.
 use Rattle.std.proofs.Common.{◌&&◌, length, ◌≤◌, sym, ◌∙◌, arith}
 use Rattle.clock_policy.specs.Residents.{residents, is_resident_that, in_frame}
-use Rattle.serial_driver.specs.Audit.{holds_resident}
-use Rattle.serial_driver.proofs.Counted.{entry_more, count_end, count_whole, one_by}
+use Rattle.machine_core.specs.Reading.{holds_resident}
+use Rattle.machine_sides.specs.CountedLaws.{entry_more, count_end, count_whole, one_by}
 use Rattle.serial_driver.proofs.auditing.entries_of_resident_pages.Goals as goal
 
 pub returns-in_default : goal.returns-in_default

@@ -1,7 +1,7 @@
 use Rattle.std.proofs.Common.{◌≡◌, ◌≤◌, take}
 use Rattle.clock_policy.specs.ClockPro.{number}
 use Rattle.clock_policy.specs.Residents.{is_resident_that}
-use Rattle.serial_driver.specs.Audit.{holds_resident}
+use Rattle.machine_core.specs.Reading.{holds_resident}
 use Rattle.serial_driver.proofs.auditing.entries_of_resident_pages.Given as goal
 
 abbrev pub invariant-entries : goal.invariant-entries

@@ -1,4 +1,4 @@
-//! Guests that need more pages than the machine has frames, and one that never ends.
+//! Guests that need more pages than the machine has frames.
 
 /// Stores 8, 7 down to 1 in eight pages of data, and then exits with the sum of what it loads from them.
 pub(crate) const SPREADS: &str = "        la   s0, data
@@ -43,38 +43,6 @@ page:   lw   t0, 0(s0)
 
         .data
 data:   .space 24576
-";
-
-/// Two harts that each add 1 to words of six pages. The last to end exits with what it found in the last of them.
-pub(crate) const SHARES: &str = "        la   a0, count
-        lui  a1, 0x80000
-        li   a2, 0
-        li   a7, 1024
-        ecall
-count:  la   s0, data
-        li   s1, 6
-        li   s2, 0x1000
-        li   t1, 1
-add:    amoadd.w t0, t1, (s0)
-        add  s0, s0, s2
-        addi s1, s1, -1
-        bnez s1, add
-        li   a7, 93
-        mv   a0, t0
-        ecall
-
-        .data
-data:   .space 24576
-";
-
-/// Two harts that go round for ever.
-pub(crate) const SPINS: &str = "        la   a0, child
-        li   a1, 0
-        li   a2, 0
-        li   a7, 1024
-        ecall
-loop:   j    loop
-child:  j    child
 ";
 
 /// Stores 11, 10 down to 1 in the first eleven pages of its stack, and writes the sum of what it loads from them as one byte, `B`.

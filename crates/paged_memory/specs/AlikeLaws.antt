@@ -1,14 +1,13 @@
 -- Memories whose pages count alike, and what the counts tell of pages and pages of the counts.
 use Rattle.std.proofs.Common.{◌≡◌, ℕ, ◌^◌, ◌<◌, Bool, true, false, ◌&&◌, List, [], Option, Some, None, option_map, option_and_then, is_some, length, nat_lt, slice_set, refl, sym, ap, ◌∙◌}
 use Rattle.std.specs.Prelude.{if◌then◌else◌}
-use Rattle.page_store.specs.Kept.{kept}
 use Rattle.page_store.specs.Lending.{with_bytes, rewritten}
 use Rattle.page_store.specs.PageValue.{PageValue, Place, Fresh, Resident, Leaving, Saving, Away, Purged, frame_of, slot_of, page_state_of}
 use Rattle.paged_memory.specs.Counting.{page_passes, pages_where, is_resident_place, is_saving_place, frame_passes, is_kept, residents_of, savings_of, frames_of, slots_of}
 use Rattle.paged_memory.specs.CountingLaws.{same_where_pass}
 use Rattle.paged_memory.specs.Growth.{fresh_zero_page}
 use Rattle.paged_memory.specs.HartMemory.{KeepsPages}
-use Rattle.paged_memory.specs.Moving.{SamePage, slot_in, OnlyCaches}
+use Rattle.paged_memory.specs.Moving.{SamePage}
 use Rattle.paged_memory.specs.Notices.{noticed, emptied}
 use Rattle.paged_memory.specs.Paged.{PagedValue, page_at}
 use Rattle.paged_memory.specs.Stages.{is_saving_stage}
@@ -43,9 +42,6 @@ module _ {S : Type 0} where
     pub same_frame : frame_in new number ≡ frame_in old number
     same_frame = ap (option_and_then (λ (page : PageValue S). frame_of page.place)) same
 
-    pub same_slot : slot_in new number ≡ slot_in old number
-    same_slot = ap (option_and_then (λ (page : PageValue S). kept (slot_of page.place))) same
-
   -- pages that are being saved stay where each of them is as it was
   pub same_stay : (old new : PagedValue S) → ((number : ℕ) → number < 2 ^ 20 → is_saving_stage (stage_in old number) ≡ true → SamePage old new number) → SavingsStay old new
   same_stay old new same number small is = (same_stage old new number (same number small is), same_frame old new number (same number small is))
@@ -55,16 +51,6 @@ module _ {S : Type 0} where
       let one = first number small is in
       let two = second number small (ap is_saving_stage one.0 ∙ is) in
       (two.0 ∙ one.0, two.1 ∙ one.1)
-
-  pub alike_on : (old between new : PagedValue S) → CountsAlike old between → CountsAlike between new → CountsAlike old new
-  alike_on old between new first second = record {
-    process = second.process ∙ first.process;
-    residents = λ test. second.residents test ∙ first.residents test;
-    savings = λ test. second.savings test ∙ first.savings test;
-    frames = λ test. second.frames test ∙ first.frames test;
-    slots = second.slots ∙ first.slots;
-    stay = stay_on old between new first.stay second.stay;
-  }
 
   -- ---- the same pages
 
@@ -81,10 +67,6 @@ module _ {S : Type 0} where
   -- nothing changed
   pub same_memory : (old new : PagedValue S) → new ≡ old → CountsAlike old new
   same_memory old new same = same_pages old new (ap (λ (m : PagedValue S). m.process) same) (ap (λ (m : PagedValue S). m.pages) same)
-
-  -- nothing changed but what harts' caches hold
-  pub caches_alike : (old new : PagedValue S) → OnlyCaches old new → CountsAlike old new
-  caches_alike old new only = same_pages old new (ap (λ (m : PagedValue S). m.process) only) (ap (λ (m : PagedValue S). m.pages) only)
 
   noticed_pages : (b : Bool) (memory : PagedValue S) (caches : List (List Translation)) → (if b then record memory { caches = caches } else memory).pages ≡ memory.pages
   noticed_pages true memory caches = refl

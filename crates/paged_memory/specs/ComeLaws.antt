@@ -13,7 +13,7 @@ use Rattle.paged_memory.specs.Calls.{ChangesBy}
 use Rattle.paged_memory.specs.Counting.{is_resident_place, is_saving_place, frame_passes, is_kept}
 use Rattle.paged_memory.specs.Filling.{BroughtIn, StaysAbsent}
 use Rattle.paged_memory.specs.MoveLaws.{KeepsOthers, moved_keeps, stage_before, stage_after, frame_before, frame_after, moved_stay, moved_residents, moved_savings, moved_frames, moved_slots}
-use Rattle.paged_memory.specs.Moving.{ComesIn, RefusesIn, StaysOut, LeavesLookedAt}
+use Rattle.paged_memory.specs.Moving.{ComesIn, RefusesIn, LeavesLookedAt}
 use Rattle.paged_memory.specs.Paged.{PagedValue, page_at}
 use Rattle.paged_memory.specs.Peeking.{LeavesPlace, LeavesPage}
 use Rattle.paged_memory.specs.Stages.{is_absent_stage}
@@ -208,10 +208,6 @@ module _ {S : Type 0} where
           by_place (Saving frame) left = same_pages old new process left
           by_place (Away slot) left = absent_alike left
           by_place Purged left = same_pages old new process left
-
-    -- a page that does not come in
-    pub out_alike : (failures : S → ℕ) (frame : FrameValue) (vpn : ℕ) (back : FrameValue) (fault : PageInFault) (old new : PagedValue S) → vpn < 2 ^ 20 → StaysOut held honest failures frame vpn back fault old new → CountsAlike old new
-    out_alike failures frame vpn back fault old new small out = refused_alike old new out.process vpn small failures frame back fault out.why
 
     -- a page that is looked at
     pub looked_alike : (address : ℕ) (old new : PagedValue S) → address < 2 ^ 32 → new.process ≡ old.process → LeavesLookedAt held honest address old new → CountsAlike old new

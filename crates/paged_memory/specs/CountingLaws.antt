@@ -75,7 +75,3 @@ module _ {S : Type 0} (test : ℕ → PageValue S → Bool) where
     pub pages_changed : v < 2 ^ 20 → pages_where test new + cond (test v page) 1 0 ≡ pages_where test old + cond (test v page') 1 0
     unfolding pages_where
     pages_changed small = changed_below (2 ^ 20) small
-
-    -- a page that passes as it passed keeps the number
-    pub pages_kept : v < 2 ^ 20 → test v page' ≡ test v page → pages_where test new ≡ pages_where test old
-    pages_kept small same = let here : cond {A = ℕ} (test v page') 1 0 ≡ cond (test v page) 1 0 = ap (λ b. cond b 1 0) same in omega (arith, here, pages_changed small)

@@ -7,11 +7,11 @@ use Rattle.page_store.specs.declared.refusal.LeaveRefusal.{LeaveRefusal}
 use Rattle.page_store.specs.declared.state.Keeping.{Keeping}
 use Rattle.page_store.specs.declared.state.PageState.TheVariants as stage
 use Rattle.sv32_table.specs.EntryAt.{entry_at, dirty_of}
-use Rattle.paged_memory.specs.AlikeLaws.{SavingsStay, CountsAlike, same_memory, same_pages}
+use Rattle.paged_memory.specs.AlikeLaws.{SavingsStay, CountsAlike, same_pages}
 use Rattle.paged_memory.specs.Calls.{Leaves, RefusesLeave, accessed_at}
 use Rattle.paged_memory.specs.Leaving.{Returns}
 use Rattle.paged_memory.specs.MoveLaws.{KeepsOthers, moved_keeps, stage_before, stage_after, frame_before, frame_after, slot_before, slot_after, moved_stay, moved_residents, moved_savings, moved_frames, moved_slots}
-use Rattle.paged_memory.specs.Moving.{ReadsUse, ForgetsUse, BeginsToLeave, DoesNotLeave, MapsAgain, SamePage, slot_in}
+use Rattle.paged_memory.specs.Moving.{ForgetsUse, BeginsToLeave, DoesNotLeave, MapsAgain, SamePage, slot_in}
 use Rattle.paged_memory.specs.Paged.{PagedValue, page_at, seen_of}
 use Rattle.paged_memory.specs.Stages.{is_resident_stage}
 use Rattle.paged_memory.specs.Whole.{stage_in, frame_in, accessed_in, residents_among, savings_among, frames_among, slots_within}
@@ -21,10 +21,6 @@ module _ {S : Type 0} where
 
   pub forgets_alike : (vpn : ℕ) (old new : PagedValue S) → ForgetsUse vpn old new → CountsAlike old new
   forgets_alike vpn old new forgets = same_pages old new forgets.process forgets.pages
-
-  pub reads_alike : (bit : Option Bool) (vpn : ℕ) (old new : PagedValue S) → ReadsUse bit vpn old new → CountsAlike old new
-  reads_alike None vpn old new reads = same_memory old new reads
-  reads_alike (Some bit) vpn old new reads = forgets_alike vpn old new reads
 
   -- each page is as it was
   pub forgets_pages : (vpn : ℕ) (old new : PagedValue S) → ForgetsUse vpn old new → (number : ℕ) → SamePage old new number

@@ -53,23 +53,6 @@ module _ {S : Type 0} where
       let no = goes.page.how.unchanged in
       cc
 
-  -- ---- a page whose stage is that it is leaving
-
-  pub leaving_found : (memory : PagedValue S) (vpn : ℕ) → vpn < 2 ^ 20 → is_leaving_stage (stage_in memory vpn) ≡ true → IsLeavingPage vpn memory
-  leaving_found memory vpn small is = by_page (page_at memory.pages vpn) refl is
-    where
-      by_place : (page : PageValue S) → page_at memory.pages vpn ≡ Some page → (place : Place S) → page.place ≡ place → is_leaving_stage (Some (page_state_of place)) ≡ true → IsLeavingPage vpn memory
-      by_place page found Fresh at is = cc
-      by_place page found (Resident frame slot) at is = cc
-      by_place page found (Leaving frame slot mark) at is = record { small = small; page = page; frame = frame; slot = slot; mark = mark; found = found; leaving = at }
-      by_place page found (Saving frame) at is = cc
-      by_place page found (Away slot) at is = cc
-      by_place page found Purged at is = cc
-
-      by_page : (o : Option (PageValue S)) → page_at memory.pages vpn ≡ o → is_leaving_stage (option_map (λ (page : PageValue S). page_state_of page.place) o) ≡ true → IsLeavingPage vpn memory
-      by_page None found is = cc
-      by_page (Some page) found is = by_place page found page.place refl is
-
   -- ---- the look
 
   module _ (L : Type 0) (vpn : ℕ) (spare spare' : Option S) (old new : PagedValue S) (small : vpn < 2 ^ 20) (stays : OnlyPages old new) where

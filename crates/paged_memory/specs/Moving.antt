@@ -16,7 +16,7 @@ use Rattle.sv32_table.specs.EntryAt.{entry_at, ChangesEntry, SameTables, AddsTab
 use Rattle.tlb_core.specs.Cache.{doomed}
 use Rattle.paged_memory.specs.Calls.{ChangesBy, Leaves, RefusesLeave}
 use Rattle.paged_memory.specs.Filling.{BroughtIn, RefusesPageIn}
-use Rattle.paged_memory.specs.GivingBack.{GivesBack, GivesNothing, GivesOne, LiesBehind, SavesOne}
+use Rattle.paged_memory.specs.GivingBack.{GivesNothing, GivesOne, LiesBehind, SavesOne}
 use Rattle.paged_memory.specs.Leaving.{CollectsAt, ChangesSaved, Frees, RefusesSaved, IsOut, IsSaving, BringsBack}
 use Rattle.paged_memory.specs.Paged.{PagedValue, page_at, memory_of}
 use Rattle.paged_memory.specs.Peeking.{ShowsBytes, LeavesPage, RefusesPeek}
@@ -60,11 +60,6 @@ module _ {S : Type 0} where
     pub tabled : SameTables old.tables new.tables
     pub caches : new.caches ≡ map (doomed vpn) old.caches
     pub reserved : new.reserved ≡ old.reserved
-
-  -- it is read and cleared, where the page is resident
-  abbrev pub ReadsUse : Option Bool → ℕ → PagedValue S → PagedValue S → Type 0
-  ReadsUse None vpn old new = new ≡ old
-  ReadsUse (Some bit) vpn old new = ForgetsUse vpn old new
 
   -- a resident page begins to leave its frame: it is unmapped, and its translations are to be dropped
   pub record BeginsToLeave (vpn : ℕ) (old new : PagedValue S) : Type 0 where
@@ -216,14 +211,6 @@ module _ {S : Type 0} (held : S → List ℕ) (honest : Type 0) where
   abbrev pub RefusesIn : (S → ℕ) → FrameValue → ℕ → FrameValue → PageInFault → PagedValue S → PagedValue S → Type 0
   RefusesIn failures frame vpn back fault old new = RefusesPageIn held honest failures frame old.pages new.pages old.tables vpn back fault
 
-  pub record StaysOut (failures : S → ℕ) (frame : FrameValue) (vpn : ℕ) (back : FrameValue) (fault : PageInFault) (old new : PagedValue S) : Type 0 where
-    pub why : RefusesIn failures frame vpn back fault old new
-    pub unmapped : SameEntries old new
-    pub process : new.process ≡ old.process
-    pub caches : SameCaches old new
-    pub reserved : new.reserved ≡ old.reserved
-    pub memory : honest → memory_of held new ≡ memory_of held old
-
   -- so many bytes that the page of an address shows from it on; what a look at them leaves; and why they are not shown
   abbrev pub ShowsIn : PagedValue S → ℕ → ℕ → List (Option ℕ) → Type 0
   ShowsIn memory address count bytes = ShowsBytes held honest (page_at memory.pages (page_number address)) (page_offset address) count bytes
@@ -251,18 +238,6 @@ module _ {S : Type 0} where
   -- the first page that has something gives it back, and is unmapped, whatever else changes
   abbrev pub GivesIn : Option FrameValue × Option S → PagedValue S → PagedValue S → Type 0
   GivesIn given old new = GivesOne given old.pages new.pages old.tables new.tables
-
-  -- the first page that has something gives it back, and is unmapped
-  pub record GivesUp (given : Option FrameValue × Option S) (old new : PagedValue S) : Type 0 where
-    pub number : ℕ
-    pub small : number < 2 ^ 20
-    pub first : HasNothingBelow number old
-    pub page : ChangesBy (GivesBack given) old.pages new.pages number
-    pub entry : ChangesEntry old.tables new.tables number blank
-    pub tabled : SameTables old.tables new.tables
-    pub process : new.process ≡ old.process
-    pub caches : new.caches ≡ old.caches
-    pub reserved : new.reserved ≡ old.reserved
 
   -- whether a page has a frame or a slot to give back
   abbrev pub has_to_give : Option (PageValue S) → Bool

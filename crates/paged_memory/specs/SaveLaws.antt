@@ -251,9 +251,6 @@ module _ {S : Type 0} where
   out_of job memory process small is = (process, (small, saving_is (page_at memory.pages job.vpn) is))
 
   -- some page is being saved, and so one at least is counted
-  pub one_saves : (memory : PagedValue S) (number : ℕ) → number < 2 ^ 20 → is_saving_stage (stage_in memory number) ≡ true → SavesSome memory
-  one_saves memory number small is = record { number = number; small = small; saving = saving_is (page_at memory.pages number) is }
-
   pub some_save : (memory : PagedValue S) → SavesSome memory → 1 ≤ savings_among memory (λ _. true)
   some_save memory saves = some_saving memory (λ _. true) saves.number saves.small (is_saving (page_at memory.pages saves.number) saves.saving) refl
 

@@ -4,10 +4,6 @@
 #[cfg(test)]
 mod elf_hostile;
 #[cfg(test)]
-mod elf_reading;
-#[cfg(test)]
-mod elf_writing;
-#[cfg(test)]
 mod frames;
 #[cfg(test)]
 mod instructions;

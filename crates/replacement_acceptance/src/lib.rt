@@ -1,6 +1,8 @@
-//! Tests of page replacement: CLOCK-Pro's list, call by call and against the policy's loops, and what other policies count.
+//! Tests of page replacement: CLOCK-Pro's list against the policy's loops, with frames, and what other policies count.
 #![tactic(auto)]
 
+#[cfg(test)]
+mod pager;
 #[cfg(test)]
 mod random;
 #[cfg(test)]

@@ -4,7 +4,6 @@ use Rattle.clock_policy.specs.declared.key.Key.{Key}
 use Rattle.clock_policy.specs.Residents.{residents}
 use Rattle.frame_pool.specs.FrameValue.{FrameValue}
 use Rattle.page_store.specs.JobValue.{JobValue}
-use Rattle.paged_memory.specs.AlikeLaws.{SavingsStay}
 use Rattle.paged_memory.specs.Moving.{slot_in}
 use Rattle.paged_memory.specs.SaveLaws.{HasGone, gone, IsBeingSaved, being_saved}
 use Rattle.paged_memory.specs.Whole.{slots_within}
@@ -80,9 +79,6 @@ module _ {S : Type 0} where
         let own = copied_now.slots in
         let taken = slot_taken (slot_in old.space.memory vpn) job.slot slots.free slots'.free saving.slot in
         omega (arith, own, taken)
-
-    pub copied_stays : SavingsStay old.space.memory new.space.memory
-    copied_stays = copied_now.stay
 
   pub copied_together : (vpn : ℕ) (pager pager' : PagerSideValue) (old new : ProcessSideValue S) (slots slots' : PoolValue S) (job : JobValue S) → IsCopied vpn pager pager' old new slots slots' job → Together pager.pager pager'.pager old.space new.space
   copied_together vpn pager pager' old new slots slots' job copied = record {

@@ -6,7 +6,7 @@ use Rattle.page_store.specs.JobValue.{JobValue}
 use Rattle.page_store.specs.declared.answer.Collected.{Collected}
 use Rattle.page_store.specs.declared.answer.Collected.TheVariants as answer
 use Rattle.pager_core.specs.Pager.{tallied}
-use Rattle.paged_memory.specs.Moving.{IsLeavingPage, IsCachedStill, WantsSlot, GoesToBacking, GoesToBeSaved, slot_in}
+use Rattle.paged_memory.specs.Moving.{IsCachedStill, WantsSlot, GoesToBacking, GoesToBeSaved, slot_in}
 use Rattle.paged_memory.specs.Stages.{is_leaving_stage}
 use Rattle.space_core.specs.StandsFor.{SpaceValue}
 use Rattle.swap_slots.specs.PoolValue.{PoolValue}
@@ -25,10 +25,6 @@ module _ {S : Type 0} where
   -- whether the page of a number is leaving, whatever the number
   abbrev pub is_leaving_at : SpaceValue S → ℕ → Bool
   is_leaving_at space vpn = is_leaving_stage (stage_at space vpn)
-
-  -- a page that is leaving, with its frame and its slot
-  abbrev pub IsLeaving : ℕ → SpaceValue S → Type 0
-  IsLeaving vpn space = IsLeavingPage vpn space.memory
 
   -- a cache holds a translation of it still
   abbrev pub IsHeldByCache : ℕ → SpaceValue S → Type 0

@@ -4,7 +4,23 @@ use rattle::alloc::Global;
 use rattle::marker::Brand;
 use rattle::prelude::Vec as RoomyVec;
 use rattle::sync::ledger::Blank;
-use std::time::Instant;
+
+#[repr(C)]
+struct Time {
+    seconds: i64,
+    nanoseconds: i64,
+}
+
+unsafe extern "C" {
+    fn clock_gettime(clock: i32, time: *mut Time) -> i32;
+}
+
+/// The seconds of processor time that this process has taken.
+fn processor_time() -> f64 {
+    let mut time = Time { seconds: 0, nanoseconds: 0 };
+    unsafe { clock_gettime(2, &mut time) };
+    time.seconds as f64 + time.nanoseconds as f64 * 1e-9
+}
 
 fn roomy<T>(items: Vec<T>) -> RoomyVec<T> {
     let mut all = RoomyVec::new(Global);
@@ -30,9 +46,9 @@ fn debug<T: debug_core::Target>(name: &str, point: &str, target: T) {
         }
         _ => {}
     }
-    let begin = Instant::now();
+    let begin = processor_time();
     let (why, steps) = debugger.go(1_000_000_000).unwrap();
-    println!("debug {name} {point} {why:?} steps {steps} seconds {:.3}", begin.elapsed().as_secs_f64());
+    println!("debug {name} {point} {why:?} steps {steps} seconds {:.3}", processor_time() - begin);
 }
 
 fn main() {
@@ -42,9 +58,9 @@ fn main() {
     match words[..] {
         ["flat", guest] => {
             let mut process = flat_machine::FlatProcess::new(Global, &image(guest), none()).unwrap();
-            let begin = Instant::now();
+            let begin = processor_time();
             let steps = process.run_for(1_000_000_000).ok().unwrap();
-            let seconds = begin.elapsed().as_secs_f64();
+            let seconds = processor_time() - begin;
             println!("flat output {} steps {steps} seconds {seconds:.3}", process.output().len());
         }
         ["serial", frames, slice, guest] => {
@@ -53,9 +69,9 @@ fn main() {
             let processes = roomy(vec![(image(guest), none())]);
             let mut core: machine_core::Core<Brand, swap_slots::MemorySlot, clock_ring::ClockRing> =
                 machine_core::Core::new(Global, frames, Blank::new(0), slots, processes).ok().unwrap();
-            let begin = Instant::now();
+            let begin = processor_time();
             let report = serial_driver::run_serial(Global, &mut core, slice.parse().unwrap(), 1_000_000_000).unwrap();
-            let seconds = begin.elapsed().as_secs_f64();
+            let seconds = processor_time() - begin;
             let first = &report.processes[0];
             println!(
                 "serial output {} steps {} page-ins {} victims {} saves {} audit {} seconds {seconds:.3}",

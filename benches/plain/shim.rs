@@ -369,6 +369,7 @@ pub mod bitflags {
 }
 
 pub mod byteorder {
+    /// The machine is little-endian; lengths are not tested.
     pub struct LittleEndian;
 
     pub trait ByteOrder {
@@ -381,22 +382,22 @@ pub mod byteorder {
     impl ByteOrder for LittleEndian {
         #[inline(always)]
         fn read_u16(bytes: &[u8]) -> u16 {
-            u16::from_le_bytes([bytes[0], bytes[1]])
+            unsafe { bytes.as_ptr().cast::<u16>().read_unaligned() }
         }
 
         #[inline(always)]
         fn read_u32(bytes: &[u8]) -> u32 {
-            u32::from_le_bytes([bytes[0], bytes[1], bytes[2], bytes[3]])
+            unsafe { bytes.as_ptr().cast::<u32>().read_unaligned() }
         }
 
         #[inline(always)]
         fn write_u16(bytes: &mut [u8], number: u16) {
-            bytes[..2].copy_from_slice(&number.to_le_bytes());
+            unsafe { bytes.as_mut_ptr().cast::<u16>().write_unaligned(number) }
         }
 
         #[inline(always)]
         fn write_u32(bytes: &mut [u8], number: u32) {
-            bytes[..4].copy_from_slice(&number.to_le_bytes());
+            unsafe { bytes.as_mut_ptr().cast::<u32>().write_unaligned(number) }
         }
     }
 }
@@ -405,6 +406,7 @@ pub mod arrayvec {
     use std::mem::MaybeUninit;
     use std::ops::{Deref, DerefMut};
 
+    #[repr(C)]
     pub struct ArrayVec<T: Copy, const N: usize> {
         items: [MaybeUninit<T>; N],
         length: usize,

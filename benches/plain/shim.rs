@@ -405,14 +405,14 @@ pub mod arrayvec {
     use std::mem::MaybeUninit;
     use std::ops::{Deref, DerefMut};
 
-    pub struct ArrayVec<T: Copy, const N: usize> {
+    pub struct ArrayVec<T, const N: usize> {
         items: [MaybeUninit<T>; N],
         length: usize,
     }
 
-    impl<T: Copy, const N: usize> ArrayVec<T, N> {
+    impl<T, const N: usize> ArrayVec<T, N> {
         pub fn new() -> Self {
-            ArrayVec { items: [MaybeUninit::uninit(); N], length: 0 }
+            ArrayVec { items: [const { MaybeUninit::uninit() }; N], length: 0 }
         }
 
         pub fn push(&mut self, value: T) {
@@ -432,6 +432,16 @@ pub mod arrayvec {
             self.length == N
         }
 
+        pub fn as_slice(&self) -> &[T] {
+            self
+        }
+
+        pub fn as_mut_slice(&mut self) -> &mut [T] {
+            self
+        }
+    }
+
+    impl<T: Copy, const N: usize> ArrayVec<T, N> {
         pub fn remove(&mut self, at: usize) -> T {
             let value = self[at];
             self.items.copy_within(at + 1..self.length, at);
@@ -454,17 +464,9 @@ pub mod arrayvec {
             }
             self.length = kept;
         }
-
-        pub fn as_slice(&self) -> &[T] {
-            self
-        }
-
-        pub fn as_mut_slice(&mut self) -> &mut [T] {
-            self
-        }
     }
 
-    impl<T: Copy, const N: usize> Deref for ArrayVec<T, N> {
+    impl<T, const N: usize> Deref for ArrayVec<T, N> {
         type Target = [T];
 
         #[inline(always)]
@@ -473,7 +475,7 @@ pub mod arrayvec {
         }
     }
 
-    impl<T: Copy, const N: usize> DerefMut for ArrayVec<T, N> {
+    impl<T, const N: usize> DerefMut for ArrayVec<T, N> {
         #[inline(always)]
         fn deref_mut(&mut self) -> &mut [T] {
             unsafe { std::slice::from_raw_parts_mut(self.items.as_mut_ptr().cast(), self.length) }

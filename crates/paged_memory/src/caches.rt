@@ -1,41 +1,39 @@
-ghost use Rattle.std.specs.Prelude.{◌≡◌, ◌<◌, ◌≤◌, ◌%◌, ℕ, [], ◌∷◌, ◌++◌, map, length, is_some, IfOk, IfSome, slice_index_or, slice_set};
+ghost use Rattle.std.specs.Prelude.{◌≡◌, ◌<◌, ◌≤◌, ◌%◌, ℕ, [], ◌∷◌, ◌++◌, map, length, is_some, IfSome, slice_index_or, slice_set};
 ghost use Rattle.page_memory.specs.Words.{page_number, bytes_in};
 ghost use Rattle.tlb_core.specs.Cache.{Hits, doomed, undoomed, filled, translation_of};
 ghost use Rattle.paged_memory.specs.Soundness.{is_held};
 
+use arrayvec::ArrayVec;
 use page_memory::{Access, Width};
-use std::alloc::{AllocError, Global};
 use std::marker::Model;
 use tlb_core::{Tlb, Translation};
 
 /// The most harts that a process starts.
 pub(crate) const MAX_HARTS: usize = 8;
 
-/// The translation caches of a process's harts, by their numbers.
+/// The translation caches of a process's harts, by their numbers. They stand in place, so that an access finds its hart's with no pointer.
 #[derive(Drop)]
 pub(crate) struct Caches {
-    harts: Vec<Tlb>,
+    harts: ArrayVec<Tlb, MAX_HARTS>,
 }
 
 impl Model for Caches {
-    ghost use Rattle.std.specs.Prelude.{List, ◌≤◌, vec_capacity};
+    ghost use Rattle.std.specs.Prelude.{List};
     ghost use Rattle.tlb_core.specs.declared.translation.Translation.{Translation};
 
     ghost Value = { List (List Translation) };
 
     ghost view = { λ c. c.harts.items };
-
-    ghost invariant = { λ c. 8 ≤ vec_capacity c.harts };
 }
 
 impl Caches {
     /// Caches of no hart, with room for those of all.
-    pub fn new(alloc: Global) -> Result<Self, AllocError>
-        ensures { IfOk result (λ caches. caches ≡ []) }
+    pub fn new() -> Self
+        ensures { result ≡ [] }
     {
-        Ok(Caches {
-            harts: Vec::with_capacity(alloc, MAX_HARTS)?,
-        })
+        Caches {
+            harts: ArrayVec::new(),
+        }
     }
 
     /// How many harts there are.
@@ -51,7 +49,7 @@ impl Caches {
         requires { length self.old < 8 }
         ensures { self.new ≡ self.old ++ [] ∷ [] }
     {
-        self.harts.push_reserved(Tlb::new());
+        self.harts.push(Tlb::new());
     }
 
     /// What a hart has cached of a page.
@@ -60,7 +58,7 @@ impl Caches {
         requires { hart < length self.now }
         ensures { result ≡ translation_of page (slice_index_or self.now hart []) }
     {
-        self.harts[hart].look(page)
+        self.harts.as_slice()[hart].look(page)
     }
 
     /// The place of an address's page that is ready for an aligned access of a hart.
@@ -70,7 +68,7 @@ impl Caches {
         ensures aligned { IfSome result (λ _. address % bytes_in width ≡ 0) }
         ensures hits { IfSome result (λ place. Hits (slice_index_or self.now hart []) access (page_number address) place) }
     {
-        self.harts[hart].ready(access, width, address)
+        self.harts.as_slice()[hart].ready(access, width, address)
     }
 
     /// Makes an address's page ready for a hart's access that its translation serves.
@@ -78,7 +76,7 @@ impl Caches {
         requires { hart < length self.old }
         ensures { self.new ≡ self.old }
     {
-        self.harts[hart].remember(access, address);
+        self.harts.as_mut_slice()[hart].remember(access, address);
     }
 
     /// Puts a translation into a hart's cache.
@@ -86,14 +84,14 @@ impl Caches {
         requires { hart < length self.old }
         ensures { self.new ≡ slice_set self.old hart (filled entry (slice_index_or self.old hart [])) }
     {
-        self.harts[hart].fill(entry);
+        self.harts.as_mut_slice()[hart].fill(entry);
     }
 
     /// Whether a cache holds a translation of a page.
     pub fn is_held(&self, page: u32) -> bool
         ensures { result ≡ is_held page self.now }
     {
-        self.harts.iter().any(
+        self.harts.as_slice().iter().any(
             |cache: &Tlb| -> bool
                 ensures { result ≡ is_some (translation_of page cache.now) }
             { cache.holds(page) },
@@ -105,7 +103,7 @@ impl Caches {
     pub fn doom(&mut self, page: u32)
         ensures { self.new ≡ map (doomed page) self.old }
     {
-        doom_each(&mut self.harts, page);
+        doom_each(self.harts.as_mut_slice(), page);
     }
 
     /// Drops the translations of a hart that are marked.
@@ -113,7 +111,7 @@ impl Caches {
         requires { hart < length self.old }
         ensures { self.new ≡ slice_set self.old hart (undoomed (slice_index_or self.old hart [])) }
     {
-        self.harts[hart].drop_doomed();
+        self.harts.as_mut_slice()[hart].drop_doomed();
     }
 
     /// Drops all translations of a hart.
@@ -121,7 +119,7 @@ impl Caches {
         requires { hart < length self.old }
         ensures { self.new ≡ slice_set self.old hart [] }
     {
-        self.harts[hart].clear();
+        self.harts.as_mut_slice()[hart].clear();
     }
 
     /// Drops all translations of all harts.
@@ -129,7 +127,7 @@ impl Caches {
     pub fn clear_all(&mut self)
         ensures { self.new ≡ map (λ _. []) self.old }
     {
-        clear_each(&mut self.harts);
+        clear_each(self.harts.as_mut_slice());
     }
 }
 

@@ -51,7 +51,7 @@ impl<L: Ledger, S: SwapSlot> PagedMemory<L, S> {
             process,
             pages: PageMap::new(alloc)?,
             tables: PageTables::new(alloc)?,
-            caches: Caches::new(alloc)?,
+            caches: Caches::new(),
             reservations: Reservations::new(),
         })
     }

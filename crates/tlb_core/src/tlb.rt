@@ -33,6 +33,15 @@ impl Model for Tlb {
     ghost invariant = { λ t. IsCache t.entries.items t.ready };
 }
 
+/// What stands in a place that no hart has.
+impl Default for Tlb {
+    ghost is_default = { λ cache. cache ≡ [] };
+
+    fn default() -> Tlb {
+        Tlb::new()
+    }
+}
+
 impl Tlb {
     /// A cache of no entry.
     pub fn new() -> Tlb

@@ -17,7 +17,7 @@ use swap_slots::SwapSlot;
 use tlb_core::Translation;
 
 /// The place of a page that is ready for an aligned access of a hart.
-#[inline]
+#[inline(always)]
 pub(crate) fn at_hand<L: Ledger, S: SwapSlot>(
     pages: &PageMap<StoredPage<L, S>>,
     tables: &PageTables,

@@ -62,7 +62,7 @@ impl Caches {
     }
 
     /// The place of an address's page that is ready for an aligned access of a hart.
-    #[inline]
+    #[inline(always)]
     pub fn ready(&self, hart: usize, access: Access, width: Width, address: u32) -> Option<usize>
         requires { hart < length self.now }
         ensures aligned { IfSome result (λ _. address % bytes_in width ≡ 0) }

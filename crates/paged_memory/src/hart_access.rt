@@ -19,7 +19,7 @@ use swap_slots::SwapSlot;
 // and, for a store, the dirty bit. That the page is not mapped or lacks the right comes before that it is absent.
 impl<L: Ledger, S: SwapSlot> PagedMemory<L, S> {
     /// The word at an address, to be run by a hart.
-    #[inline]
+    #[inline(always)]
     pub fn fetch(&mut self, hart: usize, address: u32) -> Result<u32, BusError>
         requires { hart < length self.old.caches }
         ensures answer { Answers (HasPage self.old.pages (cache_of self.old.caches hart)) (MarksUse self.old.pages self.new.tables (cache_of self.old.caches hart) Access.Fetch) (LacksPage self.old.pages) address (fetched (memory_of S.content self.old) address) result }
@@ -41,7 +41,7 @@ impl<L: Ledger, S: SwapSlot> PagedMemory<L, S> {
     }
 
     /// The number at an address that a hart loads, not extended.
-    #[inline]
+    #[inline(always)]
     pub fn load(&mut self, hart: usize, width: Width, address: u32) -> Result<u32, BusError>
         requires { hart < length self.old.caches }
         ensures answer { Answers (HasPage self.old.pages (cache_of self.old.caches hart)) (MarksUse self.old.pages self.new.tables (cache_of self.old.caches hart) Access.Load) (LacksPage self.old.pages) address (loaded (memory_of S.content self.old) width address) result }
@@ -64,7 +64,7 @@ impl<L: Ledger, S: SwapSlot> PagedMemory<L, S> {
     }
 
     /// Stores the low bytes of a word for a hart. Its page counts as changed from then on.
-    #[inline]
+    #[inline(always)]
     pub fn store(
         &mut self,
         hart: usize,

@@ -81,17 +81,17 @@ impl<'a, L: Ledger, S: SwapSlot, O: Opening> Bus for HartMemory<'a, L, S, O> {
 
     ghost marked_on = { λ before after page kept was. marked before.hart page O.opening before.memory.now after.memory.now kept.2 was };
 
-    #[inline]
+    #[inline(always)]
     fn fetch(&mut self, address: u32) -> Result<u32, BusError> {
         self.memory.fetch(self.hart, address)
     }
 
-    #[inline]
+    #[inline(always)]
     fn load(&mut self, width: Width, address: u32) -> Result<u32, BusError> {
         self.memory.load(self.hart, width, address)
     }
 
-    #[inline]
+    #[inline(always)]
     fn store(&mut self, width: Width, address: u32, word: u32) -> Result<(), BusError> {
         self.memory.store(self.hart, width, address, word)
     }

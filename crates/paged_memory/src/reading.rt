@@ -19,7 +19,7 @@ use sv32_table::PageTables;
 use swap_slots::SwapSlot;
 
 /// The bytes of a page that has a frame.
-#[inline]
+#[inline(always)]
 pub(crate) fn bytes_of<L: Ledger, S: SwapSlot>(page: &StoredPage<L, S>) -> &[u8; 4096]
     requires { is_some (writable page.now.place) ≡ true }
     ensures bytes { result.now ≡ content S.content page.now }
@@ -32,7 +32,7 @@ pub(crate) fn bytes_of<L: Ledger, S: SwapSlot>(page: &StoredPage<L, S>) -> &[u8;
 }
 
 /// The bytes of a page that is ready for an aligned access of a hart.
-#[inline]
+#[inline(always)]
 fn read_ready<'a, L: Ledger, S: SwapSlot>(
     pages: &'a PageMap<StoredPage<L, S>>,
     tables: &PageTables,
@@ -86,7 +86,7 @@ fn read<'a, L: Ledger, S: SwapSlot>(
 }
 
 /// The word at an address, to be run.
-#[inline]
+#[inline(always)]
 #[tactic(auto, unfolding(page_memory::specs::Pages::fetched, page_memory::specs::Pages::aligned_page))]
 pub(crate) fn fetch<L: Ledger, S: SwapSlot>(
     pages: &PageMap<StoredPage<L, S>>,
@@ -148,7 +148,7 @@ fn fetch_anew<L: Ledger, S: SwapSlot>(
 }
 
 /// The number at an address, not extended.
-#[inline]
+#[inline(always)]
 #[tactic(auto, unfolding(page_memory::specs::Pages::loaded, page_memory::specs::Pages::aligned_page))]
 pub(crate) fn load<L: Ledger, S: SwapSlot>(
     pages: &PageMap<StoredPage<L, S>>,

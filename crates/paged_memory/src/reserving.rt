@@ -20,7 +20,7 @@ use sv32_table::PageTables;
 use swap_slots::SwapSlot;
 
 /// Stores the low bytes of a word, and ends the reservations of the word that it writes to.
-#[inline]
+#[inline(always)]
 pub(crate) fn store<L: Ledger, S: SwapSlot>(
     pages: &mut PageMap<StoredPage<L, S>>,
     tables: &mut PageTables,

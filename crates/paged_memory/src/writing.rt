@@ -24,7 +24,7 @@ use sv32_table::PageTables;
 use swap_slots::SwapSlot;
 
 /// Writes the low bytes of a word into a page that has a frame.
-#[inline]
+#[inline(always)]
 fn put_number_in<L: Ledger, S: SwapSlot>(
     page: &mut StoredPage<L, S>,
     width: Width,
@@ -73,7 +73,7 @@ fn replace_word_in<L: Ledger, S: SwapSlot>(
 }
 
 /// Stores the low bytes of a word.
-#[inline]
+#[inline(always)]
 pub(crate) fn store<L: Ledger, S: SwapSlot>(
     pages: &mut PageMap<StoredPage<L, S>>,
     tables: &mut PageTables,

@@ -39,7 +39,7 @@ impl Ready {
     }
 
     /// What may serve an address.
-    #[inline]
+    #[inline(always)]
     pub(crate) fn known(&self, access: Access, address: u32) -> Known
         ensures { result ≡ known_for access (page_number address) self.now }
     {
@@ -83,7 +83,7 @@ fn no_pages() -> [Known; COUNT]
     [NOWHERE; COUNT]
 }
 
-#[inline]
+#[inline(always)]
 fn known_at(list: &[Known; COUNT], page: u32) -> Known
     ensures { result ≡ slice_index_or list.now (page % 32) nowhere }
 {
@@ -98,7 +98,7 @@ fn put(list: &mut [Known; COUNT], page: u32, known: Known)
 
 /// The first address of an address's page, and what the address is past a multiple of an access's width:
 /// one comparison with a page's first address tells that it is this page's, and that the access is aligned.
-#[inline]
+#[inline(always)]
 pub(crate) fn start_if_aligned(address: u32, width: Width) -> u32
     ensures { result ≡ address / 4096 * 4096 + address % bytes_in width }
 {

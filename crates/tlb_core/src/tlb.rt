@@ -76,7 +76,7 @@ impl Tlb {
     }
 
     /// The place of an address's page that is ready for an aligned access. One comparison tells it.
-    #[inline]
+    #[inline(always)]
     pub fn ready(&self, access: Access, width: Width, address: u32) -> Option<usize>
         ensures aligned { IfSome result (λ _. address % bytes_in width ≡ 0) }
         ensures hits { IfSome result (λ place. Hits self.now access (page_number address) place) }

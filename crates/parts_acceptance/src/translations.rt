@@ -15,7 +15,7 @@ fn entry(page: u32, frame: u32) -> Translation {
 #[test]
 fn the_oldest_goes_first(rt: HostRuntime) {
     let mut cache = Tlb::new();
-    for page in 0..17 {
+    for page in 0..65 {
         cache.fill(entry(page, page));
     }
     assert!(rt; !cache.holds(0) && cache.holds(1));
@@ -31,7 +31,7 @@ fn the_oldest_goes_first(rt: HostRuntime) {
     assert!(rt; cache.holds(258));
     cache.drop_doomed();
     assert!(rt; !cache.holds(258) && !cache.holds(3) && cache.holds(4));
-    assert_eq!(rt; cache.entries().len(), 14);
+    assert_eq!(rt; cache.entries().len(), 62);
     cache.clear();
     assert!(rt; !cache.holds(4));
 }
@@ -48,10 +48,10 @@ enum Change {
 
 fn apply(cache: &mut Tlb, change: Change) {
     match change {
-        Change::AnotherIsFilled => cache.fill(entry(34, 1)),
+        Change::AnotherIsFilled => cache.fill(entry(66, 1)),
         Change::Refilled => cache.fill(entry(2, 1)),
         Change::TheOldestGoes => {
-            for page in 3..19 {
+            for page in 3..67 {
                 cache.fill(entry(page, page));
             }
         }

@@ -98,7 +98,7 @@ one_per_page_room xs ys one made = rw made (one_per_page_dropped 1 xs one)
 -- what has no entry has none once the oldest is gone
 not_in_room : (page : ℕ) (xs : List Translation) (k : ℕ) (d : Translation) → translation_of page xs ≡ None → k < length (with_room xs) → (get_or (with_room xs) k d).page ≢ page
 unfolding with_room
-not_in_room page xs k d none within = by_room (nat_lt (length xs) 16) within
+not_in_room page xs k d none within = by_room (nat_lt (length xs) 64) within
   where
     by_room : (b : Bool) → k < length (cond b xs (drop 1 xs)) → (get_or (cond b xs (drop 1 xs)) k d).page ≢ page
     by_room true within = not_there page xs k d none within
@@ -133,13 +133,13 @@ pub filled_behind : (e : Translation) (xs : List Translation) → position (is_o
 unfolding filled filled_at
 filled_behind e xs is = rw is refl
 
-pub room_made : (xs : List Translation) → length xs ≡ 16 → with_room xs ≡ drop 1 xs
+pub room_made : (xs : List Translation) → length xs ≡ 64 → with_room xs ≡ drop 1 xs
 unfolding with_room
-room_made xs full = let test : nat_lt (length xs) 16 ≡ false = grind (arith, nat_tests) in rw test refl
+room_made xs full = let test : nat_lt (length xs) 64 ≡ false = grind (arith, nat_tests) in rw test refl
 
-pub room_there : (xs : List Translation) → length xs < 16 → with_room xs ≡ xs
+pub room_there : (xs : List Translation) → length xs < 64 → with_room xs ≡ xs
 unfolding with_room
-room_there xs few = let test : nat_lt (length xs) 16 ≡ true = grind (arith, nat_tests) in rw test refl
+room_there xs few = let test : nat_lt (length xs) 64 ≡ true = grind (arith, nat_tests) in rw test refl
 
 -- marks, one entry after the other
 abbrev pub marked_below : ℕ → List Translation → ℕ → List Translation

@@ -61,12 +61,12 @@ hits_doomed page cache access q place hits =
 no_start : (page past : ℕ) (known : Known) → known ≡ nowhere → past < 4 → page * 4096 + past ≢ known.start
 no_start page past known is below e = let s : known.start ≡ 4 = ap (λ (k : Known). k.start) is in absurd (omega arith)
 
-known_none : (access : Access) (page : ℕ) (ready : Ready) → ready.fetched ≡ nowhere → ready.loaded ≡ replicate 32 nowhere → ready.stored ≡ replicate 32 nowhere → known_for access page ready ≡ nowhere
+known_none : (access : Access) (page : ℕ) (ready : Ready) → ready.fetched ≡ nowhere → ready.loaded ≡ replicate 64 nowhere → ready.stored ≡ replicate 64 nowhere → known_for access page ready ≡ nowhere
 known_none Fetch page ready fetched loaded stored = fetched
-known_none Load page ready fetched loaded stored = ap (λ l. get_or l (page % 32) nowhere) loaded ∙ get_or-replicate 32 (page % 32) nowhere nowhere (omega arith)
-known_none Store page ready fetched loaded stored = ap (λ l. get_or l (page % 32) nowhere) stored ∙ get_or-replicate 32 (page % 32) nowhere nowhere (omega arith)
+known_none Load page ready fetched loaded stored = ap (λ l. get_or l (page % 64) nowhere) loaded ∙ get_or-replicate 64 (page % 64) nowhere nowhere (omega arith)
+known_none Store page ready fetched loaded stored = ap (λ l. get_or l (page % 64) nowhere) stored ∙ get_or-replicate 64 (page % 64) nowhere nowhere (omega arith)
 
-pub nothing_ready : (cache : List Translation) (ready : Ready) → ready.fetched ≡ nowhere → ready.loaded ≡ replicate 32 nowhere → ready.stored ≡ replicate 32 nowhere → IsReady cache ready
+pub nothing_ready : (cache : List Translation) (ready : Ready) → ready.fetched ≡ nowhere → ready.loaded ≡ replicate 64 nowhere → ready.stored ≡ replicate 64 nowhere → IsReady cache ready
 nothing_ready cache ready fetched loaded stored =
     record {
       aligned = λ access page past below e. absurd (no_start page past (known_for access page ready) (known_none access page ready fetched loaded stored) below e);
@@ -80,16 +80,16 @@ at_set (x ∷ l) zero known = inl refl
 at_set (x ∷ l) (suc i) known = at_set l i known
 
 -- what is still known after a page was forgotten was known, and is another's
-list_forgotten : (l : List Known) (q page past : ℕ) → past < 4 → q * 4096 + past ≡ (get_or (set l (page % 32) nowhere) (q % 32) nowhere).start
-    → (get_or (set l (page % 32) nowhere) (q % 32) nowhere ≡ get_or l (q % 32) nowhere) × (q ≢ page)
+list_forgotten : (l : List Known) (q page past : ℕ) → past < 4 → q * 4096 + past ≡ (get_or (set l (page % 64) nowhere) (q % 64) nowhere).start
+    → (get_or (set l (page % 64) nowhere) (q % 64) nowhere ≡ get_or l (q % 64) nowhere) × (q ≢ page)
 list_forgotten l q page past below e =
-    elim (cases_eq (q % 32) (page % 32)) [
-      | inl same ↦ absurd (no_start q past (get_or (set l (page % 32) nowhere) (q % 32) nowhere) (ap (λ i. get_or (set l (page % 32) nowhere) i nowhere) same ∙ none) below e)
-      | inr apart ↦ (get_or-set_other l (page % 32) (q % 32) nowhere nowhere apart, λ s. apart (ap (λ n. n % 32) s))
+    elim (cases_eq (q % 64) (page % 64)) [
+      | inl same ↦ absurd (no_start q past (get_or (set l (page % 64) nowhere) (q % 64) nowhere) (ap (λ i. get_or (set l (page % 64) nowhere) i nowhere) same ∙ none) below e)
+      | inr apart ↦ (get_or-set_other l (page % 64) (q % 64) nowhere nowhere apart, λ s. apart (ap (λ n. n % 64) s))
     ]
   where
-    none : get_or (set l (page % 32) nowhere) (page % 32) nowhere ≡ nowhere
-    none = elim (at_set l (page % 32) nowhere) [ inl is ↦ is | inr is ↦ is ]
+    none : get_or (set l (page % 64) nowhere) (page % 64) nowhere ≡ nowhere
+    none = elim (at_set l (page % 64) nowhere) [ inl is ↦ is | inr is ↦ is ]
 
 one_forgotten : (known : Known) (q page past : ℕ) → past < 4 → q * 4096 + past ≡ (unless_of page known).start → (unless_of page known ≡ known) × (q ≢ page)
 one_forgotten known q page past below e = by_test (known.start / 4096 == page) refl e
@@ -128,24 +128,24 @@ ready_on cache cache' ready step is =
     }
 
 -- what is known after a page was learned was known, or is that page
-list_learned : (l : List Known) (q page past : ℕ) (known : Known) → known.start ≡ page * 4096 → past < 4 → q * 4096 + past ≡ (get_or (set l (page % 32) known) (q % 32) nowhere).start
-    → (get_or (set l (page % 32) known) (q % 32) nowhere ≡ get_or l (q % 32) nowhere) ⊎ ((get_or (set l (page % 32) known) (q % 32) nowhere ≡ known) × ((q ≡ page) × (past ≡ 0)))
+list_learned : (l : List Known) (q page past : ℕ) (known : Known) → known.start ≡ page * 4096 → past < 4 → q * 4096 + past ≡ (get_or (set l (page % 64) known) (q % 64) nowhere).start
+    → (get_or (set l (page % 64) known) (q % 64) nowhere ≡ get_or l (q % 64) nowhere) ⊎ ((get_or (set l (page % 64) known) (q % 64) nowhere ≡ known) × ((q ≡ page) × (past ≡ 0)))
 list_learned l q page past known start below e =
-    elim (cases_eq (q % 32) (page % 32)) [
-      | inl same ↦ by_slot same (at_set l (page % 32) known)
-      | inr apart ↦ inl (get_or-set_other l (page % 32) (q % 32) known nowhere apart)
+    elim (cases_eq (q % 64) (page % 64)) [
+      | inl same ↦ by_slot same (at_set l (page % 64) known)
+      | inr apart ↦ inl (get_or-set_other l (page % 64) (q % 64) known nowhere apart)
     ]
   where
     now : Known
-    now = get_or (set l (page % 32) known) (q % 32) nowhere
+    now = get_or (set l (page % 64) known) (q % 64) nowhere
 
-    by_slot : q % 32 ≡ page % 32 → (get_or (set l (page % 32) known) (page % 32) nowhere ≡ known) ⊎ (get_or (set l (page % 32) known) (page % 32) nowhere ≡ nowhere)
-        → (now ≡ get_or l (q % 32) nowhere) ⊎ ((now ≡ known) × ((q ≡ page) × (past ≡ 0)))
+    by_slot : q % 64 ≡ page % 64 → (get_or (set l (page % 64) known) (page % 64) nowhere ≡ known) ⊎ (get_or (set l (page % 64) known) (page % 64) nowhere ≡ nowhere)
+        → (now ≡ get_or l (q % 64) nowhere) ⊎ ((now ≡ known) × ((q ≡ page) × (past ≡ 0)))
     by_slot same (inl is) =
-        let here : now ≡ known = ap (λ i. get_or (set l (page % 32) known) i nowhere) same ∙ is in
+        let here : now ≡ known = ap (λ i. get_or (set l (page % 64) known) i nowhere) same ∙ is in
         let starts : q * 4096 + past ≡ page * 4096 = e ∙ ap (λ (k : Known). k.start) here ∙ start in
         inr (here, (omega arith, omega arith))
-    by_slot same (inr is) = absurd (no_start q past now (ap (λ i. get_or (set l (page % 32) known) i nowhere) same ∙ is) below e)
+    by_slot same (inr is) = absurd (no_start q past now (ap (λ i. get_or (set l (page % 64) known) i nowhere) same ∙ is) below e)
 
 one_learned : (q page past : ℕ) (known : Known) → known.start ≡ page * 4096 → past < 4 → q * 4096 + past ≡ known.start → (q ≡ page) × (past ≡ 0)
 one_learned q page past known start below e = let starts : q * 4096 + past ≡ page * 4096 = e ∙ start in (omega arith, omega arith)

@@ -1,4 +1,4 @@
--- A translation cache: the entries of pages, at most 16, at most one for each page, the oldest first.
+-- A translation cache: the entries of pages, at most 64, at most one for each page, the oldest first.
 use Rattle.std.specs.Prelude.{◌≡◌, ◌≢◌, ℕ, Bool, true, ◌==◌, ◌||◌, not, nat_lt, if◌then◌else◌, Option, Some, None, List, [], ◌∷◌, ◌++◌, length, drop, map, filter, find, position, slice_set, AllPairs}
 use Rattle.page_memory.specs.declared.words.Access.{Access}
 use Rattle.page_memory.specs.declared.words.Access.TheVariants.{Store}
@@ -25,9 +25,9 @@ pub record Hits (cache : List Translation) (access : Access) (page place : ℕ) 
   pub allowed : may access entry.rights ≡ true
   pub dirty : access ≡ Store → entry.dirty ≡ true
 
--- the cache with room for one more: the oldest of 16 goes
+-- the cache with room for one more: the oldest of 64 goes
 unfoldable pub with_room : List Translation → List Translation
-with_room cache = if nat_lt (length cache) 16 then cache else drop 1 cache
+with_room cache = if nat_lt (length cache) 64 then cache else drop 1 cache
 
 -- an entry put in at the place of its page's, or else behind the others
 unfoldable pub filled_at : Translation → List Translation → Option ℕ → List Translation

@@ -86,7 +86,7 @@ found_at page (y ∷ ys) (suc k) x one within is of =
 -- `fill`: each entry is the one that was put in, or an old one
 All-with_room : (P : Translation → Type 0) (cache : List Translation) → All P cache → All P (with_room cache)
 unfolding with_room
-All-with_room P cache all = by_room (nat_lt (length cache) 16)
+All-with_room P cache all = by_room (nat_lt (length cache) 64)
   where
     by_room : (b : Bool) → All P (cond b cache (drop 1 cache))
     by_room true = all

@@ -15,14 +15,14 @@ nowhere = record { start = 4; place = 0 }
 -- what may serve an access to a page: the one that is fetched from, or that of the page number's low bits
 abbrev pub known_for : Access → ℕ → Ready → Known
 known_for Fetch page ready = ready.fetched
-known_for Load page ready = slice_index_or ready.loaded (page % 32) nowhere
-known_for Store page ready = slice_index_or ready.stored (page % 32) nowhere
+known_for Load page ready = slice_index_or ready.loaded (page % 64) nowhere
+known_for Store page ready = slice_index_or ready.stored (page % 64) nowhere
 
 -- with an address's page at a place
 abbrev pub with_known : Access → ℕ → Known → Ready → Ready
 with_known Fetch page known ready = record ready { fetched = known }
-with_known Load page known ready = record ready { loaded = slice_set ready.loaded (page % 32) known }
-with_known Store page known ready = record ready { stored = slice_set ready.stored (page % 32) known }
+with_known Load page known ready = record ready { loaded = slice_set ready.loaded (page % 64) known }
+with_known Store page known ready = record ready { stored = slice_set ready.stored (page % 64) known }
 
 abbrev pub learned : Access → ℕ → ℕ → Ready → Ready
 learned access address at ready = with_known access (page_number address) (record { start = address / 4096 * 4096; place = at }) ready
@@ -34,8 +34,8 @@ unless_of page known = if known.start / 4096 == page then nowhere else known
 abbrev pub forgotten : ℕ → Ready → Ready
 forgotten page ready = record {
   fetched = unless_of page ready.fetched;
-  loaded = slice_set ready.loaded (page % 32) nowhere;
-  stored = slice_set ready.stored (page % 32) nowhere;
+  loaded = slice_set ready.loaded (page % 64) nowhere;
+  stored = slice_set ready.stored (page % 64) nowhere;
 }
 
 -- what is ready the cache shows: an address whose offset past its page's start is below 4 is the start that is known only

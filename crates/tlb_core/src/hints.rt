@@ -31,7 +31,7 @@ impl Hints {
 
     /// The entries stand in this order.
     pub fn set(&mut self, entries: &[Translation])
-        requires { length entries.now ≤ 16 }
+        requires { length entries.now ≤ 64 }
     {
         for (place, entry) in entries.iter().enumerate() {
             self.put(entry.page, place);

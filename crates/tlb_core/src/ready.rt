@@ -16,7 +16,7 @@ pub(crate) struct Known {
 const NOWHERE: Known = Known { start: 4, place: 0 };
 
 /// How many pages are ready for loads, and for stores: one for each number that the low bits of a page number can have.
-const COUNT: usize = 32;
+const COUNT: usize = 64;
 
 /// The pages that were used last and had the right: the one fetched from, and those loaded from and stored to.
 #[derive(Clone, Copy)]
@@ -78,20 +78,20 @@ impl Ready {
 }
 
 fn no_pages() -> [Known; COUNT]
-    ensures { result ≡ replicate 32 nowhere }
+    ensures { result ≡ replicate 64 nowhere }
 {
     [NOWHERE; COUNT]
 }
 
 #[inline(always)]
 fn known_at(list: &[Known; COUNT], page: u32) -> Known
-    ensures { result ≡ slice_index_or list.now (page % 32) nowhere }
+    ensures { result ≡ slice_index_or list.now (page % 64) nowhere }
 {
     list[(page as usize) % COUNT]
 }
 
 fn put(list: &mut [Known; COUNT], page: u32, known: Known)
-    ensures { list.new ≡ slice_set list.old (page % 32) known }
+    ensures { list.new ≡ slice_set list.old (page % 64) known }
 {
     list[(page as usize) % COUNT] = known;
 }

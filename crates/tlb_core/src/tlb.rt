@@ -11,7 +11,7 @@ use page_memory::{Access, Width, page_of};
 use std::marker::Model;
 
 /// The most entries that a cache has.
-pub const TLB_ENTRIES: usize = 16;
+pub const TLB_ENTRIES: usize = 64;
 
 /// The translations that a hart has cached, the oldest first, at most one for each page.
 #[derive(Drop)]
@@ -57,7 +57,7 @@ impl Tlb {
     /// The entries, the oldest first.
     pub fn entries(&self) -> &[Translation]
         ensures entries { result.now ≡ self.now }
-        ensures few { length self.now ≤ 16 }
+        ensures few { length self.now ≤ 64 }
         ensures one_each { OnePerPage self.now }
     {
         self.entries.as_slice()
@@ -130,7 +130,7 @@ impl Tlb {
         }
     }
 
-    /// Puts an entry in: in place of its page's where there is one, else behind the others. The oldest of 16 goes for it.
+    /// Puts an entry in: in place of its page's where there is one, else behind the others. The oldest of 64 goes for it.
     #[tactic(auto, using(crate::proofs::Places::filled_in_place, crate::proofs::Places::filled_behind, crate::specs::CacheLaws::find_nowhere))]
     pub fn fill(&mut self, entry: Translation)
         ensures { self.new ≡ filled entry self.old }
@@ -176,11 +176,11 @@ impl Tlb {
         self.hints.put(entry.page, place);
     }
 
-    /// The oldest of 16 goes.
+    /// The oldest of 64 goes.
     #[tactic(auto, using(crate::proofs::Places::one_per_page_room, crate::proofs::Places::room_made, crate::proofs::Places::room_there))]
     fn make_room(&mut self)
         ensures entries { self.new ≡ with_room self.old }
-        ensures room { length self.new < 16 }
+        ensures room { length self.new < 64 }
     {
         if self.entries.is_full() {
             let oldest = self.entries.remove(0);

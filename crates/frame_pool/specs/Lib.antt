@@ -1,3 +1,4 @@
+pub mod BareLending
 pub mod FrameValue
 pub mod FramePoolValue
 pub mod Lending

@@ -1,29 +1,27 @@
 ghost use Rattle.std.specs.Prelude.{◌≡◌, ◌+◌, ◌<◌, ◌≤◌, length, vec_len};
 ghost use Rattle.std.specs.Borrow.{sem};
 
+use crate::bare::BareFrame;
 use std::alloc::{AllocError, Global};
 use std::marker::Model;
 use std::sync::ledger::{Ledger, Share};
 
-/// The bytes of one page, and the number by which page tables name them.
+/// The bytes of one page, and the number by which page tables name them, with room for one copy of the bytes.
 ///
-/// It is moved and never copied: it holds one share of its pool's count, and only `FramePool::new` cuts such shares.
+/// It is moved and never copied: it holds one share of its pool's count, and only `FramePool::new` cuts such shares. A
+/// copy of its bytes takes the frame's own room along, so that none has to be found when the page is to be saved.
 #[derive(Drop)]
 pub struct Frame<L: Ledger> {
-    number: u32,
-    bytes: Box<[u8; 4096]>,
-    share: Share<L>,
+    bare: BareFrame<L>,
+    room: Box<[u8; 4096]>,
 }
 
 impl<L: Ledger> Model for Frame<L> {
-    ghost use Rattle.std.specs.Prelude.{◌≡◌, ◌<◌};
     ghost use Rattle.frame_pool.specs.FrameValue.{FrameValue};
 
     ghost Value = { FrameValue };
 
-    ghost view = { λ f. record { number = f.number; bytes = f.bytes.value } };
-
-    ghost invariant = { λ f. (f.share.parts ≡ 1) × (f.number < 4096) };
+    ghost view = { λ f. f.bare };
 }
 
 impl<L: Ledger> Frame<L> {
@@ -37,35 +35,44 @@ impl<L: Ledger> Frame<L> {
         requires number { number < 4096 }
         ensures { IfOk result (λ frame. frame ≡ zero_frame number) }
     {
-        Ok(Frame {
-            number,
-            bytes: Box::new(alloc, [0; 4096])?,
-            share,
-        })
+        let bare = BareFrame::zeroed(alloc, number, share)?;
+        let room = Box::new(alloc, [0; 4096])?;
+        Ok(Frame { bare, room })
+    }
+
+    /// The frame, of which only a copy asks for the room.
+    #[inline]
+    pub fn bare(&self) -> &BareFrame<L>
+        ensures { result.now ≡ self.now }
+    {
+        &self.bare
     }
 
     /// The number by which page tables name the frame. It is below `MAX_FRAMES`.
+    #[inline]
     pub fn number(&self) -> u32
         ensures number { result ≡ self.now.number }
         ensures number_small { result < 4096 }
     {
-        self.number
+        self.bare.number()
     }
 
     /// The bytes of the page.
+    #[inline]
     pub fn bytes(&self) -> &[u8; 4096]
         ensures bytes { result.now ≡ self.now.bytes }
         ensures whole { length self.now.bytes ≡ 4096 }
     {
-        as_page(&self.bytes)
+        self.bare.bytes()
     }
 
     /// Lends the bytes of the page to be written.
+    #[inline]
     pub fn bytes_mut(&mut self) -> &mut [u8; 4096]
         ensures* writes_back { sem 𝓛 (LendsBytes L.row L.Ledger self.entry result) }
         ensures bytes { result.now ≡ self.old.bytes }
     {
-        &mut self.bytes
+        self.bare.bytes_mut()
     }
 
     /// Writes all bytes of the page.
@@ -75,18 +82,31 @@ impl<L: Ledger> Frame<L> {
         *self.bytes_mut() = *bytes;
     }
 
+    /// Copies the bytes to the frame's room, and parts the two. Takes no memory.
+    pub fn copied(self) -> (BareFrame<L>, Box<[u8; 4096]>)
+        ensures frame { result.0 ≡ self }
+        ensures copy { result.1.value ≡ self.bytes }
+    {
+        let Frame { bare, mut room } = self;
+        *room = *bare.bytes();
+        (bare, room)
+    }
+
+    /// A frame that has room for a copy again, whatever is in it.
+    pub fn with_room(bare: BareFrame<L>, room: Box<[u8; 4096]>) -> Self
+        ensures { result ≡ bare }
+    {
+        Frame { bare, room }
+    }
+
     /// Gives up the frame, and merges its share into one. The share cannot have more parts than the ledger: where it has
     /// them all, every frame of the pool was given up.
     pub fn give_up(self, all: &mut Share<L>)
         ensures parts { all.new.parts ≡ all.old.parts + 1 }
         ensures within { all.new.parts ≤ L.parts }
     {
-        let Frame {
-            number: _,
-            bytes: _,
-            share,
-        } = self;
-        all.merge(share);
+        let Frame { bare, room: _ } = self;
+        bare.give_up(all);
     }
 }
 
@@ -104,12 +124,4 @@ pub fn gather<L: Ledger>(frames: Vec<Frame<L>>, all: &mut Share<L>)
     for frame in frames {
         frame.give_up(all);
     }
-}
-
-/// The same bytes, with their number in the contract: what holds an array does not tell it.
-fn as_page(bytes: &[u8; 4096]) -> &[u8; 4096]
-    ensures same { result.now ≡ bytes.now }
-    ensures whole { length bytes.now ≡ 4096 }
-{
-    bytes
 }

@@ -5,8 +5,10 @@
 //! carries one share of a ledger: so the frames at hand can be counted, and are never more than the pool was made of.
 #![tactic(auto)]
 
+mod bare;
 mod frame;
 mod pool;
 
+pub use bare::BareFrame;
 pub use frame::{Frame, gather};
 pub use pool::{FramePool, PoolError};

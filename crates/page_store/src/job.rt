@@ -13,7 +13,7 @@ use swap_slots::SwapSlot;
 pub struct SaveJob<S: SwapSlot> {
     process: u32,
     vpn: u32,
-    copy: [u8; 4096],
+    copy: Box<[u8; 4096]>,
     slot: S,
 }
 
@@ -22,18 +22,18 @@ impl<S: SwapSlot> Model for SaveJob<S> {
 
     ghost Value = { JobValue S };
 
-    ghost view = { λ j. record { process = j.process; vpn = j.vpn; copy = j.copy; slot = j.slot } };
+    ghost view = { λ j. record { process = j.process; vpn = j.vpn; copy = j.copy.value; slot = j.slot } };
 }
 
 impl<S: SwapSlot> SaveJob<S> {
-    /// The job of saving a page.
-    pub(crate) fn new(process: u32, vpn: u32, bytes: &[u8; 4096], slot: S) -> Self
-        ensures { result ≡ record { process = process; vpn = vpn; copy = bytes.now; slot = slot } }
+    /// The job of saving a page, of whose bytes this is the copy.
+    pub(crate) fn new(process: u32, vpn: u32, copy: Box<[u8; 4096]>, slot: S) -> Self
+        ensures { result ≡ record { process = process; vpn = vpn; copy = copy.value; slot = slot } }
     {
         SaveJob {
             process,
             vpn,
-            copy: *bytes,
+            copy,
             slot,
         }
     }
@@ -96,7 +96,7 @@ impl<S: SwapSlot> SaveJob<S> {
 pub struct SavedJob<S: SwapSlot> {
     process: u32,
     vpn: u32,
-    copy: [u8; 4096],
+    copy: Box<[u8; 4096]>,
     digest: [u8; 32],
     slot: S,
     passed: bool,
@@ -109,9 +109,9 @@ impl<S: SwapSlot> Model for SavedJob<S> {
 
     ghost Value = { SavedValue S };
 
-    ghost view = { λ j. record { process = j.process; vpn = j.vpn; copy = j.copy; slot = j.slot; passed = j.passed } };
+    ghost view = { λ j. record { process = j.process; vpn = j.vpn; copy = j.copy.value; slot = j.slot; passed = j.passed } };
 
-    ghost invariant = { λ j. (j.digest ≡ sha256 j.copy) × (S.honest → IsTrue j.passed → S.content j.slot ≡ j.copy) };
+    ghost invariant = { λ j. (j.digest ≡ sha256 j.copy.value) × (S.honest → IsTrue j.passed → S.content j.slot ≡ j.copy.value) };
 }
 
 impl<S: SwapSlot> SavedJob<S> {
@@ -143,41 +143,41 @@ impl<S: SwapSlot> SavedJob<S> {
     pub(crate) fn is_copy(&self, bytes: &[u8; 4096]) -> bool
         ensures { IsTrue result ↔ (bytes.now ≡ self.now.copy) }
     {
-        *bytes == self.copy
+        *bytes == *self.copy
     }
 
-    /// The page in its slot, where the device passed it, else the slot.
-    pub(crate) fn into_copy(self) -> Result<PageCopy<S>, S>
-        ensures passed { IfOk result (λ copy. (copy ≡ copy_of self) × IsTrue self.passed) }
-        ensures failed { IfErr result (λ slot. (slot ≡ self.slot) × IsFalse self.passed) }
-        ensures saved { S.honest → OnOk result (S.content self.slot ≡ self.copy) }
+    /// The page in its slot, where the device passed it, else the slot; and the room of the copy.
+    pub(crate) fn into_copy(self) -> (Result<PageCopy<S>, S>, Box<[u8; 4096]>)
+        ensures passed { IfOk result.0 (λ copy. (copy ≡ copy_of self) × IsTrue self.passed) }
+        ensures failed { IfErr result.0 (λ slot. (slot ≡ self.slot) × IsFalse self.passed) }
+        ensures saved { S.honest → OnOk result.0 (S.content self.slot ≡ self.copy) }
     {
         let SavedJob {
             process: _,
             vpn: _,
-            copy: _,
+            copy,
             digest,
             slot,
             passed,
         } = self;
         if !passed {
-            return Err(slot);
+            return (Err(slot), copy);
         }
-        Ok(PageCopy::new(slot, digest))
+        (Ok(PageCopy::new(slot, digest)), copy)
     }
 
-    /// The slot, whatever it holds.
-    pub(crate) fn into_slot(self) -> S
-        ensures { result ≡ self.slot }
+    /// The slot, whatever it holds, and the room of the copy.
+    pub(crate) fn into_slot(self) -> (S, Box<[u8; 4096]>)
+        ensures { result.0 ≡ self.slot }
     {
         let SavedJob {
             process: _,
             vpn: _,
-            copy: _,
+            copy,
             digest: _,
             slot,
             passed: _,
         } = self;
-        slot
+        (slot, copy)
     }
 }

@@ -9,7 +9,7 @@ use crate::job::{SaveJob, SavedJob};
 use crate::reading::read_bytes;
 use crate::refusal::{FillFault, LeaveRefusal, NotLeaving, ReadFault};
 use crate::state::{Keeping, Origin, PageState, State};
-use frame_pool::Frame;
+use frame_pool::{BareFrame, Frame};
 use page_memory::{Page, Rights};
 use std::marker::Model;
 use std::mem;
@@ -82,12 +82,12 @@ impl<L: Ledger, S: SwapSlot> StoredPage<L, S> {
 
     /// The page's frame, if it has one.
     #[inline]
-    pub fn frame(&self) -> Option<&Frame<L>>
+    pub fn frame(&self) -> Option<&BareFrame<L>>
         ensures { option_copied result ≡ frame_of self.now.place }
     {
         match &self.state {
-            State::Resident(frame, _) => Some(frame),
-            State::Leaving(frame, _, _) => Some(frame),
+            State::Resident(frame, _) => Some(frame.bare()),
+            State::Leaving(frame, _, _) => Some(frame.bare()),
             State::Saving(frame) => Some(frame),
             _ => None,
         }
@@ -227,11 +227,14 @@ impl<L: Ledger, S: SwapSlot> StoredPage<L, S> {
         match mem::replace(&mut self.state, State::Purged) {
             State::Saving(frame) => {
                 if !job.is_copy(frame.bytes()) {
-                    let slot = Keeping::Unsaved(job.into_slot());
-                    self.state = State::Leaving(frame, slot, true);
+                    let (slot, room) = job.into_slot();
+                    let frame = Frame::with_room(frame, room);
+                    self.state = State::Leaving(frame, Keeping::Unsaved(slot), true);
                     return Err(SaveRefusal::Mismatch);
                 }
-                match job.into_copy() {
+                let (copied, room) = job.into_copy();
+                let frame = Frame::with_room(frame, room);
+                match copied {
                     Ok(copy) => {
                         self.state = State::Away(copy);
                         Ok(frame)
@@ -362,6 +365,7 @@ fn start_saving<L: Ledger, S: SwapSlot>(
     ensures page { place_in_state result.0 ≡ Saving frame }
     ensures job { result.1 ≡ Collected.Dirty (job_of process vpn frame slot) }
 {
-    let job = SaveJob::new(process, vpn, frame.bytes(), slot);
+    let (frame, copy) = frame.copied();
+    let job = SaveJob::new(process, vpn, copy, slot);
     (State::Saving(frame), Collected::Dirty(job))
 }

@@ -3,7 +3,7 @@ ghost use Rattle.frame_pool.specs.FrameValue.{zero_bytes};
 
 use crate::page_copy::PageCopy;
 use crate::reading::{read_bytes, read_zeros};
-use frame_pool::Frame;
+use frame_pool::{BareFrame, Frame};
 use page_memory::{Page, Rights};
 use std::sync::ledger::Ledger;
 use swap_slots::SwapSlot;
@@ -119,7 +119,8 @@ pub(crate) enum State<L: Ledger, S: SwapSlot> {
     Resident(Frame<L>, Keeping<S>),
     /// With the mark whether it counts as changed.
     Leaving(Frame<L>, Keeping<S>, bool),
-    Saving(Frame<L>),
+    /// Its frame's room is out with the copy.
+    Saving(BareFrame<L>),
     Away(PageCopy<S>),
     Purged,
 }

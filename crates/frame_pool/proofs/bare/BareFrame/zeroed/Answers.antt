@@ -1,6 +1,6 @@
 use Rattle.std.proofs.Common.{ap}
 use Rattle.frame_pool.specs.FrameValue.{FrameValue, zero_bytes}
-use Rattle.frame_pool.proofs.frame.Frame.zeroed.Goals as goal
+use Rattle.frame_pool.proofs.bare.BareFrame.zeroed.Goals as goal
 
 pub returns : goal.returns
 unfolding zero_bytes

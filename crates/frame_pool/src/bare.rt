@@ -1,0 +1,95 @@
+ghost use Rattle.std.specs.Prelude.{◌≡◌, ◌+◌, ◌<◌, ◌≤◌, length};
+ghost use Rattle.std.specs.Borrow.{sem};
+
+use std::alloc::{AllocError, Global};
+use std::marker::Model;
+use std::sync::ledger::{Ledger, Share};
+
+/// A frame whose room for a copy is elsewhere: its bytes, and the number by which page tables name them.
+///
+/// It is moved and never copied: it holds one share of its pool's count, and only `FramePool::new` cuts such shares.
+#[derive(Drop)]
+pub struct BareFrame<L: Ledger> {
+    number: u32,
+    bytes: Box<[u8; 4096]>,
+    share: Share<L>,
+}
+
+impl<L: Ledger> Model for BareFrame<L> {
+    ghost use Rattle.std.specs.Prelude.{◌≡◌, ◌<◌};
+    ghost use Rattle.frame_pool.specs.FrameValue.{FrameValue};
+
+    ghost Value = { FrameValue };
+
+    ghost view = { λ f. record { number = f.number; bytes = f.bytes.value } };
+
+    ghost invariant = { λ f. (f.share.parts ≡ 1) × (f.number < 4096) };
+}
+
+impl<L: Ledger> BareFrame<L> {
+    ghost use Rattle.std.specs.Prelude.{IfOk};
+    ghost use Rattle.frame_pool.specs.FrameValue.{zero_frame};
+    ghost use Rattle.frame_pool.specs.BareLending.{LendsBareBytes};
+
+    /// A frame of zero bytes, which stands for the share.
+    pub(crate) fn zeroed(alloc: Global, number: u32, share: Share<L>) -> Result<Self, AllocError>
+        requires share { share.parts ≡ 1 }
+        requires number { number < 4096 }
+        ensures { IfOk result (λ frame. frame ≡ zero_frame number) }
+    {
+        Ok(BareFrame {
+            number,
+            bytes: Box::new(alloc, [0; 4096])?,
+            share,
+        })
+    }
+
+    /// The number by which page tables name the frame. It is below `MAX_FRAMES`.
+    #[inline]
+    pub fn number(&self) -> u32
+        ensures number { result ≡ self.now.number }
+        ensures number_small { result < 4096 }
+    {
+        self.number
+    }
+
+    /// The bytes of the page.
+    #[inline]
+    pub fn bytes(&self) -> &[u8; 4096]
+        ensures bytes { result.now ≡ self.now.bytes }
+        ensures whole { length self.now.bytes ≡ 4096 }
+    {
+        as_page(&self.bytes)
+    }
+
+    /// Lends the bytes of the page to be written.
+    #[inline]
+    pub(crate) fn bytes_mut(&mut self) -> &mut [u8; 4096]
+        ensures* writes_back { sem 𝓛 (LendsBareBytes L.row L.Ledger self.entry result) }
+        ensures bytes { result.now ≡ self.old.bytes }
+    {
+        &mut self.bytes
+    }
+
+    /// Gives up the frame, and merges its share into one.
+    pub(crate) fn give_up(self, all: &mut Share<L>)
+        ensures parts { all.new.parts ≡ all.old.parts + 1 }
+        ensures within { all.new.parts ≤ L.parts }
+    {
+        let BareFrame {
+            number: _,
+            bytes: _,
+            share,
+        } = self;
+        all.merge(share);
+    }
+}
+
+/// The same bytes, with their number in the contract: what holds an array does not tell it.
+#[inline]
+fn as_page(bytes: &[u8; 4096]) -> &[u8; 4096]
+    ensures same { result.now ≡ bytes.now }
+    ensures whole { length bytes.now ≡ 4096 }
+{
+    bytes
+}

@@ -1,6 +1,5 @@
 -- Paging is invisible: after every event of a run, each process shows what its instructions compute on flat memory.
 use Rattle.std.specs.Prelude.{◌≡◌, ℕ, ◌^◌, ◌<◌, ◌++◌, ◌&&◌, ◌==◌, Bool, true, false, List, [], ◌∷◌, Some, Ok, slice_get, if◌then◌else◌}
-use Rattle.std.specs.FinMap.{get}
 use Rattle.clock_policy.specs.ClockPro.{question_of, answered}
 use Rattle.clock_policy.specs.Residents.{residents}
 use Rattle.clock_policy.specs.declared.answer.Bit.{Bit}
@@ -20,7 +19,7 @@ use Rattle.machine_core.specs.Opening.{MachineBegins}
 use Rattle.machine_sides.specs.Sides.{ProcessSideValue}
 use Rattle.machine_sides.specs.Sweeping.{bit_at}
 use Rattle.machine_sides.specs.Together.{residents_in}
-use Rattle.paged_memory.specs.Showing.{rights_of, is_given_up}
+use Rattle.paged_memory.specs.Showing.{mapped_page, rights_of, is_given_up}
 use Rattle.paged_memory.specs.Whole.{rights_in, shown_in}
 use Rattle.space_core.specs.StandsFor.{SpaceValue, own_ending}
 
@@ -96,8 +95,8 @@ module _ {S : Type 0} (held : S → List ℕ) where
     pub registers : space.running.harts ≡ flat.harts
     pub environment : space.running.environment ≡ flat.environment
     pub ending : own_ending space.running.ending ≡ flat.ending
-    pub mapped : (number : ℕ) → number < 2 ^ 20 → rights_in space.memory number ≡ rights_of (get flat.memory.pages number)
-    pub memory : (number : ℕ) → number < 2 ^ 20 → is_given_up space.memory number ≡ false → get flat.memory.pages number ≡ shown_in held space.memory number
+    pub mapped : (number : ℕ) → number < 2 ^ 20 → rights_in space.memory number ≡ rights_of (mapped_page flat.memory number)
+    pub memory : (number : ℕ) → number < 2 ^ 20 → is_given_up space.memory number ≡ false → mapped_page flat.memory number ≡ shown_in held space.memory number
     pub reserved : space.memory.reserved ≡ flat.memory.reserved
 
   -- the process of a number, in a machine that began with this start of it, shows what the steps of a run leave that ran

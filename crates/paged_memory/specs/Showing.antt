@@ -8,6 +8,10 @@ use Rattle.page_store.specs.PageValue.{PageValue, Place, Fresh, Resident, Leavin
 use Rattle.paged_memory.specs.Paged.{PagedValue, page_at}
 use Rattle.paged_memory.specs.Whole.{rights_in, shown_in}
 
+-- the page of a number of a flat memory, if one is mapped
+abbrev pub mapped_page : Memory → ℕ → Option Page
+mapped_page memory number = get memory.pages number
+
 -- the rights of a page, if one is mapped
 abbrev pub rights_of : Option Page → Option Rights
 rights_of page = option_map (λ (p : Page). p.rights) page
@@ -39,6 +43,6 @@ module _ {S : Type 0} where
   -- with slots that hold this: the same pages are mapped, with the same rights; each page that was not given up shows what the flat
   -- memory has; and the same words are reserved
   pub record ShowsFlat (held : S → List ℕ) (paged : PagedValue S) (memory : Memory) : Type 0 where
-    pub mapped : (number : ℕ) → number < 2 ^ 20 → rights_of (get memory.pages number) ≡ rights_in paged number
-    pub shown : (number : ℕ) → number < 2 ^ 20 → is_given_up paged number ≡ false → get memory.pages number ≡ shown_in held paged number
+    pub mapped : (number : ℕ) → number < 2 ^ 20 → rights_of (mapped_page memory number) ≡ rights_in paged number
+    pub shown : (number : ℕ) → number < 2 ^ 20 → is_given_up paged number ≡ false → mapped_page memory number ≡ shown_in held paged number
     pub reserved : memory.reserved ≡ paged.reserved

@@ -1,7 +1,6 @@
 -- Bytes of one page, and bytes of one page after another.
 use Rattle.std.proofs.Common.{◌≡◌, ◌≤◌, ◌<◌, ℕ, zero, suc, ◌+◌, ◌-◌, List, [], ◌∷◌, ◌++◌, length, map, take, drop, replicate, Option, Some, None, option_map, refl, sym, ap, ◌∙◌, arith}
 use Rattle.std.specs.Prelude.{min, slice_index}
-use Rattle.std.specs.FinMap.{get}
 use Rattle.std.proofs.lemmas.List.{drop_at, drop_more, drop-drop, length-append, length-drop, length-map, length-take, length-take-le, take_at}
 use Rattle.std.proofs.lemmas.Option.{none-some, same_Some}
 use Rattle.page_memory.specs.Pages.{Page}
@@ -10,6 +9,7 @@ use Rattle.page_memory.specs.Memory.{Memory, byte_at}
 use Rattle.page_memory.specs.Words.{page_number, page_offset}
 use Rattle.page_store.specs.Reading.{some_from}
 use Rattle.paged_memory.specs.Peeking.{bytes_of}
+use Rattle.paged_memory.specs.Showing.{mapped_page}
 use Rattle.debug_core.specs.Points.{bytes_from}
 
 -- an address further on in the same page
@@ -22,14 +22,14 @@ offset_on address j within = omega (arith, within)
 -- ---- of one page
 
 -- the bytes of a page, one by one
-by_page : (memory : Memory) (address : ℕ) (page : Page) → get memory.pages (page_number address) ≡ Some page → (count j : ℕ) → page_offset address + (j + count) ≤ 4096 → page_offset address + (j + count) ≤ length page.bytes
+by_page : (memory : Memory) (address : ℕ) (page : Page) → mapped_page memory (page_number address) ≡ Some page → (count j : ℕ) → page_offset address + (j + count) ≤ 4096 → page_offset address + (j + count) ≤ length page.bytes
     → some_from page.bytes (page_offset address + j) count ≡ bytes_from memory (address + j) count
 unfolding some_from bytes_from plain.byte_at
 by_page memory address page at zero j within size = refl
 by_page memory address page at (suc count) j within size =
     let offset : ℕ = page_offset address in
     let here : byte_at memory (address + j) ≡ Some (slice_index page.bytes (offset + j)) =
-    ap (λ n. option_map (λ (p : Page). slice_index p.bytes (page_offset (address + j))) (get memory.pages n)) (same_page address j (omega (arith, within)))
+    ap (λ n. option_map (λ (p : Page). slice_index p.bytes (page_offset (address + j))) (mapped_page memory n)) (same_page address j (omega (arith, within)))
     ∙ ap (option_map (λ (p : Page). slice_index p.bytes (page_offset (address + j)))) at
     ∙ ap (λ o. Some (slice_index page.bytes o)) (offset_on address j (omega (arith, within))) in
     let further : offset + j + 1 ≡ offset + (j + 1) = omega arith in
@@ -51,9 +51,9 @@ nothing memory address = refl
 pub in_page : (memory : Memory) (address count : ℕ) (bytes : List (Option ℕ)) → page_offset address + count ≤ 4096 → length bytes ≡ count → bytes_of memory address count ≡ Some bytes → bytes ≡ bytes_from memory address count
 in_page memory address zero [] within size is = nothing memory address
 in_page memory address zero (b ∷ bytes) within size is = absurd (omega (arith, size))
-in_page memory address (suc count) bytes within size is = by_get (get memory.pages (page_number address)) refl is
+in_page memory address (suc count) bytes within size is = by_get (mapped_page memory (page_number address)) refl is
   where
-    by_get : (o : Option Page) → get memory.pages (page_number address) ≡ o → option_map (λ (page : Page). some_from page.bytes (page_offset address) (suc count)) o ≡ Some bytes → bytes ≡ bytes_from memory address (suc count)
+    by_get : (o : Option Page) → mapped_page memory (page_number address) ≡ o → option_map (λ (page : Page). some_from page.bytes (page_offset address) (suc count)) o ≡ Some bytes → bytes ≡ bytes_from memory address (suc count)
     by_get None at none = absurd (none-some _ none)
     by_get (Some page) at some =
         let read : some_from page.bytes (page_offset address) (suc count) ≡ bytes = same_Some _ _ some in
@@ -77,8 +77,8 @@ no_page memory address count within missing = let first : address + 0 ≡ addres
 
     none_at : (j : ℕ) → page_offset address + j < 4096 → byte_at memory (address + j) ≡ None
     none_at j below =
-        ap (λ n. option_map (λ (page : Page). slice_index page.bytes (page_offset (address + j))) (get memory.pages n)) (same_page address j below)
-        ∙ nowhere (get memory.pages (page_number address)) (page_offset address) (page_offset (address + j)) missing
+        ap (λ n. option_map (λ (page : Page). slice_index page.bytes (page_offset (address + j))) (mapped_page memory n)) (same_page address j below)
+        ∙ nowhere (mapped_page memory (page_number address)) (page_offset address) (page_offset (address + j)) missing
 
     on : (count j : ℕ) → page_offset address + (j + count) ≤ 4096 → replicate count None ≡ bytes_from memory (address + j) count
     on zero j within = refl

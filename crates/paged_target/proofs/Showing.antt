@@ -1,13 +1,13 @@
 -- What the machine tells of its process is the flat process's.
 use Rattle.std.proofs.Common.{◌≡◌, ◌<◌, ◌≤◌, ℕ, Bool, true, false, List, [], length, Option, Some, None, IsSome, is_some, option_map, slice_get, slice_index, slice_index_or, unwrap_or, arith, refl, sym, ap, ◌∙◌, subst, true≢false, lt-ltb}
 use Rattle.std.specs.Prelude.{◌^◌, ◌∷◌, if◌then◌else◌, option_and_then}
-use Rattle.std.specs.FinMap.{get}
 use Rattle.page_memory.specs.Pages.{Page}
 use Rattle.page_memory.specs.Pages as plain
 use Rattle.page_memory.specs.Memory.{byte_at}
 use Rattle.page_memory.specs.Words.{page_number, page_offset}
 use Rattle.elf_image.specs.Image.{ImageContent}
 use Rattle.paged_memory.specs.PeekLaws.{rights_staged}
+use Rattle.paged_memory.specs.Showing.{mapped_page}
 use Rattle.paged_memory.specs.Whole.{stage_in}
 use Rattle.env_calls.specs.Environment.{any_live, most_harts, next_live}
 use Rattle.env_calls.specs.LiveLaws.{next_is_live, next_is_some}
@@ -130,16 +130,16 @@ module _ {S : Type 0} (held : S → List ℕ) where
     end_there e = let is = sym (ap (option_map (λ (side : ProcessSideValue S). side.space.running.ending)) shows.found) ∙ e in cc
 
     -- a page is mapped where the flat process has one
-    pub page_shown : (number : ℕ) → number < 2 ^ 20 → is_some (stage_in shows.side.space.memory number) ≡ is_some (get (flat_at core).memory.pages number)
+    pub page_shown : (number : ℕ) → number < 2 ^ 20 → is_some (stage_in shows.side.space.memory number) ≡ is_some (mapped_page (flat_at core).memory number)
     page_shown number small =
         sym (rights_staged shows.side.space.memory number)
         ∙ ap is_some (sym (shows.stands.shows.mapped number small))
-        ∙ map_some (λ (p : Page). p.rights) (get shows.stands.memory.pages number)
-        ∙ ap (λ (p : Process). is_some (get p.memory.pages number)) (sym shows.flat)
+        ∙ map_some (λ (p : Page). p.rights) (mapped_page shows.stands.memory number)
+        ∙ ap (λ (p : Process). is_some (mapped_page p.memory number)) (sym shows.flat)
 
-    pub byte_shown : (address : ℕ) → is_some (byte_at (flat_at core).memory address) ≡ is_some (get (flat_at core).memory.pages (page_number address))
+    pub byte_shown : (address : ℕ) → is_some (byte_at (flat_at core).memory address) ≡ is_some (mapped_page (flat_at core).memory (page_number address))
     unfolding plain.byte_at
-    byte_shown address = map_some (λ page. slice_index page.bytes (page_offset address)) (get (flat_at core).memory.pages (page_number address))
+    byte_shown address = map_some (λ page. slice_index page.bytes (page_offset address)) (mapped_page (flat_at core).memory (page_number address))
 
     -- whether a page is mapped at an address
     pub mapped_shown : (full : Bool) (address vpn : ℕ) → vpn ≡ page_number address → vpn < 2 ^ 20
@@ -148,7 +148,7 @@ module _ {S : Type 0} (held : S → List ℕ) where
         ap (λ o. is_some (option_and_then (λ (side : ProcessSideValue S). stage_at side.space vpn) o)) shows.found
         ∙ ap (λ b. is_some (if b then stage_in shows.side.space.memory vpn else None)) (lt-ltb vpn (2 ^ 20) small)
         ∙ page_shown vpn small
-        ∙ ap (λ n. is_some (get (flat_at core).memory.pages n)) at
+        ∙ ap (λ n. is_some (mapped_page (flat_at core).memory n)) at
         ∙ sym (byte_shown address)
         ∙ ap (λ memory. is_some (byte_at memory address)) (sym (full_memory full (flat_at core)))
 

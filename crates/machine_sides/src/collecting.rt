@@ -9,6 +9,7 @@ use crate::process_side::ProcessSide;
 use crate::returning::bring_back;
 use clock_policy::{Clock, Refusal};
 use frame_pool::Frame;
+use page_memory::PAGE_COUNT;
 use page_store::{Collected, PageState, SaveJob};
 use std::sync::ledger::Ledger;
 use swap_slots::{SlotPool, SwapSlot};
@@ -112,7 +113,7 @@ impl<L: Ledger, S: SwapSlot> ProcessSide<L, S> {
         ensures found { Finds vpn self.old self.new slots.old slots.new result }
         ensures memory { S.honest → memory_of S.content self.new.space.memory ≡ memory_of S.content self.old.space.memory }
     {
-        if vpn >= 1 << 20 {
+        if vpn >= PAGE_COUNT {
             return Collected::NotLeaving;
         }
         let found = self.space.collect(vpn, &mut None);

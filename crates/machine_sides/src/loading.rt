@@ -6,6 +6,7 @@ ghost use Rattle.pager_core.specs.Pager.{PagerState};
 
 use crate::admission::Admission;
 use crate::process_side::ProcessSide;
+use page_memory::PAGE_COUNT;
 use paged_memory::PageInFault;
 use std::sync::ledger::Ledger;
 use swap_slots::SwapSlot;
@@ -31,7 +32,7 @@ impl<L: Ledger, S: SwapSlot> ProcessSide<L, S> {
         ensures purged { self.new.purged ≡ self.old.purged }
     {
         let Admission { key, frame } = admission;
-        if key.vpn >= 1 << 20 {
+        if key.vpn >= PAGE_COUNT {
             return Err((Admission { key, frame }, PageInFault::NotAbsent));
         }
         if let Err((frame, fault)) = self.space.page_in(key.vpn, frame) {

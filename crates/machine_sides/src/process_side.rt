@@ -9,6 +9,7 @@ ghost use Rattle.space_core.specs.StandsFor.{StandsFor, OfFlat, own_ending};
 
 use clock_policy::Bit;
 use flat_machine::{End, KillCause, Schedule};
+use page_memory::PAGE_COUNT;
 use page_store::PageState;
 use rv_exec::Regs;
 use space_core::{Slice, SliceStop, Space};
@@ -48,7 +49,7 @@ impl<L: Ledger, S: SwapSlot> ProcessSide<L, S> {
     pub fn state(&self, vpn: u32) -> Option<PageState>
         ensures { result ≡ stage_at self.now.space vpn }
     {
-        if vpn >= 1 << 20 {
+        if vpn >= PAGE_COUNT {
             return None;
         }
         self.space.state(vpn)
@@ -90,7 +91,7 @@ impl<L: Ledger, S: SwapSlot> ProcessSide<L, S> {
         ensures read { ReadsBit result vpn self.old.space self.new.space }
         ensures purged { self.new.purged ≡ self.old.purged }
     {
-        if vpn >= 1 << 20 {
+        if vpn >= PAGE_COUNT {
             return Bit::Gone;
         }
         match self.space.test_and_clear(vpn) {

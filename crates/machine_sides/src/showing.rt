@@ -6,6 +6,7 @@ ghost use Rattle.machine_sides.specs.PageStatusAt.{status_at};
 use crate::pager_side::PagerSide;
 use crate::process_side::ProcessSide;
 use clock_policy::{Clock, Entry};
+use page_memory::PAGE_COUNT;
 use paged_memory::PageStatus;
 use pager_core::Hands;
 use std::alloc::AllocError;
@@ -17,7 +18,7 @@ impl<L: Ledger, S: SwapSlot> ProcessSide<L, S> {
     pub fn status(&self, vpn: u32) -> Option<PageStatus>
         ensures { result ≡ status_at self.now.space vpn }
     {
-        if vpn >= 1 << 20 {
+        if vpn >= PAGE_COUNT {
             return None;
         }
         self.space.status(vpn)

@@ -4,7 +4,7 @@ ghost use Rattle.paged_memory.specs.Paged.{flat_pages, memory_of};
 
 use crate::memory::PagedMemory;
 use frame_pool::Frame;
-use page_memory::PageMap;
+use page_memory::{PAGE_COUNT, PageMap};
 use page_store::{SaveRefusal, SavedJob, StoredPage};
 use std::sync::ledger::Ledger;
 use swap_slots::SwapSlot;
@@ -33,7 +33,7 @@ fn saved_page<L: Ledger, S: SwapSlot>(
     ensures memory { S.honest → flat_pages S.content pages.new ≡ flat_pages S.content pages.old }
 {
     let vpn = job.vpn();
-    if job.process() != process || vpn >= 1 << 20 {
+    if job.process() != process || vpn >= PAGE_COUNT {
         return Err(SaveRefusal::WrongPage(job));
     }
     let Some(place) = pages.place(vpn) else {

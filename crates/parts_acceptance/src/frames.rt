@@ -1,7 +1,7 @@
 //! Frames and their pool.
 ghost use Rattle.std.specs.Prelude.{◌≡◌, ◌+◌};
 
-use frame_pool::{FramePool, PoolError, gather};
+use frame_pool::{Frame, FramePool, PoolError, gather};
 use std::alloc::Global;
 use std::marker::Brand;
 use std::process::Abort;
@@ -38,6 +38,24 @@ fn take_all<L: Ledger>(rt: &impl Abort, alloc: Global, blank: Blank) -> Result<(
     Ok(())
 }
 
+/// A copy goes along with the frame's room, and comes back with it.
+fn copy_one<L: Ledger>(rt: &impl Abort, alloc: Global, blank: Blank) -> Result<(), Fail>
+    requires name { blank.name ≡ L.name }
+    requires parts { blank.parts ≡ L.parts }
+    requires one_each { L.parts ≡ 5 }
+{
+    let mut pool = FramePool::<L>::new(alloc, 4, blank)?;
+    let mut frame = pool.take().ok_or("no frame")?;
+    let number = frame.number();
+    frame.bytes_mut()[3] = 7;
+    let (bare, copy) = frame.copied();
+    assert_eq!(rt; (bare.number(), bare.bytes()[3], copy[3]), (number, 7, 7));
+    let frame = Frame::with_room(bare, copy);
+    assert_eq!(rt; (frame.bare().number(), frame.bytes()[3]), (number, 7));
+    assert!(rt; pool.give(frame).is_ok());
+    Ok(())
+}
+
 fn refused<L: Ledger>(alloc: Global, size: u32, blank: Blank) -> Option<PoolError>
     requires name { blank.name ≡ L.name }
     requires parts { blank.parts ≡ L.parts }
@@ -49,6 +67,11 @@ fn refused<L: Ledger>(alloc: Global, size: u32, blank: Blank) -> Option<PoolErro
 #[test]
 fn gives_each_frame_once(rt: HostRuntime) -> Result<(), Fail> {
     take_all::<Brand>(&rt, rt.alloc(), Blank::new(5))
+}
+
+#[test]
+fn copies_into_its_own_room(rt: HostRuntime) -> Result<(), Fail> {
+    copy_one::<Brand>(&rt, rt.alloc(), Blank::new(5))
 }
 
 #[test]

@@ -16,7 +16,7 @@ use Rattle.tlb_core.specs.declared.translation.Translation.{Translation}
 use Rattle.tlb_core.specs.Cache.{doomed}
 use Rattle.page_memory.specs.Pages.{Page}
 use Rattle.paged_memory.specs.Seen as seen
-use Rattle.paged_memory.specs.Seen.{Seen, entry_seen, entry_standing, rights_seen, is_changed, is_used}
+use Rattle.paged_memory.specs.Seen.{Seen, entry_seen, entry_standing, rights_seen, is_dirty, is_used}
 use Rattle.paged_memory.specs.Soundness.{IsMapped}
 use Rattle.paged_memory.specs.Calls.{accessed_at, accessed_standing, IsResident}
 use Rattle.paged_memory.specs.Paged.{standing_of, seen_of, page_at, seen_at, Holds}
@@ -133,7 +133,7 @@ module _ {S : Type 0} where
               backed = λ is_honest. subst (λ d. Backed held d page) (sym dirty_same) (holds.backed is_honest number page small resident.found);
             }
 
-        still : is_changed (seen_at pages number) e ≡ true → is_changed (seen_at pages number) (entry_at tables' number) ≡ true
+        still : is_dirty (seen_at pages number) e ≡ true → is_dirty (seen_at pages number) (entry_at tables' number) ≡ true
         still was =
             let there : entry_at tables' number ≡ unaccessed_entry e = entry_at_changed tables tables' (unaccessed_entry e) number small entries in
-            ap (λ s. is_changed s (entry_at tables' number)) seen_resident ∙ ap (λ (u : Entry). u.dirty) there ∙ dirty_same ∙ sym (ap (λ s. is_changed s e) seen_resident) ∙ was
+            ap (λ s. is_dirty s (entry_at tables' number)) seen_resident ∙ ap (λ (u : Entry). u.dirty) there ∙ dirty_same ∙ sym (ap (λ s. is_dirty s e) seen_resident) ∙ was

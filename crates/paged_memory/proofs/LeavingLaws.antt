@@ -12,7 +12,7 @@ use Rattle.sv32_table.specs.EntryAt.{entry_at, ChangesEntry, SameTables, unmappe
 use Rattle.sv32_table.specs.EntryLaws.{unmapped_entry-page_entry, dirty_of-page_entry}
 use Rattle.tlb_core.specs.declared.translation.Translation.{Translation}
 use Rattle.tlb_core.specs.Cache.{doomed}
-use Rattle.paged_memory.specs.Seen.{frame_seen, rights_seen, is_changed}
+use Rattle.paged_memory.specs.Seen.{frame_seen, rights_seen, is_dirty}
 use Rattle.paged_memory.specs.Calls.{IsResident, ChangesBy, Leaves}
 use Rattle.paged_memory.specs.Paged.{seen_of, page_at, seen_at, flat_page, flat_pages, Holds, ChangesPage}
 use Rattle.paged_memory.proofs.SoundnessLaws.{Stays}
@@ -100,7 +100,7 @@ module _ {S : Type 0} where
         record {
           frame = ap frame_seen seen_then ∙ sym (ap frame_seen (seen_resident number small holds resident));
           rights = ap rights_seen seen_then ∙ sym (ap rights_seen (seen_resident number small holds resident));
-          changed = λ was. ap (λ s. is_changed s (entry_at tables' number)) seen_then ∙ dirty_is ∙ sym (ap (λ s. is_changed s old_entry) (seen_resident number small holds resident)) ∙ was;
+          changed = λ was. ap (λ s. is_dirty s (entry_at tables' number)) seen_then ∙ dirty_is ∙ sym (ap (λ s. is_dirty s old_entry) (seen_resident number small holds resident)) ∙ was;
         }
 
     -- and everything goes together still, once its translations are doomed

@@ -12,7 +12,7 @@ use Rattle.sv32_table.specs.Entry.{Entry, page_entry}
 use Rattle.sv32_table.specs.EntryAt.{entry_at, has_table, ChangesEntry, SameTables}
 use Rattle.sv32_table.specs.EntryLaws.{dirty-page_entry}
 use Rattle.tlb_core.specs.declared.translation.Translation.{Translation}
-use Rattle.paged_memory.specs.Seen.{frame_seen, rights_seen, is_changed, is_used}
+use Rattle.paged_memory.specs.Seen.{frame_seen, rights_seen, is_dirty, is_used}
 use Rattle.paged_memory.specs.Leaving.{is_leaving, is_leaving_place, Returns, ReturnsAs}
 use Rattle.paged_memory.specs.Calls.{ChangesBy}
 use Rattle.paged_memory.specs.Paged.{seen_of, page_at, seen_at, flat_page, flat_pages, Holds, ChangesPage}
@@ -105,7 +105,7 @@ module _ {S : Type 0} where
           record {
             frame = ap frame_seen seen_now ∙ sym (ap frame_seen seen_then);
             rights = ap rights_seen seen_now ∙ sym (ap rights_seen seen_then);
-            changed = λ was. ap (λ s. is_changed s (entry_at tables' number)) seen_now ∙ ap (λ (e : Entry). e.dirty) (entry_at_changed tables tables' entry number small entries) ∙ dirty_is ∙ sym (ap (λ s. is_changed s (entry_at tables number)) seen_then) ∙ was;
+            changed = λ was. ap (λ s. is_dirty s (entry_at tables' number)) seen_now ∙ ap (λ (e : Entry). e.dirty) (entry_at_changed tables tables' entry number small entries) ∙ dirty_is ∙ sym (ap (λ s. is_dirty s (entry_at tables number)) seen_then) ∙ was;
           }
 
       -- everything goes together still: the translations of it that caches hold are to be dropped

@@ -20,7 +20,7 @@ use Rattle.sv32_table.specs.EntryLaws.{is_store, walked_entry-page_entry, dirty_
 use Rattle.tlb_core.specs.declared.translation.Translation.{Translation}
 use Rattle.tlb_core.specs.Cache.{filled, translation_of, is_of_page}
 use Rattle.tlb_core.specs.CacheLaws.{All-filled, All-none, none-All}
-use Rattle.paged_memory.specs.Seen.{Seen, frame_seen, rights_seen, is_changed, is_used}
+use Rattle.paged_memory.specs.Seen.{Seen, frame_seen, rights_seen, is_dirty, is_used}
 use Rattle.paged_memory.specs.Soundness.{IsSound}
 use Rattle.paged_memory.specs.Calls.{IsResident}
 use Rattle.paged_memory.specs.Access.{cache_of, is_resident, is_doomed, HasPage, Reaches, Locates, KeepsTranslations}
@@ -100,10 +100,10 @@ module _ {S : Type 0} {held : S → List ℕ} {honest : Type 0} {pages : List (�
           backed = λ is_honest. subst (λ d. Backed held d page) (sym walked_dirty) (backed_raised held resident.origin resident.frame resident.slot (is_store access) old_entry.dirty (holds.backed is_honest number page small resident.found));
         }
 
-    pub changed_on : is_changed (seen_at pages number) old_entry ≡ true → is_changed (seen_at pages number) (entry_at tables' number) ≡ true
+    pub changed_on : is_dirty (seen_at pages number) old_entry ≡ true → is_dirty (seen_at pages number) (entry_at tables' number) ≡ true
     changed_on was =
-        ap (λ s. is_changed s (entry_at tables' number)) (seen_resident number small holds resident) ∙ dirty_now
-        ∙ or_more (is_store access) old_entry.dirty (sym (ap (λ s. is_changed s old_entry) (seen_resident number small holds resident)) ∙ was)
+        ap (λ s. is_dirty s (entry_at tables' number)) (seen_resident number small holds resident) ∙ dirty_now
+        ∙ or_more (is_store access) old_entry.dirty (sym (ap (λ s. is_dirty s old_entry) (seen_resident number small holds resident)) ∙ was)
 
     -- its use is marked
     pub used_now : is_used (seen_at pages number) (entry_at tables' number) ≡ true
@@ -125,7 +125,7 @@ module _ {S : Type 0} {held : S → List ℕ} {honest : Type 0} {pages : List (�
           small = small;
           frame = ap frame_seen (seen_resident number small holds resident);
           rights = ap rights_seen (seen_resident number small holds resident);
-          changed = λ dirty. ap (λ s. is_changed s (entry_at tables' number)) (seen_resident number small holds resident) ∙ dirty_now ∙ sym told_dirty ∙ dirty;
+          changed = λ dirty. ap (λ s. is_dirty s (entry_at tables' number)) (seen_resident number small holds resident) ∙ dirty_now ∙ sym told_dirty ∙ dirty;
           used = λ _. used_now;
         }
 
@@ -185,7 +185,7 @@ module _ {S : Type 0} {held : S → List ℕ} {honest : Type 0} {pages : List (�
             harts = length-set caches hart (filled (translation place) (slice_index_or caches hart []));
             others = λ h apart. get_or-set_other caches hart h (filled (translation place) (slice_index_or caches hart [])) [] apart;
             used = rises is_used (λ _. used_now);
-            changed = rises is_changed changed_on;
+            changed = rises is_dirty changed_on;
             held = held_before;
             doomed = doomed_before;
           }

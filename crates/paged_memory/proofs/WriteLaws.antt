@@ -15,16 +15,17 @@ use Rattle.page_memory.specs.declared.words.Access.TheVariants.{Store}
 use Rattle.page_memory.specs.Entries.{with_value}
 use Rattle.page_memory.specs.EntriesLaws.{place_of-with_value}
 use Rattle.page_memory.specs.StandsForLaws.{stored-changed, copied-changed}
-use Rattle.page_store.specs.PageValue.{PageValue, Place, Fresh, Resident, Leaving, Saving, Away, Purged, content, shown, writable, frame_of, Backed, BackedAt, is_unsaved}
+use Rattle.page_store.specs.PageValue.{PageValue, Place, Fresh, Resident, Leaving, Saving, Away, Purged, content, shown, writable, frame_of, slot_of, Backed, changed, is_unsaved}
 use Rattle.page_store.specs.Lending.{rewritten, with_bytes}
 use Rattle.sv32_table.specs.Entry.{Entry}
 use Rattle.sv32_table.specs.EntryAt.{entry_at}
 use Rattle.tlb_core.specs.declared.translation.Translation.{Translation}
-use Rattle.paged_memory.specs.Seen.{frame_seen, rights_seen, is_changed, is_used}
+use Rattle.paged_memory.specs.Seen.{frame_seen, rights_seen, is_dirty, is_used}
 use Rattle.paged_memory.specs.Soundness.{IsMapped}
 use Rattle.paged_memory.specs.Access.{Reaches, KeepsBare, bare_at}
 use Rattle.paged_memory.specs.Paged.{standing_of, seen_of, page_at, seen_at, flat_page, flat_pages, Holds, ChangesPage}
 use Rattle.paged_memory.specs.HartMemoryLaws.{seen_bare}
+use Rattle.paged_memory.specs.SeenLaws.{changed_as}
 use Rattle.paged_memory.proofs.ReadLaws.{usable_reached}
 use Rattle.paged_memory.proofs.PagedLaws.{Change, get-page_at, page_at-place, changes_at_place, changes_no_entry, Holds-held}
 
@@ -62,17 +63,20 @@ module _ {S : Type 0} where
   shown_rewritten held origin (Away slot) bytes is = cc
   shown_rewritten held origin Purged bytes is = cc
 
-  -- a page that counts as changed may be written
-  backed_rewritten : (held : S → List ℕ) (page : PageValue S) (e : Entry) (bytes : List ℕ) → is_some (writable page.place) ≡ true → is_changed (Some (seen_of page)) e ≡ true → Backed held e.dirty (with_bytes page bytes)
-  backed_rewritten held page e bytes is changed_is = by_place page.place is changed_is
-    where
-      by_place : (place : Place S) → is_some (writable place) ≡ true → is_changed (Some (record { rights = page.origin.rights; standing = standing_of place })) e ≡ true → BackedAt held page.origin.bytes e.dirty (rewritten bytes place)
-      by_place Fresh is changed_is = cc
-      by_place (Resident frame slot) is changed_is = λ unchanged. let clash : true ≡ false = sym (ap (λ b. b || is_unsaved slot) changed_is) ∙ unchanged in cc
-      by_place (Leaving frame slot mark) is changed_is = λ unchanged. let clash : true ≡ false = sym (ap (λ b. b || is_unsaved slot) changed_is) ∙ unchanged in cc
-      by_place (Saving frame) is changed_is = cc
-      by_place (Away slot) is changed_is = cc
-      by_place Purged is changed_is = cc
+  changed_rewritten : (dirty : Bool) (place : Place S) (bytes : List ℕ) → changed dirty (rewritten bytes place) ≡ changed dirty place
+  changed_rewritten dirty Fresh bytes = refl
+  changed_rewritten dirty (Resident frame slot) bytes = refl
+  changed_rewritten dirty (Leaving frame slot mark) bytes = refl
+  changed_rewritten dirty (Saving frame) bytes = refl
+  changed_rewritten dirty (Away slot) bytes = refl
+  changed_rewritten dirty Purged bytes = refl
+
+  -- a page that is marked as dirty may be written
+  backed_rewritten : (held : S → List ℕ) (page : PageValue S) (e : Entry) (bytes : List ℕ) → is_some (writable page.place) ≡ true → is_dirty (Some (seen_of page)) e ≡ true → Backed held e.dirty (with_bytes page bytes)
+  backed_rewritten held page e bytes is dirty unchanged =
+      let clash : true ≡ false =
+      sym (ap (λ b. b || is_unsaved (slot_of page.place)) dirty) ∙ sym (changed_as page e is) ∙ sym (changed_rewritten e.dirty page.place bytes) ∙ unchanged in
+      cc
 
   module _ {held : S → List ℕ} {honest : Type 0} {pages : List (ℕ × PageValue S)} {tables : List (List ℕ)} {caches : List (List Translation)} (number place : ℕ) (small : number < 2 ^ 20) (holds : Holds held honest pages tables caches) (reached : Reaches pages tables Store number place) (bytes : List ℕ) where
     abbrev written : PageValue S
@@ -122,7 +126,7 @@ module _ {S : Type 0} where
     pub holds_written : Holds held honest pages_now tables caches
     holds_written =
         Holds-held change caches holds
-        (record { frame = ap frame_seen (seen_stays number); rights = ap rights_seen (seen_stays number); changed = λ was. ap (λ s. is_changed s (entry_at tables number)) (seen_stays number) ∙ was })
+        (record { frame = ap frame_seen (seen_stays number); rights = ap rights_seen (seen_stays number); changed = λ was. ap (λ s. is_dirty s (entry_at tables number)) (seen_stays number) ∙ was })
         (λ was. ap (λ s. is_used s (entry_at tables number)) (seen_stays number) ∙ was)
 
   -- the memory that is left by a store, and by a copy

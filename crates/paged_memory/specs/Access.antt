@@ -18,7 +18,7 @@ use Rattle.page_store.specs.Lending.{with_bytes}
 use Rattle.sv32_table.specs.EntryAt.{entry_at, ChangesEntry, walked_entry}
 use Rattle.tlb_core.specs.declared.translation.Translation.{Translation}
 use Rattle.tlb_core.specs.Cache.{translation_of, is_of_page, Hits}
-use Rattle.paged_memory.specs.Seen.{Seen, Standing, Resident, Leaving, Elsewhere, is_used, is_changed}
+use Rattle.paged_memory.specs.Seen.{Seen, Standing, Resident, Leaving, Elsewhere, is_used, is_dirty}
 use Rattle.paged_memory.specs.Paged.{seen_of, page_at, seen_at}
 
 abbrev pub is_resident_standing : Standing → Bool
@@ -36,14 +36,14 @@ cache_of caches hart = slice_index_or caches hart []
 
 module _ {S : Type 0} where
   -- a page that an access may use at its place: it has the right, and its frame may be read and written; for a store it
-  -- counts as changed
+  -- is marked as dirty
   pub record Reaches (pages : List (ℕ × PageValue S)) (tables : List (List ℕ)) (access : Access) (number place : ℕ) : Type 0 where
     pub page : PageValue S
     pub at : place_of number pages ≡ Some place
     pub value : value_at place pages ≡ Some page
     pub allowed : may access page.origin.rights ≡ true
     pub framed : is_some (writable page.place) ≡ true
-    pub changed : access ≡ Store → is_changed (Some (seen_of page)) (entry_at tables number) ≡ true
+    pub changed : access ≡ Store → is_dirty (Some (seen_of page)) (entry_at tables number) ≡ true
 
   -- the pages that a hart can use without that one is brought in: those that are resident, and those that its cache holds
   abbrev pub HasPage : List (ℕ × PageValue S) → List Translation → ℕ → Type 0
@@ -106,7 +106,7 @@ pub record KeepsTranslations {S : Type 0} (pages : List (ℕ × PageValue S)) (h
   pub harts : length caches' ≡ length caches
   pub others : (h : ℕ) → h ≢ hart → cache_of caches' h ≡ cache_of caches h
   pub used : (page : ℕ) → page < 2 ^ 20 → is_used (seen_at pages page) (entry_at tables page) ≡ true → is_used (seen_at pages page) (entry_at tables' page) ≡ true
-  pub changed : (page : ℕ) → page < 2 ^ 20 → is_changed (seen_at pages page) (entry_at tables page) ≡ true → is_changed (seen_at pages page) (entry_at tables' page) ≡ true
+  pub changed : (page : ℕ) → page < 2 ^ 20 → is_dirty (seen_at pages page) (entry_at tables page) ≡ true → is_dirty (seen_at pages page) (entry_at tables' page) ≡ true
   pub held : (page : ℕ) → is_some (translation_of page (cache_of caches' hart)) ≡ true → HasPage pages (cache_of caches hart) page
   pub doomed : (page : ℕ) → is_doomed page (cache_of caches' hart) ≡ true → is_doomed page (cache_of caches hart) ≡ true
 

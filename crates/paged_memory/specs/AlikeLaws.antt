@@ -154,14 +154,6 @@ module _ {S : Type 0} where
       by_places (Away c) place' at at' is placed = cc
       by_places Purged place' at at' is placed = cc
 
-  saved_place : (place : Place S) → is_saving_stage (Some (page_state_of place)) ≡ true → is_saving_place place ≡ true
-  saved_place Fresh h = cc
-  saved_place (Resident frame slot) h = cc
-  saved_place (Leaving frame slot mark) h = cc
-  saved_place (Saving frame) h = refl
-  saved_place (Away slot) h = cc
-  saved_place Purged h = cc
-
   kept_same : (old new : PagedValue S) → KeepsPages old.pages new.pages → (number : ℕ) → is_saving_stage (stage_in old number) ≡ true → SamePage old new number
   kept_same old new keeps number is = by_pages (page_at old.pages number) (page_at new.pages number) refl refl is
     where
@@ -172,7 +164,7 @@ module _ {S : Type 0} where
       by_pages (Some page) (Some page') was now is =
           let e : Some (with_bytes page' []) ≡ Some (with_bytes page []) = sym (ap (option_map (λ (p : PageValue S). with_bytes p [])) now) ∙ keeps.bare number (ap is_some was) ∙ ap (option_map (λ (p : PageValue S). with_bytes p [])) was in
           let w : with_bytes page' [] ≡ with_bytes page [] = cc in
-          now ∙ ap {B = Option (PageValue S)} (λ p. Some p) (saved_still page page' (saved_place page.place is) w) ∙ sym was
+          now ∙ ap {B = Option (PageValue S)} (λ p. Some p) (saved_still page page' is w) ∙ sym was
 
   pub kept_alike : (old new : PagedValue S) → new.process ≡ old.process → KeepsPages old.pages new.pages → CountsAlike old new
   kept_alike old new process keeps = record {

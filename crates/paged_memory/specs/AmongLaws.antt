@@ -35,20 +35,10 @@ module _ {S : Type 0} where
   -- ---- a page is where its stage tells
 
   resident_stage : (place : Place S) → is_resident_stage (Some (page_state_of place)) ≡ is_resident_place place
-  resident_stage Fresh = refl
-  resident_stage (Resident frame slot) = refl
-  resident_stage (Leaving frame slot mark) = refl
-  resident_stage (Saving frame) = refl
-  resident_stage (Away slot) = refl
-  resident_stage Purged = refl
+  resident_stage place = refl
 
   saving_stage : (place : Place S) → is_saving_stage (Some (page_state_of place)) ≡ is_saving_place place
-  saving_stage Fresh = refl
-  saving_stage (Resident frame slot) = refl
-  saving_stage (Leaving frame slot mark) = refl
-  saving_stage (Saving frame) = refl
-  saving_stage (Away slot) = refl
-  saving_stage Purged = refl
+  saving_stage place = refl
 
   frame_stage : (place : Place S) → has_frame_stage (Some (page_state_of place)) ≡ frame_passes (λ _. true) (frame_of place)
   frame_stage Fresh = refl

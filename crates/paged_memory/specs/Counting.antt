@@ -3,8 +3,9 @@ use Rattle.std.specs.Prelude.{ℕ, zero, suc, ◌+◌, ◌^◌, Bool, true, fals
 use Rattle.frame_pool.specs.FrameValue.{FrameValue}
 use Rattle.page_store.specs.declared.state.Keeping.{Keeping}
 use Rattle.page_store.specs.declared.state.Keeping.TheVariants.{NoSlot, Unsaved, Saved}
-use Rattle.page_store.specs.PageValue.{PageValue, Place, Fresh, Resident, Leaving, Saving, Away, Purged, frame_of, slot_of}
+use Rattle.page_store.specs.PageValue.{PageValue, Place, page_state_of, frame_of, slot_of}
 use Rattle.paged_memory.specs.Paged.{page_at}
+use Rattle.paged_memory.specs.Stages.{is_resident_stage, is_saving_stage}
 
 abbrev pub frame_passes : (ℕ → Bool) → Option FrameValue → Bool
 frame_passes test (Some frame) = test frame.number
@@ -24,21 +25,12 @@ module _ {S : Type 0} where
   unfoldable pub pages_where : (ℕ → PageValue S → Bool) → List (ℕ × PageValue S) → ℕ
   pages_where test pages = pages_below test pages (2 ^ 20)
 
+  -- whether a place is that of a resident page, and of one that is being saved
   abbrev pub is_resident_place : Place S → Bool
-  is_resident_place Fresh = false
-  is_resident_place (Resident frame slot) = true
-  is_resident_place (Leaving frame slot mark) = false
-  is_resident_place (Saving frame) = false
-  is_resident_place (Away slot) = false
-  is_resident_place Purged = false
+  is_resident_place place = is_resident_stage (Some (page_state_of place))
 
   abbrev pub is_saving_place : Place S → Bool
-  is_saving_place Fresh = false
-  is_saving_place (Resident frame slot) = false
-  is_saving_place (Leaving frame slot mark) = false
-  is_saving_place (Saving frame) = true
-  is_saving_place (Away slot) = false
-  is_saving_place Purged = false
+  is_saving_place place = is_saving_stage (Some (page_state_of place))
 
   abbrev pub is_kept : Keeping S → Bool
   is_kept NoSlot = false

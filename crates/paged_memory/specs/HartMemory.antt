@@ -5,7 +5,7 @@ use Rattle.page_store.specs.PageValue.{PageValue}
 use Rattle.sv32_table.specs.EntryAt.{entry_at}
 use Rattle.tlb_core.specs.declared.translation.Translation.{Translation}
 use Rattle.tlb_core.specs.Cache.{translation_of}
-use Rattle.paged_memory.specs.Seen.{is_used, is_changed}
+use Rattle.paged_memory.specs.Seen.{is_used, is_dirty}
 use Rattle.paged_memory.specs.Paged.{PagedValue, page_at, seen_at}
 use Rattle.paged_memory.specs.Access.{HasPage, bare_at, cache_of, is_doomed}
 use Rattle.paged_memory.specs.Growth.{fresh_zero_page}
@@ -24,7 +24,7 @@ pub record KeepsAccess {S : Type 0} (hart : ℕ) (old new : PagedValue S) : Type
   pub harts : length new.caches ≡ length old.caches
   pub others : (h : ℕ) → h ≢ hart → cache_of new.caches h ≡ cache_of old.caches h
   pub used : (page : ℕ) → page < 2 ^ 20 → is_used (seen_at old.pages page) (entry_at old.tables page) ≡ true → is_used (seen_at new.pages page) (entry_at new.tables page) ≡ true
-  pub changed : (page : ℕ) → page < 2 ^ 20 → is_changed (seen_at old.pages page) (entry_at old.tables page) ≡ true → is_changed (seen_at new.pages page) (entry_at new.tables page) ≡ true
+  pub changed : (page : ℕ) → page < 2 ^ 20 → is_dirty (seen_at old.pages page) (entry_at old.tables page) ≡ true → is_dirty (seen_at new.pages page) (entry_at new.tables page) ≡ true
   pub held : (page : ℕ) → is_some (translation_of page (cache_of new.caches hart)) ≡ true → HasPage old.pages (cache_of old.caches hart) page
   pub doomed : (page : ℕ) → is_doomed page (cache_of new.caches hart) ≡ true → is_doomed page (cache_of old.caches hart) ≡ true
 

@@ -7,7 +7,7 @@ use Rattle.page_store.specs.Lending.{with_bytes, rewritten}
 use Rattle.sv32_table.specs.EntryAt.{entry_at}
 use Rattle.tlb_core.specs.declared.translation.Translation.{Translation}
 use Rattle.tlb_core.specs.Cache.{translation_of}
-use Rattle.paged_memory.specs.Seen.{Seen, is_used, is_changed}
+use Rattle.paged_memory.specs.Seen.{Seen, is_used, is_dirty}
 use Rattle.paged_memory.specs.Paged.{PagedValue, standing_of, seen_of, page_at, seen_at}
 use Rattle.paged_memory.specs.Access.{HasPage, LacksPage, KeepsBare, KeepsTranslations, is_resident, is_doomed}
 use Rattle.paged_memory.specs.Growth.{fresh_zero_page}
@@ -152,7 +152,7 @@ module _ {S : Type 0} where
         harts = kept.harts;
         others = kept.others;
         used = λ page small is. ap (λ s. is_used s (entry_at new.tables page)) (seen_all page) ∙ kept.used page small is;
-        changed = λ page small is. ap (λ s. is_changed s (entry_at new.tables page)) (seen_all page) ∙ kept.changed page small is;
+        changed = λ page small is. ap (λ s. is_dirty s (entry_at new.tables page)) (seen_all page) ∙ kept.changed page small is;
         held = kept.held;
         doomed = kept.doomed;
       }
@@ -169,8 +169,8 @@ module _ {S : Type 0} where
     others = λ h other. ap (λ c. slice_index_or c h []) caches;
     used = λ page small is. ap (λ t. is_used (seen_at new.pages page) (entry_at t page)) tables
         ∙ by_seen (λ s s'. is_used s (entry_at old.tables page) ≡ true → is_used s' (entry_at old.tables page) ≡ true) old.pages new.pages pages page (λ s same. same) (λ no. cc) is;
-    changed = λ page small is. ap (λ t. is_changed (seen_at new.pages page) (entry_at t page)) tables
-        ∙ by_seen (λ s s'. is_changed s (entry_at old.tables page) ≡ true → is_changed s' (entry_at old.tables page) ≡ true) old.pages new.pages pages page (λ s same. same) (λ no. refl) is;
+    changed = λ page small is. ap (λ t. is_dirty (seen_at new.pages page) (entry_at t page)) tables
+        ∙ by_seen (λ s s'. is_dirty s (entry_at old.tables page) ≡ true → is_dirty s' (entry_at old.tables page) ≡ true) old.pages new.pages pages page (λ s same. same) (λ no. cc) is;
     held = λ page is. inr (subst (λ c. is_some (translation_of page (slice_index_or c hart [])) ≡ true) caches is);
     doomed = λ page is. subst (λ c. is_doomed page (slice_index_or c hart []) ≡ true) caches is;
   }

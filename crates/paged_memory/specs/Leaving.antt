@@ -1,5 +1,5 @@
 -- How a page that is leaving goes on: it is looked at, its save comes back, or it is mapped again.
-use Rattle.std.specs.Prelude.{◌≡◌, ℕ, ◌^◌, ◌<◌, Bool, true, false, List, Option, Some, None, IsTrue}
+use Rattle.std.specs.Prelude.{◌≡◌, ℕ, ◌^◌, ◌<◌, Bool, true, false, List, Option, Some, None, option_map, IsTrue}
 use Rattle.frame_pool.specs.FrameValue.{FrameValue}
 use Rattle.page_memory.specs.declared.rights.Rights.{Rights}
 use Rattle.page_store.specs.JobValue.{SavedValue}
@@ -9,12 +9,13 @@ use Rattle.page_store.specs.declared.answer.Collected.TheVariants.{NotLeaving, N
 use Rattle.page_store.specs.declared.answer.SaveRefusal.{SaveRefusal}
 use Rattle.page_store.specs.declared.answer.SaveRefusal.TheVariants.{WrongPage, Mismatch, Device}
 use Rattle.page_store.specs.Moves.{collected, copy_of, IfSaving, RefusesSave}
-use Rattle.page_store.specs.PageValue.{PageValue, Place, Saving, Away}
+use Rattle.page_store.specs.PageValue.{PageValue, Place, Saving, Away, page_state_of}
 use Rattle.page_store.specs.PageValue as place
 use Rattle.sv32_table.specs.Entry.{page_entry}
 use Rattle.sv32_table.specs.EntryAt.{ChangesEntry}
 use Rattle.paged_memory.specs.Paged.{page_at}
 use Rattle.paged_memory.specs.Calls.{ChangesBy}
+use Rattle.paged_memory.specs.Stages.{is_leaving_stage}
 
 -- whether a page was let go: to its backing, or to be saved
 abbrev pub lets_go : {L : Type 0} {S : Type 0} → Collected L S → Bool
@@ -64,17 +65,11 @@ module _ {S : Type 0} where
       ChangesSaved process job (λ page page'. (page'.origin ≡ page.origin) × RefusesSave job page.place page'.place Device) old new
 
   abbrev pub is_leaving_place : Place S → Bool
-  is_leaving_place place.Fresh = false
-  is_leaving_place (place.Resident frame slot) = false
-  is_leaving_place (place.Leaving frame slot mark) = true
-  is_leaving_place (place.Saving frame) = false
-  is_leaving_place (place.Away slot) = false
-  is_leaving_place place.Purged = false
+  is_leaving_place at = is_leaving_stage (Some (page_state_of at))
 
   -- whether a page is leaving
   abbrev pub is_leaving : Option (PageValue S) → Bool
-  is_leaving (Some page) = is_leaving_place page.place
-  is_leaving None = false
+  is_leaving page = is_leaving_stage (option_map (λ (p : PageValue S). page_state_of p.place) page)
 
   -- a page that is leaving is resident again, with what it keeps
   pub record Returns (mark : Bool) (page page' : PageValue S) : Type 0 where

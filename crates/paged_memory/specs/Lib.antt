@@ -10,6 +10,7 @@ pub mod CountingLaws
 pub mod FewerLaws
 pub mod HartMemory
 pub mod HartMemoryLaws
+pub mod SeenLaws
 pub mod Filling
 pub mod Peeking
 pub mod GivingBack

@@ -2,7 +2,7 @@
 use Rattle.std.proofs.Common.{◌≡◌, ℕ, ◌+◌, ◌^◌, ◌<◌, Bool, true, false, ◌&&◌, cond, Some, option_map, option_and_then, inl, inr, refl, sym, ap, ◌∙◌, arith}
 use Rattle.std.proofs.lemmas.Bool.Decides.{eqb_tells}
 use Rattle.page_store.specs.Kept.{kept}
-use Rattle.page_store.specs.PageValue.{PageValue, Place, Fresh, Resident, Leaving, Saving, Away, Purged, frame_of, slot_of, page_state_of}
+use Rattle.page_store.specs.PageValue.{PageValue, Place, frame_of, slot_of, page_state_of}
 use Rattle.paged_memory.specs.AlikeLaws.{SavingsStay, same_stay, same_rights}
 use Rattle.paged_memory.specs.Calls.{ChangesBy}
 use Rattle.paged_memory.specs.Counting.{is_resident_place, is_saving_place, frame_passes, is_kept}
@@ -18,14 +18,6 @@ module _ {S : Type 0} where
     pub process : new.process ≡ old.process
     pub rights : (number : ℕ) → rights_in new number ≡ rights_in old number
     pub others : (number : ℕ) → (number ≡ vpn → ⊥) → SamePage old new number
-
-  stage_saved : (place : Place S) → is_saving_stage (Some (page_state_of place)) ≡ is_saving_place place
-  stage_saved Fresh = refl
-  stage_saved (Resident frame slot) = refl
-  stage_saved (Leaving frame slot mark) = refl
-  stage_saved (Saving frame) = refl
-  stage_saved (Away slot) = refl
-  stage_saved Purged = refl
 
   module _ (by : PageValue S → PageValue S → Type 0) (old new : PagedValue S) (vpn : ℕ) (told : ChangesBy by old.pages new.pages vpn) where
     pub moved_others : (number : ℕ) → (number ≡ vpn → ⊥) → SamePage old new number
@@ -84,7 +76,7 @@ module _ {S : Type 0} where
           moved_others number
           (λ here.
           let yes : is_saving_stage (stage_in old vpn) ≡ true = ap (λ n. is_saving_stage (stage_in old n)) (sym here) ∙ saving in
-          let no : is_saving_stage (stage_in old vpn) ≡ false = ap is_saving_stage stage_before ∙ stage_saved from ∙ apart in
+          let no : is_saving_stage (stage_in old vpn) ≡ false = ap is_saving_stage stage_before ∙ apart in
           cc))
 
       -- where it counts by its place, it counts so before and after

@@ -1,5 +1,5 @@
 -- What translation sees of a page: its rights, and which frame it holds.
-use Rattle.std.specs.Prelude.{ℕ, Bool, true, false, Option, Some, None}
+use Rattle.std.specs.Prelude.{ℕ, Bool, false, Option, Some, None}
 use Rattle.page_memory.specs.declared.rights.Rights.{Rights}
 use Rattle.sv32_table.specs.Entry.{Entry, blank, page_entry}
 
@@ -38,15 +38,15 @@ abbrev pub rights_seen : Option Seen → Option Rights
 rights_seen (Some seen) = Some seen.rights
 rights_seen None = None
 
--- whether a page counts as changed: its D while it is resident, the mark while it leaves, and else always
-abbrev pub changed_standing : Standing → Entry → Bool
-changed_standing (Resident frame) e = e.dirty
-changed_standing (Leaving frame mark) e = mark
-changed_standing Elsewhere e = true
+-- whether a page is marked as dirty: its D is set while it is resident, or the mark that it took along while it leaves; elsewhere it has neither
+abbrev pub dirty_standing : Standing → Entry → Bool
+dirty_standing (Resident frame) e = e.dirty
+dirty_standing (Leaving frame mark) e = mark
+dirty_standing Elsewhere e = false
 
-abbrev pub is_changed : Option Seen → Entry → Bool
-is_changed (Some seen) e = changed_standing seen.standing e
-is_changed None e = true
+abbrev pub is_dirty : Option Seen → Entry → Bool
+is_dirty (Some seen) e = dirty_standing seen.standing e
+is_dirty None e = false
 
 -- whether a page's use is marked: it is resident, and its A is set
 abbrev pub used_standing : Standing → Entry → Bool

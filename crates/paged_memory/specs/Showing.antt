@@ -1,11 +1,12 @@
 -- That a process's memory shows a flat memory, page by page.
-use Rattle.std.specs.Prelude.{◌≡◌, ℕ, ◌^◌, ◌<◌, Bool, true, false, Option, Some, None, option_map, List}
+use Rattle.std.specs.Prelude.{◌≡◌, ℕ, ◌^◌, ◌<◌, Bool, false, Option, Some, option_map, List}
 use Rattle.std.specs.FinMap.{get}
 use Rattle.page_memory.specs.Memory.{Memory}
 use Rattle.page_memory.specs.Pages.{Page}
 use Rattle.page_memory.specs.declared.rights.Rights.{Rights}
-use Rattle.page_store.specs.PageValue.{PageValue, Place, Fresh, Resident, Leaving, Saving, Away, Purged}
+use Rattle.page_store.specs.PageValue.{PageValue, Place, page_state_of}
 use Rattle.paged_memory.specs.Paged.{PagedValue, page_at}
+use Rattle.paged_memory.specs.Stages.{is_purged_stage}
 use Rattle.paged_memory.specs.Whole.{rights_in, shown_in}
 
 -- the page of a number of a flat memory, if one is mapped
@@ -21,17 +22,11 @@ module _ {S : Type 0} where
   paged_rights page = option_map (λ (p : PageValue S). p.origin.rights) page
 
   abbrev pub is_purged_place : Place S → Bool
-  is_purged_place Fresh = false
-  is_purged_place (Resident frame slot) = false
-  is_purged_place (Leaving frame slot mark) = false
-  is_purged_place (Saving frame) = false
-  is_purged_place (Away slot) = false
-  is_purged_place Purged = true
+  is_purged_place place = is_purged_stage (Some (page_state_of place))
 
   -- whether a page was given up
   abbrev pub is_purged : Option (PageValue S) → Bool
-  is_purged (Some page) = is_purged_place page.place
-  is_purged None = false
+  is_purged page = is_purged_stage (option_map (λ (p : PageValue S). page_state_of p.place) page)
 
   abbrev pub is_given_up : PagedValue S → ℕ → Bool
   is_given_up memory number = is_purged (page_at memory.pages number)

@@ -43,6 +43,16 @@ is_saving_stage (Some Saving) = true
 is_saving_stage (Some Away) = false
 is_saving_stage (Some Purged) = false
 
+-- whether it was given up
+abbrev pub is_purged_stage : Option PageState → Bool
+is_purged_stage None = false
+is_purged_stage (Some Fresh) = false
+is_purged_stage (Some Resident) = false
+is_purged_stage (Some Leaving) = false
+is_purged_stage (Some Saving) = false
+is_purged_stage (Some Away) = false
+is_purged_stage (Some Purged) = true
+
 -- whether it holds a frame
 abbrev pub has_frame_stage : Option PageState → Bool
 has_frame_stage None = false

@@ -10,7 +10,7 @@ use Rattle.sv32_table.specs.EntryAt.{entry_at}
 use Rattle.paged_memory.specs.Calls.{accessed_at}
 use Rattle.paged_memory.specs.Counting.{residents_of, savings_of, frames_of, slots_of}
 use Rattle.paged_memory.specs.Paged.{PagedValue, page_at, seen_at, flat_page}
-use Rattle.paged_memory.specs.Seen.{is_used, is_changed}
+use Rattle.paged_memory.specs.Seen.{is_used, is_dirty}
 use Rattle.paged_memory.specs.Soundness.{is_held}
 
 module _ {S : Type 0} where
@@ -38,12 +38,12 @@ module _ {S : Type 0} where
   abbrev pub accessed_in : PagedValue S → ℕ → Option Bool
   accessed_in memory vpn = accessed_at (seen_at memory.pages vpn) (entry_at memory.tables vpn)
 
-  -- whether its use is marked, and whether it counts as changed
+  -- whether its use is marked, and whether it is marked as dirty
   abbrev pub is_used_in : PagedValue S → ℕ → Bool
   is_used_in memory vpn = is_used (seen_at memory.pages vpn) (entry_at memory.tables vpn)
 
-  abbrev pub is_changed_in : PagedValue S → ℕ → Bool
-  is_changed_in memory vpn = is_changed (seen_at memory.pages vpn) (entry_at memory.tables vpn)
+  abbrev pub is_dirty_in : PagedValue S → ℕ → Bool
+  is_dirty_in memory vpn = is_dirty (seen_at memory.pages vpn) (entry_at memory.tables vpn)
 
   -- whether a cache holds a translation of it
   abbrev pub is_cached : PagedValue S → ℕ → Bool

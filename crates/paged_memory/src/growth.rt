@@ -5,6 +5,7 @@ ghost use Rattle.page_memory.specs.declared.words.Access.{Access};
 ghost use Rattle.page_store.specs.PageValue.{Fresh};
 ghost use Rattle.page_memory.specs.Entries.{place_of, added, with_added};
 ghost use Rattle.paged_memory.specs.Paged.{memory_of};
+ghost use Rattle.paged_memory.specs.Fresh.{AddsZeros};
 ghost use Rattle.paged_memory.specs.Growth.{fresh_zero_page, LacksOne};
 
 use crate::memory::PagedMemory;
@@ -37,6 +38,7 @@ impl<L: Ledger, S: SwapSlot> PagedMemory<L, S> {
     /// take no frame yet.
     pub fn map_zeroed(&mut self, first: u32, count: u32) -> Result<(), AllocError>
         requires { first + count ≤ 2 ^ 20 }
+        ensures adds { OnOk result (AddsZeros first count self.old self.new) }
         ensures ok { OnOk result (self.new.pages ≡ with_added first count fresh_zero_page self.old.pages) }
         ensures memory { OnOk result (memory_of S.content self.new ≡ with_zeroed first count (memory_of S.content self.old)) }
         ensures err { OnErr result (self.new ≡ self.old) }

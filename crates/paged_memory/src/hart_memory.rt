@@ -118,7 +118,7 @@ impl<'a, L: Ledger, S: SwapSlot, O: Opening> Bus for HartMemory<'a, L, S, O> {
         self.memory.copy_in(self.hart, address, from)
     }
 
-    #[tactic(auto, using(crate::proofs::GrowthLaws::kept_grown, crate::proofs::GrowthLaws::lacking_some, crate::specs::HartMemoryLaws::access_grown, crate::proofs::Marking::bounds_same))]
+    #[tactic(auto, using(crate::proofs::GrowthLaws::lacking_some, crate::proofs::Marking::bounds_same))]
     fn map_zeroed(&mut self, first: u32, count: u32) -> Result<(), AllocError> {
         self.memory.map_zeroed(first, count)
     }

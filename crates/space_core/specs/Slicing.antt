@@ -9,7 +9,7 @@ use Rattle.space_core.specs.declared.progress.SliceStop.TheVariants.{Budget, Abs
 use Rattle.space_core.specs.RunningValue.{with_memory}
 use Rattle.space_core.specs.StandsFor.{SpaceValue}
 use Rattle.paged_memory.specs.Using.{cache_in, HasIn, KeepsIn}
-use Rattle.paged_memory.specs.Whole.{is_used_in, is_changed_in, harts_in}
+use Rattle.paged_memory.specs.Whole.{is_used_in, is_dirty_in, harts_in}
 
 -- the flat process with what its pages show, where slots hold this
 abbrev pub shown_process : {S : Type 0} → (S → List ℕ) → SpaceValue S → Process
@@ -55,6 +55,6 @@ pub record KeepsSpace {S : Type 0} (hart : ℕ) (stop : SliceStop) (old new : Sp
   pub process : new.memory.process ≡ old.memory.process
   pub pages : KeepsIn old.memory new.memory
   pub used : (page : ℕ) → page < 2 ^ 20 → is_used_in old.memory page ≡ true → is_used_in new.memory page ≡ true
-  pub changed : (page : ℕ) → page < 2 ^ 20 → is_changed_in old.memory page ≡ true → is_changed_in new.memory page ≡ true
+  pub changed : (page : ℕ) → page < 2 ^ 20 → is_dirty_in old.memory page ≡ true → is_dirty_in new.memory page ≡ true
   pub harts : harts_in new.memory ≡ length new.running.harts
   pub caches : LeavesCaches stop hart old.memory new.memory

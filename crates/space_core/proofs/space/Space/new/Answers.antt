@@ -1,7 +1,7 @@
-use Rattle.std.proofs.Common.{◌≡◌, ap, sym, ◌∙◌}
+use Rattle.std.proofs.Common.{◌≡◌, ap, sym, ◌∙◌, subst}
 use Rattle.flat_machine.specs.Process.{opening, opening_pages}
 use Rattle.space_core.specs.RunningValue.{RecordedValue, beside}
-use Rattle.paged_memory.specs.Fresh.{all_fresh}
+use Rattle.paged_memory.specs.Fresh.{HasFresh}
 use Rattle.space_core.proofs.Opened.{space_opened}
 use Rattle.space_core.proofs.space.Space.new.Goals as goal
 
@@ -11,6 +11,6 @@ invariant_of-result g c =
     space_opened g.S.SwapSlot.content g.S.SwapSlot.honest _
     (ap (λ (r : RecordedValue). r.running) c.in_ok-recorded.ensures ∙ ap (λ l. beside (opening c.args.image l)) whole)
     (ap (λ (r : RecordedValue). r.schedule) c.in_ok-recorded.ensures)
-    (c.in_ok-memory.ensures.pages ∙ ap (λ l. all_fresh (opening_pages l)) c.pages.ensures.pages)
+    (subst (λ l. HasFresh (opening_pages l) c.in_ok-memory.memory) c.pages.ensures.pages c.in_ok-memory.ensures.pages)
     c.in_ok-memory.ensures.caches
     c.in_ok-memory.ensures.reserved

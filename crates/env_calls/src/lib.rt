@@ -17,4 +17,4 @@ mod transfers;
 pub use env::Env;
 pub use served::{ServeStop, Served};
 pub use serving::serve;
-pub use stepping::{Stepped, step};
+pub use stepping::{Stepped, finish, step};

@@ -2,6 +2,7 @@ ghost use Rattle.std.specs.Prelude.{◌≡◌, Err, IfOk, OnErr};
 ghost use Rattle.env_calls.specs.Step.{effect, step_pages, step_stores};
 ghost use Rattle.rv_exec.specs.Bounds.{Bounds};
 ghost use Rattle.env_calls.specs.Serving.{TakesMemory, UsesPages};
+ghost use Rattle.env_calls.specs.Finishing.{rest_effect, rest_pages, rest_stores, RestUses};
 ghost use Rattle.env_calls.specs.Stepping.{IsEffect, Stays, served_step};
 
 use crate::env::Env;
@@ -57,6 +58,42 @@ pub fn step<B: Bus>(
     ensures kept { B.keeps bus.old bus.new }
 {
     match execute(hart, regs, bus) {
+        Outcome::Done => Ok(Stepped::Ran),
+        outcome => finish(env, hart, regs, bus, outcome),
+    }
+}
+
+/// Ends the step of a hart whose instruction came to an outcome: serves the call that it makes, and does nothing more of
+/// any other.
+///
+/// # Errors
+///
+/// As [`step`]'s: `Absent` too where the instruction's own outcome is that. Nothing has changed since the instruction.
+#[cold]
+#[inline(never)]
+pub fn finish<B: Bus>(
+    env: &mut Env,
+    hart: u32,
+    regs: &mut Regs,
+    bus: &mut B,
+    outcome: Outcome,
+) -> Result<Stepped, ServeStop>
+    ensures stepped { let effect = rest_effect outcome hart regs.old env.old (B.memory bus.old) in
+        IfOk result (λ stepped. IsEffect effect stepped regs.new env.new (B.memory bus.new)) }
+    ensures regs_stay { Stays result (regs.new ≡ regs.old) }
+    ensures env_stays { Stays result (env.new ≡ env.old) }
+    ensures memory_stays { Stays result (B.memory bus.new ≡ B.memory bus.old) }
+
+    // The call's pages, as `serve` answers of them; with no call the outcome says what the answer is.
+    ensures pages { RestUses (B.has bus.old) (B.marks bus.new) (B.lacks bus.old) outcome regs.old (B.memory bus.old) result }
+    ensures bound { let memory = B.memory bus.old in
+        Bounds (B.within bus.old) (B.within bus.new) (rest_pages outcome regs.old memory) (rest_stores outcome regs.old memory) }
+
+    // Only output and new pages take memory.
+    ensures no_memory { result ≡ Err ServeStop.NoMemory → TakesMemory env.old (rest_effect outcome hart regs.old env.old (B.memory bus.old)) }
+    ensures kept { B.keeps bus.old bus.new }
+{
+    match outcome {
         Outcome::Done => Ok(Stepped::Ran),
         Outcome::Ecall => match serve(env, hart, regs, bus) {
             Ok(served) => Ok(step_of(served)),

@@ -3,7 +3,7 @@ pub mod SliceMoves
 pub mod Shown
 pub mod Standing
 pub mod Spaces
-pub mod PlainSteps
+pub mod StepEnds
 pub mod SliceLaws
 mod PagingSpaces
 pub mod FreshPages

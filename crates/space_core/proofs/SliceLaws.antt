@@ -84,3 +84,17 @@ module _ {S : Type 0} where
   settled NoHart hart old between new kept s = settled_others hart old between new kept s
   settled ScheduleFull hart old between new kept s = settled_others hart old between new kept s
   settled NoMemory hart old between new kept s = settled_others hart old between new kept s
+
+  -- the same caches were there before more harts had one
+  more_others : (hart : ℕ) (old between new : PagedValue S) → ((h : ℕ) → cache_in between h ≡ cache_in old h) → OthersStay hart between new × (cache_in new hart ≡ []) → OthersStay hart old new × (cache_in new hart ≡ [])
+  more_others hart old between new same (others, own) = (λ h other. others h other ∙ same h, own)
+
+  pub settled_after : (stop : SliceStop) (hart : ℕ) (old between new : PagedValue S) → ((h : ℕ) → cache_in between h ≡ cache_in old h) → SettlesCaches stop hart between new → SettlesCaches stop hart old new
+  settled_after Budget hart old between new same stays = λ h. stays h ∙ same h
+  settled_after Ended hart old between new same emptied = emptied
+  settled_after (Absent page) hart old between new same s = more_others hart old between new same s
+  settled_after Yield hart old between new same s = more_others hart old between new same s
+  settled_after HartDone hart old between new same s = more_others hart old between new same s
+  settled_after NoHart hart old between new same s = more_others hart old between new same s
+  settled_after ScheduleFull hart old between new same s = more_others hart old between new same s
+  settled_after NoMemory hart old between new same s = more_others hart old between new same s

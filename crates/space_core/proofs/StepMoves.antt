@@ -60,7 +60,7 @@ room_to_spawn hart inside now memory r regs env memory' (stepped.Trapped cause v
 -- ---- the step
 
 -- where registers, environment and memory stay, the harts do
-harts_stay : (hart : ℕ) (harts : List Registers) (r regs : Registers) → r ≡ slice_index_or harts hart r → regs ≡ r → slice_set harts hart regs ≡ harts
+pub harts_stay : (hart : ℕ) (harts : List Registers) (r regs : Registers) → r ≡ slice_index_or harts hart r → regs ≡ r → slice_set harts hart regs ≡ harts
 harts_stay hart harts r regs are same = ap (slice_set harts hart) (same ∙ are) ∙ set-get_or harts hart r
 
 pub settled : (hart : ℕ) (inside now : RunningValue) (memory : Memory) (r regs : Registers) (env : Environment) (memory' : Memory) (s : Stepped)
@@ -83,15 +83,6 @@ settled hart inside now memory r regs env memory' (stepped.Trapped cause value) 
     let harts = harts_stay hart inside.harts r regs are regs_stay in
     let pc : r.pc ≡ regs.pc = ap (λ (x : Registers). x.pc) (sym regs_stay) in
     subst (Taken hart (with_memory now memory)) (λ i. record { harts = sym harts i; environment = sym env_stays i; memory = sym memory_stays i; ending = Some (Trapped hart cause (pc i) value) }) done
-
--- the same, by the parts that are left
-pub settled_as : (hart : ℕ) (inside now : RunningValue) (memory : Memory) (r regs : Registers) (env : Environment) (memory' : Memory) (s : Stepped) (harts : List Registers) (ending : Option End) (pc : ℕ)
-    → harts ≡ harts_after s (slice_set inside.harts hart regs) → ending ≡ ending_after hart pc s inside.ending → pc ≡ regs.pc
-    → Taken hart (with_memory now memory) (record { harts = harts_after s (slice_set inside.harts hart regs); environment = env; memory = memory'; ending = ending_after hart regs.pc s inside.ending })
-    → Taken hart (with_memory now memory) (record { harts = harts; environment = env; memory = memory'; ending = ending })
-settled_as hart inside now memory r regs env memory' s harts ending pc harts_are ending_is pc_is done =
-    let ends : ending_after hart regs.pc s inside.ending ≡ ending = ap (λ p. ending_after hart p s inside.ending) (sym pc_is) ∙ sym ending_is in
-    subst (Taken hart (with_memory now memory)) (λ i. record { harts = sym harts_are i; environment = env; memory = memory'; ending = ends i }) done
 
 -- where it was not taken
 pub whole_still : (hart : ℕ) (inside : RunningValue) (memory : Memory) (r regs : Registers) (env : Environment) → IsWhole (with_memory inside memory) → r ≡ slice_index_or inside.harts hart r → regs ≡ r → env ≡ inside.environment
@@ -161,3 +152,8 @@ wants_memory hart inside now memory r stop same may are takes is = record {
 pub whole_ended : (harts : List Registers) (env : Environment) (memory : Memory) (ending ending' : Option End) → IsWhole (record { harts = harts; environment = env; memory = memory; ending = ending })
     → IsWhole (record { harts = harts; environment = env; memory = memory; ending = ending' })
 whole_ended harts env memory ending ending' whole = record { marked = whole.marked; few = whole.few; some = whole.some }
+
+-- what is left of a hart that went on is whole
+pub whole_set : (hart : ℕ) (inside : RunningValue) (registers : Registers) (memory : Memory) → IsWhole (with_memory inside memory)
+    → IsWhole (with_memory (record inside { harts = slice_set inside.harts hart registers }) memory)
+whole_set hart inside registers memory whole = record { marked = length-set inside.harts hart registers ∙ whole.marked; few = whole.few; some = whole.some }

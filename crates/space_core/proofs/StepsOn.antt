@@ -1,39 +1,46 @@
 -- A hart's instructions one at a time are slices of one instruction, one after another.
-use Rattle.std.proofs.Common.{◌≡◌, inl, inr, ◌⊎◌, ◌+◌, ◌++◌, ◌≤◌, ◌<◌, ℕ, zero, suc, true, is_some, true≢false, List, length, replicate, slice_set, slice_index_or, Some, refl, sym, ap, ◌∙◌, subst, arith, append_assoc, append-nil, length-set}
+use Rattle.std.proofs.Common.{◌≡◌, ◌+◌, ◌++◌, ◌≤◌, ◌<◌, ℕ, zero, suc, true, ◌⊎◌, inl, inr, min, IfNone, IfSome, List, length, replicate, slice_set, slice_index_or, Option, Some, None, option_map, refl, sym, ap, ◌∙◌, subst, arith, append_assoc, append-nil, length-set}
+use Rattle.std.proofs.lemmas.Bool.Decides.{eqb_tells}
+use Rattle.std.proofs.lemmas.Option.{none-some, same_Some}
 use Rattle.std.proofs.lemmas.List.{set-get_or, set-set, get_or-set_same, replicate-append-replicate}
 use Rattle.page_memory.specs.Memory.{Memory}
+use Rattle.rv_exec.specs.declared.outcome.Outcome.{Outcome}
+use Rattle.rv_exec.specs.declared.outcome.Outcome.TheVariants.{Done, Ecall, Trap, Absent}
 use Rattle.rv_exec.specs.Outcomes.{Used}
-use Rattle.env_calls.specs.StepLaws.{bound_first}
 use Rattle.rv_exec.specs.Registers.{Registers}
-use Rattle.rv_exec.specs.Uses.{pages_used}
 use Rattle.flat_machine.specs.declared.schedule.Turn.{Turn}
-use Rattle.flat_machine.specs.Process.{Process, IsWhole, hart_registers, is_live, may_step, with_hart, flat_run}
-use Rattle.flat_machine.specs.PlainRunLaws.{plain_none, plain_more, next_is}
+use Rattle.flat_machine.specs.Process.{Process, IsWhole, may_step, flat_run}
+use Rattle.flat_machine.specs.PlainRunLaws.{next_is}
+use Rattle.flat_machine.specs.RunLaws.{flat_run_none}
 use Rattle.flat_machine.specs.Schedule.{written_out, room}
-use Rattle.flat_machine.specs.StepLaws.{both, has_no_ending, started}
+use Rattle.flat_machine.specs.StepLaws.{started}
 use Rattle.flat_machine.specs.TurnsLaws.{one_more}
-use Rattle.paged_memory.specs.HartMemory.{KeepsAccess, MarksSince}
-use Rattle.paged_memory.specs.HartMemoryLaws.{access_itself, lacked}
+use Rattle.paged_memory.specs.Coheres.{Coheres}
+use Rattle.paged_memory.specs.HartMemory.{MarksSince}
+use Rattle.paged_memory.specs.HartMemoryLaws.{access_itself}
+use Rattle.paged_memory.specs.Moving.{OnlyCaches}
 use Rattle.paged_memory.specs.Paged.{PagedValue, memory_of}
+use Rattle.paged_memory.specs.ShowingLaws.{used_given_up}
+use Rattle.paged_memory.specs.Using.{cache_in, HasIn, LacksIn, MarkedIn, KeepsIn}
+use Rattle.paged_memory.specs.UsingLaws.{caches_shown, caches_marks, same_marks}
+use Rattle.paged_memory.specs.Whole.{is_used_in, is_changed_in, harts_in}
+use Rattle.space_core.specs.declared.progress.Slice.{Slice}
 use Rattle.space_core.specs.declared.progress.SliceStop.{SliceStop}
-use Rattle.space_core.specs.declared.progress.SliceStop.TheVariants.{Budget, Absent, Yield, HartDone, Ended, NoHart, ScheduleFull, NoMemory}
+use Rattle.space_core.specs.declared.progress.SliceStop.TheVariants.{Budget}
+use Rattle.space_core.specs.Endings.{LeftBy, EndsOne, RunsRecorded, RefusesAll}
+use Rattle.space_core.specs.HartLoop.{RunsTo, RunsEach, RunsShort, RunsUntil, HartRuns}
 use Rattle.space_core.specs.Next.{next_pages, answered, begun}
 use Rattle.space_core.specs.RunningValue.{RunningValue, RecordedValue, with_memory}
-use Rattle.space_core.specs.Plain.{EachPlain}
-use Rattle.space_core.specs.Slices.{EachStep, BoundsEach, PassedOn, StopsShort, StopsRecorded}
-use Rattle.space_core.specs.Slicing.{shown_process, OthersStay, LeavesCaches}
+use Rattle.space_core.specs.Slices.{EachStep, BoundsEach, StopsRecorded}
+use Rattle.space_core.specs.Slicing.{shown_process, SettlesCaches}
 use Rattle.space_core.specs.StandsFor.{SpaceValue, StandsFor, IsSpace}
-use Rattle.space_core.specs.StepByStep.{RunsPlain, RunsEach, RunsShort, Tries, MarksOne, MarksTried, HartRuns, IsRecorded, RunsRecorded, SlicesOne, StepsOn, StepsShort, StepsEach}
-use Rattle.space_core.proofs.PlainSteps.{none_plain, pages_plain, passed_plainly, whole_set, here}
-use Rattle.space_core.proofs.Bounding.{next_bound, bound_one, bound_again}
-use Rattle.space_core.proofs.StepMoves.{registers_are}
-use Rattle.space_core.proofs.SliceMoves.{used_on}
-use Rattle.space_core.proofs.Standing.{stands_on, stands_sliced}
-use Rattle.paged_memory.specs.ShowingLaws.{used_given_up}
-use Rattle.paged_memory.specs.Moving.{SameEntries}
-use Rattle.paged_memory.specs.Using.{cache_in, HasIn, LacksIn, MarkedIn}
-use Rattle.paged_memory.specs.UsingLaws.{kept_on, lacked_in, had_in, same_marks}
-use Rattle.paged_memory.specs.Whole.{harts_in}
+use Rattle.space_core.specs.StepByStep.{SlicesOne, StepsOn, StepsEach}
+use Rattle.space_core.proofs.SliceLaws.{harts_run, settled}
+use Rattle.space_core.proofs.Bounding.{bound_none}
+use Rattle.space_core.proofs.SliceMoves.{each_none, used_on}
+use Rattle.space_core.proofs.Standing.{stands_sliced}
+use Rattle.space_core.proofs.StepEnds.{done_one}
+use Rattle.space_core.proofs.StepMoves.{whole_set}
 
 -- a schedule with so many more instructions of a hart
 record More (n : ℕ) (turns : List Turn) (hart : ℕ) : Type 0 where
@@ -70,7 +77,109 @@ so_many_more (suc n) turns hart fit =
       none = λ e. absurd (omega (arith, e));
     }
 
+-- ---- in the loop
+
+-- an instruction that was done, behind others
+pub each_done : {S : Type 0} (held : S → List ℕ) (honest : Type 0) (hart n : ℕ) (regs : Registers) (old : PagedValue S) (at : Registers) (between : PagedValue S) (regs' : Registers) (new : PagedValue S)
+    → RunsEach held honest hart n regs old at between → RunsTo held honest hart Done at between regs' new → RunsEach held honest hart (n + 1) regs old regs' new
+unfolding RunsEach
+each_done held honest hart n regs old at between regs' new each one =
+    subst (λ k. RunsEach held honest hart k regs old regs' new) (next_is n) ((at, between), (each, one))
+
+pub none_done : {S : Type 0} (held : S → List ℕ) (honest : Type 0) (hart : ℕ) (regs : Registers) (old : PagedValue S) → RunsEach held honest hart 0 regs old regs old
+unfolding RunsEach
+none_done held honest hart regs old = (refl, refl)
+
+-- one that came to something else
+pub is_short : {S : Type 0} (held : S → List ℕ) (honest : Type 0) (hart most n : ℕ) (o : Outcome) (regs : Registers) (old : PagedValue S) (regs' : Registers) (new : PagedValue S)
+    → (o ≡ Done → ⊥) → RunsUntil held honest hart most n o regs old regs' new → RunsShort held honest hart most n o regs old regs' new
+is_short held honest hart most n Done regs old regs' new other until = absurd (other refl)
+is_short held honest hart most n Ecall regs old regs' new other until = until
+is_short held honest hart most n (Trap cause value) regs old regs' new other until = until
+is_short held honest hart most n (Absent page) regs old regs' new other until = until
+
+-- a hart whose registers go on so
+pub hart_runs : (hart : ℕ) (how : Registers → Registers → Type 0) (inside now : RunningValue) (regs regs' : Registers) → inside ≡ now → regs ≡ slice_index_or inside.harts hart regs → how regs regs'
+    → ((memory : Memory) → IsWhole (with_memory inside memory)) → HartRuns hart how now (record inside { harts = slice_set inside.harts hart regs' })
+hart_runs hart how inside now regs regs' same are runs whole =
+    subst (λ (v : RunningValue). HartRuns hart how v (record inside { harts = slice_set inside.harts hart regs' })) same
+    (record { regs = regs; regs' = regs'; first = are; left = refl; runs = runs; whole = whole })
+
+pub runs_as : (hart : ℕ) (how how' : Registers → Registers → Type 0) (old new : RunningValue) → (r : HartRuns hart how old new) → how' r.regs r.regs' → HartRuns hart how' old new
+runs_as hart how how' old new r runs = record { regs = r.regs; regs' = r.regs'; first = r.first; left = r.left; runs = runs; whole = r.whole }
+
 module _ {S : Type 0} (held : S → List ℕ) (honest : Type 0) (hart : ℕ) where
+  each_harts : (n : ℕ) (regs : Registers) (old : PagedValue S) (regs' : Registers) (new : PagedValue S) → RunsEach held honest hart n regs old regs' new → harts_in new ≡ harts_in old
+  unfolding RunsEach
+  each_harts zero regs old regs' new each = ap harts_in each.1
+  each_harts (suc n) regs old regs' new each = each.1.1.kept.harts ∙ each_harts n regs old each.0.0 each.0.1 each.1.0
+
+  -- ---- recorded
+
+  -- what there is before the last instruction ends
+  pub record BeforeLast (most n : ℕ) (o : Outcome) (old new : RunningValue) (memory memory' : PagedValue S) : Type 0 where
+    pub may : may_step hart (with_memory new (memory_of held memory')) ≡ true
+    pub cached : harts_in memory' ≡ length new.harts
+    pub fewer : n < most
+    pub left : LeftBy held honest hart o new memory'
+    pub each : HartRuns hart (λ regs regs'. RunsEach held honest hart n regs memory regs' left.before) old new
+
+  pub before_last : (most n : ℕ) (o : Outcome) (inside now : RecordedValue) (new : RunningValue) (memory memory' : PagedValue S) → inside ≡ now → may_step hart (with_memory now.running (memory_of held memory)) ≡ true
+      → harts_in memory ≡ length now.running.harts → harts_in memory' ≡ harts_in memory → (o ≡ Done → ⊥)
+      → HartRuns hart (λ regs regs'. RunsUntil held honest hart most n o regs memory regs' memory') inside.running new → BeforeLast most n o now.running new memory memory'
+  before_last most n o inside now new memory memory' same may cached harts other runs =
+      subst (λ (r : RecordedValue). BeforeLast most n o r.running new memory memory') same
+      (record {
+        may = subst (λ (v : RunningValue). may_step hart (with_memory v (memory_of held memory')) ≡ true) (sym runs.left) may_inside;
+        cached = harts ∙ cached ∙ ap (λ (r : RecordedValue). length r.running.harts) (sym same) ∙ sym (ap (λ (v : RunningValue). length v.harts) runs.left ∙ length-set inside.running.harts hart runs.regs');
+        fewer = short.fewer;
+        left = record {
+          before = short.between;
+          regs = runs.regs';
+          are = subst (λ (v : RunningValue). runs.regs' ≡ slice_index_or v.harts hart runs.regs') (sym runs.left)
+              (sym (get_or-set_same inside.running.harts hart runs.regs' runs.regs' (started hart (with_memory inside.running (memory_of held memory)) (runs.whole (memory_of held memory)) may_inside)));
+          runs = short.at_last;
+        };
+        each = runs_as hart _ (λ regs regs'. RunsEach held honest hart n regs memory regs' short.between) inside.running new runs short.each;
+      })
+    where
+      short : RunsShort held honest hart most n o runs.regs memory runs.regs' memory'
+      short = is_short held honest hart most n o runs.regs memory runs.regs' memory' other runs.runs
+
+      may_inside : may_step hart (with_memory inside.running (memory_of held memory)) ≡ true
+      may_inside = ap (λ (r : RecordedValue). may_step hart (with_memory r.running (memory_of held memory))) same ∙ may
+
+  pub last_recorded : (most n ran : ℕ) (why : SliceStop) (o : Outcome) (inside now : RecordedValue) (new running : RunningValue) (schedule : List Turn) (memory memory' after : PagedValue S) → inside ≡ now
+      → (last : BeforeLast most n o now.running new memory memory') → ((left : LeftBy held honest hart o new memory') → (fits : ℕ) → 0 < fits → EndsOne held honest hart fits ran why new left.before running after)
+      → written_out schedule ≡ written_out inside.schedule ++ replicate (n + ran) hart → room schedule hart + (n + ran) ≡ room inside.schedule hart
+      → RunsRecorded held honest hart n (Some (ran, why)) now (record { running = running; schedule = schedule }) memory after
+  last_recorded most n ran why o inside now new running schedule memory memory' after same last ends recorded left = record {
+    between = new;
+    before = last.left.before;
+    runs = last.each;
+    at_last = λ fits some. ends last.left fits some;
+    recorded = recorded ∙ ap (λ (r : RecordedValue). written_out r.schedule ++ replicate (n + ran) hart) same;
+    left = left ∙ ap (λ (r : RecordedValue). room r.schedule hart) same;
+  }
+
+  pub all_recorded : (most n : ℕ) (o : Outcome) (inside now : RecordedValue) (new : RunningValue) (schedule : List Turn) (memory memory' : PagedValue S) → inside ≡ now → o ≡ Done
+      → HartRuns hart (λ regs regs'. RunsUntil held honest hart most n o regs memory regs' memory') inside.running new
+      → written_out schedule ≡ written_out inside.schedule ++ replicate n hart → room schedule hart + n ≡ room inside.schedule hart
+      → RunsRecorded held honest hart n None now (record { running = new; schedule = schedule }) memory memory'
+  all_recorded most n o inside now new schedule memory memory' same all runs recorded left =
+      let until = subst (λ x. RunsUntil held honest hart most n x runs.regs memory runs.regs' memory') all runs.runs in
+      subst (λ (r : RecordedValue). RunsRecorded held honest hart n None r (record { running = new; schedule = schedule }) memory memory') same
+      (record {
+        between = new;
+        before = memory';
+        runs = runs_as hart _ (λ regs regs'. RunsEach held honest hart n regs memory regs' memory') inside.running new runs until.1;
+        at_last = (refl, refl);
+        recorded = recorded;
+        left = left;
+      })
+
+  -- ---- as slices
+
   -- what a slice of one instruction starts from
   pub record Ready (space : SpaceValue S) : Type 0 where
     pub whole : (memory : Memory) → IsWhole (with_memory space.running memory)
@@ -78,60 +187,64 @@ module _ {S : Type 0} (held : S → List ℕ) (honest : Type 0) (hart : ℕ) whe
     pub cached : harts_in space.memory ≡ length space.running.harts
     pub stands : honest → StandsFor held space
 
+  -- a process with another schedule and other parts
+  abbrev pub with_parts : SpaceValue S → RunningValue → List Turn → PagedValue S → SpaceValue S
+  with_parts old running schedule memory = record { image = old.image; input = old.input; running = running; schedule = schedule; memory = memory }
+
+  -- an instruction that ended so is a slice, once it is recorded and the caches are settled
+  pub slice_of : (ran : ℕ) (why : SliceStop) (old : SpaceValue S) (running : RunningValue) (schedule : List Turn) (after new : PagedValue S) → EndsOne held honest hart (room old.schedule hart) ran why old.running old.memory running after
+      → (honest → StandsFor held old) → written_out schedule ≡ written_out old.schedule ++ replicate ran hart → room schedule hart + ran ≡ room old.schedule hart
+      → OnlyCaches after new → SettlesCaches why hart after new → harts_in new ≡ length running.harts → Coheres held honest new → SlicesOne held honest hart ran why old (with_parts old running schedule new)
+  slice_of ran why old running schedule after new ends stands recorded left only settles cached coheres =
+      let p : Process = shown_process held old in
+      let shown : with_memory running (memory_of held after) ≡ with_memory running (memory_of held new) = ap (with_memory running) (sym (caches_shown held after new only)) in
+      let ran_is : flat_run (replicate ran hart) p ≡ Some (with_memory running (memory_of held new)) = ends.ran_is ∙ ap Some shown in
+      let pages : KeepsIn old.memory new = subst (λ (m : PagedValue S). KeepsIn old.memory m) (sym only) ends.kept.pages in
+      record {
+        ran_is = ran_is;
+        recorded = recorded;
+        left = left;
+        within = ends.within;
+        stops = subst (StopsRecorded (LacksIn old.memory) hart 1 (room old.schedule hart) p why ran) shown ends.stops;
+        pages = λ done at h e. used_on (HasIn old.memory hart) (MarksSince after (cache_in old.memory hart)) (HasIn old.memory hart) (MarksSince new (cache_in old.memory hart)) (next_pages hart at) (λ _ had. had)
+            (λ page marks. subst (λ (m : PagedValue S). MarksSince m (cache_in old.memory hart) page) (sym only) marks) (ends.pages done at h e);
+        bound = same_marks new after (λ marks. BoundsEach (MarkedIn old.memory) marks hart (begun why ran) p) (sym (caches_marks after new only)) ends.bound;
+        kept = record {
+          image = refl;
+          input = refl;
+          process = ap (λ (m : PagedValue S). m.process) only ∙ ends.kept.process;
+          pages = pages;
+          used = λ page small is. subst (λ (m : PagedValue S). is_used_in m page ≡ true) (sym only) (ends.kept.used page small is);
+          changed = λ page small is. subst (λ (m : PagedValue S). is_changed_in m page ≡ true) (sym only) (ends.kept.changed page small is);
+          harts = cached;
+          caches = settled why hart old.memory after new ends.kept settles;
+        };
+        stands = λ h. stands_sliced held old (with_parts old running schedule new) hart ran refl refl ran_is recorded (used_given_up old.memory new pages) (stands h);
+        coheres = coheres;
+      }
+
   -- a process with other registers of the hart, another schedule and another memory
   abbrev pub ran_as : SpaceValue S → Registers → List Turn → PagedValue S → SpaceValue S
-  ran_as old regs schedule memory = record { image = old.image; input = old.input; running = record old.running { harts = slice_set old.running.harts hart regs }; schedule = schedule; memory = memory }
+  ran_as old regs schedule memory = with_parts old (record old.running { harts = slice_set old.running.harts hart regs }) schedule memory
 
   record OneOn (old new : SpaceValue S) : Type 0 where
     one : SlicesOne held honest hart 1 Budget old new
     ready : Ready new
 
   one_on : (old : SpaceValue S) (regs regs' : Registers) (schedule : List Turn) (new : PagedValue S) → Ready old → regs ≡ slice_index_or old.running.harts hart regs
-      → RunsPlain held honest hart regs old.memory regs' new → written_out schedule ≡ written_out old.schedule ++ replicate 1 hart → room schedule hart + 1 ≡ room old.schedule hart
+      → RunsTo held honest hart Done regs old.memory regs' new → written_out schedule ≡ written_out old.schedule ++ replicate 1 hart → room schedule hart + 1 ≡ room old.schedule hart
       → OneOn old (ran_as old regs' schedule new)
-  one_on old regs regs' schedule new ready are plain recorded left =
-      let has = HasIn old.memory hart in
-      let marks = MarksSince new (cache_in old.memory hart) in
-      let memory = memory_of held old.memory in
-      let memory' = memory_of held new in
-      let each : EachPlain hart (λ at now. Used has marks (pages_used at now)) (0 + 1) regs memory =
-      pages_plain hart has marks has marks 0 regs memory regs memory (λ page h. h) (λ page h. h) (plain_none hart regs memory) (none_plain hart (λ at now. Used has marks (pages_used at now)) regs memory) plain.pages in
-      let passed : PassedOn has marks hart 1 (shown_process held old) (with_hart hart regs' old.running.environment memory' (shown_process held old)) =
-      passed_plainly has marks 1 hart (shown_process held old) regs regs' memory' (ready.whole memory) ready.may are
-      (plain_more hart 0 regs memory regs memory regs' memory' (plain_none hart regs memory) plain.ran) each in
-      let cached : harts_in new ≡ length (slice_set old.running.harts hart regs') = plain.kept.harts ∙ ready.cached ∙ sym (length-set old.running.harts hart regs') in
-      let stands : honest → StandsFor held (ran_as old regs' schedule new) =
-      λ h. stands_sliced held old (ran_as old regs' schedule new) hart 1 refl refl passed.ran recorded (used_given_up old.memory new plain.kept.pages) (ready.stands h) in
+  one_on old regs regs' schedule new ready are runs recorded left =
+      let ends = done_one held honest hart (room old.schedule hart) (omega (arith, left)) old.running old.memory new regs regs' (ready.whole (memory_of held old.memory)) ready.may are runs in
+      let cached : harts_in new ≡ length (slice_set old.running.harts hart regs') = runs.kept.harts ∙ ready.cached ∙ sym (length-set old.running.harts hart regs') in
+      let one = slice_of 1 Budget old (record old.running { harts = slice_set old.running.harts hart regs' }) schedule new new ends ready.stands recorded left refl (λ h. refl) cached runs.coheres in
       record {
-        one = record {
-          ran_is = passed.ran;
-          recorded = recorded;
-          left = left;
-          within = omega arith;
-          stops = (refl, (λ _. passed.may), passed.on);
-          pages = passed.pages;
-          bound = bound_one (MarkedIn old.memory) (MarkedIn new) hart (shown_process held old)
-              (next_bound (MarkedIn old.memory) (MarkedIn new) hart (shown_process held old) regs
-              (registers_are hart old.running old.running memory regs (ready.whole memory) refl ready.may are)
-              (bound_first (MarkedIn old.memory) (MarkedIn new) hart regs memory plain.bound));
-          kept = record {
-            image = refl;
-            input = refl;
-            process = plain.kept.process;
-            pages = plain.kept.pages;
-            used = plain.kept.used;
-            changed = plain.kept.changed;
-            harts = cached;
-            caches = (plain.kept.others, record { held = plain.kept.held; doomed = plain.kept.doomed });
-          };
-          stands = stands;
-          coheres = plain.coheres;
-        };
+        one = one;
         ready = record {
           whole = λ any. whole_set hart old.running regs' any (ready.whole any);
-          may = passed.may;
+          may = ready.may;
           cached = cached;
-          stands = stands;
+          stands = one.stands;
         };
       }
 
@@ -165,243 +278,128 @@ module _ {S : Type 0} (held : S → List ℕ) (honest : Type 0) (hart : ℕ) whe
         ready = subst Ready same last.ready;
       }
 
--- ---- in the code
-
--- a hart whose registers go on so
-pub hart_runs : (hart : ℕ) (how : Registers → Registers → Type 0) (inside now : RunningValue) (regs regs' : Registers) → inside ≡ now → regs ≡ slice_index_or inside.harts hart regs → how regs regs'
-    → ((memory : Memory) → IsWhole (with_memory inside memory)) → HartRuns hart how now (record inside { harts = slice_set inside.harts hart regs' })
-hart_runs hart how inside now regs regs' same are runs whole =
-    subst (λ (v : RunningValue). HartRuns hart how v (record inside { harts = slice_set inside.harts hart regs' })) same
-    (record { regs = regs; regs' = regs'; first = are; left = refl; runs = runs; whole = whole })
-
--- fewer than a limit are fewer than a larger one
-pub wider : {S : Type 0} (held : S → List ℕ) (honest : Type 0) (hart limit limit' n : ℕ) (old new : RunningValue) (memory memory' : PagedValue S) → limit ≤ limit'
-    → HartRuns hart (λ regs regs'. RunsShort held honest hart limit n regs memory regs' memory') old new → HartRuns hart (λ regs regs'. RunsShort held honest hart limit' n regs memory regs' memory') old new
-wider held honest hart limit limit' n old new memory memory' within r = record {
-  regs = r.regs;
-  regs' = r.regs';
-  first = r.first;
-  left = r.left;
-  runs = record {
-    between = r.runs.between;
-    each = r.runs.each;
-    tries = r.runs.tries;
-    marks = elim r.runs.marks [
-      | inl same ↦ inl same
-      | inr tried ↦ inr ((let fewer = tried.0 in omega (arith, fewer, within)), tried.1)
-    ];
-  };
-  whole = r.whole;
-}
-
--- what ran is recorded
-pub is_recorded : (hart n : ℕ) (how : Registers → Registers → Type 0) (inside now : RecordedValue) (running : RunningValue) (schedule : List Turn) → inside ≡ now → HartRuns hart how inside.running running
-    → ((memory : Memory) → may_step hart (with_memory inside.running memory) ≡ true) → written_out schedule ≡ written_out inside.schedule ++ replicate n hart → room schedule hart + n ≡ room inside.schedule hart
-    → (n ≡ 0 → schedule ≡ inside.schedule) → IsRecorded hart n how now (record { running = running; schedule = schedule })
-is_recorded hart n how inside now running schedule same runs may recorded left none =
-    subst (λ (r : RecordedValue). IsRecorded hart n how r (record { running = running; schedule = schedule })) same
-    (record { runs = runs; may = may; recorded = recorded; left = left; none = none })
-
--- where none ran the schedule is as it was
-pub none_recorded : (turns : List Turn) (hart n : ℕ) → n ≡ 0 → written_out turns ≡ written_out turns ++ replicate n hart
-none_recorded turns hart n none = sym (append-nil (written_out turns)) ∙ ap (λ k. written_out turns ++ replicate k hart) (sym none)
-
-module _ {S : Type 0} (held : S → List ℕ) (honest : Type 0) (hart : ℕ) where
-  -- a process with other parts
-  abbrev pub with_parts : SpaceValue S → RecordedValue → PagedValue S → SpaceValue S
-  with_parts old recorded memory = record { image = old.image; input = old.input; running = recorded.running; schedule = recorded.schedule; memory = memory }
+  -- ---- and so are those that were recorded by one addition
 
   abbrev pub recorded_of : SpaceValue S → RecordedValue
   recorded_of space = record { running = space.running; schedule = space.schedule }
 
-  pub record Left (n : ℕ) (old new : SpaceValue S) : Type 0 where
-    pub on : StepsOn held honest hart n old new
+  ready_for : (old : SpaceValue S) (how : Registers → Registers → Type 0) (between : RunningValue) → HartRuns hart how old.running between → may_step hart (shown_process held old) ≡ true → IsSpace held honest old → Ready old
+  ready_for old how between runs may is = record { whole = runs.whole; may = may; cached = is.cached; stands = is.stands }
+
+  -- so many that were done
+  done_on : (n : ℕ) (old : SpaceValue S) (schedule : List Turn) (between : RunningValue) (before : PagedValue S) → may_step hart (shown_process held old) ≡ true → IsSpace held honest old
+      → HartRuns hart (λ regs regs'. RunsEach held honest hart n regs old.memory regs' before) old.running between
+      → written_out schedule ≡ written_out old.schedule ++ replicate n hart → room schedule hart + n ≡ room old.schedule hart → (n ≡ 0 → schedule ≡ old.schedule)
+      → EachOn n old (with_parts old between schedule before)
+  done_on n old schedule between before may is runs recorded left none =
+      subst (λ (v : RunningValue). EachOn n old (with_parts old v schedule before)) (sym runs.left)
+      (each_on n old runs.regs runs.regs' schedule before (ready_for old _ between runs may is) runs.first runs.runs recorded left none)
+
+  pub record Left (n : ℕ) (last : Option (ℕ × SliceStop)) (old new : SpaceValue S) : Type 0 where
+    pub each : StepsEach held honest hart n last old new
     pub is : IsSpace held honest new
 
-  -- the same of a hart that ran, and may step again
-  record LeftRan (n : ℕ) (regs : Registers) (old new : SpaceValue S) : Type 0 where
-    on : StepsOn held honest hart n old new
-    is : IsSpace held honest new
-    may : may_step hart (shown_process held new) ≡ true
-    registers : hart_registers hart (shown_process held new) ≡ Some regs
-
-  recorded_on : (n : ℕ) (old : SpaceValue S) (recorded : RecordedValue) (between : PagedValue S) (how : Registers → Registers → Type 0) → IsSpace held honest old → (r : IsRecorded hart n how (recorded_of old) recorded)
-      → RunsEach held honest hart n r.runs.regs old.memory r.runs.regs' between → LeftRan n r.runs.regs' old (with_parts old recorded between)
-  recorded_on n old recorded between how is r each =
-      let ready : Ready held honest hart old = record { whole = r.runs.whole; may = r.may (memory_of held old.memory); cached = is.cached; stands = is.stands } in
-      let done = each_on held honest hart n old r.runs.regs r.runs.regs' recorded.schedule between ready r.runs.first each r.recorded r.left r.none in
-      let same : ran_as held honest hart old r.runs.regs' recorded.schedule between ≡ with_parts old recorded between =
-      ap (λ running. record { image = old.image; input = old.input; running = running; schedule = recorded.schedule; memory = between }) (sym r.runs.left) in
+  -- all were done
+  pub all_left : (n most : ℕ) (o : Option Slice) (old : SpaceValue S) (recorded : RecordedValue) (memory : PagedValue S) → o ≡ None → IfNone o (n ≡ most) → 0 < most → may_step hart (shown_process held old) ≡ true → IsSpace held honest old
+      → RunsRecorded held honest hart n (option_map (λ slice. (slice.ran, slice.stop)) o) (recorded_of old) recorded old.memory memory
+      → Left n (option_map (λ slice. (slice.ran, slice.stop)) o) old (with_parts old recorded.running recorded.schedule memory)
+  all_left n most (Some slice) old recorded memory none all some may is r = absurd (none-some _ (sym none))
+  all_left n most None old recorded memory none all some may is r =
+      let done = done_on n old recorded.schedule r.between r.before may is r.runs r.recorded r.left (λ e. absurd (omega (arith, e, all, some))) in
+      let same : with_parts old r.between recorded.schedule r.before ≡ with_parts old recorded.running recorded.schedule memory =
+      λ i. with_parts old (sym r.at_last.0 i) recorded.schedule (sym r.at_last.1 i) in
       record {
-        on = subst (StepsOn held honest hart n old) same done.on;
+        each = record { between = with_parts old r.between recorded.schedule r.before; on = done.on; at_last = sym same };
         is = subst (IsSpace held honest) same (record { stands = done.ready.stands; cached = done.ready.cached });
-        may = subst (λ (s : SpaceValue S). may_step hart (shown_process held s) ≡ true) same done.ready.may;
-        registers = subst (λ (s : SpaceValue S). hart_registers hart (shown_process held s) ≡ Some r.runs.regs') same
-            (here hart (shown_process held old) r.runs.regs' (memory_of held between) (ready.whole (memory_of held old.memory)) ready.may);
       }
 
-  still_on : (old : SpaceValue S) (recorded : RecordedValue) (memory : PagedValue S) → recorded ≡ recorded_of old → memory ≡ old.memory → with_parts old recorded memory ≡ old
-  still_on old recorded memory same stays = λ i. with_parts old (same i) (stays i)
+  -- the last one ended so
+  pub last_left : (n most : ℕ) (o : Option Slice) (slice : Slice) (old : SpaceValue S) (recorded : RecordedValue) (memory new : PagedValue S) → o ≡ Some slice → IfSome o (λ _. n < most) → most ≤ room old.schedule hart → may_step hart (shown_process held old) ≡ true → IsSpace held honest old
+      → RunsRecorded held honest hart n (option_map (λ slice. (slice.ran, slice.stop)) o) (recorded_of old) recorded old.memory memory
+      → OnlyCaches memory new → SettlesCaches slice.stop hart memory new → harts_in new ≡ length recorded.running.harts → Coheres held honest new
+      → Left n (option_map (λ slice. (slice.ran, slice.stop)) o) old (with_parts old recorded.running recorded.schedule new)
+  last_left n most None slice old recorded memory new is_last fewer fits may is r only settles cached coheres = absurd (none-some _ is_last)
+  last_left n most (Some last) slice old recorded memory new is_last fewer fits may is r only settles cached coheres =
+      let more = so_many_more n old.schedule hart (omega (arith, fewer, fits)) in
+      let room_left = more.left in
+      let done = done_on n old more.after r.between r.before may is r.runs more.recorded more.left more.none in
+      let between : SpaceValue S = with_parts old r.between more.after r.before in
+      let written : written_out recorded.schedule ≡ written_out more.after ++ replicate last.ran hart =
+      r.recorded ∙ ap (λ l. written_out old.schedule ++ l) (sym (replicate-append-replicate n last.ran hart)) ∙ sym (append_assoc (written_out old.schedule) (replicate n hart) (replicate last.ran hart))
+      ∙ ap (λ l. l ++ replicate last.ran hart) (sym more.recorded) in
+      let all_room = r.left in
+      let one = slice_of last.ran last.stop between recorded.running recorded.schedule memory new (r.at_last (room more.after hart) (omega (arith, room_left, fewer, fits))) done.ready.stands written (omega (arith, all_room, room_left))
+      only (subst (λ (s : Slice). SettlesCaches s.stop hart memory new) (sym (same_Some _ _ is_last)) settles) cached coheres in
+      record {
+        each = record { between = between; on = done.on; at_last = one };
+        is = record { stands = one.stands; cached = cached };
+      }
 
-  pub all_on : (n : ℕ) (old : SpaceValue S) (recorded : RecordedValue) (memory : PagedValue S) → IsSpace held honest old
-      → RunsRecorded hart n (λ regs regs'. RunsEach held honest hart n regs old.memory regs' memory) (recorded_of old) recorded old.memory memory → Left n old (with_parts old recorded memory)
+  -- no hart that was started goes
+  pub no_fewer_harts : (n : ℕ) (o : Option Slice) (slice : Slice) (old : SpaceValue S) (recorded : RecordedValue) (memory : PagedValue S) → o ≡ Some slice → harts_in old.memory ≡ length old.running.harts
+      → RunsRecorded held honest hart n (option_map (λ slice. (slice.ran, slice.stop)) o) (recorded_of old) recorded old.memory memory → harts_in memory ≤ length recorded.running.harts
+  no_fewer_harts n None slice old recorded memory is_last cached r = absurd (none-some _ is_last)
+  no_fewer_harts n (Some last) slice old recorded memory is_last cached r =
+      let ends = r.at_last 1 (omega arith) in
+      let more = harts_run (replicate last.ran hart) _ _ ends.ran_is in
+      let kept = ends.kept.harts in
+      let before = each_harts n r.runs.regs old.memory r.runs.regs' r.before r.runs.runs in
+      let same : length r.between.harts ≡ length old.running.harts = ap (λ (v : RunningValue). length v.harts) r.runs.left ∙ length-set old.running.harts hart r.runs.regs' in
+      omega (arith, more, kept, before, same, cached)
+
+  -- ---- steps behind which one is refused
+
+  none_on : (space : SpaceValue S) → StepsOn held honest hart 0 space space
   unfolding StepsOn
-  all_on n old recorded memory is (inl still) =
-      let same = still_on old recorded memory still.1.0 still.1.1 in
-      record { on = subst (λ k. StepsOn held honest hart k old (with_parts old recorded memory)) (sym still.0) same; is = subst (IsSpace held honest) (sym same) is }
-  all_on n old recorded memory is (inr r) =
-      let left = recorded_on n old recorded memory (λ regs regs'. RunsEach held honest hart n regs old.memory regs' memory) is r r.runs.runs in
-      record { on = left.on; is = left.is }
+  none_on space = refl
 
-  -- the pages of one more may have been looked up
-  tried_is : (space : SpaceValue S) (memory : PagedValue S) → IsSpace held honest space → Tries held hart space.memory memory → IsSpace held honest (record space { memory = memory })
-  tried_is space memory is tries = record {
-    stands = λ h. stands_on held space (record space { memory = memory }) refl refl refl refl tries.shown (used_given_up space.memory memory tries.kept.pages) (is.stands h);
-    cached = tries.kept.harts ∙ is.cached;
-  }
+  pub no_steps : (space : SpaceValue S) → StepsEach held honest hart 0 None space space
+  no_steps space = record { between = space; on = none_on space; at_last = refl }
 
-  pub record LeftShort (n : ℕ) (old new : SpaceValue S) : Type 0 where
-    pub short : StepsShort held honest hart n old new
+  on_left : (n : ℕ) (old new : SpaceValue S) → StepsOn held honest hart n old new → room new.schedule hart + n ≡ room old.schedule hart
+  unfolding StepsOn
+  on_left zero old new on = let same = ap (λ (s : SpaceValue S). room s.schedule hart) on in omega (arith, same)
+  on_left (suc n) old new on = let first = on_left n old on.0 on.1.0 in let last = on.1.1.left in omega (arith, first, last)
+
+  -- where fewer ran than were allowed, and all went on, the schedule is full
+  pub all_or_full : (n most allowed : ℕ) (o : Option Slice) (old new : SpaceValue S) → allowed ≡ min most (room old.schedule hart) → IfNone o (n ≡ allowed)
+      → StepsEach held honest hart n (option_map (λ slice. (slice.ran, slice.stop)) o) old new → IfNone o ((n ≡ most) ⊎ RefusesAll held hart new)
+  all_or_full n most allowed (Some slice) old new least all each = tt
+  all_or_full n most allowed None old new least all each =
+      let left = on_left n old each.between each.on in
+      let same = ap (λ (s : SpaceValue S). room s.schedule hart) each.at_last in
+      elim (eqb_tells n most) [
+        | inl is ↦ inl is.1
+        | inr other ↦ inr (λ may. (let differs = other.1 in omega (arith, left, same, least, all, differs)))
+      ]
+
+  pub record LeftOne (ran : ℕ) (why : SliceStop) (old new : SpaceValue S) : Type 0 where
+    pub slice : SlicesOne held honest hart ran why old new
     pub is : IsSpace held honest new
 
-  pub short_on : (n : ℕ) (old : SpaceValue S) (recorded : RecordedValue) (memory : PagedValue S) → IsSpace held honest old
-      → RunsRecorded hart n (λ regs regs'. RunsShort held honest hart (room old.schedule hart) n regs old.memory regs' memory) (recorded_of old) recorded old.memory memory → LeftShort n old (with_parts old recorded memory)
-  unfolding StepsOn
-  short_on n old recorded memory is (inl still) =
-      let same = still_on old recorded memory still.1.0 still.1.1 in
-      subst (LeftShort n old) (sym same) (record {
-        short = record {
-          between = old;
-          on = subst (λ k. StepsOn held honest hart k old old) (sym still.0) refl;
-          tries = record { shown = refl; kept = access_itself hart old.memory };
-          marks = inl refl;
-          stays = refl;
-        };
-        is = is;
-      })
-  short_on n old recorded memory is (inr r) =
-      let between = r.runs.runs.between in
-      let left = recorded_on n old recorded between (λ regs regs'. RunsShort held honest hart (room old.schedule hart) n regs old.memory regs' memory) is r r.runs.runs.each in
-      record {
-        short = record { between = with_parts old recorded between; on = left.on; tries = r.runs.runs.tries; marks = marks left.may left.registers r.runs.runs.marks; stays = refl };
-        is = tried_is (with_parts old recorded between) memory left.is r.runs.runs.tries;
-      }
-    where
-      marks : may_step hart (shown_process held (with_parts old recorded r.runs.runs.between)) ≡ true → hart_registers hart (shown_process held (with_parts old recorded r.runs.runs.between)) ≡ Some r.runs.regs'
-          → SameEntries r.runs.runs.between memory ⊎ ((n < room old.schedule hart) × MarksOne held hart r.runs.regs' r.runs.runs.between memory)
-          → MarksTried held honest hart (with_parts old recorded r.runs.runs.between) memory
-      marks may registers (inl same) = inl same
-      marks may registers (inr tried) =
-          let between = r.runs.runs.between in
-          let space : SpaceValue S = with_parts old recorded between in
-          let fewer = tried.0 in
-          let fits = r.left in
-          inr (
-            may,
-            omega (arith, fewer, fits),
-            bound_one (MarkedIn between) (MarkedIn memory) hart (shown_process held space)
-                (next_bound (MarkedIn between) (MarkedIn memory) hart (shown_process held space) r.runs.regs' registers
-                (bound_first (MarkedIn between) (MarkedIn memory) hart r.runs.regs' (memory_of held between) tried.1)),
-          )
+  -- an instruction that is not run, whatever it is
+  pub refused_one : (why : SliceStop) (old : SpaceValue S) (new : PagedValue S) → answered why 0 ≡ 0 → begun why 0 ≡ 0
+      → StopsRecorded (LacksIn old.memory) hart 1 (room old.schedule hart) (shown_process held old) why 0 (shown_process held old) → IsSpace held honest old
+      → OnlyCaches old.memory new → SettlesCaches why hart old.memory new → harts_in new ≡ harts_in old.memory → Coheres held honest new → LeftOne 0 why old (record old { memory = new })
+  refused_one why old new answers begins stops is only settles same coheres =
+      let p : Process = shown_process held old in
+      let cached = same ∙ is.cached in
+      let one = slice_of 0 why old old.running old.schedule old.memory new
+      (record {
+        ran_is = flat_run_none p;
+        within = omega arith;
+        stops = stops;
+        pages = subst (λ n. EachStep (λ at. Used (HasIn old.memory hart) (MarksSince old.memory (cache_in old.memory hart)) (next_pages hart at)) hart n p) (sym answers) (each_none _ hart p);
+        bound = bound_none (MarkedIn old.memory) hart (begun why 0) p;
+        kept = access_itself hart old.memory;
+      }) is.stands (sym (append-nil (written_out old.schedule))) (omega arith) only settles cached coheres in
+      record { slice = one; is = record { stands = one.stands; cached = cached } }
 
-  -- ---- a slice after a look-up is a slice
-
-  short_back : (budget ran : ℕ) (before before' after : Process) → before' ≡ before → StopsShort hart budget before' ran after → StopsShort hart budget before ran after
-  short_back budget ran before before' after same short = subst (λ p. StopsShort hart budget p ran after) same short
-
-  stops_back : (lacks lacked : ℕ → Type 0) (room ran : ℕ) (before before' after : Process) (why : SliceStop) → before' ≡ before → ((page : ℕ) → lacked page → lacks page)
-      → StopsRecorded lacked hart 1 room before' why ran after → StopsRecorded lacks hart 1 room before why ran after
-  stops_back lacks lacked room ran before before' after Budget same back stops = subst (λ p. StopsRecorded lacks hart 1 room p Budget ran after) same stops
-  stops_back lacks lacked room ran before before' after (Absent page) same back stops = (stops.0, (short_back 1 ran before before' after same stops.1.0, stops.1.1, back page stops.1.2))
-  stops_back lacks lacked room ran before before' after Yield same back stops = subst (λ p. StopsRecorded lacks hart 1 room p Yield ran after) same stops
-  stops_back lacks lacked room ran before before' after HartDone same back stops = subst (λ p. StopsRecorded lacks hart 1 room p HartDone ran after) same stops
-  stops_back lacks lacked room ran before before' after Ended same back stops = subst (λ p. StopsRecorded lacks hart 1 room p Ended ran after) same stops
-  stops_back lacks lacked room ran before before' after NoHart same back stops = subst (λ p. StopsRecorded lacks hart 1 room p NoHart ran after) same stops
-  stops_back lacks lacked room ran before before' after ScheduleFull same back stops = subst (λ p. StopsRecorded lacks hart 1 room p ScheduleFull ran after) same stops
-  stops_back lacks lacked room ran before before' after NoMemory same back stops = subst (λ p. StopsRecorded lacks hart 1 room p NoMemory ran after) same stops
-
-  others_back : (old between new : PagedValue S) → KeepsAccess hart old between → OthersStay hart between new → OthersStay hart old new
-  others_back old between new kept others = λ h other. others h other ∙ kept.others h other
-
-  caches_back : (why : SliceStop) (old between new : PagedValue S) → KeepsAccess hart old between → LeavesCaches why hart between new → LeavesCaches why hart old new
-  caches_back Budget old between new kept left = (
-    others_back old between new kept left.0,
-    record {
-      held = λ page is. had_in hart page old between kept (left.1.held page is);
-      doomed = λ page is. kept.doomed page (left.1.doomed page is);
-    },
-  )
-  caches_back Ended old between new kept left = left
-  caches_back (Absent page) old between new kept left = (others_back old between new kept left.0, left.1)
-  caches_back Yield old between new kept left = (others_back old between new kept left.0, left.1)
-  caches_back HartDone old between new kept left = (others_back old between new kept left.0, left.1)
-  caches_back NoHart old between new kept left = (others_back old between new kept left.0, left.1)
-  caches_back ScheduleFull old between new kept left = (others_back old between new kept left.0, left.1)
-  caches_back NoMemory old between new kept left = (others_back old between new kept left.0, left.1)
-
-  marks_back : (old between new : PagedValue S) → KeepsAccess hart old between → (page : ℕ) → MarksSince new (cache_in between hart) page → MarksSince new (cache_in old hart) page
-  marks_back old between new kept page marks = (marks.0, elim marks.1 [ inl used ↦ inl used | inr doomed ↦ inr (kept.doomed page doomed) ])
-
-  -- an instruction that a slice of one tried was begun in it
-  one_begun : (lacks : ℕ → Type 0) (room ran : ℕ) (before after : Process) (why : SliceStop) → may_step hart before ≡ true → 0 < room
-      → StopsRecorded lacks hart 1 room before why ran after → 1 ≤ begun why ran
-  one_begun lacks room ran before after Budget may fits stops = let all = stops.0 in omega (arith, all)
-  one_begun lacks room ran before after (Absent page) may fits stops = omega arith
-  one_begun lacks room ran before after Yield may fits stops = let count = stops.count in omega (arith, count)
-  one_begun lacks room ran before after HartDone may fits stops = let count = stops.count in omega (arith, count)
-  one_begun lacks room ran before after Ended may fits (inl ended) = absurd (true≢false (sym ended.2 ∙ ap is_some (has_no_ending hart before may)))
-  one_begun lacks room ran before after Ended may fits (inr stops) = let count = stops.count in omega (arith, count)
-  one_begun lacks room ran before after NoHart may fits stops = absurd (true≢false (sym (both _ (is_live hart before) may).1 ∙ stops.3))
-  one_begun lacks room ran before after ScheduleFull may fits stops = let full = stops.0 in omega (arith, full, fits)
-  one_begun lacks room ran before after NoMemory may fits stops = omega arith
-
-  tried_bound : (ran : ℕ) (why : SliceStop) (old : SpaceValue S) (memory : PagedValue S) (new : SpaceValue S) → shown_process held (record old { memory = memory }) ≡ shown_process held old
-      → MarksTried held honest hart old memory → StopsRecorded (LacksIn memory) hart 1 (room old.schedule hart) (shown_process held old) why ran (shown_process held new)
-      → BoundsEach (MarkedIn memory) (MarkedIn new.memory) hart (begun why ran) (shown_process held (record old { memory = memory }))
-      → BoundsEach (MarkedIn old.memory) (MarkedIn new.memory) hart (begun why ran) (shown_process held old)
-  tried_bound ran why old memory new same (inl tables) stops bound =
-      same_marks old.memory memory (λ marks. BoundsEach marks (MarkedIn new.memory) hart (begun why ran) (shown_process held old)) tables
-      (subst (λ p. BoundsEach (MarkedIn memory) (MarkedIn new.memory) hart (begun why ran) p) same bound)
-  tried_bound ran why old memory new same (inr tried) stops bound =
-      bound_again (MarkedIn old.memory) (MarkedIn memory) (MarkedIn new.memory) hart 1 (begun why ran) (shown_process held old)
-      (one_begun (LacksIn memory) (room old.schedule hart) ran (shown_process held old) (shown_process held new) why tried.0 tried.1 stops) tried.2
-      (subst (λ p. BoundsEach (MarkedIn memory) (MarkedIn new.memory) hart (begun why ran) p) same bound)
-
-  tried_slice : (ran : ℕ) (why : SliceStop) (old : SpaceValue S) (memory : PagedValue S) (new : SpaceValue S) → Tries held hart old.memory memory → MarksTried held honest hart old memory
-      → SlicesOne held honest hart ran why (record old { memory = memory }) new → SlicesOne held honest hart ran why old new
-  tried_slice ran why old memory new tries marks slice =
-      let same : shown_process held (record old { memory = memory }) ≡ shown_process held old = ap (with_memory old.running) tries.shown in
-      record {
-        ran_is = subst (λ p. flat_run (replicate ran hart) p ≡ Some (shown_process held new)) same slice.ran_is;
-        recorded = slice.recorded;
-        left = slice.left;
-        within = slice.within;
-        stops = stops_back (LacksIn old.memory) (LacksIn memory) (room old.schedule hart) ran (shown_process held old) (shown_process held (record old { memory = memory })) (shown_process held new) why same
-            (λ page lacks. lacked_in old.memory memory page tries.kept.pages lacks) slice.stops;
-        pages = subst (λ p. EachStep (λ at. Used (HasIn old.memory hart) (MarksSince new.memory (cache_in old.memory hart)) (next_pages hart at)) hart (answered why ran) p) same
-            (λ done at h e. used_on (HasIn memory hart) (MarksSince new.memory (cache_in memory hart)) (HasIn old.memory hart) (MarksSince new.memory (cache_in old.memory hart)) (next_pages hart at)
-            (λ page has. had_in hart page old.memory memory tries.kept has) (λ page marks. marks_back old.memory memory new.memory tries.kept page marks) (slice.pages done at h e));
-        bound = tried_bound ran why old memory new same marks
-            (subst (λ p. StopsRecorded (LacksIn memory) hart 1 (room old.schedule hart) p why ran (shown_process held new)) same slice.stops) slice.bound;
-        kept = record {
-          image = slice.kept.image;
-          input = slice.kept.input;
-          process = slice.kept.process ∙ tries.kept.process;
-          pages = kept_on old.memory memory new.memory tries.kept.pages slice.kept.pages;
-          used = λ page small is. slice.kept.used page small (tries.kept.used page small is);
-          changed = λ page small is. slice.kept.changed page small (tries.kept.changed page small is);
-          harts = slice.kept.harts;
-          caches = caches_back why old.memory memory new.memory tries.kept slice.kept.caches;
-        };
-        stands = slice.stands;
-        coheres = slice.coheres;
-      }
-
-  -- so many steps, and then one more slice of one instruction
-  pub steps_and_one : (n ran : ℕ) (why : SliceStop) (old tried new : SpaceValue S) → StepsShort held honest hart n old tried → SlicesOne held honest hart ran why tried new
-      → StepsEach held honest hart n (Some (ran, why)) old new
-  steps_and_one n ran why old tried new short slice = record {
-    between = short.between;
-    on = short.on;
-    at_last = tried_slice ran why short.between tried.memory new short.tries short.marks (subst (λ (s : SpaceValue S). SlicesOne held honest hart ran why s new) short.stays slice);
+  pub then_refused : (n ran : ℕ) (why : SliceStop) (o : Option Slice) (old between new : SpaceValue S) → o ≡ None → StepsEach held honest hart n (option_map (λ slice. (slice.ran, slice.stop)) o) old between
+      → SlicesOne held honest hart ran why between new → StepsEach held honest hart n (Some (ran, why)) old new
+  then_refused n ran why (Some slice) old between new none each one = absurd (none-some _ (sym none))
+  then_refused n ran why None old between new none each one = record {
+    between = each.between;
+    on = each.on;
+    at_last = subst (λ (s : SpaceValue S). SlicesOne held honest hart ran why s new) each.at_last one;
   }

@@ -6,5 +6,6 @@ pub mod Caches
 pub mod Slices
 pub mod StandsFor
 pub mod StepByStep
-pub mod Plain
+pub mod HartLoop
+pub mod Endings
 pub mod Slicing

@@ -1,5 +1,5 @@
 -- A hart's next instruction in a process: what it does to the process, and the pages that it uses.
-use Rattle.std.specs.Prelude.{ℕ, ◌+◌, Bool, true, false, List, [], Option, Some, None, option_map, unwrap_or}
+use Rattle.std.specs.Prelude.{ℕ, ◌+◌, List, [], Option, option_map, unwrap_or}
 use Rattle.env_calls.specs.declared.served.ServeStop.{ServeStop}
 use Rattle.env_calls.specs.declared.served.ServeStop.TheVariants as serve
 use Rattle.env_calls.specs.Effect.{Effect, Runs, Yields, Spawns, Finishes, Exits, Traps}
@@ -56,27 +56,15 @@ begun stop.NoHart ran = ran
 begun stop.ScheduleFull ran = ran
 begun stop.NoMemory ran = ran + 1
 
--- why a slice stops after a step, if it does
-abbrev pub stop_after : Progress → Option SliceStop
-stop_after GoesOn = None
-stop_after Spawned = None
-stop_after Yielded = Some stop.Yield
-stop_after HartDone = Some stop.HartDone
-stop_after Ended = Some stop.Ended
+-- why a slice of one instruction stops after it
+abbrev pub stop_after : Progress → SliceStop
+stop_after GoesOn = stop.Budget
+stop_after Spawned = stop.Budget
+stop_after Yielded = stop.Yield
+stop_after HartDone = stop.HartDone
+stop_after Ended = stop.Ended
 
--- why it stops before a step that is not taken
+-- why it stops before one that is not taken
 abbrev pub stop_before : ServeStop → SliceStop
 stop_before (serve.Absent page) = stop.Absent page
 stop_before serve.NoMemory = stop.NoMemory
-
--- why it stops where the schedule may have taken fewer than it was allowed
-abbrev pub recorded_stop : SliceStop → Bool → SliceStop
-recorded_stop stop.Budget true = stop.ScheduleFull
-recorded_stop stop.Budget false = stop.Budget
-recorded_stop (stop.Absent page) short = stop.Absent page
-recorded_stop stop.Yield short = stop.Yield
-recorded_stop stop.HartDone short = stop.HartDone
-recorded_stop stop.Ended short = stop.Ended
-recorded_stop stop.NoHart short = stop.NoHart
-recorded_stop stop.ScheduleFull short = stop.ScheduleFull
-recorded_stop stop.NoMemory short = stop.NoMemory

@@ -1,7 +1,6 @@
 -- Slices: a hart runs so many instructions in a row, and stops for the reason that is named.
 use Rattle.std.specs.Prelude.{◌≡◌, ℕ, Bool, ◌+◌, ◌<◌, ◌⊎◌, true, false, Some, None, IsSome, replicate, Contains}
 use Rattle.rv_exec.specs.Bounds.{Pass}
-use Rattle.rv_exec.specs.Outcomes.{Used}
 use Rattle.flat_machine.specs.Process.{Process, is_live, may_step, flat_run}
 use Rattle.flat_machine.specs.Refusals.{WantsMemory}
 use Rattle.space_core.specs.declared.progress.Progress.{Progress}
@@ -24,13 +23,6 @@ pub record BoundsEach (old new : (ℕ → Bool) → (ℕ → Bool) → Type 0) (
 -- the hart's next instruction is no yield and ends neither the hart nor the process
 abbrev pub PassesOn : ℕ → Process → Type 0
 PassesOn hart process = (next_progress hart process ≡ Some progress.GoesOn) ⊎ (next_progress hart process ≡ Some progress.Spawned)
-
--- so many instructions of a hart ran, all pass on, and it may step again; pages that were had were used and marked
-pub record PassedOn (has marks : ℕ → Type 0) (hart count : ℕ) (before after : Process) : Type 0 where
-  pub ran : flat_run (replicate count hart) before ≡ Some after
-  pub may : may_step hart after ≡ true
-  pub on : EachStep (PassesOn hart) hart count before
-  pub pages : EachStep (λ at. Used has marks (next_pages hart at)) hart count before
 
 -- the last of so many instructions is this, and those before it pass on
 pub record EndsWith (hart : ℕ) (before : Process) (what : Progress) (ran : ℕ) : Type 0 where

@@ -26,6 +26,15 @@ pub struct Slice {
     pub stop: SliceStop,
 }
 
+/// How a hart's instructions went that ran one at a time.
+#[derive(Clone, Copy, PartialEq, Eq, Debug)]
+pub struct Steps {
+    /// How many ran and passed on to the next one.
+    pub ran: u32,
+    /// The slice of one instruction behind them, where there were fewer than were allowed.
+    pub last: Option<Slice>,
+}
+
 /// Why a slice stops.
 #[derive(Clone, Copy, Debug, PartialEq, Eq)]
 pub enum SliceStop {
@@ -48,17 +57,16 @@ pub enum SliceStop {
 }
 
 impl Progress {
-    /// Why a slice stops after a step, if it does.
-    #[inline]
-    pub(crate) fn stop(self) -> Option<SliceStop>
+    /// Why a slice of one instruction stops after it.
+    pub(crate) fn stop(self) -> SliceStop
         ensures { result ≡ stop_after self }
     {
         match self {
-            Progress::GoesOn => None,
-            Progress::Spawned => None,
-            Progress::Yielded => Some(SliceStop::Yield),
-            Progress::HartDone => Some(SliceStop::HartDone),
-            Progress::Ended => Some(SliceStop::Ended),
+            Progress::GoesOn => SliceStop::Budget,
+            Progress::Spawned => SliceStop::Budget,
+            Progress::Yielded => SliceStop::Yield,
+            Progress::HartDone => SliceStop::HartDone,
+            Progress::Ended => SliceStop::Ended,
         }
     }
 }

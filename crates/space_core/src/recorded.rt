@@ -1,19 +1,22 @@
-ghost use Rattle.std.specs.Prelude.{◌≡◌, ◌≤◌, ◌+◌, ◌++◌, Some, [], min, replicate, IfOk};
+ghost use Rattle.std.specs.Prelude.{◌≡◌, ◌≤◌, ◌<◌, true, [], min, length, option_map, Some, IfNone, IfSome, IfOk};
 ghost use Rattle.std.specs.Option.{option_or};
-ghost use Rattle.flat_machine.specs.Process.{flat_run, opening};
-ghost use Rattle.flat_machine.specs.Schedule.{written_out, room};
-ghost use Rattle.rv_exec.specs.Outcomes.{Used};
-ghost use Rattle.space_core.specs.RunningValue.{with_memory, beside};
-ghost use Rattle.space_core.specs.Next.{next_pages, answered, begun, recorded_stop};
-ghost use Rattle.space_core.specs.Slices.{EachStep, BoundsEach, StopsRecorded};
+ghost use Rattle.flat_machine.specs.Process.{may_step, opening};
+ghost use Rattle.flat_machine.specs.Schedule.{room};
+ghost use Rattle.paged_memory.specs.Paged.{memory_of};
+ghost use Rattle.paged_memory.specs.Whole.{harts_in};
+ghost use Rattle.space_core.specs.Endings.{RunsRecorded};
+ghost use Rattle.space_core.specs.RunningValue.{beside, with_memory};
 
-use crate::progress::{Slice, SliceStop};
+use crate::progress::Steps;
 use crate::running::Running;
 use elf_image::Image;
 use flat_machine::{End, KillCause, Schedule};
-use rv_exec::Bus;
+use paged_memory::PagedMemory;
+use rv_exec::Outcome;
 use std::alloc::{AllocError, Global};
 use std::marker::Model;
+use std::sync::ledger::Ledger;
+use swap_slots::SwapSlot;
 
 /// What a process is beside its memory, with the schedule of the instructions that it ran.
 #[derive(Drop)]
@@ -44,37 +47,39 @@ impl Recorded {
         })
     }
 
-    /// Runs up to so many instructions of a hart, and records each.
-    ///
-    /// It stops early where [`Running::slice`] does, and where the schedule takes no more instructions of the
-    /// hart; of several reasons the first of: ended, no such live hart, schedule full, the next instruction's.
-    pub fn slice<B: Bus>(&mut self, hart: u32, budget: u32, bus: &mut B) -> Slice
-        ensures ran { let before = with_memory self.old.running (B.memory bus.old) in
-            flat_run (replicate result.ran hart) before ≡ Some (with_memory self.new.running (B.memory bus.new)) }
-        ensures recorded { written_out self.new.schedule ≡ written_out self.old.schedule ++ replicate result.ran hart }
-        ensures left { room self.new.schedule hart + result.ran ≡ room self.old.schedule hart }
-        ensures within { result.ran ≤ budget }
-        ensures stop { let before = with_memory self.old.running (B.memory bus.old) in
-            StopsRecorded (B.lacks bus.old) hart budget (room self.old.schedule hart) before result.stop result.ran (with_memory self.new.running (B.memory bus.new)) }
-        ensures pages { let before = with_memory self.old.running (B.memory bus.old) in
-            EachStep (λ at. Used (B.has bus.old) (B.marks bus.new) (next_pages hart at)) hart (answered result.stop result.ran) before }
-        ensures bound { let before = with_memory self.old.running (B.memory bus.old) in
-            BoundsEach (B.within bus.old) (B.within bus.new) hart (begun result.stop result.ran) before }
-        ensures kept { B.keeps bus.old bus.new }
+    /// Runs instructions of a hart that may step, up to so many, and records them: one by one, until one calls, traps or uses a
+    /// page that is absent, which is the last of them.
+    pub(crate) fn run<L: Ledger, S: SwapSlot>(
+        &mut self,
+        hart: u32,
+        memory: &mut PagedMemory<L, S>,
+        most: u32,
+    ) -> Steps
+        requires may { may_step hart (with_memory self.old.running (memory_of S.content memory.old)) ≡ true }
+        requires cached { harts_in memory.old ≡ length self.old.running.harts }
+        requires fits { most ≤ room self.old.schedule hart }
+        ensures within { result.ran ≤ most }
+        ensures runs { RunsRecorded S.content S.honest hart result.ran (option_map (λ slice. (slice.ran, slice.stop)) result.last) self.old self.new memory.old memory.new }
+        ensures all { IfNone result.last (result.ran ≡ most) }
+        ensures short { IfSome result.last (λ _. result.ran < most) }
     {
-        let room = self.schedule.room(hart);
-        if budget > 0 && room == 0 {
-            return Slice {
-                ran: 0,
-                stop: self.running.stop_where_full(hart, budget, bus),
-            };
-        }
-        let allowed = least(budget, room);
-        let slice = self.running.slice(hart, allowed, bus);
-        self.schedule.record(hart, slice.ran);
-        Slice {
-            ran: slice.ran,
-            stop: recorded_stop(slice.stop, allowed < budget),
+        let course = self.running.run_each(hart, memory, most);
+        match course.last {
+            Outcome::Done => {
+                self.schedule.record(hart, course.done);
+                Steps {
+                    ran: course.done,
+                    last: None,
+                }
+            }
+            outcome => {
+                let slice = self.running.end_slice(hart, memory, outcome);
+                self.schedule.record(hart, course.done + slice.ran);
+                Steps {
+                    ran: course.done,
+                    last: Some(slice),
+                }
+            }
         }
     }
 
@@ -115,21 +120,5 @@ pub(crate) fn least(budget: u32, room: u64) -> u32
         budget
     } else {
         room as u32
-    }
-}
-
-/// A slice that ran as many as its schedule takes, and fewer than it was allowed, stops for the schedule.
-fn recorded_stop(stop: SliceStop, is_short: bool) -> SliceStop
-    ensures { result ≡ recorded_stop stop is_short }
-{
-    match stop {
-        SliceStop::Budget => {
-            if is_short {
-                SliceStop::ScheduleFull
-            } else {
-                SliceStop::Budget
-            }
-        }
-        other => other,
     }
 }

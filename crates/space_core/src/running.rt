@@ -1,7 +1,8 @@
-ghost use Rattle.std.specs.Prelude.{◌≡◌, Some, option_copied, slice_get, slice_index_or, false, IfOk};
+ghost use Rattle.std.specs.Prelude.{◌≡◌, ◌≤◌, Some, option_copied, slice_get, slice_index_or, false, length, IfOk};
 ghost use Rattle.std.specs.Option.{option_or};
-ghost use Rattle.flat_machine.specs.Process.{opening};
-ghost use Rattle.space_core.specs.RunningValue.{beside};
+ghost use Rattle.flat_machine.specs.Process.{may_step, opening};
+ghost use Rattle.page_memory.specs.Memory.{Memory};
+ghost use Rattle.space_core.specs.RunningValue.{beside, with_memory};
 
 use elf_image::Image;
 use env_calls::Env;
@@ -70,6 +71,24 @@ impl Running {
         if self.end.is_none() {
             self.end = Some(End::Killed(cause));
         }
+    }
+
+    /// How many harts were started.
+    pub(crate) fn started(&self) -> usize
+        ensures count { result ≡ length self.now.harts }
+        ensures few { result ≤ 8 }
+    {
+        self.harts.len()
+    }
+
+    /// Whether a hart was started and is live in a process that has not ended.
+    pub(crate) fn may_step(&self, hart: u32) -> bool
+        ensures { (memory : Memory) → result ≡ may_step hart (with_memory self.now memory) }
+    {
+        if self.end.is_some() {
+            return false;
+        }
+        self.env.is_live(hart)
     }
 
     /// Whether a hart was started and is live.

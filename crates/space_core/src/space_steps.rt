@@ -1,96 +1,103 @@
 //! A hart's instructions one at a time, each as a slice of its own.
 
-ghost use Rattle.std.specs.Prelude.{◌≡◌, ◌≤◌, ◌<◌, true, length, option_map, IfNone, IfSome};
+ghost use Rattle.std.specs.Prelude.{◌≡◌, ◌≤◌, ◌<◌, ◌⊎◌, true, option_map, IfNone, IfSome};
 ghost use Rattle.flat_machine.specs.Process.{may_step};
 ghost use Rattle.flat_machine.specs.Schedule.{room};
 ghost use Rattle.paged_memory.specs.Paged.{memory_of};
-ghost use Rattle.page_memory.specs.Memory.{Memory};
+ghost use Rattle.paged_memory.specs.Using.{LacksIn};
+ghost use Rattle.space_core.specs.Next.{answered, begun};
 ghost use Rattle.space_core.specs.RunningValue.{with_memory};
-ghost use Rattle.space_core.specs.StepByStep.{HartRuns, RunsRecorded, RunsShort, RunsEach, StepsOn, StepsShort, StepsEach};
-ghost use Rattle.paged_memory.specs.Whole.{harts_in};
+ghost use Rattle.space_core.specs.Slices.{StopsRecorded};
+ghost use Rattle.space_core.specs.Slicing.{shown_process};
+ghost use Rattle.space_core.specs.StepByStep.{SlicesOne, StepsEach};
+ghost use Rattle.space_core.specs.Endings.{RefusesAll};
 
-use crate::progress::Slice;
+use crate::left_caches::{add_harts, settle_caches};
+use crate::progress::{Slice, SliceStop, Steps};
 use crate::recorded::{Recorded, least};
-use crate::running::Running;
 use crate::space::Space;
-use crate::stepping_on::run_each;
 use paged_memory::PagedMemory;
 use std::sync::ledger::Ledger;
 use swap_slots::SwapSlot;
 
-/// How a hart's instructions went that ran one at a time.
-#[derive(Clone, Copy, PartialEq, Eq, Debug)]
-pub struct Steps {
-    /// How many ran and passed on to the next one.
-    pub ran: u32,
-    /// The slice of one instruction behind them, where there were fewer than were allowed.
-    pub last: Option<Slice>,
-}
-
-impl Running {
-    /// Whether a hart was started and is live in a process that has not ended.
-    fn may_step(&self, hart: u32) -> bool
-        ensures { (memory : Memory) → result ≡ may_step hart (with_memory self.now memory) }
-    {
-        if self.end.is_some() {
-            return false;
-        }
-        self.env.is_live(hart)
-    }
-
-    /// Runs instructions of a hart that may step, one by one, until one calls, traps or uses a page that is absent.
-    fn step_each<L: Ledger, S: SwapSlot>(
-        &mut self,
-        hart: u32,
-        memory: &mut PagedMemory<L, S>,
-        most: u32,
-    ) -> u32
-        requires may { may_step hart (with_memory self.old (memory_of S.content memory.old)) ≡ true }
-        requires cached { harts_in memory.old ≡ length self.old.harts }
-        ensures within { result ≤ most }
-        ensures short { HartRuns hart (λ regs regs'. RunsShort S.content S.honest hart most result regs memory.old regs' memory.new) self.old self.new }
-        ensures all { result ≡ most → HartRuns hart (λ regs regs'. RunsEach S.content S.honest hart result regs memory.old regs' memory.new) self.old self.new }
-    {
-        let regs = &mut self.harts[hart as usize];
-        run_each(regs, memory, hart, most)
-    }
-}
-
-/// Runs and records instructions of a hart one by one, until one calls, traps or uses a page that is absent. That one is not
-/// run, but its pages may have been looked up.
-fn record_each<L: Ledger, S: SwapSlot>(
-    recorded: &mut Recorded,
-    memory: &mut PagedMemory<L, S>,
+/// Why a hart stops whose next instruction is not run, whatever it is.
+fn stop_refused<L: Ledger, S: SwapSlot>(
+    recorded: &Recorded,
+    memory: &PagedMemory<L, S>,
     hart: u32,
-    most: u32,
-) -> u32
-    requires cached { harts_in memory.old ≡ length recorded.old.running.harts }
-    ensures within { result ≤ most }
-    ensures short { RunsRecorded hart result (λ regs regs'. RunsShort S.content S.honest hart (room recorded.old.schedule hart) result regs memory.old regs' memory.new) recorded.old recorded.new memory.old memory.new }
-    ensures all { result ≡ most → RunsRecorded hart result (λ regs regs'. RunsEach S.content S.honest hart result regs memory.old regs' memory.new) recorded.old recorded.new memory.old memory.new }
+) -> SliceStop
+    requires refused { may_step hart (with_memory recorded.now.running (memory_of S.content memory.now)) ≡ true → room recorded.now.schedule hart ≡ 0 }
+    ensures answers { answered result 0 ≡ 0 }
+    ensures begins { begun result 0 ≡ 0 }
+    ensures stop { let now = with_memory recorded.now.running (memory_of S.content memory.now) in
+        StopsRecorded (LacksIn memory.now) hart 1 (room recorded.now.schedule hart) now result 0 now }
 {
-    let allowed = least(most, recorded.schedule.room(hart));
-    if allowed == 0 {
-        return 0;
+    let running = recorded.running();
+    if running.end().is_some() {
+        return SliceStop::Ended;
     }
-    if !recorded.running.may_step(hart) {
-        return 0;
+    if !running.is_live(hart) {
+        return SliceStop::NoHart;
     }
-    let ran = recorded.running.step_each(hart, memory, allowed);
-    if ran > 0 {
-        recorded.schedule.record(hart, ran);
-    }
-    ran
+    SliceStop::ScheduleFull
 }
 
 impl<L: Ledger, S: SwapSlot> Space<L, S> {
-    /// The same of the process.
-    fn step_on(&mut self, hart: u32, most: u32) -> u32
-        ensures within { result ≤ most }
-        ensures short { StepsShort S.content S.honest hart result self.old self.new }
-        ensures all { result ≡ most → StepsOn S.content S.honest hart result self.old self.new }
+    /// Whether a hart was started and is live in a process that has not ended.
+    fn may_step(&self, hart: u32) -> bool
+        ensures { result ≡ may_step hart (shown_process S.content self.now) }
     {
-        record_each(&mut self.recorded, &mut self.memory, hart, most)
+        self.recorded.running().may_step(hart)
+    }
+
+    /// Runs and records instructions of a hart that may step, up to so many, which its schedule takes.
+    fn run(&mut self, hart: u32, most: u32) -> Steps
+        requires may { may_step hart (shown_process S.content self.old) ≡ true }
+        requires some { 0 < most }
+        requires fits { most ≤ room self.old.schedule hart }
+        ensures within { result.ran ≤ most }
+        ensures each { StepsEach S.content S.honest hart result.ran (option_map (λ slice. (slice.ran, slice.stop)) result.last) self.old self.new }
+        ensures all { IfNone result.last (result.ran ≡ most) }
+        ensures short { IfSome result.last (λ _. result.ran < most) }
+    {
+        let steps = self.recorded.run(hart, &mut self.memory, most);
+        let Some(slice) = steps.last else {
+            return steps;
+        };
+        add_harts(&mut self.memory, self.recorded.running().started());
+        settle_caches(&mut self.memory, hart as usize, slice.stop);
+        self.memory.coherent();
+        steps
+    }
+
+    /// The same of any hart: none run where it may not step, and no more than the schedule takes.
+    fn run_allowed(&mut self, hart: u32, most: u32) -> Steps
+        ensures within { result.ran ≤ most }
+        ensures each { StepsEach S.content S.honest hart result.ran (option_map (λ slice. (slice.ran, slice.stop)) result.last) self.old self.new }
+        ensures all { IfNone result.last ((result.ran ≡ most) ⊎ RefusesAll S.content hart self.new) }
+        ensures short { IfSome result.last (λ _. result.ran < most) }
+    {
+        let allowed = least(most, self.schedule().room(hart));
+        if allowed == 0 {
+            return Steps { ran: 0, last: None };
+        }
+        if !self.may_step(hart) {
+            return Steps { ran: 0, last: None };
+        }
+        self.run(hart, allowed)
+    }
+
+    /// Stops a hart whose next instruction is not run, whatever it is.
+    #[cold]
+    #[inline(never)]
+    fn refuse(&mut self, hart: u32) -> Slice
+        requires refused { RefusesAll S.content hart self.old }
+        ensures slice { SlicesOne S.content S.honest hart result.ran result.stop self.old self.new }
+    {
+        let stop = stop_refused(&self.recorded, &self.memory, hart);
+        settle_caches(&mut self.memory, hart as usize, stop);
+        self.memory.coherent();
+        Slice { ran: 0, stop }
     }
 
     /// Runs instructions of a hart one at a time, up to so many, each as a slice of its own, until one of them does
@@ -101,13 +108,16 @@ impl<L: Ledger, S: SwapSlot> Space<L, S> {
         ensures all { IfNone result.last (result.ran ≡ most) }
         ensures short { IfSome result.last (λ _. result.ran < most) }
     {
-        let ran = self.step_on(hart, most);
-        if ran == most {
-            return Steps { ran, last: None };
+        let steps = self.run_allowed(hart, most);
+        if steps.last.is_some() {
+            return steps;
         }
-        let slice = self.slice_one(hart);
+        if steps.ran == most {
+            return steps;
+        }
+        let slice = self.refuse(hart);
         Steps {
-            ran,
+            ran: steps.ran,
             last: Some(slice),
         }
     }

@@ -1,7 +1,8 @@
--- The pages of a step are those of its instruction, and then those of its call.
-use Rattle.env_calls.specs.declared.served.Served.{Served}
-use Rattle.env_calls.specs.declared.stepping.Stepped.{Stepped}
-use Rattle.env_calls.specs.StepLaws.{used_next, used_traps, used_call, stopped_call, bound_call}
+-- A step is its instruction and what is left of it.
+use Rattle.env_calls.specs.Finishing.{IsStep}
+use Rattle.env_calls.specs.FinishingLaws.{step_then}
+use Rattle.env_calls.specs.StepLaws.{used_next}
+use Rattle.env_calls.proofs.stepping.step.Given.{Over}
 use Rattle.env_calls.proofs.stepping.step.Goals as goal
 
 pub returns-in-Done-clause-pages : goal.returns-in-Done-clause-pages
@@ -9,41 +10,38 @@ returns-in-Done-clause-pages g c =
     used_next (g.B.Bus.has c.args.bus.now) (g.B.Bus.marks c.execute.new.bus) c.args.hart c.args.regs.now (g.B.Bus.memory c.args.bus.now) c.execute.new.regs (g.B.Bus.memory c.execute.new.bus)
     c.in-Done.ensures.line c.in-Done.ensures.pages
 
-pub returns-in-Trap-clause-pages : goal.returns-in-Trap-clause-pages
-returns-in-Trap-clause-pages g c =
-    used_traps (g.B.Bus.has c.args.bus.now) (g.B.Bus.marks c.execute.new.bus) c.args.hart c.args.regs.now (g.B.Bus.memory c.args.bus.now) c.in-Trap.cause c.in-Trap.value
-    c.in-Trap.ensures.line c.in-Trap.ensures.pages
+whole : (g : Over) (c : goal.After-finish g) → IsStep (g.B.Bus.has c.args.bus.now) (g.B.Bus.marks c.finish.new.bus) (g.B.Bus.lacks c.args.bus.now) (g.B.Bus.within c.args.bus.now) (g.B.Bus.within c.finish.new.bus) c.args.hart
+    c.args.regs.now c.args.env.now (g.B.Bus.memory c.args.bus.now) c.finish.result c.finish.new.regs c.finish.new.env (g.B.Bus.memory c.finish.new.bus)
+whole g c =
+    let did = c.execute.ensures in
+    let rest = c.finish.ensures in
+    step_then (g.B.Bus.has c.args.bus.now) (g.B.Bus.marks c.execute.new.bus) (g.B.Bus.lacks c.args.bus.now) (g.B.Bus.has c.execute.new.bus) (g.B.Bus.marks c.finish.new.bus) (g.B.Bus.lacks c.execute.new.bus)
+    (g.B.Bus.within c.args.bus.now) (g.B.Bus.within c.execute.new.bus) (g.B.Bus.within c.finish.new.bus) c.args.hart c.args.regs.now c.args.env.now (g.B.Bus.memory c.args.bus.now) c.execute.new.regs (g.B.Bus.memory c.execute.new.bus)
+    c.finish.result c.finish.new.regs c.finish.new.env (g.B.Bus.memory c.finish.new.bus)
+    (λ page h. g.met.B.Bus.had_before _ _ page did.kept h)
+    (λ page h. g.met.B.Bus.lacked_before _ _ page did.kept h)
+    (λ page h. g.met.B.Bus.marked_on _ _ page rest.kept h)
+    c.execute.result
+    (record { line_is = did.line; regs_stay = did.registers_stay; memory_stays = did.memory_stays; pages = did.pages; bound = did.bound })
+    (record { stepped = rest.stepped; regs_stay = rest.regs_stay; env_stays = rest.env_stays; memory_stays = rest.memory_stays; pages = rest.pages; bound = rest.bound; no_memory = rest.no_memory })
 
-pub returns-in-Ok-clause-pages : goal.returns-in-Ok-clause-pages
-returns-in-Ok-clause-pages g c =
-    used_call (g.B.Bus.has c.args.bus.now) (g.B.Bus.marks c.execute.new.bus) (g.B.Bus.has c.execute.new.bus) (g.B.Bus.marks c.serve.new.bus)
-    c.args.hart c.args.regs.now c.execute.new.regs (g.B.Bus.memory c.args.bus.now) (g.B.Bus.memory c.execute.new.bus)
-    c.in-Ecall.ensures.line c.in-Ecall.ensures.registers_stay c.in-Ecall.ensures.memory_stays
-    (λ page h. g.met.B.Bus.had_before _ _ page c.execute.ensures.kept h)
-    (λ page h. g.met.B.Bus.marked_on _ _ page c.serve.ensures.kept h)
-    c.in-Ecall.ensures.pages c.in-Ok.ensures.pages
+pub returns-in_default-clause-stepped : goal.returns-in_default-clause-stepped
+returns-in_default-clause-stepped g c = (whole g c).stepped
 
-pub returns-in-Err-clause-pages : goal.returns-in-Err-clause-pages
-returns-in-Err-clause-pages g c =
-    stopped_call Served Stepped (g.B.Bus.has c.args.bus.now) (g.B.Bus.marks c.execute.new.bus) (g.B.Bus.lacks c.args.bus.now)
-    (g.B.Bus.has c.execute.new.bus) (g.B.Bus.marks c.serve.new.bus) (g.B.Bus.lacks c.execute.new.bus)
-    c.args.hart c.args.regs.now c.execute.new.regs (g.B.Bus.memory c.args.bus.now) (g.B.Bus.memory c.execute.new.bus) c.in-Err.stop
-    c.in-Ecall.ensures.line c.in-Ecall.ensures.registers_stay c.in-Ecall.ensures.memory_stays
-    (λ page h. g.met.B.Bus.had_before _ _ page c.execute.ensures.kept h)
-    (λ page h. g.met.B.Bus.lacked_before _ _ page c.execute.ensures.kept h)
-    (λ page h. g.met.B.Bus.marked_on _ _ page c.serve.ensures.kept h)
-    c.in-Ecall.ensures.pages c.in-Err.ensures.pages
+pub returns-in_default-clause-regs_stay : goal.returns-in_default-clause-regs_stay
+returns-in_default-clause-regs_stay g c = (whole g c).regs_stay
 
-pub returns-in-Ok-clause-bound : goal.returns-in-Ok-clause-bound
-returns-in-Ok-clause-bound g c =
-    bound_call (g.B.Bus.within c.args.bus.now) (g.B.Bus.within c.execute.new.bus) (g.B.Bus.within c.serve.new.bus)
-    c.args.hart c.args.regs.now c.execute.new.regs (g.B.Bus.memory c.args.bus.now) (g.B.Bus.memory c.execute.new.bus)
-    c.in-Ecall.ensures.line c.in-Ecall.ensures.registers_stay c.in-Ecall.ensures.memory_stays
-    c.execute.ensures.bound c.serve.ensures.bound
+pub returns-in_default-clause-env_stays : goal.returns-in_default-clause-env_stays
+returns-in_default-clause-env_stays g c = (whole g c).env_stays
 
-pub returns-in-Err-clause-bound : goal.returns-in-Err-clause-bound
-returns-in-Err-clause-bound g c =
-    bound_call (g.B.Bus.within c.args.bus.now) (g.B.Bus.within c.execute.new.bus) (g.B.Bus.within c.serve.new.bus)
-    c.args.hart c.args.regs.now c.execute.new.regs (g.B.Bus.memory c.args.bus.now) (g.B.Bus.memory c.execute.new.bus)
-    c.in-Ecall.ensures.line c.in-Ecall.ensures.registers_stay c.in-Ecall.ensures.memory_stays
-    c.execute.ensures.bound c.serve.ensures.bound
+pub returns-in_default-clause-memory_stays : goal.returns-in_default-clause-memory_stays
+returns-in_default-clause-memory_stays g c = (whole g c).memory_stays
+
+pub returns-in_default-clause-pages : goal.returns-in_default-clause-pages
+returns-in_default-clause-pages g c = (whole g c).pages
+
+pub returns-in_default-clause-bound : goal.returns-in_default-clause-bound
+returns-in_default-clause-bound g c = (whole g c).bound
+
+pub returns-in_default-clause-no_memory : goal.returns-in_default-clause-no_memory
+returns-in_default-clause-no_memory g c = (whole g c).no_memory

@@ -1,8 +1,9 @@
-use Rattle.space_core.proofs.StepsOn.{steps_and_one}
+use Rattle.std.proofs.Common.{sym, ◌∙◌}
+use Rattle.flat_machine.specs.StepLaws.{not_ended}
+use Rattle.space_core.proofs.StepsOn.{then_refused}
 use Rattle.space_core.proofs.space.Space.steps.Goals as goal
 
 pub returns-clause-each : goal.returns-clause-each
 returns-clause-each g c =
-    let did = c.slice_one-slice.ensures in
-    steps_and_one g.S.SwapSlot.content g.S.SwapSlot.honest c.args.hart c.step_on-ran.result c.slice_one-slice.result.ran c.slice_one-slice.result.stop c.args.self.now c.step_on-ran.new.self c.slice_one-slice.new.self c.step_on-ran.ensures.short
-    (record { ran_is = did.ran; recorded = did.recorded; left = did.left; within = did.within; stops = did.stop; pages = did.pages; bound = did.bound; kept = did.kept; stands = did.stands; coheres = did.coheres })
+    then_refused g.S.SwapSlot.content g.S.SwapSlot.honest c.args.hart c.run_allowed-steps.result.ran c.refuse-slice.result.ran c.refuse-slice.result.stop c.run_allowed-steps.result.last c.args.self.now c.run_allowed-steps.new.self c.refuse-slice.new.self
+    (not_ended _ (sym c.is_some.ensures ∙ c.if-is_some.false)) c.run_allowed-steps.ensures.each c.refuse-slice.ensures.slice

@@ -1,0 +1,87 @@
+//! The inner loop of a hart: its instructions one after another, on its process's memory.
+
+ghost use Rattle.std.specs.Prelude.{◌≡◌, ◌≤◌, ◌<◌, true, length};
+ghost use Rattle.rv_exec.specs.Outcomes.{UnlessDone};
+ghost use Rattle.flat_machine.specs.Process.{may_step};
+ghost use Rattle.paged_memory.specs.Paged.{memory_of};
+ghost use Rattle.paged_memory.specs.Using.{cache_in};
+ghost use Rattle.paged_memory.specs.Whole.{harts_in};
+ghost use Rattle.space_core.specs.HartLoop.{RunsTo, RunsUntil, HartRuns};
+ghost use Rattle.space_core.specs.RunningValue.{with_memory};
+
+use crate::running::Running;
+use paged_memory::{HartMemory, Opening, PagedMemory};
+use rv_exec::{Outcome, Regs, execute};
+use std::marker::Brand;
+use std::sync::ledger::Ledger;
+use swap_slots::SwapSlot;
+
+/// How far a hart came by its instructions.
+#[derive(Clone, Copy)]
+pub(crate) struct Course {
+    /// How many were done.
+    pub done: u32,
+    /// What the one behind them came to, where there were fewer than were allowed: that one is still to be ended.
+    pub last: Outcome,
+}
+
+/// Runs a hart's next instruction. What it came to is marked since it began: so it has a brand of its own.
+#[inline(always)]
+fn run_one<L: Ledger, S: SwapSlot, O: Opening>(
+    regs: &mut Regs,
+    memory: &mut PagedMemory<L, S>,
+    hart: u32,
+) -> Outcome
+    requires started { hart < harts_in memory.old }
+    requires opening { cache_in memory.old hart ≡ O.opening }
+    ensures ran { RunsTo S.content S.honest hart result regs.old memory.old regs.new memory.new }
+{
+    let mut bus: HartMemory<L, S, O> = HartMemory::new(memory, hart as usize);
+    let outcome = execute(hart, regs, &mut bus);
+    memory.coherent();
+    outcome
+}
+
+/// Runs a hart's next instructions one by one, up to so many, until one calls, traps or uses a page that is absent.
+#[inline(never)]
+fn run_each<L: Ledger, S: SwapSlot>(
+    regs: &mut Regs,
+    memory: &mut PagedMemory<L, S>,
+    hart: u32,
+    most: u32,
+) -> Course
+    requires started { hart < harts_in memory.old }
+    ensures within { result.done ≤ most }
+    ensures ran { RunsUntil S.content S.honest hart most result.done result.last regs.old memory.old regs.new memory.new }
+    ensures harts { harts_in memory.new ≡ harts_in memory.old }
+{
+    for done in 0..most {
+        match run_one::<L, S, Brand>(regs, memory, hart) {
+            Outcome::Done => {}
+            last => return Course { done, last },
+        }
+    }
+    Course {
+        done: most,
+        last: Outcome::Done,
+    }
+}
+
+impl Running {
+    /// The same of a hart that may step.
+    pub(crate) fn run_each<L: Ledger, S: SwapSlot>(
+        &mut self,
+        hart: u32,
+        memory: &mut PagedMemory<L, S>,
+        most: u32,
+    ) -> Course
+        requires may { may_step hart (with_memory self.old (memory_of S.content memory.old)) ≡ true }
+        requires cached { harts_in memory.old ≡ length self.old.harts }
+        ensures within { result.done ≤ most }
+        ensures ran { HartRuns hart (λ regs regs'. RunsUntil S.content S.honest hart most result.done result.last regs memory.old regs' memory.new) self.old self.new }
+        ensures harts { harts_in memory.new ≡ harts_in memory.old }
+    {
+        let regs = &mut self.harts[hart as usize];
+        run_each(regs, memory, hart, most)
+    }
+}

@@ -1,0 +1,48 @@
+//! The caches of a process's harts, where one of them stops.
+
+ghost use Rattle.std.specs.Prelude.{◌≡◌, ℕ, ◌≤◌};
+ghost use Rattle.paged_memory.specs.Moving.{OnlyCaches};
+ghost use Rattle.paged_memory.specs.Using.{cache_in};
+ghost use Rattle.paged_memory.specs.Whole.{harts_in};
+ghost use Rattle.space_core.specs.Slicing.{SettlesCaches};
+
+use crate::progress::SliceStop;
+use paged_memory::PagedMemory;
+use std::sync::ledger::Ledger;
+use swap_slots::SwapSlot;
+
+/// A cache for each hart that was started.
+#[tactic(auto, using(crate::proofs::SliceLaws::with_empty))]
+pub(crate) fn add_harts<L: Ledger, S: SwapSlot>(memory: &mut PagedMemory<L, S>, harts: usize)
+    requires more { harts_in memory.old ≤ harts }
+    requires few { harts ≤ 8 }
+    ensures memory { OnlyCaches memory.old memory.new }
+    ensures harts { harts_in memory.new ≡ harts }
+    ensures caches { (h : ℕ) → cache_in memory.new h ≡ cache_in memory.old h }
+{
+    for _hart in memory.harts()..harts {
+        memory.add_hart();
+    }
+}
+
+/// Drops the translations that a hart leaves behind where it stops so.
+#[tactic(auto, using(crate::proofs::SliceLaws::all_emptied, crate::proofs::SliceLaws::own_emptied))]
+pub(crate) fn settle_caches<L: Ledger, S: SwapSlot>(
+    memory: &mut PagedMemory<L, S>,
+    hart: usize,
+    stop: SliceStop,
+)
+    ensures memory { OnlyCaches memory.old memory.new }
+    ensures harts { harts_in memory.new ≡ harts_in memory.old }
+    ensures caches { SettlesCaches stop hart memory.old memory.new }
+{
+    match stop {
+        SliceStop::Budget => {}
+        SliceStop::Ended => memory.clear_caches(),
+        _ => {
+            if hart < memory.harts() {
+                memory.clear_cache(hart);
+            }
+        }
+    }
+}

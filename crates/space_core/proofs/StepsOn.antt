@@ -23,7 +23,7 @@ use Rattle.paged_memory.specs.Paged.{PagedValue, memory_of}
 use Rattle.paged_memory.specs.ShowingLaws.{used_given_up}
 use Rattle.paged_memory.specs.Using.{cache_in, HasIn, LacksIn, MarkedIn, KeepsIn}
 use Rattle.paged_memory.specs.UsingLaws.{caches_shown, caches_marks, same_marks}
-use Rattle.paged_memory.specs.Whole.{is_used_in, is_changed_in, harts_in}
+use Rattle.paged_memory.specs.Whole.{is_used_in, is_dirty_in, harts_in}
 use Rattle.space_core.specs.declared.progress.Slice.{Slice}
 use Rattle.space_core.specs.declared.progress.SliceStop.{SliceStop}
 use Rattle.space_core.specs.declared.progress.SliceStop.TheVariants.{Budget}
@@ -215,7 +215,7 @@ module _ {S : Type 0} (held : S → List ℕ) (honest : Type 0) (hart : ℕ) whe
           process = ap (λ (m : PagedValue S). m.process) only ∙ ends.kept.process;
           pages = pages;
           used = λ page small is. subst (λ (m : PagedValue S). is_used_in m page ≡ true) (sym only) (ends.kept.used page small is);
-          changed = λ page small is. subst (λ (m : PagedValue S). is_changed_in m page ≡ true) (sym only) (ends.kept.changed page small is);
+          changed = λ page small is. subst (λ (m : PagedValue S). is_dirty_in m page ≡ true) (sym only) (ends.kept.changed page small is);
           harts = cached;
           caches = settled why hart old.memory after new ends.kept settles;
         };

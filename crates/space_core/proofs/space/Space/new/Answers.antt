@@ -14,3 +14,6 @@ invariant_of-result g c =
     (subst (λ l. HasFresh (opening_pages l) c.in_ok-memory.memory) c.pages.ensures.pages c.in_ok-memory.ensures.pages)
     c.in_ok-memory.ensures.caches
     c.in_ok-memory.ensures.reserved
+
+pub returns-clause-pages : goal.returns-clause-pages
+returns-clause-pages g c = subst (λ l. HasFresh (opening_pages l) c.in_ok-memory.memory) c.pages.ensures.pages c.in_ok-memory.ensures.pages

@@ -58,13 +58,22 @@ fn run_each<L: Ledger, S: SwapSlot>(
     for done in 0..most {
         match run_one::<L, S, Brand>(regs, memory, hart) {
             Outcome::Done => {}
-            last => return Course { done, last },
+            last => return stopped(done, last),
         }
     }
     Course {
         done: most,
         last: Outcome::Done,
     }
+}
+
+/// How far a hart came that stopped: made out of the loop's way, which is the faster for it.
+#[cold]
+#[inline(never)]
+fn stopped(done: u32, last: Outcome) -> Course
+    ensures { result ≡ record { done = done; last = last } }
+{
+    Course { done, last }
 }
 
 impl Running {

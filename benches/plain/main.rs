@@ -1,4 +1,4 @@
-//! Runs a guest on flat memory or on paged memory by the plain code: flat GUEST.elf, or serial FRAMES [SLICE] GUEST.elf
+//! Runs a guest on flat memory or on paged memory by the plain code: flat GUEST.elf, or serial FRAMES SLICE GUEST.elf..
 //! [INPUT]. It prints the output's length, the steps, and the time of the run alone.
 use rattle::alloc::Global;
 use rattle::marker::Brand;
@@ -63,10 +63,10 @@ fn main() {
             let seconds = processor_time() - begin;
             println!("flat output {} steps {steps} seconds {seconds:.3}", process.output().len());
         }
-        ["serial", frames, slice, guest] => {
+        ["serial", frames, slice, ref guests @ ..] if !guests.is_empty() => {
             let frames: u32 = frames.parse().unwrap();
             let slots = roomy((0..4096).map(|_| swap_slots::MemorySlot::new(Global).ok().unwrap()).collect());
-            let processes = roomy(vec![(image(guest), none())]);
+            let processes = roomy(guests.iter().map(|guest| (image(guest), none())).collect());
             let mut core: machine_core::Core<Brand, swap_slots::MemorySlot, clock_ring::ClockRing> =
                 machine_core::Core::new(Global, frames, Blank::new(0), slots, processes).ok().unwrap();
             let begin = processor_time();
@@ -89,6 +89,6 @@ fn main() {
                 paged_target::PagedTarget::new(Global, frames, Blank::new(0), slots, image(guest)).ok().unwrap();
             debug("paged", point, target);
         }
-        _ => panic!("flat GUEST | serial FRAMES SLICE GUEST | debug none|break|watch [FRAMES] GUEST"),
+        _ => panic!("flat GUEST | serial FRAMES SLICE GUEST.. | debug none|break|watch [FRAMES] GUEST"),
     }
 }

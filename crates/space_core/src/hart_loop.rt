@@ -11,7 +11,7 @@ ghost use Rattle.space_core.specs.RunningValue.{with_memory};
 
 use crate::running::Running;
 use paged_memory::{HartMemory, Opening, PagedMemory};
-use rv_exec::{Outcome, Regs, execute};
+use rv_exec::{Cause, Outcome, Regs, execute};
 use std::marker::Brand;
 use std::sync::ledger::Ledger;
 use swap_slots::SwapSlot;
@@ -58,7 +58,9 @@ fn run_each<L: Ledger, S: SwapSlot>(
     for done in 0..most {
         match run_one::<L, S, Brand>(regs, memory, hart) {
             Outcome::Done => {}
-            last => return stopped(done, last),
+            Outcome::Ecall => return at_call(done),
+            Outcome::Trap(cause, value) => return at_trap(done, cause, value),
+            Outcome::Absent(page) => return at_absent(done, page),
         }
     }
     Course {
@@ -67,13 +69,43 @@ fn run_each<L: Ledger, S: SwapSlot>(
     }
 }
 
-/// How far a hart came that stopped: made out of the loop's way, which is the faster for it.
+/// How far a hart came whose next instruction calls.
+///
+/// It and the two below are made out of the loop's way, of what an outcome is made of: one that is handed on whole is kept in
+/// memory, and written by each instruction that is done.
 #[cold]
 #[inline(never)]
-fn stopped(done: u32, last: Outcome) -> Course
-    ensures { result ≡ record { done = done; last = last } }
+fn at_call(done: u32) -> Course
+    ensures { result ≡ record { done = done; last = Outcome.Ecall } }
 {
-    Course { done, last }
+    Course {
+        done,
+        last: Outcome::Ecall,
+    }
+}
+
+/// How far a hart came whose next instruction traps.
+#[cold]
+#[inline(never)]
+fn at_trap(done: u32, cause: Cause, value: u32) -> Course
+    ensures { result ≡ record { done = done; last = Outcome.Trap cause value } }
+{
+    Course {
+        done,
+        last: Outcome::Trap(cause, value),
+    }
+}
+
+/// How far a hart came whose next instruction uses an absent page.
+#[cold]
+#[inline(never)]
+fn at_absent(done: u32, page: u32) -> Course
+    ensures { result ≡ record { done = done; last = Outcome.Absent page } }
+{
+    Course {
+        done,
+        last: Outcome::Absent(page),
+    }
 }
 
 impl Running {

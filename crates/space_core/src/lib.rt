@@ -19,7 +19,5 @@ mod space_slice;
 mod space_status;
 mod space_steps;
 
-pub use progress::{Progress, Slice, SliceStop, Steps};
-pub use recorded::Recorded;
-pub use running::Running;
+pub use progress::{Slice, SliceStop, Steps};
 pub use space::Space;

@@ -71,8 +71,7 @@ fn run_each<L: Ledger, S: SwapSlot>(
 
 /// How far a hart came whose next instruction calls.
 ///
-/// It and the two below are made out of the loop's way, of what an outcome is made of: one that is handed on whole is kept in
-/// memory, and written by each instruction that is done.
+/// It and the two below are made out of the loop's way, of what an outcome is made of.
 #[cold]
 #[inline(never)]
 fn at_call(done: u32) -> Course

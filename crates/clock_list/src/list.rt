@@ -7,10 +7,8 @@ ghost use Rattle.clock_policy.specs.Bound.{answers_left, NothingResident};
 
 use crate::body::Body;
 use crate::scan::{kind_of, process_count};
-use clock_policy::{
-    Bit, Clock, Entry, EntryKind, Key, Kind, LEAST_FRAMES, MOST_FRAMES, NewRefusal, Refusal,
-    Verdict,
-};
+use clock_policy::{Bit, Clock, Entry, EntryKind, Key, Kind, NewRefusal, Refusal, Verdict};
+use machine_limits::{FEWEST_FRAMES, MOST_FRAMES};
 use std::alloc::{AllocError, Global};
 use std::marker::Model;
 
@@ -39,7 +37,7 @@ impl Clock for ClockList {
     ghost state = { λ c. c };
 
     fn new(alloc: Global, frames: usize) -> Result<Self, NewRefusal> {
-        if !(LEAST_FRAMES..=MOST_FRAMES).contains(&frames) {
+        if !(FEWEST_FRAMES as usize..=MOST_FRAMES as usize).contains(&frames) {
             return Err(NewRefusal::BadSize);
         }
         match Body::new(alloc, frames) {

@@ -12,12 +12,6 @@ use crate::key::Key;
 use crate::refusal::{NewRefusal, Refusal};
 use std::alloc::{AllocError, Global};
 
-/// The least number of frames that a list may serve.
-pub const LEAST_FRAMES: usize = 4;
-
-/// The greatest number of frames that a list may serve.
-pub const MOST_FRAMES: usize = 4096;
-
 /// A list of pages under CLOCK-Pro, which names the page that is to leave its frame.
 ///
 /// `state` is what the list stands for: each call is that of the definition on it, the refusals in the order of their numbers included.
@@ -26,7 +20,7 @@ pub const MOST_FRAMES: usize = 4096;
 pub trait Clock: Drop {
     ghost state: { Self → ClockState };
 
-    /// An empty list for [`LEAST_FRAMES`] to [`MOST_FRAMES`] frames.
+    /// An empty list for as many frames as a machine may have.
     fn new(alloc: Global, frames: usize) -> Result<Self, NewRefusal>
         ensures ok { IfOk result (λ clock. state clock ≡ opening_state frames) }
         ensures bad_size { (result ≡ Err NewRefusal.BadSize) ↔ ((frames < least_frames) ⊎ (most_frames < frames)) }

@@ -9,7 +9,7 @@ mod refusal;
 mod run;
 
 pub use answer::{Bit, Kind, Verdict};
-pub use clock::{Clock, LEAST_FRAMES, MOST_FRAMES};
+pub use clock::Clock;
 pub use entry::{Entry, EntryKind};
 pub use key::Key;
 pub use refusal::{NewRefusal, Refusal};

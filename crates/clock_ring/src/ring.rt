@@ -5,10 +5,8 @@ ghost use Rattle.clock_policy.specs.ClockPro.{admitted, restored};
 ghost use Rattle.clock_policy.specs.Lawful.{Lawful};
 
 use crate::body::Body;
-use clock_policy::{
-    Bit, Clock, Entry, EntryKind, Key, Kind, LEAST_FRAMES, MOST_FRAMES, NewRefusal, Refusal,
-    Verdict,
-};
+use clock_policy::{Bit, Clock, Entry, EntryKind, Key, Kind, NewRefusal, Refusal, Verdict};
+use machine_limits::{FEWEST_FRAMES, MOST_FRAMES};
 use std::alloc::{AllocError, Global};
 use std::marker::Model;
 
@@ -38,7 +36,7 @@ impl Clock for ClockRing {
     ghost state = { λ c. c };
 
     fn new(alloc: Global, frames: usize) -> Result<Self, NewRefusal> {
-        if !(LEAST_FRAMES..=MOST_FRAMES).contains(&frames) {
+        if !(FEWEST_FRAMES as usize..=MOST_FRAMES as usize).contains(&frames) {
             return Err(NewRefusal::BadSize);
         }
         match Body::new(alloc, frames) {

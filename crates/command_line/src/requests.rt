@@ -18,6 +18,7 @@ use crate::request::{
 };
 use crate::values::{found, images, in_range, is_given, limit, number_if_given, number_or, value};
 use clap::ArgMatches;
+use machine_limits::{FEWEST_FRAMES, MOST_FRAMES};
 use std::alloc::Global;
 
 pub fn asm_request<'a>(matches: &ArgMatches<'a>) -> Result<AsmRequest<'a>, UsageError>
@@ -53,7 +54,7 @@ pub fn clock_request<'a>(matches: &ArgMatches<'a>) -> Result<ClockRequest<'a>, U
     ensures refused { IfErr result (λ error. error ≡ UsageError.BadUsage) }
 {
     let frames = value(matches, "frames")?;
-    let frames = in_range(frames, 4, 4096)?;
+    let frames = in_range(frames, FEWEST_FRAMES, MOST_FRAMES)?;
     let script = value(matches, "script")?;
     Ok(ClockRequest { frames, script })
 }
@@ -66,7 +67,7 @@ pub fn drive_request<'a>(
     ensures asked { IfOk result (AsksDrive (rows_of (found_of matches.now))) }
     ensures bad { result ≡ Err UsageError.BadUsage → (request : DriveRequest) → ¬ AsksDrive (rows_of (found_of matches.now)) request }
 {
-    let frames = number_or(matches, "frames", 64, 4, 4096)?;
+    let frames = number_or(matches, "frames", 64, FEWEST_FRAMES, MOST_FRAMES)?;
     let slots = number_or(matches, "slots", 4096, 0, 65_536)?;
     let script = value(matches, "script")?;
     let images = images(alloc, matches)?;
@@ -86,7 +87,7 @@ pub fn run_request<'a>(
     ensures asked { IfOk result (AsksRun (rows_of (found_of matches.now))) }
     ensures bad { result ≡ Err UsageError.BadUsage → (request : RunRequest) → ¬ AsksRun (rows_of (found_of matches.now)) request }
 {
-    let frames = number_or(matches, "frames", 64, 4, 4096)?;
+    let frames = number_or(matches, "frames", 64, FEWEST_FRAMES, MOST_FRAMES)?;
     let slots = number_or(matches, "slots", 4096, 0, 65_536)?;
     let slice = number_or(matches, "slice", 1000, 1, 100_000)?;
     let limit = number_or(matches, "limit", 100_000_000, 1, 1_000_000_000)?;
@@ -112,7 +113,7 @@ pub fn debug_request<'a>(matches: &ArgMatches<'a>) -> Result<DebugRequest<'a>, U
     ensures bad { IsErr result → (request : DebugRequest) → ¬ AsksDebug (rows_of (found_of matches.now)) request }
     ensures refused { IfErr result (λ error. error ≡ UsageError.BadUsage) }
 {
-    let frames = number_if_given(matches, "frames", 4, 4096)?;
+    let frames = number_if_given(matches, "frames", FEWEST_FRAMES, MOST_FRAMES)?;
     let image = value(matches, "image")?;
     Ok(DebugRequest { frames, image })
 }

@@ -8,11 +8,9 @@ ghost use Rattle.command_line.specs.Requests.{AreImages, IsBetween, IsNumberIfGi
 
 use crate::request::UsageError;
 use clap::ArgMatches;
+use machine_limits::MOST_PROCESSES;
 use std::alloc::Global;
 use text_lines::numeral;
-
-/// The most images that a machine has.
-const MOST_IMAGES: usize = 16;
 
 /// The value of an argument, if it was given.
 #[tactic(auto, using(crate::proofs::Rows::value_by_rows))]
@@ -50,7 +48,7 @@ pub fn images<'a>(alloc: Global, matches: &ArgMatches<'a>) -> Result<Vec<&'a str
     let Some(names) = all(matches, "image") else {
         return Err(UsageError::BadUsage);
     };
-    if names.len() > MOST_IMAGES {
+    if names.len() > MOST_PROCESSES {
         return Err(UsageError::BadUsage);
     }
     Ok(names.to_vec(alloc)?)

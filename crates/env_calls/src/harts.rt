@@ -7,8 +7,8 @@ ghost use Rattle.env_calls.specs.Serving.{Serves};
 
 use crate::answering::{A0, A1, A2, NO_MORE_HARTS, SP, answer};
 use crate::env::Env;
-use crate::live_harts::MOST_HARTS;
 use crate::served::Served;
+use machine_limits::MOST_HARTS;
 use rv_exec::Regs;
 
 /// Serves the end of a hart: the last live one ends its process.

@@ -3,16 +3,14 @@ ghost use Rattle.std.specs.Bool.{OnTrue, OnFalse};
 ghost use Rattle.env_calls.specs.Calls.{without};
 ghost use Rattle.env_calls.specs.Environment.{most_harts, any_live, least_live_from, next_live};
 
+use machine_limits::MOST_HARTS;
 use std::marker::Model;
-
-/// How many harts a process may ever start.
-pub const MOST_HARTS: usize = 8;
 
 /// Of each hart that a process has started, by its number, whether it is live.
 #[derive(Drop)]
 pub struct LiveHarts {
     /// The marks of those that were not started are of no account.
-    marks: [bool; 8],
+    marks: [bool; MOST_HARTS],
     started: usize,
 }
 

@@ -8,6 +8,7 @@ ghost use Rattle.script_lines.specs.Lines.{IsSkipped};
 ghost use Rattle.event_scripts.specs.declared.clock_script.ClockCall.{ClockCall};
 
 use clock_policy::{Bit, Key};
+use page_memory::PAGE_COUNT;
 use script_lines::{BadLine, is_skipped};
 use text_lines::{next_word, number, numeral};
 
@@ -15,7 +16,7 @@ use text_lines::{next_word, number, numeral};
 const MOST_PROCESS: u32 = 65_535;
 
 /// The highest number of a page.
-const MOST_PAGE: u32 = 1_048_575;
+const MOST_PAGE: u32 = PAGE_COUNT - 1;
 
 /// A call of the list that a line asks for.
 #[derive(Clone, Copy, Debug, PartialEq, Eq)]

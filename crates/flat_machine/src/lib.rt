@@ -14,7 +14,7 @@ mod stepping;
 pub use by_turns::OutOfMemory;
 pub use end::{End, KillCause};
 pub use laws::{opening_has_pages, schedule_is_full, turns_are_a_schedule};
-pub use opening::{MOST_HARTS, STACK_PAGES, STACK_START, first_break, first_registers};
+pub use opening::{STACK_PAGES, STACK_START, first_break, first_registers};
 pub use process::FlatProcess;
 pub use schedule::{MOST_TURNS, Schedule, ScheduleFull, Turn};
 pub use stepping::StepRefusal;

@@ -11,6 +11,7 @@ ghost use Rattle.flat_machine.specs.Process.{opening, first_break, opening_pages
 use crate::process::FlatProcess;
 use elf_image::{Image, ImagePage};
 use env_calls::Env;
+use machine_limits::MOST_HARTS;
 use page_memory::{FlatMemory, Page, Rights};
 use rv_exec::Regs;
 use rv_isa::Reg;
@@ -26,9 +27,6 @@ const STACK_END: u32 = 0x8_0000;
 
 /// How many pages the stack has.
 pub const STACK_PAGES: u32 = STACK_END - STACK_START;
-
-/// How many harts a process may ever start.
-pub const MOST_HARTS: usize = 8;
 
 impl FlatProcess {
     /// A process that is to run an image on an input.

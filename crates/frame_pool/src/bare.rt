@@ -44,7 +44,7 @@ impl<L: Ledger> BareFrame<L> {
         })
     }
 
-    /// The number by which page tables name the frame. It is below `MAX_FRAMES`.
+    /// The number by which page tables name the frame. It is below `MOST_FRAMES`.
     #[inline]
     pub fn number(&self) -> u32
         ensures number { result ≡ self.now.number }

@@ -1,16 +1,11 @@
 ghost use Rattle.std.specs.Prelude.{◌≡◌, ◌<◌, ◌≤◌, ◌+◌, ◌↔◌, ◌⊎◌, [], ◌∷◌, ◌++◌, length, IfOk, OnOk, OnErr, IfErr, IsErr, IsErrOf, IsTrue, IsNone, IfNone, IfSome};
 
 use crate::frame::Frame;
+use machine_limits::{FEWEST_FRAMES, MOST_FRAMES};
 use std::alloc::{AllocError, AllocFailed, Global};
 use std::marker::Model;
 use std::sync::ledger::{Blank, Ledger, Share};
 use thiserror::Error;
-
-/// The fewest frames that a pool is made of.
-pub const MIN_FRAMES: u32 = 4;
-
-/// The most frames that a pool is made of.
-pub const MAX_FRAMES: u32 = 4096;
 
 /// Why no pool was made, in the order in which the reasons are tested.
 #[derive(Clone, Copy, PartialEq, Eq, Debug, Error)]
@@ -62,7 +57,7 @@ impl<L: Ledger> FramePool<L> {
         ensures made { IfOk result (λ pool. pool ≡ full_pool size) }
         ensures bad_size { IsErrOf result PoolError.BadSize ↔ ((size < 4) ⊎ (4096 < size)) }
     {
-        if size < MIN_FRAMES || size > MAX_FRAMES {
+        if size < FEWEST_FRAMES || size > MOST_FRAMES {
             return Err(PoolError::BadSize);
         }
         let (_book, mut rest) = blank.open::<L>();

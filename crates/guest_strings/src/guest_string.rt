@@ -9,9 +9,9 @@ ghost use Rattle.guest_strings.specs.Wanting.{StringWants};
 
 use crate::reference::Reference;
 use crate::round::Round;
-use crate::turns::MOST_PROCESSES;
 use crate::uses::Uses;
 use flat_machine::FlatProcess;
+use machine_limits::MOST_PROCESSES;
 use std::alloc::AllocError;
 
 /// The string of references of processes that run by slices. It holds the processes, and no part of the string.

@@ -14,4 +14,3 @@ mod uses;
 
 pub use guest_string::GuestString;
 pub use reference::Reference;
-pub use turns::MOST_PROCESSES;

@@ -9,8 +9,9 @@ ghost use Rattle.guest_strings.specs.Wanting.{RoundWants};
 use crate::round::Round;
 use crate::step_use::StepUse;
 use crate::stepping::step_at;
-use crate::turns::{MOST_PROCESSES, first_turn, turn_after};
+use crate::turns::{first_turn, turn_after};
 use flat_machine::FlatProcess;
+use machine_limits::MOST_PROCESSES;
 use std::alloc::AllocError;
 
 impl Round {

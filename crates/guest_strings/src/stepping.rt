@@ -10,10 +10,10 @@ ghost use Rattle.guest_strings.specs.Wanting.{WantsAtPlace};
 
 use crate::reference::Reference;
 use crate::step_use::StepUse;
-use crate::turns::MOST_PROCESSES;
 use clock_policy::Key;
-use flat_machine::{FlatProcess, MOST_HARTS, StepRefusal};
+use flat_machine::{FlatProcess, StepRefusal};
 use guest_pages::{PageUse, StepPages, step_pages_of};
+use machine_limits::{MOST_HARTS, MOST_PROCESSES};
 use std::alloc::AllocError;
 
 /// Nothing.

@@ -4,10 +4,8 @@ ghost use Rattle.std.specs.Prelude.{◌≡◌, ◌<◌, ◌≤◌, ◌+◌, ◌-
 ghost use Rattle.flat_machine.specs.Process.{may_step};
 ghost use Rattle.guest_strings.specs.Slices.{first_place, first_turn, is_kept, may_run, next_place, place_of, turn_after};
 
-use flat_machine::{FlatProcess, MOST_HARTS};
-
-/// The most processes.
-pub const MOST_PROCESSES: usize = 16;
+use flat_machine::FlatProcess;
+use machine_limits::{MOST_HARTS, MOST_PROCESSES};
 
 /// A hart's turn.
 #[derive(Clone, Copy, Debug, PartialEq, Eq)]

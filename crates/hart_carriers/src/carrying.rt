@@ -5,7 +5,8 @@ ghost use Rattle.std.specs.Prelude.{◌≡◌, ◌==◌, ◌+◌, ◌%◌, ◌<�
 use crate::crew::Shift;
 use crate::paging_in::bring_in;
 use clock_policy::{Clock, Key};
-use flat_machine::{KillCause, MOST_HARTS};
+use flat_machine::KillCause;
+use machine_limits::MOST_HARTS;
 use reclaim_daemon::{Gate, HoldOfProcess, Shared};
 use space_core::{Slice, SliceStop};
 use std::sync::Wait;

@@ -12,7 +12,8 @@ use crate::threads::run_threads;
 use clock_policy::Clock;
 use elf_image::Image;
 use frame_pool::PoolError;
-use reclaim_daemon::{AddRefusal, Desk, Gate, Held, MOST_PROCESSES, Shared};
+use machine_limits::{FEWEST_FRAMES, MOST_FRAMES, MOST_PROCESSES};
+use reclaim_daemon::{AddRefusal, Desk, Gate, Held, Shared};
 use run_report::{Line, Ran};
 use status_cell::Viewer;
 use std::alloc::{AllocError, Global};
@@ -151,7 +152,7 @@ fn make_desk<L: Ledger, C: Clock>(
     ensures too_many { IsErrOf result RunRefusal.TooManyProcesses ↔ ((4 ≤ frames) × ((frames ≤ 4096) × (16 < processes))) }
     ensures few { OnOk result (processes ≤ most_processes) }
 {
-    if frames < 4 || frames > 4096 {
+    if frames < FEWEST_FRAMES || frames > MOST_FRAMES {
         return Err(RunRefusal::BadSize);
     }
     if processes > MOST_PROCESSES {

@@ -8,18 +8,11 @@ use crate::error::CoreError;
 use crate::machine::Core;
 use clock_policy::Clock;
 use elf_image::Image;
+use machine_limits::{FEWEST_FRAMES, MOST_FRAMES, MOST_PROCESSES};
 use machine_sides::{PagerSide, ProcessSide};
 use std::alloc::{AllocError, Global};
 use std::sync::ledger::{Blank, Ledger};
 use swap_slots::{SlotPool, SwapSlot};
-
-/// The fewest and the most frames that a machine has.
-const FEWEST_FRAMES: u32 = 4;
-
-const MOST_FRAMES: u32 = 4096;
-
-/// The most processes that a machine runs.
-const MOST_PROCESSES: usize = 16;
 
 impl<L: Ledger, S: SwapSlot, C: Clock> Core<L, S, C> {
     /// A machine of 4 to 4096 frames, with these slots, that is to run these images on these inputs. The processes are numbered

@@ -4,15 +4,13 @@ ghost use Rattle.std.specs.Prelude.{◌≡◌, None, false, slice_set, slice_ind
 ghost use Rattle.std.specs.List.{list_any};
 ghost use Rattle.page_memory.specs.Reservations.{has_reserved, with_reserved, without_reserved, left_by, none_reserved, touches, unless_touched};
 
+use machine_limits::MOST_HARTS;
 use std::marker::Model;
-
-/// So many harts may have a reservation each.
-const MOST_RESERVING: usize = 8;
 
 /// The words that the harts of a process have reserved, one each (unprivileged manual, "Zalrsc").
 #[derive(Drop)]
 pub struct Reservations {
-    by_hart: [Option<u32>; MOST_RESERVING],
+    by_hart: [Option<u32>; MOST_HARTS],
     /// Whether any may stand.
     any: bool,
 }
@@ -37,7 +35,7 @@ impl Reservations {
         ensures { result ≡ none_reserved }
     {
         Reservations {
-            by_hart: [None; MOST_RESERVING],
+            by_hart: [None; MOST_HARTS],
             any: false,
         }
     }
@@ -93,27 +91,27 @@ impl Reservations {
 }
 
 /// The word that a hart has reserved, if it has.
-fn word_of(by_hart: &[Option<u32>; MOST_RESERVING], hart: u32) -> Option<u32>
+fn word_of(by_hart: &[Option<u32>; MOST_HARTS], hart: u32) -> Option<u32>
     ensures { result ≡ slice_index_or by_hart.now hart None }
 {
-    if hart as usize >= MOST_RESERVING {
+    if hart as usize >= MOST_HARTS {
         return None;
     }
     by_hart[hart as usize]
 }
 
 /// Puts a hart's reservation in its place, where it has one.
-fn put(by_hart: &mut [Option<u32>; MOST_RESERVING], hart: u32, reserved: Option<u32>)
+fn put(by_hart: &mut [Option<u32>; MOST_HARTS], hart: u32, reserved: Option<u32>)
     ensures { by_hart.new ≡ slice_set by_hart.old hart reserved }
 {
-    if (hart as usize) < MOST_RESERVING {
+    if (hart as usize) < MOST_HARTS {
         by_hart[hart as usize] = reserved;
     }
 }
 
 /// Whether any word is reserved.
 #[tactic(auto, using(crate::proofs::Reserving::none_left))]
-fn any_of(by_hart: &[Option<u32>; MOST_RESERVING]) -> bool
+fn any_of(by_hart: &[Option<u32>; MOST_HARTS]) -> bool
     ensures { result ≡ false → by_hart.now ≡ none_reserved }
 {
     any_in(by_hart.as_slice())
@@ -127,10 +125,10 @@ fn any_in(by_hart: &[Option<u32>]) -> bool
 
 /// Ends the reservations of words of which a byte was written.
 #[tactic(auto, using(crate::proofs::Reserving::left_more, crate::proofs::Reserving::left_all))]
-fn end_all(by_hart: &mut [Option<u32>; MOST_RESERVING], address: u32, count: usize)
+fn end_all(by_hart: &mut [Option<u32>; MOST_HARTS], address: u32, count: usize)
     ensures { by_hart.new ≡ left_by address count by_hart.old }
 {
-    for hart in 0..MOST_RESERVING {
+    for hart in 0..MOST_HARTS {
         by_hart[hart] = left(by_hart[hart], address, count);
     }
 }

@@ -3,7 +3,7 @@
 ghost use Rattle.std.specs.Prelude.{◌≡◌, ◌≤◌, ◌<◌, ◌↔◌, IfSome, IsSome};
 ghost use Rattle.clock_policy.specs.FrameCounts.{least_frames, most_frames};
 
-use clock_policy::{LEAST_FRAMES, MOST_FRAMES};
+use machine_limits::{FEWEST_FRAMES, MOST_FRAMES};
 
 /// How many frames a policy has: 4 to 4096.
 #[derive(Clone, Copy, Debug, PartialEq, Eq)]
@@ -19,7 +19,7 @@ impl Frames {
         ensures number { IfSome result (λ frames. frames.number ≡ number) }
         ensures some { IsSome result ↔ ((least_frames ≤ number) × (number ≤ most_frames)) }
     {
-        if number < LEAST_FRAMES || MOST_FRAMES < number {
+        if number < FEWEST_FRAMES as usize || MOST_FRAMES as usize < number {
             return None;
         }
         Some(Frames { number })

@@ -3,13 +3,11 @@ ghost use Rattle.page_memory.specs.Words.{page_number, bytes_in};
 ghost use Rattle.tlb_core.specs.Cache.{Hits, doomed, undoomed, filled, translation_of};
 ghost use Rattle.paged_memory.specs.Soundness.{is_held};
 
+use machine_limits::MOST_HARTS;
 use page_memory::{Access, Width};
 use std::alloc::{AllocError, Global};
 use std::marker::Model;
 use tlb_core::{Tlb, Translation};
-
-/// The most harts that a process starts.
-pub(crate) const MAX_HARTS: usize = 8;
 
 /// The translation caches of a process's harts, by their numbers.
 #[derive(Drop)]
@@ -34,7 +32,7 @@ impl Caches {
         ensures { IfOk result (λ caches. caches ≡ []) }
     {
         Ok(Caches {
-            harts: Vec::with_capacity(alloc, MAX_HARTS)?,
+            harts: Vec::with_capacity(alloc, MOST_HARTS)?,
         })
     }
 

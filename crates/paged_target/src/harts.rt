@@ -5,8 +5,8 @@ ghost use Rattle.env_calls.specs.Environment.{least_live_from, most_harts, next_
 ghost use Rattle.paged_target.specs.Marks.{marks_at};
 
 use clock_policy::Clock;
-use flat_machine::MOST_HARTS;
 use machine_core::Core;
+use machine_limits::MOST_HARTS;
 use std::sync::ledger::Ledger;
 use swap_slots::SwapSlot;
 

@@ -7,8 +7,8 @@ ghost use Rattle.policies_cli.specs.Asked.{AreGuests, opened};
 use crate::request::GuestRequest;
 use elf_image::Image;
 use flat_machine::FlatProcess;
-use guest_strings::MOST_PROCESSES;
 use image_files::{Fault, Folder, read_processes};
+use machine_limits::MOST_PROCESSES;
 use std::alloc::{AllocError, Global};
 
 /// The guests that a request names, 16 at most.

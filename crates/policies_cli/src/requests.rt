@@ -7,6 +7,7 @@ use crate::request::{
 use clap::ArgMatches;
 use clap::error::ErrorKind;
 use image_files::Fault;
+use machine_limits::MOST_FRAMES;
 use miss_counts::usual_frames;
 use page_policies::Frames;
 use std::alloc::Global;
@@ -66,7 +67,7 @@ fn replay_request<'a>(
 ) -> Result<ReplayRequest<'a>, Fault<'a>> {
     let frames = match matches.get_str("frames") {
         Some(list) => frames_of(alloc, list)?,
-        None => usual_frames(alloc, 4096)?,
+        None => usual_frames(alloc, MOST_FRAMES as usize)?,
     };
     let format = format(matches)?;
     let Some(trace) = matches.get_str("trace") else {
@@ -139,7 +140,7 @@ fn is_given(matches: &ArgMatches<'_>, name: &str) -> bool {
 fn frames_of<'a>(alloc: Global, list: &str) -> Result<Vec<Frames>, Fault<'a>> {
     let mut all = Vec::new(alloc);
     for word in list.split(',') {
-        let Some(frames) = numeral(word.as_bytes(), 10, 4096).and_then(|number| Frames::new(
+        let Some(frames) = numeral(word.as_bytes(), 10, MOST_FRAMES).and_then(|number| Frames::new(
             number as usize,
         )) else {
             return Err(Fault::BadUsage);

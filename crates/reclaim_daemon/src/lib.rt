@@ -25,4 +25,4 @@ pub use paging_in::HoldOfPager;
 pub use parts::Parts;
 pub use reclaiming::daemon;
 pub use replies::{Collection, PagedIn, PurgeReply, SaveReply, Undone};
-pub use shared::{AddRefusal, MOST_PROCESSES, Shared};
+pub use shared::{AddRefusal, Shared};

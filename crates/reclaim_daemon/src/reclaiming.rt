@@ -6,9 +6,10 @@
 use crate::gate::Gate;
 use crate::holds::{HoldOfAll, HoldOfBoth};
 use crate::replies::{Collection, SaveReply};
-use crate::shared::{MOST_PROCESSES, Shared};
+use crate::shared::Shared;
 use clock_policy::{Clock, Key};
-use flat_machine::{KillCause, MOST_HARTS};
+use flat_machine::KillCause;
+use machine_limits::{MOST_HARTS, MOST_PROCESSES};
 use machine_sides::Swept;
 use page_store::SaveJob;
 use status_cell::{Status, Viewer};

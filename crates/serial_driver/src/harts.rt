@@ -5,8 +5,8 @@ ghost use Rattle.serial_driver.specs.Closing.{goes_on};
 ghost use Rattle.serial_driver.specs.Endings.{HasEnded};
 
 use clock_policy::Clock;
-use flat_machine::MOST_HARTS;
 use machine_core::Core;
+use machine_limits::MOST_HARTS;
 use std::sync::ledger::Ledger;
 use swap_slots::SwapSlot;
 

@@ -6,6 +6,7 @@ ghost use Rattle.machine_core.specs.ManySteps.{steps_of, replies_of};
 ghost use Rattle.serial_driver.specs.Patience.{IsPatient, any_ran, has_failed, is_served, renewed, run_of, spent_of, spent_with, tried_after, tried_again, tried_with, try_of, tries_per_frame};
 
 use machine_core::{Event, Reply, Steps};
+use machine_limits::MOST_PROCESSES;
 
 /// A process is killed after so many page-ins and failed collects of its pages, for each frame of the machine.
 const TRIES_PER_FRAME: u64 = 64;
@@ -14,7 +15,7 @@ const TRIES_PER_FRAME: u64 = 64;
 #[derive(Drop)]
 pub(crate) struct Patience {
     /// Page-ins, and collects that failed, of each process's pages since its last completed instruction, up to the most.
-    tries: [u64; 16],
+    tries: [u64; MOST_PROCESSES],
     most_tries: u64,
     /// The process for whose page the last event was one try too many.
     spent: Option<u32>,
@@ -27,7 +28,7 @@ impl Patience {
         ensures spent { result.spent ≡ None }
     {
         Patience {
-            tries: [0; 16],
+            tries: [0; MOST_PROCESSES],
             most_tries: TRIES_PER_FRAME * u64::from(frames),
             spent: None,
         }
@@ -68,7 +69,7 @@ impl Patience {
             return;
         };
         let place = process as usize;
-        if place < 16 {
+        if place < MOST_PROCESSES {
             self.tries[place] = 0;
         }
     }

@@ -6,7 +6,8 @@ ghost use Rattle.space_core.specs.RunningValue.{beside, with_memory};
 
 use elf_image::Image;
 use env_calls::Env;
-use flat_machine::{End, KillCause, MOST_HARTS, STACK_PAGES, first_break, first_registers};
+use flat_machine::{End, KillCause, STACK_PAGES, first_break, first_registers};
+use machine_limits::MOST_HARTS;
 use rv_exec::Regs;
 use std::alloc::{AllocError, Global};
 use std::marker::Model;

@@ -1,0 +1,14 @@
+//! The limits of the machine, each by its one name. How many pages an address space has is `page_memory::PAGE_COUNT`.
+#![tactic(auto)]
+
+/// How many harts a process may ever start.
+pub const MOST_HARTS: usize = 8;
+
+/// How many processes a machine may run.
+pub const MOST_PROCESSES: usize = 16;
+
+/// The fewest frames that a machine has.
+pub const FEWEST_FRAMES: u32 = 4;
+
+/// The most frames that a machine has.
+pub const MOST_FRAMES: u32 = 4096;

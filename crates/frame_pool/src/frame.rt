@@ -4,6 +4,7 @@ ghost use Rattle.std.specs.Borrow.{sem};
 use crate::bare::BareFrame;
 use std::alloc::{AllocError, Global};
 use std::marker::Model;
+use std::mem;
 use std::sync::ledger::{Ledger, Share};
 
 /// The bytes of one page, and the number by which page tables name them, with room for one copy of the bytes.
@@ -48,7 +49,7 @@ impl<L: Ledger> Frame<L> {
         &self.bare
     }
 
-    /// The number by which page tables name the frame. It is below `MAX_FRAMES`.
+    /// The number by which page tables name the frame. It is below `MOST_FRAMES`.
     #[inline]
     pub fn number(&self) -> u32
         ensures number { result ≡ self.now.number }
@@ -80,6 +81,13 @@ impl<L: Ledger> Frame<L> {
         ensures { self.new ≡ record self.old { bytes = bytes.now } }
     {
         *self.bytes_mut() = *bytes;
+    }
+
+    /// Exchanges the frame's room for another, whatever is in either.
+    pub fn swap_room(&mut self, room: &mut Box<[u8; 4096]>)
+        ensures { self.new ≡ self.old }
+    {
+        mem::swap(&mut self.room, room);
     }
 
     /// Copies the bytes to the frame's room, and parts the two. Takes no memory.

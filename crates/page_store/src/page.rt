@@ -217,6 +217,32 @@ impl<L: Ledger, S: SwapSlot> StoredPage<L, S> {
         }
     }
 
+    /// The same; a copy is made in this room, and the room of the page's frame is left here in its place.
+    pub fn collect_in(
+        &mut self,
+        process: u32,
+        vpn: u32,
+        cached: bool,
+        spare: &mut Option<S>,
+        room: &mut Box<[u8; 4096]>,
+    ) -> Collected<L, S>
+        ensures answer { (self.new.place, (spare.new, result)) ≡ collected process vpn cached self.old.place spare.old }
+        ensures content { Backed S.content false self.old → content S.content self.new ≡ content S.content self.old }
+        ensures origin { self.new.origin ≡ self.old.origin }
+    {
+        self.swap_room(room);
+        self.collect(process, vpn, cached, spare)
+    }
+
+    /// Exchanges the room of a page's frame for another, where the page is leaving as a changed one and so is to be copied.
+    fn swap_room(&mut self, room: &mut Box<[u8; 4096]>)
+        ensures { self.new ≡ self.old }
+    {
+        if let State::Leaving(frame, _, true) = &mut self.state {
+            frame.swap_room(room);
+        }
+    }
+
     /// Ends the save of the page, where the frame holds what was saved.
     pub fn saved(&mut self, job: SavedJob<S>) -> Result<Frame<L>, SaveRefusal<S>>
         ensures freed { IfOk result (λ frame. (self.old.place ≡ Saving frame) × (self.new.place ≡ Away (copy_of job)) × (frame.bytes ≡ job.copy) × IsTrue job.passed) }
@@ -249,6 +275,26 @@ impl<L: Ledger, S: SwapSlot> StoredPage<L, S> {
                 self.state = other;
                 Err(SaveRefusal::WrongPage(job))
             }
+        }
+    }
+
+    /// The same; the room that the copy was made in is left here, and the frame has the one that was here.
+    pub fn saved_in(
+        &mut self,
+        job: SavedJob<S>,
+        room: &mut Box<[u8; 4096]>,
+    ) -> Result<Frame<L>, SaveRefusal<S>>
+        ensures freed { IfOk result (λ frame. (self.old.place ≡ Saving frame) × (self.new.place ≡ Away (copy_of job)) × (frame.bytes ≡ job.copy) × IsTrue job.passed) }
+        ensures refused { IfErr result (RefusesSave job self.old.place self.new.place) }
+        ensures content { S.honest → content S.content self.new ≡ content S.content self.old }
+        ensures origin { self.new.origin ≡ self.old.origin }
+    {
+        match self.saved(job) {
+            Ok(mut frame) => {
+                frame.swap_room(room);
+                Ok(frame)
+            }
+            Err(refusal) => Err(refusal),
         }
     }
 

@@ -20,7 +20,14 @@ impl<L: Ledger, S: SwapSlot> PagedMemory<L, S> {
         ensures memory { S.honest → memory_of S.content self.new ≡ memory_of S.content self.old }
     {
         let cached = self.caches.is_held(vpn);
-        collect_page(&mut self.pages, self.process, vpn, cached, spare)
+        collect_page(
+            &mut self.pages,
+            self.process,
+            vpn,
+            cached,
+            spare,
+            &mut self.room,
+        )
     }
 }
 
@@ -31,6 +38,7 @@ fn collect_page<L: Ledger, S: SwapSlot>(
     vpn: u32,
     cached: bool,
     spare: &mut Option<S>,
+    room: &mut Box<[u8; 4096]>,
 ) -> Collected<L, S>
     requires { vpn < 2 ^ 20 }
     ensures answer { CollectsAt process vpn cached spare.old spare.new result pages.old pages.new (page_at pages.old vpn) }
@@ -39,5 +47,7 @@ fn collect_page<L: Ledger, S: SwapSlot>(
     let Some(place) = pages.place(vpn) else {
         return Collected::NotLeaving;
     };
-    pages.at_mut(place).collect(process, vpn, cached, spare)
+    pages
+        .at_mut(place)
+        .collect_in(process, vpn, cached, spare, room)
 }

@@ -18,7 +18,7 @@ impl<L: Ledger, S: SwapSlot> PagedMemory<L, S> {
         ensures stays { self.new ≡ record self.old { pages = self.new.pages } }
         ensures memory { S.honest → memory_of S.content self.new ≡ memory_of S.content self.old }
     {
-        saved_page(&mut self.pages, self.process, job)
+        saved_page(&mut self.pages, self.process, job, &mut self.room)
     }
 }
 
@@ -27,6 +27,7 @@ fn saved_page<L: Ledger, S: SwapSlot>(
     pages: &mut PageMap<StoredPage<L, S>>,
     process: u32,
     job: SavedJob<S>,
+    room: &mut Box<[u8; 4096]>,
 ) -> Result<Frame<L>, SaveRefusal<S>>
     ensures freed { IfOk result (λ frame. ChangesSaved process job (Frees job frame) pages.old pages.new) }
     ensures refused { IfErr result (RefusesSaved process job pages.old pages.new) }
@@ -39,5 +40,5 @@ fn saved_page<L: Ledger, S: SwapSlot>(
     let Some(place) = pages.place(vpn) else {
         return Err(SaveRefusal::WrongPage(job));
     };
-    pages.at_mut(place).saved(job)
+    pages.at_mut(place).saved_in(job, room)
 }

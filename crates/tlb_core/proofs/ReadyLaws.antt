@@ -2,7 +2,7 @@
 use Rattle.std.proofs.Common.{◌≡◌, ◌≢◌, ℕ, zero, suc, ◌+◌, ◌*◌, ◌/◌, ◌%◌, ◌<◌, ◌==◌, Bool, true, false, cond, refl, sym, ap, ◌∙◌, subst, arith, List, [], ◌∷◌, ◌++◌, length, get_or, set, drop, replicate, Some, option_map, ◌⊎◌, inl, inr}
 use Rattle.std.specs.Prelude.{find, position}
 use Rattle.std.specs.Option.{option_or}
-use Rattle.std.proofs.lemmas.List.{get_or-set_other, get_or-replicate}
+use Rattle.std.proofs.lemmas.List.{get_or-set_other, get_or-replicate, drop_more}
 use Rattle.std.proofs.lemmas.List.Folds.{find-append}
 use Rattle.std.proofs.lemmas.List.Quantifiers.{position-Some}
 use Rattle.std.proofs.lemmas.Bool.Decides.{nat_tests}
@@ -191,6 +191,12 @@ pub ready_oldest_gone : (cache : List Translation) (oldest : Translation) (ready
 ready_oldest_gone cache oldest ready first is =
     ready_forgotten cache (drop 1 cache) oldest.page ready
     (λ access q place apart hits. hits_dropped cache oldest access q place (λ s. apart (s ∙ ap (λ (e : Translation). e.page) (sym first))) hits) is
+
+-- and as the entries go one after another, from the first on
+pub ready_next_gone : (cache : List Translation) (k : ℕ) (d : Translation) (ready : Ready) → k < length cache → IsReady (drop k cache) ready → IsReady (drop (k + 1) cache) (forgotten (get_or cache k d).page ready)
+ready_next_gone cache k d ready within is =
+    let e : Translation = get_or cache k d in
+    ready_oldest_gone (e ∷ drop (k + 1) cache) e ready refl (subst (λ l. IsReady l ready) (drop_more cache k d within) is)
 
 -- as another comes behind the others
 pub ready_behind : (cache cache' : List Translation) (e : Translation) (ready : Ready) → cache' ≡ cache ++ e ∷ [] → IsReady cache ready → IsReady cache' ready

@@ -1,6 +1,7 @@
 ghost use Rattle.std.specs.Prelude.{◌≡◌, ◌<◌, ◌≤◌, ◌%◌, ℕ, [], ◌∷◌, ◌++◌, length, is_some, Some, None, position, slice_set, IfSome};
 ghost use Rattle.std.specs.List.{list_any};
 ghost use Rattle.page_memory.specs.Words.{page_number, bytes_in};
+ghost use Rattle.tlb_core.specs.Ready.{IsReady};
 ghost use Rattle.tlb_core.specs.Cache.{OnePerPage, Hits, translation_of, is_of_page, filled, doomed, undoomed, with_room};
 
 use crate::hints::Hints;
@@ -211,8 +212,17 @@ impl Tlb {
     pub fn clear(&mut self)
         ensures { self.new ≡ [] }
     {
+        forget_each(self.entries.as_slice(), &mut self.ready);
         self.entries.clear();
-        self.ready = Ready::new();
+    }
+}
+
+/// The pages of these entries are ready no more: where each page that was ready is of one of them, none is.
+fn forget_each(entries: &[Translation], ready: &mut Ready)
+    ensures { IsReady entries.now ready.old → IsReady [] ready.new }
+{
+    for entry in entries.iter() {
+        ready.forget(entry.page);
     }
 }
 

@@ -19,7 +19,7 @@ impl Frames {
         ensures number { IfSome result (λ frames. frames.number ≡ number) }
         ensures some { IsSome result ↔ ((least_frames ≤ number) × (number ≤ most_frames)) }
     {
-        if number < FEWEST_FRAMES as usize || MOST_FRAMES as usize < number {
+        if !(FEWEST_FRAMES as usize..=MOST_FRAMES as usize).contains(&number) {
             return None;
         }
         Some(Frames { number })

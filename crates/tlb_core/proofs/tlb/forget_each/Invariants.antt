@@ -1,4 +1,4 @@
-use Rattle.std.proofs.Common.{◌≡◌, drop}
+use Rattle.std.proofs.Common.{drop}
 use Rattle.tlb_core.specs.Ready.{IsReady}
 use Rattle.tlb_core.proofs.tlb.forget_each.Given as goal
 

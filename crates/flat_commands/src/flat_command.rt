@@ -1,12 +1,14 @@
 //! `paged flat`: an image run on flat memory.
 
-ghost use Rattle.std.specs.Prelude.{◌≡◌, IfOk};
+ghost use Rattle.std.specs.Prelude.{◌≡◌, ◌≤◌, ◌<◌, ℕ, Some, IfOk, IsSome};
+ghost use Rattle.flat_machine.specs.ByTurns.{by_turns, first_turn};
 ghost use Rattle.flat_commands.specs.FlatRun.{FlatAsAsked};
 
 use command_line::FlatRequest;
 use flat_machine::FlatProcess;
 use image_files::{Fault, Folder, read_image, read_input};
 use process_text::{end_of, status_of_end, write_process};
+use std::alloc::Global;
 use std::io::Write;
 
 /// Runs an image on flat memory, writes how it went, and answers the exit status. The image is read before the input.
@@ -19,11 +21,31 @@ pub fn run_flat<'a, R: Folder + AllocGlobal, W: Write>(
 {
     let image = read_image(rt, request.image)?;
     let input = read_input(rt, request.input)?;
-    let mut process = FlatProcess::new(rt.alloc(), &image, input)?;
-    let Ok(steps) = process.run_for(u64::from(request.limit)) else {
-        return Err(Fault::NoMemory);
-    };
+    let begun = FlatProcess::new(rt.alloc(), &image, input)?;
+    let (process, steps) = run_on_heap(rt.alloc(), begun, u64::from(request.limit))?;
     let end = end_of(process.end());
     write_process(0, process.output(), end, steps, out)?;
     Ok(status_of_end(end))
+}
+
+/// Runs a process until it has ended or the limit is reached, and tells how many steps that took.
+///
+/// It stands on the heap meanwhile. On the stack it could stand a multiple of 4096 bytes from what the inner loop writes on its own
+/// frame at each instruction, and processors that look at the lower bits of an address first let a read of the one wait for the other.
+fn run_on_heap<'a>(
+    alloc: Global,
+    process: FlatProcess,
+    limit: u64,
+) -> Result<(FlatProcess, u64), Fault<'a>>
+    ensures ran { IfOk result (λ done. (turn : ℕ) × (by_turns done.1 (first_turn process) process ≡ Some (turn, done.0))) }
+    ensures within { IfOk result (λ done. done.1 ≤ limit) }
+    ensures ended { IfOk result (λ done. done.1 < limit → IsSome done.0.ending) }
+{
+    let Ok(mut process) = Box::new(alloc, process) else {
+        return Err(Fault::NoMemory);
+    };
+    match process.run_for(limit) {
+        Ok(steps) => Ok((Box::into_inner(process), steps)),
+        Err(_) => Err(Fault::NoMemory),
+    }
 }

@@ -61,7 +61,7 @@ fn look_at_page<L: Ledger, S: SwapSlot, C: Clock>(
     ensures looked { Looks vpn pager.old pager.new process.old process.new slots.old slots.new result }
     ensures memory { S.honest → memory_of S.content process.new.space.memory ≡ memory_of S.content process.old.space.memory }
 {
-    match process.look(vpn, slots) {
+    match process.look(vpn, slots, &mut pager.room) {
         Collected::NotLeaving => Looked::NotLeaving,
         Collected::NotYet => Looked::NotYet,
         Collected::Clean(frame) => match pager.free_dropped(frame) {
@@ -109,18 +109,23 @@ impl<L: Ledger, S: SwapSlot> ProcessSide<L, S> {
     }
 
     /// Looks whether a page can leave its frame. A slot is taken from the free ones only for a changed page that has none.
-    pub(crate) fn look(&mut self, vpn: u32, slots: &mut SlotPool<S>) -> Collected<L, S>
+    pub(crate) fn look(
+        &mut self,
+        vpn: u32,
+        slots: &mut SlotPool<S>,
+        room: &mut Box<[u8; 4096]>,
+    ) -> Collected<L, S>
         ensures found { Finds vpn self.old self.new slots.old slots.new result }
         ensures memory { S.honest → memory_of S.content self.new.space.memory ≡ memory_of S.content self.old.space.memory }
     {
         if vpn >= PAGE_COUNT {
             return Collected::NotLeaving;
         }
-        let found = self.space.collect(vpn, &mut None);
+        let found = self.space.collect(vpn, &mut None, room);
         if !matches!(found, Collected::NoSlot) {
             return found;
         }
         let mut spare = slots.take();
-        self.space.collect(vpn, &mut spare)
+        self.space.collect(vpn, &mut spare, room)
     }
 }

@@ -7,7 +7,7 @@ ghost use Rattle.pager_core.specs.Pager.{full_pager, tallied};
 use clock_policy::{Clock, EntryKind, Key};
 use frame_pool::{Frame, PoolError};
 use pager_core::{Counts, Pager};
-use std::alloc::Global;
+use std::alloc::{AllocError, Global};
 use std::marker::Model;
 use std::sync::ledger::{Blank, Ledger, Share};
 
@@ -17,6 +17,9 @@ pub struct PagerSide<L: Ledger, C: Clock> {
     pub(crate) pager: Pager<L, C>,
     pub(crate) saves: u64,
     pub(crate) drops: u64,
+    /// What copies of pages are made in, whichever process's, one after another: a frame that is copied leaves its own
+    /// room here meanwhile.
+    pub(crate) room: Box<[u8; 4096]>,
 }
 
 impl<L: Ledger, C: Clock> Model for PagerSide<L, C> {
@@ -51,6 +54,7 @@ impl<L: Ledger, C: Clock> PagerSide<L, C> {
             pager: Pager::new(alloc, frames, blank)?,
             saves: 0,
             drops: 0,
+            room: room_for_copy(alloc)?,
         })
     }
 
@@ -103,9 +107,15 @@ impl<L: Ledger, C: Clock> PagerSide<L, C> {
             pager,
             saves: _,
             drops: _,
+            room: _,
         } = self;
         pager.into_frames()
     }
+}
+
+/// Room for a copy of a page.
+fn room_for_copy(alloc: Global) -> Result<Box<[u8; 4096]>, AllocError> {
+    Ok(Box::new(alloc, [0; 4096])?)
 }
 
 /// A count and one more, which stays at its type's largest number.

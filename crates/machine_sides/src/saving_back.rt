@@ -66,7 +66,7 @@ fn settle_save<L: Ledger, S: SwapSlot, C: Clock>(
     ensures memory { S.honest → memory_of S.content process.new.space.memory ≡ memory_of S.content process.old.space.memory }
 {
     let vpn = job.vpn();
-    match process.end_save(job) {
+    match process.end_save(job, &mut pager.room) {
         SaveEnd::Passed(frame) => match pager.free_saved(frame) {
             Ok(()) => SaveOutcome::Freed,
             Err(frame) => SaveOutcome::HandedBack(frame),
@@ -106,11 +106,11 @@ impl<L: Ledger, S: SwapSlot> ProcessSide<L, S> {
     }
 
     /// Ends the save of a page of this process.
-    fn end_save(&mut self, job: SavedJob<S>) -> SaveEnd<L, S>
+    fn end_save(&mut self, job: SavedJob<S>, room: &mut Box<[u8; 4096]>) -> SaveEnd<L, S>
         ensures ends { Ends job self.old self.new result }
         ensures memory { S.honest → memory_of S.content self.new.space.memory ≡ memory_of S.content self.old.space.memory }
     {
-        match self.space.saved(job) {
+        match self.space.saved(job, room) {
             Ok(frame) => SaveEnd::Passed(frame),
             Err(refusal) => match refusal {
                 SaveRefusal::WrongPage(job) => SaveEnd::WrongPage(job),

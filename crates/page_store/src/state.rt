@@ -115,12 +115,13 @@ fn write_page(to: &mut [u8; 4096], from: &[u8])
 /// Where a page is, with its frame and its slot.
 #[derive(Drop)]
 pub(crate) enum State<L: Ledger, S: SwapSlot> {
-    Fresh,
+    // The first three have a frame: one comparison tells it, at each access to a page's bytes.
     Resident(Frame<L>, Keeping<S>),
     /// With the mark whether it counts as changed.
     Leaving(Frame<L>, Keeping<S>, bool),
     /// Its frame's room is out with the copy.
     Saving(BareFrame<L>),
+    Fresh,
     Away(PageCopy<S>),
     Purged,
 }

@@ -1,6 +1,7 @@
 -- A loop that changes each element of a list in turn.
 use Rattle.std.proofs.Common.{◌≡◌, ℕ, zero, suc, ◌+◌, ◌<◌, ◌≤◌, refl, ap, ◌∙◌, arith, List, [], ◌∷◌, ◌++◌, length, get_or, set, take, drop, map, add-one}
 use Rattle.std.specs.List.{refill}
+use Rattle.std.proofs.Math.ListN.{length-set}
 use Rattle.std.proofs.lemmas.List.{length-map, take_all, drop_all, append-nil}
 
 module _ {A : Type 0} (f : A → A) where
@@ -34,6 +35,13 @@ module _ {A : Type 0} (f : A → A) where
 
       same : refill (length xs) xs ws ≡ ws
       same = let past : length xs ≤ length ws = omega (arith, long) in rw (drop_all (length ws) xs past, append-nil ws) (take_all (length xs) ws (omega (arith, long)))
+
+-- a list that was lent as a slice, in which one element was changed, or stayed
+pub refilled_at : {A : Type 0} (xs : List A) (k : ℕ) (w : A) → refill (length xs) xs (set xs k w) ≡ set xs k w
+refilled_at xs k w =
+    let long : length (set xs k w) ≡ length xs = length-set xs k w in
+    let past : length xs ≤ length (set xs k w) = omega (arith, long) in
+    rw (drop_all (length (set xs k w)) xs past, append-nil (set xs k w)) (take_all (length xs) (set xs k w) (omega (arith, long)))
 
 -- the same where each element becomes one value
 pub overwritten_more : {A : Type 0} (w : A) (xs : List A) (i : ℕ) → i < length xs → set (mapped_below (λ _. w) xs i) i w ≡ mapped_below (λ _. w) xs (i + 1)

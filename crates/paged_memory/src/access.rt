@@ -1,13 +1,14 @@
-ghost use Rattle.std.specs.Prelude.{◌≡◌, ℕ, ◌<◌, ◌^◌, ◌%◌, length, is_some, Some, IfSome, IfNone, IfOk, IfErr, OnOk, ◌⊎◌, true, option_map, OnErr};
+ghost use Rattle.std.specs.Prelude.{◌≡◌, ℕ, ◌<◌, ◌^◌, ◌%◌, length, is_some, Some, None, IfSome, IfOk, IfErr, OnOk, ◌⊎◌, true, option_map, OnErr};
 ghost use Rattle.page_memory.specs.Words.{page_number, bytes_in};
 ghost use Rattle.page_store.specs.PageValue.{Place};
 ghost use Rattle.sv32_table.specs.EntryAt.{entry_at};
 ghost use Rattle.paged_memory.specs.Paged.{Holds, seen_at, page_at};
 ghost use Rattle.paged_memory.specs.Seen.{is_used};
-ghost use Rattle.tlb_core.specs.Cache.{Hits};
+ghost use Rattle.tlb_core.specs.Cache.{Hits, translation_of};
+ghost use Rattle.paged_memory.specs.declared.caches.Miss.{Miss};
 ghost use Rattle.paged_memory.specs.Access.{Reaches, RefusesAccess, Locates, HasPage, MarksUse, KeepsTranslations, MayWalk, cache_of, is_doomed, resident_frame, ServesHeld};
 
-use crate::caches::Caches;
+use crate::caches::{Caches, Miss};
 use page_memory::{Access, MemoryFault, PageMap, Rights, Width, page_of};
 use page_store::{PageState, StoredPage};
 use rv_exec::BusError;
@@ -39,18 +40,21 @@ pub(crate) fn at_hand<L: Ledger, S: SwapSlot>(
 
 /// The place of a page that a hart's cache shows for an access.
 #[inline]
-pub(crate) fn hit(caches: &Caches, hart: usize, access: Access, page: u32) -> Option<usize>
+fn hit(caches: &Caches, hart: usize, access: Access, page: u32) -> Result<usize, Miss>
     requires { hart < length caches.now }
-    ensures hits { IfSome result (λ place. Hits (cache_of caches.now hart) access page place) }
-    ensures none { IfNone result ((place : ℕ) → ¬ Hits (cache_of caches.now hart) access page place) }
+    ensures hits { IfOk result (λ place. Hits (cache_of caches.now hart) access page place) }
+    ensures none { OnErr result ((place : ℕ) → ¬ Hits (cache_of caches.now hart) access page place) }
+    ensures unknown { IfErr result (λ miss. miss ≡ Miss.Unknown → translation_of page (cache_of caches.now hart) ≡ None) }
 {
-    let entry = caches.look(hart, page)?;
+    let Some(entry) = caches.look(hart, page) else {
+        return Err(Miss::Unknown);
+    };
     if !entry.rights.allow(access) {
-        return None;
+        return Err(Miss::Unfit);
     }
     match access {
-        Access::Store if !entry.dirty => None,
-        _ => Some(entry.place),
+        Access::Store if !entry.dirty => Err(Miss::Unfit),
+        _ => Ok(entry.place),
     }
 }
 
@@ -99,7 +103,7 @@ fn locate<L: Ledger, S: SwapSlot>(
     })
 }
 
-/// Walks the tables for a hart's access to a page, and caches what they give. Answers the page's place.
+/// Walks the tables for a hart's access to a page that its cache missed so, and caches what they give. Answers the page's place.
 #[cold]
 fn walk<L: Ledger, S: SwapSlot>(
     pages: &PageMap<StoredPage<L, S>>,
@@ -109,10 +113,12 @@ fn walk<L: Ledger, S: SwapSlot>(
     access: Access,
     page: u32,
     address: u32,
+    miss: Miss,
 ) -> Result<usize, BusError>
     requires page { page ≡ page_number address }
     requires small { page < 2 ^ 20 }
     requires hart { hart < length caches.old }
+    requires unknown { miss ≡ Miss.Unknown → translation_of page (cache_of caches.old hart) ≡ None }
     requires holds { Holds S.content S.honest pages.now tables.old caches.old }
     ensures holds { Holds S.content S.honest pages.now tables.new caches.new }
     ensures reaches { IfOk result (λ place. Reaches pages.now tables.new access page place) }
@@ -140,6 +146,7 @@ fn walk<L: Ledger, S: SwapSlot>(
             dirty,
             doomed: false,
         },
+        miss,
     );
     Ok(place)
 }
@@ -167,8 +174,8 @@ fn hit_or_walk<L: Ledger, S: SwapSlot>(
 {
     let page = page_of(address);
     match hit(caches, hart, access, page) {
-        Some(place) => Ok(place),
-        None => walk(pages, tables, caches, hart, access, page, address),
+        Ok(place) => Ok(place),
+        Err(miss) => walk(pages, tables, caches, hart, access, page, address, miss),
     }
 }
 

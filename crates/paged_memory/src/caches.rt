@@ -1,39 +1,47 @@
-ghost use Rattle.std.specs.Prelude.{◌≡◌, ◌<◌, ◌≤◌, ◌%◌, ℕ, [], ◌∷◌, ◌++◌, map, length, is_some, IfOk, IfSome, slice_index_or, slice_set};
+ghost use Rattle.std.specs.Prelude.{◌≡◌, ◌<◌, ◌≤◌, ◌%◌, ℕ, [], ◌∷◌, ◌++◌, None, map, length, is_some, IfOk, IfSome, slice_index_or, slice_set};
 ghost use Rattle.page_memory.specs.Words.{page_number, bytes_in};
 ghost use Rattle.tlb_core.specs.Cache.{Hits, doomed, undoomed, filled, translation_of};
 ghost use Rattle.paged_memory.specs.Soundness.{is_held};
+ghost use Rattle.paged_memory.specs.declared.caches.Miss.{Miss};
 
+use arrayvec::ArrayVec;
 use machine_limits::MOST_HARTS;
 use page_memory::{Access, Width};
-use std::alloc::{AllocError, Global};
 use std::marker::Model;
 use tlb_core::{Tlb, Translation};
+
+/// Why a hart's cache does not serve an access.
+#[derive(Clone, Copy, PartialEq, Eq, Debug)]
+pub(crate) enum Miss {
+    /// It has no translation of the page.
+    Unknown,
+    /// It has one that lacks the right, or for a store one that is not dirty.
+    Unfit,
+}
 
 /// The translation caches of a process's harts, by their numbers.
 #[derive(Drop)]
 pub(crate) struct Caches {
-    harts: Vec<Tlb>,
+    harts: ArrayVec<Tlb, MOST_HARTS>,
 }
 
 impl Model for Caches {
-    ghost use Rattle.std.specs.Prelude.{List, ◌≤◌, vec_capacity};
+    ghost use Rattle.std.specs.Prelude.{List};
     ghost use Rattle.tlb_core.specs.declared.translation.Translation.{Translation};
 
     ghost Value = { List (List Translation) };
 
     ghost view = { λ c. c.harts.items };
-
-    ghost invariant = { λ c. 8 ≤ vec_capacity c.harts };
 }
 
 impl Caches {
-    /// Caches of no hart, with room for those of all.
-    pub fn new(alloc: Global) -> Result<Self, AllocError>
-        ensures { IfOk result (λ caches. caches ≡ []) }
+    /// Caches of no hart.
+    pub fn new() -> Self
+        ensures { result ≡ [] }
     {
-        Ok(Caches {
-            harts: Vec::with_capacity(alloc, MOST_HARTS)?,
-        })
+        Caches {
+            harts: ArrayVec::new(),
+        }
     }
 
     /// How many harts there are.
@@ -49,7 +57,7 @@ impl Caches {
         requires { length self.old < 8 }
         ensures { self.new ≡ self.old ++ [] ∷ [] }
     {
-        self.harts.push_reserved(Tlb::new());
+        self.harts.push(Tlb::new());
     }
 
     /// What a hart has cached of a page.
@@ -58,7 +66,7 @@ impl Caches {
         requires { hart < length self.now }
         ensures { result ≡ translation_of page (slice_index_or self.now hart []) }
     {
-        self.harts[hart].look(page)
+        self.harts.as_slice()[hart].look(page)
     }
 
     /// The place of an address's page that is ready for an aligned access of a hart.
@@ -68,30 +76,36 @@ impl Caches {
         ensures aligned { IfSome result (λ _. address % bytes_in width ≡ 0) }
         ensures hits { IfSome result (λ place. Hits (slice_index_or self.now hart []) access (page_number address) place) }
     {
-        self.harts[hart].ready(access, width, address)
+        self.harts.as_slice()[hart].ready(access, width, address)
     }
 
     /// Makes an address's page ready for a hart's access that its translation serves.
+    #[tactic(auto, using(crate::proofs::Mapping::refilled_at))]
     pub fn remember(&mut self, hart: usize, access: Access, address: u32)
         requires { hart < length self.old }
         ensures { self.new ≡ self.old }
     {
-        self.harts[hart].remember(access, address);
+        self.harts.as_mut_slice()[hart].remember(access, address);
     }
 
-    /// Puts a translation into a hart's cache.
-    pub fn fill(&mut self, hart: usize, entry: Translation)
-        requires { hart < length self.old }
+    /// Puts a translation into a hart's cache, which missed the page so.
+    #[tactic(auto, using(crate::proofs::Mapping::refilled_at))]
+    pub fn fill(&mut self, hart: usize, entry: Translation, miss: Miss)
+        requires hart { hart < length self.old }
+        requires unknown { miss ≡ Miss.Unknown → translation_of entry.page (slice_index_or self.old hart []) ≡ None }
         ensures { self.new ≡ slice_set self.old hart (filled entry (slice_index_or self.old hart [])) }
     {
-        self.harts[hart].fill(entry);
+        match miss {
+            Miss::Unknown => self.harts.as_mut_slice()[hart].add(entry),
+            Miss::Unfit => self.harts.as_mut_slice()[hart].fill(entry),
+        }
     }
 
     /// Whether a cache holds a translation of a page.
     pub fn is_held(&self, page: u32) -> bool
         ensures { result ≡ is_held page self.now }
     {
-        self.harts.iter().any(
+        self.harts.as_slice().iter().any(
             |cache: &Tlb| -> bool
                 ensures { result ≡ is_some (translation_of page cache.now) }
             { cache.holds(page) },
@@ -103,23 +117,25 @@ impl Caches {
     pub fn doom(&mut self, page: u32)
         ensures { self.new ≡ map (doomed page) self.old }
     {
-        doom_each(&mut self.harts, page);
+        doom_each(self.harts.as_mut_slice(), page);
     }
 
     /// Drops the translations of a hart that are marked.
+    #[tactic(auto, using(crate::proofs::Mapping::refilled_at))]
     pub fn drop_doomed(&mut self, hart: usize)
         requires { hart < length self.old }
         ensures { self.new ≡ slice_set self.old hart (undoomed (slice_index_or self.old hart [])) }
     {
-        self.harts[hart].drop_doomed();
+        self.harts.as_mut_slice()[hart].drop_doomed();
     }
 
     /// Drops all translations of a hart.
+    #[tactic(auto, using(crate::proofs::Mapping::refilled_at))]
     pub fn clear(&mut self, hart: usize)
         requires { hart < length self.old }
         ensures { self.new ≡ slice_set self.old hart [] }
     {
-        self.harts[hart].clear();
+        self.harts.as_mut_slice()[hart].clear();
     }
 
     /// Drops all translations of all harts.
@@ -127,7 +143,7 @@ impl Caches {
     pub fn clear_all(&mut self)
         ensures { self.new ≡ map (λ _. []) self.old }
     {
-        clear_each(&mut self.harts);
+        clear_each(self.harts.as_mut_slice());
     }
 }
 

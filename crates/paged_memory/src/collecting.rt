@@ -11,8 +11,14 @@ use swap_slots::SwapSlot;
 
 impl<L: Ledger, S: SwapSlot> PagedMemory<L, S> {
     /// Looks whether a page that is leaving can let its frame go: no cache may hold a translation of it. An unchanged
-    /// page goes to its backing, and a changed one to be saved, to its slot or to the spare one.
-    pub fn collect(&mut self, vpn: u32, spare: &mut Option<S>) -> Collected<L, S>
+    /// page goes to its backing, and a changed one to be saved, to its slot or to the spare one. Its copy is made in the
+    /// room, and its frame's own is left there.
+    pub fn collect(
+        &mut self,
+        vpn: u32,
+        spare: &mut Option<S>,
+        room: &mut Box<[u8; 4096]>,
+    ) -> Collected<L, S>
         requires { vpn < 2 ^ 20 }
         ensures answer { CollectsAt self.old.process vpn (is_held vpn self.old.caches) spare.old spare.new result self.old.pages self.new.pages (page_at self.old.pages vpn) }
         ensures stays { self.new ≡ record self.old { pages = self.new.pages } }
@@ -20,14 +26,7 @@ impl<L: Ledger, S: SwapSlot> PagedMemory<L, S> {
         ensures memory { S.honest → memory_of S.content self.new ≡ memory_of S.content self.old }
     {
         let cached = self.caches.is_held(vpn);
-        collect_page(
-            &mut self.pages,
-            self.process,
-            vpn,
-            cached,
-            spare,
-            &mut self.room,
-        )
+        collect_page(&mut self.pages, self.process, vpn, cached, spare, room)
     }
 }
 

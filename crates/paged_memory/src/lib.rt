@@ -17,6 +17,7 @@ mod harts;
 mod memory;
 mod peeking;
 mod reading;
+mod reply;
 mod reserving;
 mod saving;
 mod status;

@@ -24,8 +24,6 @@ pub struct PagedMemory<L: Ledger, S: SwapSlot> {
     pub(crate) tables: PageTables,
     pub(crate) caches: Caches,
     pub(crate) reservations: Reservations,
-    /// What copies of pages are made in, one after another: a frame that is copied leaves its own room here meanwhile.
-    pub(crate) room: Box<[u8; 4096]>,
 }
 
 impl<L: Ledger, S: SwapSlot> Model for PagedMemory<L, S> {
@@ -53,9 +51,8 @@ impl<L: Ledger, S: SwapSlot> PagedMemory<L, S> {
             process,
             pages: PageMap::new(alloc)?,
             tables: PageTables::new(alloc)?,
-            caches: Caches::new(alloc)?,
+            caches: Caches::new(),
             reservations: Reservations::new(),
-            room: Box::new(alloc, [0; 4096])?,
         })
     }
 

@@ -7,10 +7,12 @@ ghost use Rattle.page_memory.specs.declared.words.Access.{Access};
 ghost use Rattle.page_store.specs.PageValue.{content, writable};
 ghost use Rattle.rv_exec.specs.Answers.{Answers, BusRefuses, with_answer};
 ghost use Rattle.paged_memory.specs.Paged.{Holds, flat_pages};
+ghost use Rattle.paged_memory.specs.Replies.{loaded_by};
 ghost use Rattle.paged_memory.specs.Access.{HasPage, LacksPage, MarksUse, KeepsTranslations, MayWalk, UsesBytes, cache_of, ServesHeld};
 
 use crate::access::{at_hand, reach};
 use crate::caches::Caches;
+use crate::reply::LoadReply;
 use page_memory::{Access, MemoryFault, PageMap, Width, number, offset_in_page};
 use page_store::StoredPage;
 use rv_exec::BusError;
@@ -114,7 +116,12 @@ pub(crate) fn fetch<L: Ledger, S: SwapSlot>(
         address,
     ) {
         Some(page) => Ok(number(page, Width::Word, address)),
-        None => fetch_anew(pages, tables, caches, hart, address),
+        None => match fetch_anew(pages, tables, caches, hart, address) {
+            LoadReply::Number(number) => Ok(number),
+            LoadReply::Absent(page) => Err(BusError::Absent(page)),
+            LoadReply::Misaligned => Err(BusError::Fault(MemoryFault::Misaligned)),
+            LoadReply::PageFault => Err(BusError::Fault(MemoryFault::PageFault)),
+        },
     }
 }
 
@@ -128,22 +135,24 @@ fn fetch_anew<L: Ledger, S: SwapSlot>(
     caches: &mut Caches,
     hart: usize,
     address: u32,
-) -> Result<u32, BusError>
+) -> LoadReply
     requires hart { hart < length caches.old }
     requires holds { Holds S.content S.honest pages.now tables.old caches.old }
     ensures holds { Holds S.content S.honest pages.now tables.new caches.new }
-    ensures answer { Answers (HasPage pages.now (cache_of caches.old hart)) (MarksUse pages.now tables.new (cache_of caches.old hart) Access.Fetch) (LacksPage pages.now) address (fetched (flat_pages S.content pages.now) address) result }
-    ensures held { ServesHeld (cache_of caches.old hart) Access.Fetch (page_number address) result }
+    ensures answer { Answers (HasPage pages.now (cache_of caches.old hart)) (MarksUse pages.now tables.new (cache_of caches.old hart) Access.Fetch) (LacksPage pages.now) address (fetched (flat_pages S.content pages.now) address) (loaded_by result) }
+    ensures held { ServesHeld (cache_of caches.old hart) Access.Fetch (page_number address) (loaded_by result) }
     ensures kept { KeepsTranslations pages.now hart tables.old tables.new caches.old caches.new }
     ensures entries { MayWalk Access.Fetch (page_number address) tables.old tables.new }
-    ensures unmarked { OnErr result (tables.new ≡ tables.old) }
+    ensures unmarked { OnErr (loaded_by result) (tables.new ≡ tables.old) }
 {
     if address % 4 != 0 {
-        return Err(BusError::Fault(MemoryFault::Misaligned));
+        return LoadReply::Misaligned;
     }
     match read(pages, tables, caches, hart, Access::Fetch, address) {
-        Ok(page) => Ok(number(page, Width::Word, address)),
-        Err(refusal) => Err(refusal),
+        Ok(page) => LoadReply::Number(number(page, Width::Word, address)),
+        Err(BusError::Absent(page)) => LoadReply::Absent(page),
+        Err(BusError::Fault(MemoryFault::Misaligned)) => LoadReply::Misaligned,
+        Err(BusError::Fault(MemoryFault::PageFault)) => LoadReply::PageFault,
     }
 }
 
@@ -169,7 +178,12 @@ pub(crate) fn load<L: Ledger, S: SwapSlot>(
 {
     match read_ready(pages, tables, caches, hart, Access::Load, width, address) {
         Some(page) => Ok(number(page, width, address)),
-        None => load_anew(pages, tables, caches, hart, width, address),
+        None => match load_anew(pages, tables, caches, hart, width, address) {
+            LoadReply::Number(number) => Ok(number),
+            LoadReply::Absent(page) => Err(BusError::Absent(page)),
+            LoadReply::Misaligned => Err(BusError::Fault(MemoryFault::Misaligned)),
+            LoadReply::PageFault => Err(BusError::Fault(MemoryFault::PageFault)),
+        },
     }
 }
 
@@ -184,22 +198,24 @@ fn load_anew<L: Ledger, S: SwapSlot>(
     hart: usize,
     width: Width,
     address: u32,
-) -> Result<u32, BusError>
+) -> LoadReply
     requires hart { hart < length caches.old }
     requires holds { Holds S.content S.honest pages.now tables.old caches.old }
     ensures holds { Holds S.content S.honest pages.now tables.new caches.new }
-    ensures answer { Answers (HasPage pages.now (cache_of caches.old hart)) (MarksUse pages.now tables.new (cache_of caches.old hart) Access.Load) (LacksPage pages.now) address (loaded (flat_pages S.content pages.now) width address) result }
-    ensures held { ServesHeld (cache_of caches.old hart) Access.Load (page_number address) result }
+    ensures answer { Answers (HasPage pages.now (cache_of caches.old hart)) (MarksUse pages.now tables.new (cache_of caches.old hart) Access.Load) (LacksPage pages.now) address (loaded (flat_pages S.content pages.now) width address) (loaded_by result) }
+    ensures held { ServesHeld (cache_of caches.old hart) Access.Load (page_number address) (loaded_by result) }
     ensures kept { KeepsTranslations pages.now hart tables.old tables.new caches.old caches.new }
     ensures entries { MayWalk Access.Load (page_number address) tables.old tables.new }
-    ensures unmarked { OnErr result (tables.new ≡ tables.old) }
+    ensures unmarked { OnErr (loaded_by result) (tables.new ≡ tables.old) }
 {
     if address % width.bytes() != 0 {
-        return Err(BusError::Fault(MemoryFault::Misaligned));
+        return LoadReply::Misaligned;
     }
     match read(pages, tables, caches, hart, Access::Load, address) {
-        Ok(page) => Ok(number(page, width, address)),
-        Err(refusal) => Err(refusal),
+        Ok(page) => LoadReply::Number(number(page, width, address)),
+        Err(BusError::Absent(page)) => LoadReply::Absent(page),
+        Err(BusError::Fault(MemoryFault::Misaligned)) => LoadReply::Misaligned,
+        Err(BusError::Fault(MemoryFault::PageFault)) => LoadReply::PageFault,
     }
 }
 

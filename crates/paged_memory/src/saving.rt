@@ -11,14 +11,19 @@ use swap_slots::SwapSlot;
 
 impl<L: Ledger, S: SwapSlot> PagedMemory<L, S> {
     /// Ends the save of a page: its frame comes free where it holds what was saved, and the device passed it. Else the
-    /// page is leaving again, as a changed one, with its slot.
-    pub fn saved(&mut self, job: SavedJob<S>) -> Result<Frame<L>, SaveRefusal<S>>
+    /// page is leaving again, as a changed one, with its slot. A frame that comes free takes the room that is there, and
+    /// leaves the one of the copy.
+    pub fn saved(
+        &mut self,
+        job: SavedJob<S>,
+        room: &mut Box<[u8; 4096]>,
+    ) -> Result<Frame<L>, SaveRefusal<S>>
         ensures freed { IfOk result (λ frame. ChangesSaved self.old.process job (Frees job frame) self.old.pages self.new.pages) }
         ensures refused { IfErr result (RefusesSaved self.old.process job self.old.pages self.new.pages) }
         ensures stays { self.new ≡ record self.old { pages = self.new.pages } }
         ensures memory { S.honest → memory_of S.content self.new ≡ memory_of S.content self.old }
     {
-        saved_page(&mut self.pages, self.process, job, &mut self.room)
+        saved_page(&mut self.pages, self.process, job, room)
     }
 }
 

@@ -8,11 +8,13 @@ ghost use Rattle.rv_exec.specs.Amo.{amo_result};
 ghost use Rattle.rv_exec.specs.Answers.{Answers, with_answer};
 ghost use Rattle.page_memory.specs.declared.words.Access.{Access};
 ghost use Rattle.paged_memory.specs.Paged.{Holds, flat_pages};
+ghost use Rattle.paged_memory.specs.Replies.{stored_by};
 ghost use Rattle.paged_memory.specs.Access.{HasPage, LacksPage, MarksUse, KeepsTranslations, MayWalk, KeepsBare, cache_of, ServesHeld};
 
 use crate::access::{at_hand, reach};
 use crate::caches::Caches;
 use crate::reading::bytes_of;
+use crate::reply::StoreReply;
 use page_memory::{
     Access, MemoryFault, PageMap, Width, number, offset_in_page, put_bytes, put_number,
 };
@@ -100,7 +102,12 @@ pub(crate) fn store<L: Ledger, S: SwapSlot>(
             put_number_in(pages.at_mut(place), width, address, word);
             Ok(())
         }
-        None => store_anew(pages, tables, caches, hart, width, address, word),
+        None => match store_anew(pages, tables, caches, hart, width, address, word) {
+            StoreReply::Done => Ok(()),
+            StoreReply::Absent(page) => Err(BusError::Absent(page)),
+            StoreReply::Misaligned => Err(BusError::Fault(MemoryFault::Misaligned)),
+            StoreReply::PageFault => Err(BusError::Fault(MemoryFault::PageFault)),
+        },
     }
 }
 
@@ -115,28 +122,32 @@ fn store_anew<L: Ledger, S: SwapSlot>(
     width: Width,
     address: u32,
     word: u32,
-) -> Result<(), BusError>
+) -> StoreReply
     requires hart { hart < length caches.old }
     requires holds { Holds S.content S.honest pages.old tables.old caches.old }
     ensures holds { Holds S.content S.honest pages.new tables.new caches.new }
-    ensures answer { let after = with_answer (λ _. flat_pages S.content pages.new) result in
+    ensures answer { let after = with_answer (λ _. flat_pages S.content pages.new) (stored_by result) in
         Answers (HasPage pages.old (cache_of caches.old hart)) (MarksUse pages.old tables.new (cache_of caches.old hart) Access.Store) (LacksPage pages.old) address (stored (flat_pages S.content pages.old) width address word) after }
-    ensures refused { OnErr result (pages.new ≡ pages.old) }
+    ensures refused { OnErr (stored_by result) (pages.new ≡ pages.old) }
     ensures bare { KeepsBare pages.old pages.new }
-    ensures held { ServesHeld (cache_of caches.old hart) Access.Store (page_number address) result }
+    ensures held { ServesHeld (cache_of caches.old hart) Access.Store (page_number address) (stored_by result) }
     ensures kept { KeepsTranslations pages.old hart tables.old tables.new caches.old caches.new }
     ensures entries { MayWalk Access.Store (page_number address) tables.old tables.new }
-    ensures unmarked { OnErr result (tables.new ≡ tables.old) }
+    ensures unmarked { OnErr (stored_by result) (tables.new ≡ tables.old) }
 {
     if address % width.bytes() != 0 {
-        return Err(BusError::Fault(MemoryFault::Misaligned));
+        return StoreReply::Misaligned;
     }
     match reach(pages, tables, caches, hart, Access::Store, address) {
         Ok(place) => {
             put_number_in(pages.at_mut(place), width, address, word);
-            Ok(())
+            StoreReply::Done
         }
-        Err(refusal) => Err(refusal),
+        Err(BusError::Absent(page)) => StoreReply::Absent(page),
+        Err(BusError::Fault(fault)) => match fault {
+            MemoryFault::Misaligned => StoreReply::Misaligned,
+            MemoryFault::PageFault => StoreReply::PageFault,
+        },
     }
 }
 

@@ -71,8 +71,9 @@ pub(crate) fn keeps_a_page<L: Ledger>(alloc: Global, blank: Blank) -> Result<boo
     requires one_each { L.parts ≡ 5 }
 {
     let mut spare = Some(MemorySlot::new(alloc)?);
+    let mut room = Box::new(alloc, [0; 4096])?;
     let (mut space, mut frames) = begun::<L>(alloc, STORES_A_BYTE, blank)?;
-    if !stores(&mut space, &mut frames)? || !goes_out(&mut space, &mut spare) {
+    if !stores(&mut space, &mut frames)? || !goes_out(&mut space, &mut spare, &mut room) {
         return Ok(false);
     }
     Ok(comes_back(&mut space))
@@ -114,12 +115,16 @@ fn stores<L: Ledger>(
 }
 
 /// Whether the page of data is saved.
-fn goes_out<L: Ledger>(space: &mut Space<L, MemorySlot>, spare: &mut Option<MemorySlot>) -> bool {
+fn goes_out<L: Ledger>(
+    space: &mut Space<L, MemorySlot>,
+    spare: &mut Option<MemorySlot>,
+    room: &mut Box<[u8; 4096]>,
+) -> bool {
     space.take_notices(0);
-    let Collected::Dirty(job) = space.collect(0x11, spare) else {
+    let Collected::Dirty(job) = space.collect(0x11, spare, room) else {
         return false;
     };
-    if space.saved(job.run()).is_err() {
+    if space.saved(job.run(), room).is_err() {
         return false;
     }
     space.state(0x11) == Some(PageState::Away)

@@ -64,6 +64,7 @@ pub(crate) struct Bench<L: Ledger, S: SwapSlot> {
     frames: FramePool<L>,
     spares: Vec<S>,
     jobs: Vec<SaveJob<S>>,
+    room: Box<[u8; 4096]>,
 }
 
 impl<L: Ledger, S: SwapSlot> Bench<L, S> {
@@ -79,6 +80,7 @@ impl<L: Ledger, S: SwapSlot> Bench<L, S> {
             frames: FramePool::new(alloc, 4, blank)?,
             spares,
             jobs: Vec::new(alloc),
+            room: Box::new(alloc, [0; 4096])?,
         })
     }
 
@@ -148,7 +150,7 @@ impl<L: Ledger, S: SwapSlot> Bench<L, S> {
         requires { vpn < 2 ^ 20 }
     {
         let mut spare = self.spares.pop();
-        let collected = self.space.collect(vpn, &mut spare);
+        let collected = self.space.collect(vpn, &mut spare, &mut self.room);
         if let Some(slot) = spare {
             if self.spares.push(slot).is_err() {
                 return Answer::Nothing;
@@ -173,7 +175,7 @@ impl<L: Ledger, S: SwapSlot> Bench<L, S> {
         let Some(job) = self.jobs.pop() else {
             return Answer::Nothing;
         };
-        match self.space.saved(job.run()) {
+        match self.space.saved(job.run(), &mut self.room) {
             Ok(frame) => self.give(frame, Answer::Done),
             Err(_) => Answer::Refused,
         }

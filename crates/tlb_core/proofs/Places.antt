@@ -1,5 +1,5 @@
 -- What stands where in a cache, and that each page keeps at most one entry.
-use Rattle.std.proofs.Common.{◌≡◌, ◌≢◌, ℕ, zero, suc, ◌+◌, ◌<◌, ◌≤◌, Bool, true, false, cond, refl, sym, ap, ◌∙◌, arith, List, [], ◌∷◌, ◌++◌, length, get_or, set, take, drop, map, add-one, Some, None, nat_lt}
+use Rattle.std.proofs.Common.{◌≡◌, ◌≢◌, ℕ, zero, suc, ◌+◌, ◌<◌, ◌≤◌, Bool, true, false, cond, refl, sym, ap, ◌∙◌, arith, List, [], ◌∷◌, ◌++◌, length, get_or, set, take, drop, map, add-one, Option, Some, None, nat_lt}
 use Rattle.std.specs.Prelude.{find, position, not, slice_get, filter, ◌||◌}
 use Rattle.std.specs.List.{position_or_len, refill, list_any}
 use Rattle.std.proofs.Math.ListN.{length-set}
@@ -132,6 +132,16 @@ filled_in_place e xs k is = rw is refl
 pub filled_behind : (e : Translation) (xs : List Translation) → position (is_of_page e.page) xs ≡ None → filled e xs ≡ with_room xs ++ e ∷ []
 unfolding filled filled_at
 filled_behind e xs is = rw is refl
+
+-- a page that has no entry is not found, so that its entry goes behind the others
+pub filled_new : (e : Translation) (xs : List Translation) → translation_of e.page xs ≡ None → filled e xs ≡ with_room xs ++ e ∷ []
+filled_new e xs none = by_place (position (is_of_page e.page) xs) refl
+  where
+    by_place : (o : Option ℕ) → position (is_of_page e.page) xs ≡ o → filled e xs ≡ with_room xs ++ e ∷ []
+    by_place None is = filled_behind e xs is
+    by_place (Some k) is =
+        let at = position-Some (is_of_page e.page) xs k e is in
+        absurd (not_there e.page xs k e none (place_within e.page xs k is) (let t = at.1 in grind (arith, nat_tests)))
 
 pub room_made : (xs : List Translation) → length xs ≡ 16 → with_room xs ≡ drop 1 xs
 unfolding with_room

@@ -8,25 +8,31 @@ const HINTS: usize = 256;
 /// Where in a list the entries of pages were last put, by the pages' low bits. Nothing rests on a hint.
 #[derive(Drop)]
 pub(crate) struct Hints {
+    /// Counted from the first entry that ever was, modulo 256.
     places: [u8; HINTS],
+    /// How many first entries have gone since, modulo 256.
+    gone: u8,
 }
 
 impl Hints {
     pub fn new() -> Hints {
-        Hints { places: [0; HINTS] }
+        Hints {
+            places: [0; HINTS],
+            gone: 0,
+        }
     }
 
     /// Where to look for the entry of a page first.
     #[inline]
     pub fn place(&self, page: u32) -> usize {
-        usize::from(self.places[(page as usize) % HINTS])
+        usize::from(self.places[(page as usize) % HINTS].wrapping_sub(self.gone))
     }
 
     /// The entry of a page was put at this place.
     pub fn put(&mut self, page: u32, place: usize)
         requires { place < 256 }
     {
-        self.places[(page as usize) % HINTS] = place as u8;
+        self.places[(page as usize) % HINTS] = (place as u8).wrapping_add(self.gone);
     }
 
     /// The entries stand in this order.
@@ -40,8 +46,6 @@ impl Hints {
 
     /// The first entry is gone, and each other stands one place before.
     pub fn first_is_gone(&mut self) {
-        for place in self.places.iter_mut() {
-            *place = place.saturating_sub(1);
-        }
+        self.gone = self.gone.wrapping_add(1);
     }
 }

@@ -34,6 +34,13 @@ impl Model for Tlb {
     ghost invariant = { λ t. IsCache t.entries.items t.ready };
 }
 
+/// A cache of no entry.
+impl Default for Tlb {
+    fn default() -> Tlb {
+        Tlb::new()
+    }
+}
+
 impl Tlb {
     /// A cache of no entry.
     pub fn new() -> Tlb
@@ -131,6 +138,14 @@ impl Tlb {
             Some(place) => self.replace(place, entry),
             None => self.append(entry),
         }
+    }
+
+    /// The same where the cache is known to have none of the page, which is then not looked for.
+    pub fn add(&mut self, entry: Translation)
+        requires { translation_of entry.page self.old ≡ None }
+        ensures { self.new ≡ filled entry self.old }
+    {
+        self.append(entry);
     }
 
     /// Puts an entry in at the place of its page's.

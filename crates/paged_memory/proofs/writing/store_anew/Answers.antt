@@ -1,8 +1,13 @@
-use Rattle.std.proofs.Common.{◌≡◌, ◌≢◌, ◌%◌, ◌<◌, ◌^◌, arith, ap, sym, ◌∙◌, subst}
+use Rattle.std.proofs.Common.{Err, ℕ, ◌≡◌, ◌≢◌, ◌%◌, ◌<◌, ◌^◌, arith, ap, sym, ◌∙◌, subst}
 use Rattle.page_memory.specs.AccessLaws.{stored_misaligned}
+use Rattle.page_memory.specs.Pages.{stored}
 use Rattle.page_memory.specs.Words.{page_number, bytes_in}
+use Rattle.page_memory.specs.declared.fault.MemoryFault.TheVariants.{PageFault}
 use Rattle.page_memory.specs.declared.words.Access.TheVariants.{Store}
-use Rattle.paged_memory.specs.Access.{LacksPage}
+use Rattle.rv_exec.specs.declared.bus.BusError.{BusError}
+use Rattle.rv_exec.specs.declared.bus.BusError.TheVariants.{Fault, Absent}
+use Rattle.rv_exec.specs.Answers.{BusRefuses}
+use Rattle.paged_memory.specs.Access.{LacksPage, RefusesAccess, ServesHeld, cache_of}
 use Rattle.paged_memory.specs.Paged.{flat_pages}
 use Rattle.paged_memory.proofs.ReadLaws.{refuses}
 use Rattle.paged_memory.proofs.LentLaws.{holds_lent, bare_lent, stored_lent}
@@ -32,8 +37,22 @@ returns-in-Ok-clause-bare g c =
     let small : page_number c.args.address < 2 ^ 20 = omega arith in
     bare_lent (page_number c.args.address) c.in-Ok.place small c.reach.ensures.holds c.in-Ok.ensures.reaches c.at_mut.result.now c.put_number_in.new.page c.at_mut.ensures.value _ c.put_number_in.ensures
 
-pub returns-in-Err-clause-answer : goal.returns-in-Err-clause-answer
-returns-in-Err-clause-answer g c =
+pub returns-in-Err-Absent-clause-answer : goal.returns-in-Err-Absent-clause-answer
+returns-in-Err-Absent-clause-answer g c =
     let aligned : c.args.address % bytes_in c.args.width ≡ 0 = ap (λ w. c.args.address % w) (sym c.bytes.ensures) ∙ c.if-address-bytes-ne0.false in
-    stored_refused (LacksPage c.args.pages.now) (flat_pages g.S.SwapSlot.content c.args.pages.now) c.args.width c.args.address c.args.word c.in-Err.refusal aligned
-    (refuses g.S.SwapSlot.content c.args.pages.now Store c.args.address c.in-Err.refusal c.in-Err.ensures.refused)
+    let refused = subst (λ (r : BusError). RefusesAccess c.args.pages.now Store (page_number c.args.address) r) c.in-Err-Absent.field-0-is c.in-Err-Absent.ensures.refused in
+    subst (λ (p : ℕ). BusRefuses (LacksPage c.args.pages.now) c.args.address (stored (flat_pages g.S.SwapSlot.content c.args.pages.now) c.args.width c.args.address c.args.word) (Absent p)) (sym c.in-Err-Absent.page-is)
+    (stored_refused (LacksPage c.args.pages.now) (flat_pages g.S.SwapSlot.content c.args.pages.now) c.args.width c.args.address c.args.word (Absent c.in-Err-Absent.page) aligned
+    (refuses g.S.SwapSlot.content c.args.pages.now Store c.args.address (Absent c.in-Err-Absent.page) refused))
+
+pub returns-in-Err-Absent-clause-held : goal.returns-in-Err-Absent-clause-held
+returns-in-Err-Absent-clause-held g c =
+    subst (λ (r : BusError). ServesHeld {A = ℕ} (cache_of c.args.caches.now c.args.hart) Store (page_number c.args.address) (Err r)) c.in-Err-Absent.field-0-is c.in-Err-Absent.ensures.held
+
+pub returns-in-PageFault-clause-answer : goal.returns-in-PageFault-clause-answer
+returns-in-PageFault-clause-answer g c =
+    let aligned : c.args.address % bytes_in c.args.width ≡ 0 = ap (λ w. c.args.address % w) (sym c.bytes.ensures) ∙ c.if-address-bytes-ne0.false in
+    let is : c.in-Err-Fault.field-0 ≡ Fault PageFault = c.in-Err-Fault.field-0-is ∙ ap Fault (sym c.in-Err-Fault.fault-is ∙ c.in-PageFault.is) in
+    let refused = subst (λ (r : BusError). RefusesAccess c.args.pages.now Store (page_number c.args.address) r) is c.in-Err-Fault.ensures.refused in
+    stored_refused (LacksPage c.args.pages.now) (flat_pages g.S.SwapSlot.content c.args.pages.now) c.args.width c.args.address c.args.word (Fault PageFault) aligned
+    (refuses g.S.SwapSlot.content c.args.pages.now Store c.args.address (Fault PageFault) refused)

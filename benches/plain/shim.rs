@@ -407,14 +407,14 @@ pub mod arrayvec {
     use std::ops::{Deref, DerefMut};
 
     #[repr(C)]
-    pub struct ArrayVec<T: Copy, const N: usize> {
+    pub struct ArrayVec<T, const N: usize> {
         items: [MaybeUninit<T>; N],
         length: usize,
     }
 
-    impl<T: Copy, const N: usize> ArrayVec<T, N> {
+    impl<T, const N: usize> ArrayVec<T, N> {
         pub fn new() -> Self {
-            ArrayVec { items: [MaybeUninit::uninit(); N], length: 0 }
+            ArrayVec { items: [const { MaybeUninit::uninit() }; N], length: 0 }
         }
 
         pub fn push(&mut self, value: T) {
@@ -435,8 +435,8 @@ pub mod arrayvec {
         }
 
         pub fn remove(&mut self, at: usize) -> T {
-            let value = self[at];
-            self.items.copy_within(at + 1..self.length, at);
+            let value = unsafe { self.items[at].assume_init_read() };
+            unsafe { std::ptr::copy(self.items.as_ptr().add(at + 1), self.items.as_mut_ptr().add(at), self.length - at - 1) };
             self.length -= 1;
             value
         }
@@ -448,7 +448,7 @@ pub mod arrayvec {
         pub fn retain<F: FnMut(&mut T) -> bool>(&mut self, mut keep: F) {
             let mut kept = 0;
             for at in 0..self.length {
-                let mut value = unsafe { self.items[at].assume_init() };
+                let mut value = unsafe { self.items[at].assume_init_read() };
                 if keep(&mut value) {
                     self.items[kept] = MaybeUninit::new(value);
                     kept += 1;
@@ -466,7 +466,7 @@ pub mod arrayvec {
         }
     }
 
-    impl<T: Copy, const N: usize> Deref for ArrayVec<T, N> {
+    impl<T, const N: usize> Deref for ArrayVec<T, N> {
         type Target = [T];
 
         #[inline(always)]
@@ -475,7 +475,7 @@ pub mod arrayvec {
         }
     }
 
-    impl<T: Copy, const N: usize> DerefMut for ArrayVec<T, N> {
+    impl<T, const N: usize> DerefMut for ArrayVec<T, N> {
         #[inline(always)]
         fn deref_mut(&mut self) -> &mut [T] {
             unsafe { std::slice::from_raw_parts_mut(self.items.as_mut_ptr().cast(), self.length) }

@@ -1,5 +1,5 @@
 -- What each call on a process's pages keeps.
-use Rattle.std.specs.Prelude.{◌≡◌, ℕ, ◌^◌, ◌<◌, ◌≢◌, Bool, true, false, Option, Some, None, option_map, unwrap_or, List, [], map, refl}
+use Rattle.std.specs.Prelude.{◌≡◌, ℕ, ◌^◌, ◌<◌, Bool, true, false, Option, Some, None, option_map, List, [], map, refl}
 use Rattle.std.proofs.Common.{sym, ap, ◌∙◌, subst}
 use Rattle.std.proofs.lemmas.List.Elements.{All-nil}
 use Rattle.frame_pool.specs.FrameValue.{FrameValue}
@@ -25,6 +25,17 @@ use Rattle.paged_memory.proofs.PagedLaws.{Change, choice_here, changes_no_page, 
 -- the entry of the page that changed
 pub entry_at_changed : (tables tables' : List (List ℕ)) (e : Entry) (number : ℕ) → number < 2 ^ 20 → ChangesEntry tables tables' number e → entry_at tables' number ≡ e
 entry_at_changed tables tables' e number small entries = entries number small ∙ choice_here number e (entry_at tables number)
+
+-- what a page's entry tells of its A is what is seen of it
+entry_tells : (s : Option Seen) (e : Entry) → e ≡ entry_seen s e.accessed e.dirty → accessed_of e ≡ accessed_at s e
+unfolding accessed_of
+entry_tells (Some page) e is = by_standing page.rights page.standing is
+  where
+    by_standing : (rights : Rights) (standing : seen.Standing) → e ≡ entry_standing rights standing e.accessed e.dirty → accessed_of e ≡ accessed_standing standing e
+    by_standing rights (seen.Resident frame) is = ap accessed_of is ∙ accessed_of-page_entry frame rights e.accessed e.dirty
+    by_standing rights (seen.Leaving frame mark) is = ap accessed_of is
+    by_standing rights seen.Elsewhere is = ap accessed_of is
+entry_tells None e is = ap accessed_of is
 
 module _ {S : Type 0} where
   -- no page, no entry and no hart
@@ -56,21 +67,28 @@ module _ {S : Type 0} where
       by_page None found is = cc
       by_page (Some page) found is = by_place page.origin page.place found (cc)
 
-  -- a page that is not resident has no A to tell of
-  pub not_resident : (pages : List (ℕ × PageValue S)) (number : ℕ) (e : Entry) → option_map (λ page. page_state_of page.place) (page_at pages number) ≢ Some stage.Resident → accessed_at (seen_at pages number) e ≡ None
-  not_resident pages number e other = by_page (page_at pages number) other
+  -- a page of whose A something is seen is resident
+  resident_seen : (pages : List (ℕ × PageValue S)) (number : ℕ) (e : Entry) (bit : Bool) → accessed_at (seen_at pages number) e ≡ Some bit → IsResident pages number
+  resident_seen pages number e bit is = by_page (page_at pages number) refl is
     where
-      by_place : (rights : Rights) (place : Place S) → Some (page_state_of place) ≢ Some stage.Resident → accessed_standing (standing_of place) e ≡ None
-      by_place rights Fresh other = refl
-      by_place rights (Resident frame slot) other = absurd (other refl)
-      by_place rights (Leaving frame slot mark) other = refl
-      by_place rights (Saving frame) other = refl
-      by_place rights (Away slot) other = refl
-      by_place rights Purged other = refl
+      by_place : (origin : Page) (place : Place S) → page_at pages number ≡ Some (record { origin = origin; place = place }) → accessed_standing (standing_of place) e ≡ Some bit → IsResident pages number
+      by_place origin Fresh found is = cc
+      by_place origin (Resident frame slot) found is = record { origin = origin; frame = frame; slot = slot; found = found }
+      by_place origin (Leaving frame slot mark) found is = cc
+      by_place origin (Saving frame) found is = cc
+      by_place origin (Away slot) found is = cc
+      by_place origin Purged found is = cc
 
-      by_page : (o : Option (PageValue S)) → option_map (λ page. page_state_of page.place) o ≢ Some stage.Resident → accessed_at (option_map seen_of o) e ≡ None
-      by_page None other = refl
-      by_page (Some page) other = by_place page.origin.rights page.place other
+      by_page : (o : Option (PageValue S)) → page_at pages number ≡ o → accessed_at (option_map seen_of o) e ≡ Some bit → IsResident pages number
+      by_page None found is = cc
+      by_page (Some page) found is = by_place page.origin page.place found is
+
+  module _ {held : S → List ℕ} {honest : Type 0} {pages : List (ℕ × PageValue S)} {tables : List (List ℕ)} {caches : List (List Translation)} (number : ℕ) (small : number < 2 ^ 20) (holds : Holds held honest pages tables caches) where
+    pub accessed_by_entry : accessed_of (entry_at tables number) ≡ accessed_at (seen_at pages number) (entry_at tables number)
+    accessed_by_entry = entry_tells (seen_at pages number) (entry_at tables number) (holds.agree.mapped number small).entry
+
+    pub resident_by_entry : (bit : Bool) → accessed_of (entry_at tables number) ≡ Some bit → IsResident pages number
+    resident_by_entry bit is = resident_seen pages number (entry_at tables number) bit (sym accessed_by_entry ∙ is)
 
   -- a resident page with the entry of its frame and rights, whatever its A and D
   pub mapped_resident : (origin : Page) (frame : FrameValue) (slot : Keeping S) (accessed dirty : Bool) {e : Entry} → e ≡ page_entry frame.number origin.rights accessed dirty → (may Store origin.rights ≡ true → may Load origin.rights ≡ true) → IsMapped (Some (seen_of {S = S} (record { origin = origin; place = Resident frame slot }))) e
@@ -96,13 +114,6 @@ module _ {S : Type 0} where
     -- and may be read if it may be written
     pub readable_resident : may Store resident.origin.rights ≡ true → may Load resident.origin.rights ≡ true
     readable_resident = (holds.agree.mapped number small).readable resident.origin.rights (ap rights_seen seen_resident)
-
-    -- what the tables tell of its A
-    pub accessed_found : Some (unwrap_or (accessed_of (entry_at tables number)) false) ≡ accessed_at (seen_at pages number) (entry_at tables number)
-    accessed_found =
-        let e = entry_at tables number in
-        ap (λ o. Some (unwrap_or o false)) (ap accessed_of entry_resident ∙ accessed_of-page_entry resident.frame.number resident.origin.rights e.accessed e.dirty)
-        ∙ sym (ap (λ s. accessed_at s e) seen_resident)
 
     -- its A is cleared, and its translations are doomed
     pub accessed_cleared : {tables' : List (List ℕ)} → ChangesEntry tables tables' number (unaccessed_entry (entry_at tables number)) → SameTables tables tables' → Holds held honest pages tables' (map (doomed number) caches)

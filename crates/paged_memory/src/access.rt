@@ -1,4 +1,4 @@
-ghost use Rattle.std.specs.Prelude.{◌≡◌, ℕ, ◌<◌, ◌^◌, ◌%◌, length, is_some, Some, None, IfSome, IfOk, IfErr, OnOk, ◌⊎◌, true, option_map, OnErr};
+ghost use Rattle.std.specs.Prelude.{◌≡◌, ◌↔◌, ℕ, ◌<◌, ◌^◌, ◌%◌, length, is_some, Some, None, IfSome, IfOk, IfErr, OnOk, ◌⊎◌, true, option_map, OnErr};
 ghost use Rattle.page_memory.specs.Words.{page_number, bytes_in};
 ghost use Rattle.page_store.specs.PageValue.{Place};
 ghost use Rattle.sv32_table.specs.EntryAt.{entry_at};
@@ -44,7 +44,7 @@ fn hit(caches: &Caches, hart: usize, access: Access, page: u32) -> Result<usize,
     requires { hart < length caches.now }
     ensures hits { IfOk result (λ place. Hits (cache_of caches.now hart) access page place) }
     ensures none { OnErr result ((place : ℕ) → ¬ Hits (cache_of caches.now hart) access page place) }
-    ensures unknown { IfErr result (λ miss. miss ≡ Miss.Unknown → translation_of page (cache_of caches.now hart) ≡ None) }
+    ensures unknown { IfErr result (λ miss. (miss ≡ Miss.Unknown) ↔ (translation_of page (cache_of caches.now hart) ≡ None)) }
 {
     let Some(entry) = caches.look(hart, page) else {
         return Err(Miss::Unknown);

@@ -1,5 +1,4 @@
-ghost use Rattle.std.specs.Prelude.{◌≡◌, ◌≢◌, ◌<◌, ◌^◌, Some, None, option_map, map, OnSome, IfNone, OnOk, OnErr, IfErr};
-ghost use Rattle.std.specs.Bool.{OnTrue, OnFalse};
+ghost use Rattle.std.specs.Prelude.{◌≡◌, ◌<◌, ◌^◌, Some, None, option_map, map, OnSome, IfNone, OnOk, OnErr, IfErr};
 ghost use Rattle.sv32_table.specs.Entry.{blank};
 ghost use Rattle.sv32_table.specs.EntryAt.{entry_at, ChangesEntry, SameTables, unaccessed_entry, dirty_of};
 ghost use Rattle.tlb_core.specs.Cache.{doomed};
@@ -70,15 +69,8 @@ pub(crate) fn state_in<L: Ledger, S: SwapSlot>(
     Some(pages.at(place).state())
 }
 
-fn is_resident<L: Ledger, S: SwapSlot>(pages: &PageMap<StoredPage<L, S>>, vpn: u32) -> bool
-    requires { vpn < 2 ^ 20 }
-    ensures resident { OnTrue result (option_map (λ page. page_state_of page.place) (page_at pages.now vpn) ≡ Some PageState.Resident) }
-    ensures other { OnFalse result (option_map (λ page. page_state_of page.place) (page_at pages.now vpn) ≢ Some PageState.Resident) }
-{
-    matches!(state_in(pages, vpn), Some(PageState::Resident))
-}
-
-#[tactic(auto, using(crate::proofs::CallLaws::not_resident))]
+/// Clears the mark that a page was used, where its entry tells of one: a resident page has an entry, and no other has. The
+/// page itself is not looked at.
 fn clear_accessed<L: Ledger, S: SwapSlot>(
     pages: &PageMap<StoredPage<L, S>>,
     tables: &mut PageTables,
@@ -95,12 +87,15 @@ fn clear_accessed<L: Ledger, S: SwapSlot>(
     ensures tabled { SameTables tables.old tables.new }
     ensures doomed { OnSome result (caches.new ≡ map (doomed vpn) caches.old) }
 {
-    if !is_resident(pages, vpn) {
-        return None;
+    let _ = pages;
+    match tables.accessed(vpn) {
+        None => None,
+        Some(accessed) => {
+            let _ = tables.test_and_clear_accessed(vpn);
+            caches.doom(vpn);
+            Some(accessed)
+        }
     }
-    let accessed = tables.test_and_clear_accessed(vpn).unwrap_or(false);
-    caches.doom(vpn);
-    Some(accessed)
 }
 
 fn evict<L: Ledger, S: SwapSlot>(

@@ -7,8 +7,7 @@ use Rattle.page_memory.specs.declared.rights.Rights.{Rights}
 use Rattle.page_memory.specs.declared.words.Access.TheVariants.{Load, Store}
 use Rattle.page_memory.specs.Rights.{may}
 use Rattle.page_store.specs.declared.state.Keeping.{Keeping}
-use Rattle.page_store.specs.declared.state.PageState.TheVariants as stage
-use Rattle.page_store.specs.PageValue.{PageValue, Place, Fresh, Resident, Leaving, Saving, Away, Purged, page_state_of, Backed}
+use Rattle.page_store.specs.PageValue.{PageValue, Place, Fresh, Resident, Leaving, Saving, Away, Purged, Backed}
 use Rattle.sv32_table.specs.Entry.{Entry, page_entry, blank}
 use Rattle.sv32_table.specs.EntryAt.{entry_at, ChangesEntry, SameTables, unaccessed_entry, accessed_of}
 use Rattle.sv32_table.specs.EntryLaws.{unaccessed_entry-page_entry, accessed_of-page_entry, accessed-page_entry, dirty-page_entry}
@@ -52,21 +51,6 @@ module _ {S : Type 0} where
         backed = λ is_honest q p small none. cc;
       }
 
-  pub is_resident : (pages : List (ℕ × PageValue S)) (number : ℕ) → option_map (λ page. page_state_of page.place) (page_at pages number) ≡ Some stage.Resident → IsResident pages number
-  is_resident pages number is = by_page (page_at pages number) refl is
-    where
-      by_place : (origin : Page) (place : Place S) → page_at pages number ≡ Some (record { origin = origin; place = place }) → page_state_of place ≡ stage.Resident → IsResident pages number
-      by_place origin Fresh found is = cc
-      by_place origin (Resident frame slot) found is = record { origin = origin; frame = frame; slot = slot; found = found }
-      by_place origin (Leaving frame slot mark) found is = cc
-      by_place origin (Saving frame) found is = cc
-      by_place origin (Away slot) found is = cc
-      by_place origin Purged found is = cc
-
-      by_page : (o : Option (PageValue S)) → page_at pages number ≡ o → option_map (λ page. page_state_of page.place) o ≡ Some stage.Resident → IsResident pages number
-      by_page None found is = cc
-      by_page (Some page) found is = by_place page.origin page.place found (cc)
-
   -- a page of whose A something is seen is resident
   resident_seen : (pages : List (ℕ × PageValue S)) (number : ℕ) (e : Entry) (bit : Bool) → accessed_at (seen_at pages number) e ≡ Some bit → IsResident pages number
   resident_seen pages number e bit is = by_page (page_at pages number) refl is
@@ -84,9 +68,11 @@ module _ {S : Type 0} where
       by_page (Some page) found is = by_place page.origin page.place found is
 
   module _ {held : S → List ℕ} {honest : Type 0} {pages : List (ℕ × PageValue S)} {tables : List (List ℕ)} {caches : List (List Translation)} (number : ℕ) (small : number < 2 ^ 20) (holds : Holds held honest pages tables caches) where
+    -- what its entry tells of its A is what is seen of it
     pub accessed_by_entry : accessed_of (entry_at tables number) ≡ accessed_at (seen_at pages number) (entry_at tables number)
     accessed_by_entry = entry_tells (seen_at pages number) (entry_at tables number) (holds.agree.mapped number small).entry
 
+    -- and where the entry tells of one, the page is resident
     pub resident_by_entry : (bit : Bool) → accessed_of (entry_at tables number) ≡ Some bit → IsResident pages number
     resident_by_entry bit is = resident_seen pages number (entry_at tables number) bit (sym accessed_by_entry ∙ is)
 

@@ -24,4 +24,5 @@ pub mod CoherenceLaws
 pub mod Marking
 pub mod Since
 pub mod Refusals
+pub mod Within
 pub mod HeldLaws

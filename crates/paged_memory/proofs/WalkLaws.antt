@@ -18,8 +18,8 @@ use Rattle.sv32_table.specs.Entry.{Entry, page_entry}
 use Rattle.sv32_table.specs.EntryAt.{entry_at, ChangesEntry, SameTables, walked_entry, dirty_of}
 use Rattle.sv32_table.specs.EntryLaws.{is_store, walked_entry-page_entry, dirty_of-page_entry, dirty-page_entry, accessed-page_entry}
 use Rattle.tlb_core.specs.declared.translation.Translation.{Translation}
-use Rattle.tlb_core.specs.Cache.{filled, translation_of, is_of_page}
-use Rattle.tlb_core.specs.CacheLaws.{All-filled, All-none, none-All}
+use Rattle.tlb_core.specs.Cache.{Hits, filled, translation_of, is_of_page}
+use Rattle.tlb_core.specs.CacheLaws.{All-filled, All-none, hits_filled, none-All}
 use Rattle.paged_memory.specs.Seen.{Seen, frame_seen, rights_seen, is_dirty, is_used}
 use Rattle.paged_memory.specs.Soundness.{IsSound}
 use Rattle.paged_memory.specs.Calls.{IsResident}
@@ -198,6 +198,7 @@ keeps_nothing pages hart tables caches = record { harts = refl; others = λ h ap
 pub record Walked {S : Type 0} (held : S → List ℕ) (honest : Type 0) (pages : List (ℕ × PageValue S)) (tables tables' : List (List ℕ)) (caches caches' : List (List Translation)) (hart : ℕ) (access : Access) (number place : ℕ) : Type 0 where
   pub holds : Holds held honest pages tables' caches'
   pub reaches : Reaches pages tables' access number place
+  pub hits : Hits (cache_of caches' hart) access number place
   pub kept : KeepsTranslations pages hart tables tables' caches caches'
   pub used : is_used (seen_at pages number) (entry_at tables' number) ≡ true
 
@@ -226,6 +227,10 @@ walk_done {S} {held} {honest} {pages} {tables} {caches} tables' caches' number h
         framed = refl;
         changed = λ is. dirty_now tables' number small holds at.resident access at.allowed entries same ∙ true_more (is_store access) (entry_at tables number).dirty (store_told access is);
       };
+      hits = subst (λ cs. Hits (cache_of cs hart) access number place) (sym caches_are)
+          (subst (λ c. Hits c access number place) (sym (cache_now tables' number small holds at.resident access at.allowed entries same place hart within))
+          (hits_filled access (translation tables' number small holds at.resident access at.allowed entries same place) (cache_of caches hart) at.allowed
+          (λ is. told_dirty tables' number small holds at.resident access at.allowed entries same ∙ true_more (is_store access) (entry_at tables number).dirty (store_told access is))));
       kept = subst (λ cs. KeepsTranslations pages hart tables tables' caches cs) (sym caches_are) (keeps_walked tables' number small holds at.resident access at.allowed entries same place hart within);
       used = used_now tables' number small holds at.resident access at.allowed entries same;
     }

@@ -122,6 +122,7 @@ fn walk<L: Ledger, S: SwapSlot>(
     requires holds { Holds S.content S.honest pages.now tables.old caches.old }
     ensures holds { Holds S.content S.honest pages.now tables.new caches.new }
     ensures reaches { IfOk result (λ place. Reaches pages.now tables.new access page place) }
+    ensures hits { IfOk result (λ place. Hits (cache_of caches.new hart) access page place) }
     ensures refused { IfErr result (RefusesAccess pages.now access page) }
     ensures kept { KeepsTranslations pages.now hart tables.old tables.new caches.old caches.new }
     ensures entries { MayWalk access page tables.old tables.new }
@@ -164,6 +165,7 @@ fn hit_or_walk<L: Ledger, S: SwapSlot>(
     requires holds { Holds S.content S.honest pages.now tables.old caches.old }
     ensures holds { Holds S.content S.honest pages.now tables.new caches.new }
     ensures reaches { IfOk result (λ place. Reaches pages.now tables.new access (page_number address) place) }
+    ensures hits { IfOk result (λ place. Hits (cache_of caches.new hart) access (page_number address) place) }
     ensures refused { IfErr result (RefusesAccess pages.now access (page_number address)) }
     ensures held { ServesHeld (cache_of caches.old hart) access (page_number address) result }
     ensures kept { KeepsTranslations pages.now hart tables.old tables.new caches.old caches.new }
@@ -200,7 +202,11 @@ pub(crate) fn reach<L: Ledger, S: SwapSlot>(
     ensures has { OnOk result (HasPage pages.now (cache_of caches.old hart) (page_number address)) }
     ensures marked { OnOk result (MarksUse pages.now tables.new (cache_of caches.old hart) access (page_number address)) }
 {
-    let reached = hit_or_walk(pages, tables, caches, hart, access, address);
-    caches.remember(hart, access, address);
-    reached
+    match hit_or_walk(pages, tables, caches, hart, access, address) {
+        Ok(place) => {
+            caches.remember(hart, access, address, place);
+            Ok(place)
+        }
+        Err(refusal) => Err(refusal),
+    }
 }

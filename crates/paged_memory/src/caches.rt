@@ -79,13 +79,14 @@ impl Caches {
         self.harts.as_slice()[hart].ready(access, width, address)
     }
 
-    /// Makes an address's page ready for a hart's access that its translation serves.
+    /// Makes an address's page ready for a hart's access that its translation serves, at the page's place.
     #[tactic(auto, using(crate::proofs::Mapping::refilled_at))]
-    pub fn remember(&mut self, hart: usize, access: Access, address: u32)
-        requires { hart < length self.old }
+    pub fn remember(&mut self, hart: usize, access: Access, address: u32, place: usize)
+        requires hart { hart < length self.old }
+        requires hits { Hits (slice_index_or self.old hart []) access (page_number address) place }
         ensures { self.new ≡ self.old }
     {
-        self.harts.as_mut_slice()[hart].remember(access, address);
+        self.harts.as_mut_slice()[hart].remember(access, address, place);
     }
 
     /// Puts a translation into a hart's cache, which missed the page so.

@@ -4,6 +4,7 @@ ghost use Rattle.paged_memory.specs.Access.{cache_of, is_doomed};
 ghost use Rattle.paged_memory.specs.HartMemory.{InTurn, KeepsAccess};
 
 use crate::memory::PagedMemory;
+use crate::{reading, reserving};
 use page_memory::Width;
 use rv_exec::{Bus, BusError};
 use rv_isa::AmoKind;
@@ -26,7 +27,8 @@ impl Opening for Brand {
     ghost opening = { [] };
 }
 
-/// A process's memory as one of its harts reaches it.
+/// A process's memory as one of its harts reaches it: by its cache at once, and else by a walk of the tables, which sets the
+/// accessed bit and, for a store, the dirty bit. That a page is not mapped or lacks the right comes before that it is absent.
 #[derive(Drop)]
 pub struct HartMemory<'a, L: Ledger, S: SwapSlot, O: Opening> {
     memory: &'a mut PagedMemory<L, S>,
@@ -83,39 +85,109 @@ impl<'a, L: Ledger, S: SwapSlot, O: Opening> Bus for HartMemory<'a, L, S, O> {
 
     #[inline]
     fn fetch(&mut self, address: u32) -> Result<u32, BusError> {
-        self.memory.fetch(self.hart, address)
+        let memory = &mut *self.memory;
+        reading::fetch(
+            &memory.pages,
+            &mut memory.tables,
+            &mut memory.caches,
+            self.hart,
+            address,
+        )
     }
 
     #[inline]
     fn load(&mut self, width: Width, address: u32) -> Result<u32, BusError> {
-        self.memory.load(self.hart, width, address)
+        let memory = &mut *self.memory;
+        reading::load(
+            &memory.pages,
+            &mut memory.tables,
+            &mut memory.caches,
+            self.hart,
+            width,
+            address,
+        )
     }
 
     #[inline]
     fn store(&mut self, width: Width, address: u32, word: u32) -> Result<(), BusError> {
-        self.memory.store(self.hart, width, address, word)
+        let memory = &mut *self.memory;
+        reserving::store(
+            &mut memory.pages,
+            &mut memory.tables,
+            &mut memory.caches,
+            &mut memory.reservations,
+            self.hart,
+            width,
+            address,
+            word,
+        )
     }
 
     #[inline]
     fn amo(&mut self, address: u32, operation: AmoKind, operand: u32) -> Result<u32, BusError> {
-        self.memory.amo(self.hart, address, operation, operand)
+        let memory = &mut *self.memory;
+        reserving::amo(
+            &mut memory.pages,
+            &mut memory.tables,
+            &mut memory.caches,
+            &mut memory.reservations,
+            self.hart,
+            address,
+            operation,
+            operand,
+        )
     }
 
     fn load_reserved(&mut self, hart: u32, address: u32) -> Result<u32, BusError> {
-        self.memory.load_reserved(self.hart, hart, address)
+        let memory = &mut *self.memory;
+        reserving::load_reserved(
+            &memory.pages,
+            &mut memory.tables,
+            &mut memory.caches,
+            &mut memory.reservations,
+            self.hart,
+            hart,
+            address,
+        )
     }
 
     fn store_conditional(&mut self, hart: u32, address: u32, word: u32) -> Result<bool, BusError> {
-        self.memory
-            .store_conditional(self.hart, hart, address, word)
+        let memory = &mut *self.memory;
+        reserving::store_conditional(
+            &mut memory.pages,
+            &mut memory.tables,
+            &mut memory.caches,
+            &mut memory.reservations,
+            self.hart,
+            hart,
+            address,
+            word,
+        )
     }
 
     fn copy_out(&mut self, address: u32, to: &mut [u8]) -> Result<(), BusError> {
-        self.memory.copy_out(self.hart, address, to)
+        let memory = &mut *self.memory;
+        reading::copy_out(
+            &memory.pages,
+            &mut memory.tables,
+            &mut memory.caches,
+            self.hart,
+            address,
+            to,
+        )
     }
 
     fn copy_in(&mut self, address: u32, from: &[u8]) -> Result<(), BusError> {
-        self.memory.copy_in(self.hart, address, from)
+        let memory = &mut *self.memory;
+        reserving::copy_in(
+            &mut memory.pages,
+            &mut memory.tables,
+            &mut memory.caches,
+            &mut memory.reservations,
+            self.hart,
+            address,
+            from,
+        )
     }
 
     #[tactic(auto, using(crate::proofs::GrowthLaws::lacking_some, crate::proofs::Marking::bounds_same))]

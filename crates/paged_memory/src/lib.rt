@@ -11,7 +11,6 @@ mod eviction;
 mod filling;
 mod giving_back;
 mod growth;
-mod hart_access;
 mod hart_memory;
 mod harts;
 mod memory;

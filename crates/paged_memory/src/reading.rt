@@ -116,12 +116,7 @@ pub(crate) fn fetch<L: Ledger, S: SwapSlot>(
         address,
     ) {
         Some(page) => Ok(number(page, Width::Word, address)),
-        None => match fetch_anew(pages, tables, caches, hart, address) {
-            LoadReply::Number(number) => Ok(number),
-            LoadReply::Absent(page) => Err(BusError::Absent(page)),
-            LoadReply::Misaligned => Err(BusError::Fault(MemoryFault::Misaligned)),
-            LoadReply::PageFault => Err(BusError::Fault(MemoryFault::PageFault)),
-        },
+        None => fetch_anew(pages, tables, caches, hart, address).answer(),
     }
 }
 
@@ -178,12 +173,7 @@ pub(crate) fn load<L: Ledger, S: SwapSlot>(
 {
     match read_ready(pages, tables, caches, hart, Access::Load, width, address) {
         Some(page) => Ok(number(page, width, address)),
-        None => match load_anew(pages, tables, caches, hart, width, address) {
-            LoadReply::Number(number) => Ok(number),
-            LoadReply::Absent(page) => Err(BusError::Absent(page)),
-            LoadReply::Misaligned => Err(BusError::Fault(MemoryFault::Misaligned)),
-            LoadReply::PageFault => Err(BusError::Fault(MemoryFault::PageFault)),
-        },
+        None => load_anew(pages, tables, caches, hart, width, address).answer(),
     }
 }
 

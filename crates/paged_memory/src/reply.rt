@@ -3,6 +3,12 @@
 //! These go back in registers. A `Result` of a bus's error takes a slot of the caller's, which the inner loop would clear at
 //! each instruction, since the calls stand in it.
 
+ghost use Rattle.std.specs.Prelude.{◌≡◌};
+ghost use Rattle.paged_memory.specs.Replies.{loaded_by};
+
+use page_memory::MemoryFault;
+use rv_exec::BusError;
+
 /// What a fetch or a load answers.
 #[derive(Clone, Copy, PartialEq, Eq, Debug)]
 pub(crate) enum LoadReply {
@@ -11,6 +17,21 @@ pub(crate) enum LoadReply {
     Absent(u32),
     Misaligned,
     PageFault,
+}
+
+impl LoadReply {
+    /// The same as a bus's answer.
+    #[inline(always)]
+    pub(crate) fn answer(self) -> Result<u32, BusError>
+        ensures { result ≡ loaded_by self }
+    {
+        match self {
+            LoadReply::Number(number) => Ok(number),
+            LoadReply::Absent(page) => Err(BusError::Absent(page)),
+            LoadReply::Misaligned => Err(BusError::Fault(MemoryFault::Misaligned)),
+            LoadReply::PageFault => Err(BusError::Fault(MemoryFault::PageFault)),
+        }
+    }
 }
 
 /// What a store answers.

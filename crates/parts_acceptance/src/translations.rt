@@ -1,7 +1,16 @@
+ghost use Rattle.std.specs.Prelude.{◌≡◌, true};
+ghost use Rattle.page_memory.specs.Rights.{may};
+ghost use Rattle.page_memory.specs.Words.{page_number};
+ghost use Rattle.page_memory.specs.declared.words.Access.{Access};
+
 use page_memory::{Access, Rights, Width};
 use tlb_core::{Tlb, Translation};
 
-fn entry(page: u32, frame: u32) -> Translation {
+fn entry(page: u32, frame: u32) -> Translation
+    ensures page { result.page ≡ page }
+    ensures place { result.place ≡ 0 }
+    ensures readable { may Access.Load result.rights ≡ true }
+{
     Translation {
         page,
         place: 0,
@@ -64,6 +73,17 @@ fn apply(cache: &mut Tlb, change: Change) {
     }
 }
 
+/// A cache with an entry of page 2 alone, which is ready for loads.
+#[tactic(auto, using(tlb_core::specs::CacheLaws::hits_filled))]
+fn ready_at(address: u32) -> Tlb
+    requires { page_number address ≡ 2 }
+{
+    let mut cache = Tlb::new();
+    cache.fill(entry(2, 2));
+    cache.remember(Access::Load, address, 0);
+    cache
+}
+
 #[test]
 fn a_page_is_ready_until_its_entry_goes(rt: HostRuntime) {
     for (change, stays) in [
@@ -74,9 +94,7 @@ fn a_page_is_ready_until_its_entry_goes(rt: HostRuntime) {
         (Change::MarkedAreDropped, false),
         (Change::Cleared, false),
     ] {
-        let mut cache = Tlb::new();
-        cache.fill(entry(2, 2));
-        cache.remember(Access::Load, 0x2ffc);
+        let mut cache = ready_at(0x2ffc);
         apply(&mut cache, change);
         let ready = cache.ready(Access::Load, Width::Half, 0x2002).is_some();
         assert_eq!(rt; ready, stays);
@@ -85,9 +103,7 @@ fn a_page_is_ready_until_its_entry_goes(rt: HostRuntime) {
 
 #[test]
 fn a_page_is_ready_for_an_aligned_access_of_its_kind(rt: HostRuntime) {
-    let mut cache = Tlb::new();
-    cache.fill(entry(2, 2));
-    cache.remember(Access::Load, 0x2000);
+    let cache = ready_at(0x2000);
     for (access, width, address, ready) in [
         (Access::Load, Width::Word, 0x2000, true),
         (Access::Load, Width::Byte, 0x2fff, true),

@@ -1,13 +1,16 @@
 -- Laws of translation caches for the crates above: what each call does to all entries, and to the entry of a page.
-use Rattle.std.specs.Prelude.{◌≡◌, ◌≢◌, ℕ, ◌<◌, Bool, true, false, not, nat_lt, Option, Some, None, List, [], ◌∷◌, length, drop, map, find, position, All, refl, ◌⊎◌}
+use Rattle.std.specs.Prelude.{◌≡◌, ◌≢◌, ℕ, ◌+◌, ◌<◌, Bool, true, false, not, nat_lt, Option, Some, None, List, [], ◌∷◌, ◌++◌, length, drop, map, find, position, slice_set, All, refl, ◌⊎◌}
 use Rattle.std.proofs.Common.{sym, ◌∙◌, ap, arith, cond, get_or, inl, inr, option_map, suc, zero}
 use Rattle.std.specs.List.{position_or_len}
 use Rattle.std.proofs.lemmas.List.Elements.{All-head, All-tail, All-nil, All-cons, All-set, All-push, All-drop, All-filter}
 use Rattle.std.proofs.lemmas.List.Folds.{find_at}
 use Rattle.std.proofs.lemmas.Bool.Decides.{nat_tests}
 use Rattle.std.proofs.lemmas.Option.{slice_get_past}
+use Rattle.page_memory.specs.declared.words.Access.{Access}
+use Rattle.page_memory.specs.declared.words.Access.TheVariants.{Store}
+use Rattle.page_memory.specs.Rights.{may}
 use Rattle.tlb_core.specs.declared.translation.Translation.{Translation}
-use Rattle.tlb_core.specs.Cache.{OnePerPage, is_of_page, translation_of, with_room, filled, filled_at, doomed_entry, doomed, undoomed}
+use Rattle.tlb_core.specs.Cache.{Hits, OnePerPage, is_of_page, translation_of, with_room, filled, filled_at, doomed_entry, doomed, undoomed}
 
 -- the first entry is the page's, or the page's stands behind it
 first_or_later : (page : ℕ) (x e : Translation) (o : Option Translation) → cond (is_of_page page x) (Some x) o ≡ Some e
@@ -99,6 +102,48 @@ All-filled P e cache here all = by_place (position (is_of_page e.page) cache)
     by_place : (o : Option ℕ) → All P (filled_at e cache o)
     by_place (Some k) = All-set P cache k e here all
     by_place None = All-push P (with_room cache) e (All-with_room P cache all) here
+
+-- and it is found then
+find_behind : (page : ℕ) (e : Translation) (xs : List Translation) → e.page ≡ page → All (λ x. x.page ≢ page) xs → translation_of page (xs ++ e ∷ []) ≡ Some e
+find_behind page e [] of all = let test : is_of_page page e ≡ true = grind (arith, nat_tests) in rw test refl
+find_behind page e (x ∷ xs) of all =
+    let apart : x.page ≢ page = All-head (λ (y : Translation). y.page ≢ page) x xs all in
+    let test : is_of_page page x ≡ false = grind (arith, nat_tests) in
+    rw test (find_behind page e xs of (All-tail (λ (y : Translation). y.page ≢ page) x xs all))
+
+find_in_place : (page : ℕ) (e : Translation) (xs : List Translation) → e.page ≡ page → position_or_len (is_of_page page) xs < length xs → translation_of page (slice_set xs (position_or_len (is_of_page page) xs) e) ≡ Some e
+find_in_place page e [] of within = absurd (omega arith)
+find_in_place page e (x ∷ xs) of within = by_test (is_of_page page x) refl within (find_in_place page e xs of)
+  where
+    n : ℕ
+    n = position_or_len (is_of_page page) xs
+
+    here : is_of_page page e ≡ true
+    here = grind (arith, nat_tests)
+
+    by_test : (b : Bool) → is_of_page page x ≡ b → cond (not b) (1 + n) 0 < length (x ∷ xs)
+        → (n < length xs → translation_of page (slice_set xs n e) ≡ Some e) → translation_of page (slice_set (x ∷ xs) (cond (not b) (1 + n) 0) e) ≡ Some e
+    by_test true test within rest = rw here refl
+    by_test false test within rest =
+        let next : 1 + n ≡ suc n = omega arith in
+        rw (next, test) (rest (omega arith))
+
+pub filled_finds : (e : Translation) (cache : List Translation) → translation_of e.page (filled e cache) ≡ Some e
+unfolding filled filled_at
+filled_finds e cache = by_length (nat_lt n (length cache)) refl
+  where
+    n : ℕ
+    n = position_or_len (is_of_page e.page) cache
+
+    by_length : (b : Bool) → nat_lt n (length cache) ≡ b → translation_of e.page (filled_at e cache (cond b (Some n) None)) ≡ Some e
+    by_length true test = find_in_place e.page e cache refl (grind (arith, nat_tests))
+    by_length false test =
+        let none = none_without_place (is_of_page e.page) cache test in
+        find_behind e.page e (with_room cache) refl (All-with_room (λ x. x.page ≢ e.page) cache (All-none e.page cache none))
+
+-- an access that it serves hits then
+pub hits_filled : (access : Access) (e : Translation) (cache : List Translation) → may access e.rights ≡ true → (access ≡ Store → e.dirty ≡ true) → Hits (filled e cache) access e.page e.place
+hits_filled access e cache allowed dirty = record { entry = e; found = filled_finds e cache; at = refl; allowed = allowed; dirty = dirty }
 
 -- `drop_doomed`: each entry is an old one that is not marked
 pub All-undoomed : (P : Translation → Type 0) (cache : List Translation) → All P cache → All P (undoomed cache)

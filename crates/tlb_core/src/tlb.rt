@@ -8,7 +8,7 @@ use crate::hints::Hints;
 use crate::ready::{Ready, start_if_aligned};
 use crate::translation::Translation;
 use arrayvec::ArrayVec;
-use page_memory::{Access, Width, page_of};
+use page_memory::{Access, Width};
 use std::marker::Model;
 
 /// The most entries that a cache has.
@@ -88,27 +88,12 @@ impl Tlb {
         }
     }
 
-    /// Makes an address's page ready for an access that its entry serves. The entries stay as they are.
-    pub fn remember(&mut self, access: Access, address: u32)
+    /// Makes an address's page ready for an access that its entry serves, at the page's place. The entries stay as they are.
+    pub fn remember(&mut self, access: Access, address: u32, place: usize)
+        requires { Hits self.old access (page_number address) place }
         ensures { self.new ≡ self.old }
     {
-        if let Some(place) = self.hit(access, page_of(address)) {
-            self.ready.learn(access, address, place);
-        }
-    }
-
-    /// The place of a page that has an entry with the right for an access, and for a store one that is dirty.
-    fn hit(&self, access: Access, page: u32) -> Option<usize>
-        ensures { IfSome result (λ place. Hits self.now access page place) }
-    {
-        let entry = self.look(page)?;
-        if !entry.rights.allow(access) {
-            return None;
-        }
-        match access {
-            Access::Store if !entry.dirty => None,
-            _ => Some(entry.place),
-        }
+        self.ready.learn(access, address, place);
     }
 
     /// Whether there is an entry of a page.

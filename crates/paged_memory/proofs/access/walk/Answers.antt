@@ -15,6 +15,9 @@ returns-clause-holds g c = (done g c).holds
 pub returns-clause-reaches : goal.returns-clause-reaches
 returns-clause-reaches g c = (done g c).reaches
 
+pub returns-clause-hits : goal.returns-clause-hits
+returns-clause-hits g c = (done g c).hits
+
 pub returns-clause-kept : goal.returns-clause-kept
 returns-clause-kept g c = (done g c).kept
 

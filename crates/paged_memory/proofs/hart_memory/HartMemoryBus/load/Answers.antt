@@ -1,24 +1,16 @@
-use Rattle.std.proofs.Common.{ap}
+use Rattle.std.proofs.Common.{refl}
 use Rattle.page_memory.specs.declared.words.Access.TheVariants.{Load}
 use Rattle.page_memory.specs.Memory.{loaded}
-use Rattle.paged_memory.specs.Access.{HasPage, LacksPage, MarksUse, cache_of}
-use Rattle.paged_memory.specs.Paged.{memory_of, seen_at}
-use Rattle.paged_memory.proofs.Marking.{bounds_access}
-use Rattle.paged_memory.proofs.Since.{answers_since}
+use Rattle.paged_memory.specs.Paged.{PagedValue, memory_of}
+use Rattle.paged_memory.proofs.Within.{answers_within, bounds_within}
 use Rattle.paged_memory.proofs.hart_memory.HartMemoryBus.load.Goals as goal
 
 pub returns-clause-bound : goal.returns-clause-bound
 returns-clause-bound g c =
-    let now = c.args.self.now.memory.now in
-    let cache = cache_of now.caches c.args.self.now.hart in
-    let memory = memory_of g.S.SwapSlot.content now in
-    bounds_access Load (HasPage now.pages cache) (MarksUse now.pages c.load.new.self.tables cache Load) (LacksPage now.pages) c.args.address now.tables c.load.new.self.tables
-    (loaded memory c.args.width c.args.address) c.load.result c.load.ensures.answer c.load.ensures.entries c.load.ensures.unmarked
+    let after : PagedValue _ = record { process = c.memory.inside.process; pages = c.memory.inside.pages; tables = c.load.new.tables; caches = c.load.new.caches; reserved = c.memory.inside.reservations } in
+    bounds_within c.memory.view_is after c.args.self.now.hart Load c.args.address (λ m. loaded (memory_of g.S.SwapSlot.content m) c.args.width c.args.address) c.load.result c.load.ensures.answer c.load.ensures.entries c.load.ensures.unmarked
 
 pub returns-clause-answer : goal.returns-clause-answer
 returns-clause-answer g c =
-    let now = c.args.self.now.memory.now in
-    let cache = cache_of now.caches c.args.self.now.hart in
-    let memory = memory_of g.S.SwapSlot.content now in
-    answers_since c.args.self.now.hart g.O.Opening.opening Load now c.load.new.self c.args.self.now.in_turn (λ page. ap (λ p. seen_at p page) c.load.ensures.pages)
-    (HasPage now.pages cache) (LacksPage now.pages) c.args.address (loaded memory c.args.width c.args.address) c.load.result c.ranges.address.fits c.load.ensures.answer
+    let after : PagedValue _ = record { process = c.memory.inside.process; pages = c.memory.inside.pages; tables = c.load.new.tables; caches = c.load.new.caches; reserved = c.memory.inside.reservations } in
+    answers_within c.memory.view_is after c.args.self.now.hart Load g.O.Opening.opening c.args.self.now.in_turn (λ page. refl) c.args.address (λ m. loaded (memory_of g.S.SwapSlot.content m) c.args.width c.args.address) c.load.result c.ranges.address.fits c.load.ensures.answer

@@ -7,9 +7,8 @@ use Rattle.tlb_core.proofs.tlb.Tlb.remember.Goals as goal
 
 pub invariant_of-self : goal.invariant_of-self
 invariant_of-self c =
-    let hits = subst (λ n. Hits c.args.self.now c.args.access n c.in-Some.place) c.page_of.ensures.number c.in-Some.ensures in
-    let here = subst (λ l. Hits l c.args.access (page_number c.args.address) c.in-Some.place) (sym c.self.view_is) hits in
+    let here = subst (λ l. Hits l c.args.access (page_number c.args.address) c.args.place) (sym c.self.view_is) c.requires in
     record {
       one = c.self.invariant.one;
-      shows = subst (λ r. IsReady c.self.inside.entries.items r) (sym c.learn.ensures) (ready_learned c.self.inside.entries.items c.args.access c.args.address c.in-Some.place c.self.inside.ready here c.self.invariant.shows);
+      shows = subst (λ r. IsReady c.self.inside.entries.items r) (sym c.learn.ensures) (ready_learned c.self.inside.entries.items c.args.access c.args.address c.args.place c.self.inside.ready here c.self.invariant.shows);
     }

@@ -1,9 +1,0 @@
-use Rattle.std.proofs.Common.{subst}
-use Rattle.page_memory.specs.Words.{page_number}
-use Rattle.page_memory.specs.declared.words.Access.TheVariants.{Load}
-use Rattle.paged_memory.specs.Access.{cache_of, ServesHeld}
-use Rattle.paged_memory.specs.Paged.{PagedValue}
-use Rattle.paged_memory.proofs.memory.PagedMemory.copy_out.Goals as goal
-
-pub returns-clause-held : goal.returns-clause-held
-returns-clause-held g c = subst (λ (m : PagedValue _). ServesHeld (cache_of m.caches c.args.hart) Load (page_number c.args.address) c.copy_out.result) c.self.view_is c.copy_out.ensures.held

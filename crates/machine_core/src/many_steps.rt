@@ -11,8 +11,8 @@ use crate::core_steps::{hart_refusal, step_reply};
 use crate::event::Reply;
 use crate::machine::Core;
 use clock_policy::Clock;
-use machine_sides::{ManySlices, ProcessSide};
-use space_core::SliceStop;
+use machine_sides::ProcessSide;
+use space_core::Slice;
 use std::sync::ledger::Ledger;
 use swap_slots::SwapSlot;
 
@@ -54,12 +54,12 @@ impl<L: Ledger, S: SwapSlot, C: Clock> Core<L, S, C> {
     }
 }
 
-fn last_reply(last: Option<SliceStop>) -> Option<Reply>
-    ensures { result ≡ option_map step_reply last }
+fn last_reply(last: Option<Slice>) -> Option<Reply>
+    ensures { result ≡ option_map step_reply (option_map (λ slice. slice.stop) last) }
 {
     match last {
         None => None,
-        Some(stop) => Some(step_reply(stop)),
+        Some(slice) => Some(step_reply(slice.stop)),
     }
 }
 
@@ -68,12 +68,12 @@ fn slices_at<L: Ledger, S: SwapSlot>(
     process: usize,
     hart: u32,
     most: u32,
-) -> ManySlices
+) -> space_core::Steps
     requires { process < length processes.old }
-    ensures changes { ChangesOne (SlicesMany S.content S.honest hart result.ran result.last) process processes.old processes.new }
+    ensures changes { ChangesOne (SlicesMany S.content S.honest hart result.ran (option_map (λ slice. slice.stop) result.last)) process processes.old processes.new }
     ensures within { result.ran ≤ most }
     ensures all { IfNone result.last (result.ran ≡ most) }
     ensures short { IfSome result.last (λ _. result.ran < most) }
 {
-    processes[process].many_slices(hart, most)
+    processes[process].steps(hart, most)
 }

@@ -1,9 +1,9 @@
-ghost use Rattle.std.specs.Prelude.{◌≡◌, ◌<◌, ◌^◌, true, false, length, option_copied, slice_get, slice_index_or};
+ghost use Rattle.std.specs.Prelude.{◌≡◌, ◌<◌, ◌≤◌, ◌^◌, true, false, length, option_copied, option_map, slice_get, slice_index_or, IfSome, IfNone};
 ghost use Rattle.machine_sides.specs.Admitting.{stage_at, is_absent_at, is_resident_at};
 ghost use Rattle.paged_memory.specs.Coheres.{HoldsIn, MarksClearIn, HoldsFramedIn, WalksLeadIn};
 ghost use Rattle.paged_memory.specs.Stages.{is_resident_stage};
 ghost use Rattle.paged_memory.specs.Whole.{harts_in, stage_in};
-ghost use Rattle.machine_sides.specs.ProcessCalls.{Slices, StepsOnce, TakesNotices, IsKilled};
+ghost use Rattle.machine_sides.specs.ProcessCalls.{Slices, SlicesMany, StepsOnce, TakesNotices, IsKilled};
 ghost use Rattle.machine_sides.specs.Sweeping.{bit_at, ReadsBit, Evicts};
 ghost use Rattle.space_core.specs.StandsFor.{StandsFor, OfFlat, own_ending};
 
@@ -12,7 +12,7 @@ use flat_machine::{End, KillCause, Schedule};
 use page_memory::PAGE_COUNT;
 use page_store::PageState;
 use rv_exec::Regs;
-use space_core::{Slice, SliceStop, Space};
+use space_core::{Slice, SliceStop, Space, Steps};
 use std::marker::Model;
 use std::sync::ledger::Ledger;
 use swap_slots::SwapSlot;
@@ -127,6 +127,16 @@ impl<L: Ledger, S: SwapSlot> ProcessSide<L, S> {
         ensures { StepsOnce S.content S.honest hart result self.old self.new }
     {
         self.slice(hart, 1).stop
+    }
+
+    /// Runs instructions of a hart one at a time, up to so many, until one does not go on; see [`Space::steps`].
+    pub fn steps(&mut self, hart: u32, most: u32) -> Steps
+        ensures slices { SlicesMany S.content S.honest hart result.ran (option_map (λ slice. slice.stop) result.last) self.old self.new }
+        ensures within { result.ran ≤ most }
+        ensures all { IfNone result.last (result.ran ≡ most) }
+        ensures short { IfSome result.last (λ _. result.ran < most) }
+    {
+        self.space.steps(hart, most)
     }
 
     /// A hart drops its translations that are to be dropped. A hart that was not started has none.

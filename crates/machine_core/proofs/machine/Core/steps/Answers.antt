@@ -1,5 +1,6 @@
 -- The slices are steps, one after another.
-use Rattle.std.proofs.Common.{◌<◌, length, inl, refl, sym, ap, ◌∙◌, arith}
+use Rattle.std.proofs.Common.{◌<◌, length, inl, option_map, refl, sym, ap, ◌∙◌, arith}
+use Rattle.space_core.specs.declared.progress.Slice.{Slice}
 use Rattle.machine_core.specs.ApplyingLaws.{runs_none, runs_one}
 use Rattle.machine_core.specs.Machine.{CoreValue}
 use Rattle.machine_core.specs.MachineRun.{hart_refusal, hart_reason}
@@ -39,7 +40,7 @@ pub invariant_of-self : goal.invariant_of-self
 invariant_of-self g c = record {
   machine =
       (many_told g.S.SwapSlot.content g.S.SwapSlot.honest g.S.SwapSlot.failures c.args.process c.args.hart c.self.inside.pager c.self.inside.slots c.self.inside.jobs.items c.self.inside.processes.items
-      c.as_mut_slice.result.now c.slices_at-slices.new.processes c.self.inside.processes.len c.slices_at-slices.result.ran c.slices_at-slices.result.last _ c.args.self.now c.self.view_is refl
+      c.as_mut_slice.result.now c.slices_at-slices.new.processes c.self.inside.processes.len c.slices_at-slices.result.ran (option_map (λ (slice : Slice). slice.stop) c.slices_at-slices.result.last) _ c.args.self.now c.self.view_is refl
       (sym c.in_default.is ∙ c.hart_refusal-refusal.ensures ∙ ap (hart_refusal c.args.process c.args.hart) c.as_slice.ensures.value)
       c.faithful.ensures (omega (arith, c.self.inside.processes.ok.0)) c.as_mut_slice.ensures.value c.slices_at-slices.ensures.changes).1.machine;
   roomy = c.self.invariant.roomy;
@@ -48,13 +49,13 @@ invariant_of-self g c = record {
 pub returns-clause-runs : goal.returns-clause-runs
 returns-clause-runs g c =
     (many_told g.S.SwapSlot.content g.S.SwapSlot.honest g.S.SwapSlot.failures c.args.process c.args.hart c.self.inside.pager c.self.inside.slots c.self.inside.jobs.items c.self.inside.processes.items
-    c.as_mut_slice.result.now c.slices_at-slices.new.processes c.self.inside.processes.len c.slices_at-slices.result.ran c.slices_at-slices.result.last c.last_reply.result c.args.self.now c.self.view_is c.last_reply.ensures
+    c.as_mut_slice.result.now c.slices_at-slices.new.processes c.self.inside.processes.len c.slices_at-slices.result.ran (option_map (λ (slice : Slice). slice.stop) c.slices_at-slices.result.last) c.last_reply.result c.args.self.now c.self.view_is c.last_reply.ensures
     (sym c.in_default.is ∙ c.hart_refusal-refusal.ensures ∙ ap (hart_refusal c.args.process c.args.hart) c.as_slice.ensures.value)
     c.faithful.ensures (omega (arith, c.self.inside.processes.ok.0)) c.as_mut_slice.ensures.value c.slices_at-slices.ensures.changes).0
 
 pub returns-clause-coherent : goal.returns-clause-coherent
 returns-clause-coherent g c =
     (many_told g.S.SwapSlot.content g.S.SwapSlot.honest g.S.SwapSlot.failures c.args.process c.args.hart c.self.inside.pager c.self.inside.slots c.self.inside.jobs.items c.self.inside.processes.items
-    c.as_mut_slice.result.now c.slices_at-slices.new.processes c.self.inside.processes.len c.slices_at-slices.result.ran c.slices_at-slices.result.last c.last_reply.result c.args.self.now c.self.view_is c.last_reply.ensures
+    c.as_mut_slice.result.now c.slices_at-slices.new.processes c.self.inside.processes.len c.slices_at-slices.result.ran (option_map (λ (slice : Slice). slice.stop) c.slices_at-slices.result.last) c.last_reply.result c.args.self.now c.self.view_is c.last_reply.ensures
     (sym c.in_default.is ∙ c.hart_refusal-refusal.ensures ∙ ap (hart_refusal c.args.process c.args.hart) c.as_slice.ensures.value)
     c.faithful.ensures (omega (arith, c.self.inside.processes.ok.0)) c.as_mut_slice.ensures.value c.slices_at-slices.ensures.changes).1.coherent

@@ -87,6 +87,30 @@ pub mod collections {
 }
 
 pub mod sync {
+    use crate::alloc::{AllocError, AllocFailed, Global};
+    use std::ops::Deref;
+
+    pub struct Arc<T>(std::sync::Arc<T>);
+
+    impl<T> Arc<T> {
+        pub fn new(_: Global, value: T) -> Result<Self, AllocFailed<T>> {
+            Ok(Arc(std::sync::Arc::new(value)))
+        }
+
+        pub fn try_clone(this: &Self) -> Result<Self, AllocError> {
+            Ok(Arc(this.0.clone()))
+        }
+    }
+
+    impl<T> Deref for Arc<T> {
+        type Target = T;
+
+        #[inline(always)]
+        fn deref(&self) -> &T {
+            &self.0
+        }
+    }
+
     pub mod ledger {
         use crate::marker::Brand;
         use std::marker::PhantomData;

@@ -6,6 +6,7 @@ ghost use Rattle.elf_image.specs.BytePages.{nth_page, page_count, byte_pages};
 
 use crate::image::ImagePage;
 use page_memory::{PAGE_SIZE, Page, Rights};
+use shared_origins::SharedPage;
 use std::alloc::{AllocError, Global};
 
 /// The bytes of words, the lowest of each first.
@@ -61,11 +62,11 @@ fn page_of_bytes(
 }
 
 /// A page that begins with these bytes.
-fn page_with_bytes(alloc: Global, rights: Rights, bytes: &[u8]) -> Result<Page, AllocError>
+fn page_with_bytes(alloc: Global, rights: Rights, bytes: &[u8]) -> Result<SharedPage, AllocError>
     requires { length bytes.now ≤ 4096 }
     ensures { IfOk result (λ page. page ≡ record { rights = rights; bytes = padded bytes.now }) }
 {
     let mut page = Page::zeroed(alloc, rights)?;
     page.put_bytes(0, bytes);
-    Ok(page)
+    Ok(SharedPage::new(alloc, page)?)
 }

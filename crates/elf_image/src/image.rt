@@ -1,17 +1,30 @@
-ghost use Rattle.std.specs.Prelude.{◌≡◌};
+ghost use Rattle.std.specs.Prelude.{◌≡◌, IfOk};
 ghost use Rattle.elf_image.specs.Image.{ArePages, IsLawful};
 
-use page_memory::Page;
+use shared_origins::SharedPage;
+use std::alloc::{AllocError, Global};
 use std::marker::Model;
 
 /// A page of an image: its number, and its rights and bytes.
 #[derive(Drop)]
 pub struct ImagePage {
     pub number: u32,
-    pub page: Page,
+    pub page: SharedPage,
 }
 
-/// What a process begins with: an entry, and pages by rising number.
+impl ImagePage {
+    /// The same page for one more holder.
+    pub(crate) fn share(&self) -> Result<Self, AllocError>
+        ensures { IfOk result (λ listed. listed ≡ self.now) }
+    {
+        Ok(ImagePage {
+            number: self.number,
+            page: self.page.share()?,
+        })
+    }
+}
+
+/// What a process begins with: an entry, and pages by rising number. Those who share it hold the same pages.
 #[derive(Drop)]
 pub struct Image {
     entry: u32,
@@ -37,6 +50,17 @@ impl Image {
         Image { entry, pages }
     }
 
+    /// The same image for one more holder, by the same pages.
+    pub fn share(&self, alloc: Global) -> Result<Self, AllocError>
+        ensures { IfOk result (λ image. image ≡ self.now) }
+    {
+        let pages = share_pages(alloc, self.pages.as_slice())?;
+        Ok(Image {
+            entry: self.entry,
+            pages,
+        })
+    }
+
     /// The address at which the first instruction stands.
     pub fn entry(&self) -> u32
         ensures { result ≡ self.now.entry }
@@ -52,4 +76,15 @@ impl Image {
     {
         self.pages.as_slice()
     }
+}
+
+/// The same pages for one more holder.
+fn share_pages(alloc: Global, pages: &[ImagePage]) -> Result<Vec<ImagePage>, AllocError>
+    ensures { IfOk result (λ shared. shared.items ≡ pages.now) }
+{
+    let mut shared = Vec::with_capacity(alloc, pages.len())?;
+    for listed in pages {
+        shared.push(listed.share()?)?;
+    }
+    Ok(shared)
 }

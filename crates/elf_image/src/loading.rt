@@ -10,6 +10,7 @@ use crate::program_header::ProgramHeader;
 use crate::touched::touching;
 use bitflags::Flags;
 use page_memory::{PAGE_SIZE, Page, Rights};
+use shared_origins::SharedPage;
 use std::alloc::{AllocError, Global};
 
 /// The pages of these numbers, as segments load them.
@@ -44,8 +45,9 @@ fn load_page(
     ensures { IfOk result (λ page. page ≡ loaded_page file.now loaded.now number) }
 {
     let run = touching(loaded, number);
-    let mut page = Page::zeroed(alloc, given_rights(run))?;
-    fill(file, run, number, &mut page);
+    let mut filled = Page::zeroed(alloc, given_rights(run))?;
+    fill(file, run, number, &mut filled);
+    let page = SharedPage::new(alloc, filled)?;
     Ok(ImagePage { number, page })
 }
 

@@ -7,6 +7,7 @@ use crate::bounds::MOST_PAGES;
 use crate::fault::ElfFault;
 use crate::image::{Image, ImagePage};
 use page_memory::{Page, Rights, Width};
+use shared_origins::SharedPage;
 use std::alloc::{AllocError, Global};
 
 /// The address at which the words of a program begin that names none.
@@ -66,7 +67,7 @@ fn page_of_words(alloc: Global, words: &[u32], place: usize) -> Result<ImagePage
 }
 
 /// A page that begins with these words.
-fn page_with_words(alloc: Global, words: &[u32]) -> Result<Page, AllocError>
+fn page_with_words(alloc: Global, words: &[u32]) -> Result<SharedPage, AllocError>
     requires { length words.now ≤ 1024 }
     ensures { IfOk result (λ page. page ≡ record { rights = readable_code; bytes = padded (bytes_of words.now) }) }
 {
@@ -76,5 +77,5 @@ fn page_with_words(alloc: Global, words: &[u32]) -> Result<Page, AllocError>
         page.put_number(Width::Word, address, *word);
         address += 4;
     }
-    Ok(page)
+    Ok(SharedPage::new(alloc, page)?)
 }

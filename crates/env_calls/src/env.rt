@@ -5,6 +5,7 @@ ghost use Rattle.env_calls.specs.Environment.{most_harts, next_live, any_live};
 ghost use Rattle.env_calls.specs.Calls.{without, is_granted, pages_up_to, pages_to_add};
 
 use crate::live_harts::{LiveHarts, is_live, next_live};
+use shared_origins::SharedBytes;
 use std::alloc::{AllocError, Global};
 use std::marker::Model;
 
@@ -17,7 +18,7 @@ const MOST_PAGES: u64 = 4096;
 /// What a process shares with the world around it, and what its calls keep.
 #[derive(Drop)]
 pub struct Env {
-    input: Vec<u8>,
+    input: SharedBytes,
     /// How many bytes of the input were read.
     position: usize,
     output: Vec<u8>,
@@ -33,22 +34,22 @@ impl Model for Env {
     ghost Value = { Environment };
 
     ghost view = { λ env. record {
-      input = drop env.position env.input.items;
+      input = drop env.position env.input;
       output = env.output.items;
       break_at = env.break_at;
       pages = env.pages;
       live = env.harts;
     } };
 
-    ghost invariant = { λ env. env.position ≤ length env.input.items };
+    ghost invariant = { λ env. env.position ≤ length env.input };
 }
 
 impl Env {
     /// The environment of a process that has run nothing: hart 0 is live. The break is an address, and
     /// so many pages are mapped.
-    pub fn new(alloc: Global, input: Vec<u8>, break_at: u32, pages: u32) -> Self
+    pub fn new(alloc: Global, input: SharedBytes, break_at: u32, pages: u32) -> Self
         ensures { result ≡ record {
-          input = input.items;
+          input = input;
           output = [];
           break_at = break_at;
           pages = pages;
@@ -69,7 +70,7 @@ impl Env {
     pub fn input(&self) -> &[u8]
         ensures { result.now ≡ self.now.input }
     {
-        &self.input[self.position..]
+        &self.input.as_slice()[self.position..]
     }
 
     /// The bytes that were written so far.
@@ -168,6 +169,8 @@ impl Env {
         requires { count ≤ length self.old.input }
         ensures { self.new ≡ record self.old { input = drop count self.old.input } }
     {
+        // The sum stays within the whole input, whose length is a slice's.
+        let _ = self.input.as_slice();
         self.position += count;
     }
 

@@ -15,6 +15,7 @@ use machine_limits::MOST_HARTS;
 use page_memory::{FlatMemory, Page, Rights};
 use rv_exec::Regs;
 use rv_isa::Reg;
+use shared_origins::SharedBytes;
 use std::alloc::{AllocError, Global};
 
 /// Where the first hart's stack pointer stands.
@@ -38,14 +39,12 @@ impl FlatProcess {
         harts.push_reserved(first_registers(image.entry()));
         let pages = image.pages();
         let memory = opening_memory(alloc, pages)?;
+        let input = SharedBytes::new(alloc, input)?;
+        let mapped = pages.len() as u32 + STACK_PAGES;
+        let env = Env::new(alloc, input, first_break(pages), mapped);
         Ok(FlatProcess {
             harts,
-            env: Env::new(
-                alloc,
-                input,
-                first_break(pages),
-                pages.len() as u32 + STACK_PAGES,
-            ),
+            env,
             memory,
             end: None,
         })
@@ -94,7 +93,7 @@ fn image_memory(alloc: Global, pages: &[ImagePage]) -> Result<FlatMemory, AllocE
 {
     let mut memory = FlatMemory::new(alloc)?;
     for listed in pages {
-        let page = listed.page.copied(alloc)?;
+        let page = listed.page.to_page(alloc)?;
         memory.map_page(listed.number, page)?;
     }
     Ok(memory)

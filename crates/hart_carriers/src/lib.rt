@@ -3,7 +3,6 @@
 
 mod carrying;
 mod closing;
-mod copying;
 mod crew;
 mod machine;
 mod paging_in;

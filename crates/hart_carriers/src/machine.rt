@@ -6,7 +6,6 @@ ghost use Rattle.reclaim_daemon.specs.SharedValue.{most_processes};
 ghost use Rattle.run_report.specs.FlatLines.{counts_of, StandsForRuns};
 
 use crate::closing::close;
-use crate::copying::copy_image;
 use crate::report::{Report, RunRefusal};
 use crate::threads::run_threads;
 use clock_policy::Clock;
@@ -24,7 +23,7 @@ use std::thread::Threads;
 use swap_slots::SwapSlot;
 
 /// Runs a machine of 4 to 4096 frames on these slots by so many worker threads, each hart by slices of so many instructions, until each of
-/// its processes has ended: copies of these images on copies of these inputs, numbered from 0 in their order. There are at most 16.
+/// its processes has ended: these images, which it shares, on copies of these inputs, numbered from 0 in their order. There are at most 16.
 ///
 /// Where a thread can't be started, each process that goes on is killed for want of memory.
 pub fn run_machine<S: SwapSlot + Send, C: Clock + Send, G: Gate + Sync, R: Threads + Wait + Sync>(
@@ -202,7 +201,7 @@ fn run_on<
     Ok(close(shared.into_parts(held), frames, crew, handed, room, ran))
 }
 
-/// Adds processes that are to run copies of these images on copies of these inputs to a machine that has none, and answers viewers of
+/// Adds processes that are to run these images, shared, on copies of these inputs to a machine that has none, and answers viewers of
 /// their counts.
 fn begin_all<L: Ledger, S: SwapSlot, C: Clock>(
     alloc: Global,
@@ -217,7 +216,7 @@ fn begin_all<L: Ledger, S: SwapSlot, C: Clock>(
 {
     let mut viewers = Vec::with_capacity(alloc, handed.len())?;
     for (image, input) in handed {
-        let image = copy_image(alloc, image)?;
+        let image = image.share(alloc)?;
         let input = Vec::from_slice(alloc, input.as_slice())?;
         match shared.add(alloc, image, input) {
             Ok(viewer) => viewers.push(viewer)?,

@@ -54,6 +54,14 @@ impl Page {
         self.rights
     }
 
+    /// The bytes alone.
+    pub fn into_bytes(self) -> Box<[u8; PAGE_SIZE]>
+        ensures bytes { result.value ≡ self.bytes }
+        ensures whole { length result.value ≡ 4096 }
+    {
+        self.bytes
+    }
+
     /// Changes what the page may be used for.
     pub fn set_rights(&mut self, rights: Rights)
         ensures { self.new ≡ record self.old { rights = rights } }

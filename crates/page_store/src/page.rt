@@ -10,7 +10,8 @@ use crate::reading::read_bytes;
 use crate::refusal::{FillFault, LeaveRefusal, NotLeaving, ReadFault};
 use crate::state::{Keeping, Origin, PageState, State};
 use frame_pool::{BareFrame, Frame};
-use page_memory::{Page, Rights};
+use page_memory::Rights;
+use shared_origins::SharedPage;
 use std::marker::Model;
 use std::mem;
 use std::sync::ledger::Ledger;
@@ -40,7 +41,7 @@ impl<L: Ledger, S: SwapSlot> StoredPage<L, S> {
     ghost use Rattle.page_store.specs.PageValue.{Fresh};
 
     /// A page of an image.
-    pub fn of_image(page: Page) -> Self
+    pub fn of_image(page: SharedPage) -> Self
         ensures { result ≡ record { origin = page; place = Fresh } }
     {
         StoredPage {

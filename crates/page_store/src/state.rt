@@ -4,7 +4,8 @@ ghost use Rattle.frame_pool.specs.FrameValue.{zero_bytes};
 use crate::page_copy::PageCopy;
 use crate::reading::{read_bytes, read_zeros};
 use frame_pool::{BareFrame, Frame};
-use page_memory::{Page, Rights};
+use page_memory::Rights;
+use shared_origins::SharedPage;
 use std::sync::ledger::Ledger;
 use swap_slots::SwapSlot;
 
@@ -55,7 +56,7 @@ impl<S: SwapSlot> Keeping<S> {
 /// The bytes that a page begins with.
 #[derive(Drop)]
 pub(crate) enum Origin {
-    Image(Page),
+    Image(SharedPage),
     Zeros(Rights),
 }
 

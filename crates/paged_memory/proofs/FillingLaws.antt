@@ -17,7 +17,8 @@ use Rattle.sv32_table.specs.EntryLaws.{dirty-page_entry}
 use Rattle.tlb_core.specs.declared.translation.Translation.{Translation}
 use Rattle.paged_memory.specs.Seen.{Elsewhere, entry_standing, rights_seen}
 use Rattle.paged_memory.specs.Soundness.{IsMapped}
-use Rattle.paged_memory.specs.Paged.{standing_of, seen_of, page_at, flat_page, flat_pages, Holds}
+use Rattle.paged_memory.specs.Moving.{ComesIn}
+use Rattle.paged_memory.specs.Paged.{PagedValue, standing_of, seen_of, page_at, flat_page, flat_pages, memory_of, Holds}
 use Rattle.paged_memory.specs.Calls.{ChangesBy}
 use Rattle.paged_memory.specs.Filling.{BroughtIn, StaysAbsent, FailsToLoad, ComesDamaged, StaysUnmapped, RefusesAbsent, RefusesPageIn}
 use Rattle.paged_memory.specs.declared.filling.PageInFault.{PageInFault}
@@ -200,3 +201,20 @@ module _ {S : Type 0} (held : S → List ℕ) (honest : Type 0) where
         by_fault Device how = memory_absent (failed_stays how.0) is_honest
         by_fault Damaged how = memory_absent (damaged_stays how.0) is_honest
         by_fault NoMemory how = memory_absent (unmapped_stays how.1.0) is_honest
+
+-- what is told of its parts is the relation of the whole memory
+pub comes_in : {S U E : Type 0} (held : S → List ℕ) (honest : Type 0) (frame : FrameValue) (vpn : ℕ) (old new : PagedValue S) (result : Result U E) → vpn < 2 ^ 20
+    → new.process ≡ old.process → new.caches ≡ old.caches → new.reserved ≡ old.reserved → OnOk result (ChangesBy (BroughtIn held honest frame) old.pages new.pages vpn)
+    → OnOk result (IfSome (page_at old.pages vpn) (λ page. ChangesEntry old.tables new.tables vpn (page_entry frame.number page.origin.rights true false)))
+    → OnOk result (AddsTable old.tables new.tables vpn) → (honest → memory_of held new ≡ memory_of held old) → OnOk result (ComesIn held honest frame vpn old new)
+comes_in held honest frame vpn old new (Err refusal) small process caches reserved page entry tables memory = page
+comes_in held honest frame vpn old new (Ok done) small process caches reserved page entry tables memory = record {
+  small = small;
+  page = page;
+  entry = entry;
+  tables = tables;
+  process = process;
+  caches = caches;
+  reserved = reserved;
+  memory = memory;
+}

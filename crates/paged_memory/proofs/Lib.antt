@@ -23,6 +23,5 @@ pub mod PeekingLaws
 pub mod CoherenceLaws
 pub mod Marking
 pub mod Since
-pub mod Refusals
-pub mod Within
+pub mod BusLaws
 pub mod HeldLaws

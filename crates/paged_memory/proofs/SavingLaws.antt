@@ -13,7 +13,8 @@ use Rattle.page_store.specs.PageValue.{PageValue, Place, Fresh, Resident, Leavin
 use Rattle.tlb_core.specs.declared.translation.Translation.{Translation}
 use Rattle.paged_memory.specs.Leaving.{IsSaving, IsOut, ChangesSaved, Frees, RefusesSaved}
 use Rattle.paged_memory.specs.Calls.{ChangesBy}
-use Rattle.paged_memory.specs.Paged.{standing_of, flat_pages, Holds}
+use Rattle.paged_memory.specs.Moving.{OnlyPages, SavedAway}
+use Rattle.paged_memory.specs.Paged.{PagedValue, standing_of, flat_pages, Holds}
 use Rattle.paged_memory.proofs.PagedLaws.{page_at-place, page_at-nowhere, changes_at_place, changed_by, memory_stays}
 use Rattle.paged_memory.proofs.MovesLaws.{IsBlank, unheld_page, holds_moved, with_same}
 
@@ -101,3 +102,9 @@ module _ {S : Type 0} where
         let told = err.1.1 in
         let out = was_saving told.page.place _ told.how.1 in
         moves job.vpn err.1.0 told out.frame (Leaving out.frame (Unsaved job.slot) true) out.was out.told.2 told.how.0 (λ r a d. refl) (λ h. cc)
+
+-- what is told of its parts is the relation of the whole memory
+pub saved_away : {S E : Type 0} (old new : PagedValue S) (job : SavedValue S) (result : Result FrameValue E) → OnlyPages old new
+    → IfOk result (λ frame. ChangesSaved old.process job (Frees job frame) old.pages new.pages) → IfOk result (λ frame. SavedAway job frame old new)
+saved_away old new job (Err refusal) stays freed = freed
+saved_away old new job (Ok frame) stays freed = record { page = freed; stays = stays }

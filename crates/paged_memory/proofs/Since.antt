@@ -1,6 +1,6 @@
 -- The use of a page that an access marks is marked since the hart's turn began.
 use Rattle.std.specs.Prelude.{◌≡◌, ℕ, ◌^◌, ◌<◌, List, Result, Ok, Err, option_map}
-use Rattle.std.proofs.Common.{arith, sym, ap, ◌∙◌, inl, inr}
+use Rattle.std.proofs.Common.{sym, ap, ◌∙◌, inl, inr}
 use Rattle.page_memory.specs.declared.fault.MemoryFault.{MemoryFault}
 use Rattle.page_memory.specs.declared.words.Access.{Access}
 use Rattle.page_memory.specs.Words.{page_number}
@@ -25,9 +25,7 @@ module _ {S : Type 0} (hart : ℕ) (opening : List Translation) (access : Access
   marks page small (inl used) = (small, inl (ap (λ s. is_used s (entry_at new.tables page)) (seen page) ∙ used))
   marks page small (inr served) = (small, inr (turn.doomed page (doomed_found page (cache_of old.caches hart) served.hits.entry served.hits.found served.doomed)))
 
-  pub answers_since : {A : Type 0} (has lacks : ℕ → Type 0) (address : ℕ) (expected : Result A MemoryFault) (result : Result A BusError) → address < 2 ^ 32
+  pub answers_since : {A : Type 0} (has lacks : ℕ → Type 0) (address : ℕ) (expected : Result A MemoryFault) (result : Result A BusError) → page_number address < 2 ^ 20
       → Answers has (MarksUse old.pages new.tables (cache_of old.caches hart) access) lacks address expected result → Answers has (MarksSince new opening) lacks address expected result
-  answers_since has lacks address expected (Ok answer) fits answers =
-      let small : page_number address < 2 ^ 20 = omega arith in
-      (answers.0, (answers.1.0, marks (page_number address) small answers.1.1))
-  answers_since has lacks address expected (Err refusal) fits answers = answers
+  answers_since has lacks address expected (Ok answer) small answers = (answers.0, (answers.1.0, marks (page_number address) small answers.1.1))
+  answers_since has lacks address expected (Err refusal) small answers = answers

@@ -6,7 +6,7 @@ use Rattle.std.proofs.lemmas.List.Elements.{All-nil, All-cons}
 use Rattle.page_store.specs.declared.refusal.LeaveRefusal.{LeaveRefusal}
 use Rattle.tlb_core.specs.Cache.{doomed}
 use Rattle.tlb_core.specs.declared.translation.Translation.{Translation}
-use Rattle.paged_memory.specs.Moving.{EmptiesCaches, HasNothingBelow, OnlyCaches}
+use Rattle.paged_memory.specs.Moving.{BeginsToLeave, EmptiesCaches, ForgetsUse, HasNothingBelow, OnlyCaches}
 use Rattle.paged_memory.specs.Notices.{emptied}
 use Rattle.paged_memory.specs.Paged.{PagedValue}
 use Rattle.paged_memory.specs.Whole.{harts_in}
@@ -42,13 +42,13 @@ module _ {S : Type 0} where
   noticed_only hart cache old new only = only ∙ ap (λ cs. record old { caches = cs }) (sym (ap (λ (m : PagedValue S). m.caches) only))
 
   -- caches whose translations were marked are as many
-  pub cleared_harts : (o : Option Bool) (vpn : ℕ) (old new : PagedValue S) → IfNone o (new ≡ old) → OnSome o (new.caches ≡ map (doomed vpn) old.caches) → harts_in new ≡ harts_in old
+  pub cleared_harts : (o : Option Bool) (vpn : ℕ) (old new : PagedValue S) → IfNone o (new ≡ old) → OnSome o (ForgetsUse vpn old new) → harts_in new ≡ harts_in old
   cleared_harts None vpn old new same marked = ap (λ (m : PagedValue S). length m.caches) same
-  cleared_harts (Some bit) vpn old new same marked = ap length marked ∙ length-map old.caches (doomed vpn)
+  cleared_harts (Some bit) vpn old new same marked = ap length marked.caches ∙ length-map old.caches (doomed vpn)
 
-  pub left_harts : (r : Result Unit LeaveRefusal) (vpn : ℕ) (old new : PagedValue S) → OnErr r (new ≡ old) → OnOk r (new.caches ≡ map (doomed vpn) old.caches) → harts_in new ≡ harts_in old
+  pub left_harts : (r : Result Unit LeaveRefusal) (vpn : ℕ) (old new : PagedValue S) → OnErr r (new ≡ old) → OnOk r (BeginsToLeave vpn old new) → harts_in new ≡ harts_in old
   left_harts (Err refusal) vpn old new same marked = ap (λ (m : PagedValue S). length m.caches) same
-  left_harts (Ok done) vpn old new same marked = ap length marked ∙ length-map old.caches (doomed vpn)
+  left_harts (Ok done) vpn old new same marked = ap length marked.caches ∙ length-map old.caches (doomed vpn)
 
   -- ---- no cache holds a translation
 

@@ -1,5 +1,5 @@
 -- Laws of what a process's memory shows: what it goes on showing where pages come and go, and what it shows in the beginning.
-use Rattle.std.specs.Prelude.{IfErr, IfOk, OnOk, OnErr}
+use Rattle.std.specs.Prelude.{IfErr, IfNone, IfOk, OnOk, OnErr, OnSome}
 use Rattle.std.proofs.Common.{◌≡◌, ℕ, ◌^◌, ◌<◌, ◌==◌, Bool, true, false, cond, List, [], Option, Some, None, Result, Ok, Err, option_map, is_some, inl, inr, ap, ◌∙◌, refl, sym, subst, true≢false}
 use Rattle.std.specs.FinMap.{get}
 use Rattle.std.proofs.lemmas.Bool.Decides.{eqb_tells}
@@ -20,11 +20,11 @@ use Rattle.page_store.specs.declared.answer.SaveRefusal.{SaveRefusal}
 use Rattle.page_store.specs.declared.answer.SaveRefusal.TheVariants.{WrongPage, Mismatch, Device}
 use Rattle.page_store.specs.declared.refusal.LeaveRefusal.{LeaveRefusal}
 use Rattle.page_store.specs.declared.state.Keeping.{Keeping}
-use Rattle.paged_memory.specs.Calls.{ChangesBy, Leaves}
-use Rattle.paged_memory.specs.Filling.{BroughtIn, RefusesPageIn}
+use Rattle.paged_memory.specs.Calls.{ChangesBy}
+use Rattle.paged_memory.specs.Filling.{RefusesPageIn}
 use Rattle.paged_memory.specs.GivingBack.{GivesOne}
-use Rattle.paged_memory.specs.Leaving.{CollectsAt, ChangesSaved, Frees, RefusesSaved, BringsBack}
-use Rattle.paged_memory.specs.Moving.{GivesIn, LooksAt, OnlyCaches, ShowsIn}
+use Rattle.paged_memory.specs.Leaving.{CollectsAt}
+use Rattle.paged_memory.specs.Moving.{BeginsToLeave, ComesIn, ForgetsUse, GivesIn, IsNotSaved, LooksAt, MapsAgain, OnlyCaches, RefusesIn, SavedAway, ShowsIn}
 use Rattle.paged_memory.specs.Notices.{emptied}
 use Rattle.paged_memory.specs.Paged.{PagedValue, page_at, flat_page, flat_pages, memory_in, memory_of}
 use Rattle.paged_memory.specs.Peeking.{bytes_of, ShowsBytes, LeavesPage, LeavesPlace}
@@ -153,6 +153,15 @@ module _ {S : Type 0} where
   pub caches_given_up : (old new : PagedValue S) → OnlyCaches old new → KeepsGivenUp old new
   caches_given_up old new only = same_given_up old new (ap (λ (m : PagedValue S). m.pages) only)
 
+  -- a page's use is read
+  pub forgotten_given_up : (o : Option Bool) (vpn : ℕ) (old new : PagedValue S) → IfNone o (new ≡ old) → OnSome o (ForgetsUse vpn old new) → KeepsGivenUp old new
+  forgotten_given_up None vpn old new same forgets = same_given_up old new (ap (λ (m : PagedValue S). m.pages) same)
+  forgotten_given_up (Some bit) vpn old new same forgets = same_given_up old new forgets.pages
+
+  pub forgotten_shown : (held : S → List ℕ) (o : Option Bool) (vpn : ℕ) (old new : PagedValue S) → IfNone o (new ≡ old) → OnSome o (ForgetsUse vpn old new) → memory_of held new ≡ memory_of held old
+  forgotten_shown held None vpn old new same forgets = ap (memory_of held) same
+  forgotten_shown held (Some bit) vpn old new same forgets = same_shown held old new forgets.pages forgets.reserved
+
   -- a page begins to leave
   resident_whole : (p : Place S) (P : FrameValue → Keeping S → Type 0) → IfResident p P → is_purged_place p ≡ false
   resident_whole place.Fresh P h = refl
@@ -162,9 +171,9 @@ module _ {S : Type 0} where
   resident_whole (place.Away slot) P h = refl
   resident_whole place.Purged P h = absurd h
 
-  pub left_given_up : (mark : Bool) (r : Result Unit LeaveRefusal) (old new : PagedValue S) (vpn : ℕ) → OnErr r (new ≡ old) → OnOk r (ChangesBy (Leaves mark) old.pages new.pages vpn) → KeepsGivenUp old new
-  left_given_up mark (Err refusal) old new vpn same by = same_given_up old new (ap (λ (m : PagedValue S). m.pages) same)
-  left_given_up mark (Ok done) old new vpn same by = one_purged old.pages new.pages vpn by (λ whole. resident_whole by.page.place _ by.how)
+  pub left_given_up : (r : Result Unit LeaveRefusal) (old new : PagedValue S) (vpn : ℕ) → OnErr r (new ≡ old) → OnOk r (BeginsToLeave vpn old new) → KeepsGivenUp old new
+  left_given_up (Err refusal) old new vpn same by = same_given_up old new (ap (λ (m : PagedValue S). m.pages) same)
+  left_given_up (Ok done) old new vpn same by = one_purged old.pages new.pages vpn by.page (λ whole. resident_whole by.page.page.place _ by.page.how)
 
   -- a page that leaves is collected
   module _ (L : Type 0) where
@@ -194,16 +203,16 @@ module _ {S : Type 0} where
   saving_whole (place.Away slot) P h = refl
   saving_whole place.Purged P h = absurd h
 
-  pub saved_given_up : (job : SavedValue S) (result : Result FrameValue (SaveRefusal S)) (old new : PagedValue S) → IfOk result (λ frame. ChangesSaved old.process job (Frees job frame) old.pages new.pages)
-      → IfErr result (RefusesSaved old.process job old.pages new.pages) → KeepsGivenUp old new
-  saved_given_up job (Ok frame) old new ok err = one_purged old.pages new.pages job.vpn ok.1.1 (λ whole. ap is_purged_place ok.1.1.how.was)
+  pub saved_given_up : (job : SavedValue S) (result : Result FrameValue (SaveRefusal S)) (old new : PagedValue S) → IfOk result (λ frame. SavedAway job frame old new)
+      → IfErr result (λ refusal. IsNotSaved job refusal old new) → KeepsGivenUp old new
+  saved_given_up job (Ok frame) old new ok err = one_purged old.pages new.pages job.vpn ok.page.1.1 (λ whole. ap is_purged_place ok.page.1.1.how.was)
   saved_given_up job (Err (WrongPage back)) old new ok err = same_given_up old new err.1.0
   saved_given_up job (Err Mismatch) old new ok err = one_purged old.pages new.pages job.vpn err.1.1 (λ whole. saving_whole err.1.1.page.place _ err.1.1.how.1)
   saved_given_up job (Err Device) old new ok err = one_purged old.pages new.pages job.vpn err.1.1 (λ whole. saving_whole err.1.1.page.place _ err.1.1.how.1)
 
   -- it is mapped again
-  pub returned_given_up : {E : Type 0} (result : Result Unit E) (old new : PagedValue S) (vpn : ℕ) → OnOk result (BringsBack old.pages new.pages old.tables new.tables vpn) → OnErr result (new ≡ old) → KeepsGivenUp old new
-  returned_given_up (Ok done) old new vpn ok err = one_purged old.pages new.pages vpn ok.page (λ whole. ap is_purged_place ok.page.how.was)
+  pub returned_given_up : {E : Type 0} (result : Result Unit E) (old new : PagedValue S) (vpn : ℕ) → OnOk result (MapsAgain vpn old new) → OnErr result (new ≡ old) → KeepsGivenUp old new
+  returned_given_up (Ok done) old new vpn ok err = one_purged old.pages new.pages vpn ok.page.page (λ whole. ap is_purged_place ok.page.page.how.was)
   returned_given_up (Err refusal) old new vpn ok err = same_given_up old new (ap (λ (m : PagedValue S). m.pages) err)
 
   -- a page is brought in, or looked at
@@ -216,11 +225,11 @@ module _ {S : Type 0} where
   absent_whole place.Purged fresh away h = absurd h
 
   module _ (held : S → List ℕ) (honest : Type 0) where
-    pub paged_in_given_up : {U : Type 0} (failures : S → ℕ) (frame : FrameValue) (vpn : ℕ) (old new : PagedValue S) (result : Result U (FrameValue × PageInFault)) → OnOk result (ChangesBy (BroughtIn held honest frame) old.pages new.pages vpn)
-        → IfErr result (λ back. RefusesPageIn held honest failures frame old.pages new.pages old.tables vpn back.0 back.1) → KeepsGivenUp old new
-    paged_in_given_up failures frame vpn old new (Ok u) ok refused = one_purged old.pages new.pages vpn ok (λ _. filled_whole ok.page'.place ok.page.place ok.how.filled)
+    pub paged_in_given_up : {U : Type 0} (failures : S → ℕ) (frame : FrameValue) (vpn : ℕ) (old new : PagedValue S) (result : Result U (FrameValue × PageInFault)) → OnOk result (ComesIn held honest frame vpn old new)
+        → IfErr result (λ back. RefusesIn held honest failures frame vpn back.0 back.1 old new) → KeepsGivenUp old new
+    paged_in_given_up failures frame vpn old new (Ok u) ok refused = one_purged old.pages new.pages vpn ok.page (λ _. filled_whole ok.page.page'.place ok.page.page.place ok.page.how.filled)
       where
-        filled_whole : (now was : Place S) → Filled frame (record ok.page { place = was }) (record ok.page' { place = now }) → is_purged_place was ≡ false
+        filled_whole : (now was : Place S) → Filled frame (record ok.page.page { place = was }) (record ok.page.page' { place = now }) → is_purged_place was ≡ false
         filled_whole place.Fresh was how = absurd how
         filled_whole (place.Resident filled slot) was how = absent_whole was _ _ how.1
         filled_whole (place.Leaving filled slot mark) was how = absurd how

@@ -1,7 +1,8 @@
 -- What a hart's accesses, slices and notices say of a process's memory as a whole.
-use Rattle.std.specs.Prelude.{ℕ, Bool, List}
+use Rattle.std.specs.Prelude.{◌≡◌, ℕ, Bool, is_some, List, []}
 use Rattle.tlb_core.specs.declared.translation.Translation.{Translation}
-use Rattle.paged_memory.specs.Access.{HasPage, LacksPage, cache_of}
+use Rattle.tlb_core.specs.Cache.{translation_of}
+use Rattle.paged_memory.specs.Access.{HasPage, LacksPage, cache_of, is_doomed}
 use Rattle.paged_memory.specs.HartMemory.{KeepsPages, MarksWithin}
 use Rattle.paged_memory.specs.Paged.{PagedValue}
 
@@ -9,6 +10,20 @@ module _ {S : Type 0} where
   -- a hart's cache
   abbrev pub cache_in : PagedValue S → ℕ → List Translation
   cache_in memory hart = cache_of memory.caches hart
+
+  -- whether it holds a translation of a page, and one that is to be dropped
+  abbrev pub holds_in : PagedValue S → ℕ → ℕ → Bool
+  holds_in memory hart page = is_some (translation_of page (cache_in memory hart))
+
+  abbrev pub is_doomed_in : PagedValue S → ℕ → ℕ → Bool
+  is_doomed_in memory hart page = is_doomed page (cache_in memory hart)
+
+  -- a hart's cache is what it was; it holds nothing
+  abbrev pub SameCache : ℕ → PagedValue S → PagedValue S → Type 0
+  SameCache hart old new = cache_in new hart ≡ cache_in old hart
+
+  abbrev pub HoldsNone : ℕ → PagedValue S → Type 0
+  HoldsNone hart memory = cache_in memory hart ≡ []
 
   -- the pages that a hart can use without that one is brought in: those that are resident, and those that its cache holds
   abbrev pub HasIn : PagedValue S → ℕ → ℕ → Type 0

@@ -1,13 +1,34 @@
 -- Laws of what accesses, slices and notices say of a process's memory as a whole.
-use Rattle.std.specs.Prelude.{◌≡◌, ℕ, Bool, true, List, length}
+use Rattle.std.specs.Prelude.{◌≡◌, ℕ, zero, suc, Bool, true, List, [], ◌∷◌, ◌++◌, is_some, length, map, slice_set, refl}
 use Rattle.std.proofs.Common.{◌∙◌, ap, subst}
-use Rattle.paged_memory.specs.Access.{is_resident}
+use Rattle.tlb_core.specs.declared.translation.Translation.{Translation}
+use Rattle.tlb_core.specs.Cache.{translation_of}
+use Rattle.paged_memory.specs.Access.{cache_of, is_doomed, is_resident}
+use Rattle.paged_memory.specs.Fresh.{AddsHart}
 use Rattle.paged_memory.specs.HartMemory.{KeepsAccess, MarksWithin}
 use Rattle.paged_memory.specs.HartMemoryLaws.{pages_itself, pages_on, lacked, had_resident, had}
 use Rattle.paged_memory.specs.Moving.{SameCaches, SameEntries, OnlyCaches, OnlyPages}
+use Rattle.paged_memory.specs.Notices.{cleared, emptied}
 use Rattle.paged_memory.specs.Paged.{PagedValue, memory_of, seen_at}
-use Rattle.paged_memory.specs.Using.{HasIn, LacksIn, MarkedIn, KeepsIn}
+use Rattle.paged_memory.specs.Using.{HasIn, LacksIn, MarkedIn, KeepsIn, SameCache, HoldsNone, cache_in, holds_in, is_doomed_in}
 use Rattle.paged_memory.specs.Whole.{harts_in}
+
+-- an empty cache for one more hart shows as none did
+with_empty : (caches : List (List Translation)) (h : ℕ) → cache_of (caches ++ [] ∷ []) h ≡ cache_of caches h
+with_empty [] zero = refl
+with_empty [] (suc h) = refl
+with_empty (c ∷ cs) zero = refl
+with_empty (c ∷ cs) (suc h) = with_empty cs h
+
+own_emptied : (caches : List (List Translation)) (hart : ℕ) → cache_of (slice_set caches hart []) hart ≡ []
+own_emptied [] hart = refl
+own_emptied (c ∷ cs) zero = refl
+own_emptied (c ∷ cs) (suc hart) = own_emptied cs hart
+
+all_emptied : (caches : List (List Translation)) (h : ℕ) → cache_of (map (λ _. []) caches) h ≡ []
+all_emptied [] h = refl
+all_emptied (c ∷ cs) zero = refl
+all_emptied (c ∷ cs) (suc h) = all_emptied cs h
 
 module _ {S : Type 0} where
   pub kept_itself : (memory : PagedValue S) → KeepsIn memory memory
@@ -30,6 +51,25 @@ module _ {S : Type 0} where
   -- where no mark changed, what is said of the marks now was so before
   pub same_marks : (old new : PagedValue S) (P : ((ℕ → Bool) → (ℕ → Bool) → Type 0) → Type 0) → SameEntries old new → P (MarkedIn new) → P (MarkedIn old)
   same_marks old new P same holds = subst (λ t. P (MarksWithin t)) same holds
+
+  -- ---- harts' caches
+
+  -- one more hart's cache leaves those of the others, and its own shows as none did
+  pub added_cache : (h : ℕ) (old new : PagedValue S) → AddsHart old new → SameCache h old new
+  added_cache h old new adds = ap (λ (m : PagedValue S). cache_in m h) adds ∙ with_empty old.caches h
+
+  pub cleared_own : (hart : ℕ) (memory : PagedValue S) → HoldsNone hart (cleared hart memory)
+  cleared_own hart memory = own_emptied memory.caches hart
+
+  pub emptied_each : (h : ℕ) (memory : PagedValue S) → HoldsNone h (emptied memory)
+  emptied_each h memory = all_emptied memory.caches h
+
+  -- a cache that is what it was holds what it held
+  pub same_held : (hart page : ℕ) (old new : PagedValue S) → SameCache hart old new → holds_in new hart page ≡ holds_in old hart page
+  same_held hart page old new same = ap (λ cache. is_some (translation_of page cache)) same
+
+  pub same_doomed : (hart page : ℕ) (old new : PagedValue S) → SameCache hart old new → is_doomed_in new hart page ≡ is_doomed_in old hart page
+  same_doomed hart page old new same = ap (is_doomed page) same
 
   -- ---- nothing but the caches changed
 

@@ -1,12 +1,11 @@
-ghost use Rattle.std.specs.Prelude.{◌≡◌, ◌↔◌, ℕ, ◌<◌, ◌^◌, ◌%◌, length, is_some, Some, None, IfSome, IfOk, IfErr, OnOk, ◌⊎◌, true, option_map, OnErr};
+ghost use Rattle.std.specs.Prelude.{◌≡◌, ◌↔◌, ℕ, ◌<◌, ◌^◌, ◌%◌, length, Some, None, IfSome, IfOk, IfErr, OnOk, true, OnErr};
 ghost use Rattle.page_memory.specs.Words.{page_number, bytes_in};
-ghost use Rattle.page_store.specs.PageValue.{Place};
 ghost use Rattle.sv32_table.specs.EntryAt.{entry_at};
-ghost use Rattle.paged_memory.specs.Paged.{Holds, seen_at, page_at};
+ghost use Rattle.paged_memory.specs.Paged.{Holds, seen_at};
 ghost use Rattle.paged_memory.specs.Seen.{is_used};
 ghost use Rattle.tlb_core.specs.Cache.{Hits, translation_of};
 ghost use Rattle.paged_memory.specs.declared.caches.Miss.{Miss};
-ghost use Rattle.paged_memory.specs.Access.{Reaches, RefusesAccess, Locates, HasPage, MarksUse, KeepsTranslations, MayWalk, cache_of, is_doomed, resident_frame, ServesHeld};
+ghost use Rattle.paged_memory.specs.Access.{Reaches, RefusesAccess, Locates, HasPage, MarksUse, KeepsTranslations, MayWalk, cache_of, resident_frame, ServesHeld};
 
 use crate::caches::{Caches, Miss};
 use page_memory::{Access, MemoryFault, PageMap, Rights, Width, page_of};

@@ -1,8 +1,8 @@
-ghost use Rattle.std.specs.Prelude.{◌≡◌, ◌<◌, ◌^◌, ◌↔◌, true, false, ℕ, option_map, IfOk, OnOk, OnErr, IsErr};
+ghost use Rattle.std.specs.Prelude.{◌≡◌, ◌<◌, ◌^◌, ◌↔◌, true, false, option_map, OnOk, OnErr, IsErr};
 ghost use Rattle.page_store.specs.PageValue.{page_state_of};
-ghost use Rattle.sv32_table.specs.EntryAt.{SameTables};
 ghost use Rattle.paged_memory.specs.Calls.{ChangesBy};
-ghost use Rattle.paged_memory.specs.Leaving.{BringsBack, ReturnsAs, is_leaving};
+ghost use Rattle.paged_memory.specs.Leaving.{ReturnsAs, is_leaving};
+ghost use Rattle.paged_memory.specs.Moving.{MapsAgain, SameCaches};
 ghost use Rattle.paged_memory.specs.Paged.{page_at, memory_of};
 ghost use Rattle.paged_memory.specs.Stages.{is_leaving_stage};
 ghost use Rattle.paged_memory.specs.Whole.{stage_in};
@@ -18,13 +18,11 @@ impl<L: Ledger, S: SwapSlot> PagedMemory<L, S> {
     /// Maps a page that is leaving again, in its frame, as one that was not used yet. Takes no memory.
     pub fn bring_back(&mut self, vpn: u32) -> Result<(), NotLeaving>
         requires { vpn < 2 ^ 20 }
-        ensures ok { OnOk result (BringsBack self.old.pages self.new.pages self.old.tables self.new.tables vpn) }
-        ensures tabled { SameTables self.old.tables self.new.tables }
+        ensures ok { OnOk result (MapsAgain vpn self.old self.new) }
         ensures refused { IsErr result ↔ (is_leaving_stage (stage_in self.old vpn) ≡ false) }
         ensures err { OnErr result (self.new ≡ self.old) }
         ensures process { self.new.process ≡ self.old.process }
-        ensures caches { self.new.caches ≡ self.old.caches }
-        ensures reserved { self.new.reserved ≡ self.old.reserved }
+        ensures caches { SameCaches self.old self.new }
         ensures memory { memory_of S.content self.new ≡ memory_of S.content self.old }
     {
         if !leaves(&self.pages, vpn) {

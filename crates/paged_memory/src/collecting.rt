@@ -1,7 +1,7 @@
 ghost use Rattle.std.specs.Prelude.{◌≡◌, ◌<◌, ◌^◌, false};
 ghost use Rattle.paged_memory.specs.Leaving.{CollectsAt, lets_go};
 ghost use Rattle.paged_memory.specs.Paged.{page_at, memory_of};
-ghost use Rattle.paged_memory.specs.Soundness.{is_held};
+ghost use Rattle.paged_memory.specs.Moving.{LooksAt, OnlyPages};
 
 use crate::memory::PagedMemory;
 use page_memory::PageMap;
@@ -20,8 +20,8 @@ impl<L: Ledger, S: SwapSlot> PagedMemory<L, S> {
         room: &mut Box<[u8; 4096]>,
     ) -> Collected<L, S>
         requires { vpn < 2 ^ 20 }
-        ensures answer { CollectsAt self.old.process vpn (is_held vpn self.old.caches) spare.old spare.new result self.old.pages self.new.pages (page_at self.old.pages vpn) }
-        ensures stays { self.new ≡ record self.old { pages = self.new.pages } }
+        ensures answer { LooksAt vpn spare.old spare.new result self.old self.new }
+        ensures stays { OnlyPages self.old self.new }
         ensures same { lets_go result ≡ false → self.new ≡ self.old }
         ensures memory { S.honest → memory_of S.content self.new ≡ memory_of S.content self.old }
     {

@@ -2,9 +2,10 @@
 
 ghost use Rattle.std.specs.Prelude.{◌≡◌, ◌≤◌, ◌<◌, ◌^◌, true, ◌&&◌, cond};
 ghost use Rattle.page_store.specs.PageValue.{frame_of};
-ghost use Rattle.paged_memory.specs.Counting.{frames_of, frame_passes, is_resident_place, page_passes, residents_of};
+ghost use Rattle.paged_memory.specs.Counting.{frame_passes, is_resident_place, page_passes};
 ghost use Rattle.paged_memory.specs.Paged.{page_at};
 ghost use Rattle.paged_memory.specs.Stages.{has_frame_stage, is_resident_stage};
+ghost use Rattle.paged_memory.specs.Whole.{frames_among, residents_among};
 
 use crate::eviction::state_in;
 use crate::memory::PagedMemory;
@@ -21,36 +22,26 @@ pub struct HeldPages {
 }
 
 impl<L: Ledger, S: SwapSlot> PagedMemory<L, S> {
-    /// Counts the pages that stand in frames.
+    /// Counts the pages that stand in frames, by their numbers.
     pub fn held_pages(&self) -> HeldPages
-        ensures resident { result.resident ≡ residents_of self.now.pages (λ _. true) }
-        ensures framed { result.framed ≡ frames_of self.now.pages (λ _. true) }
+        ensures resident { result.resident ≡ residents_among self.now (λ _. true) }
+        ensures framed { result.framed ≡ frames_among self.now (λ _. true) }
         ensures few_resident { result.resident ≤ 2 ^ 20 }
         ensures few_framed { result.framed ≤ 2 ^ 20 }
     {
-        held_in(&self.pages)
+        let mut held = HeldPages {
+            resident: 0,
+            framed: 0,
+        };
+        let mut from = 0;
+        'pages: while let Some(vpn) = self.pages.first_from(from) {
+            let more = held_at(&self.pages, vpn);
+            held.resident += more.resident;
+            held.framed += more.framed;
+            from = vpn + 1;
+        }
+        held
     }
-}
-
-/// Counts the pages that stand in frames, by their numbers.
-fn held_in<L: Ledger, S: SwapSlot>(pages: &PageMap<StoredPage<L, S>>) -> HeldPages
-    ensures resident { result.resident ≡ residents_of pages.now (λ _. true) }
-    ensures framed { result.framed ≡ frames_of pages.now (λ _. true) }
-    ensures few_resident { result.resident ≤ 2 ^ 20 }
-    ensures few_framed { result.framed ≤ 2 ^ 20 }
-{
-    let mut held = HeldPages {
-        resident: 0,
-        framed: 0,
-    };
-    let mut from = 0;
-    'pages: while let Some(vpn) = pages.first_from(from) {
-        let more = held_at(pages, vpn);
-        held.resident += more.resident;
-        held.framed += more.framed;
-        from = vpn + 1;
-    }
-    held
 }
 
 /// Whether a page is resident, and whether it holds a frame, as numbers.

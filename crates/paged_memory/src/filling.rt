@@ -1,12 +1,12 @@
-ghost use Rattle.std.specs.Prelude.{◌≡◌, ◌<◌, ◌^◌, true, false, Some, IfSome, OnOk, OnErr, IfErr};
+ghost use Rattle.std.specs.Prelude.{◌≡◌, ◌<◌, ◌^◌, true, false, Some, OnOk, OnErr, IfErr};
 ghost use Rattle.std.specs.Bool.{OnTrue, OnFalse};
 ghost use Rattle.sv32_table.specs.Entry.{page_entry};
 ghost use Rattle.sv32_table.specs.EntryAt.{has_table, ChangesEntry, AddsTable};
 ghost use Rattle.paged_memory.specs.Paged.{page_at, memory_of};
-ghost use Rattle.paged_memory.specs.Calls.{ChangesBy};
 ghost use Rattle.page_store.specs.PageValue.{content, Backed, kept_digest};
 ghost use Rattle.page_store.specs.Moves.{IfResident};
-ghost use Rattle.paged_memory.specs.Filling.{IsAbsent, IsUnchanged, dropped, fault_of, BroughtIn, RefusesAbsent, RefusesPageIn};
+ghost use Rattle.paged_memory.specs.Filling.{IsAbsent, IsUnchanged, dropped, fault_of, BroughtIn, RefusesAbsent};
+ghost use Rattle.paged_memory.specs.Moving.{ComesIn, RefusesIn, SameCaches, SameEntries};
 
 use crate::eviction::state_in;
 use crate::memory::PagedMemory;
@@ -42,41 +42,22 @@ impl<L: Ledger, S: SwapSlot> PagedMemory<L, S> {
     /// it, only where the page has no table yet.
     pub fn page_in(&mut self, vpn: u32, frame: Frame<L>) -> Result<(), (Frame<L>, PageInFault)>
         requires { vpn < 2 ^ 20 }
-        ensures ok { OnOk result (ChangesBy (BroughtIn S.content S.honest frame) self.old.pages self.new.pages vpn) }
-        ensures refused { IfErr result (λ back. RefusesPageIn S.content S.honest S.failures frame self.old.pages self.new.pages self.old.tables vpn back.0 back.1) }
+        ensures ok { OnOk result (ComesIn S.content S.honest frame vpn self.old self.new) }
+        ensures refused { IfErr result (λ back. RefusesIn S.content S.honest S.failures frame vpn back.0 back.1 self.old self.new) }
         ensures memory { S.honest → memory_of S.content self.new ≡ memory_of S.content self.old }
-        ensures entries { OnOk result (IfSome (page_at self.old.pages vpn) (λ page. ChangesEntry self.old.tables self.new.tables vpn (page_entry frame.number page.origin.rights true false))) }
-        ensures tables { OnOk result (AddsTable self.old.tables self.new.tables vpn) }
-        ensures unmapped { OnErr result (self.new.tables ≡ self.old.tables) }
+        ensures unmapped { OnErr result (SameEntries self.old self.new) }
         ensures process { self.new.process ≡ self.old.process }
-        ensures caches { self.new.caches ≡ self.old.caches }
+        ensures caches { SameCaches self.old self.new }
         ensures reserved { self.new.reserved ≡ self.old.reserved }
     {
-        bring_in(&mut self.pages, &mut self.tables, vpn, frame)
+        if !is_absent(&self.pages, vpn) {
+            return Err((frame, PageInFault::NotAbsent));
+        }
+        let Some(place) = self.pages.place(vpn) else {
+            unreachable!()
+        };
+        bring_page_in(self.pages.at_mut(place), &mut self.tables, vpn, frame)
     }
-}
-
-/// The same of the pages and tables alone.
-fn bring_in<L: Ledger, S: SwapSlot>(
-    pages: &mut PageMap<StoredPage<L, S>>,
-    tables: &mut PageTables,
-    vpn: u32,
-    frame: Frame<L>,
-) -> Result<(), (Frame<L>, PageInFault)>
-    requires { vpn < 2 ^ 20 }
-    ensures ok { OnOk result (ChangesBy (BroughtIn S.content S.honest frame) pages.old pages.new vpn) }
-    ensures refused { IfErr result (λ back. RefusesPageIn S.content S.honest S.failures frame pages.old pages.new tables.old vpn back.0 back.1) }
-    ensures entries { OnOk result (IfSome (page_at pages.old vpn) (λ page. ChangesEntry tables.old tables.new vpn (page_entry frame.number page.origin.rights true false))) }
-    ensures tables { OnOk result (AddsTable tables.old tables.new vpn) }
-    ensures unmapped { OnErr result (tables.new ≡ tables.old) }
-{
-    if !is_absent(pages, vpn) {
-        return Err((frame, PageInFault::NotAbsent));
-    }
-    let Some(place) = pages.place(vpn) else {
-        unreachable!()
-    };
-    bring_page_in(pages.at_mut(place), tables, vpn, frame)
 }
 
 /// Whether a page is mapped, has no frame and was not given up.

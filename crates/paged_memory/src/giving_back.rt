@@ -4,7 +4,8 @@ ghost use Rattle.sv32_table.specs.Entry.{blank};
 ghost use Rattle.sv32_table.specs.EntryAt.{ChangesEntry, SameTables};
 ghost use Rattle.paged_memory.specs.Paged.{Holds, page_at};
 ghost use Rattle.paged_memory.specs.Calls.{ChangesBy};
-ghost use Rattle.paged_memory.specs.GivingBack.{GivesBack, GivesOne, GivesNothing, LiesBehind};
+ghost use Rattle.paged_memory.specs.GivingBack.{GivesBack, GivesNothing};
+ghost use Rattle.paged_memory.specs.Moving.{GivesIn, HasNothingBelow, LiesBehindIn, SameCaches, SameTablesIn};
 
 use crate::caches::Caches;
 use crate::eviction::state_in;
@@ -23,15 +24,15 @@ impl<L: Ledger, S: SwapSlot> PagedMemory<L, S> {
     #[tactic(auto, using(crate::proofs::GivingBackLaws::nothing_as_far))]
     pub fn take_from(&mut self, from: u32) -> Option<((Option<Frame<L>>, Option<S>), u32)>
         requires quiet { All (λ cache. cache ≡ []) self.old.caches }
-        requires before { (q : ℕ) → q < from → GivesNothing (page_at self.old.pages q) }
-        ensures given { IfSome result (λ taken. GivesOne taken.0 self.old.pages self.new.pages self.old.tables self.new.tables) }
-        ensures next { IfSome result (λ taken. (q : ℕ) → q < taken.1 → GivesNothing (page_at self.new.pages q)) }
-        ensures behind { IfSome result (λ taken. LiesBehind self.old.pages from taken.1) }
-        ensures tabled { SameTables self.old.tables self.new.tables }
-        ensures none { IfNone result ((q : ℕ) → q < 2 ^ 20 → GivesNothing (page_at self.old.pages q)) }
+        requires before { HasNothingBelow from self.old }
+        ensures given { IfSome result (λ taken. GivesIn taken.0 self.old self.new) }
+        ensures next { IfSome result (λ taken. HasNothingBelow taken.1 self.new) }
+        ensures behind { IfSome result (λ taken. LiesBehindIn self.old from taken.1) }
+        ensures tabled { SameTablesIn self.old self.new }
+        ensures none { IfNone result (HasNothingBelow (2 ^ 20) self.old) }
         ensures left { IfNone result (self.new ≡ self.old) }
         ensures process { self.new.process ≡ self.old.process }
-        ensures caches { self.new.caches ≡ self.old.caches }
+        ensures caches { SameCaches self.old self.new }
         ensures reserved { self.new.reserved ≡ self.old.reserved }
     {
         let vpn = first_with_something(&self.pages, from)?;

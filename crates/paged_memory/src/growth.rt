@@ -1,27 +1,27 @@
-ghost use Rattle.std.specs.Prelude.{◌≡◌, [], ◌∷◌, ◌++◌, true, ◌+◌, ◌≤◌, ◌<◌, ◌^◌, None, OnOk, OnErr, IsErr};
+ghost use Rattle.std.specs.Prelude.{◌≡◌, true, ◌+◌, ◌≤◌, ◌<◌, ◌^◌, None, OnOk, OnErr, IsErr};
 ghost use Rattle.page_memory.specs.Memory.{with_zeroed};
 ghost use Rattle.page_memory.specs.Rights.{may};
 ghost use Rattle.page_memory.specs.declared.words.Access.{Access};
-ghost use Rattle.page_store.specs.PageValue.{Fresh};
 ghost use Rattle.page_memory.specs.Entries.{place_of, added, with_added};
 ghost use Rattle.paged_memory.specs.Paged.{memory_of};
-ghost use Rattle.paged_memory.specs.Fresh.{AddsZeros};
+ghost use Rattle.paged_memory.specs.Fresh.{AddsFresh, AddsZeros, IsUnmapped};
 ghost use Rattle.paged_memory.specs.Growth.{fresh_zero_page, LacksOne};
 
 use crate::memory::PagedMemory;
-use page_memory::{Page, PageMap, Rights};
+use page_memory::{PageMap, Rights};
 use page_store::StoredPage;
+use shared_origins::SharedPage;
 use std::alloc::{AllocError, Global};
 use std::sync::ledger::Ledger;
 use swap_slots::SwapSlot;
 
 impl<L: Ledger, S: SwapSlot> PagedMemory<L, S> {
     /// Maps a page that begins with these rights and bytes, where none is mapped. It is fresh, and takes no frame yet.
-    pub fn map_page(&mut self, vpn: u32, page: Page) -> Result<(), AllocError>
+    pub fn map_page(&mut self, vpn: u32, page: SharedPage) -> Result<(), AllocError>
         requires small { vpn < 2 ^ 20 }
-        requires absent { place_of vpn self.old.pages ≡ None }
+        requires absent { IsUnmapped vpn self.old }
         requires readable { may Access.Store page.rights ≡ true → may Access.Load page.rights ≡ true }
-        ensures ok { OnOk result (self.new ≡ record self.old { pages = self.old.pages ++ (vpn, record { origin = page; place = Fresh }) ∷ [] }) }
+        ensures ok { OnOk result (AddsFresh vpn page self.old self.new) }
         ensures err { OnErr result (self.new ≡ self.old) }
     {
         match self

@@ -1,11 +1,18 @@
-ghost use Rattle.std.specs.Prelude.{◌≡◌, ◌<◌, ◌^◌, length};
+ghost use Rattle.std.specs.Prelude.{◌≡◌, ◌<◌, ◌+◌, ◌≤◌, length, OnErr};
+ghost use Rattle.page_memory.specs.Memory.{fetched, loaded, stored, replaced, loaded_reserved, stored_conditionally, copied_out, copied_in};
+ghost use Rattle.page_memory.specs.Words.{page_number, page_offset};
+ghost use Rattle.page_memory.specs.declared.words.Access.{Access};
+ghost use Rattle.rv_exec.specs.Amo.{amo_result};
+ghost use Rattle.rv_exec.specs.Answers.{with_answer};
+ghost use Rattle.paged_memory.specs.Accesses.{AnswersAccess, Reads, Reserves, Writes};
 ghost use Rattle.paged_memory.specs.Paged.{memory_of};
-ghost use Rattle.paged_memory.specs.Access.{cache_of, is_doomed};
+ghost use Rattle.paged_memory.specs.Access.{cache_of};
 ghost use Rattle.paged_memory.specs.HartMemory.{InTurn, KeepsAccess};
 
 use crate::memory::PagedMemory;
-use crate::{reading, reserving};
-use page_memory::Width;
+use crate::reading::{fetch_anew, load_anew, load_to_replace, read, read_ready};
+use crate::writing;
+use page_memory::{Access, Width, number, offset_in_page};
 use rv_exec::{Bus, BusError};
 use rv_isa::AmoKind;
 use std::alloc::AllocError;
@@ -84,110 +91,229 @@ impl<'a, L: Ledger, S: SwapSlot, O: Opening> Bus for HartMemory<'a, L, S, O> {
     ghost marked_on = { λ before after page kept was. marked before.hart page O.opening before.memory.now after.memory.now kept.2 was };
 
     #[inline]
-    fn fetch(&mut self, address: u32) -> Result<u32, BusError> {
+    #[tactic(auto, unfolding(page_memory::specs::Pages::fetched, page_memory::specs::Pages::aligned_page))]
+    fn fetch(&mut self, address: u32) -> Result<u32, BusError>
+        ensures answer { AnswersAccess self.old.hart Access.Fetch self.old.memory.now self.new.memory.now address (fetched (memory_of S.content self.old.memory.now) address) result }
+        ensures reads { Reads self.old.hart Access.Fetch (page_number address) result self.old.memory.now self.new.memory.now }
+        ensures hart { self.new.hart ≡ self.old.hart }
+        ensures same_reference { self.new.memory.ghost_name ≡ self.old.memory.ghost_name }
+    {
         let memory = &mut *self.memory;
-        reading::fetch(
+        match read_ready(
             &memory.pages,
-            &mut memory.tables,
-            &mut memory.caches,
+            &memory.tables,
+            &memory.caches,
             self.hart,
+            Access::Fetch,
+            Width::Word,
             address,
-        )
+        ) {
+            Some(page) => Ok(number(page, Width::Word, address)),
+            None => fetch_anew(
+                &memory.pages,
+                &mut memory.tables,
+                &mut memory.caches,
+                self.hart,
+                address,
+            )
+            .answer(),
+        }
     }
 
     #[inline]
-    fn load(&mut self, width: Width, address: u32) -> Result<u32, BusError> {
+    #[tactic(auto, unfolding(page_memory::specs::Pages::loaded, page_memory::specs::Pages::aligned_page))]
+    fn load(&mut self, width: Width, address: u32) -> Result<u32, BusError>
+        ensures answer { AnswersAccess self.old.hart Access.Load self.old.memory.now self.new.memory.now address (loaded (memory_of S.content self.old.memory.now) width address) result }
+        ensures reads { Reads self.old.hart Access.Load (page_number address) result self.old.memory.now self.new.memory.now }
+        ensures hart { self.new.hart ≡ self.old.hart }
+        ensures same_reference { self.new.memory.ghost_name ≡ self.old.memory.ghost_name }
+    {
         let memory = &mut *self.memory;
-        reading::load(
+        match read_ready(
             &memory.pages,
-            &mut memory.tables,
-            &mut memory.caches,
+            &memory.tables,
+            &memory.caches,
             self.hart,
+            Access::Load,
             width,
             address,
-        )
+        ) {
+            Some(page) => Ok(number(page, width, address)),
+            None => load_anew(
+                &memory.pages,
+                &mut memory.tables,
+                &mut memory.caches,
+                self.hart,
+                width,
+                address,
+            )
+            .answer(),
+        }
     }
 
     #[inline]
-    fn store(&mut self, width: Width, address: u32, word: u32) -> Result<(), BusError> {
+    fn store(&mut self, width: Width, address: u32, word: u32) -> Result<(), BusError>
+        ensures answer { let after = with_answer (λ _. memory_of S.content self.new.memory.now) result in
+            AnswersAccess self.old.hart Access.Store self.old.memory.now self.new.memory.now address (stored (memory_of S.content self.old.memory.now) width address word) after }
+        ensures writes { Writes self.old.hart Access.Store (page_number address) result self.old.memory.now self.new.memory.now }
+        ensures hart { self.new.hart ≡ self.old.hart }
+        ensures same_reference { self.new.memory.ghost_name ≡ self.old.memory.ghost_name }
+    {
         let memory = &mut *self.memory;
-        reserving::store(
+        match writing::store(
             &mut memory.pages,
             &mut memory.tables,
             &mut memory.caches,
-            &mut memory.reservations,
             self.hart,
             width,
             address,
             word,
-        )
+        ) {
+            Ok(()) => {
+                memory.reservations.end(address, width.bytes() as usize);
+                Ok(())
+            }
+            Err(refusal) => Err(refusal),
+        }
     }
 
     #[inline]
-    fn amo(&mut self, address: u32, operation: AmoKind, operand: u32) -> Result<u32, BusError> {
+    fn amo(&mut self, address: u32, operation: AmoKind, operand: u32) -> Result<u32, BusError>
+        ensures answer { let update = λ (old : ℕ). amo_result operation old operand in
+            let after = with_answer (λ old. (old, memory_of S.content self.new.memory.now)) result in
+            AnswersAccess self.old.hart Access.Store self.old.memory.now self.new.memory.now address (replaced (memory_of S.content self.old.memory.now) update address) after }
+        ensures writes { Writes self.old.hart Access.Store (page_number address) result self.old.memory.now self.new.memory.now }
+        ensures hart { self.new.hart ≡ self.old.hart }
+        ensures same_reference { self.new.memory.ghost_name ≡ self.old.memory.ghost_name }
+    {
         let memory = &mut *self.memory;
-        reserving::amo(
+        match writing::amo(
             &mut memory.pages,
             &mut memory.tables,
             &mut memory.caches,
-            &mut memory.reservations,
             self.hart,
             address,
             operation,
             operand,
-        )
+        ) {
+            Ok(old) => {
+                memory.reservations.end(address, 4);
+                Ok(old)
+            }
+            Err(refusal) => Err(refusal),
+        }
     }
 
-    fn load_reserved(&mut self, hart: u32, address: u32) -> Result<u32, BusError> {
+    fn load_reserved(&mut self, hart: u32, address: u32) -> Result<u32, BusError>
+        ensures answer { let after = with_answer (λ word. (word, memory_of S.content self.new.memory.now)) result in
+            AnswersAccess self.old.hart Access.Load self.old.memory.now self.new.memory.now address (loaded_reserved (memory_of S.content self.old.memory.now) hart address) after }
+        ensures reserves { Reserves self.old.hart Access.Load (page_number address) result self.old.memory.now self.new.memory.now }
+        ensures hart { self.new.hart ≡ self.old.hart }
+        ensures same_reference { self.new.memory.ghost_name ≡ self.old.memory.ghost_name }
+    {
+        match self.load(Width::Word, address) {
+            Ok(word) => {
+                let memory = &mut *self.memory;
+                memory.reservations.reserve(hart, address);
+                Ok(word)
+            }
+            Err(refusal) => Err(refusal),
+        }
+    }
+
+    fn store_conditional(&mut self, hart: u32, address: u32, word: u32) -> Result<bool, BusError>
+        ensures answer { let after = with_answer (λ is_stored. (is_stored, memory_of S.content self.new.memory.now)) result in
+            AnswersAccess self.old.hart Access.Store self.old.memory.now self.new.memory.now address (stored_conditionally (memory_of S.content self.old.memory.now) hart address word) after }
+        ensures writes { Writes self.old.hart Access.Store (page_number address) result self.old.memory.now self.new.memory.now }
+        ensures hart { self.new.hart ≡ self.old.hart }
+        ensures same_reference { self.new.memory.ghost_name ≡ self.old.memory.ghost_name }
+    {
         let memory = &mut *self.memory;
-        reserving::load_reserved(
+        if memory.reservations.has(hart, address) {
+            match writing::store(
+                &mut memory.pages,
+                &mut memory.tables,
+                &mut memory.caches,
+                self.hart,
+                Width::Word,
+                address,
+                word,
+            ) {
+                Ok(()) => {
+                    memory.reservations.release(hart);
+                    memory.reservations.end(address, 4);
+                    Ok(true)
+                }
+                Err(refusal) => Err(refusal),
+            }
+        } else {
+            match load_to_replace(
+                &memory.pages,
+                &mut memory.tables,
+                &mut memory.caches,
+                self.hart,
+                address,
+            ) {
+                Ok(_) => {
+                    memory.reservations.release(hart);
+                    Ok(false)
+                }
+                Err(refusal) => Err(refusal),
+            }
+        }
+    }
+
+    #[tactic(auto, unfolding(page_memory::specs::Pages::copied_out))]
+    fn copy_out(&mut self, address: u32, to: &mut [u8]) -> Result<(), BusError>
+        requires within { page_offset address + length to.old ≤ 4096 }
+        ensures answer { let copied = with_answer (λ _. to.new) result in
+            AnswersAccess self.old.hart Access.Load self.old.memory.now self.new.memory.now address (copied_out (memory_of S.content self.old.memory.now) address (length to.old)) copied }
+        ensures refused { OnErr result (to.new ≡ to.old) }
+        ensures reads { Reads self.old.hart Access.Load (page_number address) result self.old.memory.now self.new.memory.now }
+        ensures hart { self.new.hart ≡ self.old.hart }
+        ensures same_reference { self.new.memory.ghost_name ≡ self.old.memory.ghost_name }
+    {
+        let memory = &mut *self.memory;
+        match read(
             &memory.pages,
             &mut memory.tables,
             &mut memory.caches,
-            &mut memory.reservations,
             self.hart,
-            hart,
+            Access::Load,
             address,
-        )
+        ) {
+            Ok(page) => {
+                let offset = offset_in_page(address);
+                to.copy_from_slice(&page[offset..offset + to.len()]);
+                Ok(())
+            }
+            Err(refusal) => Err(refusal),
+        }
     }
 
-    fn store_conditional(&mut self, hart: u32, address: u32, word: u32) -> Result<bool, BusError> {
+    fn copy_in(&mut self, address: u32, from: &[u8]) -> Result<(), BusError>
+        requires within { page_offset address + length from.now ≤ 4096 }
+        ensures answer { let after = with_answer (λ _. memory_of S.content self.new.memory.now) result in
+            AnswersAccess self.old.hart Access.Store self.old.memory.now self.new.memory.now address (copied_in (memory_of S.content self.old.memory.now) address from.now) after }
+        ensures writes { Writes self.old.hart Access.Store (page_number address) result self.old.memory.now self.new.memory.now }
+        ensures hart { self.new.hart ≡ self.old.hart }
+        ensures same_reference { self.new.memory.ghost_name ≡ self.old.memory.ghost_name }
+    {
         let memory = &mut *self.memory;
-        reserving::store_conditional(
+        match writing::copy_in(
             &mut memory.pages,
             &mut memory.tables,
             &mut memory.caches,
-            &mut memory.reservations,
-            self.hart,
-            hart,
-            address,
-            word,
-        )
-    }
-
-    fn copy_out(&mut self, address: u32, to: &mut [u8]) -> Result<(), BusError> {
-        let memory = &mut *self.memory;
-        reading::copy_out(
-            &memory.pages,
-            &mut memory.tables,
-            &mut memory.caches,
-            self.hart,
-            address,
-            to,
-        )
-    }
-
-    fn copy_in(&mut self, address: u32, from: &[u8]) -> Result<(), BusError> {
-        let memory = &mut *self.memory;
-        reserving::copy_in(
-            &mut memory.pages,
-            &mut memory.tables,
-            &mut memory.caches,
-            &mut memory.reservations,
             self.hart,
             address,
             from,
-        )
+        ) {
+            Ok(()) => {
+                memory.reservations.end(address, from.len());
+                Ok(())
+            }
+            Err(refusal) => Err(refusal),
+        }
     }
 
     #[tactic(auto, using(crate::proofs::GrowthLaws::lacking_some, crate::proofs::Marking::bounds_same))]

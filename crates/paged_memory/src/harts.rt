@@ -1,5 +1,7 @@
-ghost use Rattle.std.specs.Prelude.{◌≡◌, ◌<◌, [], ◌∷◌, ◌++◌, map, length, slice_index_or, slice_set};
-ghost use Rattle.tlb_core.specs.Cache.{undoomed};
+ghost use Rattle.std.specs.Prelude.{◌≡◌, ◌<◌};
+ghost use Rattle.paged_memory.specs.Fresh.{AddsHart};
+ghost use Rattle.paged_memory.specs.Notices.{cleared, dropped, emptied};
+ghost use Rattle.paged_memory.specs.Whole.{harts_in};
 
 use crate::memory::PagedMemory;
 use std::sync::ledger::Ledger;
@@ -8,38 +10,38 @@ use swap_slots::SwapSlot;
 impl<L: Ledger, S: SwapSlot> PagedMemory<L, S> {
     /// How many harts have a cache.
     pub fn harts(&self) -> usize
-        ensures { result ≡ length self.now.caches }
+        ensures { result ≡ harts_in self.now }
     {
         self.caches.len()
     }
 
     /// Gives one more hart an empty cache. Takes no memory: there is room for eight.
     pub fn add_hart(&mut self)
-        requires { length self.old.caches < 8 }
-        ensures { self.new ≡ record self.old { caches = self.old.caches ++ [] ∷ [] } }
+        requires { harts_in self.old < 8 }
+        ensures { AddsHart self.old self.new }
     {
         self.caches.add();
     }
 
     /// A hart drops its translations that are marked as ones to be dropped.
     pub fn take_notices(&mut self, hart: usize)
-        requires { hart < length self.old.caches }
-        ensures { self.new ≡ record self.old { caches = slice_set self.old.caches hart (undoomed (slice_index_or self.old.caches hart [])) } }
+        requires { hart < harts_in self.old }
+        ensures { self.new ≡ dropped hart self.old }
     {
         self.caches.drop_doomed(hart);
     }
 
     /// Drops all translations of a hart.
     pub fn clear_cache(&mut self, hart: usize)
-        requires { hart < length self.old.caches }
-        ensures { self.new ≡ record self.old { caches = slice_set self.old.caches hart [] } }
+        requires { hart < harts_in self.old }
+        ensures { self.new ≡ cleared hart self.old }
     {
         self.caches.clear(hart);
     }
 
     /// Drops all translations of all harts.
     pub fn clear_caches(&mut self)
-        ensures { self.new ≡ record self.old { caches = map (λ _. []) self.old.caches } }
+        ensures { self.new ≡ emptied self.old }
     {
         self.caches.clear_all();
     }

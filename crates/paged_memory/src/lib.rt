@@ -17,7 +17,6 @@ mod memory;
 mod peeking;
 mod reading;
 mod reply;
-mod reserving;
 mod saving;
 mod status;
 mod still_saving;

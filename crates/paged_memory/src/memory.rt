@@ -1,7 +1,5 @@
-ghost use Rattle.std.specs.Prelude.{◌≡◌, ℕ, ◌<◌, ◌^◌, [], IfOk};
-ghost use Rattle.page_memory.specs.Reservations.{none_reserved};
-ghost use Rattle.sv32_table.specs.Entry.{blank};
-ghost use Rattle.sv32_table.specs.EntryAt.{entry_at};
+ghost use Rattle.std.specs.Prelude.{◌≡◌, [], IfOk};
+ghost use Rattle.paged_memory.specs.Fresh.{MapsFresh};
 ghost use Rattle.paged_memory.specs.Paged.{PagedValue};
 
 use crate::caches::Caches;
@@ -40,11 +38,7 @@ impl<L: Ledger, S: SwapSlot> PagedMemory<L, S> {
     /// The memory of a process of this number, with no page and no hart.
     #[tactic(auto, using(crate::proofs::CallLaws::holds_new))]
     pub fn new(alloc: Global, process: u32) -> Result<Self, AllocError>
-        ensures process { IfOk result (λ memory. memory.process ≡ process) }
-        ensures pages { IfOk result (λ memory. memory.pages ≡ []) }
-        ensures entries { IfOk result (λ memory. (number : ℕ) → number < 2 ^ 20 → entry_at memory.tables number ≡ blank) }
-        ensures caches { IfOk result (λ memory. memory.caches ≡ []) }
-        ensures reserved { IfOk result (λ memory. memory.reserved ≡ none_reserved) }
+        ensures { IfOk result (λ memory. MapsFresh process [] memory) }
     {
         Ok(PagedMemory {
             alloc,

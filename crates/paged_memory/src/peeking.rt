@@ -1,5 +1,6 @@
 ghost use Rattle.std.specs.Prelude.{◌≡◌, ◌+◌, ◌<◌, ◌≤◌, ◌^◌, Some, IfErr, OnErr, OnOk, length};
-ghost use Rattle.page_memory.specs.Words.{page_number, page_offset};
+ghost use Rattle.page_memory.specs.Words.{page_offset};
+ghost use Rattle.paged_memory.specs.Moving.{DoesNotShow, LeavesLookedAt, OnlyPages, ShowsIn};
 ghost use Rattle.paged_memory.specs.Paged.{page_at, memory_of};
 ghost use Rattle.paged_memory.specs.Peeking.{bytes_of, ShowsBytes, LeavesPage, RefusesPeek};
 
@@ -26,13 +27,13 @@ impl<L: Ledger, S: SwapSlot> PagedMemory<L, S> {
     /// is. No page is brought in, and no hart's use of it is marked. A refusal leaves the room as it was.
     pub fn peek(&mut self, address: u32, bytes: &mut [Option<u8>]) -> Result<(), PeekFault>
         requires { page_offset address + length bytes.old ≤ 4096 }
-        ensures bytes { OnOk result (ShowsBytes S.content S.honest (page_at self.old.pages (page_number address)) (page_offset address) (length bytes.old) bytes.new) }
+        ensures bytes { OnOk result (ShowsIn S.content S.honest self.old address (length bytes.old) bytes.new) }
         ensures shown { S.honest → OnOk result (bytes_of (memory_of S.content self.old) address (length bytes.old) ≡ Some bytes.new) }
         ensures unread { OnErr result (bytes.new ≡ bytes.old) }
-        ensures refused { IfErr result (RefusesPeek S.content S.honest S.failures self.old.pages self.new.pages (page_number address)) }
-        ensures left { LeavesPage S.content S.honest self.old.pages self.new.pages (page_number address) (page_at self.old.pages (page_number address)) }
+        ensures refused { IfErr result (DoesNotShow S.content S.honest S.failures address self.old self.new) }
+        ensures left { LeavesLookedAt S.content S.honest address self.old self.new }
         ensures memory { S.honest → memory_of S.content self.new ≡ memory_of S.content self.old }
-        ensures stays { self.new ≡ record self.old { pages = self.new.pages } }
+        ensures stays { OnlyPages self.old self.new }
     {
         read_page(
             &mut self.pages,

@@ -1,11 +1,9 @@
-ghost use Rattle.std.specs.Prelude.{◌≡◌, ◌<◌, ◌%◌, length, is_some, Some, Ok, OnOk, true, IfOk, IfErr, IfSome, ◌+◌, ◌≤◌, OnErr};
-ghost use Rattle.std.specs.Option.{IsSomeAnd};
-ghost use Rattle.page_memory.specs.Words.{page_number, page_offset, bytes_in};
-ghost use Rattle.page_memory.specs.Entries.{value_at};
-ghost use Rattle.page_memory.specs.Pages.{answer_by, number_at, aligned_page, usable, fetched, loaded, copied_out};
+ghost use Rattle.std.specs.Prelude.{◌≡◌, ◌<◌, ◌%◌, length, is_some, Some, Ok, OnOk, true, IfOk, IfErr, IfSome, OnErr};
+ghost use Rattle.page_memory.specs.Words.{page_number, bytes_in};
+ghost use Rattle.page_memory.specs.Pages.{answer_by, number_at, aligned_page, usable, fetched, loaded};
 ghost use Rattle.page_memory.specs.declared.words.Access.{Access};
 ghost use Rattle.page_store.specs.PageValue.{content, writable};
-ghost use Rattle.rv_exec.specs.Answers.{Answers, BusRefuses, with_answer};
+ghost use Rattle.rv_exec.specs.Answers.{Answers, BusRefuses};
 ghost use Rattle.paged_memory.specs.Paged.{Holds, flat_pages};
 ghost use Rattle.paged_memory.specs.Replies.{loaded_by};
 ghost use Rattle.paged_memory.specs.Access.{HasPage, LacksPage, MarksUse, KeepsTranslations, MayWalk, UsesBytes, cache_of, ServesHeld};
@@ -13,7 +11,7 @@ ghost use Rattle.paged_memory.specs.Access.{HasPage, LacksPage, MarksUse, KeepsT
 use crate::access::{at_hand, reach};
 use crate::caches::Caches;
 use crate::reply::LoadReply;
-use page_memory::{Access, MemoryFault, PageMap, Width, number, offset_in_page};
+use page_memory::{Access, MemoryFault, PageMap, Width, number};
 use page_store::StoredPage;
 use rv_exec::BusError;
 use std::sync::ledger::Ledger;
@@ -35,7 +33,7 @@ pub(crate) fn bytes_of<L: Ledger, S: SwapSlot>(page: &StoredPage<L, S>) -> &[u8;
 
 /// The bytes of a page that is ready for an aligned access of a hart.
 #[inline]
-fn read_ready<'a, L: Ledger, S: SwapSlot>(
+pub(crate) fn read_ready<'a, L: Ledger, S: SwapSlot>(
     pages: &'a PageMap<StoredPage<L, S>>,
     tables: &PageTables,
     caches: &Caches,
@@ -60,7 +58,7 @@ fn read_ready<'a, L: Ledger, S: SwapSlot>(
 
 /// The bytes of a page that a hart reads.
 #[inline]
-fn read<'a, L: Ledger, S: SwapSlot>(
+pub(crate) fn read<'a, L: Ledger, S: SwapSlot>(
     pages: &'a PageMap<StoredPage<L, S>>,
     tables: &mut PageTables,
     caches: &mut Caches,
@@ -87,44 +85,11 @@ fn read<'a, L: Ledger, S: SwapSlot>(
     }
 }
 
-/// The word at an address, to be run.
-#[inline]
-#[tactic(auto, unfolding(page_memory::specs::Pages::fetched, page_memory::specs::Pages::aligned_page))]
-pub(crate) fn fetch<L: Ledger, S: SwapSlot>(
-    pages: &PageMap<StoredPage<L, S>>,
-    tables: &mut PageTables,
-    caches: &mut Caches,
-    hart: usize,
-    address: u32,
-) -> Result<u32, BusError>
-    requires hart { hart < length caches.old }
-    requires holds { Holds S.content S.honest pages.now tables.old caches.old }
-    ensures holds { Holds S.content S.honest pages.now tables.new caches.new }
-    ensures answer { Answers (HasPage pages.now (cache_of caches.old hart)) (MarksUse pages.now tables.new (cache_of caches.old hart) Access.Fetch) (LacksPage pages.now) address (fetched (flat_pages S.content pages.now) address) result }
-    ensures held { ServesHeld (cache_of caches.old hart) Access.Fetch (page_number address) result }
-    ensures kept { KeepsTranslations pages.now hart tables.old tables.new caches.old caches.new }
-    ensures entries { MayWalk Access.Fetch (page_number address) tables.old tables.new }
-    ensures unmarked { OnErr result (tables.new ≡ tables.old) }
-{
-    match read_ready(
-        pages,
-        tables,
-        caches,
-        hart,
-        Access::Fetch,
-        Width::Word,
-        address,
-    ) {
-        Some(page) => Ok(number(page, Width::Word, address)),
-        None => fetch_anew(pages, tables, caches, hart, address).answer(),
-    }
-}
-
-/// The same from a page that is not ready, which it makes ready.
+/// The word at an address, to be run, from a page that is not ready, which it makes ready.
 #[cold]
 #[inline(never)]
 #[tactic(auto, unfolding(page_memory::specs::Pages::fetched, page_memory::specs::Pages::aligned_page))]
-fn fetch_anew<L: Ledger, S: SwapSlot>(
+pub(crate) fn fetch_anew<L: Ledger, S: SwapSlot>(
     pages: &PageMap<StoredPage<L, S>>,
     tables: &mut PageTables,
     caches: &mut Caches,
@@ -151,37 +116,11 @@ fn fetch_anew<L: Ledger, S: SwapSlot>(
     }
 }
 
-/// The number at an address, not extended.
-#[inline]
-#[tactic(auto, unfolding(page_memory::specs::Pages::loaded, page_memory::specs::Pages::aligned_page))]
-pub(crate) fn load<L: Ledger, S: SwapSlot>(
-    pages: &PageMap<StoredPage<L, S>>,
-    tables: &mut PageTables,
-    caches: &mut Caches,
-    hart: usize,
-    width: Width,
-    address: u32,
-) -> Result<u32, BusError>
-    requires hart { hart < length caches.old }
-    requires holds { Holds S.content S.honest pages.now tables.old caches.old }
-    ensures holds { Holds S.content S.honest pages.now tables.new caches.new }
-    ensures answer { Answers (HasPage pages.now (cache_of caches.old hart)) (MarksUse pages.now tables.new (cache_of caches.old hart) Access.Load) (LacksPage pages.now) address (loaded (flat_pages S.content pages.now) width address) result }
-    ensures held { ServesHeld (cache_of caches.old hart) Access.Load (page_number address) result }
-    ensures kept { KeepsTranslations pages.now hart tables.old tables.new caches.old caches.new }
-    ensures entries { MayWalk Access.Load (page_number address) tables.old tables.new }
-    ensures unmarked { OnErr result (tables.new ≡ tables.old) }
-{
-    match read_ready(pages, tables, caches, hart, Access::Load, width, address) {
-        Some(page) => Ok(number(page, width, address)),
-        None => load_anew(pages, tables, caches, hart, width, address).answer(),
-    }
-}
-
-/// The same from a page that is not ready, which it makes ready.
+/// The number at an address, not extended, from a page that is not ready, which it makes ready.
 #[cold]
 #[inline(never)]
 #[tactic(auto, unfolding(page_memory::specs::Pages::loaded, page_memory::specs::Pages::aligned_page))]
-fn load_anew<L: Ledger, S: SwapSlot>(
+pub(crate) fn load_anew<L: Ledger, S: SwapSlot>(
     pages: &PageMap<StoredPage<L, S>>,
     tables: &mut PageTables,
     caches: &mut Caches,
@@ -232,38 +171,6 @@ pub(crate) fn load_to_replace<L: Ledger, S: SwapSlot>(
     }
     match read(pages, tables, caches, hart, Access::Store, address) {
         Ok(page) => Ok(number(page, Width::Word, address)),
-        Err(refusal) => Err(refusal),
-    }
-}
-
-/// Copies bytes of one page to a slice.
-#[tactic(auto, unfolding(page_memory::specs::Pages::copied_out))]
-pub(crate) fn copy_out<L: Ledger, S: SwapSlot>(
-    pages: &PageMap<StoredPage<L, S>>,
-    tables: &mut PageTables,
-    caches: &mut Caches,
-    hart: usize,
-    address: u32,
-    to: &mut [u8],
-) -> Result<(), BusError>
-    requires hart { hart < length caches.old }
-    requires within { page_offset address + length to.old ≤ 4096 }
-    requires holds { Holds S.content S.honest pages.now tables.old caches.old }
-    ensures holds { Holds S.content S.honest pages.now tables.new caches.new }
-    ensures answer { let copied = with_answer (λ _. to.new) result in
-        Answers (HasPage pages.now (cache_of caches.old hart)) (MarksUse pages.now tables.new (cache_of caches.old hart) Access.Load) (LacksPage pages.now) address (copied_out (flat_pages S.content pages.now) address (length to.old)) copied }
-    ensures refused { OnErr result (to.new ≡ to.old) }
-    ensures held { ServesHeld (cache_of caches.old hart) Access.Load (page_number address) result }
-    ensures kept { KeepsTranslations pages.now hart tables.old tables.new caches.old caches.new }
-    ensures entries { MayWalk Access.Load (page_number address) tables.old tables.new }
-    ensures unmarked { OnErr result (tables.new ≡ tables.old) }
-{
-    match read(pages, tables, caches, hart, Access::Load, address) {
-        Ok(page) => {
-            let offset = offset_in_page(address);
-            to.copy_from_slice(&page[offset..offset + to.len()]);
-            Ok(())
-        }
         Err(refusal) => Err(refusal),
     }
 }

@@ -1,7 +1,7 @@
-ghost use Rattle.std.specs.Prelude.{◌≡◌, ◌<◌, ◌^◌, ℕ};
+ghost use Rattle.std.specs.Prelude.{◌<◌, ◌^◌};
 ghost use Rattle.std.specs.Bool.{OnTrue, OnFalse};
-ghost use Rattle.paged_memory.specs.GivingBack.{SavesOne};
 ghost use Rattle.paged_memory.specs.Leaving.{IsSaving};
+ghost use Rattle.paged_memory.specs.Moving.{SavesNone, SavesSome};
 ghost use Rattle.paged_memory.specs.Paged.{page_at};
 
 use crate::eviction::state_in;
@@ -14,23 +14,16 @@ use swap_slots::SwapSlot;
 impl<L: Ledger, S: SwapSlot> PagedMemory<L, S> {
     /// Whether a page is being saved.
     pub fn is_saving(&self) -> bool
-        ensures some { OnTrue result (SavesOne self.now.pages) }
-        ensures none { OnFalse result ((q : ℕ) → q < 2 ^ 20 → ¬ IsSaving (page_at self.now.pages q)) }
+        ensures some { OnTrue result (SavesSome self.now) }
+        ensures none { OnFalse result (SavesNone self.now) }
     {
-        any_saving(&self.pages)
-    }
-}
-
-fn any_saving<L: Ledger, S: SwapSlot>(pages: &PageMap<StoredPage<L, S>>) -> bool
-    ensures some { OnTrue result (SavesOne pages.now) }
-    ensures none { OnFalse result ((q : ℕ) → q < 2 ^ 20 → ¬ IsSaving (page_at pages.now q)) }
-{
-    for place in 0..pages.len() {
-        if is_saving_page(pages, pages.page(place)) {
-            return true;
+        for place in 0..self.pages.len() {
+            if is_saving_page(&self.pages, self.pages.page(place)) {
+                return true;
+            }
         }
+        false
     }
-    false
 }
 
 fn is_saving_page<L: Ledger, S: SwapSlot>(pages: &PageMap<StoredPage<L, S>>, vpn: u32) -> bool

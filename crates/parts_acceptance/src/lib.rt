@@ -10,6 +10,8 @@ mod instructions;
 #[cfg(test)]
 mod lines;
 #[cfg(test)]
+mod origins;
+#[cfg(test)]
 mod ring;
 #[cfg(test)]
 mod slots;

@@ -5,6 +5,7 @@ use env_calls::{Env, ServeStop, Served, serve};
 use flat_machine::{End, FlatProcess};
 use page_memory::{FlatMemory, Page, Rights};
 use rv_exec::Regs;
+use shared_origins::SharedBytes;
 use std::alloc::{AllocError, Global};
 
 /// The words of a call, and what it answers.
@@ -51,7 +52,7 @@ fn calls() -> [Call; 18] {
 pub(crate) fn serves_calls(alloc: Global) -> Result<bool, AllocError> {
     let mut memory = one_page(alloc)?;
     let input = vec![in alloc; b'a', b'b']?;
-    let mut env = Env::new(alloc, input, 0x1_1000, 65);
+    let mut env = Env::new(alloc, SharedBytes::new(alloc, input)?, 0x1_1000, 65);
     if !answers_each(&mut env, &mut memory)? {
         return Ok(false);
     }

@@ -1,20 +1,18 @@
 -- What a slice of a process on paged memory leaves.
-use Rattle.std.proofs.Common.{◌≡◌, ◌++◌, ◌∷◌, ◌≤◌, [], ℕ, zero, suc, Bool, true, false, cond, List, length, map, slice_set, Option, Some, None, is_some, option_map, option_and_then, unwrap_or, ap, ◌∙◌, refl, subst, arith}
+use Rattle.std.proofs.Common.{◌≡◌, ◌∷◌, ◌≤◌, [], ℕ, Bool, true, false, cond, List, length, slice_set, Option, Some, None, option_map, option_and_then, unwrap_or, ap, ◌∙◌, refl, subst, sym, arith}
 use Rattle.std.proofs.lemmas.Option.{none-some}
 use Rattle.std.proofs.lemmas.List.{length-append, length-set}
-use Rattle.tlb_core.specs.declared.translation.Translation.{Translation}
-use Rattle.tlb_core.specs.Cache.{translation_of}
 use Rattle.rv_exec.specs.Registers.{Registers}
 use Rattle.env_calls.specs.Effect.{Effect, Runs, Yields, Spawns, Finishes, Exits, Traps}
 use Rattle.env_calls.specs.Step.{effect}
 use Rattle.flat_machine.specs.Process.{Process, hart_registers, may_step, stepped, after, flat_step, flat_run}
 use Rattle.paged_memory.specs.Paged.{PagedValue}
-use Rattle.paged_memory.specs.Access.{cache_of, is_doomed}
 use Rattle.paged_memory.specs.HartMemory.{KeepsAccess}
 use Rattle.space_core.specs.declared.progress.SliceStop.{SliceStop}
 use Rattle.space_core.specs.declared.progress.SliceStop.TheVariants.{Budget, Absent, Yield, HartDone, Ended, NoHart, ScheduleFull, NoMemory}
 use Rattle.space_core.specs.Slicing.{OthersStay, SettlesCaches, LeavesCaches}
-use Rattle.paged_memory.specs.Using.{cache_in}
+use Rattle.paged_memory.specs.Using.{HoldsNone, SameCache}
+use Rattle.paged_memory.specs.UsingLaws.{same_held, same_doomed}
 
 -- ---- no hart that was started goes
 
@@ -48,33 +46,16 @@ harts_run (hart ∷ harts) p q ran = harts_through harts hart p q (λ next f. ha
 
 -- ---- caches
 
--- an empty cache for one more hart shows as none did
-pub with_empty : (caches : List (List Translation)) (h : ℕ) → cache_of (caches ++ [] ∷ []) h ≡ cache_of caches h
-with_empty [] zero = refl
-with_empty [] (suc h) = refl
-with_empty (c ∷ cs) zero = refl
-with_empty (c ∷ cs) (suc h) = with_empty cs h
-
-pub own_emptied : (caches : List (List Translation)) (hart : ℕ) → cache_of (slice_set caches hart []) hart ≡ []
-own_emptied [] hart = refl
-own_emptied (c ∷ cs) zero = refl
-own_emptied (c ∷ cs) (suc hart) = own_emptied cs hart
-
-pub all_emptied : (caches : List (List Translation)) (h : ℕ) → cache_of (map (λ _. []) caches) h ≡ []
-all_emptied [] h = refl
-all_emptied (c ∷ cs) zero = refl
-all_emptied (c ∷ cs) (suc h) = all_emptied cs h
-
 module _ {S : Type 0} where
-  settled_others : (hart : ℕ) (old between new : PagedValue S) → KeepsAccess hart old between → OthersStay hart between new × (cache_in new hart ≡ []) → OthersStay hart old new × (cache_in new hart ≡ [])
+  settled_others : (hart : ℕ) (old between new : PagedValue S) → KeepsAccess hart old between → OthersStay hart between new × HoldsNone hart new → OthersStay hart old new × HoldsNone hart new
   settled_others hart old between new kept (others, own) = (λ h other. others h other ∙ kept.others h other, own)
 
   pub settled : (stop : SliceStop) (hart : ℕ) (old between new : PagedValue S) → KeepsAccess hart old between → SettlesCaches stop hart between new → LeavesCaches stop hart old new
   settled Budget hart old between new kept same = (
     λ h other. same h ∙ kept.others h other,
     record {
-      held = λ page is. kept.held page (subst (λ cache. is_some (translation_of page cache) ≡ true) (same hart) is);
-      doomed = λ page is. kept.doomed page (subst (λ cache. is_doomed page cache ≡ true) (same hart) is);
+      held = λ page is. kept.held page (sym (same_held hart page between new (same hart)) ∙ is);
+      doomed = λ page is. kept.doomed page (sym (same_doomed hart page between new (same hart)) ∙ is);
     },
   )
   settled Ended hart old between new kept emptied = emptied
@@ -86,10 +67,10 @@ module _ {S : Type 0} where
   settled NoMemory hart old between new kept s = settled_others hart old between new kept s
 
   -- the same caches were there before more harts had one
-  more_others : (hart : ℕ) (old between new : PagedValue S) → ((h : ℕ) → cache_in between h ≡ cache_in old h) → OthersStay hart between new × (cache_in new hart ≡ []) → OthersStay hart old new × (cache_in new hart ≡ [])
+  more_others : (hart : ℕ) (old between new : PagedValue S) → ((h : ℕ) → SameCache h old between) → OthersStay hart between new × HoldsNone hart new → OthersStay hart old new × HoldsNone hart new
   more_others hart old between new same (others, own) = (λ h other. others h other ∙ same h, own)
 
-  pub settled_after : (stop : SliceStop) (hart : ℕ) (old between new : PagedValue S) → ((h : ℕ) → cache_in between h ≡ cache_in old h) → SettlesCaches stop hart between new → SettlesCaches stop hart old new
+  pub settled_after : (stop : SliceStop) (hart : ℕ) (old between new : PagedValue S) → ((h : ℕ) → SameCache h old between) → SettlesCaches stop hart between new → SettlesCaches stop hart old new
   settled_after Budget hart old between new same stays = λ h. stays h ∙ same h
   settled_after Ended hart old between new same emptied = emptied
   settled_after (Absent page) hart old between new same s = more_others hart old between new same s

@@ -1,14 +1,12 @@
 -- A slice of a process on paged memory: what it leaves beside what ran.
-use Rattle.std.specs.Prelude.{◌≡◌, ◌≢◌, ℕ, ◌^◌, ◌<◌, true, is_some, List, [], length}
-use Rattle.tlb_core.specs.Cache.{translation_of}
+use Rattle.std.specs.Prelude.{◌≡◌, ◌≢◌, ℕ, ◌^◌, ◌<◌, true, List, length}
 use Rattle.paged_memory.specs.Paged.{PagedValue, memory_of}
-use Rattle.paged_memory.specs.Access.{is_doomed}
 use Rattle.flat_machine.specs.Process.{Process}
 use Rattle.space_core.specs.declared.progress.SliceStop.{SliceStop}
 use Rattle.space_core.specs.declared.progress.SliceStop.TheVariants.{Budget, Absent, Yield, HartDone, Ended, NoHart, ScheduleFull, NoMemory}
 use Rattle.space_core.specs.RunningValue.{with_memory}
 use Rattle.space_core.specs.StandsFor.{SpaceValue}
-use Rattle.paged_memory.specs.Using.{cache_in, HasIn, KeepsIn}
+use Rattle.paged_memory.specs.Using.{HasIn, HoldsNone, KeepsIn, SameCache, holds_in, is_doomed_in}
 use Rattle.paged_memory.specs.Whole.{is_used_in, is_dirty_in, harts_in}
 
 -- the flat process with what its pages show, where slots hold this
@@ -17,24 +15,24 @@ shown_process held space = with_memory space.running (memory_of held space.memor
 
 -- the caches of all harts but one are the same
 abbrev pub OthersStay : {S : Type 0} → ℕ → PagedValue S → PagedValue S → Type 0
-OthersStay hart old new = (h : ℕ) → h ≢ hart → cache_in new h ≡ cache_in old h
+OthersStay hart old new = (h : ℕ) → h ≢ hart → SameCache h old new
 
 -- a hart that goes on has translations of pages alone that it had or that are resident, and none more that is to be dropped
 pub record GoesOnWith {S : Type 0} (hart : ℕ) (old new : PagedValue S) : Type 0 where
-  pub held : (page : ℕ) → is_some (translation_of page (cache_in new hart)) ≡ true → HasIn old hart page
-  pub doomed : (page : ℕ) → is_doomed page (cache_in new hart) ≡ true → is_doomed page (cache_in old hart) ≡ true
+  pub held : (page : ℕ) → holds_in new hart page ≡ true → HasIn old hart page
+  pub doomed : (page : ℕ) → is_doomed_in new hart page ≡ true → is_doomed_in old hart page ≡ true
 
 -- what is left of the caches where a hart stops so: nothing of any where the process ended, nothing of the hart's own where
 -- it does not go on, and all else
 abbrev pub SettlesCaches : {S : Type 0} → SliceStop → ℕ → PagedValue S → PagedValue S → Type 0
-SettlesCaches Budget hart old new = (h : ℕ) → cache_in new h ≡ cache_in old h
-SettlesCaches Ended hart old new = (h : ℕ) → cache_in new h ≡ []
-SettlesCaches (Absent page) hart old new = OthersStay hart old new × (cache_in new hart ≡ [])
-SettlesCaches Yield hart old new = OthersStay hart old new × (cache_in new hart ≡ [])
-SettlesCaches HartDone hart old new = OthersStay hart old new × (cache_in new hart ≡ [])
-SettlesCaches NoHart hart old new = OthersStay hart old new × (cache_in new hart ≡ [])
-SettlesCaches ScheduleFull hart old new = OthersStay hart old new × (cache_in new hart ≡ [])
-SettlesCaches NoMemory hart old new = OthersStay hart old new × (cache_in new hart ≡ [])
+SettlesCaches Budget hart old new = (h : ℕ) → SameCache h old new
+SettlesCaches Ended hart old new = (h : ℕ) → HoldsNone h new
+SettlesCaches (Absent page) hart old new = OthersStay hart old new × HoldsNone hart new
+SettlesCaches Yield hart old new = OthersStay hart old new × HoldsNone hart new
+SettlesCaches HartDone hart old new = OthersStay hart old new × HoldsNone hart new
+SettlesCaches NoHart hart old new = OthersStay hart old new × HoldsNone hart new
+SettlesCaches ScheduleFull hart old new = OthersStay hart old new × HoldsNone hart new
+SettlesCaches NoMemory hart old new = OthersStay hart old new × HoldsNone hart new
 
 -- the same of a whole slice: the hart's own translations may be others where it goes on
 abbrev pub LeavesCaches : {S : Type 0} → SliceStop → ℕ → PagedValue S → PagedValue S → Type 0

@@ -1,7 +1,6 @@
 //! The inner loop of a hart: its instructions one after another, on its process's memory.
 
 ghost use Rattle.std.specs.Prelude.{◌≡◌, ◌≤◌, ◌<◌, true, length};
-ghost use Rattle.rv_exec.specs.Outcomes.{UnlessDone};
 ghost use Rattle.flat_machine.specs.Process.{may_step};
 ghost use Rattle.paged_memory.specs.Paged.{memory_of};
 ghost use Rattle.paged_memory.specs.Using.{cache_in};

@@ -2,7 +2,7 @@
 
 ghost use Rattle.std.specs.Prelude.{◌≡◌, ℕ, ◌≤◌};
 ghost use Rattle.paged_memory.specs.Moving.{OnlyCaches};
-ghost use Rattle.paged_memory.specs.Using.{cache_in};
+ghost use Rattle.paged_memory.specs.Using.{SameCache};
 ghost use Rattle.paged_memory.specs.Whole.{harts_in};
 ghost use Rattle.space_core.specs.Slicing.{SettlesCaches};
 
@@ -12,13 +12,13 @@ use std::sync::ledger::Ledger;
 use swap_slots::SwapSlot;
 
 /// A cache for each hart that was started.
-#[tactic(auto, using(crate::proofs::SliceLaws::with_empty))]
+#[tactic(auto, using(paged_memory::specs::UsingLaws::added_cache))]
 pub(crate) fn add_harts<L: Ledger, S: SwapSlot>(memory: &mut PagedMemory<L, S>, harts: usize)
     requires more { harts_in memory.old ≤ harts }
     requires few { harts ≤ 8 }
     ensures memory { OnlyCaches memory.old memory.new }
     ensures harts { harts_in memory.new ≡ harts }
-    ensures caches { (h : ℕ) → cache_in memory.new h ≡ cache_in memory.old h }
+    ensures caches { (h : ℕ) → SameCache h memory.old memory.new }
 {
     for _hart in memory.harts()..harts {
         memory.add_hart();
@@ -26,7 +26,7 @@ pub(crate) fn add_harts<L: Ledger, S: SwapSlot>(memory: &mut PagedMemory<L, S>, 
 }
 
 /// Drops the translations that a hart leaves behind where it stops so.
-#[tactic(auto, using(crate::proofs::SliceLaws::all_emptied, crate::proofs::SliceLaws::own_emptied))]
+#[tactic(auto, using(paged_memory::specs::UsingLaws::emptied_each, paged_memory::specs::UsingLaws::cleared_own))]
 pub(crate) fn settle_caches<L: Ledger, S: SwapSlot>(
     memory: &mut PagedMemory<L, S>,
     hart: usize,

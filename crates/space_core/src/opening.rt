@@ -12,6 +12,7 @@ use crate::space::Space;
 use elf_image::{Image, ImagePage};
 use flat_machine::{STACK_PAGES, STACK_START};
 use paged_memory::PagedMemory;
+use shared_origins::SharedBytes;
 use std::alloc::{AllocError, Global};
 use std::sync::ledger::Ledger;
 use swap_slots::SwapSlot;
@@ -35,11 +36,11 @@ impl<L: Ledger, S: SwapSlot> Space<L, S> {
         ensures reserved { IfOk result (λ space. space.memory.reserved ≡ none_reserved) }
     {
         let memory = opening_memory(alloc, process, image.pages())?;
-        let whole = Vec::from_slice(alloc, &input)?;
-        let recorded = Recorded::new(alloc, &image, input)?;
+        let input = SharedBytes::new(alloc, input)?;
+        let recorded = Recorded::new(alloc, &image, input.share()?)?;
         Ok(Space {
             image,
-            input: whole,
+            input,
             recorded,
             memory,
         })
@@ -72,7 +73,7 @@ fn opening_memory<L: Ledger, S: SwapSlot>(
 {
     let mut memory = PagedMemory::new(alloc, process)?;
     for listed in pages {
-        let page = listed.page.copied(alloc)?;
+        let page = listed.page.share()?;
         memory.map_page(listed.number, page)?;
     }
     memory.map_zeroed(STACK_START, STACK_PAGES)?;

@@ -13,6 +13,7 @@ use elf_image::Image;
 use flat_machine::{End, KillCause, Schedule};
 use paged_memory::PagedMemory;
 use rv_exec::Outcome;
+use shared_origins::SharedBytes;
 use std::alloc::{AllocError, Global};
 use std::marker::Model;
 use std::sync::ledger::Ledger;
@@ -38,8 +39,8 @@ impl Model for Recorded {
 
 impl Recorded {
     /// What a process that is to run an image on an input begins with.
-    pub fn new(alloc: Global, image: &Image, input: Vec<u8>) -> Result<Self, AllocError>
-        ensures { IfOk result (λ recorded. recorded ≡ record { running = beside (opening image.now input.items); schedule = [] }) }
+    pub fn new(alloc: Global, image: &Image, input: SharedBytes) -> Result<Self, AllocError>
+        ensures { IfOk result (λ recorded. recorded ≡ record { running = beside (opening image.now input); schedule = [] }) }
     {
         Ok(Recorded {
             running: Running::new(alloc, image, input)?,

@@ -9,6 +9,7 @@ use env_calls::Env;
 use flat_machine::{End, KillCause, STACK_PAGES, first_break, first_registers};
 use machine_limits::MOST_HARTS;
 use rv_exec::Regs;
+use shared_origins::SharedBytes;
 use std::alloc::{AllocError, Global};
 use std::marker::Model;
 
@@ -47,8 +48,8 @@ impl Model for Running {
 impl Running {
     /// What a process that is to run an image on an input begins with.
     #[tactic(auto, unfolding(flat_machine::specs::Process::opening))]
-    pub fn new(alloc: Global, image: &Image, input: Vec<u8>) -> Result<Self, AllocError>
-        ensures { IfOk result (λ running. running ≡ beside (opening image.now input.items)) }
+    pub fn new(alloc: Global, image: &Image, input: SharedBytes) -> Result<Self, AllocError>
+        ensures { IfOk result (λ running. running ≡ beside (opening image.now input)) }
     {
         let mut harts = Vec::with_capacity(alloc, MOST_HARTS)?;
         harts.push_reserved(first_registers(image.entry()));

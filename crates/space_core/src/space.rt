@@ -12,6 +12,7 @@ use flat_machine::{End, KillCause, Schedule};
 use page_store::{LeaveRefusal, PageState};
 use paged_memory::{HeldPages, PagedMemory};
 use rv_exec::Regs;
+use shared_origins::SharedBytes;
 use std::marker::Model;
 use std::sync::ledger::Ledger;
 use swap_slots::SwapSlot;
@@ -20,7 +21,7 @@ use swap_slots::SwapSlot;
 #[derive(Drop)]
 pub struct Space<L: Ledger, S: SwapSlot> {
     pub(crate) image: Image,
-    pub(crate) input: Vec<u8>,
+    pub(crate) input: SharedBytes,
     pub(crate) recorded: Recorded,
     pub(crate) memory: PagedMemory<L, S>,
 }
@@ -30,9 +31,9 @@ impl<L: Ledger, S: SwapSlot> Model for Space<L, S> {
 
     ghost Value = { SpaceValue S };
 
-    ghost view = { λ space. record { image = space.image; input = space.input.items; running = space.recorded.running; schedule = space.recorded.schedule; memory = space.memory } };
+    ghost view = { λ space. record { image = space.image; input = space.input; running = space.recorded.running; schedule = space.recorded.schedule; memory = space.memory } };
 
-    ghost invariant = { λ space. IsSpace S.content S.honest (record { image = space.image; input = space.input.items; running = space.recorded.running; schedule = space.recorded.schedule; memory = space.memory }) };
+    ghost invariant = { λ space. IsSpace S.content S.honest (record { image = space.image; input = space.input; running = space.recorded.running; schedule = space.recorded.schedule; memory = space.memory }) };
 }
 
 impl<L: Ledger, S: SwapSlot> Space<L, S> {

@@ -14,9 +14,9 @@ fill-requires-clause-sound c = subst (λ (l : List ProgramHeader). All (IsSoundS
 pub returns : goal.returns
 unfolding loaded_page
 returns c =
-    let rights = c.fill.ensures.rights ∙ ap (λ (p : Page). p.rights) c.in_ok-page.ensures ∙ c.given_rights.ensures ∙ ap given_rights c.touching-run.ensures ∙ rights_of_run c.args.loaded.now c.args.number in
+    let rights = c.fill.ensures.rights ∙ ap (λ (p : Page). p.rights) c.in_ok-filled.ensures ∙ c.given_rights.ensures ∙ ap given_rights c.touching-run.ensures ∙ rights_of_run c.args.loaded.now c.args.number in
     let bytes = c.fill.ensures.bytes ∙ ap (λ l. bytes_between (loaded_byte c.args.file.now l) (4096 * c.args.number) 4096) c.touching-run.ensures ∙ bytes_of_run c.args.file.now (length c.args.file.now) c.args.loaded.now c.args.number c.requires.sound in
     λ i. record {
       number = c.args.number;
-      page = record { rights = rights i; bytes = bytes i };
+      page = (c.in_ok-page.ensures ∙ (λ j. record { rights = rights j; bytes = bytes j })) i;
     }

@@ -18,7 +18,7 @@ loop-word-preserved c = record {
 }
 
 pub returns : goal.returns
-returns c = λ i. record {
+returns c = c.in_ok-new.ensures ∙ (λ i. record {
   rights = c.loop-word.invariant.rights i;
   bytes = words_written c.args.words.now c.loop-word.page.bytes c.loop-word.word-index (omega arith) (omega arith) c.loop-word.invariant.bytes i;
-}
+})

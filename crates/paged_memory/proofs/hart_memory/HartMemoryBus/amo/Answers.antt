@@ -1,29 +1,35 @@
-use Rattle.std.proofs.Common.{refl}
+use Rattle.std.proofs.Common.{arith, refl, sym, ap, ◌∙◌, subst, Ok, Err, ℕ}
 use Rattle.page_memory.specs.declared.words.Access.TheVariants.{Store}
 use Rattle.page_memory.specs.Memory.{replaced}
+use Rattle.page_memory.specs.MemoryLaws.{replaced_of}
+use Rattle.page_memory.specs.Words.{page_number}
 use Rattle.rv_exec.specs.Amo.{amo_result}
-use Rattle.rv_exec.specs.Answers.{with_answer}
-use Rattle.paged_memory.specs.Paged.{PagedValue, memory_of}
-use Rattle.paged_memory.proofs.Since.{seen_written}
-use Rattle.paged_memory.proofs.Within.{access_within, answers_within, bounds_within_with, refused_within}
+use Rattle.paged_memory.specs.Access.{LacksPage}
+use Rattle.paged_memory.specs.Accesses.{AnswersAccess, Writes}
+use Rattle.paged_memory.specs.Paged.{PagedValue, memory_in, memory_of}
+use Rattle.paged_memory.proofs.ReservationLaws.{replace_refused}
 use Rattle.paged_memory.proofs.hart_memory.HartMemoryBus.amo.Goals as goal
 
-pub returns-clause-kept : goal.returns-clause-kept
-returns-clause-kept g c =
-    let after : PagedValue _ = record { process = c.memory.inside.process; pages = c.amo.new.pages; tables = c.amo.new.tables; caches = c.amo.new.caches; reserved = c.amo.new.reservations } in
-    (refl, refl, access_within c.memory.view_is after c.args.self.now.hart Store refl c.amo.ensures.bare c.amo.ensures.kept)
+pub returns-in-Ok-clause-answer : goal.returns-in-Ok-clause-answer
+returns-in-Ok-clause-answer g c =
+    let after : PagedValue _ = record { process = c.memory.inside.process; pages = c.amo.new.pages; tables = c.amo.new.tables; caches = c.amo.new.caches; reserved = c.end.new.self } in
+    subst (λ (m : PagedValue _). AnswersAccess c.args.self.now.hart Store m after c.args.address (replaced (memory_of g.S.SwapSlot.content m) (λ old. amo_result c.args.operation old c.args.operand) c.args.address) (Ok (c.in-Ok.old, memory_of g.S.SwapSlot.content after))) c.memory.view_is (
+      replaced_of (memory_in g.S.SwapSlot.content c.memory.inside.pages c.memory.inside.reservations) (λ old. amo_result c.args.operation old c.args.operand) c.args.address c.in-Ok.old _ c.in-Ok.ensures.answer.0
+          ∙ ap (λ r. Ok (c.in-Ok.old, memory_in g.S.SwapSlot.content c.amo.new.pages r)) (sym c.end.ensures),
+      c.in-Ok.ensures.answer.1,
+    )
 
-pub returns-clause-bound : goal.returns-clause-bound
-returns-clause-bound g c =
-    let after : PagedValue _ = record { process = c.memory.inside.process; pages = c.amo.new.pages; tables = c.amo.new.tables; caches = c.amo.new.caches; reserved = c.amo.new.reservations } in
-    bounds_within_with c.memory.view_is after c.args.self.now.hart Store c.args.address (λ m. replaced (memory_of g.S.SwapSlot.content m) (λ old. amo_result c.args.operation old c.args.operand) c.args.address) (λ old. (old, memory_of g.S.SwapSlot.content after)) c.amo.result c.amo.ensures.answer c.amo.ensures.entries c.amo.ensures.unmarked
+pub returns-in-Err-clause-answer : goal.returns-in-Err-clause-answer
+returns-in-Err-clause-answer g c =
+    let after : PagedValue _ = record { process = c.memory.inside.process; pages = c.amo.new.pages; tables = c.amo.new.tables; caches = c.amo.new.caches; reserved = c.memory.inside.reservations } in
+    subst (λ (m : PagedValue _). AnswersAccess c.args.self.now.hart Store m after c.args.address (replaced (memory_of g.S.SwapSlot.content m) (λ old. amo_result c.args.operation old c.args.operand) c.args.address) (Err c.in-Err.refusal)) c.memory.view_is
+    (replace_refused (LacksPage c.memory.inside.pages) (memory_in g.S.SwapSlot.content c.memory.inside.pages c.memory.inside.reservations) c.args.address c.in-Err.refusal (λ old. amo_result c.args.operation old c.args.operand) c.in-Err.ensures.answer)
 
-pub returns-clause-answer : goal.returns-clause-answer
-returns-clause-answer g c =
-    let after : PagedValue _ = record { process = c.memory.inside.process; pages = c.amo.new.pages; tables = c.amo.new.tables; caches = c.amo.new.caches; reserved = c.amo.new.reservations } in
-    answers_within c.memory.view_is after c.args.self.now.hart Store g.O.Opening.opening c.args.self.now.in_turn (seen_written c.memory.inside.pages after.pages c.amo.ensures.bare) c.args.address (λ m. replaced (memory_of g.S.SwapSlot.content m) (λ old. amo_result c.args.operation old c.args.operand) c.args.address) (with_answer (λ old. (old, memory_of g.S.SwapSlot.content after)) c.amo.result) c.ranges.address.fits c.amo.ensures.answer
-
-pub returns-clause-refused : goal.returns-clause-refused
-returns-clause-refused g c =
-    let after : PagedValue _ = record { process = c.memory.inside.process; pages = c.amo.new.pages; tables = c.amo.new.tables; caches = c.amo.new.caches; reserved = c.amo.new.reservations } in
-    refused_within c.memory.view_is after c.args.self.now.hart Store g.S.SwapSlot.content c.amo.result c.amo.ensures.refused c.amo.ensures.reserved
+pub returns-in-Err-clause-writes : goal.returns-in-Err-clause-writes
+returns-in-Err-clause-writes g c =
+    let after : PagedValue _ = record { process = c.memory.inside.process; pages = c.amo.new.pages; tables = c.amo.new.tables; caches = c.amo.new.caches; reserved = c.memory.inside.reservations } in
+    subst (λ (m : PagedValue _). Writes {A = ℕ} c.args.self.now.hart Store (page_number c.args.address) (Err c.in-Err.refusal) m after) c.memory.view_is (record {
+      accesses = record { small = (let fits = c.ranges.address.fits in omega arith); process = refl; bare = c.in-Err.ensures.bare; held = c.in-Err.ensures.held; kept = c.in-Err.ensures.kept; entries = c.in-Err.ensures.entries; unmarked = c.in-Err.ensures.unmarked };
+      pages = c.in-Err.ensures.refused;
+      reserved = refl;
+    })

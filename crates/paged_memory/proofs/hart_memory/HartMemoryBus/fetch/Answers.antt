@@ -1,16 +1,18 @@
-use Rattle.std.proofs.Common.{refl}
+use Rattle.std.proofs.Common.{arith, refl, sym, subst}
 use Rattle.page_memory.specs.declared.words.Access.TheVariants.{Fetch}
-use Rattle.page_memory.specs.Memory.{fetched}
-use Rattle.paged_memory.specs.Paged.{PagedValue, memory_of}
-use Rattle.paged_memory.proofs.Within.{answers_within, bounds_within}
+use Rattle.page_memory.specs.Words.{page_number}
+use Rattle.paged_memory.specs.Accesses.{Reads}
+use Rattle.paged_memory.specs.Paged.{PagedValue}
+use Rattle.paged_memory.specs.Replies.{loaded_by}
+use Rattle.paged_memory.proofs.ReservationLaws.{bare_itself}
 use Rattle.paged_memory.proofs.hart_memory.HartMemoryBus.fetch.Goals as goal
 
-pub returns-clause-bound : goal.returns-clause-bound
-returns-clause-bound g c =
-    let after : PagedValue _ = record { process = c.memory.inside.process; pages = c.memory.inside.pages; tables = c.fetch.new.tables; caches = c.fetch.new.caches; reserved = c.memory.inside.reservations } in
-    bounds_within c.memory.view_is after c.args.self.now.hart Fetch c.args.address (λ m. fetched (memory_of g.S.SwapSlot.content m) c.args.address) c.fetch.result c.fetch.ensures.answer c.fetch.ensures.entries c.fetch.ensures.unmarked
-
-pub returns-clause-answer : goal.returns-clause-answer
-returns-clause-answer g c =
-    let after : PagedValue _ = record { process = c.memory.inside.process; pages = c.memory.inside.pages; tables = c.fetch.new.tables; caches = c.fetch.new.caches; reserved = c.memory.inside.reservations } in
-    answers_within c.memory.view_is after c.args.self.now.hart Fetch g.O.Opening.opening c.args.self.now.in_turn (λ page. refl) c.args.address (λ m. fetched (memory_of g.S.SwapSlot.content m) c.args.address) c.fetch.result c.ranges.address.fits c.fetch.ensures.answer
+pub returns-in-None-clause-reads : goal.returns-in-None-clause-reads
+returns-in-None-clause-reads g c =
+    let after : PagedValue _ = record { process = c.memory.inside.process; pages = c.memory.inside.pages; tables = c.fetch_anew.new.tables; caches = c.fetch_anew.new.caches; reserved = c.memory.inside.reservations } in
+    subst (λ r. Reads c.args.self.now.hart Fetch (page_number c.args.address) r c.args.self.now.memory.now after) (sym c.answer.ensures)
+    (subst (λ (m : PagedValue _). Reads c.args.self.now.hart Fetch (page_number c.args.address) (loaded_by c.fetch_anew.result) m after) c.memory.view_is (record {
+      accesses = record { small = (let fits = c.ranges.address.fits in omega arith); process = refl; bare = bare_itself c.memory.inside.pages; held = c.fetch_anew.ensures.held; kept = c.fetch_anew.ensures.kept; entries = c.fetch_anew.ensures.entries; unmarked = c.fetch_anew.ensures.unmarked };
+      pages = refl;
+      reserved = refl;
+    }))

@@ -1,26 +1,28 @@
-use Rattle.std.proofs.Common.{refl, [], subst}
+use Rattle.std.proofs.Common.{sym, ap, ◌∙◌, subst}
 use Rattle.page_memory.specs.declared.words.Access.TheVariants.{Load}
-use Rattle.page_memory.specs.Memory.{loaded_reserved}
-use Rattle.rv_exec.specs.Answers.{with_answer}
-use Rattle.rv_exec.specs.AccessLaws.{reserving_page}
-use Rattle.rv_exec.specs.Bounds.{Bounds}
-use Rattle.paged_memory.specs.HartMemory.{MarksWithin}
-use Rattle.paged_memory.specs.Paged.{PagedValue, memory_of}
-use Rattle.paged_memory.proofs.Within.{answers_within, bounds_within_with, unreserved_within}
+use Rattle.page_memory.specs.MemoryLaws.{reserved_of}
+use Rattle.page_memory.specs.Reservations.{with_reserved}
+use Rattle.page_memory.specs.Words.{page_number}
+use Rattle.paged_memory.specs.Access.{LacksPage, MarksUse, cache_of}
+use Rattle.paged_memory.specs.Paged.{PagedValue, memory_of, flat_pages}
+use Rattle.paged_memory.proofs.ReservationLaws.{reserve_refused}
 use Rattle.paged_memory.proofs.hart_memory.HartMemoryBus.load_reserved.Goals as goal
 
-pub returns-clause-bound : goal.returns-clause-bound
-returns-clause-bound g c =
-    let after : PagedValue _ = record { process = c.memory.inside.process; pages = c.memory.inside.pages; tables = c.load_reserved.new.tables; caches = c.load_reserved.new.caches; reserved = c.load_reserved.new.reservations } in
-    subst (λ pages. Bounds (MarksWithin c.args.self.now.memory.now.tables) (MarksWithin after.tables) pages []) (reserving_page (memory_of g.S.SwapSlot.content c.args.self.now.memory.now) c.args.hart c.args.address)
-    (bounds_within_with c.memory.view_is after c.args.self.now.hart Load c.args.address (λ m. loaded_reserved (memory_of g.S.SwapSlot.content m) c.args.hart c.args.address) (λ word. (word, memory_of g.S.SwapSlot.content after)) c.load_reserved.result c.load_reserved.ensures.answer c.load_reserved.ensures.entries c.load_reserved.ensures.unmarked)
+pub returns-in-Ok-clause-answer : goal.returns-in-Ok-clause-answer
+returns-in-Ok-clause-answer g c =
+    let before : PagedValue _ = c.args.self.now.memory.now in
+    let loaded : PagedValue _ = c.load.new.self.memory.now in
+    let reads = c.in-Ok.ensures.reads in (
+      reserved_of (memory_of g.S.SwapSlot.content before) c.args.hart c.args.address c.in-Ok.word (flat_pages g.S.SwapSlot.content c.memory.inside.pages) c.reserve.new.self c.in-Ok.ensures.answer.0
+          (ap (λ (m : PagedValue _). flat_pages g.S.SwapSlot.content m.pages) c.memory.view_is ∙ ap (flat_pages g.S.SwapSlot.content) reads.pages)
+          (c.reserve.ensures ∙ ap (λ (m : PagedValue _). with_reserved c.args.hart c.args.address m.reserved) c.memory.view_is ∙ ap (with_reserved c.args.hart c.args.address) reads.reserved),
+      (
+        c.in-Ok.ensures.answer.1.0,
+        subst (λ (m : PagedValue _). MarksUse before.pages m.tables (cache_of before.caches c.args.self.now.hart) Load (page_number c.args.address)) (sym c.memory.view_is) c.in-Ok.ensures.answer.1.1,
+      ),
+    )
 
-pub returns-clause-answer : goal.returns-clause-answer
-returns-clause-answer g c =
-    let after : PagedValue _ = record { process = c.memory.inside.process; pages = c.memory.inside.pages; tables = c.load_reserved.new.tables; caches = c.load_reserved.new.caches; reserved = c.load_reserved.new.reservations } in
-    answers_within c.memory.view_is after c.args.self.now.hart Load g.O.Opening.opening c.args.self.now.in_turn (λ page. refl) c.args.address (λ m. loaded_reserved (memory_of g.S.SwapSlot.content m) c.args.hart c.args.address) (with_answer (λ word. (word, memory_of g.S.SwapSlot.content after)) c.load_reserved.result) c.ranges.address.fits c.load_reserved.ensures.answer
-
-pub returns-clause-refused : goal.returns-clause-refused
-returns-clause-refused g c =
-    let after : PagedValue _ = record { process = c.memory.inside.process; pages = c.memory.inside.pages; tables = c.load_reserved.new.tables; caches = c.load_reserved.new.caches; reserved = c.load_reserved.new.reservations } in
-    unreserved_within c.memory.view_is after c.args.self.now.hart Load g.S.SwapSlot.content c.load_reserved.result refl c.load_reserved.ensures.reserved
+pub returns-in-Err-clause-answer : goal.returns-in-Err-clause-answer
+returns-in-Err-clause-answer g c =
+    let before : PagedValue _ = c.args.self.now.memory.now in
+    reserve_refused (LacksPage before.pages) (memory_of g.S.SwapSlot.content before) c.args.address c.in-Err.refusal c.args.hart c.in-Err.ensures.answer

@@ -1,32 +1,59 @@
-use Rattle.std.proofs.Common.{refl, subst}
+use Rattle.std.proofs.Common.{arith, refl, sym, ap, ◌∙◌, subst, true, false, Ok, Err, Bool}
 use Rattle.page_memory.specs.declared.words.Access.TheVariants.{Store}
 use Rattle.page_memory.specs.Memory.{stored_conditionally}
-use Rattle.rv_exec.specs.Answers.{with_answer}
-use Rattle.rv_exec.specs.AccessLaws.{conditional_page}
-use Rattle.rv_exec.specs.Bounds.{Bounds}
-use Rattle.paged_memory.specs.HartMemory.{MarksWithin}
-use Rattle.paged_memory.specs.Paged.{PagedValue, memory_of}
-use Rattle.paged_memory.proofs.Since.{seen_written}
-use Rattle.paged_memory.proofs.Within.{access_within, answers_within, bounds_within_with, refused_within}
+use Rattle.page_memory.specs.MemoryLaws.{conditional_of, untested}
+use Rattle.page_memory.specs.Reservations.{left_by}
+use Rattle.page_memory.specs.Words.{page_number}
+use Rattle.paged_memory.specs.Access.{LacksPage}
+use Rattle.paged_memory.specs.Accesses.{AnswersAccess, Writes}
+use Rattle.paged_memory.specs.Paged.{PagedValue, memory_in, memory_of}
+use Rattle.paged_memory.proofs.ReservationLaws.{conditional_refused, untested_refused, bare_itself}
 use Rattle.paged_memory.proofs.hart_memory.HartMemoryBus.store_conditional.Goals as goal
 
-pub returns-clause-kept : goal.returns-clause-kept
-returns-clause-kept g c =
-    let after : PagedValue _ = record { process = c.memory.inside.process; pages = c.store_conditional.new.pages; tables = c.store_conditional.new.tables; caches = c.store_conditional.new.caches; reserved = c.store_conditional.new.reservations } in
-    (refl, refl, access_within c.memory.view_is after c.args.self.now.hart Store refl c.store_conditional.ensures.bare c.store_conditional.ensures.kept)
+pub returns-in-Ok-clause-answer : goal.returns-in-Ok-clause-answer
+returns-in-Ok-clause-answer g c =
+    let after : PagedValue _ = record { process = c.memory.inside.process; pages = c.store.new.pages; tables = c.store.new.tables; caches = c.store.new.caches; reserved = c.end.new.self } in
+    subst (λ (m : PagedValue _). AnswersAccess c.args.self.now.hart Store m after c.args.address (stored_conditionally (memory_of g.S.SwapSlot.content m) c.args.hart c.args.address c.args.word) (Ok (true, memory_of g.S.SwapSlot.content after))) c.memory.view_is (
+      conditional_of (memory_in g.S.SwapSlot.content c.memory.inside.pages c.memory.inside.reservations) c.args.hart c.args.address c.args.word true _ (sym c.has.ensures ∙ c.if-has.true) c.in-Ok.ensures.answer.0
+          ∙ ap (λ r. Ok (true, memory_in g.S.SwapSlot.content c.store.new.pages r)) (ap (λ r. left_by c.args.address 4 r) (sym c.release.ensures) ∙ sym c.end.ensures),
+      c.in-Ok.ensures.answer.1,
+    )
 
-pub returns-clause-bound : goal.returns-clause-bound
-returns-clause-bound g c =
-    let after : PagedValue _ = record { process = c.memory.inside.process; pages = c.store_conditional.new.pages; tables = c.store_conditional.new.tables; caches = c.store_conditional.new.caches; reserved = c.store_conditional.new.reservations } in
-    subst (λ pages. Bounds (MarksWithin c.args.self.now.memory.now.tables) (MarksWithin after.tables) pages pages) (conditional_page (memory_of g.S.SwapSlot.content c.args.self.now.memory.now) c.args.hart c.args.address c.args.word)
-    (bounds_within_with c.memory.view_is after c.args.self.now.hart Store c.args.address (λ m. stored_conditionally (memory_of g.S.SwapSlot.content m) c.args.hart c.args.address c.args.word) (λ is_stored. (is_stored, memory_of g.S.SwapSlot.content after)) c.store_conditional.result c.store_conditional.ensures.answer c.store_conditional.ensures.entries c.store_conditional.ensures.unmarked)
+pub returns-in-Err-clause-answer : goal.returns-in-Err-clause-answer
+returns-in-Err-clause-answer g c =
+    let after : PagedValue _ = record { process = c.memory.inside.process; pages = c.store.new.pages; tables = c.store.new.tables; caches = c.store.new.caches; reserved = c.memory.inside.reservations } in
+    subst (λ (m : PagedValue _). AnswersAccess c.args.self.now.hart Store m after c.args.address (stored_conditionally (memory_of g.S.SwapSlot.content m) c.args.hart c.args.address c.args.word) (Err c.in-Err.refusal)) c.memory.view_is
+    (conditional_refused (LacksPage c.memory.inside.pages) (memory_in g.S.SwapSlot.content c.memory.inside.pages c.memory.inside.reservations) c.args.address c.in-Err.refusal c.args.hart c.args.word c.in-Err.ensures.answer)
 
-pub returns-clause-answer : goal.returns-clause-answer
-returns-clause-answer g c =
-    let after : PagedValue _ = record { process = c.memory.inside.process; pages = c.store_conditional.new.pages; tables = c.store_conditional.new.tables; caches = c.store_conditional.new.caches; reserved = c.store_conditional.new.reservations } in
-    answers_within c.memory.view_is after c.args.self.now.hart Store g.O.Opening.opening c.args.self.now.in_turn (seen_written c.memory.inside.pages after.pages c.store_conditional.ensures.bare) c.args.address (λ m. stored_conditionally (memory_of g.S.SwapSlot.content m) c.args.hart c.args.address c.args.word) (with_answer (λ is_stored. (is_stored, memory_of g.S.SwapSlot.content after)) c.store_conditional.result) c.ranges.address.fits c.store_conditional.ensures.answer
+pub returns-in-Err-clause-writes : goal.returns-in-Err-clause-writes
+returns-in-Err-clause-writes g c =
+    let after : PagedValue _ = record { process = c.memory.inside.process; pages = c.store.new.pages; tables = c.store.new.tables; caches = c.store.new.caches; reserved = c.memory.inside.reservations } in
+    subst (λ (m : PagedValue _). Writes {A = Bool} c.args.self.now.hart Store (page_number c.args.address) (Err c.in-Err.refusal) m after) c.memory.view_is (record {
+      accesses = record { small = (let fits = c.ranges.address.fits in omega arith); process = refl; bare = c.in-Err.ensures.bare; held = c.in-Err.ensures.held; kept = c.in-Err.ensures.kept; entries = c.in-Err.ensures.entries; unmarked = c.in-Err.ensures.unmarked };
+      pages = c.in-Err.ensures.refused;
+      reserved = refl;
+    })
 
-pub returns-clause-refused : goal.returns-clause-refused
-returns-clause-refused g c =
-    let after : PagedValue _ = record { process = c.memory.inside.process; pages = c.store_conditional.new.pages; tables = c.store_conditional.new.tables; caches = c.store_conditional.new.caches; reserved = c.store_conditional.new.reservations } in
-    refused_within c.memory.view_is after c.args.self.now.hart Store g.S.SwapSlot.content c.store_conditional.result c.store_conditional.ensures.refused c.store_conditional.ensures.reserved
+pub returns-in-Ok-load_to_replace-clause-answer : goal.returns-in-Ok-load_to_replace-clause-answer
+returns-in-Ok-load_to_replace-clause-answer g c =
+    let after : PagedValue _ = record { process = c.memory.inside.process; pages = c.memory.inside.pages; tables = c.load_to_replace.new.tables; caches = c.load_to_replace.new.caches; reserved = c.release-in-Ok-load_to_replace.new.self } in
+    subst (λ (m : PagedValue _). AnswersAccess c.args.self.now.hart Store m after c.args.address (stored_conditionally (memory_of g.S.SwapSlot.content m) c.args.hart c.args.address c.args.word) (Ok (false, memory_of g.S.SwapSlot.content after))) c.memory.view_is (
+      untested (memory_in g.S.SwapSlot.content c.memory.inside.pages c.memory.inside.reservations) c.args.hart c.args.address c.args.word _ c.in-Ok-load_to_replace.ensures.answer.0 (sym c.has.ensures ∙ c.if-has.false)
+          ∙ ap (λ r. Ok (false, memory_in g.S.SwapSlot.content c.memory.inside.pages r)) (sym c.release-in-Ok-load_to_replace.ensures),
+      c.in-Ok-load_to_replace.ensures.answer.1,
+    )
+
+pub returns-in-Err-load_to_replace-clause-answer : goal.returns-in-Err-load_to_replace-clause-answer
+returns-in-Err-load_to_replace-clause-answer g c =
+    let after : PagedValue _ = record { process = c.memory.inside.process; pages = c.memory.inside.pages; tables = c.load_to_replace.new.tables; caches = c.load_to_replace.new.caches; reserved = c.memory.inside.reservations } in
+    subst (λ (m : PagedValue _). AnswersAccess c.args.self.now.hart Store m after c.args.address (stored_conditionally (memory_of g.S.SwapSlot.content m) c.args.hart c.args.address c.args.word) (Err c.in-Err-load_to_replace.refusal)) c.memory.view_is
+    (untested_refused (LacksPage c.memory.inside.pages) (memory_in g.S.SwapSlot.content c.memory.inside.pages c.memory.inside.reservations) c.args.address c.in-Err-load_to_replace.refusal c.args.hart c.args.word c.in-Err-load_to_replace.ensures.answer)
+
+pub returns-in-Err-load_to_replace-clause-writes : goal.returns-in-Err-load_to_replace-clause-writes
+returns-in-Err-load_to_replace-clause-writes g c =
+    let after : PagedValue _ = record { process = c.memory.inside.process; pages = c.memory.inside.pages; tables = c.load_to_replace.new.tables; caches = c.load_to_replace.new.caches; reserved = c.memory.inside.reservations } in
+    subst (λ (m : PagedValue _). Writes {A = Bool} c.args.self.now.hart Store (page_number c.args.address) (Err c.in-Err-load_to_replace.refusal) m after) c.memory.view_is (record {
+      accesses = record { small = (let fits = c.ranges.address.fits in omega arith); process = refl; bare = bare_itself c.memory.inside.pages; held = c.in-Err-load_to_replace.ensures.held; kept = c.in-Err-load_to_replace.ensures.kept; entries = c.in-Err-load_to_replace.ensures.entries; unmarked = c.in-Err-load_to_replace.ensures.unmarked };
+      pages = refl;
+      reserved = refl;
+    })

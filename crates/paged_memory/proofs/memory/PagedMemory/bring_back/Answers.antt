@@ -1,4 +1,4 @@
-use Rattle.std.proofs.Common.{◌≡◌, ap, subst}
+use Rattle.std.proofs.Common.{◌≡◌, ap, refl, subst}
 use Rattle.paged_memory.specs.Paged.{memory_in, memory_of}
 use Rattle.paged_memory.proofs.ReturningLaws.{holds_returned, memory_returned, plain, entry_plain}
 use Rattle.paged_memory.proofs.memory.PagedMemory.bring_back.Goals as goal
@@ -11,7 +11,14 @@ invariant_of-self g c =
 pub returns-clause-ok : goal.returns-clause-ok
 returns-clause-ok g c =
     let told = c.bring_back_page-frame.ensures.back in
-    rw (← c.self.view_is) (record { mark = c.bring_back_page-frame.result.changed; page = plain told; entry = entry_plain told c.self.inside.tables c.remap.new.self c.remap.ensures.entries })
+    rw (← c.self.view_is) (record {
+      small = c.requires;
+      page = record { mark = c.bring_back_page-frame.result.changed; page = plain told; entry = entry_plain told c.self.inside.tables c.remap.new.self c.remap.ensures.entries };
+      tabled = c.remap.ensures.tables;
+      process = refl;
+      caches = refl;
+      reserved = refl;
+    })
 
 pub returns-clause-memory : goal.returns-clause-memory
 returns-clause-memory g c =

@@ -1,4 +1,4 @@
-use Rattle.std.proofs.Common.{◌≡◌, ap, sym, ◌∙◌, subst}
+use Rattle.std.proofs.Common.{ap, ◌∙◌, subst}
 use Rattle.flat_machine.specs.Process.{opening, opening_pages}
 use Rattle.space_core.specs.RunningValue.{RecordedValue, beside}
 use Rattle.paged_memory.specs.Fresh.{HasFresh}
@@ -7,9 +7,8 @@ use Rattle.space_core.proofs.space.Space.new.Goals as goal
 
 pub invariant_of-result : goal.invariant_of-result
 invariant_of-result g c =
-    let whole : c.args.input.items ≡ c.in_ok-whole.whole.items = sym (c.in_ok-whole.ensures.items ∙ c.deref.ensures.value) in
     space_opened g.S.SwapSlot.content g.S.SwapSlot.honest _
-    (ap (λ (r : RecordedValue). r.running) c.in_ok-recorded.ensures ∙ ap (λ l. beside (opening c.args.image l)) whole)
+    (ap (λ (r : RecordedValue). r.running) c.in_ok-recorded.ensures ∙ ap (λ l. beside (opening c.args.image l)) c.in_ok-share.ensures)
     (ap (λ (r : RecordedValue). r.schedule) c.in_ok-recorded.ensures)
     (subst (λ l. HasFresh (opening_pages l) c.in_ok-memory.memory) c.pages.ensures.pages c.in_ok-memory.ensures.pages)
     c.in_ok-memory.ensures.caches

@@ -6,7 +6,7 @@ use Rattle.space_core.proofs.space.Space.refuse.Given.{Over}
 use Rattle.space_core.proofs.space.Space.refuse.Goals as goal
 
 abbrev inside : (g : Over) (c : goal.After-coherent g) → SpaceValue g.row.S.Denot
-inside g c = record { image = c.self.inside.image; input = c.self.inside.input.items; running = c.self.inside.recorded.running; schedule = c.self.inside.recorded.schedule; memory = c.self.inside.memory }
+inside g c = record { image = c.self.inside.image; input = c.self.inside.input; running = c.self.inside.recorded.running; schedule = c.self.inside.recorded.schedule; memory = c.self.inside.memory }
 
 left : (g : Over) (c : goal.After-coherent g) → LeftOne g.S.SwapSlot.content g.S.SwapSlot.honest c.args.hart 0 c.stop_refused-stop.result (inside g c) (record (inside g c) { memory = c.settle_caches.new.memory })
 left g c =

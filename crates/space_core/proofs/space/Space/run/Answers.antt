@@ -14,7 +14,7 @@ use Rattle.space_core.proofs.space.Space.run.Goals as goal
 
 pub add_harts-requires-clause-more : goal.add_harts-requires-clause-more
 add_harts-requires-clause-more g c =
-    let inside : SpaceValue g.row.S.Denot = record { image = c.self.inside.image; input = c.self.inside.input.items; running = c.self.inside.recorded.running; schedule = c.self.inside.recorded.schedule; memory = c.self.inside.memory } in
+    let inside : SpaceValue g.row.S.Denot = record { image = c.self.inside.image; input = c.self.inside.input; running = c.self.inside.recorded.running; schedule = c.self.inside.recorded.schedule; memory = c.self.inside.memory } in
     let more = no_fewer_harts g.S.SwapSlot.content g.S.SwapSlot.honest c.args.hart c.run-steps.result.ran c.run-steps.result.last c.in-Some.slice inside c.run-steps.new.self c.run-steps.new.memory c.in-Some.is c.self.invariant.cached c.run-steps.ensures.runs in
     let count = c.started.ensures.count in
     let same = ap (λ (r : RunningValue). length r.harts) c.running.ensures in
@@ -23,10 +23,10 @@ add_harts-requires-clause-more g c =
 -- all were done
 
 abbrev whole : (g : Over) (c : In_default g) → SpaceValue g.row.S.Denot
-whole g c = record { image = c.self.inside.image; input = c.self.inside.input.items; running = c.self.inside.recorded.running; schedule = c.self.inside.recorded.schedule; memory = c.self.inside.memory }
+whole g c = record { image = c.self.inside.image; input = c.self.inside.input; running = c.self.inside.recorded.running; schedule = c.self.inside.recorded.schedule; memory = c.self.inside.memory }
 
 abbrev done : (g : Over) (c : In_default g) → SpaceValue g.row.S.Denot
-done g c = record { image = c.self.inside.image; input = c.self.inside.input.items; running = c.run-steps.new.self.running; schedule = c.run-steps.new.self.schedule; memory = c.run-steps.new.memory }
+done g c = record { image = c.self.inside.image; input = c.self.inside.input; running = c.run-steps.new.self.running; schedule = c.run-steps.new.self.schedule; memory = c.run-steps.new.memory }
 
 all : (g : Over) (c : In_default g) → Left g.S.SwapSlot.content g.S.SwapSlot.honest c.args.hart c.run-steps.result.ran (option_map (λ slice. (slice.ran, slice.stop)) c.run-steps.result.last) (whole g c) (done g c)
 all g c =
@@ -44,10 +44,10 @@ returns-in_default-clause-each g c =
 -- the last one ended
 
 abbrev inside : (g : Over) (c : goal.After-coherent g) → SpaceValue g.row.S.Denot
-inside g c = record { image = c.self.inside.image; input = c.self.inside.input.items; running = c.self.inside.recorded.running; schedule = c.self.inside.recorded.schedule; memory = c.self.inside.memory }
+inside g c = record { image = c.self.inside.image; input = c.self.inside.input; running = c.self.inside.recorded.running; schedule = c.self.inside.recorded.schedule; memory = c.self.inside.memory }
 
 abbrev left : (g : Over) (c : goal.After-coherent g) → SpaceValue g.row.S.Denot
-left g c = record { image = c.self.inside.image; input = c.self.inside.input.items; running = c.run-steps.new.self.running; schedule = c.run-steps.new.self.schedule; memory = c.settle_caches.new.memory }
+left g c = record { image = c.self.inside.image; input = c.self.inside.input; running = c.run-steps.new.self.running; schedule = c.run-steps.new.self.schedule; memory = c.settle_caches.new.memory }
 
 last : (g : Over) (c : goal.After-coherent g) → Left g.S.SwapSlot.content g.S.SwapSlot.honest c.args.hart c.run-steps.result.ran (option_map (λ slice. (slice.ran, slice.stop)) c.run-steps.result.last) (inside g c) (left g c)
 last g c =

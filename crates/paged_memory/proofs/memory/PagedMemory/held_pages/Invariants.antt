@@ -1,11 +1,11 @@
 use Rattle.std.proofs.Common.{◌≡◌, ◌≤◌, ◌-◌, ◌^◌}
 use Rattle.paged_memory.proofs.HeldLaws.{residents_to, frames_to}
-use Rattle.paged_memory.proofs.counting.held_in.Given as goal
+use Rattle.paged_memory.proofs.memory.PagedMemory.held_pages.Given as goal
 
 abbrev pub invariant-pages : goal.invariant-pages
 invariant-pages g l = record {
-  resident : l.held.resident ≡ residents_to l.pages l.from;
-  framed : l.held.framed ≡ frames_to l.pages l.from;
+  resident : l.held.resident ≡ residents_to l.self-inside.pages l.from;
+  framed : l.held.framed ≡ frames_to l.self-inside.pages l.from;
   few_resident : l.held.resident ≤ l.from;
   few_framed : l.held.framed ≤ l.from;
   small : l.from ≤ 2 ^ 20;

@@ -1,0 +1,65 @@
+-- What an access of a hart does to its process's memory is what a bus does.
+use Rattle.std.specs.Prelude.{◌≡◌, ℕ, List, Result, Ok, Err, OnErr}
+use Rattle.std.proofs.Common.{ap, ◌∙◌}
+use Rattle.page_memory.specs.declared.fault.MemoryFault.{MemoryFault}
+use Rattle.page_memory.specs.declared.words.Access.{Access}
+use Rattle.page_memory.specs.Words.{page_number}
+use Rattle.rv_exec.specs.declared.bus.BusError.{BusError}
+use Rattle.rv_exec.specs.Answers.{Answers, with_answer}
+use Rattle.rv_exec.specs.Bounds.{Bounds}
+use Rattle.rv_exec.specs.Uses.{page_of_access}
+use Rattle.tlb_core.specs.declared.translation.Translation.{Translation}
+use Rattle.paged_memory.specs.Access.{HasPage, LacksPage, MarksUse, cache_of}
+use Rattle.paged_memory.specs.Accesses.{AnswersAccess, Accesses, Reads, Reserves, Writes}
+use Rattle.paged_memory.specs.HartMemory.{InTurn, KeepsAccess, MarksSince, MarksWithin}
+use Rattle.paged_memory.specs.HartMemoryLaws.{access_written}
+use Rattle.paged_memory.specs.Paged.{PagedValue, memory_in, memory_of}
+use Rattle.paged_memory.proofs.Marking.{bounds_access, bounds_access_with, stores_of}
+use Rattle.paged_memory.proofs.Since.{answers_since, seen_written}
+
+module _ {S : Type 0} (hart : ℕ) (access : Access) {A : Type 0} (address : ℕ) (result : Result A BusError) (old new : PagedValue S) where
+  -- the use of the page that it marks is marked since the hart's turn began
+  pub bus_answers : {B : Type 0} (opening : List Translation) (expected : Result B MemoryFault) (told : Result B BusError) → InTurn hart opening old
+      → Accesses hart access (page_number address) result old new → AnswersAccess hart access old new address expected told
+      → Answers (HasPage old.pages (cache_of old.caches hart)) (MarksSince new opening) (LacksPage old.pages) address expected told
+  bus_answers opening expected told turn accesses answers =
+      answers_since hart opening access old new turn (seen_written old.pages new.pages accesses.bare) (HasPage old.pages (cache_of old.caches hart)) (LacksPage old.pages) address expected told accesses.small answers
+
+  -- no mark but the page's own rises
+  pub bus_bound : (expected : Result A MemoryFault) → Accesses hart access (page_number address) result old new → AnswersAccess hart access old new address expected result
+      → Bounds (MarksWithin old.tables) (MarksWithin new.tables) (page_of_access address expected) (stores_of access (page_of_access address expected))
+  bus_bound expected accesses answers =
+      bounds_access access (HasPage old.pages (cache_of old.caches hart)) (MarksUse old.pages new.tables (cache_of old.caches hart) access) (LacksPage old.pages) address old.tables new.tables expected result
+      answers accesses.entries accesses.unmarked
+
+  -- the same of an answer with another value
+  pub bus_bound_with : {B : Type 0} (expected : Result B MemoryFault) (f : A → B) → Accesses hart access (page_number address) result old new
+      → AnswersAccess hart access old new address expected (with_answer f result)
+      → Bounds (MarksWithin old.tables) (MarksWithin new.tables) (page_of_access address expected) (stores_of access (page_of_access address expected))
+  bus_bound_with expected f accesses answers =
+      bounds_access_with access (HasPage old.pages (cache_of old.caches hart)) (MarksUse old.pages new.tables (cache_of old.caches hart) access) (LacksPage old.pages) address old.tables new.tables expected f result
+      answers accesses.entries accesses.unmarked
+
+  pub bus_keeps : Accesses hart access (page_number address) result old new → KeepsAccess hart old new
+  bus_keeps accesses = access_written hart old new accesses.process accesses.bare accesses.kept
+
+  -- the memory that it stands for stays over one that reads, and where another is refused
+  same_parts : (held : S → List ℕ) → new.pages ≡ old.pages → new.reserved ≡ old.reserved → memory_of held new ≡ memory_of held old
+  same_parts held pages reserved = ap (λ p. memory_in held p new.reserved) pages ∙ ap (λ r. memory_in held old.pages r) reserved
+
+  pub bus_same : (held : S → List ℕ) → Reads hart access (page_number address) result old new → memory_of held new ≡ memory_of held old
+  bus_same held reads = same_parts held reads.pages reads.reserved
+
+  refused_parts : (held : S → List ℕ) {B : Type 0} (r : Result B BusError) → OnErr r (new.pages ≡ old.pages) → OnErr r (new.reserved ≡ old.reserved) → OnErr r (memory_of held new ≡ memory_of held old)
+  refused_parts held (Ok answer) pages reserved = pages
+  refused_parts held (Err refusal) pages reserved = same_parts held pages reserved
+
+  pub bus_refuses : (held : S → List ℕ) → Writes hart access (page_number address) result old new → OnErr result (memory_of held new ≡ memory_of held old)
+  bus_refuses held writes = refused_parts held result writes.pages writes.reserved
+
+  reserving_parts : (held : S → List ℕ) {B : Type 0} (r : Result B BusError) → new.pages ≡ old.pages → OnErr r (new.reserved ≡ old.reserved) → OnErr r (memory_of held new ≡ memory_of held old)
+  reserving_parts held (Ok answer) pages reserved = reserved
+  reserving_parts held (Err refusal) pages reserved = same_parts held pages reserved
+
+  pub bus_refuses_reserving : (held : S → List ℕ) → Reserves hart access (page_number address) result old new → OnErr result (memory_of held new ≡ memory_of held old)
+  bus_refuses_reserving held reserves = reserving_parts held result reserves.pages reserves.reserved

@@ -1,6 +1,7 @@
 ghost use Rattle.std.specs.Prelude.{◌≡◌, ◌↔◌, ℕ, ◌<◌, ◌^◌, ◌%◌, length, Some, None, IfSome, IfOk, IfErr, OnOk, true, OnErr};
 ghost use Rattle.page_memory.specs.Words.{page_number, bytes_in};
-ghost use Rattle.sv32_table.specs.EntryAt.{entry_at};
+ghost use Rattle.sv32_table.specs.Entry.{entry_of};
+ghost use Rattle.sv32_table.specs.EntryAt.{dirty_of, entry_at};
 ghost use Rattle.paged_memory.specs.Paged.{Holds, seen_at};
 ghost use Rattle.paged_memory.specs.Seen.{is_used};
 ghost use Rattle.tlb_core.specs.Cache.{Hits, translation_of};
@@ -12,7 +13,7 @@ use page_memory::{Access, MemoryFault, PageMap, Rights, Width, page_of};
 use page_store::{PageState, StoredPage};
 use rv_exec::BusError;
 use std::sync::ledger::Ledger;
-use sv32_table::PageTables;
+use sv32_table::{Leaf, PageTables, WalkFault};
 use swap_slots::SwapSlot;
 use tlb_core::Translation;
 
@@ -102,6 +103,18 @@ fn locate<L: Ledger, S: SwapSlot>(
     })
 }
 
+/// Whether a page's entry has D after a walk: what the leaf tells that the walk found.
+fn is_dirty_after(tables: &PageTables, page: u32, walked: Result<Leaf, WalkFault>) -> bool
+    requires small { page < 2 ^ 20 }
+    requires told { IfOk walked (λ leaf. (entry_of leaf.pte.0).dirty ≡ dirty_of (entry_at tables.now page)) }
+    ensures { result ≡ dirty_of (entry_at tables.now page) }
+{
+    match walked {
+        Ok(leaf) => leaf.pte.is_dirty(),
+        Err(_) => tables.is_dirty(page),
+    }
+}
+
 /// Walks the tables for a hart's access to a page that its cache missed so, and caches what they give. Answers the page's place.
 #[cold]
 fn walk<L: Ledger, S: SwapSlot>(
@@ -134,8 +147,8 @@ fn walk<L: Ledger, S: SwapSlot>(
         frame,
         rights,
     } = locate(pages, access, page)?;
-    let _ = tables.walk(address, access);
-    let dirty = tables.is_dirty(page);
+    let walked = tables.walk(address, access);
+    let dirty = is_dirty_after(tables, page, walked);
     caches.fill(
         hart,
         Translation {

@@ -31,10 +31,9 @@ impl<L: Ledger, S: SwapSlot> PagedMemory<L, S> {
         ensures reserved { self.new.reserved ≡ self.old.reserved }
     {
         // A resident page has an entry, and no other has: the page itself is not looked at.
-        match self.tables.accessed(vpn) {
+        match self.tables.test_and_clear_accessed(vpn) {
             None => None,
             Some(accessed) => {
-                let _ = self.tables.test_and_clear_accessed(vpn);
                 self.caches.doom(vpn);
                 Some(accessed)
             }

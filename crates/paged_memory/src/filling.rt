@@ -50,26 +50,22 @@ impl<L: Ledger, S: SwapSlot> PagedMemory<L, S> {
         ensures caches { SameCaches self.old self.new }
         ensures reserved { self.new.reserved ≡ self.old.reserved }
     {
-        if !is_absent(&self.pages, vpn) {
+        let Some(place) = self.pages.place(vpn) else {
+            return Err((frame, PageInFault::NotAbsent));
+        };
+        if !is_absent(self.pages.at(place)) {
             return Err((frame, PageInFault::NotAbsent));
         }
-        let Some(place) = self.pages.place(vpn) else {
-            unreachable!()
-        };
         bring_page_in(self.pages.at_mut(place), &mut self.tables, vpn, frame)
     }
 }
 
-/// Whether a page is mapped, has no frame and was not given up.
-fn is_absent<L: Ledger, S: SwapSlot>(pages: &PageMap<StoredPage<L, S>>, vpn: u32) -> bool
-    requires { vpn < 2 ^ 20 }
-    ensures absent { OnTrue result (IsAbsent (page_at pages.now vpn)) }
-    ensures other { OnFalse result (¬ IsAbsent (page_at pages.now vpn)) }
+/// Whether a page has no frame and was not given up.
+fn is_absent<L: Ledger, S: SwapSlot>(page: &StoredPage<L, S>) -> bool
+    ensures absent { OnTrue result (IsAbsent (Some page.now)) }
+    ensures other { OnFalse result (¬ IsAbsent (Some page.now)) }
 {
-    matches!(
-        state_in(pages, vpn),
-        Some(PageState::Fresh) | Some(PageState::Away)
-    )
+    matches!(page.state(), PageState::Fresh | PageState::Away)
 }
 
 /// Brings an absent page into a frame, and maps it.

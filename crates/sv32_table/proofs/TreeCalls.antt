@@ -1,18 +1,21 @@
 -- What the calls of `Tables` do to tables that form a tree, as `PageTables` cites it.
 use Rattle.std.proofs.Common.{◌≡◌, ℕ, ◌+◌, ◌/◌, ◌%◌, ◌^◌, ◌<◌, ◌==◌, ◌||◌, ◌&&◌, Bool, true, false, cond, refl, sym, ap, ◌∙◌, subst, arith, lit≤, List, [], ◌∷◌, length, Option, Some, None, option_map, Result, Ok, Err, OnOk, OnErr}
-use Rattle.std.specs.Prelude.{is_some}
+use Rattle.std.specs.Prelude.{IfOk, is_some, not, ◌*◌}
 use Rattle.std.specs.Result.{result_map_both}
 use Rattle.std.proofs.lemmas.Bool.Decides.{nat_tests}
 use Rattle.std.proofs.lemmas.List.{get_or-replicate, length-replicate}
 use Rattle.page_memory.specs.declared.words.Access.{Access}
+use Rattle.page_memory.specs.declared.words.Access.TheVariants.{Fetch, Load, Store}
+use Rattle.sv32_table.specs.declared.fault.WalkFault.TheVariants.{PageFault}
 use Rattle.sv32_table.specs.declared.pte.Pte.{Pte}
+use Rattle.sv32_table.specs.declared.pte.Shape.TheVariants.{Invalid, Leaf, Pointer}
 use Rattle.sv32_table.specs.declared.fault.MapFault.{MapFault}
 use Rattle.sv32_table.specs.declared.fault.WalkFault.{WalkFault}
 use Rattle.sv32_table.specs.declared.walk.Leaf.{Leaf as Translation}
 use Rattle.page_memory.specs.declared.rights.Rights.{Rights}
-use Rattle.sv32_table.specs.Entry.{Entry, entry_of, word_of, shape_of, blank, leaf_entry, page_entry}
+use Rattle.sv32_table.specs.Entry.{Entry, allows, entry_of, word_of, shape_of, touched, blank, leaf_entry, page_entry}
 use Rattle.sv32_table.specs.Tables.{IsSized, root_page, word_in, table_for, zero_table, pointed_by, mapped, marked, found, walked}
-use Rattle.sv32_table.specs.EntryAt.{entry_in, entry_at, pointed, IsTree, walk_entry, walked_entry, unmapped_entry, unaccessed_entry, valid_word, accessed_of, dirty_of, ChangesEntry, has_table, SameTables, AddsTable}
+use Rattle.sv32_table.specs.EntryAt.{is_leaf, entry_in, entry_at, pointed, IsTree, walk_entry, walked_entry, unmapped_entry, unaccessed_entry, valid_word, accessed_of, dirty_of, ChangesEntry, has_table, SameTables, AddsTable}
 use Rattle.sv32_table.specs.EntryWordLaws.{entry_of-word_of, software_small}
 use Rattle.sv32_table.specs.Leading.{walk_leads, LeadsByEntry}
 use Rattle.sv32_table.specs.TranslationProcess.{Success, Words, FollowsProcess, IsTranslation, physical_words, translate}
@@ -228,3 +231,54 @@ accessed_word tables vpn pte found =
 pub none_accessed : (tables : List (List ℕ)) (vpn : ℕ) → valid_word (entry_at tables vpn) ≡ None → None ≡ accessed_of (entry_at tables vpn)
 none_accessed tables vpn none =
     ap (option_map (λ (pte : Pte). (entry_of pte.0).accessed)) (sym none ∙ sym (found_entry tables vpn)) ∙ accessed_found tables vpn
+
+-- what a walk's leaf says of D is what the page's entry says then
+leaf_valid : (e : Entry) → is_leaf (shape_of e) ≡ true → e.valid ≡ true
+unfolding shape_of
+leaf_valid e is = by_valid e.valid is
+  where
+    by_valid : (b : Bool) → is_leaf (cond (not b || (e.write && not e.read)) Invalid (cond (e.read || e.execute) Leaf Pointer)) ≡ true → b ≡ true
+    by_valid true is = refl
+    by_valid false is = absurd (cc)
+
+touched_by : (access : Access) (e : Entry) → e.software < 4 → e.valid ≡ true → (entry_of (word_of (touched access e))).dirty ≡ dirty_of (touched access e)
+unfolding touched dirty_of
+touched_by Fetch e small valid = ap (λ (x : Entry). x.dirty) (entry_of-word_of (record e { accessed = true }) small) ∙ ap (λ b. b && e.dirty) (sym valid)
+touched_by Load e small valid = ap (λ (x : Entry). x.dirty) (entry_of-word_of (record e { accessed = true }) small) ∙ ap (λ b. b && e.dirty) (sym valid)
+touched_by Store e small valid = ap (λ (x : Entry). x.dirty) (entry_of-word_of (record e { accessed = true; dirty = true }) small) ∙ ap (λ b. b && true) (sym valid)
+
+both_hold : (a b : Bool) → (a && b) ≡ true → a ≡ true
+both_hold true b is = refl
+both_hold false b is = cc
+
+walked_dirty : (e : Entry) (address : ℕ) (access : Access) (leaf : Translation) → e.software < 4 → walk_entry e address access ≡ Ok leaf → (entry_of leaf.pte.0).dirty ≡ dirty_of (walked_entry e access)
+unfolding walk_entry walked_entry
+walked_dirty e address access leaf small is = by_test (is_leaf (shape_of e) && allows access e) refl is
+  where
+    by_test : (b : Bool) → (is_leaf (shape_of e) && allows access e) ≡ b
+        → cond b (Ok (record { pte = record { 0 = word_of (touched access e) }; physical = e.ppn * 0x1000 + address % 0x1000 })) (Err PageFault) ≡ Ok leaf
+        → (entry_of leaf.pte.0).dirty ≡ dirty_of (cond b (touched access e) e)
+    by_test true test found =
+        let same : record { pte = record { 0 = word_of (touched access e) }; physical = e.ppn * 0x1000 + address % 0x1000 } ≡ leaf = cc in
+        ap (λ (l : Translation). (entry_of l.pte.0).dirty) (sym same) ∙ touched_by access e small (leaf_valid e (both_hold (is_leaf (shape_of e)) (allows access e) test))
+    by_test false test found = absurd (cc)
+
+entry_software : (tables : List (List ℕ)) (vpn : ℕ) → (entry_at tables vpn).software < 4
+unfolding entry_at entry_in
+entry_software tables vpn = by_table (table_for tables vpn)
+  where
+    by_table : (o : Option ℕ) → (entry_in tables vpn o).software < 4
+    by_table None = omega arith
+    by_table (Some table) = software_small (word_in tables table (vpn % 1024))
+
+pub leaf_dirty : (old new : List (List ℕ)) (address : ℕ) (access : Access) (result : Result Translation WalkFault) → address < 2 ^ 32 → result ≡ walk_entry (entry_at old (address / 0x1000)) address access
+    → ChangesEntry old new (address / 0x1000) (walked_entry (entry_at old (address / 0x1000)) access)
+    → IfOk result (λ leaf. (entry_of leaf.pte.0).dirty ≡ dirty_of (entry_at new (address / 0x1000)))
+leaf_dirty old new address access (Err fault) fits is changes = tt
+leaf_dirty old new address access (Ok leaf) fits is changes =
+    let small : address / 0x1000 < 2 ^ 20 = omega arith in
+    let test : (address / 0x1000 == address / 0x1000) ≡ true = grind (arith, nat_tests) in
+    let now : entry_at new (address / 0x1000) ≡ walked_entry (entry_at old (address / 0x1000)) access =
+    changes (address / 0x1000) small ∙ ap (λ b. cond b (walked_entry (entry_at old (address / 0x1000)) access) (entry_at old (address / 0x1000))) test
+    in
+    walked_dirty (entry_at old (address / 0x1000)) address access leaf (entry_software old (address / 0x1000)) (sym is) ∙ ap dirty_of (sym now)

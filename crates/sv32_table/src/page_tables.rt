@@ -1,5 +1,5 @@
-ghost use Rattle.std.specs.Prelude.{◌≡◌, ◌<◌, ◌/◌, ◌^◌, List, ℕ, true, false, IfOk, IsErr, OnOk, OnErr};
-ghost use Rattle.sv32_table.specs.Entry.{blank, leaf_entry, page_entry};
+ghost use Rattle.std.specs.Prelude.{◌≡◌, ◌<◌, ◌/◌, ◌^◌, List, ℕ, true, false, IfNone, IfOk, IsErr, OnOk, OnErr};
+ghost use Rattle.sv32_table.specs.Entry.{blank, entry_of, leaf_entry, page_entry};
 ghost use Rattle.sv32_table.specs.EntryAt.{entry_at, ChangesEntry, walk_entry, walked_entry, valid_word, unmapped_entry, accessed_of, dirty_of, unaccessed_entry, has_table, SameTables, AddsTable};
 ghost use Rattle.sv32_table.specs.Leading.{LeadsByEntry};
 ghost use Rattle.sv32_table.specs.TranslationProcess.{IsTranslation};
@@ -43,11 +43,12 @@ impl PageTables {
     }
 
     /// Translates an address for an access in user mode, as `Tables::walk` does.
-    #[tactic(auto, using(crate::proofs::TreeCalls::answer_of_walk, crate::proofs::TreeCalls::tree_after_walk, crate::proofs::TreeCalls::entries_after_walk, crate::proofs::TreeCalls::tables_after_walk))]
+    #[tactic(auto, using(crate::proofs::TreeCalls::answer_of_walk, crate::proofs::TreeCalls::leaf_dirty, crate::proofs::TreeCalls::tree_after_walk, crate::proofs::TreeCalls::entries_after_walk, crate::proofs::TreeCalls::tables_after_walk))]
     pub fn walk(&mut self, address: u32, access: Access) -> Result<Leaf, WalkFault>
         ensures leaf { result ≡ walk_entry (entry_at self.old (address / 0x1000)) address access }
         ensures entries { ChangesEntry self.old self.new (address / 0x1000) (walked_entry (entry_at self.old (address / 0x1000)) access) }
         ensures tables { SameTables self.old self.new }
+        ensures dirty { IfOk result (λ leaf. (entry_of leaf.pte.0).dirty ≡ dirty_of (entry_at self.new (address / 0x1000))) }
         ensures manual { IsTranslation self.old address access result self.new }
     {
         self.tables.walk(address, access)
@@ -120,6 +121,7 @@ impl PageTables {
         ensures answer { result ≡ accessed_of (entry_at self.old vpn) }
         ensures entries { ChangesEntry self.old self.new vpn (unaccessed_entry (entry_at self.old vpn)) }
         ensures tables { SameTables self.old self.new }
+        ensures gone { IfNone result (self.new ≡ self.old) }
     {
         self.tables.test_and_clear_accessed(vpn)
     }

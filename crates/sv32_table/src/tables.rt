@@ -1,4 +1,4 @@
-ghost use Rattle.std.specs.Prelude.{◌≡◌, ◌<◌, ◌≤◌, ◌+◌, ◌/◌, ◌%◌, ◌^◌, ◌∷◌, ◌++◌, [], List, ℕ, true, length, IfOk, IfSome, IsErr, IsErrOf, OnOk, OnErr, ◌↔◌, None, option_map, false};
+ghost use Rattle.std.specs.Prelude.{◌≡◌, ◌<◌, ◌≤◌, ◌+◌, ◌/◌, ◌%◌, ◌^◌, ◌∷◌, ◌++◌, [], List, ℕ, true, length, IfOk, IfSome, IsErr, IsErrOf, OnOk, OnErr, ◌↔◌, None, option_map, false, IfNone};
 ghost use Rattle.sv32_table.specs.Entry.{Entry, entry_of, word_of, leaf_entry};
 ghost use Rattle.sv32_table.specs.EntryAt.{has_table};
 ghost use Rattle.sv32_table.specs.TranslationProcess.{IsTranslation};
@@ -127,6 +127,7 @@ impl Tables {
         requires { vpn < 2 ^ 20 }
         ensures answer { result ≡ option_map (λ pte. (entry_of pte.0).accessed) (found self.old vpn) }
         ensures words { self.new ≡ marked self.old vpn (λ e. word_of (record e { accessed = false })) }
+        ensures gone { IfNone result (self.new ≡ self.old) }
     {
         let table = self.table_for(vpn)?;
         let index = (vpn % 1024) as usize;

@@ -193,3 +193,14 @@ pub one_per_page_refilled : (xs seen ws : List Translation) (e : Translation) (k
 one_per_page_refilled xs seen ws e k one same is made =
     let here : position (is_of_page e.page) xs ≡ Some k = rw same is in
     rw (made, refill_set xs k e) (one_per_page_replaced xs (set xs k e) e k one here refl)
+
+-- neither changes a page
+pub pages_marked : (page : ℕ) (xs ws : List Translation) → ws ≡ doomed page xs → pages (refill (length xs) xs ws) ≡ pages xs
+pages_marked page xs ws made = ap pages (marked_whole page xs ws made) ∙ pages-doomed page xs
+
+pub pages_refilled : (xs seen ws : List Translation) (e : Translation) (k : ℕ) → xs ≡ seen → position (is_of_page e.page) seen ≡ Some k → ws ≡ set xs k e → pages (refill (length xs) xs ws) ≡ pages xs
+pages_refilled xs seen ws e k same is made =
+    let here : position (is_of_page e.page) xs ≡ Some k = rw same is in
+    let at = position-Some (is_of_page e.page) xs k e here in
+    let of : (get_or xs k e).page ≡ e.page = let t = at.1 in grind (arith, nat_tests) in
+    ap (λ l. pages (refill (length xs) xs l)) made ∙ ap pages (refill_set xs k e) ∙ pages-set xs k e e of

@@ -1,3 +1,4 @@
 pub mod Cache
 pub mod CacheLaws
+pub mod Crowds
 pub mod Ready

@@ -7,6 +7,7 @@ use Rattle.tlb_core.specs.declared.translation.Translation.{Translation}
 use Rattle.tlb_core.specs.declared.ready.Known.{Known}
 use Rattle.tlb_core.specs.declared.ready.Ready.{Ready}
 use Rattle.tlb_core.specs.Cache.{Hits, OnePerPage}
+use Rattle.tlb_core.specs.Crowds.{Counts, pages_of}
 
 -- no page
 abbrev pub nowhere : Known
@@ -44,7 +45,8 @@ pub record IsReady (cache : List Translation) (ready : Ready) : Type 0 where
   pub aligned : (access : Access) (page past : ℕ) → past < 4 → page * 4096 + past ≡ (known_for access page ready).start → past ≡ 0
   pub shown : (access : Access) (page past : ℕ) → past < 4 → page * 4096 + past ≡ (known_for access page ready).start → Hits cache access page (known_for access page ready).place
 
--- a cache has at most one entry for a page, and shows what is ready
-pub record IsCache (cache : List Translation) (ready : Ready) : Type 0 where
+-- a cache has at most one entry for a page, and shows what is ready; and its pages are counted
+pub record IsCache (cache : List Translation) (ready : Ready) (counts : List ℕ) : Type 0 where
   pub one : OnePerPage cache
   pub shows : IsReady cache ready
+  pub counted : Counts counts (pages_of cache)

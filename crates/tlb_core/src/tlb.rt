@@ -4,6 +4,7 @@ ghost use Rattle.page_memory.specs.Words.{page_number, bytes_in};
 ghost use Rattle.tlb_core.specs.Ready.{IsReady};
 ghost use Rattle.tlb_core.specs.Cache.{OnePerPage, Hits, translation_of, is_of_page, filled, doomed, undoomed, with_room};
 
+use crate::crowds::{Crowds, crowds_of};
 use crate::hints::Hints;
 use crate::ready::{Ready, start_if_aligned};
 use crate::translation::Translation;
@@ -20,6 +21,7 @@ pub struct Tlb {
     entries: ArrayVec<Translation, TLB_ENTRIES>,
     hints: Hints,
     ready: Ready,
+    crowds: Crowds,
 }
 
 impl Model for Tlb {
@@ -31,7 +33,7 @@ impl Model for Tlb {
 
     ghost view = { λ t. t.entries.items };
 
-    ghost invariant = { λ t. IsCache t.entries.items t.ready };
+    ghost invariant = { λ t. IsCache t.entries.items t.ready t.crowds.counts };
 }
 
 /// A cache of no entry.
@@ -50,6 +52,7 @@ impl Tlb {
             entries: ArrayVec::new(),
             hints: Hints::new(),
             ready: Ready::new(),
+            crowds: Crowds::new(),
         }
     }
 
@@ -62,7 +65,7 @@ impl Tlb {
         self.entries.as_slice()
     }
 
-    /// The entry of a page. It is looked for where the hint says, and then everywhere.
+    /// The entry of a page. It is looked for where the hint says, and then everywhere, if any entry may be the page's.
     #[inline]
     #[tactic(auto, using(crate::specs::CacheLaws::found_at))]
     pub fn look(&self, page: u32) -> Option<Translation>
@@ -70,6 +73,7 @@ impl Tlb {
     {
         match self.entries.as_slice().get(self.hints.place(page)) {
             Some(entry) if entry.page == page => Some(*entry),
+            _ if self.crowds.lack(page) => None,
             _ => self.search(page),
         }
     }
@@ -165,6 +169,7 @@ impl Tlb {
         self.make_room();
         let place = self.entries.len();
         self.entries.push(entry);
+        self.crowds.come(entry.page);
         self.hints.put(entry.page, place);
     }
 
@@ -176,6 +181,7 @@ impl Tlb {
     {
         if self.entries.is_full() {
             let oldest = self.entries.remove(0);
+            self.crowds.go(oldest.page);
             self.hints.first_is_gone();
             self.ready.forget(oldest.page);
         }
@@ -205,6 +211,7 @@ impl Tlb {
     {
         keep_undoomed(&mut self.entries);
         self.hints.set(self.entries.as_slice());
+        self.crowds = crowds_of(self.entries.as_slice());
         self.ready = Ready::new();
     }
 
@@ -214,6 +221,7 @@ impl Tlb {
     {
         forget_each(self.entries.as_slice(), &mut self.ready);
         self.entries.clear();
+        self.crowds = Crowds::new();
     }
 }
 

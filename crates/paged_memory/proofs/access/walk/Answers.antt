@@ -4,10 +4,10 @@ use Rattle.paged_memory.proofs.WalkLaws.{Walked, walk_done}
 use Rattle.paged_memory.proofs.access.walk.Given.{Over}
 use Rattle.paged_memory.proofs.access.walk.Goals as goal
 
-done : (g : Over) (c : goal.After-fill g) → Walked g.S.SwapSlot.content g.S.SwapSlot.honest c.args.pages.now c.args.tables.now c.walk.new.self c.args.caches.now c.fill.new.self c.args.hart c.args.access c.args.page c.in_ok-place.field-0.place
+done : (g : Over) (c : goal.After-fill g) → Walked g.S.SwapSlot.content g.S.SwapSlot.honest c.args.pages.now c.args.tables.now c.walk-walked.new.self c.args.caches.now c.fill.new.self c.args.hart c.args.access c.args.page c.in_ok-place.field-0.place
 done g c =
-    let entries = subst (λ n. ChangesEntry c.args.tables.now c.walk.new.self n (walked_entry (entry_at c.args.tables.now n) c.args.access)) (sym c.requires.page) c.walk.ensures.entries in
-    walk_done c.walk.new.self c.fill.new.self c.args.page c.args.hart c.in_ok-place.field-0.place c.in_ok-place.field-0.frame c.in_ok-place.field-0.rights c.is_dirty-dirty.result c.args.access c.requires.small c.requires.hart c.requires.holds c.in_ok-place.ensures.found entries c.walk.ensures.tables c.is_dirty-dirty.ensures c.fill.ensures
+    let entries = subst (λ n. ChangesEntry c.args.tables.now c.walk-walked.new.self n (walked_entry (entry_at c.args.tables.now n) c.args.access)) (sym c.requires.page) c.walk-walked.ensures.entries in
+    walk_done c.walk-walked.new.self c.fill.new.self c.args.page c.args.hart c.in_ok-place.field-0.place c.in_ok-place.field-0.frame c.in_ok-place.field-0.rights c.is_dirty_after-dirty.result c.args.access c.requires.small c.requires.hart c.requires.holds c.in_ok-place.ensures.found entries c.walk-walked.ensures.tables c.is_dirty_after-dirty.ensures c.fill.ensures
 
 pub returns-clause-holds : goal.returns-clause-holds
 returns-clause-holds g c = (done g c).holds
@@ -25,4 +25,4 @@ pub returns-clause-used : goal.returns-clause-used
 returns-clause-used g c = (done g c).used
 
 pub returns-clause-entries : goal.returns-clause-entries
-returns-clause-entries g c = inr (subst (λ n. ChangesEntry c.args.tables.now c.walk.new.self n (walked_entry (entry_at c.args.tables.now n) c.args.access)) (sym c.requires.page) c.walk.ensures.entries)
+returns-clause-entries g c = inr (subst (λ n. ChangesEntry c.args.tables.now c.walk-walked.new.self n (walked_entry (entry_at c.args.tables.now n) c.args.access)) (sym c.requires.page) c.walk-walked.ensures.entries)

@@ -2,18 +2,24 @@ use Rattle.std.proofs.Common.{◌≡◌, Some, OnOk, IfErr, ap, refl, sym, ◌�
 use Rattle.page_memory.specs.Entries.{place_of, with_value}
 use Rattle.paged_memory.specs.Filling.{IsAbsent}
 use Rattle.paged_memory.specs.Moving.{ComesIn, RefusesIn}
-use Rattle.paged_memory.specs.Paged.{PagedValue, memory_in, memory_of}
+use Rattle.paged_memory.specs.Paged.{PagedValue, page_at, memory_in, memory_of}
 use Rattle.paged_memory.proofs.PagedLaws.{page_at-place, page_at-nowhere}
 use Rattle.paged_memory.proofs.FillingLaws.{comes_in, holds_paged_in, memory_paged_in, pages_brought, pages_refused, entries_brought}
 use Rattle.paged_memory.proofs.memory.PagedMemory.page_in.Goals as goal
 
-pub unreachable-requires : goal.unreachable-requires
-unreachable-requires g c = subst IsAbsent (page_at-nowhere c.self.inside.pages c.args.vpn (sym c.place.ensures.place ∙ c.in_default.is)) c.if-not-is_absent.ensures.absent
+pub returns-in_default-clause-refused : goal.returns-in_default-clause-refused
+returns-in_default-clause-refused g c = (
+  subst (λ (v : PagedValue _). ¬ IsAbsent (page_at v.pages c.args.vpn)) c.self.view_is (λ absent. subst IsAbsent (page_at-nowhere c.self.inside.pages c.args.vpn (sym c.place.ensures.place ∙ c.in_default.is)) absent),
+  (refl, refl),
+)
 
-pub bring_page_in-requires-clause-absent : goal.bring_page_in-requires-clause-absent
-bring_page_in-requires-clause-absent g c =
-    let at : place_of c.args.vpn c.self.inside.pages ≡ Some c.in-Some.place = sym c.place.ensures.place ∙ c.in-Some.is in
-    subst IsAbsent (page_at-place c.self.inside.pages c.args.vpn c.in-Some.place c.at_mut.result.now at c.at_mut.ensures.value) c.if-not-is_absent.ensures.absent
+pub returns-then-not-is_absent-clause-refused : goal.returns-then-not-is_absent-clause-refused
+returns-then-not-is_absent-clause-refused g c =
+    let at : place_of c.args.vpn c.self.inside.pages ≡ Some c.in-Some.place = sym c.place.ensures.place ∙ c.in-Some.is in (
+      subst (λ (v : PagedValue _). ¬ IsAbsent (page_at v.pages c.args.vpn)) c.self.view_is
+          (λ absent. c.if-not-is_absent.ensures.other (subst IsAbsent (page_at-place c.self.inside.pages c.args.vpn c.in-Some.place c.at.result.now at c.at.ensures) absent)),
+      (refl, refl),
+    )
 
 pub invariant_of-self : goal.invariant_of-self
 invariant_of-self g c =

@@ -10,5 +10,6 @@ invariant_of-self c =
     let here = subst (λ l. Hits l c.args.access (page_number c.args.address) c.args.place) (sym c.self.view_is) c.requires in
     record {
       one = c.self.invariant.one;
+      counted = c.self.invariant.counted;
       shows = subst (λ r. IsReady c.self.inside.entries.items r) (sym c.learn.ensures) (ready_learned c.self.inside.entries.items c.args.access c.args.address c.args.place c.self.inside.ready here c.self.invariant.shows);
     }

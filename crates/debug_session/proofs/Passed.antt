@@ -6,8 +6,8 @@ use Rattle.flat_machine.specs.Process.{Process}
 use Rattle.text_lines.specs.Text.{lines_of}
 use Rattle.debug_core.specs.Debugging.{DebuggerValue}
 use Rattle.debug_core.specs.declared.target.ReadFault.{ReadFault}
-use Rattle.debug_lines.specs.Lines.{AsksFor}
-use Rattle.debug_lines.specs.declared.lines.DebugLine.TheVariants.{Quit}
+use Rattle.debug_session.specs.Lines.{AsksFor}
+use Rattle.debug_session.specs.declared.lines.DebugLine.TheVariants.{Quit}
 use Rattle.debug_session.specs.Conversation.{AreAnswered, Ends, HasConversed, IsAnswered, IsBad, IsWritten}
 use Rattle.debug_session.specs.InputLines.{BeginsTooLong, TakesLine}
 use Rattle.debug_session.specs.declared.conversation.SessionFault.{SessionFault}

@@ -2,16 +2,16 @@
 use Rattle.std.specs.Prelude.{◌≡◌, ◌⊎◌, ℕ, ◌+◌, ◌<◌, ◌≤◌, ⊤, List, [], ◌∷◌, ◌++◌, length, Option, None, Some, IfSome, Result, Ok, Err, IsUtf8}
 use Rattle.std.specs.Io.KnownBytes.{Appends}
 use Rattle.text_lines.specs.Text.{lines_of}
-use Rattle.script_lines.specs.Lines.{IsSkipped}
+use Rattle.text_lines.specs.Lines.{IsSkipped}
 use Rattle.flat_machine.specs.Process.{Process}
 use Rattle.debug_core.specs.Debugging.{DebuggerValue}
 use Rattle.debug_core.specs.declared.target.ReadFault.{ReadFault}
-use Rattle.debug_lines.specs.Answers.{Answers}
-use Rattle.debug_lines.specs.Lines.{AsksFor}
-use Rattle.debug_lines.specs.ReplyText.{reply_text}
-use Rattle.debug_lines.specs.declared.lines.DebugLine.{DebugLine}
-use Rattle.debug_lines.specs.declared.lines.DebugLine.TheVariants.{Quit}
-use Rattle.debug_lines.specs.declared.reply.DebugReply.{DebugReply}
+use Rattle.debug_session.specs.Answers.{Answers}
+use Rattle.debug_session.specs.Lines.{AsksFor}
+use Rattle.debug_session.specs.ReplyText.{reply_text}
+use Rattle.debug_session.specs.declared.lines.DebugLine.{DebugLine}
+use Rattle.debug_session.specs.declared.lines.DebugLine.TheVariants.{Quit}
+use Rattle.debug_session.specs.declared.reply.DebugReply.{DebugReply}
 use Rattle.debug_session.specs.declared.conversation.SessionFault.{SessionFault}
 use Rattle.debug_session.specs.declared.conversation.SessionFault.TheVariants.{BadLine, NoMemory, CannotRead, CannotWrite}
 use Rattle.debug_session.specs.declared.turn.Turn.{Turn}

@@ -1,2 +1,5 @@
 pub mod Conversation
 pub mod InputLines
+pub mod Answers
+pub mod Lines
+pub mod ReplyText

@@ -2,11 +2,13 @@
 
 ghost use Rattle.std.specs.Prelude.{ℕ, ◌++◌, ◌∷◌, [], List, IfOk, OnErr, OnOk};
 ghost use Rattle.std.specs.Io.KnownBytes.{Appends};
-ghost use Rattle.debug_lines.specs.ReplyText.{reply_text};
+ghost use Rattle.debug_session.specs.ReplyText.{reply_text};
 ghost use Rattle.debug_session.specs.Conversation.{IsAnswered, TakesTurn};
 
+use crate::answers::answer;
+use crate::lines::debug_line;
+use crate::reply::DebugReply;
 use debug_core::{Debugger, Target};
-use debug_lines::{DebugReply, answer, debug_line};
 use std::alloc::Global;
 use std::io;
 use std::io::Write;

@@ -14,4 +14,6 @@ mod machine;
 #[cfg(test)]
 mod no_loads;
 #[cfg(test)]
+mod page_ins;
+#[cfg(test)]
 mod scant;

@@ -3,7 +3,7 @@ use Rattle.std.proofs.Common.{◌≡◌, inl, inr, ◌+◌, ℕ, List, [], ◌�
 use Rattle.text_lines.specs.Text.{words_of}
 use Rattle.machine_core.specs.declared.event.Event.{Event}
 use Rattle.event_scripts.specs.DriveScript.{WritesEvent, SaysEvents, SayAll}
-use Rattle.script_lines.specs.Lines.{IsSkipped}
+use Rattle.text_lines.specs.Lines.{IsSkipped}
 
 -- the lines above the rest say these events, and there are `number` of them
 abbrev pub HavePassed : List (List ℕ) → List (List ℕ) → List Event → ℕ → Type 0

@@ -2,10 +2,10 @@
 use Rattle.std.specs.Prelude.{◌≡◌, ◌⊎◌, ◌+◌, ℕ, List, [], ◌∷◌, ◌++◌, Option, Some, None, codes, length}
 use Rattle.text_lines.specs.Text.{words_of}
 use Rattle.flat_machine.specs.Ending.{kill_number}
-use Rattle.script_lines.specs.Calls.{AreNameAndNumber, AreNameAndNumbers}
+use Rattle.text_lines.specs.Calls.{AreNameAndNumber, AreNameAndNumbers}
 use Rattle.machine_core.specs.declared.event.Event.{Event}
 use Rattle.machine_core.specs.declared.event.Event.TheVariants.{Step, Notice, Sweep, Collect, Saved, PageIn, Kill, Purge}
-use Rattle.script_lines.specs.Lines.{IsSkipped}
+use Rattle.text_lines.specs.Lines.{IsSkipped}
 
 -- the words with which an event is written
 abbrev pub WritesEvent : Event → List (List ℕ) → Type 0

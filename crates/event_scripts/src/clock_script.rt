@@ -4,13 +4,12 @@ ghost use Rattle.std.specs.Prelude.{◌≡◌, ◌↔◌, ◌∷◌, [], IfOk, I
 ghost use Rattle.std.specs.Option.{SomeIff};
 ghost use Rattle.text_lines.specs.Text.{words_of};
 ghost use Rattle.event_scripts.specs.ClockScript.{WritesCall, IsKey, key_value, is_slash};
-ghost use Rattle.script_lines.specs.Lines.{IsSkipped};
+ghost use Rattle.text_lines.specs.Lines.{IsSkipped};
 ghost use Rattle.event_scripts.specs.declared.clock_script.ClockCall.{ClockCall};
 
 use clock_policy::{Bit, Key};
 use page_memory::PAGE_COUNT;
-use script_lines::{BadLine, is_skipped};
-use text_lines::{next_word, number, numeral};
+use text_lines::{BadLine, is_skipped, next_word, number, numeral};
 
 /// The highest number of a process in a script.
 const MOST_PROCESS: u32 = 65_535;

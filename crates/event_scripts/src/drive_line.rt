@@ -4,13 +4,12 @@ ghost use Rattle.std.specs.Prelude.{◌≡◌, ◌↔◌, ◌∷◌, [], IfOk, I
 ghost use Rattle.text_lines.specs.Text.{words_of};
 ghost use Rattle.machine_core.specs.declared.event.Event.{Event};
 ghost use Rattle.event_scripts.specs.DriveScript.{WritesEvent};
-ghost use Rattle.script_lines.specs.Lines.{IsSkipped};
+ghost use Rattle.text_lines.specs.Lines.{IsSkipped};
 
 use clock_policy::Key;
 use flat_machine::KillCause;
 use machine_core::Event;
-use script_lines::{BadLine, is_skipped, word_number};
-use text_lines::next_word;
+use text_lines::{BadLine, is_skipped, next_word, word_number};
 
 /// The event that a line of a drive script writes, if it is not skipped.
 pub fn event_on_line(line: &[u8]) -> Result<Option<Event>, BadLine>

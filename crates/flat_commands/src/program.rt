@@ -3,12 +3,10 @@
 use crate::asm_command::run_asm;
 use crate::flat_command::run_flat;
 use command_line::{Request, read_request};
+use command_shell::finish;
 use image_files::{Fault, Folder};
 use std::convert::AsStr;
 use std::io::Write;
-
-/// The exit status where a fault stopped the command.
-const FAULT: u8 = 2;
 
 /// Runs the command `flat` or `asm` on the words behind the program's name, and answers its exit status: 0 or, of a process, how it
 /// ended; 2 for a fault, which is told on `err`. The files that the words name are read and written by `rt`. Another command is bad
@@ -20,7 +18,7 @@ pub fn run_flat_commands<R: Folder + AllocGlobal, S: AsStr, O: Write, E: Write>(
     err: &mut E,
 ) -> u8 {
     let done = run_words(rt, words, out);
-    finish(done, out, err)
+    finish("paged", done, out, err)
 }
 
 fn run_words<'a, R: Folder + AllocGlobal, S: AsStr, O: Write>(
@@ -39,23 +37,4 @@ fn run_words<'a, R: Folder + AllocGlobal, S: AsStr, O: Write>(
         Request::Run(_request) => Err(Fault::BadUsage),
         Request::Debug(_request) => Err(Fault::BadUsage),
     }
-}
-
-/// The exit status of a command that came to this. What it wrote is handed on first, and a fault is told behind it.
-pub fn finish<O: Write, E: Write>(done: Result<u8, Fault<'_>>, out: &mut O, err: &mut E) -> u8 {
-    let flushed = out.flush();
-    match done {
-        Ok(status) => match flushed {
-            Ok(()) => status,
-            Err(_) => fail(Fault::CannotWrite, err),
-        },
-        Err(fault) => fail(fault, err),
-    }
-}
-
-/// Tells a fault, and answers the exit status. Where it can't be written either, the status alone tells it.
-pub fn fail<E: Write>(fault: Fault<'_>, err: &mut E) -> u8 {
-    let _ = writeln!(err, "paged: {fault}");
-    let _ = err.flush();
-    FAULT
 }

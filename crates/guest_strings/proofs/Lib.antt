@@ -2,3 +2,6 @@ pub mod Places
 pub mod Staying
 pub mod Joining
 pub mod SliceSteps
+pub mod AccessPages
+pub mod CallPages
+pub mod StepParts

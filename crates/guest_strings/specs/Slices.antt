@@ -5,7 +5,7 @@ use Rattle.page_memory.specs.Memory.{Memory}
 use Rattle.rv_exec.specs.Registers.{Registers}
 use Rattle.env_calls.specs.Environment.{most_harts}
 use Rattle.flat_machine.specs.Process.{Process, hart_registers, may_step}
-use Rattle.guest_pages.specs.Yields.{step_yields}
+use Rattle.guest_strings.specs.Yields.{step_yields}
 use Rattle.guest_strings.specs.declared.turns.Turn.{Turn}
 use Rattle.guest_strings.specs.declared.reference.Reference.{Reference}
 use Rattle.guest_strings.specs.References.{process_of, hart_of, moved, used, joined}

@@ -3,10 +3,14 @@
 //! Live processes get slices by rising number, and in each its live harts by rising number.
 #![tactic(auto)]
 
+mod accesses;
+mod calls;
 mod guest_string;
+mod instructions;
 mod reference;
 mod round;
 mod running;
+mod step_pages;
 mod step_use;
 mod stepping;
 mod turns;
@@ -14,3 +18,4 @@ mod uses;
 
 pub use guest_string::GuestString;
 pub use reference::Reference;
+pub use step_pages::{PageUse, StepPages, step_pages_of};

@@ -5,14 +5,14 @@ ghost use Rattle.flat_machine.specs.Refusals.{WantsMemory};
 ghost use Rattle.guest_strings.specs.References.{after_step, moved, references_at, references_of, referred};
 ghost use Rattle.guest_strings.specs.Slices.{yields, yields_at};
 ghost use Rattle.guest_strings.specs.ToCome.{told};
-ghost use Rattle.guest_pages.specs.Told.{pages_told, stored_page, stores_told};
+ghost use Rattle.guest_strings.specs.Told.{pages_told, stored_page, stores_told};
 ghost use Rattle.guest_strings.specs.Wanting.{WantsAtPlace};
 
 use crate::reference::Reference;
+use crate::step_pages::{PageUse, StepPages, step_pages_of};
 use crate::step_use::StepUse;
 use clock_policy::Key;
 use flat_machine::{FlatProcess, StepRefusal};
-use guest_pages::{PageUse, StepPages, step_pages_of};
 use machine_limits::{MOST_HARTS, MOST_PROCESSES};
 use std::alloc::AllocError;
 

@@ -1,1 +1,3 @@
 pub mod SameStatus
+pub mod FlatRuns
+pub mod Growing

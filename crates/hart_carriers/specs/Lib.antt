@@ -1,1 +1,4 @@
 pub mod Ending
+pub mod Counts
+pub mod FlatLines
+pub mod Telling

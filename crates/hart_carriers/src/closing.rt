@@ -4,15 +4,17 @@ ghost use Rattle.std.specs.Prelude.{◌≡◌, ◌+◌, ◌≤◌, All, length, 
 ghost use Rattle.hart_carriers.specs.Ending.{Counts};
 ghost use Rattle.reclaim_daemon.specs.Audit.{IsSound, AgreeEverywhere};
 ghost use Rattle.reclaim_daemon.specs.SharedValue.{most_processes};
-ghost use Rattle.run_report.specs.FlatLines.{counts_of, StandsForRuns};
+ghost use Rattle.hart_carriers.specs.FlatLines.{counts_of, StandsForRuns};
 
 use crate::crew::Crew;
+use crate::gathering::gather_frames;
+use crate::line::{Line, Ran};
+use crate::lines::tell;
 use crate::report::Report;
 use clock_policy::Clock;
 use elf_image::Image;
 use machine_sides::PagerSide;
 use reclaim_daemon::{Desk, Held, Parts};
-use run_report::{Line, Ran, gather_frames, tell};
 use std::sync::ledger::{Ledger, Share};
 use swap_slots::SwapSlot;
 

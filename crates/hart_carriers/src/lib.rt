@@ -4,6 +4,9 @@
 mod carrying;
 mod closing;
 mod crew;
+mod gathering;
+mod line;
+mod lines;
 mod machine;
 mod paging_in;
 mod report;
@@ -11,5 +14,8 @@ mod threads;
 
 pub use carrying::carrier;
 pub use crew::{Crew, Shift};
+pub use gathering::gather_frames;
+pub use line::{Line, Ran};
+pub use lines::{Told, tell};
 pub use machine::{run_machine, run_over};
 pub use report::{Report, RunRefusal};

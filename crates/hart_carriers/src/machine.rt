@@ -3,9 +3,10 @@
 ghost use Rattle.std.specs.Prelude.{◌≡◌, ◌+◌, ◌<◌, ◌≤◌, ◌⊎◌, ◌↔◌, All, length, vec_len, true, IfOk, OnOk, IsErrOf};
 ghost use Rattle.hart_carriers.specs.Ending.{EndsSound, IsCrewOf};
 ghost use Rattle.reclaim_daemon.specs.SharedValue.{most_processes};
-ghost use Rattle.run_report.specs.FlatLines.{counts_of, StandsForRuns};
+ghost use Rattle.hart_carriers.specs.FlatLines.{counts_of, StandsForRuns};
 
 use crate::closing::close;
+use crate::line::{Line, Ran};
 use crate::report::{Report, RunRefusal};
 use crate::threads::run_threads;
 use clock_policy::Clock;
@@ -13,7 +14,6 @@ use elf_image::Image;
 use frame_pool::PoolError;
 use machine_limits::{FEWEST_FRAMES, MOST_FRAMES, MOST_PROCESSES};
 use reclaim_daemon::{AddRefusal, Desk, Gate, Held, Shared};
-use run_report::{Line, Ran};
 use status_cell::Viewer;
 use std::alloc::{AllocError, Global};
 use std::marker::Brand;

@@ -1,7 +1,7 @@
 //! What a run of a machine by threads has come to.
 
 use crate::crew::Crew;
-use run_report::Line;
+use crate::line::Line;
 use thiserror::Error;
 
 /// What a machine has come to. Each count stays at its type's largest number.

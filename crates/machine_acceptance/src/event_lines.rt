@@ -4,8 +4,8 @@ use clock_policy::Key;
 use event_scripts::{event_on_line, read_drive_script};
 use flat_machine::KillCause;
 use machine_core::Event;
-use script_lines::BadLine;
 use std::test::Fail;
+use text_lines::BadLine;
 
 /// Page 16 of process 0.
 const KEY: Key = Key {

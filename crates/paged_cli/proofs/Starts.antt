@@ -7,8 +7,8 @@ use Rattle.elf_image.specs.Image.{ImageContent}
 use Rattle.hart_carriers.specs.Ending.{EndsSound, IsCrewOf}
 use Rattle.hart_carriers.specs.declared.report.Report.{Report}
 use Rattle.elf_image.specs.Start.{Start, start_of}
-use Rattle.run_report.specs.FlatLines.{counts_of, HasLine, StandsForRuns}
-use Rattle.run_report.specs.declared.line.Line.{Line}
+use Rattle.hart_carriers.specs.FlatLines.{counts_of, HasLine, StandsForRuns}
+use Rattle.hart_carriers.specs.declared.line.Line.{Line}
 use Rattle.paged_cli.specs.Running.{CameTo, HaveLines, starts_of}
 
 -- what a function of an entry is, if there is one

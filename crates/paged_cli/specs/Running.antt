@@ -13,8 +13,8 @@ use Rattle.machine_core.specs.declared.report.Report as machine
 use Rattle.elf_image.specs.Start.{Start, start_of}
 use Rattle.report_text.specs.RunStatus.{worst_status}
 use Rattle.report_text.specs.ReportText.{report_text}
-use Rattle.run_report.specs.FlatLines.{counts_of, HasLine}
-use Rattle.run_report.specs.declared.line.Line.{Line}
+use Rattle.hart_carriers.specs.FlatLines.{counts_of, HasLine}
+use Rattle.hart_carriers.specs.declared.line.Line.{Line}
 use Rattle.swap_slots.specs.Slot.{zero_content}
 
 -- what processes are started from that are handed in as images and inputs

@@ -2,7 +2,8 @@
 
 use crate::run_command::run_machines;
 use command_line::{Request, read_request};
-use flat_commands::{finish, run_asm, run_flat};
+use command_shell::finish;
+use flat_commands::{run_asm, run_flat};
 use image_files::{Fault, Folder};
 use serial_commands::{run_clock, run_debug, run_drive};
 use std::convert::AsStr;
@@ -24,7 +25,7 @@ where
     R::File: Send,
 {
     let done = run_words(rt, words, input, out, err);
-    finish(done, out, err)
+    finish("paged", done, out, err)
 }
 
 fn run_words<'a, R, S: AsStr, I: Read, O: Write, E: Write + Send>(

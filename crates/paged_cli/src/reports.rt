@@ -3,8 +3,8 @@
 ghost use Rattle.std.specs.Prelude.{◌≡◌, [], IfOk, map};
 ghost use Rattle.paged_cli.specs.Running.{process_report, IsToldAs};
 
+use hart_carriers::Line;
 use machine_core::{ProcessReport, Report};
-use run_report::Line;
 use std::alloc::AllocError;
 
 /// The report of a machine that ran by threads, in a list that is empty and grows where it has no room.

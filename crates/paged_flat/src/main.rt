@@ -2,21 +2,14 @@
 //! is the library's, `flat_commands`, which the whole program calls too.
 #![tactic(auto)]
 
-use flat_commands::{fail, read_words, run_flat_commands};
-use image_files::Fault;
-use std::io;
-use std::io::BufWriter;
+use command_shell::begin;
+use flat_commands::run_flat_commands;
 use std::process::ExitCode;
 
 fn main(rt: HostRuntime) -> ExitCode {
     let mut err = rt.stderr();
-    let words = match read_words(&rt) {
-        Ok(words) => words,
-        Err(fault) => return ExitCode::from(fail(fault, &mut err)),
-    };
-    let Ok(mut out) = BufWriter::new(rt.alloc(), io::writer(&rt)) else {
-        return ExitCode::from(fail(Fault::NoMemory, &mut err));
-    };
-    let status = run_flat_commands(&rt, words.as_slice(), &mut out, &mut err);
-    ExitCode::from(status)
+    ExitCode::from(match begin(&rt, "paged", &mut err) {
+        Ok((words, mut out)) => run_flat_commands(&rt, words.as_slice(), &mut out, &mut err),
+        Err(status) => status,
+    })
 }

@@ -5,13 +5,11 @@ use crate::replay_command::run_replay;
 use crate::request::Request;
 use crate::requests::read_request;
 use crate::trace_command::run_trace;
+use command_shell::finish;
 use image_files::Fault;
 use std::convert::AsStr;
 use std::io::Write;
 use std::rt::Files;
-
-/// The exit status where a fault stopped the command.
-const FAULT: u8 = 2;
 
 /// Runs the program on the words behind its name, and answers its exit status: 0, or 2 for a fault, which is told on `err`.
 pub fn run_policies<R: Files + AllocGlobal, S: AsStr, O: Write, E: Write>(
@@ -21,14 +19,7 @@ pub fn run_policies<R: Files + AllocGlobal, S: AsStr, O: Write, E: Write>(
     err: &mut E,
 ) -> u8 {
     let done = run_words(rt, words, out, err);
-    let flushed = out.flush();
-    match done {
-        Ok(()) => match flushed {
-            Ok(()) => 0,
-            Err(_) => fail(Fault::CannotWrite, err),
-        },
-        Err(fault) => fail(fault, err),
-    }
+    finish("policies", done.map(|()| 0), out, err)
 }
 
 fn run_words<'a, R: Files + AllocGlobal, S: AsStr, O: Write, E: Write>(
@@ -42,11 +33,4 @@ fn run_words<'a, R: Files + AllocGlobal, S: AsStr, O: Write, E: Write>(
         Request::Trace(request) => run_trace(rt, &request, out),
         Request::Replay(request) => run_replay(rt, &request, out, err),
     }
-}
-
-/// Tells a fault. Where that can't be written either, the status alone tells it.
-fn fail<E: Write>(fault: Fault<'_>, err: &mut E) -> u8 {
-    let _ = writeln!(err, "policies: {fault}");
-    let _ = err.flush();
-    FAULT
 }

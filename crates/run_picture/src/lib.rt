@@ -8,10 +8,12 @@ mod event_line;
 mod json;
 mod named;
 mod picture;
+mod program;
 mod scene;
 mod text;
 
 pub use drive::film;
 pub use json::write_film;
 pub use picture::{Picture, ShownPage, picture_of};
+pub use program::run_show;
 pub use scene::{Film, Output, Scene};

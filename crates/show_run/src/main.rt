@@ -1,32 +1,14 @@
 //! The program behind `scripts/show-run`: it prints the pictures of a run. What it does is the library's, `run_picture`.
 #![tactic(auto)]
 
-mod program;
-
-use crate::program::{FAULT, run_show};
-use std::io::{BufWriter, ErrorKind, Write};
+use command_shell::begin;
+use run_picture::run_show;
 use std::process::ExitCode;
-use std::{env, io};
 
 fn main(rt: HostRuntime) -> ExitCode {
     let mut err = rt.stderr();
-    let words = match env::args(&rt) {
-        Ok(words) => words,
-        Err(error) => {
-            let fault = match error.kind() {
-                ErrorKind::OutOfMemory => "no memory",
-                _ => "bad usage", // a word that is not UTF-8
-            };
-            let _ = writeln!(err, "show-run: {fault}");
-            return ExitCode::from(FAULT);
-        }
-    };
-    let (Ok(words), Ok(mut out)) = (
-        words.skip(1).collect::<Vec<String>>(rt.alloc()),
-        BufWriter::new(rt.alloc(), io::writer(&rt)),
-    ) else {
-        let _ = writeln!(err, "show-run: no memory");
-        return ExitCode::from(FAULT);
-    };
-    ExitCode::from(run_show(&rt, words.as_slice(), &mut out, &mut err))
+    ExitCode::from(match begin(&rt, "show-run", &mut err) {
+        Ok((words, mut out)) => run_show(&rt, words.as_slice(), &mut out, &mut err),
+        Err(status) => status,
+    })
 }

@@ -1,2 +1,4 @@
 pub mod Numbers
 pub mod Text
+pub mod Calls
+pub mod Lines

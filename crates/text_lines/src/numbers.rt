@@ -40,3 +40,10 @@ pub fn number(text: &[u8], most: u32) -> Option<u32>
         numeral(text, 10, most)
     }
 }
+
+/// The number that a word writes, of 32 bits.
+pub fn word_number(word: &[u8]) -> Option<u32>
+    ensures { SomeIff result (IsNumber 4294967295 word.now) (number_value word.now) }
+{
+    number(word, u32::MAX)
+}

@@ -1,7 +1,7 @@
 use Rattle.std.proofs.Common.{◌≡◌, ◌++◌, ◌∷◌, [], Some, inr, refl, rules}
-use Rattle.debug_lines.specs.Answers.{Answers}
-use Rattle.debug_lines.specs.Lines.{AsksFor}
-use Rattle.debug_lines.specs.ReplyText.{reply_text}
+use Rattle.debug_session.specs.Answers.{Answers}
+use Rattle.debug_session.specs.Lines.{AsksFor}
+use Rattle.debug_session.specs.ReplyText.{reply_text}
 use Rattle.debug_session.proofs.turn.take_turn.Goals as goal
 
 pub returns-clause-err : goal.returns-clause-err

@@ -1,7 +1,7 @@
 use Rattle.std.proofs.Common.{arith, rules}
 use Rattle.text_lines.specs.Text.{lines_of, words_of}
 use Rattle.event_scripts.specs.DriveScript.{WritesEvent}
-use Rattle.script_lines.specs.Lines.{IsSkipped}
+use Rattle.text_lines.specs.Lines.{IsSkipped}
 use Rattle.event_scripts.proofs.Passed.{writes, skips}
 use Rattle.event_scripts.proofs.drive_script.read_drive_script.Goals as goal
 

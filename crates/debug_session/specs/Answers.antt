@@ -1,0 +1,85 @@
+-- What a debugger does for a line, and replies: for each line the debugger's call that it names, by what that call does.
+use Rattle.std.specs.Prelude.{◌≡◌, ◌⊎◌, ℕ, List, map, slice_set, Option, None, Some, IsSomeAnd}
+use Rattle.flat_machine.specs.Process.{Process, hart_registers}
+use Rattle.debug_core.specs.Debugging.{DebuggerValue, AddsPoint, RefusesLook, RefusesStep, StepsOnce, first_moment, lowest_free}
+use Rattle.debug_core.specs.Points.{bytes_from, point_at, IsRange}
+use Rattle.debug_core.specs.Stops.{Stops, Wants}
+use Rattle.debug_core.specs.declared.point.Point.TheVariants as point
+use Rattle.debug_core.specs.declared.refusal.DebugRefusal.TheVariants as refusal
+use Rattle.debug_core.specs.declared.target.ReadFault.{ReadFault}
+use Rattle.debug_session.specs.declared.lines.DebugLine.{DebugLine}
+use Rattle.debug_session.specs.declared.lines.DebugLine.TheVariants.{Break, Watch, Remove, Step, Go, Regs, Mem, Quit}
+use Rattle.debug_session.specs.declared.reply.DebugReply.{DebugReply}
+use Rattle.debug_session.specs.declared.reply.DebugReply.TheVariants.{Point, Removed, Stepped, Stopped, Registers, Bytes, Refused}
+
+-- a point is added under the lowest free number, or there is none
+abbrev pub AnswersBreak : {T : Type 0} → ℕ → DebuggerValue T → DebugReply → DebuggerValue T → Type 0
+AnswersBreak address old (Point number) new =
+    AddsPoint (point.Break address) number old.points new.points × (new ≡ record old { points = new.points })
+AnswersBreak address old (Refused why) new = (why ≡ refusal.Full) × (lowest_free old.points ≡ None) × (new ≡ old)
+AnswersBreak address old other new = ⊥
+
+-- the same, and the bytes are 1 to 16
+abbrev pub AnswersWatch : {T : Type 0} → ℕ → ℕ → DebuggerValue T → DebugReply → DebuggerValue T → Type 0
+AnswersWatch address length old (Point number) new = IsRange 16 address length
+    × AddsPoint (point.Watch address length) number old.points new.points × (new ≡ record old { points = new.points })
+AnswersWatch address length old (Refused why) new =
+    (((why ≡ refusal.Full) × (lowest_free old.points ≡ None))
+    ⊎ ((why ≡ refusal.BadRange) × ((¬ (lowest_free old.points ≡ None)) × (¬ IsRange 16 address length)))) × (new ≡ old)
+AnswersWatch address length old other new = ⊥
+
+-- a point is removed, or there is none with the number
+abbrev pub AnswersRemove : {T : Type 0} → ℕ → DebuggerValue T → DebugReply → DebuggerValue T → Type 0
+AnswersRemove number old Removed new =
+    (¬ (point_at old.points number ≡ None)) × (new ≡ record old { points = slice_set old.points number None })
+AnswersRemove number old (Refused why) new = (why ≡ refusal.NoPoint) × (point_at old.points number ≡ None) × (new ≡ old)
+AnswersRemove number old other new = ⊥
+
+-- `shown` is the flat process that a target shows
+module _ {T : Type 0} (shown : T → Process) where
+  -- the flat step of a hart
+  abbrev pub AnswersStep : ℕ → DebuggerValue T → DebugReply → DebuggerValue T → Type 0
+  AnswersStep hart old (Stepped stepped) new =
+      StepsOnce stepped hart (shown old.target) old.turn (shown new.target) new.turn × (new.points ≡ old.points)
+  AnswersStep hart old (Refused why) new =
+      RefusesStep why hart (shown old.target) (shown new.target) × (new.turn ≡ old.turn) × (new.points ≡ old.points)
+  AnswersStep hart old other new = ⊥
+
+  -- flat steps by turns, to the first reason to stop
+  abbrev pub AnswersGo : ℕ → DebuggerValue T → DebugReply → DebuggerValue T → Type 0
+  AnswersGo limit old (Stopped why turn steps) new =
+      Stops old.points limit why steps (first_moment (shown old.target) old.turn) new.turn (shown new.target)
+      × (turn ≡ new.turn) × (new.points ≡ old.points)
+  AnswersGo limit old (Refused why) new =
+      (why ≡ refusal.NoMemory) × Wants old.points limit (first_moment (shown old.target) old.turn) new.turn (shown new.target)
+      × (new.points ≡ old.points)
+  AnswersGo limit old other new = ⊥
+
+  -- the flat process's registers
+  abbrev pub AnswersRegs : ℕ → DebuggerValue T → DebugReply → DebuggerValue T → Type 0
+  AnswersRegs hart old (Registers regs) new = (hart_registers hart (shown old.target) ≡ Some regs) × (new ≡ old)
+  AnswersRegs hart old (Refused why) new = (why ≡ refusal.NoHart) × (hart_registers hart (shown old.target) ≡ None) × (new ≡ old)
+  AnswersRegs hart old other new = ⊥
+
+  -- what is shown, the points and the turn stay
+  abbrev pub ShowsTheSame : DebuggerValue T → DebuggerValue T → Type 0
+  ShowsTheSame old new = (shown new.target ≡ shown old.target) × (new.points ≡ old.points) × (new.turn ≡ old.turn)
+
+  -- the flat process's bytes; `fails` tells when a target can't read them
+  abbrev pub AnswersMem : (T → ℕ → ℕ → ReadFault → Type 0) → ℕ → ℕ → DebuggerValue T → DebugReply → DebuggerValue T → Type 0
+  AnswersMem fails address length old (Bytes bytes) new = IsRange 4096 address length
+      × (map Some bytes.items ≡ bytes_from (shown old.target).memory address length) × ShowsTheSame old new
+  AnswersMem fails address length old (Refused why) new =
+      RefusesLook fails why address length old.target (shown old.target).memory × ShowsTheSame old new
+  AnswersMem fails address length old other new = ⊥
+
+  -- what is done for a line, and replied; there is no reply to `quit`
+  abbrev pub Answers : (T → ℕ → ℕ → ReadFault → Type 0) → DebugLine → DebuggerValue T → Option DebugReply → DebuggerValue T → Type 0
+  Answers fails (Break address) old reply new = IsSomeAnd reply (λ reply. AnswersBreak address old reply new)
+  Answers fails (Watch address length) old reply new = IsSomeAnd reply (λ reply. AnswersWatch address length old reply new)
+  Answers fails (Remove number) old reply new = IsSomeAnd reply (λ reply. AnswersRemove number old reply new)
+  Answers fails (Step hart) old reply new = IsSomeAnd reply (λ reply. AnswersStep hart old reply new)
+  Answers fails (Go limit) old reply new = IsSomeAnd reply (λ reply. AnswersGo limit old reply new)
+  Answers fails (Regs hart) old reply new = IsSomeAnd reply (λ reply. AnswersRegs hart old reply new)
+  Answers fails (Mem address length) old reply new = IsSomeAnd reply (λ reply. AnswersMem fails address length old reply new)
+  Answers fails Quit old reply new = (reply ≡ None) × (new ≡ old)

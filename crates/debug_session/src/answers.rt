@@ -1,0 +1,100 @@
+//! What a debugger does for a line, and replies.
+
+ghost use Rattle.debug_session.specs.Answers.{Answers, AnswersBreak, AnswersWatch, AnswersRemove, AnswersStep, AnswersGo, AnswersRegs, AnswersMem};
+
+use crate::lines::DebugLine;
+use crate::reply::DebugReply;
+use debug_core::{DebugRefusal, Debugger, Target};
+use std::alloc::{AllocError, Global};
+
+/// Does what a line asks for, and tells what came of it; `None` where the line is `quit`.
+pub fn answer<T: Target>(
+    alloc: Global,
+    debugger: &mut Debugger<T>,
+    line: DebugLine,
+) -> Option<DebugReply>
+    ensures { Answers T.shown T.fails line debugger.old result debugger.new }
+{
+    match line {
+        DebugLine::Break { address } => Some(add_break(debugger, address)),
+        DebugLine::Watch { address, length } => Some(add_watch(debugger, address, length)),
+        DebugLine::Remove { number } => Some(remove(debugger, number)),
+        DebugLine::Step { hart } => Some(step(debugger, hart)),
+        DebugLine::Go { limit } => Some(go(debugger, limit)),
+        DebugLine::Regs { hart } => Some(regs(debugger, hart)),
+        DebugLine::Mem { address, length } => Some(mem(alloc, debugger, address, length)),
+        DebugLine::Quit => None,
+    }
+}
+
+fn add_break<T: Target>(debugger: &mut Debugger<T>, address: u32) -> DebugReply
+    ensures { AnswersBreak address debugger.old result debugger.new }
+{
+    match debugger.add_break(address) {
+        Ok(number) => DebugReply::Point(number),
+        Err(refusal) => DebugReply::Refused(refusal),
+    }
+}
+
+fn add_watch<T: Target>(debugger: &mut Debugger<T>, address: u32, length: u32) -> DebugReply
+    ensures { AnswersWatch address length debugger.old result debugger.new }
+{
+    match debugger.add_watch(address, length) {
+        Ok(number) => DebugReply::Point(number),
+        Err(refusal) => DebugReply::Refused(refusal),
+    }
+}
+
+fn remove<T: Target>(debugger: &mut Debugger<T>, number: u32) -> DebugReply
+    ensures { AnswersRemove number debugger.old result debugger.new }
+{
+    match debugger.remove(number) {
+        Ok(()) => DebugReply::Removed,
+        Err(refusal) => DebugReply::Refused(refusal),
+    }
+}
+
+fn step<T: Target>(debugger: &mut Debugger<T>, hart: u32) -> DebugReply
+    ensures { AnswersStep T.shown hart debugger.old result debugger.new }
+{
+    match debugger.step(hart) {
+        Ok(stepped) => DebugReply::Stepped(stepped),
+        Err(refusal) => DebugReply::Refused(refusal),
+    }
+}
+
+fn go<T: Target>(debugger: &mut Debugger<T>, limit: u32) -> DebugReply
+    ensures { AnswersGo T.shown limit debugger.old result debugger.new }
+{
+    match debugger.go(u64::from(limit)) {
+        Ok((why, steps)) => DebugReply::Stopped {
+            why,
+            turn: debugger.turn(),
+            steps,
+        },
+        Err(AllocError) => DebugReply::Refused(DebugRefusal::NoMemory),
+    }
+}
+
+fn regs<T: Target>(debugger: &mut Debugger<T>, hart: u32) -> DebugReply
+    ensures { AnswersRegs T.shown hart debugger.old result debugger.new }
+{
+    match debugger.regs(hart) {
+        Ok(regs) => DebugReply::Registers(*regs),
+        Err(refusal) => DebugReply::Refused(refusal),
+    }
+}
+
+fn mem<T: Target>(
+    alloc: Global,
+    debugger: &mut Debugger<T>,
+    address: u32,
+    length: u32,
+) -> DebugReply
+    ensures { AnswersMem T.shown T.fails address length debugger.old result debugger.new }
+{
+    match debugger.mem(alloc, address, length) {
+        Ok(bytes) => DebugReply::Bytes(bytes),
+        Err(refusal) => DebugReply::Refused(refusal),
+    }
+}

@@ -1,0 +1,125 @@
+//! The lines that are written to a debugger.
+
+ghost use Rattle.std.specs.Prelude.{◌≡◌, ◌↔◌, ◌∷◌, [], IfOk, IfSome, IsErr, IsTrue, IsUtf8, None, Ok};
+ghost use Rattle.text_lines.specs.Text.{words_of};
+ghost use Rattle.text_lines.specs.Lines.{IsSkipped};
+ghost use Rattle.debug_session.specs.Lines.{AsksFor, WritesLine};
+ghost use Rattle.debug_session.specs.declared.lines.DebugLine.{DebugLine};
+
+use std::str;
+use text_lines::{BadLine, is_skipped, next_word, word_number};
+
+/// What a line asks of a debugger.
+#[derive(Clone, Copy, Debug, PartialEq, Eq)]
+pub enum DebugLine {
+    /// Stop before the instruction at an address.
+    Break { address: u32 },
+    /// Stop after a change of one of so many bytes from an address on.
+    Watch { address: u32, length: u32 },
+    /// Remove a point.
+    Remove { number: u32 },
+    /// Run one instruction of a hart.
+    Step { hart: u32 },
+    /// Run so many instructions at most, by turns.
+    Go { limit: u32 },
+    /// Show a hart's registers.
+    Regs { hart: u32 },
+    /// Show so many bytes from an address on.
+    Mem { address: u32, length: u32 },
+    /// End the conversation.
+    Quit,
+}
+
+/// What a line asks for, if it is not skipped. A skipped line has to be UTF-8, as all lines.
+pub fn debug_line(line: &[u8]) -> Result<Option<DebugLine>, BadLine>
+    ensures skipped { result ≡ Ok None ↔ (IsSkipped line.now × IsUtf8 line.now) }
+    ensures asked { IfOk result (λ found. IfSome found (λ asked. AsksFor asked line.now)) }
+    ensures bad { IsErr result → (asked : DebugLine) → ¬ AsksFor asked line.now }
+{
+    if is_skipped(line) {
+        return if is_utf8(line) {
+            Ok(None)
+        } else {
+            Err(BadLine)
+        };
+    }
+    let Some((name, rest)) = next_word(line) else {
+        return Err(BadLine);
+    };
+    match line_with(name, rest) {
+        Some(asked) => Ok(Some(asked)),
+        None => Err(BadLine),
+    }
+}
+
+fn is_utf8(line: &[u8]) -> bool
+    ensures { IsTrue result ↔ IsUtf8 line.now }
+{
+    str::from_utf8(line).is_ok()
+}
+
+/// What a name asks for with the words behind it.
+fn line_with(name: &[u8], rest: &[u8]) -> Option<DebugLine>
+    ensures found { IfSome result (λ asked. WritesLine asked (name.now ∷ words_of rest.now)) }
+    ensures none { result ≡ None → (asked : DebugLine) → ¬ WritesLine asked (name.now ∷ words_of rest.now) }
+{
+    let Some((first, rest)) = next_word(rest) else {
+        return line_alone(name);
+    };
+    let Some((second, rest)) = next_word(rest) else {
+        return line_of_one(name, first);
+    };
+    if next_word(rest).is_some() {
+        return None;
+    }
+    line_of_two(name, first, second)
+}
+
+/// What one word asks for.
+fn line_alone(name: &[u8]) -> Option<DebugLine>
+    ensures found { IfSome result (λ asked. WritesLine asked (name.now ∷ [])) }
+    ensures none { result ≡ None → (asked : DebugLine) → ¬ WritesLine asked (name.now ∷ []) }
+{
+    if name == b"quit".as_slice() {
+        Some(DebugLine::Quit)
+    } else {
+        None
+    }
+}
+
+/// What a name and a number ask for.
+fn line_of_one(name: &[u8], first: &[u8]) -> Option<DebugLine>
+    ensures found { IfSome result (λ asked. WritesLine asked (name.now ∷ first.now ∷ [])) }
+    ensures none { result ≡ None → (asked : DebugLine) → ¬ WritesLine asked (name.now ∷ first.now ∷ []) }
+{
+    let number = word_number(first)?;
+    if name == b"break".as_slice() {
+        Some(DebugLine::Break { address: number })
+    } else if name == b"remove".as_slice() {
+        Some(DebugLine::Remove { number })
+    } else if name == b"step".as_slice() {
+        Some(DebugLine::Step { hart: number })
+    } else if name == b"go".as_slice() {
+        Some(DebugLine::Go { limit: number })
+    } else if name == b"regs".as_slice() {
+        Some(DebugLine::Regs { hart: number })
+    } else {
+        None
+    }
+}
+
+/// What a name and two numbers ask for.
+fn line_of_two(name: &[u8], first: &[u8], second: &[u8]) -> Option<DebugLine>
+    ensures found { IfSome result (λ asked. WritesLine asked (name.now ∷ first.now ∷ second.now ∷ [])) }
+    ensures none { result ≡ None → (asked : DebugLine) → ¬ WritesLine asked (name.now ∷ first.now ∷ second.now ∷ []) }
+{
+    let address = word_number(first)?;
+    let length = word_number(second)?;
+    if name == b"watch".as_slice() {
+        Some(DebugLine::Watch { address, length })
+    } else if name == b"mem".as_slice() {
+        Some(DebugLine::Mem { address, length })
+    } else {
+        None
+    }
+}

@@ -1,3 +1,0 @@
-pub mod AccessPages
-pub mod CallPages
-pub mod StepParts

@@ -1,0 +1,107 @@
+//! A run of the program.
+
+ghost use Rattle.std.specs.Prelude.{◌≡◌, ◌+◌, ◌≤◌, length};
+ghost use Rattle.command_line.specs.Requests.{IsDriveInRange};
+
+use crate::drive::film;
+use crate::json::write_film;
+use crate::scene::Film;
+use command_line::{DriveRequest, Request, read_request};
+use command_shell::finish;
+use elf_image::Image;
+use event_scripts::read_drive_script;
+use image_files::{Fault, read_processes, read_text};
+use machine_core::Event;
+use serial_commands::new_machine;
+use std::alloc::{AllocError, Global};
+use std::convert::AsStr;
+use std::io::Write;
+use std::marker::Brand;
+use std::rt::Files;
+use std::sync::ledger::{Blank, Ledger};
+
+/// Runs the program on the words behind its name, which are those of the command `drive` of `paged`, and answers its exit
+/// status: 0, or 2 for a fault, which is told on `err`. A script with a bad line has no film.
+pub fn run_show<R: Files + AllocGlobal, S: AsStr, O: Write, E: Write>(
+    rt: &R,
+    words: &[S],
+    out: &mut O,
+    err: &mut E,
+) -> u8 {
+    let done = run_words(rt, words, out);
+    finish("show-run", done, out, err)
+}
+
+fn run_words<'a, R: Files + AllocGlobal, S: AsStr, O: Write>(
+    rt: &R,
+    words: &'a [S],
+    out: &mut O,
+) -> Result<u8, Fault<'a>> {
+    match read_request(rt.alloc(), words)? {
+        Request::Drive(request) => {
+            show_drive(rt, &request, out)?;
+            Ok(0)
+        }
+        Request::Run(_)
+        | Request::Asm(_)
+        | Request::Flat(_)
+        | Request::Clock(_)
+        | Request::Debug(_) => Err(Fault::BadUsage),
+    }
+}
+
+/// Writes the film of the script in a file, on a new machine with a process for each image.
+fn show_drive<'a, R: Files + AllocGlobal, O: Write>(
+    rt: &R,
+    request: &DriveRequest<'a>,
+    out: &mut O,
+) -> Result<(), Fault<'a>>
+    requires { IsDriveInRange request.now }
+{
+    let text = read_text(rt, request.script)?;
+    let processes = read_processes(rt, request.images.as_slice(), None)?;
+    let script = read_drive_script(rt.alloc(), text.as_str().as_bytes())?;
+    if let Some(number) = script.bad_line {
+        return Err(Fault::BadLine(number));
+    }
+    let (frames, slots) = (request.frames, request.slots);
+    let events = script.events.as_slice();
+    let film = film_script(rt.alloc(), frames, slots, processes, events)?;
+    write_film(&film, request.images.as_slice(), out)?;
+    out.flush()?;
+    Ok(())
+}
+
+fn film_script(
+    alloc: Global,
+    frames: u32,
+    slots: u32,
+    processes: Vec<(Image, Vec<u8>)>,
+    events: &[Event],
+) -> Result<Film, AllocError>
+    requires least { 4 ≤ frames }
+    requires most { frames ≤ 4096 }
+    requires few { length processes.items ≤ 16 }
+{
+    let blank = Blank::new(u64::from(frames) + 1);
+    film_with::<Brand>(alloc, frames, blank, slots, processes, events)
+}
+
+fn film_with<L: Ledger>(
+    alloc: Global,
+    frames: u32,
+    blank: Blank,
+    slots: u32,
+    processes: Vec<(Image, Vec<u8>)>,
+    events: &[Event],
+) -> Result<Film, AllocError>
+    requires name { blank.name ≡ L.name }
+    requires parts { blank.parts ≡ L.parts }
+    requires one_each { L.parts ≡ frames + 1 }
+    requires least { 4 ≤ frames }
+    requires most { frames ≤ 4096 }
+    requires few { length processes.items ≤ 16 }
+{
+    let mut core = new_machine::<L>(alloc, frames, blank, slots, processes)?;
+    film(alloc, &mut core, events)
+}

@@ -1,2 +1,0 @@
-pub mod FlatRuns
-pub mod Growing

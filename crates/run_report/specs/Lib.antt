@@ -1,3 +1,0 @@
-pub mod Counts
-pub mod FlatLines
-pub mod Telling

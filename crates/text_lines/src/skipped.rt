@@ -1,0 +1,12 @@
+ghost use Rattle.std.specs.Prelude.{◌↔◌, IsTrue};
+ghost use Rattle.text_lines.specs.Lines.{IsSkipped};
+
+/// Whether a line is empty or a remark.
+pub fn is_skipped(line: &[u8]) -> bool
+    ensures { IsTrue result ↔ IsSkipped line.now }
+{
+    match line.first() {
+        None | Some(b'#') => true,
+        Some(_) => false,
+    }
+}

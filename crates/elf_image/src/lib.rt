@@ -27,4 +27,4 @@ pub use image::{Image, ImagePage};
 pub use read::read_elf;
 pub use words::TEXT_START;
 pub use writing::write_elf;
-pub use written_law::{written_file_is_read_back, written_files_are_read_back};
+pub use written_law::written_files_are_read_back;

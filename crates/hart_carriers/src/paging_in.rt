@@ -2,6 +2,7 @@
 
 use clock_policy::{Clock, Key};
 use flat_machine::KillCause;
+use machine_limits::MOST_LOAD_FAULTS;
 use machine_sides::NotAdmitted;
 use paged_memory::PageInFault;
 use reclaim_daemon::{Gate, HoldOfBoth, PagedIn, Shared};
@@ -9,9 +10,6 @@ use std::sync::Wait;
 use std::sync::ledger::Ledger;
 use std::thread::yield_now;
 use swap_slots::SwapSlot;
-
-/// After so many load faults in a row a process is killed.
-const MOST_LOAD_FAULTS: u32 = 3;
 
 /// What one try for a page came to.
 #[derive(Clone, Copy)]

@@ -4,13 +4,14 @@ ghost use Rattle.paged_memory.specs.Paged.{memory_of};
 ghost use Rattle.machine_sides.specs.Agreeing.{AgreeStill};
 ghost use Rattle.machine_sides.specs.Collecting.{is_leaving_at, Finds, Looks};
 
-use crate::pager_side::{PagerSide, tally};
+use crate::pager_side::PagerSide;
 use crate::process_side::ProcessSide;
 use crate::returning::bring_back;
 use clock_policy::{Clock, Refusal};
 use frame_pool::Frame;
 use page_memory::PAGE_COUNT;
 use page_store::{Collected, PageState, SaveJob};
+use pager_core::tally;
 use std::sync::ledger::Ledger;
 use swap_slots::{SlotPool, SwapSlot};
 

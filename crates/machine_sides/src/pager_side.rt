@@ -117,11 +117,3 @@ impl<L: Ledger, C: Clock> PagerSide<L, C> {
 fn room_for_copy(alloc: Global) -> Result<Box<[u8; 4096]>, AllocError> {
     Ok(Box::new(alloc, [0; 4096])?)
 }
-
-/// A count and one more, which stays at its type's largest number.
-#[tactic(auto, unfolding(pager_core::specs::Pager::tallied))]
-pub(crate) fn tally(count: u64) -> u64
-    ensures { result ≡ tallied count }
-{
-    count.saturating_add(1)
-}

@@ -3,12 +3,13 @@ ghost use Rattle.paged_memory.specs.Paged.{memory_of};
 ghost use Rattle.machine_sides.specs.Agreeing.{AgreeStill};
 ghost use Rattle.machine_sides.specs.SavingBack.{is_saving_at, EndsSave, Ends, FreesFrame};
 
-use crate::pager_side::{PagerSide, tally};
+use crate::pager_side::PagerSide;
 use crate::process_side::ProcessSide;
 use crate::returning::bring_back;
 use clock_policy::{Clock, Refusal};
 use frame_pool::Frame;
 use page_store::{PageState, SaveRefusal, SavedJob};
+use pager_core::tally;
 use std::sync::ledger::Ledger;
 use swap_slots::SwapSlot;
 

@@ -19,9 +19,9 @@ pub struct Counts {
     pub tallies: Tallies,
 }
 
-/// A tally and one more.
+/// A tally and one more, which stays at its type's largest number.
 #[tactic(auto, unfolding(crate::specs::Pager::tallied))]
-pub(crate) fn tally(count: u64) -> u64
+pub fn tally(count: u64) -> u64
     ensures { result ≡ tallied count }
 {
     count.saturating_add(1)

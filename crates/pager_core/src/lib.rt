@@ -8,7 +8,7 @@ mod hands;
 mod pager;
 mod refusal;
 
-pub use counts::{Counts, Tallies};
+pub use counts::{Counts, Tallies, tally};
 pub use hands::Hands;
 pub use pager::Pager;
 pub use refusal::AdmitRefusal;

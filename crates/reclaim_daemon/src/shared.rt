@@ -8,7 +8,7 @@ use crate::held::Held;
 use crate::parts::Parts;
 use clock_policy::Clock;
 use elf_image::Image;
-use machine_limits::{MOST_HARTS, MOST_PROCESSES};
+use machine_limits::{MOST_HARTS, MOST_PROCESSES, TRIES_PER_FRAME};
 use machine_sides::ProcessSide;
 use status_cell::Viewer;
 use std::alloc::{AllocError, Global};
@@ -19,9 +19,6 @@ use std::sync::{Mutex, Wait};
 use std::time::Duration;
 use swap_slots::{SlotPool, SwapSlot};
 use thiserror::Error;
-
-/// A process is killed after so many tries for its pages, for each frame of the machine.
-const TRIES_PER_FRAME: u64 = 64;
 
 /// For how many milliseconds a thread sleeps at most before it looks again whether what it waits for has come.
 const NAP_MILLIS: u64 = 1;

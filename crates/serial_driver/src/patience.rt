@@ -6,10 +6,7 @@ ghost use Rattle.machine_core.specs.ManySteps.{steps_of, replies_of};
 ghost use Rattle.serial_driver.specs.Patience.{IsPatient, any_ran, has_failed, is_served, renewed, run_of, spent_of, spent_with, tried_after, tried_again, tried_with, try_of, tries_per_frame};
 
 use machine_core::{Event, Reply, Steps};
-use machine_limits::MOST_PROCESSES;
-
-/// A process is killed after so many page-ins and failed collects of its pages, for each frame of the machine.
-const TRIES_PER_FRAME: u64 = 64;
+use machine_limits::{MOST_PROCESSES, TRIES_PER_FRAME};
 
 /// Counts of what was tried in vain.
 #[derive(Drop)]

@@ -14,11 +14,9 @@ use crate::failure::Failure;
 use crate::harts::{HartOf, live_hart_from, next_hart};
 use clock_policy::{Clock, Key};
 use machine_core::{Core, Event, EventRefusal, Reply, Steps};
+use machine_limits::MOST_LOAD_FAULTS;
 use std::sync::ledger::Ledger;
 use swap_slots::SwapSlot;
-
-/// After so many load faults in a row a process is killed.
-const MOST_LOAD_FAULTS: u32 = 3;
 
 /// What the driver is about to do.
 #[derive(Clone, Copy)]

@@ -44,29 +44,8 @@ pub fn perform_load<B: Bus>(
 
 /// Loads from an address into rd.
 #[inline(always)]
-fn load_from<B: Bus>(regs: &mut Regs, bus: &mut B, kind: LoadKind, rd: Reg, address: u32) -> Outcome
-    ensures line { let line = load_line regs.old (B.memory bus.old) kind rd address in
-        Follows line result regs.new (B.memory bus.new) }
-    ensures registers_stay { UnlessDone result (regs.new ≡ regs.old) }
-    ensures memory_stays { UnlessDone result (B.memory bus.new ≡ B.memory bus.old) }
-    ensures pages { let used = load_pages (B.memory bus.old) kind address in
-        UsesPages (B.has bus.old) (B.marks bus.new) (B.lacks bus.old) used result }
-    ensures bound { Bounds (B.within bus.old) (B.within bus.new) (load_pages (B.memory bus.old) kind address) [] }
-    ensures kept { B.keeps bus.old bus.new }
-{
-    match kind {
-        LoadKind::Lb => load_of_kind(regs, bus, LoadKind::Lb, rd, address),
-        LoadKind::Lh => load_of_kind(regs, bus, LoadKind::Lh, rd, address),
-        LoadKind::Lw => load_of_kind(regs, bus, LoadKind::Lw, rd, address),
-        LoadKind::Lbu => load_of_kind(regs, bus, LoadKind::Lbu, rd, address),
-        LoadKind::Lhu => load_of_kind(regs, bus, LoadKind::Lhu, rd, address),
-    }
-}
-
-/// The same in one inlined copy for each kind, which is a constant there.
-#[inline(always)]
 #[tactic(auto, using(crate::specs::AccessLaws::loading), unfolding(crate::specs::Uses::load_pages, crate::specs::Uses::store_pages, crate::specs::Uses::amo_pages))]
-fn load_of_kind<B: Bus>(
+fn load_from<B: Bus>(
     regs: &mut Regs,
     bus: &mut B,
     kind: LoadKind,
@@ -116,34 +95,8 @@ pub fn perform_store<B: Bus>(
 
 /// Stores the low bytes of a word at an address.
 #[inline(always)]
-fn store_to<B: Bus>(
-    regs: &mut Regs,
-    bus: &mut B,
-    kind: StoreKind,
-    address: u32,
-    word: u32,
-) -> Outcome
-    ensures line { let line = store_line regs.old (B.memory bus.old) kind address word in
-        Follows line result regs.new (B.memory bus.new) }
-    ensures registers_stay { UnlessDone result (regs.new ≡ regs.old) }
-    ensures memory_stays { UnlessDone result (B.memory bus.new ≡ B.memory bus.old) }
-    ensures pages { let used = store_pages (B.memory bus.old) kind address word in
-        UsesPages (B.has bus.old) (B.marks bus.new) (B.lacks bus.old) used result }
-    ensures bound { let used = store_pages (B.memory bus.old) kind address word in
-        Bounds (B.within bus.old) (B.within bus.new) used used }
-    ensures kept { B.keeps bus.old bus.new }
-{
-    match kind {
-        StoreKind::Sb => store_of_kind(regs, bus, StoreKind::Sb, address, word),
-        StoreKind::Sh => store_of_kind(regs, bus, StoreKind::Sh, address, word),
-        StoreKind::Sw => store_of_kind(regs, bus, StoreKind::Sw, address, word),
-    }
-}
-
-/// The same in one inlined copy for each kind, which is a constant there.
-#[inline(always)]
 #[tactic(auto, using(crate::specs::AccessLaws::storing), unfolding(crate::specs::Uses::load_pages, crate::specs::Uses::store_pages, crate::specs::Uses::amo_pages))]
-fn store_of_kind<B: Bus>(
+fn store_to<B: Bus>(
     regs: &mut Regs,
     bus: &mut B,
     kind: StoreKind,
@@ -168,7 +121,7 @@ fn store_of_kind<B: Bus>(
 }
 
 /// Replaces the word at an address by the operation's result, and keeps the old word in rd.
-#[inline]
+#[inline(always)]
 #[tactic(auto, using(crate::specs::AccessLaws::replacing), unfolding(crate::specs::Uses::load_pages, crate::specs::Uses::store_pages, crate::specs::Uses::amo_pages))]
 pub fn perform_amo<B: Bus>(
     regs: &mut Regs,
@@ -196,7 +149,7 @@ pub fn perform_amo<B: Bus>(
 }
 
 /// Loads the word at an address into rd, and reserves it for the hart.
-#[inline]
+#[inline(always)]
 #[tactic(auto, using(crate::specs::AccessLaws::reserving_word), unfolding(crate::specs::Uses::load_pages, crate::specs::Uses::store_pages))]
 pub fn perform_load_reserved<B: Bus>(
     hart: u32,
@@ -222,7 +175,7 @@ pub fn perform_load_reserved<B: Bus>(
 }
 
 /// Stores a word at an address where the hart has reserved it, and writes to rd whether it has not.
-#[inline]
+#[inline(always)]
 #[tactic(auto, using(crate::specs::AccessLaws::storing_word), unfolding(crate::specs::Uses::load_pages, crate::specs::Uses::store_pages))]
 pub fn perform_store_conditional<B: Bus>(
     hart: u32,

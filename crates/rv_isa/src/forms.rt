@@ -1,4 +1,4 @@
-//! What opcode and funct3 tell of a word, as one number of a small range: so that a word is told apart by one jump.
+//! What opcode and funct3 tell of a word: one of few forms, so that words are told apart by one jump.
 ghost use Rattle.std.specs.Prelude.{◌≡◌};
 ghost use Rattle.rv_isa.specs.Bits.{bits};
 ghost use Rattle.rv_isa.specs.Table.{insn_of};
@@ -54,67 +54,118 @@ pub enum Form {
     System,
 }
 
-/// The forms of the words of an opcode, by funct3.
-type Row = [Form; 8];
+/// The forms of the words of a funct3, by opcode.
+type Row = [Form; 128];
 
-const NONE: Row = [Form::Illegal; 8];
-
-const LUI: Row = [Form::Lui; 8];
-
-const AUIPC: Row = [Form::Auipc; 8];
-
-const JAL: Row = [Form::Jal; 8];
+/// No instruction.
+const NO: Form = Form::Illegal;
 
 #[rattlefmt::skip]
-const JALR: Row = [
-    Form::Jalr, Form::Illegal, Form::Illegal, Form::Illegal, Form::Illegal, Form::Illegal, Form::Illegal, Form::Illegal,
+const FUNCT3_0: Row = [
+    NO, NO, NO, Form::Lb, NO, NO, NO, NO, NO, NO, NO, NO, NO, NO, NO, Form::Fence,
+    NO, NO, NO, Form::Addi, NO, NO, NO, Form::Auipc, NO, NO, NO, NO, NO, NO, NO, NO,
+    NO, NO, NO, Form::Sb, NO, NO, NO, NO, NO, NO, NO, NO, NO, NO, NO, Form::Amo,
+    NO, NO, NO, Form::AddSubMul, NO, NO, NO, Form::Lui, NO, NO, NO, NO, NO, NO, NO, NO,
+    NO, NO, NO, NO, NO, NO, NO, NO, NO, NO, NO, NO, NO, NO, NO, NO,
+    NO, NO, NO, NO, NO, NO, NO, NO, NO, NO, NO, NO, NO, NO, NO, NO,
+    NO, NO, NO, Form::Beq, NO, NO, NO, Form::Jalr, NO, NO, NO, NO, NO, NO, NO, Form::Jal,
+    NO, NO, NO, Form::System, NO, NO, NO, NO, NO, NO, NO, NO, NO, NO, NO, NO,
 ];
 
 #[rattlefmt::skip]
-const BRANCH: Row = [
-    Form::Beq, Form::Bne, Form::Illegal, Form::Illegal, Form::Blt, Form::Bge, Form::Bltu, Form::Bgeu,
+const FUNCT3_1: Row = [
+    NO, NO, NO, Form::Lh, NO, NO, NO, NO, NO, NO, NO, NO, NO, NO, NO, NO,
+    NO, NO, NO, Form::ShiftLeft, NO, NO, NO, Form::Auipc, NO, NO, NO, NO, NO, NO, NO, NO,
+    NO, NO, NO, Form::Sh, NO, NO, NO, NO, NO, NO, NO, NO, NO, NO, NO, Form::Amo,
+    NO, NO, NO, Form::SllMulh, NO, NO, NO, Form::Lui, NO, NO, NO, NO, NO, NO, NO, NO,
+    NO, NO, NO, NO, NO, NO, NO, NO, NO, NO, NO, NO, NO, NO, NO, NO,
+    NO, NO, NO, NO, NO, NO, NO, NO, NO, NO, NO, NO, NO, NO, NO, NO,
+    NO, NO, NO, Form::Bne, NO, NO, NO, NO, NO, NO, NO, NO, NO, NO, NO, Form::Jal,
+    NO, NO, NO, Form::System, NO, NO, NO, NO, NO, NO, NO, NO, NO, NO, NO, NO,
 ];
 
 #[rattlefmt::skip]
-const LOAD: Row = [
-    Form::Lb, Form::Lh, Form::Lw, Form::Illegal, Form::Lbu, Form::Lhu, Form::Illegal, Form::Illegal,
+const FUNCT3_2: Row = [
+    NO, NO, NO, Form::Lw, NO, NO, NO, NO, NO, NO, NO, NO, NO, NO, NO, NO,
+    NO, NO, NO, Form::Slti, NO, NO, NO, Form::Auipc, NO, NO, NO, NO, NO, NO, NO, NO,
+    NO, NO, NO, Form::Sw, NO, NO, NO, NO, NO, NO, NO, NO, NO, NO, NO, Form::Amo,
+    NO, NO, NO, Form::SltMulhsu, NO, NO, NO, Form::Lui, NO, NO, NO, NO, NO, NO, NO, NO,
+    NO, NO, NO, NO, NO, NO, NO, NO, NO, NO, NO, NO, NO, NO, NO, NO,
+    NO, NO, NO, NO, NO, NO, NO, NO, NO, NO, NO, NO, NO, NO, NO, NO,
+    NO, NO, NO, NO, NO, NO, NO, NO, NO, NO, NO, NO, NO, NO, NO, Form::Jal,
+    NO, NO, NO, Form::System, NO, NO, NO, NO, NO, NO, NO, NO, NO, NO, NO, NO,
 ];
 
 #[rattlefmt::skip]
-const STORE: Row = [
-    Form::Sb, Form::Sh, Form::Sw, Form::Illegal, Form::Illegal, Form::Illegal, Form::Illegal, Form::Illegal,
+const FUNCT3_3: Row = [
+    NO, NO, NO, NO, NO, NO, NO, NO, NO, NO, NO, NO, NO, NO, NO, NO,
+    NO, NO, NO, Form::Sltiu, NO, NO, NO, Form::Auipc, NO, NO, NO, NO, NO, NO, NO, NO,
+    NO, NO, NO, NO, NO, NO, NO, NO, NO, NO, NO, NO, NO, NO, NO, Form::Amo,
+    NO, NO, NO, Form::SltuMulhu, NO, NO, NO, Form::Lui, NO, NO, NO, NO, NO, NO, NO, NO,
+    NO, NO, NO, NO, NO, NO, NO, NO, NO, NO, NO, NO, NO, NO, NO, NO,
+    NO, NO, NO, NO, NO, NO, NO, NO, NO, NO, NO, NO, NO, NO, NO, NO,
+    NO, NO, NO, NO, NO, NO, NO, NO, NO, NO, NO, NO, NO, NO, NO, Form::Jal,
+    NO, NO, NO, Form::System, NO, NO, NO, NO, NO, NO, NO, NO, NO, NO, NO, NO,
 ];
 
 #[rattlefmt::skip]
-const OP_IMM: Row = [
-    Form::Addi, Form::ShiftLeft, Form::Slti, Form::Sltiu, Form::Xori, Form::ShiftRight, Form::Ori, Form::Andi,
+const FUNCT3_4: Row = [
+    NO, NO, NO, Form::Lbu, NO, NO, NO, NO, NO, NO, NO, NO, NO, NO, NO, NO,
+    NO, NO, NO, Form::Xori, NO, NO, NO, Form::Auipc, NO, NO, NO, NO, NO, NO, NO, NO,
+    NO, NO, NO, NO, NO, NO, NO, NO, NO, NO, NO, NO, NO, NO, NO, Form::Amo,
+    NO, NO, NO, Form::XorDiv, NO, NO, NO, Form::Lui, NO, NO, NO, NO, NO, NO, NO, NO,
+    NO, NO, NO, NO, NO, NO, NO, NO, NO, NO, NO, NO, NO, NO, NO, NO,
+    NO, NO, NO, NO, NO, NO, NO, NO, NO, NO, NO, NO, NO, NO, NO, NO,
+    NO, NO, NO, Form::Blt, NO, NO, NO, NO, NO, NO, NO, NO, NO, NO, NO, Form::Jal,
+    NO, NO, NO, Form::System, NO, NO, NO, NO, NO, NO, NO, NO, NO, NO, NO, NO,
 ];
 
 #[rattlefmt::skip]
-const OP: Row = [
-    Form::AddSubMul, Form::SllMulh, Form::SltMulhsu, Form::SltuMulhu, Form::XorDiv, Form::SrlSraDivu, Form::OrRem, Form::AndRemu,
+const FUNCT3_5: Row = [
+    NO, NO, NO, Form::Lhu, NO, NO, NO, NO, NO, NO, NO, NO, NO, NO, NO, NO,
+    NO, NO, NO, Form::ShiftRight, NO, NO, NO, Form::Auipc, NO, NO, NO, NO, NO, NO, NO, NO,
+    NO, NO, NO, NO, NO, NO, NO, NO, NO, NO, NO, NO, NO, NO, NO, Form::Amo,
+    NO, NO, NO, Form::SrlSraDivu, NO, NO, NO, Form::Lui, NO, NO, NO, NO, NO, NO, NO, NO,
+    NO, NO, NO, NO, NO, NO, NO, NO, NO, NO, NO, NO, NO, NO, NO, NO,
+    NO, NO, NO, NO, NO, NO, NO, NO, NO, NO, NO, NO, NO, NO, NO, NO,
+    NO, NO, NO, Form::Bge, NO, NO, NO, NO, NO, NO, NO, NO, NO, NO, NO, Form::Jal,
+    NO, NO, NO, Form::System, NO, NO, NO, NO, NO, NO, NO, NO, NO, NO, NO, NO,
 ];
 
 #[rattlefmt::skip]
-const MISC_MEM: Row = [
-    Form::Fence, Form::Illegal, Form::Illegal, Form::Illegal, Form::Illegal, Form::Illegal, Form::Illegal, Form::Illegal,
+const FUNCT3_6: Row = [
+    NO, NO, NO, NO, NO, NO, NO, NO, NO, NO, NO, NO, NO, NO, NO, NO,
+    NO, NO, NO, Form::Ori, NO, NO, NO, Form::Auipc, NO, NO, NO, NO, NO, NO, NO, NO,
+    NO, NO, NO, NO, NO, NO, NO, NO, NO, NO, NO, NO, NO, NO, NO, Form::Amo,
+    NO, NO, NO, Form::OrRem, NO, NO, NO, Form::Lui, NO, NO, NO, NO, NO, NO, NO, NO,
+    NO, NO, NO, NO, NO, NO, NO, NO, NO, NO, NO, NO, NO, NO, NO, NO,
+    NO, NO, NO, NO, NO, NO, NO, NO, NO, NO, NO, NO, NO, NO, NO, NO,
+    NO, NO, NO, Form::Bltu, NO, NO, NO, NO, NO, NO, NO, NO, NO, NO, NO, Form::Jal,
+    NO, NO, NO, Form::System, NO, NO, NO, NO, NO, NO, NO, NO, NO, NO, NO, NO,
 ];
 
-const AMO: Row = [Form::Amo; 8];
-
-const SYSTEM: Row = [Form::System; 8];
-
-/// The rows of the opcodes from 0 on, sixteen a line.
 #[rattlefmt::skip]
-static FORMS: [Row; 128] = [
-    NONE, NONE, NONE, LOAD, NONE, NONE, NONE, NONE, NONE, NONE, NONE, NONE, NONE, NONE, NONE, MISC_MEM,
-    NONE, NONE, NONE, OP_IMM, NONE, NONE, NONE, AUIPC, NONE, NONE, NONE, NONE, NONE, NONE, NONE, NONE,
-    NONE, NONE, NONE, STORE, NONE, NONE, NONE, NONE, NONE, NONE, NONE, NONE, NONE, NONE, NONE, AMO,
-    NONE, NONE, NONE, OP, NONE, NONE, NONE, LUI, NONE, NONE, NONE, NONE, NONE, NONE, NONE, NONE,
-    NONE, NONE, NONE, NONE, NONE, NONE, NONE, NONE, NONE, NONE, NONE, NONE, NONE, NONE, NONE, NONE,
-    NONE, NONE, NONE, NONE, NONE, NONE, NONE, NONE, NONE, NONE, NONE, NONE, NONE, NONE, NONE, NONE,
-    NONE, NONE, NONE, BRANCH, NONE, NONE, NONE, JALR, NONE, NONE, NONE, NONE, NONE, NONE, NONE, JAL,
-    NONE, NONE, NONE, SYSTEM, NONE, NONE, NONE, NONE, NONE, NONE, NONE, NONE, NONE, NONE, NONE, NONE,
+const FUNCT3_7: Row = [
+    NO, NO, NO, NO, NO, NO, NO, NO, NO, NO, NO, NO, NO, NO, NO, NO,
+    NO, NO, NO, Form::Andi, NO, NO, NO, Form::Auipc, NO, NO, NO, NO, NO, NO, NO, NO,
+    NO, NO, NO, NO, NO, NO, NO, NO, NO, NO, NO, NO, NO, NO, NO, Form::Amo,
+    NO, NO, NO, Form::AndRemu, NO, NO, NO, Form::Lui, NO, NO, NO, NO, NO, NO, NO, NO,
+    NO, NO, NO, NO, NO, NO, NO, NO, NO, NO, NO, NO, NO, NO, NO, NO,
+    NO, NO, NO, NO, NO, NO, NO, NO, NO, NO, NO, NO, NO, NO, NO, NO,
+    NO, NO, NO, Form::Bgeu, NO, NO, NO, NO, NO, NO, NO, NO, NO, NO, NO, Form::Jal,
+    NO, NO, NO, Form::System, NO, NO, NO, NO, NO, NO, NO, NO, NO, NO, NO, NO,
+];
+
+/// The rows by funct3, each once for each rd: a word of which only opcode and funct3 are left is the place of its form.
+static FORMS: [[Row; 32]; 8] = [
+    [FUNCT3_0; 32],
+    [FUNCT3_1; 32],
+    [FUNCT3_2; 32],
+    [FUNCT3_3; 32],
+    [FUNCT3_4; 32],
+    [FUNCT3_5; 32],
+    [FUNCT3_6; 32],
+    [FUNCT3_7; 32],
 ];
 
 /// The form of a word.
@@ -123,5 +174,6 @@ pub fn form_of_word(word: u32) -> Form
     ensures value { result ≡ form_of (bits word 6 0) (bits word 14 12) }
     ensures meaning { insn_of word ≡ insn_of_form result word }
 {
-    FORMS[opcode(word) as usize][funct3(word) as usize]
+    let place = opcode(word) + funct3(word) * 0x1000;
+    FORMS.as_flattened().as_flattened()[place as usize]
 }

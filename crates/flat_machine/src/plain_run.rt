@@ -3,7 +3,7 @@ ghost use Rattle.std.specs.Prelude.{◌≡◌, ◌<◌, ◌≤◌, Some, None};
 ghost use Rattle.flat_machine.specs.PlainRun.{plain_step, plain_run};
 
 use page_memory::FlatMemory;
-use rv_exec::{Outcome, Regs, execute};
+use rv_exec::{Outcome, Regs, execute_at};
 
 /// Runs the next instructions of the hart of a number, up to so many, until one calls or traps, and tells how many were run.
 /// The one that calls or traps is not run.
@@ -13,13 +13,22 @@ pub(crate) fn run_plainly(hart: u32, regs: &mut Regs, memory: &mut FlatMemory, m
     ensures within { result ≤ most }
     ensures stopped { result < most → plain_step hart (regs.new, memory.new) ≡ None }
 {
-    for done in 0..most {
-        match execute(hart, regs, memory) {
-            Outcome::Done => {}
-            Outcome::Ecall => return done,
-            Outcome::Trap(_, _) => return done,
+    let mut pc = regs.pc();
+    let mut left = most;
+    while left != 0 {
+        match execute_at(hart, &mut pc, regs, memory) {
+            Outcome::Done => left -= 1,
+            Outcome::Ecall => {
+                regs.set_pc(pc);
+                return most - left;
+            }
+            Outcome::Trap(_, _) => {
+                regs.set_pc(pc);
+                return most - left;
+            }
             Outcome::Absent(_) => unreachable!(),
         }
     }
+    regs.set_pc(pc);
     most
 }

@@ -2,7 +2,7 @@
 //! Instructions" and "A").
 ghost use Rattle.std.specs.Prelude.{◌≡◌, []};
 ghost use Rattle.rv_exec.specs.Access.{load_width, store_width, extended};
-ghost use Rattle.rv_exec.specs.Registers.{register};
+ghost use Rattle.rv_exec.specs.Registers.{register, with_pc};
 ghost use Rattle.rv_isa.specs.declared.kinds.LoadKind.{LoadKind};
 ghost use Rattle.rv_isa.specs.declared.kinds.StoreKind.{StoreKind};
 ghost use Rattle.rv_exec.specs.Line.{address_at, load_line, store_line, amo_line, reserving_line, conditional_line, conditional_code};
@@ -10,8 +10,8 @@ ghost use Rattle.rv_exec.specs.Uses.{load_pages, store_pages, amo_pages};
 ghost use Rattle.rv_exec.specs.Outcomes.{Follows, UnlessDone, UsesPages};
 ghost use Rattle.rv_exec.specs.Bounds.{Bounds};
 
-use crate::advance::{advance, compute};
 use crate::arithmetic::add;
+use crate::at_hand::{advance, compute, read};
 use crate::bus::{Bus, BusError};
 use crate::cause::Cause;
 use crate::outcome::Outcome;
@@ -22,6 +22,7 @@ use rv_isa::{AmoKind, Immediate, LoadKind, Reg, StoreKind};
 /// Loads from an offset past what rs1 holds into rd.
 #[inline(always)]
 pub fn perform_load<B: Bus>(
+    pc: &mut u32,
     regs: &mut Regs,
     bus: &mut B,
     kind: LoadKind,
@@ -29,53 +30,33 @@ pub fn perform_load<B: Bus>(
     rs1: Reg,
     offset: Immediate,
 ) -> Outcome
-    ensures line { let line = load_line regs.old (B.memory bus.old) kind rd (address_at regs.old rs1 offset) in
-        Follows line result regs.new (B.memory bus.new) }
-    ensures registers_stay { UnlessDone result (regs.new ≡ regs.old) }
+    ensures line { let line = load_line (with_pc regs.old pc.old) (B.memory bus.old) kind rd (address_at (with_pc regs.old pc.old) rs1 offset) in
+        Follows line result (with_pc regs.new pc.new) (B.memory bus.new) }
+    ensures registers_stay { UnlessDone result (with_pc regs.new pc.new ≡ with_pc regs.old pc.old) }
     ensures memory_stays { UnlessDone result (B.memory bus.new ≡ B.memory bus.old) }
-    ensures pages { let used = load_pages (B.memory bus.old) kind (address_at regs.old rs1 offset) in
+    ensures pages { let used = load_pages (B.memory bus.old) kind (address_at (with_pc regs.old pc.old) rs1 offset) in
         UsesPages (B.has bus.old) (B.marks bus.new) (B.lacks bus.old) used result }
-    ensures bound { Bounds (B.within bus.old) (B.within bus.new) (load_pages (B.memory bus.old) kind (address_at regs.old rs1 offset)) [] }
+    ensures bound { Bounds (B.within bus.old) (B.within bus.new) (load_pages (B.memory bus.old) kind (address_at (with_pc regs.old pc.old) rs1 offset)) [] }
     ensures kept { B.keeps bus.old bus.new }
 {
-    let address = add(regs.read(rs1), offset.word());
-    load_from(regs, bus, kind, rd, address)
+    let address = add(read(*pc, regs, rs1), offset.word());
+    load_from(pc, regs, bus, kind, rd, address)
 }
 
 /// Loads from an address into rd.
 #[inline(always)]
-fn load_from<B: Bus>(regs: &mut Regs, bus: &mut B, kind: LoadKind, rd: Reg, address: u32) -> Outcome
-    ensures line { let line = load_line regs.old (B.memory bus.old) kind rd address in
-        Follows line result regs.new (B.memory bus.new) }
-    ensures registers_stay { UnlessDone result (regs.new ≡ regs.old) }
-    ensures memory_stays { UnlessDone result (B.memory bus.new ≡ B.memory bus.old) }
-    ensures pages { let used = load_pages (B.memory bus.old) kind address in
-        UsesPages (B.has bus.old) (B.marks bus.new) (B.lacks bus.old) used result }
-    ensures bound { Bounds (B.within bus.old) (B.within bus.new) (load_pages (B.memory bus.old) kind address) [] }
-    ensures kept { B.keeps bus.old bus.new }
-{
-    match kind {
-        LoadKind::Lb => load_of_kind(regs, bus, LoadKind::Lb, rd, address),
-        LoadKind::Lh => load_of_kind(regs, bus, LoadKind::Lh, rd, address),
-        LoadKind::Lw => load_of_kind(regs, bus, LoadKind::Lw, rd, address),
-        LoadKind::Lbu => load_of_kind(regs, bus, LoadKind::Lbu, rd, address),
-        LoadKind::Lhu => load_of_kind(regs, bus, LoadKind::Lhu, rd, address),
-    }
-}
-
-/// The same in one inlined copy for each kind, which is a constant there.
-#[inline(always)]
 #[tactic(auto, using(crate::specs::AccessLaws::loading), unfolding(crate::specs::Uses::load_pages, crate::specs::Uses::store_pages, crate::specs::Uses::amo_pages))]
-fn load_of_kind<B: Bus>(
+fn load_from<B: Bus>(
+    pc: &mut u32,
     regs: &mut Regs,
     bus: &mut B,
     kind: LoadKind,
     rd: Reg,
     address: u32,
 ) -> Outcome
-    ensures line { let line = load_line regs.old (B.memory bus.old) kind rd address in
-        Follows line result regs.new (B.memory bus.new) }
-    ensures registers_stay { UnlessDone result (regs.new ≡ regs.old) }
+    ensures line { let line = load_line (with_pc regs.old pc.old) (B.memory bus.old) kind rd address in
+        Follows line result (with_pc regs.new pc.new) (B.memory bus.new) }
+    ensures registers_stay { UnlessDone result (with_pc regs.new pc.new ≡ with_pc regs.old pc.old) }
     ensures memory_stays { UnlessDone result (B.memory bus.new ≡ B.memory bus.old) }
     ensures pages { let used = load_pages (B.memory bus.old) kind address in
         UsesPages (B.has bus.old) (B.marks bus.new) (B.lacks bus.old) used result }
@@ -83,7 +64,7 @@ fn load_of_kind<B: Bus>(
     ensures kept { B.keeps bus.old bus.new }
 {
     match bus.load(width_of_load(kind), address) {
-        Ok(number) => compute(regs, rd, extend(kind, number)),
+        Ok(number) => compute(pc, regs, rd, extend(kind, number)),
         Err(BusError::Fault(fault)) => Outcome::Trap(Cause::of_load(fault), address),
         Err(BusError::Absent(page)) => Outcome::Absent(page),
     }
@@ -92,6 +73,7 @@ fn load_of_kind<B: Bus>(
 /// Stores the low bytes of what rs2 holds at an offset past what rs1 holds.
 #[inline(always)]
 pub fn perform_store<B: Bus>(
+    pc: &mut u32,
     regs: &mut Regs,
     bus: &mut B,
     kind: StoreKind,
@@ -99,60 +81,35 @@ pub fn perform_store<B: Bus>(
     rs2: Reg,
     offset: Immediate,
 ) -> Outcome
-    ensures line { let line = store_line regs.old (B.memory bus.old) kind (address_at regs.old rs1 offset) (register regs.old rs2) in
-        Follows line result regs.new (B.memory bus.new) }
-    ensures registers_stay { UnlessDone result (regs.new ≡ regs.old) }
+    ensures line { let line = store_line (with_pc regs.old pc.old) (B.memory bus.old) kind (address_at (with_pc regs.old pc.old) rs1 offset) (register (with_pc regs.old pc.old) rs2) in
+        Follows line result (with_pc regs.new pc.new) (B.memory bus.new) }
+    ensures registers_stay { UnlessDone result (with_pc regs.new pc.new ≡ with_pc regs.old pc.old) }
     ensures memory_stays { UnlessDone result (B.memory bus.new ≡ B.memory bus.old) }
-    ensures pages { let used = store_pages (B.memory bus.old) kind (address_at regs.old rs1 offset) (register regs.old rs2) in
+    ensures pages { let used = store_pages (B.memory bus.old) kind (address_at (with_pc regs.old pc.old) rs1 offset) (register (with_pc regs.old pc.old) rs2) in
         UsesPages (B.has bus.old) (B.marks bus.new) (B.lacks bus.old) used result }
-    ensures bound { let used = store_pages (B.memory bus.old) kind (address_at regs.old rs1 offset) (register regs.old rs2) in
+    ensures bound { let used = store_pages (B.memory bus.old) kind (address_at (with_pc regs.old pc.old) rs1 offset) (register (with_pc regs.old pc.old) rs2) in
         Bounds (B.within bus.old) (B.within bus.new) used used }
     ensures kept { B.keeps bus.old bus.new }
 {
-    let address = add(regs.read(rs1), offset.word());
-    let word = regs.read(rs2);
-    store_to(regs, bus, kind, address, word)
+    let address = add(read(*pc, regs, rs1), offset.word());
+    let word = read(*pc, regs, rs2);
+    store_to(pc, regs, bus, kind, address, word)
 }
 
 /// Stores the low bytes of a word at an address.
 #[inline(always)]
-fn store_to<B: Bus>(
-    regs: &mut Regs,
-    bus: &mut B,
-    kind: StoreKind,
-    address: u32,
-    word: u32,
-) -> Outcome
-    ensures line { let line = store_line regs.old (B.memory bus.old) kind address word in
-        Follows line result regs.new (B.memory bus.new) }
-    ensures registers_stay { UnlessDone result (regs.new ≡ regs.old) }
-    ensures memory_stays { UnlessDone result (B.memory bus.new ≡ B.memory bus.old) }
-    ensures pages { let used = store_pages (B.memory bus.old) kind address word in
-        UsesPages (B.has bus.old) (B.marks bus.new) (B.lacks bus.old) used result }
-    ensures bound { let used = store_pages (B.memory bus.old) kind address word in
-        Bounds (B.within bus.old) (B.within bus.new) used used }
-    ensures kept { B.keeps bus.old bus.new }
-{
-    match kind {
-        StoreKind::Sb => store_of_kind(regs, bus, StoreKind::Sb, address, word),
-        StoreKind::Sh => store_of_kind(regs, bus, StoreKind::Sh, address, word),
-        StoreKind::Sw => store_of_kind(regs, bus, StoreKind::Sw, address, word),
-    }
-}
-
-/// The same in one inlined copy for each kind, which is a constant there.
-#[inline(always)]
 #[tactic(auto, using(crate::specs::AccessLaws::storing), unfolding(crate::specs::Uses::load_pages, crate::specs::Uses::store_pages, crate::specs::Uses::amo_pages))]
-fn store_of_kind<B: Bus>(
+fn store_to<B: Bus>(
+    pc: &mut u32,
     regs: &mut Regs,
     bus: &mut B,
     kind: StoreKind,
     address: u32,
     word: u32,
 ) -> Outcome
-    ensures line { let line = store_line regs.old (B.memory bus.old) kind address word in
-        Follows line result regs.new (B.memory bus.new) }
-    ensures registers_stay { UnlessDone result (regs.new ≡ regs.old) }
+    ensures line { let line = store_line (with_pc regs.old pc.old) (B.memory bus.old) kind address word in
+        Follows line result (with_pc regs.new pc.new) (B.memory bus.new) }
+    ensures registers_stay { UnlessDone result (with_pc regs.new pc.new ≡ with_pc regs.old pc.old) }
     ensures memory_stays { UnlessDone result (B.memory bus.new ≡ B.memory bus.old) }
     ensures pages { let used = store_pages (B.memory bus.old) kind address word in
         UsesPages (B.has bus.old) (B.marks bus.new) (B.lacks bus.old) used result }
@@ -161,16 +118,17 @@ fn store_of_kind<B: Bus>(
     ensures kept { B.keeps bus.old bus.new }
 {
     match bus.store(width_of_store(kind), address, word) {
-        Ok(()) => advance(regs),
+        Ok(()) => advance(pc, regs),
         Err(BusError::Fault(fault)) => Outcome::Trap(Cause::of_store(fault), address),
         Err(BusError::Absent(page)) => Outcome::Absent(page),
     }
 }
 
 /// Replaces the word at an address by the operation's result, and keeps the old word in rd.
-#[inline]
+#[inline(always)]
 #[tactic(auto, using(crate::specs::AccessLaws::replacing), unfolding(crate::specs::Uses::load_pages, crate::specs::Uses::store_pages, crate::specs::Uses::amo_pages))]
 pub fn perform_amo<B: Bus>(
+    pc: &mut u32,
     regs: &mut Regs,
     bus: &mut B,
     kind: AmoKind,
@@ -178,9 +136,9 @@ pub fn perform_amo<B: Bus>(
     address: u32,
     operand: u32,
 ) -> Outcome
-    ensures line { let line = amo_line regs.old (B.memory bus.old) kind rd address operand in
-        Follows line result regs.new (B.memory bus.new) }
-    ensures registers_stay { UnlessDone result (regs.new ≡ regs.old) }
+    ensures line { let line = amo_line (with_pc regs.old pc.old) (B.memory bus.old) kind rd address operand in
+        Follows line result (with_pc regs.new pc.new) (B.memory bus.new) }
+    ensures registers_stay { UnlessDone result (with_pc regs.new pc.new ≡ with_pc regs.old pc.old) }
     ensures memory_stays { UnlessDone result (B.memory bus.new ≡ B.memory bus.old) }
     ensures pages { let used = amo_pages (B.memory bus.old) kind address operand in
         UsesPages (B.has bus.old) (B.marks bus.new) (B.lacks bus.old) used result }
@@ -189,25 +147,26 @@ pub fn perform_amo<B: Bus>(
     ensures kept { B.keeps bus.old bus.new }
 {
     match bus.amo(address, kind, operand) {
-        Ok(old) => compute(regs, rd, old),
+        Ok(old) => compute(pc, regs, rd, old),
         Err(BusError::Fault(fault)) => Outcome::Trap(Cause::of_store(fault), address),
         Err(BusError::Absent(page)) => Outcome::Absent(page),
     }
 }
 
 /// Loads the word at an address into rd, and reserves it for the hart.
-#[inline]
+#[inline(always)]
 #[tactic(auto, using(crate::specs::AccessLaws::reserving_word), unfolding(crate::specs::Uses::load_pages, crate::specs::Uses::store_pages))]
 pub fn perform_load_reserved<B: Bus>(
     hart: u32,
+    pc: &mut u32,
     regs: &mut Regs,
     bus: &mut B,
     rd: Reg,
     address: u32,
 ) -> Outcome
-    ensures line { let line = reserving_line hart regs.old (B.memory bus.old) rd address in
-        Follows line result regs.new (B.memory bus.new) }
-    ensures registers_stay { UnlessDone result (regs.new ≡ regs.old) }
+    ensures line { let line = reserving_line hart (with_pc regs.old pc.old) (B.memory bus.old) rd address in
+        Follows line result (with_pc regs.new pc.new) (B.memory bus.new) }
+    ensures registers_stay { UnlessDone result (with_pc regs.new pc.new ≡ with_pc regs.old pc.old) }
     ensures memory_stays { UnlessDone result (B.memory bus.new ≡ B.memory bus.old) }
     ensures pages { let used = load_pages (B.memory bus.old) LoadKind.Lw address in
         UsesPages (B.has bus.old) (B.marks bus.new) (B.lacks bus.old) used result }
@@ -215,26 +174,27 @@ pub fn perform_load_reserved<B: Bus>(
     ensures kept { B.keeps bus.old bus.new }
 {
     match bus.load_reserved(hart, address) {
-        Ok(word) => compute(regs, rd, word),
+        Ok(word) => compute(pc, regs, rd, word),
         Err(BusError::Fault(fault)) => Outcome::Trap(Cause::of_load(fault), address),
         Err(BusError::Absent(page)) => Outcome::Absent(page),
     }
 }
 
 /// Stores a word at an address where the hart has reserved it, and writes to rd whether it has not.
-#[inline]
+#[inline(always)]
 #[tactic(auto, using(crate::specs::AccessLaws::storing_word), unfolding(crate::specs::Uses::load_pages, crate::specs::Uses::store_pages))]
 pub fn perform_store_conditional<B: Bus>(
     hart: u32,
+    pc: &mut u32,
     regs: &mut Regs,
     bus: &mut B,
     rd: Reg,
     address: u32,
     word: u32,
 ) -> Outcome
-    ensures line { let line = conditional_line hart regs.old (B.memory bus.old) rd address word in
-        Follows line result regs.new (B.memory bus.new) }
-    ensures registers_stay { UnlessDone result (regs.new ≡ regs.old) }
+    ensures line { let line = conditional_line hart (with_pc regs.old pc.old) (B.memory bus.old) rd address word in
+        Follows line result (with_pc regs.new pc.new) (B.memory bus.new) }
+    ensures registers_stay { UnlessDone result (with_pc regs.new pc.new ≡ with_pc regs.old pc.old) }
     ensures memory_stays { UnlessDone result (B.memory bus.new ≡ B.memory bus.old) }
     ensures pages { let used = store_pages (B.memory bus.old) StoreKind.Sw address word in
         UsesPages (B.has bus.old) (B.marks bus.new) (B.lacks bus.old) used result }
@@ -243,7 +203,7 @@ pub fn perform_store_conditional<B: Bus>(
     ensures kept { B.keeps bus.old bus.new }
 {
     match bus.store_conditional(hart, address, word) {
-        Ok(is_stored) => compute(regs, rd, code_of(is_stored)),
+        Ok(is_stored) => compute(pc, regs, rd, code_of(is_stored)),
         Err(BusError::Fault(fault)) => Outcome::Trap(Cause::of_store(fault), address),
         Err(BusError::Absent(page)) => Outcome::Absent(page),
     }

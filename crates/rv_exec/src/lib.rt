@@ -5,9 +5,9 @@
 #![tactic(auto)]
 
 mod accesses;
-mod advance;
 mod amo;
 mod arithmetic;
+mod at_hand;
 mod bus;
 mod cause;
 mod execution;
@@ -21,6 +21,6 @@ mod regs;
 pub use amo::amo_word;
 pub use bus::{Bus, BusError};
 pub use cause::Cause;
-pub use execution::execute;
+pub use execution::{execute, execute_at};
 pub use outcome::Outcome;
 pub use regs::Regs;

@@ -6,3 +6,5 @@ pub mod Table
 pub mod TableLaws
 pub mod Split
 pub mod SplitLaws
+pub mod Forms
+pub mod FormLaws

@@ -37,7 +37,7 @@ pub fn funct3(word: u32) -> u32
 
 /// Bits 31 to 25: which of these, where they have no immediate.
 #[inline(always)]
-pub(crate) fn funct7(word: u32) -> u32
+pub fn funct7(word: u32) -> u32
     ensures { result ≡ bits word 31 25 }
 {
     field(word, 31, 25)

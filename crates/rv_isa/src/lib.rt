@@ -7,6 +7,7 @@
 mod decoding;
 mod encoding;
 mod fields;
+mod forms;
 mod instruction;
 mod kind_of_word;
 mod kinds;
@@ -19,9 +20,10 @@ mod text;
 pub use decoding::decode;
 pub use encoding::encode;
 pub use fields::{
-    branch_offset, funct3, immediate, jump_offset, opcode, rd, rs1, rs2, shift_amount,
+    branch_offset, funct3, funct7, immediate, jump_offset, opcode, rd, rs1, rs2, shift_amount,
     store_immediate, upper_immediate,
 };
+pub use forms::{Form, form_of_word};
 pub use instruction::Insn;
 pub use kind_of_word::{
     amo_kind, branch_kind, immediate_kind, load_kind, op_kind, reservation_kind, shift_kind,

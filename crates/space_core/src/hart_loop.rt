@@ -1,6 +1,7 @@
 //! The inner loop of a hart: its instructions one after another, on its process's memory.
 
 ghost use Rattle.std.specs.Prelude.{◌≡◌, ◌≤◌, ◌<◌, true, length};
+ghost use Rattle.rv_exec.specs.Registers.{with_pc};
 ghost use Rattle.flat_machine.specs.Process.{may_step};
 ghost use Rattle.paged_memory.specs.Paged.{memory_of};
 ghost use Rattle.paged_memory.specs.Using.{cache_in};
@@ -10,7 +11,7 @@ ghost use Rattle.space_core.specs.RunningValue.{with_memory};
 
 use crate::running::Running;
 use paged_memory::{HartMemory, Opening, PagedMemory};
-use rv_exec::{Cause, Outcome, Regs, execute};
+use rv_exec::{Cause, Outcome, Regs, execute_at};
 use std::marker::Brand;
 use std::sync::ledger::Ledger;
 use swap_slots::SwapSlot;
@@ -24,19 +25,20 @@ pub(crate) struct Course {
     pub last: Outcome,
 }
 
-/// Runs a hart's next instruction. What it came to is marked since it began: so it has a brand of its own.
+/// Runs a hart's next instruction, where pc is at hand. What it came to is marked since it began: so it has a brand of its own.
 #[inline(always)]
 fn run_one<L: Ledger, S: SwapSlot, O: Opening>(
+    pc: &mut u32,
     regs: &mut Regs,
     memory: &mut PagedMemory<L, S>,
     hart: u32,
 ) -> Outcome
     requires started { hart < harts_in memory.old }
     requires opening { cache_in memory.old hart ≡ O.opening }
-    ensures ran { RunsTo S.content S.honest hart result regs.old memory.old regs.new memory.new }
+    ensures ran { RunsTo S.content S.honest hart result (with_pc regs.old pc.old) memory.old (with_pc regs.new pc.new) memory.new }
 {
     let mut bus: HartMemory<L, S, O> = HartMemory::new(memory, hart as usize);
-    let outcome = execute(hart, regs, &mut bus);
+    let outcome = execute_at(hart, pc, regs, &mut bus);
     memory.coherent();
     outcome
 }
@@ -54,14 +56,26 @@ fn run_each<L: Ledger, S: SwapSlot>(
     ensures ran { RunsUntil S.content S.honest hart most result.done result.last regs.old memory.old regs.new memory.new }
     ensures harts { harts_in memory.new ≡ harts_in memory.old }
 {
-    for done in 0..most {
-        match run_one::<L, S, Brand>(regs, memory, hart) {
-            Outcome::Done => {}
-            Outcome::Ecall => return at_call(done),
-            Outcome::Trap(cause, value) => return at_trap(done, cause, value),
-            Outcome::Absent(page) => return at_absent(done, page),
+    let mut pc = regs.pc();
+    let mut left = most;
+    while left != 0 {
+        match run_one::<L, S, Brand>(&mut pc, regs, memory, hart) {
+            Outcome::Done => left -= 1,
+            Outcome::Ecall => {
+                regs.set_pc(pc);
+                return at_call(most - left);
+            }
+            Outcome::Trap(cause, value) => {
+                regs.set_pc(pc);
+                return at_trap(most - left, cause, value);
+            }
+            Outcome::Absent(page) => {
+                regs.set_pc(pc);
+                return at_absent(most - left, page);
+            }
         }
     }
+    regs.set_pc(pc);
     Course {
         done: most,
         last: Outcome::Done,

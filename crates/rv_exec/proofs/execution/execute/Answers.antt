@@ -1,83 +1,34 @@
--- The line and its pages are those that memory's answer to the fetch leads to.
-use Rattle.std.proofs.Common.{◌≡◌, sym, ap, ◌∙◌, subst, [], Ok, Err, IsOk}
-use Rattle.page_memory.specs.Words.{page_number}
-use Rattle.page_memory.specs.Memory.{fetched}
-use Rattle.rv_isa.specs.Table.{insn_of}
-use Rattle.rv_exec.specs.Line.{line, decoded_line}
-use Rattle.rv_exec.specs.LineLaws.{line_fetched, line_fault, uses_fetched, used_fault, contains_fetch}
-use Rattle.rv_exec.specs.Outcomes.{Follows}
+-- The pc that was taken out is the registers' own, and the one that is written back is the last.
+use Rattle.std.proofs.Common.{◌≡◌, sym, ap, ◌∙◌, subst}
+use Rattle.rv_exec.specs.Line.{line}
+use Rattle.rv_exec.specs.Outcomes.{Follows, UnlessDone, UsesPages}
 use Rattle.rv_exec.specs.Bounds.{Bounds}
-use Rattle.rv_exec.specs.BoundsLaws.{bounds_fetched, bounds_refused}
-use Rattle.rv_exec.specs.Uses.{page_of_access}
+use Rattle.rv_exec.specs.Registers.{with_pc}
+use Rattle.rv_exec.specs.RegistersLaws.{own_pc}
+use Rattle.rv_exec.specs.Uses.{pages_used, pages_stored}
 use Rattle.rv_exec.proofs.execution.execute.Goals as goal
 
-pub returns-in-Ok-clause-line : goal.returns-in-Ok-clause-line
-returns-in-Ok-clause-line g c =
-    let regs = c.args.regs.now in
-    let memory = g.B.Bus.memory c.args.bus.now in
-    let word = c.in-Ok.word in
-    let fetch : fetched memory regs.pc ≡ Ok word = rw (← c.pc-pc.ensures) c.in-Ok.ensures.answer.0 in
-    let whole : line c.args.hart regs memory ≡ decoded_line c.args.hart regs (g.B.Bus.memory c.fetch.new.self) word (insn_of word) =
-    line_fetched c.args.hart regs memory word fetch ∙ ap (λ m. decoded_line c.args.hart regs m word (insn_of word)) (sym c.in-Ok.ensures.same) in
-    subst (λ l. Follows l c.perform.result c.perform.new.regs (g.B.Bus.memory c.perform.new.bus)) (sym whole) c.perform.ensures.line
+pub returns-clause-line : goal.returns-clause-line
+returns-clause-line g c =
+    let own : with_pc c.args.regs.now c.pc-pc.result ≡ c.args.regs.now = ap (λ p. with_pc c.args.regs.now p) c.pc-pc.ensures ∙ own_pc c.args.regs.now in
+    subst (λ r. Follows (line c.args.hart c.args.regs.now (g.B.Bus.memory c.args.bus.now)) c.execute_at-outcome.result r (g.B.Bus.memory c.execute_at-outcome.new.bus)) (sym c.set_pc.ensures)
+    (subst (λ r. Follows (line c.args.hart r (g.B.Bus.memory c.args.bus.now)) c.execute_at-outcome.result (with_pc c.execute_at-outcome.new.regs c.execute_at-outcome.new.pc) (g.B.Bus.memory c.execute_at-outcome.new.bus)) own
+    c.execute_at-outcome.ensures.line)
 
-pub returns-in-Ok-clause-pages : goal.returns-in-Ok-clause-pages
-returns-in-Ok-clause-pages g c =
-    let regs = c.args.regs.now in
-    let memory = g.B.Bus.memory c.args.bus.now in
-    let fetch : fetched memory regs.pc ≡ Ok c.in-Ok.word = rw (← c.pc-pc.ensures) c.in-Ok.ensures.answer.0 in
-    let first : g.B.Bus.has c.args.bus.now (page_number regs.pc) = rw (← c.pc-pc.ensures) c.in-Ok.ensures.answer.1.0 in
-    let mark : g.B.Bus.marks c.fetch.new.self (page_number regs.pc) = rw (← c.pc-pc.ensures) c.in-Ok.ensures.answer.1.1 in
-    uses_fetched (g.B.Bus.has c.args.bus.now) (g.B.Bus.marks c.fetch.new.self) (g.B.Bus.lacks c.args.bus.now)
-    (g.B.Bus.has c.fetch.new.self) (g.B.Bus.marks c.perform.new.bus) (g.B.Bus.lacks c.fetch.new.self)
-    regs memory (g.B.Bus.memory c.fetch.new.self) c.in-Ok.word c.perform.result
-    fetch c.in-Ok.ensures.same
-    (λ page h. g.met.B.Bus.had_before _ _ page c.in-Ok.ensures.kept h)
-    (λ page h. g.met.B.Bus.lacked_before _ _ page c.in-Ok.ensures.kept h)
-    (λ page h. g.met.B.Bus.marked_on _ _ page c.perform.ensures.kept h)
-    first mark c.perform.ensures.pages
+pub returns-clause-registers_stay : goal.returns-clause-registers_stay
+returns-clause-registers_stay g c =
+    let own : with_pc c.args.regs.now c.pc-pc.result ≡ c.args.regs.now = ap (λ p. with_pc c.args.regs.now p) c.pc-pc.ensures ∙ own_pc c.args.regs.now in
+    subst (λ r. UnlessDone c.execute_at-outcome.result (r ≡ c.args.regs.now)) (sym c.set_pc.ensures)
+    (subst (λ r. UnlessDone c.execute_at-outcome.result (with_pc c.execute_at-outcome.new.regs c.execute_at-outcome.new.pc ≡ r)) own c.execute_at-outcome.ensures.registers_stay)
 
-pub returns-in-Err-Fault-clause-line : goal.returns-in-Err-Fault-clause-line
-returns-in-Err-Fault-clause-line g c =
-    let fetch : fetched (g.B.Bus.memory c.args.bus.now) c.args.regs.now.pc ≡ Err c.in-Err-Fault.fault =
-    rw (← c.pc-pc.ensures) (rw (c.in-Err-Fault.field-0-is) at c.in-Err-Fault.ensures.answer) in
-    rw (c.of_fetch.ensures, c.pc-pc.ensures) (line_fault c.args.hart c.args.regs.now (g.B.Bus.memory c.args.bus.now) c.in-Err-Fault.fault fetch)
+pub returns-clause-pages : goal.returns-clause-pages
+returns-clause-pages g c =
+    let own : with_pc c.args.regs.now c.pc-pc.result ≡ c.args.regs.now = ap (λ p. with_pc c.args.regs.now p) c.pc-pc.ensures ∙ own_pc c.args.regs.now in
+    subst (λ r. UsesPages (g.B.Bus.has c.args.bus.now) (g.B.Bus.marks c.execute_at-outcome.new.bus) (g.B.Bus.lacks c.args.bus.now) (pages_used r (g.B.Bus.memory c.args.bus.now)) c.execute_at-outcome.result) own
+    c.execute_at-outcome.ensures.pages
 
-pub returns-in-Err-Fault-clause-pages : goal.returns-in-Err-Fault-clause-pages
-returns-in-Err-Fault-clause-pages g c =
-    let fetch : fetched (g.B.Bus.memory c.args.bus.now) c.args.regs.now.pc ≡ Err c.in-Err-Fault.fault =
-    rw (← c.pc-pc.ensures) (rw (c.in-Err-Fault.field-0-is) at c.in-Err-Fault.ensures.answer) in
-    used_fault (g.B.Bus.has c.args.bus.now) (g.B.Bus.marks c.fetch.new.self) c.args.regs.now (g.B.Bus.memory c.args.bus.now) c.in-Err-Fault.fault fetch
-
-pub returns-in-Err-Absent-clause-pages : goal.returns-in-Err-Absent-clause-pages
-returns-in-Err-Absent-clause-pages g c =
-    let answer = rw (c.in-Err-Absent.field-0-is) at c.in-Err-Absent.ensures.answer in
-    let page : c.in-Err-Absent.page ≡ page_number c.args.regs.now.pc = rw (← c.pc-pc.ensures) answer.0 in
-    let allowed : IsOk (fetched (g.B.Bus.memory c.args.bus.now) c.args.regs.now.pc) = rw (← c.pc-pc.ensures) answer.2 in
-    (contains_fetch c.args.regs.now (g.B.Bus.memory c.args.bus.now) c.in-Err-Absent.page page allowed, answer.1)
-
-pub returns-in-Ok-clause-bound : goal.returns-in-Ok-clause-bound
-returns-in-Ok-clause-bound g c =
-    let regs = c.args.regs.now in
-    let memory = g.B.Bus.memory c.args.bus.now in
-    let fetch : fetched memory regs.pc ≡ Ok c.in-Ok.word = rw (← c.pc-pc.ensures) c.in-Ok.ensures.answer.0 in
-    let first : Bounds (g.B.Bus.within c.args.bus.now) (g.B.Bus.within c.fetch.new.self) (page_of_access regs.pc (fetched memory regs.pc)) [] =
-    rw (← c.pc-pc.ensures) c.in-Ok.ensures.bound in
-    bounds_fetched (g.B.Bus.within c.args.bus.now) (g.B.Bus.within c.fetch.new.self) (g.B.Bus.within c.perform.new.bus)
-    regs memory (g.B.Bus.memory c.fetch.new.self) c.in-Ok.word fetch c.in-Ok.ensures.same first c.perform.ensures.bound
-
-pub returns-in-Err-Fault-clause-bound : goal.returns-in-Err-Fault-clause-bound
-returns-in-Err-Fault-clause-bound g c =
-    let regs = c.args.regs.now in
-    let memory = g.B.Bus.memory c.args.bus.now in
-    let first : Bounds (g.B.Bus.within c.args.bus.now) (g.B.Bus.within c.fetch.new.self) (page_of_access regs.pc (fetched memory regs.pc)) [] =
-    rw (← c.pc-pc.ensures) c.in-Err-Fault.ensures.bound in
-    bounds_refused (g.B.Bus.within c.args.bus.now) (g.B.Bus.within c.fetch.new.self) regs memory first
-
-pub returns-in-Err-Absent-clause-bound : goal.returns-in-Err-Absent-clause-bound
-returns-in-Err-Absent-clause-bound g c =
-    let regs = c.args.regs.now in
-    let memory = g.B.Bus.memory c.args.bus.now in
-    let first : Bounds (g.B.Bus.within c.args.bus.now) (g.B.Bus.within c.fetch.new.self) (page_of_access regs.pc (fetched memory regs.pc)) [] =
-    rw (← c.pc-pc.ensures) c.in-Err-Absent.ensures.bound in
-    bounds_refused (g.B.Bus.within c.args.bus.now) (g.B.Bus.within c.fetch.new.self) regs memory first
+pub returns-clause-bound : goal.returns-clause-bound
+returns-clause-bound g c =
+    let own : with_pc c.args.regs.now c.pc-pc.result ≡ c.args.regs.now = ap (λ p. with_pc c.args.regs.now p) c.pc-pc.ensures ∙ own_pc c.args.regs.now in
+    subst (λ r. Bounds (g.B.Bus.within c.args.bus.now) (g.B.Bus.within c.execute_at-outcome.new.bus) (pages_used r (g.B.Bus.memory c.args.bus.now)) (pages_stored r (g.B.Bus.memory c.args.bus.now))) own
+    c.execute_at-outcome.ensures.bound

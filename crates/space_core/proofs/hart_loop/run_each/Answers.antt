@@ -1,14 +1,35 @@
-use Rattle.std.proofs.Common.{◌∙◌, refl}
+use Rattle.std.proofs.Common.{◌≡◌, ◌+◌, ◌-◌, ap, sym, subst, ◌∙◌, refl, arith}
+use Rattle.rv_exec.specs.Registers.{with_pc}
+use Rattle.rv_exec.specs.RegistersLaws.{own_pc}
+use Rattle.space_core.specs.HartLoop.{RunsEach}
 use Rattle.space_core.proofs.StepsOn.{each_done, none_done}
 use Rattle.space_core.proofs.hart_loop.run_each.Goals as goal
 
-pub loop-done-init : goal.loop-done-init
-loop-done-init g c = record { each = none_done g.S.SwapSlot.content g.S.SwapSlot.honest c.args.hart c.args.regs.now c.args.memory.now; started = refl }
-
-pub loop-done-preserved : goal.loop-done-preserved
-loop-done-preserved g c =
-    let one = c.in-Done.ensures.ran in
+pub loop-left-init : goal.loop-left-init
+loop-left-init g c =
+    let regs = c.args.regs.now in
+    let memory = c.args.memory.now in
+    let own : with_pc regs c.pc-pc.result ≡ regs = ap (λ p. with_pc regs p) c.pc-pc.ensures ∙ own_pc regs in
+    let none : c.args.most - c.args.most ≡ 0 = omega arith in
     record {
-      each = each_done g.S.SwapSlot.content g.S.SwapSlot.honest c.args.hart c.loop-done.done c.args.regs.now c.args.memory.now c.loop-done.regs c.loop-done.memory c.run_one.new.regs c.run_one.new.memory c.loop-done.invariant.each one;
-      started = one.kept.harts ∙ c.loop-done.invariant.started;
+      each =
+          subst (λ n. RunsEach g.S.SwapSlot.content g.S.SwapSlot.honest c.args.hart n regs memory (with_pc regs c.pc-pc.result) memory) (sym none)
+          (subst (λ r. RunsEach g.S.SwapSlot.content g.S.SwapSlot.honest c.args.hart 0 regs memory r memory) (sym own)
+          (none_done g.S.SwapSlot.content g.S.SwapSlot.honest c.args.hart regs memory));
+      started = refl;
+      within = omega arith;
+    }
+
+pub loop-left-preserved : goal.loop-left-preserved
+loop-left-preserved g c =
+    let l = c.loop-left in
+    let one = c.in-Done.ensures.ran in
+    let more : c.args.most - l.left + 1 ≡ c.args.most - (l.left - 1) = omega (arith, l.invariant.within, c.loop-left-test.true) in
+    record {
+      each =
+          subst (λ n. RunsEach g.S.SwapSlot.content g.S.SwapSlot.honest c.args.hart n c.args.regs.now c.args.memory.now (with_pc c.run_one.new.regs c.run_one.new.pc) c.run_one.new.memory) more
+          (each_done g.S.SwapSlot.content g.S.SwapSlot.honest c.args.hart (c.args.most - l.left) c.args.regs.now c.args.memory.now (with_pc l.regs l.pc) l.memory
+          (with_pc c.run_one.new.regs c.run_one.new.pc) c.run_one.new.memory l.invariant.each one);
+      started = one.kept.harts ∙ l.invariant.started;
+      within = omega (arith, l.invariant.within);
     }

@@ -3,7 +3,7 @@ use Rattle.std.proofs.Common.{◌≡◌, Ok, Err}
 use Rattle.page_memory.specs.Memory.{stored}
 use Rattle.rv_exec.specs.Access.{store_width}
 use Rattle.rv_exec.specs.AccessLaws.{store_used, store_uses_none}
-use Rattle.rv_exec.proofs.accesses.store_of_kind.Goals as goal
+use Rattle.rv_exec.proofs.accesses.store_to.Goals as goal
 
 pub returns-in-Ok-clause-pages : goal.returns-in-Ok-clause-pages
 returns-in-Ok-clause-pages g c =

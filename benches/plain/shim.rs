@@ -446,6 +446,13 @@ pub mod arrayvec {
             self.length += 1;
         }
 
+        pub fn truncate(&mut self, length: usize) {
+            while self.length > length {
+                self.length -= 1;
+                unsafe { self.items[self.length].assume_init_drop() };
+            }
+        }
+
         pub fn try_push(&mut self, value: T) -> Result<(), T> {
             if self.length == N {
                 return Err(value);
@@ -707,4 +714,11 @@ pub mod sha2 {
             digest
         }
     }
+}
+
+/// What the proved program has where a match is proved not to come: a trap.
+#[cold]
+#[inline(never)]
+pub fn never() -> ! {
+    std::process::abort()
 }

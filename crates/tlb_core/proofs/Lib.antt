@@ -1,3 +1,4 @@
 pub mod Places
 pub mod ReadyLaws
 pub mod CrowdLaws
+pub mod Rows

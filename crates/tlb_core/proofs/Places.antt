@@ -65,11 +65,14 @@ pages-set xs k e d same =
     map-set (λ (x : Translation). x.page) xs k e ∙ ap (set (pages xs) k) (sym same)
     ∙ sym (map-set (λ (x : Translation). x.page) xs k (get_or xs k d)) ∙ ap pages (set-get_or xs k d)
 
-pub one_per_page_replaced : (xs ys : List Translation) (e : Translation) (k : ℕ) → OnePerPage xs → position (is_of_page e.page) xs ≡ Some k → ys ≡ set xs k e → OnePerPage ys
-one_per_page_replaced xs ys e k one is made =
+pub pages_replaced : (xs ys : List Translation) (e : Translation) (k : ℕ) → position (is_of_page e.page) xs ≡ Some k → ys ≡ set xs k e → pages ys ≡ pages xs
+pages_replaced xs ys e k is made =
     let at = position-Some (is_of_page e.page) xs k e is in
     let same : (get_or xs k e).page ≡ e.page = let t = at.1 in grind (arith, nat_tests) in
-    one_per_page_same xs ys (ap pages made ∙ pages-set xs k e e same) one
+    ap pages made ∙ pages-set xs k e e same
+
+pub one_per_page_replaced : (xs ys : List Translation) (e : Translation) (k : ℕ) → OnePerPage xs → position (is_of_page e.page) xs ≡ Some k → ys ≡ set xs k e → OnePerPage ys
+one_per_page_replaced xs ys e k one is made = one_per_page_same xs ys (pages_replaced xs ys e k is made) one
 
 pub place_within : (page : ℕ) (xs : List Translation) (k : ℕ) → position (is_of_page page) xs ≡ Some k → k < length xs
 place_within page xs k is = by_length (nat_lt n (length xs)) refl is
@@ -112,7 +115,7 @@ one_per_page_behind xs rs ys e one room none made =
     })
 
 -- marks change no page
-pages-doomed : (page : ℕ) (xs : List Translation) → pages (doomed page xs) ≡ pages xs
+pub pages-doomed : (page : ℕ) (xs : List Translation) → pages (doomed page xs) ≡ pages xs
 unfolding doomed
 pages-doomed page [] = refl
 pages-doomed page (x ∷ xs) = ap (λ l. x.page ∷ l) (pages-doomed page xs)
@@ -175,11 +178,6 @@ refill_same xs ws n long same =
     let past : length xs ≤ length ws = omega arith in
     rw (drop_all (length ws) xs past, append-nil ws) (take_all n ws (omega arith))
 
-pub one_per_page_marked : (page : ℕ) (xs ws : List Translation) → OnePerPage xs → ws ≡ doomed page xs → OnePerPage (refill (length xs) xs ws)
-one_per_page_marked page xs ws one made =
-    let long : length ws ≡ length xs = ap length made ∙ sym (length-map (doomed page xs) (λ (e : Translation). e.page)) ∙ ap length (pages-doomed page xs) ∙ length-map xs (λ (e : Translation). e.page) in
-    rw (refill_same xs ws (length xs) long refl) (one_per_page_doomed page xs ws one made)
-
 pub marked_whole : (page : ℕ) (xs ws : List Translation) → ws ≡ doomed page xs → refill (length xs) xs ws ≡ doomed page xs
 marked_whole page xs ws made =
     let long : length ws ≡ length xs = ap length made ∙ sym (length-map (doomed page xs) (λ (e : Translation). e.page)) ∙ ap length (pages-doomed page xs) ∙ length-map xs (λ (e : Translation). e.page) in
@@ -187,20 +185,3 @@ marked_whole page xs ws made =
 
 pub refill_set : (xs : List Translation) (k : ℕ) (e : Translation) → refill (length xs) xs (set xs k e) ≡ set xs k e
 refill_set xs k e = refill_same xs (set xs k e) (length xs) (length-set xs k e) refl
-
-pub one_per_page_refilled : (xs seen ws : List Translation) (e : Translation) (k : ℕ) → OnePerPage xs → xs ≡ seen → position (is_of_page e.page) seen ≡ Some k → ws ≡ set xs k e
-    → OnePerPage (refill (length xs) xs ws)
-one_per_page_refilled xs seen ws e k one same is made =
-    let here : position (is_of_page e.page) xs ≡ Some k = rw same is in
-    rw (made, refill_set xs k e) (one_per_page_replaced xs (set xs k e) e k one here refl)
-
--- neither changes a page
-pub pages_marked : (page : ℕ) (xs ws : List Translation) → ws ≡ doomed page xs → pages (refill (length xs) xs ws) ≡ pages xs
-pages_marked page xs ws made = ap pages (marked_whole page xs ws made) ∙ pages-doomed page xs
-
-pub pages_refilled : (xs seen ws : List Translation) (e : Translation) (k : ℕ) → xs ≡ seen → position (is_of_page e.page) seen ≡ Some k → ws ≡ set xs k e → pages (refill (length xs) xs ws) ≡ pages xs
-pages_refilled xs seen ws e k same is made =
-    let here : position (is_of_page e.page) xs ≡ Some k = rw same is in
-    let at = position-Some (is_of_page e.page) xs k e here in
-    let of : (get_or xs k e).page ≡ e.page = let t = at.1 in grind (arith, nat_tests) in
-    ap (λ l. pages (refill (length xs) xs l)) made ∙ ap pages (refill_set xs k e) ∙ pages-set xs k e e of

@@ -16,8 +16,7 @@ use Rattle.tlb_core.specs.declared.ready.Ready.{Ready}
 use Rattle.tlb_core.specs.Cache.{Hits, is_of_page, translation_of, doomed, doomed_entry}
 use Rattle.tlb_core.specs.CacheLaws.{entry_of-doomed}
 use Rattle.tlb_core.specs.Ready.{nowhere, known_for, with_known, learned, unless_of, forgotten, IsReady}
-use Rattle.std.specs.List.{refill}
-use Rattle.tlb_core.proofs.Places.{place_within, marked_whole, refill_set}
+use Rattle.tlb_core.proofs.Places.{place_within}
 
 -- an entry of another page hides nothing
 find_other : (q : ℕ) (x : Translation) (xs : List Translation) → x.page ≢ q → find (is_of_page q) (x ∷ xs) ≡ find (is_of_page q) xs
@@ -204,15 +203,13 @@ ready_behind cache cache' e ready made is =
     subst (λ l. IsReady l ready) (sym made) (ready_on cache (cache ++ e ∷ []) ready (λ access q place hits. hits_behind cache e access q place hits) is)
 
 -- as marks are set
-pub ready_marked : (page : ℕ) (cache marked : List Translation) (ready : Ready) → marked ≡ doomed page cache → IsReady cache ready → IsReady (refill (length cache) cache marked) ready
+pub ready_marked : (page : ℕ) (cache marked : List Translation) (ready : Ready) → marked ≡ doomed page cache → IsReady cache ready → IsReady marked ready
 ready_marked page cache marked ready made is =
-    subst (λ l. IsReady l ready) (sym (marked_whole page cache marked made))
-    (ready_on cache (doomed page cache) ready (λ access q place hits. hits_doomed page cache access q place hits) is)
+    subst (λ l. IsReady l ready) (sym made) (ready_on cache (doomed page cache) ready (λ access q place hits. hits_doomed page cache access q place hits) is)
 
 -- and as an entry is put in at the place of its page's, which is forgotten
-pub ready_replaced : (cache seen written : List Translation) (e : Translation) (k : ℕ) (ready : Ready) → cache ≡ seen → position (is_of_page e.page) seen ≡ Some k → written ≡ set cache k e
-    → IsReady cache ready → IsReady (refill (length cache) cache written) (forgotten e.page ready)
-ready_replaced cache seen written e k ready same at made is =
-    let here : position (is_of_page e.page) cache ≡ Some k = ap (position (is_of_page e.page)) same ∙ at in
-    subst (λ l. IsReady l (forgotten e.page ready)) (sym (ap (refill (length cache) cache) made ∙ refill_set cache k e))
+pub ready_replaced : (cache written : List Translation) (e : Translation) (k : ℕ) (ready : Ready) → position (is_of_page e.page) cache ≡ Some k → written ≡ set cache k e
+    → IsReady cache ready → IsReady written (forgotten e.page ready)
+ready_replaced cache written e k ready here made is =
+    subst (λ l. IsReady l (forgotten e.page ready)) (sym made)
     (ready_forgotten cache (set cache k e) e.page ready (λ access q place apart hits. hits_replaced cache k e access q place here apart hits) is)

@@ -8,6 +8,7 @@
 #![tactic(auto)]
 
 mod crowds;
+mod entries;
 mod hints;
 mod ready;
 mod tlb;

@@ -5,10 +5,10 @@ ghost use Rattle.tlb_core.specs.Ready.{IsReady};
 ghost use Rattle.tlb_core.specs.Cache.{OnePerPage, Hits, translation_of, is_of_page, filled, doomed, undoomed, with_room};
 
 use crate::crowds::{Crowds, crowds_of};
+use crate::entries::Entries;
 use crate::hints::Hints;
 use crate::ready::{Ready, start_if_aligned};
 use crate::translation::Translation;
-use arrayvec::ArrayVec;
 use page_memory::{Access, Width};
 use std::marker::Model;
 
@@ -18,7 +18,7 @@ pub const TLB_ENTRIES: usize = 16;
 /// The translations that a hart has cached, the oldest first, at most one for each page.
 #[derive(Drop)]
 pub struct Tlb {
-    entries: ArrayVec<Translation, TLB_ENTRIES>,
+    entries: Entries,
     hints: Hints,
     ready: Ready,
     crowds: Crowds,
@@ -31,9 +31,9 @@ impl Model for Tlb {
 
     ghost Value = { List Translation };
 
-    ghost view = { λ t. t.entries.items };
+    ghost view = { λ t. t.entries };
 
-    ghost invariant = { λ t. IsCache t.entries.items t.ready t.crowds.counts };
+    ghost invariant = { λ t. IsCache t.entries t.ready t.crowds.counts };
 }
 
 /// A cache of no entry.
@@ -49,7 +49,7 @@ impl Tlb {
         ensures { result ≡ [] }
     {
         Tlb {
-            entries: ArrayVec::new(),
+            entries: Entries::new(),
             hints: Hints::new(),
             ready: Ready::new(),
             crowds: Crowds::new(),
@@ -138,13 +138,12 @@ impl Tlb {
     }
 
     /// Puts an entry in at the place of its page's.
-    #[tactic(auto, using(crate::proofs::Places::refill_set))]
     fn replace(&mut self, place: usize, entry: Translation)
         requires place { position (is_of_page entry.page) self.old ≡ Some place }
         requires within { place < length self.old }
         ensures { self.new ≡ slice_set self.old place entry }
     {
-        self.entries.as_mut_slice()[place] = entry;
+        self.entries.put(place, entry);
         self.hints.put(entry.page, place);
         self.ready.forget(entry.page);
     }
@@ -179,8 +178,8 @@ impl Tlb {
         ensures entries { self.new ≡ with_room self.old }
         ensures room { length self.new < 16 }
     {
-        if self.entries.is_full() {
-            let oldest = self.entries.remove(0);
+        if self.entries.len() == TLB_ENTRIES {
+            let oldest = self.entries.take_oldest();
             self.crowds.go(oldest.page);
             self.hints.first_is_gone();
             self.ready.forget(oldest.page);
@@ -188,11 +187,10 @@ impl Tlb {
     }
 
     /// Marks the entry of a page as one to be dropped.
-    #[tactic(auto, using(crate::proofs::Places::marked_whole))]
     pub fn doom(&mut self, page: u32)
         ensures { self.new ≡ doomed page self.old }
     {
-        mark(self.entries.as_mut_slice(), page);
+        self.entries.mark(page);
     }
 
     /// Drops each entry that is marked, and no other. The others keep their order. Where none is marked, what is ready
@@ -209,7 +207,7 @@ impl Tlb {
     fn drop_marked(&mut self)
         ensures { self.new ≡ undoomed self.old }
     {
-        keep_undoomed(&mut self.entries);
+        self.entries.keep_undoomed();
         self.hints.set(self.entries.as_slice());
         self.crowds = crowds_of(self.entries.as_slice());
         self.ready = Ready::new();
@@ -234,26 +232,9 @@ fn forget_each(entries: &[Translation], ready: &mut Ready)
     }
 }
 
-/// Marks the entries of a page.
-#[tactic(auto, using(crate::proofs::Places::marked_more, crate::proofs::Places::marked_all))]
-fn mark(entries: &mut [Translation], page: u32)
-    ensures { entries.new ≡ doomed page entries.old }
-{
-    for entry in entries.iter_mut() {
-        entry.doomed |= entry.page == page;
-    }
-}
-
 /// Whether an entry is marked.
 fn any_doomed(entries: &[Translation]) -> bool
     ensures { result ≡ list_any (λ e. e.doomed) entries.now }
 {
     entries.iter().any(|entry| entry.doomed)
-}
-
-/// Keeps the entries that are not marked.
-fn keep_undoomed(entries: &mut ArrayVec<Translation, TLB_ENTRIES>)
-    ensures { entries.new.items ≡ undoomed entries.old.items }
-{
-    entries.retain(|entry| !entry.doomed);
 }

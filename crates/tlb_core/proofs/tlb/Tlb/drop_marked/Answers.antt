@@ -5,4 +5,4 @@ use Rattle.tlb_core.proofs.Places.{one_per_page_undoomed}
 use Rattle.tlb_core.proofs.tlb.Tlb.drop_marked.Goals as goal
 
 pub invariant_of-self : goal.invariant_of-self
-invariant_of-self c = record { one = one_per_page_undoomed _ _ c.self.invariant.one c.keep_undoomed.ensures; shows = c.new-self-inside.ensures _; counted = subst (λ (l : List Translation). Counts c.crowds_of-self-inside.result.counts (pages_of l)) c.as_slice-2.ensures.value c.crowds_of-self-inside.ensures }
+invariant_of-self c = record { one = one_per_page_undoomed _ _ c.self.invariant.one c.keep_undoomed.ensures; shows = c.new-self-inside.ensures _; counted = subst (λ (l : List Translation). Counts c.crowds_of-self-inside.result.counts (pages_of l)) c.as_slice-2.ensures.entries c.crowds_of-self-inside.ensures }

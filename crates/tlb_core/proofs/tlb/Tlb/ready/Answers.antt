@@ -12,13 +12,13 @@ pub returns-then-start_if_aligned-known-clause-aligned :
 returns-then-start_if_aligned-known-clause-aligned c =
     let e : c.args.address / 4096 * 4096 + c.args.address % bytes_in c.args.width ≡ (known_for c.args.access (page_number c.args.address) c.self.inside.ready).start =
     sym c.start_if_aligned.ensures ∙ c.if-start_if_aligned-known.true ∙ ap (λ (k : Known). k.start) c.known-known.ensures in
-    (served c.self.inside.entries.items c.args.access c.args.address (c.args.address % bytes_in c.args.width) c.self.inside.ready c.self.invariant.shows (below_four c.args.width c.args.address) e).0
+    (served c.self.inside.entries c.args.access c.args.address (c.args.address % bytes_in c.args.width) c.self.inside.ready c.self.invariant.shows (below_four c.args.width c.args.address) e).0
 
 pub returns-then-start_if_aligned-known-clause-hits :
     goal.returns-then-start_if_aligned-known-clause-hits
 returns-then-start_if_aligned-known-clause-hits c =
     let e : c.args.address / 4096 * 4096 + c.args.address % bytes_in c.args.width ≡ (known_for c.args.access (page_number c.args.address) c.self.inside.ready).start =
     sym c.start_if_aligned.ensures ∙ c.if-start_if_aligned-known.true ∙ ap (λ (k : Known). k.start) c.known-known.ensures in
-    let hits = (served c.self.inside.entries.items c.args.access c.args.address (c.args.address % bytes_in c.args.width) c.self.inside.ready c.self.invariant.shows (below_four c.args.width c.args.address) e).1 in
+    let hits = (served c.self.inside.entries c.args.access c.args.address (c.args.address % bytes_in c.args.width) c.self.inside.ready c.self.invariant.shows (below_four c.args.width c.args.address) e).1 in
     subst (λ n. Hits c.args.self.now c.args.access (page_number c.args.address) n) (sym (ap (λ (k : Known). k.place) c.known-known.ensures))
     (subst (λ l. Hits l c.args.access (page_number c.args.address) (known_for c.args.access (page_number c.args.address) c.self.inside.ready).place) c.self.view_is hits)

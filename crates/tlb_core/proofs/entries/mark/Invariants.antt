@@ -1,6 +1,6 @@
 use Rattle.std.proofs.Common.{◌≡◌}
 use Rattle.tlb_core.proofs.Places.{marked_below}
-use Rattle.tlb_core.proofs.tlb.mark.Given as goal
+use Rattle.tlb_core.proofs.entries.mark.Given as goal
 
 -- the entries so far are marked where they are the page's
 abbrev pub invariant-loop-entry : goal.invariant-loop-entry

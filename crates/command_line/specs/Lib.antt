@@ -1,2 +1,3 @@
 pub mod Commands
 pub mod Requests
+pub mod Usage

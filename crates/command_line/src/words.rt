@@ -1,13 +1,13 @@
 //! From words to a request.
 
-ghost use Rattle.std.specs.Prelude.{◌≡◌, [], IfOk, IfErr, Err, codes, map, true};
+ghost use Rattle.std.specs.Prelude.{◌≡◌, ◌≢◌, [], IfOk, Err, codes, map};
 ghost use Rattle.clap.specs.Faults.{fault_of};
 ghost use Rattle.clap.specs.Simple.{subcommand_of, subcommand_rows_of};
 ghost use Rattle.clap.specs.Matches.{found_of};
-ghost use Rattle.clap.specs.Takes.{takes};
 ghost use Rattle.clap.specs.Walk.{rows_of};
 ghost use Rattle.command_line.specs.Commands.{paged_app};
 ghost use Rattle.command_line.specs.Requests.{Asks, IsAsked, IsInRange};
+ghost use Rattle.command_line.specs.Usage.{IsBadUsage};
 ghost use Rattle.command_line.specs.declared.request.Request.{Request};
 
 use crate::commands::paged;
@@ -28,8 +28,8 @@ pub fn read_request<'a, S: AsStr>(alloc: Global, words: &'a [S]) -> Result<Reque
     ensures asked { IfOk result (IsAsked (subcommand_of paged_app (map S.text words.now))) }
     ensures no_fault { IfOk result (λ _. fault_of paged_app (map S.text words.now) ≡ []) }
 
-    // Where the words are taken and ask for something, want of memory alone refuses it.
-    ensures lawful { result ≡ Err UsageError.BadUsage → takes paged_app (map S.text words.now) ≡ true → (request : Request) → ¬ IsAsked (subcommand_of paged_app (map S.text words.now)) request }
+    // They are refused only where they have a fault, or where they ask for nothing; else want of memory alone refuses them.
+    ensures bad { result ≡ Err UsageError.BadUsage → IsBadUsage (map S.text words.now) }
 {
     let matches = parse(alloc, words)?;
     request_of(alloc, &matches)
@@ -39,14 +39,21 @@ pub fn read_request<'a, S: AsStr>(alloc: Global, words: &'a [S]) -> Result<Reque
 fn parse<'a, S: AsStr>(alloc: Global, words: &'a [S]) -> Result<ArgMatches<'a>, UsageError>
     ensures rows { IfOk result (λ matches. subcommand_rows_of matches ≡ subcommand_of paged_app (map S.text words.now)) }
     ensures no_fault { IfOk result (λ _. fault_of paged_app (map S.text words.now) ≡ []) }
-    ensures lawful { IfErr result (λ error. takes paged_app (map S.text words.now) ≡ true → error ≡ UsageError.NoMemory) }
+    ensures bad { result ≡ Err UsageError.BadUsage → fault_of paged_app (map S.text words.now) ≢ [] }
 {
     match paged(alloc)?.try_get_matches_from(words) {
         Ok(matches) => Ok(matches),
-        Err(error) => Err(match error.kind() {
-            ErrorKind::OutOfMemory => UsageError::NoMemory,
-            _ => UsageError::BadUsage,
-        }),
+        Err(error) => Err(usage_error(error.kind())),
+    }
+}
+
+/// What a fault of this kind is.
+fn usage_error(kind: ErrorKind) -> UsageError
+    ensures bad { result ≡ UsageError.BadUsage → kind ≢ ErrorKind.OutOfMemory }
+{
+    match kind {
+        ErrorKind::OutOfMemory => UsageError::NoMemory,
+        _ => UsageError::BadUsage,
     }
 }
 

@@ -1,5 +1,5 @@
 -- The pc that was taken out is the registers' own, and the one that is written back is the last.
-use Rattle.std.proofs.Common.{◌≡◌, Some, None, ap, ◌∙◌, sym, subst}
+use Rattle.std.proofs.Common.{◌≡◌, Some, ap, ◌∙◌, sym}
 use Rattle.rv_exec.specs.Registers.{with_pc}
 use Rattle.rv_exec.specs.RegistersLaws.{own_pc}
 use Rattle.flat_machine.specs.PlainRun.{plain_step, plain_run}

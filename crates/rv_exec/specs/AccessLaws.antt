@@ -1,5 +1,5 @@
 -- What a load, a store and an atomic operation do, and the page that they use, by memory's answer.
-use Rattle.std.specs.Prelude.{◌≡◌, ℕ, zero, Bool, List, [], Result, Ok, Err, Contains, IsOk}
+use Rattle.std.specs.Prelude.{◌≡◌, ℕ, zero, Bool, [], Result, Ok, Err, Contains, IsOk}
 use Rattle.std.proofs.Common.{arith, ap, sym, subst, refl, ◌∙◌}
 use Rattle.page_memory.specs.declared.fault.MemoryFault.{MemoryFault}
 use Rattle.page_memory.specs.Words.{page_number}

@@ -22,8 +22,8 @@ use crate::outcome::Outcome;
 use crate::regs::Regs;
 use rv_isa::{
     BranchKind, Form, ImmediateKind, LoadKind, OpKind, ReservationKind, ShiftKind, StoreKind,
-    amo_kind, branch_offset, form_of_word, funct7, immediate, jump_offset, rd, reservation_kind, rs1, rs2,
-    shift_amount, store_immediate, upper_immediate,
+    amo_kind, branch_offset, form_of_word, funct7, immediate, jump_offset, rd, reservation_kind,
+    rs1, rs2, shift_amount, store_immediate, upper_immediate,
 };
 
 /// Runs the next instruction of the hart of a number: fetches the word at pc and does what the instruction table says of it.
@@ -73,8 +73,7 @@ pub fn execute_at<B: Bus>(hart: u32, pc: &mut u32, regs: &mut Regs, bus: &mut B)
 /// Does what the table says of a word that was fetched at pc. The word's fields go straight to what is done with them: it is as
 /// if the word was decoded, but no instruction is built, which would take as long as to run it.
 #[inline(always)]
-fn perform<B: Bus>(hart: u32, pc: &mut u32,
-    regs: &mut Regs, bus: &mut B, word: u32) -> Outcome
+fn perform<B: Bus>(hart: u32, pc: &mut u32, regs: &mut Regs, bus: &mut B, word: u32) -> Outcome
     ensures line { let line = decoded_line hart (with_pc regs.old pc.old) (B.memory bus.old) word (insn_of word) in
         Follows line result (with_pc regs.new pc.new) (B.memory bus.new) }
     ensures registers_stay { UnlessDone result (with_pc regs.new pc.new ≡ with_pc regs.old pc.old) }
@@ -250,7 +249,15 @@ fn store<B: Bus>(pc: &mut u32, regs: &mut Regs, bus: &mut B, kind: StoreKind, wo
         Bounds (B.within bus.old) (B.within bus.new) (decoded_pages (with_pc regs.old pc.old) memory (Some (store_insn kind word))) (decoded_stores (with_pc regs.old pc.old) memory (Some (store_insn kind word))) }
     ensures kept { B.keeps bus.old bus.new }
 {
-    perform_store(pc, regs, bus, kind, rs1(word), rs2(word), store_immediate(word))
+    perform_store(
+        pc,
+        regs,
+        bus,
+        kind,
+        rs1(word),
+        rs2(word),
+        store_immediate(word),
+    )
 }
 
 /// An operation of a kind on a register and an immediate.
@@ -339,7 +346,14 @@ fn op_of_two(pc: &mut u32, regs: &mut Regs, base: OpKind, m: OpKind, word: u32) 
 /// An operation of RV32I, one of M, or the other one of RV32I, by funct7.
 #[inline(always)]
 #[tactic(auto, unfolding(rv_isa::specs::Forms::op_of_three))]
-fn op_of_three(pc: &mut u32, regs: &mut Regs, base: OpKind, m: OpKind, other: OpKind, word: u32) -> Outcome
+fn op_of_three(
+    pc: &mut u32,
+    regs: &mut Regs,
+    base: OpKind,
+    m: OpKind,
+    other: OpKind,
+    word: u32,
+) -> Outcome
     ensures line { (hart : ℕ) (memory : Memory) → Follows (decoded_line hart (with_pc regs.old pc.old) memory word (op_of_three base m other word)) result (with_pc regs.new pc.new) memory }
     ensures registers_stay { UnlessDone result (with_pc regs.new pc.new ≡ with_pc regs.old pc.old) }
     ensures no_pages { (memory : Memory) → decoded_pages (with_pc regs.old pc.old) memory (op_of_three base m other word) ≡ [] }
@@ -368,8 +382,7 @@ fn fence(pc: &mut u32, regs: &mut Regs, word: u32) -> Outcome
 /// Opcode AMO.
 #[inline(always)]
 #[tactic(auto, unfolding(rv_isa::specs::Table::amo_of, crate::specs::Line::insn_line, crate::specs::Uses::data_pages, crate::specs::Uses::data_stores))]
-fn amo<B: Bus>(hart: u32, pc: &mut u32,
-    regs: &mut Regs, bus: &mut B, word: u32) -> Outcome
+fn amo<B: Bus>(hart: u32, pc: &mut u32, regs: &mut Regs, bus: &mut B, word: u32) -> Outcome
     ensures line { let line = decoded_line hart (with_pc regs.old pc.old) (B.memory bus.old) word (amo_of word) in
         Follows line result (with_pc regs.new pc.new) (B.memory bus.new) }
     ensures registers_stay { UnlessDone result (with_pc regs.new pc.new ≡ with_pc regs.old pc.old) }
@@ -393,8 +406,7 @@ fn amo<B: Bus>(hart: u32, pc: &mut u32,
 /// Opcode AMO, where it is LR.W or SC.W.
 #[inline(always)]
 #[tactic(auto, unfolding(rv_isa::specs::Table::reservation_of, crate::specs::Line::insn_line, crate::specs::Uses::data_pages, crate::specs::Uses::data_stores))]
-fn reservation<B: Bus>(hart: u32, pc: &mut u32,
-    regs: &mut Regs, bus: &mut B, word: u32) -> Outcome
+fn reservation<B: Bus>(hart: u32, pc: &mut u32, regs: &mut Regs, bus: &mut B, word: u32) -> Outcome
     ensures line { let line = decoded_line hart (with_pc regs.old pc.old) (B.memory bus.old) word (reservation_of word) in
         Follows line result (with_pc regs.new pc.new) (B.memory bus.new) }
     ensures registers_stay { UnlessDone result (with_pc regs.new pc.new ≡ with_pc regs.old pc.old) }

@@ -6,7 +6,6 @@ ghost use Rattle.rv_exec.specs.Arithmetic.{even, is_taken, word_of_signed, word_
 ghost use Rattle.rv_exec.specs.Line.{address_at, branched, jumped};
 ghost use Rattle.rv_exec.specs.Outcomes.{Follows, UnlessDone, IsPresent};
 
-
 use crate::arithmetic::{add, branches, without_lowest_bit};
 use crate::at_hand::{advance, land, read};
 use crate::cause::Cause;

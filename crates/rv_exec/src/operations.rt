@@ -12,7 +12,14 @@ use rv_isa::{Immediate, ImmediateKind, OpKind, Reg, ShiftAmount, ShiftKind};
 
 /// Writes the result of an operation on what rs1 and rs2 hold to rd.
 #[inline(always)]
-pub fn perform_op(pc: &mut u32, regs: &mut Regs, kind: OpKind, rd: Reg, rs1: Reg, rs2: Reg) -> Outcome
+pub fn perform_op(
+    pc: &mut u32,
+    regs: &mut Regs,
+    kind: OpKind,
+    rd: Reg,
+    rs1: Reg,
+    rs2: Reg,
+) -> Outcome
     ensures done { result ≡ Outcome.Done }
     ensures written { (with_pc regs.new pc.new) ≡ computed (with_pc regs.old pc.old) rd (result_of kind (register (with_pc regs.old pc.old) rs1) (register (with_pc regs.old pc.old) rs2)) }
 {

@@ -57,25 +57,34 @@ fn run_each<L: Ledger, S: SwapSlot>(
     ensures harts { harts_in memory.new ≡ harts_in memory.old }
 {
     let mut pc = regs.pc();
+    let course = run_at_hand(&mut pc, regs, memory, hart, most);
+    regs.set_pc(pc);
+    course
+}
+
+/// The same where pc is at hand.
+#[inline(always)]
+fn run_at_hand<L: Ledger, S: SwapSlot>(
+    pc: &mut u32,
+    regs: &mut Regs,
+    memory: &mut PagedMemory<L, S>,
+    hart: u32,
+    most: u32,
+) -> Course
+    requires started { hart < harts_in memory.old }
+    ensures within { result.done ≤ most }
+    ensures ran { RunsUntil S.content S.honest hart most result.done result.last (with_pc regs.old pc.old) memory.old (with_pc regs.new pc.new) memory.new }
+    ensures harts { harts_in memory.new ≡ harts_in memory.old }
+{
     let mut left = most;
     while left != 0 {
-        match run_one::<L, S, Brand>(&mut pc, regs, memory, hart) {
+        match run_one::<L, S, Brand>(pc, regs, memory, hart) {
             Outcome::Done => left -= 1,
-            Outcome::Ecall => {
-                regs.set_pc(pc);
-                return at_call(most - left);
-            }
-            Outcome::Trap(cause, value) => {
-                regs.set_pc(pc);
-                return at_trap(most - left, cause, value);
-            }
-            Outcome::Absent(page) => {
-                regs.set_pc(pc);
-                return at_absent(most - left, page);
-            }
+            Outcome::Ecall => return at_call(most - left),
+            Outcome::Trap(cause, value) => return at_trap(most - left, cause, value),
+            Outcome::Absent(page) => return at_absent(most - left, page),
         }
     }
-    regs.set_pc(pc);
     Course {
         done: most,
         last: Outcome::Done,

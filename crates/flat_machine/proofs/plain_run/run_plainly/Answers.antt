@@ -1,28 +1,17 @@
-use Rattle.std.proofs.Common.{◌≡◌, ◌+◌, ◌-◌, Some, ap, ◌∙◌, sym, arith}
+-- The pc that was taken out is the registers' own, and the one that is written back is the last.
+use Rattle.std.proofs.Common.{◌≡◌, Some, ap, ◌∙◌, sym}
 use Rattle.rv_exec.specs.Registers.{with_pc}
 use Rattle.rv_exec.specs.RegistersLaws.{own_pc}
-use Rattle.flat_machine.specs.PlainRun.{plain_run}
-use Rattle.flat_machine.specs.PlainRunLaws.{plain_none, plain_more}
+use Rattle.flat_machine.specs.PlainRun.{plain_step, plain_run}
 use Rattle.flat_machine.proofs.plain_run.run_plainly.Goals as goal
 
-pub loop-left-init : goal.loop-left-init
-loop-left-init c =
-    let regs = c.args.regs.now in
-    let memory = c.args.memory.now in
-    let own : with_pc regs c.pc-pc.result ≡ regs = ap (λ p. with_pc regs p) c.pc-pc.ensures ∙ own_pc regs in
-    let none : c.args.most - c.args.most ≡ 0 = omega arith in
-    record {
-      ran = ap (λ n. plain_run c.args.hart n regs memory) none ∙ plain_none c.args.hart regs memory ∙ ap (λ r. Some (r, memory)) (sym own);
-      within = omega arith;
-    }
+pub returns-clause-ran : goal.returns-clause-ran
+returns-clause-ran c =
+    let own : with_pc c.args.regs.now c.pc-pc.result ≡ c.args.regs.now = ap (λ p. with_pc c.args.regs.now p) c.pc-pc.ensures ∙ own_pc c.args.regs.now in
+    ap (λ r. plain_run c.args.hart c.run_at_hand-done.result r c.args.memory.now) (sym own)
+    ∙ c.run_at_hand-done.ensures.ran
+    ∙ ap (λ r. Some (r, c.run_at_hand-done.new.memory)) (sym c.set_pc.ensures)
 
-pub loop-left-preserved : goal.loop-left-preserved
-loop-left-preserved c =
-    let l = c.loop-left in
-    let one : c.args.most - l.left + 1 ≡ c.args.most - (l.left - 1) = omega (arith, l.invariant.within, c.loop-left-test.true) in
-    record {
-      ran = ap (λ n. plain_run c.args.hart n c.args.regs.now c.args.memory.now) (sym one)
-          ∙ plain_more c.args.hart (c.args.most - l.left) c.args.regs.now c.args.memory.now (with_pc l.regs l.pc) l.memory
-          (with_pc c.execute_at.new.regs c.execute_at.new.pc) c.execute_at.new.bus l.invariant.ran c.in-Done.ensures.line;
-      within = omega (arith, l.invariant.within);
-    }
+pub returns-clause-stopped : goal.returns-clause-stopped
+returns-clause-stopped c = λ fewer.
+    ap (λ r. plain_step c.args.hart (r, c.run_at_hand-done.new.memory)) c.set_pc.ensures ∙ c.run_at_hand-done.ensures.stopped fewer

@@ -1,35 +1,13 @@
-use Rattle.std.proofs.Common.{◌≡◌, ◌+◌, ◌-◌, ap, sym, subst, ◌∙◌, refl, arith}
+-- The pc that was taken out is the registers' own, and the one that is written back is the last.
+use Rattle.std.proofs.Common.{◌≡◌, sym, ap, ◌∙◌, subst}
 use Rattle.rv_exec.specs.Registers.{with_pc}
 use Rattle.rv_exec.specs.RegistersLaws.{own_pc}
-use Rattle.space_core.specs.HartLoop.{RunsEach}
-use Rattle.space_core.proofs.StepsOn.{each_done, none_done}
+use Rattle.space_core.specs.HartLoop.{RunsUntil}
 use Rattle.space_core.proofs.hart_loop.run_each.Goals as goal
 
-pub loop-left-init : goal.loop-left-init
-loop-left-init g c =
-    let regs = c.args.regs.now in
-    let memory = c.args.memory.now in
-    let own : with_pc regs c.pc-pc.result ≡ regs = ap (λ p. with_pc regs p) c.pc-pc.ensures ∙ own_pc regs in
-    let none : c.args.most - c.args.most ≡ 0 = omega arith in
-    record {
-      each =
-          subst (λ n. RunsEach g.S.SwapSlot.content g.S.SwapSlot.honest c.args.hart n regs memory (with_pc regs c.pc-pc.result) memory) (sym none)
-          (subst (λ r. RunsEach g.S.SwapSlot.content g.S.SwapSlot.honest c.args.hart 0 regs memory r memory) (sym own)
-          (none_done g.S.SwapSlot.content g.S.SwapSlot.honest c.args.hart regs memory));
-      started = refl;
-      within = omega arith;
-    }
-
-pub loop-left-preserved : goal.loop-left-preserved
-loop-left-preserved g c =
-    let l = c.loop-left in
-    let one = c.in-Done.ensures.ran in
-    let more : c.args.most - l.left + 1 ≡ c.args.most - (l.left - 1) = omega (arith, l.invariant.within, c.loop-left-test.true) in
-    record {
-      each =
-          subst (λ n. RunsEach g.S.SwapSlot.content g.S.SwapSlot.honest c.args.hart n c.args.regs.now c.args.memory.now (with_pc c.run_one.new.regs c.run_one.new.pc) c.run_one.new.memory) more
-          (each_done g.S.SwapSlot.content g.S.SwapSlot.honest c.args.hart (c.args.most - l.left) c.args.regs.now c.args.memory.now (with_pc l.regs l.pc) l.memory
-          (with_pc c.run_one.new.regs c.run_one.new.pc) c.run_one.new.memory l.invariant.each one);
-      started = one.kept.harts ∙ l.invariant.started;
-      within = omega (arith, l.invariant.within);
-    }
+pub returns-clause-ran : goal.returns-clause-ran
+returns-clause-ran g c =
+    let run = c.run_at_hand-course in
+    let own : with_pc c.args.regs.now c.pc-pc.result ≡ c.args.regs.now = ap (λ p. with_pc c.args.regs.now p) c.pc-pc.ensures ∙ own_pc c.args.regs.now in
+    subst (λ r. RunsUntil g.S.SwapSlot.content g.S.SwapSlot.honest c.args.hart c.args.most run.result.done run.result.last c.args.regs.now c.args.memory.now r run.new.memory) (sym c.set_pc.ensures)
+    (subst (λ r. RunsUntil g.S.SwapSlot.content g.S.SwapSlot.honest c.args.hart c.args.most run.result.done run.result.last r c.args.memory.now (with_pc run.new.regs run.new.pc) run.new.memory) own run.ensures.ran)

@@ -9,6 +9,7 @@ pub mod MemoryLaws
 pub mod Entries
 pub mod EntriesLaws
 pub mod PageMap
+pub mod PageRow
 pub mod ZeroedLaws
 pub mod AccessLaws
 pub mod StandsForLaws

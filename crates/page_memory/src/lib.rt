@@ -14,6 +14,7 @@ mod page;
 mod page_bytes;
 mod page_index;
 mod page_map;
+mod page_row;
 mod reservations;
 mod rights;
 mod words;

@@ -1,10 +1,12 @@
-use Rattle.std.proofs.Common.{◌≡◌, ◌*◌, ◌/◌, ◌%◌, List, Ok, Some, sym, ap, ◌∙◌, refl, subst, rules}
+use Rattle.std.proofs.Common.{◌≡◌, ◌*◌, ◌/◌, ◌%◌, List, ℕ, Ok, Some, drop, sym, ap, ◌∙◌, refl, subst, rules}
+use Rattle.byteorder.specs.Endian.{little_number}
 use Rattle.page_memory.specs.declared.words.Access.TheVariants.{Load}
 use Rattle.page_memory.specs.declared.hint.Hint.{Hint}
-use Rattle.page_memory.specs.Words.{page_number}
+use Rattle.page_memory.specs.Words.{page_number, page_offset, bytes_in}
 use Rattle.page_memory.specs.Hints.{StandsAt, LeadAll}
-use Rattle.page_memory.specs.Entries.{place_of}
-use Rattle.page_memory.specs.Pages.{loaded}
+use Rattle.page_memory.specs.Entries.{place_of, value_at}
+use Rattle.page_memory.specs.Pages.{Page, loaded}
+use Rattle.page_memory.proofs.PageRows.{had}
 use Rattle.page_memory.specs.HintsLaws.{loaded_there, leads_there, stands_of, one_remembered}
 use Rattle.page_memory.proofs.flat_pages.FlatPages.load_anew.Goals as goal
 
@@ -20,5 +22,6 @@ pub returns-clause-number : goal.returns-clause-number
 returns-clause-number c =
     let there : place_of (page_number c.args.address) c.self.inside.pages ≡ Some c.in_ok-place.place = ap (λ n. place_of n c.self.inside.pages) (sym c.page_of.ensures.number) ∙ c.in_ok-place.ensures.place in
     let stands : StandsAt Load c.self.inside.pages (page_number c.args.address) c.in_ok-place.place = stands_of Load c.self.inside.pages (page_number c.args.address) c.in_ok-place.place c.in_ok-place.ensures.within there c.in_ok-place.ensures.allowed in
-    ap Ok c.number.ensures
-    ∙ sym (ap (λ m. loaded m c.args.width c.args.address) (sym c.self.view_is) ∙ loaded_there c.self.inside.pages c.args.width c.args.address c.in_ok-place.place c.at-page.result.now (search rules) stands c.at-page.ensures)
+    let got = had (λ (page : Page). page.bytes ≡ c.bytes-page.result.now) (value_at c.in_ok-place.place c.self.inside.pages) c.bytes-page.ensures.bytes in
+    ap Ok (c.number.ensures ∙ ap (λ (l : List ℕ). little_number (bytes_in c.args.width) (drop (page_offset c.args.address) l)) (sym got.1.1))
+    ∙ sym (ap (λ m. loaded m c.args.width c.args.address) (sym c.self.view_is) ∙ loaded_there c.self.inside.pages c.args.width c.args.address c.in_ok-place.place got.0 (search rules) stands got.1.0)

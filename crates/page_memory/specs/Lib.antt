@@ -3,6 +3,7 @@ pub mod MemoryMap
 pub mod Rights
 pub mod PageIndex
 pub mod Pages
+pub mod Reply
 pub mod Reservations
 pub mod Memory
 pub mod MemoryLaws

@@ -3,6 +3,7 @@ ghost use Rattle.std.specs.FinMap as map;
 ghost use Rattle.page_memory.specs.Pages.{usable, aligned_page, fetched, loaded, stored, answer_by, number_at, copied_out, copied_in, byte_at, with_zeroed};
 ghost use Rattle.page_memory.specs.declared.words.Access.{Access};
 ghost use Rattle.page_memory.specs.Words.{bytes_in, page_offset};
+ghost use Rattle.page_memory.specs.Reply.{answered};
 
 use crate::allowed::place_allowed;
 use crate::fault::MemoryFault;
@@ -10,6 +11,7 @@ use crate::hint::{Hint, Hints, hint_for, remember, start_if_aligned};
 use crate::page::Page;
 use crate::page_bytes::number;
 use crate::page_row::PageRow;
+use crate::reply::Reply;
 use crate::rights::Rights;
 use crate::words::{Access, Width, offset_in_page, page_of};
 use crate::zeroing::add_all_zeroed;
@@ -91,7 +93,7 @@ impl FlatPages {
             let page = self.pages.bytes(self.hints.fetched.place);
             Ok(number(page, Width::Word, address))
         } else {
-            self.fetch_anew(address)
+            self.fetch_anew(address).answer()
         }
     }
 
@@ -99,20 +101,24 @@ impl FlatPages {
     #[cold]
     #[inline(never)]
     #[tactic(auto, using(crate::specs::HintsLaws::not_fetched))]
-    fn fetch_anew(&mut self, address: u32) -> Result<u32, MemoryFault>
-        ensures word { result ≡ fetched self.old address }
+    fn fetch_anew(&mut self, address: u32) -> Reply
+        ensures word { answered result ≡ fetched self.old address }
         ensures memory { self.new ≡ self.old }
     {
         if address % 4 != 0 {
-            return Err(MemoryFault::Misaligned);
+            return Reply::Misaligned;
         }
-        let place = place_allowed(&self.pages, page_of(address), Access::Fetch)?;
+        let place = match place_allowed(&self.pages, page_of(address), Access::Fetch) {
+            Ok(place) => place,
+            Err(MemoryFault::Misaligned) => return Reply::Misaligned,
+            Err(MemoryFault::PageFault) => return Reply::PageFault,
+        };
         self.hints.fetched = Hint {
             start: address / 4096 * 4096,
             place,
         };
         let page = self.pages.bytes(place);
-        Ok(number(page, Width::Word, address))
+        Reply::Number(number(page, Width::Word, address))
     }
 
     /// Loads the number at an address, with zeros above it. The page is remembered.
@@ -126,25 +132,29 @@ impl FlatPages {
             let page = self.pages.bytes(hint.place);
             Ok(number(page, width, address))
         } else {
-            self.load_anew(width, address)
+            self.load_anew(width, address).answer()
         }
     }
 
     /// The same from a page that is not remembered.
     #[inline(never)]
     #[tactic(auto, using(crate::specs::HintsLaws::not_loaded))]
-    fn load_anew(&mut self, width: Width, address: u32) -> Result<u32, MemoryFault>
-        ensures number { result ≡ loaded self.old width address }
+    fn load_anew(&mut self, width: Width, address: u32) -> Reply
+        ensures number { answered result ≡ loaded self.old width address }
         ensures memory { self.new ≡ self.old }
     {
         if address % width.bytes() != 0 {
-            return Err(MemoryFault::Misaligned);
+            return Reply::Misaligned;
         }
-        let place = place_allowed(&self.pages, page_of(address), Access::Load)?;
+        let place = match place_allowed(&self.pages, page_of(address), Access::Load) {
+            Ok(place) => place,
+            Err(MemoryFault::Misaligned) => return Reply::Misaligned,
+            Err(MemoryFault::PageFault) => return Reply::PageFault,
+        };
         let start = address / 4096 * 4096;
         remember(&mut self.hints.loaded, address, Hint { start, place });
         let page = self.pages.bytes(place);
-        Ok(number(page, width, address))
+        Reply::Number(number(page, width, address))
     }
 
     /// Loads the word that an atomic instruction is to replace: its page needs the right to write.

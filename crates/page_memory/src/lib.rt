@@ -15,6 +15,7 @@ mod page_bytes;
 mod page_index;
 mod page_map;
 mod page_row;
+mod reply;
 mod reservations;
 mod rights;
 mod words;

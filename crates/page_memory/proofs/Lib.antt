@@ -2,3 +2,4 @@ pub mod Indexing
 pub mod Overwriting
 pub mod PlacedEntries
 pub mod Reserving
+pub mod PageRows

@@ -3,12 +3,14 @@ pub mod MemoryMap
 pub mod Rights
 pub mod PageIndex
 pub mod Pages
+pub mod Reply
 pub mod Reservations
 pub mod Memory
 pub mod MemoryLaws
 pub mod Entries
 pub mod EntriesLaws
 pub mod PageMap
+pub mod PageRow
 pub mod ZeroedLaws
 pub mod AccessLaws
 pub mod StandsForLaws

@@ -3,12 +3,15 @@ ghost use Rattle.std.specs.FinMap as map;
 ghost use Rattle.page_memory.specs.Pages.{usable, aligned_page, fetched, loaded, stored, answer_by, number_at, copied_out, copied_in, byte_at, with_zeroed};
 ghost use Rattle.page_memory.specs.declared.words.Access.{Access};
 ghost use Rattle.page_memory.specs.Words.{bytes_in, page_offset};
+ghost use Rattle.page_memory.specs.Reply.{answered};
 
-use crate::allowed::{page_allowed, place_allowed};
+use crate::allowed::place_allowed;
 use crate::fault::MemoryFault;
 use crate::hint::{Hint, Hints, hint_for, remember, start_if_aligned};
 use crate::page::Page;
-use crate::page_map::PageMap;
+use crate::page_bytes::number;
+use crate::page_row::PageRow;
+use crate::reply::Reply;
 use crate::rights::Rights;
 use crate::words::{Access, Width, offset_in_page, page_of};
 use crate::zeroing::add_all_zeroed;
@@ -19,7 +22,7 @@ use std::marker::Model;
 #[derive(Drop)]
 pub(crate) struct FlatPages {
     alloc: Global,
-    pages: PageMap<Page>,
+    pages: PageRow,
     hints: Hints,
 }
 
@@ -47,7 +50,7 @@ impl FlatPages {
     {
         Ok(FlatPages {
             alloc,
-            pages: PageMap::new(alloc)?,
+            pages: PageRow::new(alloc)?,
             hints: Hints::new(),
         })
     }
@@ -87,10 +90,10 @@ impl FlatPages {
     {
         let start = start_if_aligned(address, Width::Word);
         if start == self.hints.fetched.start {
-            let page = self.pages.at(self.hints.fetched.place);
-            Ok(page.number(Width::Word, address))
+            let page = self.pages.bytes(self.hints.fetched.place);
+            Ok(number(page, Width::Word, address))
         } else {
-            self.fetch_anew(address)
+            self.fetch_anew(address).answer()
         }
     }
 
@@ -98,20 +101,24 @@ impl FlatPages {
     #[cold]
     #[inline(never)]
     #[tactic(auto, using(crate::specs::HintsLaws::not_fetched))]
-    fn fetch_anew(&mut self, address: u32) -> Result<u32, MemoryFault>
-        ensures word { result ≡ fetched self.old address }
+    fn fetch_anew(&mut self, address: u32) -> Reply
+        ensures word { answered result ≡ fetched self.old address }
         ensures memory { self.new ≡ self.old }
     {
         if address % 4 != 0 {
-            return Err(MemoryFault::Misaligned);
+            return Reply::Misaligned;
         }
-        let place = place_allowed(&self.pages, page_of(address), Access::Fetch)?;
+        let place = match place_allowed(&self.pages, page_of(address), Access::Fetch) {
+            Ok(place) => place,
+            Err(MemoryFault::Misaligned) => return Reply::Misaligned,
+            Err(MemoryFault::PageFault) => return Reply::PageFault,
+        };
         self.hints.fetched = Hint {
             start: address / 4096 * 4096,
             place,
         };
-        let page = self.pages.at(place);
-        Ok(page.number(Width::Word, address))
+        let page = self.pages.bytes(place);
+        Reply::Number(number(page, Width::Word, address))
     }
 
     /// Loads the number at an address, with zeros above it. The page is remembered.
@@ -122,37 +129,45 @@ impl FlatPages {
     {
         let hint = hint_for(&self.hints.loaded, address);
         if start_if_aligned(address, width) == hint.start {
-            let page = self.pages.at(hint.place);
-            Ok(page.number(width, address))
+            let page = self.pages.bytes(hint.place);
+            Ok(number(page, width, address))
         } else {
-            self.load_anew(width, address)
+            self.load_anew(width, address).answer()
         }
     }
 
     /// The same from a page that is not remembered.
     #[inline(never)]
     #[tactic(auto, using(crate::specs::HintsLaws::not_loaded))]
-    fn load_anew(&mut self, width: Width, address: u32) -> Result<u32, MemoryFault>
-        ensures number { result ≡ loaded self.old width address }
+    fn load_anew(&mut self, width: Width, address: u32) -> Reply
+        ensures number { answered result ≡ loaded self.old width address }
         ensures memory { self.new ≡ self.old }
     {
         if address % width.bytes() != 0 {
-            return Err(MemoryFault::Misaligned);
+            return Reply::Misaligned;
         }
-        let place = place_allowed(&self.pages, page_of(address), Access::Load)?;
+        let place = match place_allowed(&self.pages, page_of(address), Access::Load) {
+            Ok(place) => place,
+            Err(MemoryFault::Misaligned) => return Reply::Misaligned,
+            Err(MemoryFault::PageFault) => return Reply::PageFault,
+        };
         let start = address / 4096 * 4096;
         remember(&mut self.hints.loaded, address, Hint { start, place });
-        let page = self.pages.at(place);
-        Ok(page.number(width, address))
+        let page = self.pages.bytes(place);
+        Reply::Number(number(page, width, address))
     }
 
     /// Loads the word that an atomic instruction is to replace: its page needs the right to write.
     #[inline]
+    #[tactic(auto, using(crate::proofs::PageRows::replacing))]
     pub fn load_to_replace(&self, address: u32) -> Result<u32, MemoryFault>
         ensures { result ≡ answer_by (number_at 4 address) (aligned_page self.now Access.Store 4 address) }
     {
-        let page = self.page_for(Access::Store, Width::Word, address)?;
-        Ok(page.number(Width::Word, address))
+        if address % 4 != 0 {
+            return Err(MemoryFault::Misaligned);
+        }
+        let page = self.usable_bytes(Access::Store, address)?;
+        Ok(number(page, Width::Word, address))
     }
 
     /// Stores the low bytes of a word at an address. The page is remembered.
@@ -164,8 +179,7 @@ impl FlatPages {
     {
         let hint = hint_for(&self.hints.stored, address);
         if start_if_aligned(address, width) == hint.start {
-            let page = self.pages.at_mut(hint.place);
-            page.put_number(width, address, word);
+            self.pages.put_number(hint.place, width, address, word);
             Ok(())
         } else {
             self.store_anew(width, address, word)
@@ -186,21 +200,21 @@ impl FlatPages {
         let place = place_allowed(&self.pages, page_of(address), Access::Store)?;
         let start = address / 4096 * 4096;
         remember(&mut self.hints.stored, address, Hint { start, place });
-        self.pages.at_mut(place).put_number(width, address, word);
+        self.pages.put_number(place, width, address, word);
         Ok(())
     }
 
     /// Copies bytes out of memory, from an address on and within its page.
-    #[tactic(auto, unfolding(crate::specs::Pages::copied_out))]
+    #[tactic(auto, using(crate::proofs::PageRows::copying))]
     pub fn copy_out(&self, address: u32, to: &mut [u8]) -> Result<(), MemoryFault>
         requires { page_offset address + length to.old ≤ 4096 }
         ensures ok { OnOk result (copied_out self.now address (length to.old) ≡ Ok to.new) }
         ensures fault { IfErr result (λ fault. copied_out self.now address (length to.old) ≡ Err fault) }
         ensures err { OnErr result (to.new ≡ to.old) }
     {
-        let page = self.usable_page(Access::Load, address)?;
+        let page = self.usable_bytes(Access::Load, address)?;
         let offset = offset_in_page(address);
-        to.copy_from_slice(&page.bytes()[offset..offset + to.len()]);
+        to.copy_from_slice(&page[offset..offset + to.len()]);
         Ok(())
     }
 
@@ -213,9 +227,7 @@ impl FlatPages {
         ensures err { OnErr result (self.new ≡ self.old) }
     {
         let place = place_allowed(&self.pages, page_of(address), Access::Store)?;
-        self.pages
-            .at_mut(place)
-            .put_bytes(offset_in_page(address), from);
+        self.pages.put_bytes(place, offset_in_page(address), from);
         Ok(())
     }
 
@@ -225,29 +237,19 @@ impl FlatPages {
         ensures { result ≡ byte_at self.now address }
     {
         let place = self.pages.place(page_of(address))?;
-        let page = self.pages.at(place);
-        Some(page.bytes()[offset_in_page(address)])
+        let page = self.pages.bytes(place);
+        Some(page[offset_in_page(address)])
     }
 
-    /// The page that an access may use.
+    /// The bytes of the page that an access may use.
     #[inline]
-    fn usable_page(&self, access: Access, address: u32) -> Result<&Page, MemoryFault>
-        ensures { MatchResult result (λ page. usable self.now access address ≡ Ok page.now) (λ fault. usable self.now access address ≡ Err fault) }
+    fn usable_bytes(&self, access: Access, address: u32) -> Result<&[u8], MemoryFault>
+        ensures bytes { MatchResult result (λ bytes. answer_by (λ page. page.bytes) (usable self.now access address) ≡ Ok bytes.now) (λ fault. usable self.now access address ≡ Err fault) }
+        ensures whole { IfOk result (λ bytes. length bytes.now ≡ 4096) }
     {
-        let place = self.pages.place(page_of(address));
-        page_allowed(&self.pages, place, access)
-    }
-
-    /// The page that an access of so many bytes may use.
-    #[inline]
-    #[tactic(auto, unfolding(crate::specs::Pages::aligned_page))]
-    fn page_for(&self, access: Access, width: Width, address: u32) -> Result<&Page, MemoryFault>
-        ensures page { MatchResult result (λ page. aligned_page self.now access (bytes_in width) address ≡ Ok page.now) (λ fault. aligned_page self.now access (bytes_in width) address ≡ Err fault) }
-        ensures aligned { OnOk result (address % bytes_in width ≡ 0) }
-    {
-        if address % width.bytes() != 0 {
-            return Err(MemoryFault::Misaligned);
+        match place_allowed(&self.pages, page_of(address), access) {
+            Ok(place) => Ok(self.pages.bytes(place)),
+            Err(fault) => Err(fault),
         }
-        self.usable_page(access, address)
     }
 }

@@ -14,6 +14,8 @@ mod page;
 mod page_bytes;
 mod page_index;
 mod page_map;
+mod page_row;
+mod reply;
 mod reservations;
 mod rights;
 mod words;

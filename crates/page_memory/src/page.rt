@@ -1,9 +1,9 @@
-ghost use Rattle.std.specs.Prelude.{◌≡◌, ℕ, ◌+◌, ◌%◌, ◌≤◌, IfOk, length, replicate, slice_index};
-ghost use Rattle.page_memory.specs.Pages.{number_at, overwritten};
+ghost use Rattle.std.specs.Prelude.{◌≡◌, ◌+◌, ◌%◌, ◌≤◌, IfOk, length, replicate};
+ghost use Rattle.page_memory.specs.Pages.{overwritten};
 ghost use Rattle.page_memory.specs.Words.{bytes_in, page_offset};
 ghost use Rattle.byteorder.specs.Endian.{little_bytes};
 
-use crate::page_bytes::{number, put_bytes, put_number};
+use crate::page_bytes::{put_bytes, put_number};
 use crate::rights::Rights;
 use crate::words::{PAGE_SIZE, Width};
 use std::alloc::{AllocError, Global};
@@ -38,15 +38,6 @@ impl Page {
         })
     }
 
-    /// A page of the same rights and bytes.
-    pub fn copied(&self, alloc: Global) -> Result<Self, AllocError>
-        ensures { IfOk result (λ page. page ≡ self.now) }
-    {
-        let mut page = Page::zeroed(alloc, self.rights)?;
-        page.bytes.copy_from_slice(self.bytes.as_slice());
-        Ok(page)
-    }
-
     #[inline]
     pub fn rights(&self) -> Rights
         ensures { result ≡ self.now.rights }
@@ -75,15 +66,6 @@ impl Page {
         ensures whole { length result.now ≡ 4096 }
     {
         self.bytes.as_slice()
-    }
-
-    /// The number at an address of this page that is aligned to its width.
-    #[inline]
-    pub fn number(&self, width: Width, address: u32) -> u32
-        requires { address % bytes_in width ≡ 0 }
-        ensures { result ≡ number_at (bytes_in width) address self.now }
-    {
-        number(self.bytes.as_slice(), width, address)
     }
 
     /// Writes the low bytes of a word at an address of this page that is aligned to their width.

@@ -1,15 +1,18 @@
-use Rattle.std.proofs.Common.{◌≡◌, Ok, Some, sym, ap, ◌∙◌, arith}
+use Rattle.std.proofs.Common.{◌≡◌, List, ℕ, Ok, Some, drop, sym, ap, ◌∙◌, arith}
+use Rattle.byteorder.specs.Endian.{little_number}
 use Rattle.page_memory.specs.declared.words.Access.TheVariants.{Fetch}
-use Rattle.page_memory.specs.Words.{page_number}
-use Rattle.page_memory.specs.Entries.{place_of}
-use Rattle.page_memory.specs.Pages.{fetched}
+use Rattle.page_memory.specs.Words.{page_number, page_offset}
+use Rattle.page_memory.specs.Entries.{place_of, value_at}
+use Rattle.page_memory.specs.Pages.{Page, fetched}
+use Rattle.page_memory.proofs.PageRows.{had}
 use Rattle.page_memory.specs.Hints.{StandsAt}
 use Rattle.page_memory.specs.HintsLaws.{fetched_there, stands_of}
 use Rattle.page_memory.proofs.flat_pages.FlatPages.fetch_anew.Goals as goal
 
 pub returns-clause-word : goal.returns-clause-word
 returns-clause-word c =
-    let there : place_of (page_number c.args.address) c.self.inside.pages ≡ Some c.in_ok-place.place = ap (λ n. place_of n c.self.inside.pages) (sym c.page_of.ensures.number) ∙ c.in_ok-place.ensures.place in
-    let stands : StandsAt Fetch c.self.inside.pages (page_number c.args.address) c.in_ok-place.place = stands_of Fetch c.self.inside.pages (page_number c.args.address) c.in_ok-place.place c.in_ok-place.ensures.within there c.in_ok-place.ensures.allowed in
-    ap Ok c.number.ensures
-    ∙ sym (ap (λ m. fetched m c.args.address) (sym c.self.view_is) ∙ fetched_there c.self.inside.pages c.args.address c.in_ok-place.place c.at-page.result.now (omega arith) stands c.at-page.ensures)
+    let there : place_of (page_number c.args.address) c.self.inside.pages ≡ Some c.in-Ok.place = ap (λ n. place_of n c.self.inside.pages) (sym c.page_of.ensures.number) ∙ c.in-Ok.ensures.place in
+    let stands : StandsAt Fetch c.self.inside.pages (page_number c.args.address) c.in-Ok.place = stands_of Fetch c.self.inside.pages (page_number c.args.address) c.in-Ok.place c.in-Ok.ensures.within there c.in-Ok.ensures.allowed in
+    let got = had (λ (page : Page). page.bytes ≡ c.bytes-page.result.now) (value_at c.in-Ok.place c.self.inside.pages) c.bytes-page.ensures.bytes in
+    ap Ok (c.number.ensures ∙ ap (λ (l : List ℕ). little_number 4 (drop (page_offset c.args.address) l)) (sym got.1.1))
+    ∙ sym (ap (λ m. fetched m c.args.address) (sym c.self.view_is) ∙ fetched_there c.self.inside.pages c.args.address c.in-Ok.place got.0 (omega arith) stands got.1.0)

@@ -1,11 +1,13 @@
-use Rattle.std.proofs.Common.{◌≡◌, ◌*◌, ◌/◌, ◌%◌, List, refl, subst, sym, ap, ◌∙◌, Ok, Some, true, rules}
+use Rattle.byteorder.specs.Endian.{little_bytes}
+use Rattle.std.proofs.Common.{◌≡◌, ◌*◌, ◌/◌, ◌%◌, List, ℕ, refl, subst, sym, ap, ◌∙◌, Ok, Some, true, rules}
 use Rattle.std.specs.Ordering.{nat_cmp}
 use Rattle.std.specs.FinMap.{from_entries}
 use Rattle.page_memory.specs.declared.words.Access.TheVariants.{Store}
-use Rattle.page_memory.specs.Words.{page_number}
+use Rattle.page_memory.specs.Words.{page_number, page_offset, bytes_in}
 use Rattle.page_memory.specs.Rights.{may}
-use Rattle.page_memory.specs.Pages.{stored}
-use Rattle.page_memory.specs.Entries.{place_of, with_value}
+use Rattle.page_memory.specs.Pages.{Page, overwritten, stored}
+use Rattle.page_memory.specs.Entries.{place_of, value_at, with_value}
+use Rattle.page_memory.proofs.PageRows.{had}
 use Rattle.page_memory.specs.AccessLaws.{stored_at}
 use Rattle.page_memory.specs.declared.hint.Hint.{Hint}
 use Rattle.page_memory.specs.declared.hint.Hints.{Hints}
@@ -16,10 +18,11 @@ use Rattle.page_memory.proofs.flat_pages.FlatPages.store_anew.Goals as goal
 pub returns-clause-ok : goal.returns-clause-ok
 returns-clause-ok c =
     let at : place_of (page_number c.args.address) c.self.inside.pages ≡ Some c.in_ok-place.place = ap (λ n. place_of n c.self.inside.pages) (sym c.page_of.ensures.number) ∙ c.in_ok-place.ensures.place in
-    let allowed : may Store c.at_mut.result.now.rights ≡ true = rw c.at_mut.ensures.value at c.in_ok-place.ensures.allowed in
+    let got = had (λ (page : Page). c.put_number.new.self ≡ with_value c.self.inside.pages c.in_ok-place.place (record page { bytes = overwritten page.bytes (page_offset c.args.address) (little_bytes (bytes_in c.args.width) c.args.word) })) (value_at c.in_ok-place.place c.self.inside.pages) c.put_number.ensures in
+    let allowed : may Store got.0.rights ≡ true = rw got.1.0 at c.in_ok-place.ensures.allowed in
     ap (λ m. stored m c.args.width c.args.address c.args.word) (sym c.self.view_is)
-    ∙ stored_at c.self.inside.pages c.args.width c.args.address c.args.word c.in_ok-place.place c.at_mut.result.now (search rules) at c.at_mut.ensures.value allowed
-    ∙ ap (λ p. Ok (from_entries {R = nat_cmp} (with_value c.self.inside.pages c.in_ok-place.place p))) (sym c.put_number.ensures)
+    ∙ stored_at c.self.inside.pages c.args.width c.args.address c.args.word c.in_ok-place.place got.0 (search rules) at got.1.0 allowed
+    ∙ ap (λ (l : List (ℕ × Page)). Ok (from_entries {R = nat_cmp} l)) (sym got.1.1)
 
 pub invariant_of-self : goal.invariant_of-self
 invariant_of-self c =
@@ -29,4 +32,6 @@ invariant_of-self c =
     let these : LeadAll Store c.self.inside.pages c.remember.new.hints = subst among (sym c.remember.ensures) (one_remembered Store c.self.inside.pages c.self.inside.hints.stored (page_number c.args.address % 64) _ (leads_there Store c.self.inside.pages c.args.address (c.args.address / 4096 * 4096) c.in_ok-place.place refl stands) c.self.invariant.stored) in
     let hints : Hints = record c.self.inside.hints { stored = c.remember.new.hints } in
     let remembered : Remembers c.self.inside.pages hints = record { fetched = c.self.invariant.fetched; loaded = c.self.invariant.loaded; stored = these } in
-    still_remembered c.self.inside.pages hints c.in_ok-place.place c.at_mut.result.now c.put_number.new.self c.at_mut.ensures.value (ap (λ p. p.rights) c.put_number.ensures) remembered
+    let got = had (λ (page : Page). c.put_number.new.self ≡ with_value c.self.inside.pages c.in_ok-place.place (record page { bytes = overwritten page.bytes (page_offset c.args.address) (little_bytes (bytes_in c.args.width) c.args.word) })) (value_at c.in_ok-place.place c.self.inside.pages) c.put_number.ensures in
+    subst (λ (l : List (ℕ × Page)). Remembers l hints) (sym got.1.1)
+    (still_remembered c.self.inside.pages hints c.in_ok-place.place got.0 _ got.1.0 refl remembered)

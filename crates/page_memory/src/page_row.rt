@@ -1,0 +1,198 @@
+ghost use Rattle.std.specs.Prelude.{◌≡◌, ◌+◌, ◌*◌, ◌≤◌, ◌^◌, ◌<◌, ◌%◌, [], ◌∷◌, ◌++◌, None, IfOk, IfSome, OnOk, OnErr, length, take};
+ghost use Rattle.std.specs.Option.{IsSomeAnd};
+ghost use Rattle.byteorder.specs.Endian.{little_bytes};
+ghost use Rattle.page_memory.specs.Entries.{place_of, value_at};
+ghost use Rattle.page_memory.specs.PageRow.{Rewritten, page_of_row, with_page};
+ghost use Rattle.page_memory.specs.Pages.{overwritten};
+ghost use Rattle.page_memory.specs.Words.{bytes_in, page_offset};
+
+use crate::page::Page;
+use crate::page_bytes::{put_bytes, put_number};
+use crate::page_map::PageMap;
+use crate::rights::Rights;
+use crate::words::{PAGE_SIZE, Width};
+use std::alloc::{AllocError, Global};
+use std::marker::Model;
+
+/// Pages by number, whose bytes stand in one row: a page's place tells where, so that no pointer is kept for a page.
+#[derive(Drop)]
+pub(crate) struct PageRow {
+    rights: PageMap<Rights>,
+    /// The bytes of all pages, one page behind the other.
+    bytes: Vec<u8>,
+}
+
+impl Model for PageRow {
+    ghost use Rattle.std.specs.Prelude.{◌≡◌, ℕ, ◌*◌, List, length};
+    ghost use Rattle.std.specs.Coded.{coded_ℕ, coded×, coded_list};
+    ghost use Rattle.page_memory.specs.Pages.{Page as Content};
+    ghost use Rattle.page_memory.specs.PageRow.{pages_in};
+    ghost use Rattle.page_memory.specs.contracts.page.Page as page;
+
+    ghost Value = { List (ℕ × Content) };
+
+    ghost coded = { coded_list (coded× coded_ℕ page.the_row.coded) };
+
+    ghost view = { λ row. pages_in row.rights row.bytes.items };
+
+    ghost invariant = { λ row. length row.bytes.items ≡ length row.rights * 4096 };
+}
+
+impl PageRow {
+    /// No page.
+    #[tactic(auto, unfolding(crate::specs::PageRow::pages_in))]
+    pub fn new(alloc: Global) -> Result<Self, AllocError>
+        ensures { IfOk result (λ row. row ≡ []) }
+    {
+        Ok(PageRow {
+            rights: PageMap::new(alloc)?,
+            bytes: Vec::new(alloc),
+        })
+    }
+
+    /// How many pages there are.
+    #[tactic(auto, using(crate::proofs::PageRows::as_many))]
+    pub fn len(&self) -> usize
+        ensures { result ≡ length self.now }
+    {
+        let _ = &self.bytes;
+        self.rights.len()
+    }
+
+    /// The place of a page.
+    #[inline]
+    #[tactic(auto, using(crate::proofs::PageRows::same_place, crate::proofs::PageRows::as_many))]
+    pub fn place(&self, page: u32) -> Option<usize>
+        requires { page < 2 ^ 20 }
+        ensures place { result ≡ place_of page self.now }
+        ensures within { IfSome result (λ place. place < length self.now) }
+    {
+        let _ = &self.bytes;
+        self.rights.place(page)
+    }
+
+    /// The rights of the page at a place.
+    #[inline]
+    pub fn rights(&self, place: usize) -> Rights
+        requires { place < length self.now }
+        ensures { IsSomeAnd (value_at place self.now) (λ page. page.rights ≡ result) }
+    {
+        let _ = &self.bytes;
+        *self.rights.at(place)
+    }
+
+    /// The bytes of the page at a place.
+    #[inline]
+    pub fn bytes(&self, place: usize) -> &[u8]
+        requires { place < length self.now }
+        ensures bytes { IsSomeAnd (value_at place self.now) (λ page. page.bytes ≡ result.now) }
+        ensures whole { length result.now ≡ 4096 }
+    {
+        let _ = &self.rights;
+        page_in(self.bytes.as_slice(), place)
+    }
+
+    /// Writes the low bytes of a word at an address of the page at a place. The address is aligned to their width.
+    #[inline]
+    pub fn put_number(&mut self, place: usize, width: Width, address: u32, word: u32)
+        requires within { place < length self.old }
+        requires aligned { address % bytes_in width ≡ 0 }
+        ensures { Rewritten place (page_offset address) (little_bytes (bytes_in width) word) self.old self.new }
+    {
+        let _ = &self.rights;
+        put_number_in(self.bytes.as_mut_slice(), place, width, address, word);
+    }
+
+    /// Writes bytes into the page at a place, from an offset on.
+    pub fn put_bytes(&mut self, place: usize, offset: usize, bytes: &[u8])
+        requires within { place < length self.old }
+        requires fits { offset + length bytes.now ≤ 4096 }
+        ensures { Rewritten place offset bytes.now self.old self.new }
+    {
+        let _ = &self.rights;
+        put_bytes_in(self.bytes.as_mut_slice(), place, offset, bytes);
+    }
+
+    /// Puts a page that is not there behind the others.
+    pub fn insert(&mut self, alloc: Global, number: u32, page: Page) -> Result<(), AllocError>
+        requires small { number < 2 ^ 20 }
+        requires absent { place_of number self.old ≡ None }
+        ensures ok { OnOk result (self.new ≡ self.old ++ (number, page) ∷ []) }
+        ensures err { OnErr result (self.new ≡ self.old) }
+    {
+        self.push(alloc, number, page.rights(), page.bytes())
+    }
+
+    /// The same for a page of these rights and bytes. Room for the bytes is found before anything changes.
+    pub fn push(
+        &mut self,
+        alloc: Global,
+        number: u32,
+        rights: Rights,
+        bytes: &[u8],
+    ) -> Result<(), AllocError>
+        requires small { number < 2 ^ 20 }
+        requires absent { place_of number self.old ≡ None }
+        requires whole { length bytes.now ≡ 4096 }
+        ensures ok { OnOk result (self.new ≡ self.old ++ (number, record { rights = rights; bytes = bytes.now }) ∷ []) }
+        ensures err { OnErr result (self.new ≡ self.old) }
+    {
+        self.bytes.reserve(PAGE_SIZE)?;
+        self.rights.insert(alloc, number, rights)?;
+        match self.bytes.extend_from_slice(bytes) {
+            Ok(()) => Ok(()),
+            Err(_) => unreachable!(),
+        }
+    }
+
+    /// Keeps only so many pages, the first ones.
+    #[tactic(auto, using(crate::proofs::PageRows::kept_all))]
+    pub fn truncate(&mut self, count: usize)
+        ensures { self.new ≡ take count self.old }
+    {
+        if count < self.len() {
+            self.cut(count);
+        }
+    }
+
+    /// The same where there are so many.
+    fn cut(&mut self, count: usize)
+        requires { count ≤ length self.old }
+        ensures { self.new ≡ take count self.old }
+    {
+        self.rights.truncate(count);
+        self.bytes.truncate(count * PAGE_SIZE);
+    }
+}
+
+/// The page at a place of a row of bytes.
+#[inline]
+fn page_in(bytes: &[u8], place: usize) -> &[u8]
+    requires { place * 4096 + 4096 ≤ length bytes.now }
+    ensures page { result.now ≡ page_of_row place bytes.now }
+    ensures whole { length result.now ≡ 4096 }
+{
+    let start = place * PAGE_SIZE;
+    &bytes[start..start + PAGE_SIZE]
+}
+
+/// Writes the low bytes of a word at an aligned address of the page at a place of a row of bytes.
+#[inline]
+fn put_number_in(bytes: &mut [u8], place: usize, width: Width, address: u32, word: u32)
+    requires within { place * 4096 + 4096 ≤ length bytes.old }
+    requires aligned { address % bytes_in width ≡ 0 }
+    ensures { bytes.new ≡ with_page place (overwritten (page_of_row place bytes.old) (page_offset address) (little_bytes (bytes_in width) word)) bytes.old }
+{
+    let start = place * PAGE_SIZE;
+    put_number(&mut bytes[start..start + PAGE_SIZE], width, address, word);
+}
+
+/// Writes bytes from an offset on into the page at a place of a row of bytes.
+fn put_bytes_in(bytes: &mut [u8], place: usize, offset: usize, from: &[u8])
+    requires within { place * 4096 + 4096 ≤ length bytes.old }
+    requires fits { offset + length from.now ≤ 4096 }
+    ensures { bytes.new ≡ with_page place (overwritten (page_of_row place bytes.old) offset from.now) bytes.old }
+{
+    let start = place * PAGE_SIZE;
+    put_bytes(&mut bytes[start..start + PAGE_SIZE], offset, from);
+}

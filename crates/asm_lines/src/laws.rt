@@ -12,7 +12,8 @@ ghost use Rattle.asm_lines.specs.declared.token.Token.TheVariants as token;
 /// A word reaches to the first byte that may not stand in a name.
 #[tactic(auto, using(crate::specs::TokenLaws::word_reads))]
 pub fn words_reach_to_their_end()
-    ensures { (first : ℕ) (word rest : List ℕ) → class_of first ≡ Word → AllOfNames word → EndsNames rest
+    ensures { (first : ℕ) (word rest : List ℕ) → class_of first ≡ Word → AllOfNames word →
+        EndsNames rest
         → tokens_of (first ∷ word ++ rest) ≡ followed (word_token (first ∷ word)) (tokens_of rest) }
 {}
 
@@ -39,6 +40,7 @@ pub fn numbers_stand_for_their_value()
         → number_of digits ≡ Some (pos (digits_value 10 digits)) }
     ensures negative { (digits : List ℕ) → IsNumeral 10 digits → digits_value 10 digits ≤ too_large
         → number_of (45 ∷ digits) ≡ Some (neg_ℤ (pos (digits_value 10 digits))) }
-    ensures hexadecimal { (digits : List ℕ) → IsNumeral 16 digits → digits_value 16 digits ≤ too_large
+    ensures hexadecimal { (digits : List ℕ) → IsNumeral 16 digits →
+        digits_value 16 digits ≤ too_large
         → number_of (48 ∷ 120 ∷ digits) ≡ Some (pos (digits_value 16 digits)) }
 {}

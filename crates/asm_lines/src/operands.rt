@@ -19,7 +19,8 @@ use std::alloc::Global;
 #[tactic(auto, using(crate::proofs::OperandSteps::one_more))]
 pub fn operands<'a>(alloc: Global, text: &'a [u8]) -> Result<Vec<Operand<'a>>, Refusal>
     ensures operands { IfOk result (λ operands. operands_on Due text.now ≡ Some operands.items) }
-    ensures refusal { IfErr result (RefusesLine (ok_or (operands_on Due text.now) FaultKind.BadLine)) }
+    ensures refusal { IfErr result (RefusesLine
+        (ok_or (operands_on Due text.now) FaultKind.BadLine)) }
 {
     let mut operands = Vec::new(alloc);
     let mut rest = text;

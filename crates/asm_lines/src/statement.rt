@@ -20,7 +20,8 @@ pub fn statement<'a>(
     alloc: Global,
     text: &'a [u8],
 ) -> Result<(Option<Span<'a>>, Vec<Operand<'a>>), Refusal>
-    ensures statement { IfOk result (λ read. statement_on text.now ≡ Some (unlabelled read.0 read.1.items)) }
+    ensures statement { IfOk result (λ read. statement_on text.now ≡
+        Some (unlabelled read.0 read.1.items)) }
     ensures refusal { IfErr result (RefusesLine (ok_or (statement_on text.now) FaultKind.BadLine)) }
 {
     match next_token(text) {

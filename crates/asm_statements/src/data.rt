@@ -74,7 +74,8 @@ fn is_list(size: Size, operands: &[Operand]) -> bool
 
 /// Each word of a list, for the text.
 fn each_text_word<'a>(alloc: Global, operands: &[Operand<'a>]) -> Result<Vec<Code<'a>>, Refusal>
-    ensures words { IfOk result (λ words. form.each_of form.text_word operands.now ≡ Ok words.items) }
+    ensures words { IfOk result (λ words. form.each_of form.text_word operands.now ≡
+        Ok words.items) }
     ensures refusal { IfErr result (RefusesLine (form.each_of form.text_word operands.now)) }
 {
     let mut words = Vec::new(alloc);
@@ -91,8 +92,10 @@ fn each_data_value<'a>(
     size: Size,
     operands: &[Operand<'a>],
 ) -> Result<Vec<Datum<'a>>, Refusal>
-    ensures values { IfOk result (λ values. form.each_of (form.data_value size) operands.now ≡ Ok values.items) }
-    ensures refusal { IfErr result (RefusesLine (form.each_of (form.data_value size) operands.now)) }
+    ensures values { IfOk result (λ values. form.each_of (form.data_value size) operands.now ≡
+        Ok values.items) }
+    ensures refusal { IfErr result (RefusesLine
+        (form.each_of (form.data_value size) operands.now)) }
 {
     let mut values = Vec::new(alloc);
     for operand in operands {
@@ -108,8 +111,10 @@ pub(crate) fn text_values<'a>(
     alloc: Global,
     operands: &[Operand<'a>],
 ) -> Result<Vec<Code<'a>>, Refusal>
-    ensures words { IfOk result (λ words. form.values Size.Word form.text_word operands.now ≡ Ok words.items) }
-    ensures refusal { IfErr result (RefusesLine (form.values Size.Word form.text_word operands.now)) }
+    ensures words { IfOk result (λ words. form.values Size.Word form.text_word operands.now ≡
+        Ok words.items) }
+    ensures refusal { IfErr result (RefusesLine
+        (form.values Size.Word form.text_word operands.now)) }
 {
     if is_list(Size::Word, operands) {
         each_text_word(alloc, operands)
@@ -125,8 +130,10 @@ pub(crate) fn data_values<'a>(
     size: Size,
     operands: &[Operand<'a>],
 ) -> Result<Vec<Datum<'a>>, Refusal>
-    ensures values { IfOk result (λ values. form.values size (form.data_value size) operands.now ≡ Ok values.items) }
-    ensures refusal { IfErr result (RefusesLine (form.values size (form.data_value size) operands.now)) }
+    ensures values { IfOk result (λ values. form.values size (form.data_value size) operands.now ≡
+        Ok values.items) }
+    ensures refusal { IfErr result (RefusesLine (form.values size
+        (form.data_value size) operands.now)) }
 {
     if is_list(size, operands) {
         each_data_value(alloc, size, operands)

@@ -17,21 +17,30 @@ pub fn loaded_word()
     ensures parts { (word : ℕ) → word < 2 ^ 32
         → (high_part word * 4096 + cast_unsigned w32 (low_part word)) % 2 ^ 32 ≡ word }
     ensures fits { (word : ℕ) → IsImmediate (low_part word) }
-    ensures number { (n : ℤ) (word : ℕ) → bits_within w32 (negsuc 0x7FFF_FFFF) 0xFFFF_FFFF n ≡ Ok word
+    ensures number { (n : ℤ) (word : ℕ) → bits_within w32 (negsuc 0x7FFF_FFFF) 0xFFFF_FFFF n ≡
+        Ok word
         → (pos word ≡ n) ⊎ (pos word ≡ n +ℤ pos (2 ^ 32)) }
 {}
 
 /// Pseudo-instructions do what the instructions do that the assembly programmer's manual has for them, whatever their operands'
 /// names; `li` and `la` are told by [`loaded_word`].
 pub fn pseudo_instructions_are_instructions()
-    ensures nop { DoesTheSame (codes "nop") [] (codes "addi") (Name (codes "zero") ∷ Name (codes "zero") ∷ Number (pos 0) ∷ []) }
-    ensures mv { (rd rs1 : List ℕ) → DoesTheSame (codes "mv") (Name rd ∷ Name rs1 ∷ []) (codes "addi") (Name rd ∷ Name rs1 ∷ Number (pos 0) ∷ []) }
-    ensures j { (target : List ℕ) → DoesTheSame (codes "j") (Name target ∷ []) (codes "jal") (Name (codes "zero") ∷ Name target ∷ []) }
-    ensures call { (target : List ℕ) → DoesTheSame (codes "call") (Name target ∷ []) (codes "jal") (Name (codes "ra") ∷ Name target ∷ []) }
-    ensures jr { (rs1 : List ℕ) → DoesTheSame (codes "jr") (Name rs1 ∷ []) (codes "jalr") (Name (codes "zero") ∷ Indexed (pos 0) rs1 ∷ []) }
-    ensures ret { DoesTheSame (codes "ret") [] (codes "jalr") (Name (codes "zero") ∷ Indexed (pos 0) (codes "ra") ∷ []) }
-    ensures beqz { (rs1 target : List ℕ) → DoesTheSame (codes "beqz") (Name rs1 ∷ Name target ∷ []) (codes "beq") (Name rs1 ∷ Name (codes "zero") ∷ Name target ∷ []) }
-    ensures bnez { (rs1 target : List ℕ) → DoesTheSame (codes "bnez") (Name rs1 ∷ Name target ∷ []) (codes "bne") (Name rs1 ∷ Name (codes "zero") ∷ Name target ∷ []) }
+    ensures nop { DoesTheSame (codes "nop") [] (codes "addi") (Name (codes "zero") ∷
+        Name (codes "zero") ∷ Number (pos 0) ∷ []) }
+    ensures mv { (rd rs1 : List ℕ) → DoesTheSame (codes "mv") (Name rd ∷ Name rs1 ∷ [])
+        (codes "addi") (Name rd ∷ Name rs1 ∷ Number (pos 0) ∷ []) }
+    ensures j { (target : List ℕ) → DoesTheSame (codes "j") (Name target ∷ []) (codes "jal")
+        (Name (codes "zero") ∷ Name target ∷ []) }
+    ensures call { (target : List ℕ) → DoesTheSame (codes "call") (Name target ∷ []) (codes "jal")
+        (Name (codes "ra") ∷ Name target ∷ []) }
+    ensures jr { (rs1 : List ℕ) → DoesTheSame (codes "jr") (Name rs1 ∷ []) (codes "jalr")
+        (Name (codes "zero") ∷ Indexed (pos 0) rs1 ∷ []) }
+    ensures ret { DoesTheSame (codes "ret") [] (codes "jalr") (Name (codes "zero") ∷
+        Indexed (pos 0) (codes "ra") ∷ []) }
+    ensures beqz { (rs1 target : List ℕ) → DoesTheSame (codes "beqz") (Name rs1 ∷ Name target ∷ [])
+        (codes "beq") (Name rs1 ∷ Name (codes "zero") ∷ Name target ∷ []) }
+    ensures bnez { (rs1 target : List ℕ) → DoesTheSame (codes "bnez") (Name rs1 ∷ Name target ∷ [])
+        (codes "bne") (Name rs1 ∷ Name (codes "zero") ∷ Name target ∷ []) }
 {}
 
 /// What stands between quotes is read to the bytes for which it stands.

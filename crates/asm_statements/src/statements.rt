@@ -26,7 +26,8 @@ pub fn read_statement<'a>(
 ) -> Result<Effect<'a>, Refusal>
     ensures effect { IfOk result (λ effect.
         spec.statement_effect section name.now operands.now ≡ Ok (effect_value effect)) }
-    ensures refusal { IfErr result (RefusesLine (spec.statement_effect section name.now operands.now)) }
+    ensures refusal { IfErr result (RefusesLine
+        (spec.statement_effect section name.now operands.now)) }
 {
     let statement = read_name(name).ok_or(Refusal::Fault(FaultKind::UnknownName))?;
     match section {
@@ -42,7 +43,8 @@ fn in_text<'a>(
     statement: Statement,
     operands: &[Operand<'a>],
 ) -> Result<Effect<'a>, Refusal>
-    ensures effect { IfOk result (λ effect. spec.in_text statement operands.now ≡ Ok (effect_value effect)) }
+    ensures effect { IfOk result (λ effect. spec.in_text statement operands.now ≡
+        Ok (effect_value effect)) }
     ensures refusal { IfErr result (RefusesLine (spec.in_text statement operands.now)) }
 {
     match statement {
@@ -64,7 +66,8 @@ fn in_data<'a>(
     statement: Statement,
     operands: &[Operand<'a>],
 ) -> Result<Effect<'a>, Refusal>
-    ensures effect { IfOk result (λ effect. spec.in_data statement operands.now ≡ Ok (effect_value effect)) }
+    ensures effect { IfOk result (λ effect. spec.in_data statement operands.now ≡
+        Ok (effect_value effect)) }
     ensures refusal { IfErr result (RefusesLine (spec.in_data statement operands.now)) }
 {
     match statement {
@@ -82,7 +85,8 @@ fn in_data<'a>(
 /// `.text` and `.data`.
 #[tactic(auto, unfolding(crate::specs::Statements::enter))]
 fn enter<'a>(into: Section, operands: &[Operand]) -> Result<Effect<'a>, Refusal>
-    ensures effect { IfOk result (λ effect. spec.enter into operands.now ≡ Ok (effect_value effect)) }
+    ensures effect { IfOk result (λ effect. spec.enter into operands.now ≡
+        Ok (effect_value effect)) }
     ensures refusal { IfErr result (RefusesLine (spec.enter into operands.now)) }
 {
     if operands.is_empty() {

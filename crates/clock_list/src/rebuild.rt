@@ -101,7 +101,8 @@ pub(crate) fn rebuild_without_process(to: &mut Vec<Entry>, entries: &[Entry], pr
 pub(crate) fn rebuild_turned(to: &mut Vec<Entry>, entries: &[Entry], i: usize, bit: Bit, hot: Entry)
     requires listed { i < length entries.now }
     requires room { length entries.now ≤ vec_capacity to.old }
-    ensures items { to.new.items ≡ drop (i + 1) entries.now ++ tests_ended (take i entries.now) ++ hot_left bit hot }
+    ensures items { to.new.items ≡ drop (i + 1) entries.now ++ tests_ended (take i entries.now) ++
+        hot_left bit hot }
     ensures len { vec_len to.new ≤ length entries.now }
     ensures capacity { vec_capacity to.old ≤ vec_capacity to.new }
 {

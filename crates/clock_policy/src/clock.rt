@@ -23,7 +23,8 @@ pub trait Clock: Drop {
     /// An empty list for as many frames as a machine may have.
     fn new(alloc: Global, frames: usize) -> Result<Self, NewRefusal>
         ensures ok { IfOk result (λ clock. state clock ≡ opening_state frames) }
-        ensures bad_size { (result ≡ Err NewRefusal.BadSize) ↔ ((frames < least_frames) ⊎ (most_frames < frames)) }
+        ensures bad_size { (result ≡ Err NewRefusal.BadSize) ↔ ((frames < least_frames) ⊎
+            (most_frames < frames)) }
         ensures lawful { IfOk result (λ clock. Lawful (state clock)) };
 
     /// The number of frames that the list serves.
@@ -50,14 +51,16 @@ pub trait Clock: Drop {
         ensures lawful { Lawful (state self.new) }
 
         // An answer without a victim lowers the number of answers that are left.
-        ensures lowers { result ≡ Ok Verdict.GoOn → answers_left (state self.new) < answers_left (state self.old) };
+        ensures lowers { result ≡ Ok Verdict.GoOn → answers_left (state self.new) < answers_left
+            (state self.old) };
 
     /// Adds a page that was brought into a frame, as a hot one where it is still in its test.
     fn admit(&mut self, key: Key) -> Result<Kind, Refusal>
         ensures moved { OnOk result (state self.new ≡ (admitted key (state self.old)).0) }
         ensures exact { result ≢ Err Refusal.NoMemory → result ≡ (admitted key (state self.old)).1 }
         ensures memory { result ≡ Err Refusal.NoMemory → IsOk (admitted key (state self.old)).1 }
-        ensures grows { result ≡ Err Refusal.NoMemory → kind_of key (state self.old).entries ≡ None }
+        ensures grows { result ≡ Err Refusal.NoMemory → kind_of key (state self.old).entries ≡
+            None }
         ensures err { OnErr result (state self.new ≡ state self.old) }
         ensures frames { (state self.new).frames ≡ (state self.old).frames }
         ensures lawful { Lawful (state self.new) };
@@ -67,7 +70,8 @@ pub trait Clock: Drop {
         ensures moved { OnOk result (state self.new ≡ (restored key (state self.old)).0) }
         ensures exact { result ≢ Err Refusal.NoMemory → result ≡ (restored key (state self.old)).1 }
         ensures memory { result ≡ Err Refusal.NoMemory → IsOk (restored key (state self.old)).1 }
-        ensures grows { result ≡ Err Refusal.NoMemory → kind_of key (state self.old).entries ≡ None }
+        ensures grows { result ≡ Err Refusal.NoMemory → kind_of key (state self.old).entries ≡
+            None }
         ensures err { OnErr result (state self.new ≡ state self.old) }
         ensures frames { (state self.new).frames ≡ (state self.old).frames }
         ensures lawful { Lawful (state self.new) };
@@ -105,7 +109,8 @@ pub trait Clock: Drop {
 
     /// The entry at a place, counted from the front.
     fn entry(&self, i: usize) -> Option<(Key, EntryKind)>
-        ensures { result ≡ option_map (λ e. (e.key, e.kind)) (slice_get (state self.now).entries i) };
+        ensures { result ≡ option_map (λ e. (e.key, e.kind))
+            (slice_get (state self.now).entries i) };
 
     /// What the list knows of a page.
     fn kind_of(&self, key: Key) -> Option<EntryKind>
@@ -115,5 +120,6 @@ pub trait Clock: Drop {
     fn copy_entries(&self, to: &mut Vec<Entry>) -> Result<(), AllocError>
         ensures items { OnOk result (to.new.items ≡ to.old.items ++ (state self.now).entries) }
         ensures err { OnErr result (to.new.items ≡ to.old.items) }
-        ensures room { vec_len to.old + length (state self.now).entries ≤ vec_capacity to.old → IsOk result };
+        ensures room { vec_len to.old + length (state self.now).entries ≤ vec_capacity to.old →
+            IsOk result };
 }

@@ -14,8 +14,10 @@ use crate::key::Key;
 pub fn first_victim<C: Clock>(clock: &mut C, bits: &[Bit]) -> Option<Key>
     ensures moved { C.state clock.new ≡ run_state bits.now (C.state clock.old) }
     ensures victim { result ≡ run_victim bits.now (C.state clock.old) }
-    ensures bound { 5 * (C.state clock.old).frames ≤ length bits.now → IsNone result → NothingResident (C.state clock.new) }
+    ensures bound { 5 * (C.state clock.old).frames ≤ length bits.now → IsNone result →
+        NothingResident (C.state clock.new) }
 {
+    // For the proof alone: a read tells that what is read is lawful.
     let _ = clock.question();
     for bit in bits {
         match clock.answer(*bit) {

@@ -77,7 +77,8 @@ impl Body {
     pub(crate) fn turn(&mut self)
         requires { 1 ≤ length self.old.ring.cells }
         ensures moved { state_of self.new ≡ front_turned (state_of self.old) }
-        ensures cells { (c : Cell) → (cs : List Cell) → self.old.ring.cells ≡ c ∷ cs → self.new.ring.cells ≡ cs ++ c ∷ [] }
+        ensures cells { (c : Cell) → (cs : List Cell) → self.old.ring.cells ≡ c ∷ cs →
+            self.new.ring.cells ≡ cs ++ c ∷ [] }
     {
         self.ring.turn();
     }
@@ -85,7 +86,8 @@ impl Body {
     pub(crate) fn mark(&mut self, found: Found, kind: EntryKind)
         requires { HoldsEntry self.old found }
         ensures moved { state_of self.new ≡ marked found.entry.key kind (state_of self.old) }
-        ensures cells { (u v : List Cell) → (c : Cell) → self.old.ring.cells ≡ u ++ c ∷ v → c.at ≡ found.at → self.new.ring.cells ≡ u ++ of_kind kind c ∷ v }
+        ensures cells { (u v : List Cell) → (c : Cell) → self.old.ring.cells ≡ u ++ c ∷ v →
+            c.at ≡ found.at → self.new.ring.cells ≡ u ++ of_kind kind c ∷ v }
     {
         self.ring.mark(found.at, kind);
         self.counts.take(found.entry.kind);
@@ -96,7 +98,8 @@ impl Body {
     pub(crate) fn remove(&mut self, found: Found)
         requires { HoldsEntry self.old found }
         ensures moved { state_of self.new ≡ removed found.entry.key (state_of self.old) }
-        ensures cells { (u v : List Cell) → (c : Cell) → self.old.ring.cells ≡ u ++ c ∷ v → c.at ≡ found.at → self.new.ring.cells ≡ u ++ v }
+        ensures cells { (u v : List Cell) → (c : Cell) → self.old.ring.cells ≡ u ++ c ∷ v →
+            c.at ≡ found.at → self.new.ring.cells ≡ u ++ v }
     {
         let at = found.at;
         let next = self.ring.node(at).next;
@@ -207,7 +210,8 @@ impl Body {
     pub(crate) fn find(&self, key: Key) -> Option<Found>
         ensures holds { IfSome result (λ found. HoldsEntry self.now found) }
         ensures key { IfSome result (λ found. found.entry.key ≡ key) }
-        ensures kind { kind_of key (state_of self.now).entries ≡ option_map (λ found. found.entry.kind) result }
+        ensures kind { kind_of key (state_of self.now).entries ≡ option_map (λ found.
+            found.entry.kind) result }
         ensures none { result ≡ None → at_of key self.now.ring.cells ≡ None }
     {
         let at = self.ring.find(key)?;

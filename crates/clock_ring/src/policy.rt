@@ -136,7 +136,8 @@ impl Body {
     #[inline(always)]
     fn admit_shadow(&mut self, shadow: Found) -> Result<Kind, Refusal>
         requires { HoldsEntry self.old shadow }
-        ensures moved { state_of self.new ≡ (shadow_admitted shadow.entry.key (state_of self.old)).0 }
+        ensures moved { state_of self.new ≡ (shadow_admitted shadow.entry.key
+            (state_of self.old)).0 }
         ensures exact { result ≡ (shadow_admitted shadow.entry.key (state_of self.old)).1 }
         ensures memory { result ≢ Err Refusal.NoMemory }
         ensures err { OnErr result (state_of self.new ≡ state_of self.old) }
@@ -188,7 +189,8 @@ impl Body {
 
     fn restore_shadow(&mut self, shadow: Found) -> Result<(), Refusal>
         requires { HoldsEntry self.old shadow }
-        ensures moved { state_of self.new ≡ (shadow_restored shadow.entry.key (state_of self.old)).0 }
+        ensures moved { state_of self.new ≡ (shadow_restored shadow.entry.key
+            (state_of self.old)).0 }
         ensures exact { result ≡ (shadow_restored shadow.entry.key (state_of self.old)).1 }
         ensures memory { result ≢ Err Refusal.NoMemory }
         ensures err { OnErr result (state_of self.new ≡ state_of self.old) }

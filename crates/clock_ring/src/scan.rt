@@ -16,8 +16,10 @@ fn first_hot(ring: &IndexedRing, start: usize) -> Found
     requires there { is_at ring.now.cells start ≡ true }
     requires some { 1 ≤ hot_count (entries_of ring.now.cells) }
     ensures holds { entry_at_node ring.now.cells result.at ≡ Some result.entry }
-    ensures first { find (λ e. is_hot e.kind) (entries_of (around ring.now.cells start)) ≡ Some result.entry }
+    ensures first { find (λ e. is_hot e.kind) (entries_of (around ring.now.cells start)) ≡
+        Some result.entry }
 {
+    // For the proof alone: a read tells that what is read is lawful.
     let _ = ring.len();
     let mut at = start;
     'to_hot: loop {
@@ -37,8 +39,10 @@ fn first_cold(ring: &IndexedRing, start: usize) -> Found
     requires there { is_at ring.now.cells start ≡ true }
     requires some { 1 ≤ cold_count (entries_of ring.now.cells) }
     ensures holds { entry_at_node ring.now.cells result.at ≡ Some result.entry }
-    ensures first { find (λ e. is_cold e.kind) (entries_of (around ring.now.cells start)) ≡ Some result.entry }
+    ensures first { find (λ e. is_cold e.kind) (entries_of (around ring.now.cells start)) ≡
+        Some result.entry }
 {
+    // For the proof alone: a read tells that what is read is lawful.
     let _ = ring.len();
     let mut at = start;
     'to_cold: loop {
@@ -110,7 +114,8 @@ impl Body {
     pub(crate) fn copy_entries(&self, to: &mut Vec<Entry>) -> Result<(), AllocError>
         ensures items { OnOk result (to.new.items ≡ to.old.items ++ (state_of self.now).entries) }
         ensures err { OnErr result (to.new.items ≡ to.old.items) }
-        ensures room { vec_len to.old + length (state_of self.now).entries ≤ vec_capacity to.old → IsOk result }
+        ensures room { vec_len to.old + length (state_of self.now).entries ≤ vec_capacity to.old →
+            IsOk result }
     {
         let len = self.ring.len();
         to.reserve(len)?;

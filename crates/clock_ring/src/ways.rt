@@ -43,7 +43,8 @@ impl Body {
     /// The hot hand goes to an entry.
     fn pass_fronts(&mut self, found: Found)
         requires { HoldsEntry self.old found }
-        ensures moved { state_of self.new ≡ fronts_passed (place found.entry.key (state_of self.old).entries) (state_of self.old) }
+        ensures moved { state_of self.new ≡ fronts_passed (place found.entry.key
+            (state_of self.old).entries) (state_of self.old) }
         ensures holds { HoldsEntry self.new found }
     {
         'to_front: loop {
@@ -76,8 +77,11 @@ impl Body {
     fn end_test(&mut self, passed: Found)
         requires holds { HoldsEntry self.old passed }
         requires resident { is_shadow passed.entry.kind ≡ false }
-        ensures moved { (more : ClockState → ClockState) → kind_ended passed.entry.kind passed.entry.key more (state_of self.old) ≡ more (state_of self.new) }
-        ensures cells { (u v : List Cell) → (c : Cell) → self.old.ring.cells ≡ u ++ c ∷ v → c.at ≡ passed.at → self.new.ring.cells ≡ u ++ of_kind (ended_kind c.entry.kind) c ∷ v }
+        ensures moved { (more : ClockState → ClockState) →
+            kind_ended passed.entry.kind passed.entry.key more (state_of self.old) ≡
+            more (state_of self.new) }
+        ensures cells { (u v : List Cell) → (c : Cell) → self.old.ring.cells ≡ u ++ c ∷ v →
+            c.at ≡ passed.at → self.new.ring.cells ≡ u ++ of_kind (ended_kind c.entry.kind) c ∷ v }
     {
         if passed.entry.kind.is_in_test() {
             self.mark(passed, EntryKind::Cold);

@@ -21,7 +21,8 @@ enum HeaderTest {
 #[tactic(auto, using(crate::proofs::Headers::program_fault_by_tests))]
 pub(crate) fn program_fault(file: &[u8]) -> Option<ElfFault>
     requires long { 52 ≤ length file.now }
-    requires within { 0 < headers_count file.now → headers_offset file.now + 32 * headers_count file.now ≤ length file.now }
+    requires within { 0 < headers_count file.now →
+        headers_offset file.now + 32 * headers_count file.now ≤ length file.now }
     ensures { result ≡ program_fault file.now }
 {
     if any_fails(file, HeaderTest::IsDynamic) {
@@ -40,7 +41,8 @@ pub(crate) fn program_fault(file: &[u8]) -> Option<ElfFault>
 /// Whether a program header fails a test.
 fn any_fails(file: &[u8], test: HeaderTest) -> bool
     requires long { 52 ≤ length file.now }
-    requires within { 0 < headers_count file.now → headers_offset file.now + 32 * headers_count file.now ≤ length file.now }
+    requires within { 0 < headers_count file.now →
+        headers_offset file.now + 32 * headers_count file.now ≤ length file.now }
     ensures { result ≡ list_any (fails test (length file.now)) (program_headers file.now) }
 {
     let start = headers_offset(file) as usize;

@@ -23,7 +23,8 @@ pub(crate) fn load_pages(
     requires sound { All (IsSoundSegment (length file.now)) loaded.now }
     requires apart { AllPairs (λ one other. end_of one ≤ other.address) loaded.now }
     requires low { All (λ number. number < image_end_page) numbers.now }
-    ensures { IfOk result (λ pages. pages.items ≡ map (loaded_page file.now loaded.now) numbers.now) }
+    ensures { IfOk result (λ pages. pages.items ≡
+        map (loaded_page file.now loaded.now) numbers.now) }
 {
     let mut pages = Vec::new(alloc);
     for number in numbers {
@@ -75,7 +76,8 @@ fn fill(file: &[u8], run: &[ProgramHeader], number: u32, page: &mut Page)
     requires low { number < image_end_page }
     requires blank { page.old.bytes ≡ replicate 4096 0 }
     ensures rights { page.new.rights ≡ page.old.rights }
-    ensures bytes { page.new.bytes ≡ bytes_between (loaded_byte file.now run.now) (4096 * number) 4096 }
+    ensures bytes { page.new.bytes ≡ bytes_between (loaded_byte file.now run.now)
+        (4096 * number) 4096 }
 {
     let mut left = run.len();
     while left > 0 {
@@ -89,7 +91,9 @@ fn copy(file: &[u8], segment: &ProgramHeader, number: u32, page: &mut Page)
     requires sound { IsSoundSegment (length file.now) segment.now }
     requires low { number < image_end_page }
     ensures rights { page.new.rights ≡ page.old.rights }
-    ensures bytes { (f : ℕ → ℕ) → page.old.bytes ≡ bytes_between f (4096 * number) 4096 → page.new.bytes ≡ bytes_between (λ address. cond (fills address segment.now) (filled_byte file.now address segment.now) (f address)) (4096 * number) 4096 }
+    ensures bytes { (f : ℕ → ℕ) → page.old.bytes ≡ bytes_between f (4096 * number) 4096 →
+        page.new.bytes ≡ bytes_between (λ address. cond (fills address segment.now)
+        (filled_byte file.now address segment.now) (f address)) (4096 * number) 4096 }
 {
     let page_start = PAGE_SIZE as u64 * u64::from(number);
     let address = u64::from(segment.address);

@@ -39,7 +39,8 @@ fn load(alloc: Global, file: &[u8]) -> Result<Image, ElfFault>
     requires program { program_fault file.now ≡ None }
     ensures image { IfOk result (λ image. image ≡ file_image file.now) }
     ensures accepted { OnOk result (loading_fault file.now ≡ None) }
-    ensures refused { IfErr result (λ fault. fault ≢ NoMemory → loading_fault file.now ≡ Some fault) }
+    ensures refused { IfErr result (λ fault. fault ≢ NoMemory →
+        loading_fault file.now ≡ Some fault) }
 {
     let loaded = sorted_segments(alloc, file)?;
     load_segments(alloc, file, &loaded)
@@ -53,7 +54,8 @@ fn load_segments(alloc: Global, file: &[u8], loaded: &[ProgramHeader]) -> Result
     requires sorted { IsNonDecreasingBy (λ segment. segment.address) loaded.now }
     ensures image { IfOk result (λ image. image ≡ file_image file.now) }
     ensures accepted { OnOk result (loading_fault file.now ≡ None) }
-    ensures refused { IfErr result (λ fault. fault ≢ NoMemory → loading_fault file.now ≡ Some fault) }
+    ensures refused { IfErr result (λ fault. fault ≢ NoMemory →
+        loading_fault file.now ≡ Some fault) }
 {
     if do_overlap(loaded) {
         return Err(ElfFault::Overlap);

@@ -12,9 +12,11 @@ use std::alloc::{AllocError, Global};
 /// The segments of a file, by address.
 pub(crate) fn sorted_segments(alloc: Global, file: &[u8]) -> Result<Vec<ProgramHeader>, AllocError>
     requires long { 52 ≤ length file.now }
-    requires within { 0 < headers_count file.now → headers_offset file.now + 32 * headers_count file.now ≤ length file.now }
+    requires within { 0 < headers_count file.now →
+        headers_offset file.now + 32 * headers_count file.now ≤ length file.now }
     ensures permutation { IfOk result (λ loaded. IsPermutation (segments file.now) loaded.items) }
-    ensures sorted { IfOk result (λ loaded. IsNonDecreasingBy (λ segment. segment.address) loaded.items) }
+    ensures sorted { IfOk result (λ loaded. IsNonDecreasingBy (λ segment.
+        segment.address) loaded.items) }
 {
     let mut loaded = segments(alloc, file)?;
     loaded.sort_unstable_by_key(|segment| segment.address);
@@ -24,7 +26,8 @@ pub(crate) fn sorted_segments(alloc: Global, file: &[u8]) -> Result<Vec<ProgramH
 /// The segments of a file.
 fn segments(alloc: Global, file: &[u8]) -> Result<Vec<ProgramHeader>, AllocError>
     requires long { 52 ≤ length file.now }
-    requires within { 0 < headers_count file.now → headers_offset file.now + 32 * headers_count file.now ≤ length file.now }
+    requires within { 0 < headers_count file.now →
+        headers_offset file.now + 32 * headers_count file.now ≤ length file.now }
     ensures { IfOk result (λ loaded. loaded.items ≡ segments file.now) }
 {
     let mut loaded = Vec::new(alloc);

@@ -37,7 +37,8 @@ pub(crate) fn touched_pages(alloc: Global, loaded: &[ProgramHeader]) -> Result<V
 /// Appends the numbers from one up to another.
 fn push_range(numbers: &mut Vec<u32>, first: u32, end: u32) -> Result<(), AllocError>
     requires { first ≤ end }
-    ensures { OnOk result (numbers.new.items ≡ numbers.old.items ++ range_with_len first (end - first)) }
+    ensures { OnOk result (numbers.new.items ≡ numbers.old.items ++ range_with_len first
+        (end - first)) }
 {
     for number in first..end {
         numbers.push(number)?;
@@ -61,7 +62,8 @@ pub(crate) fn touching(loaded: &[ProgramHeader], page: u32) -> &[ProgramHeader]
 fn count_ending_by(loaded: &[ProgramHeader], address: u64) -> usize
     requires rising { IsNonDecreasingBy end_of loaded.now }
     ensures bound { result ≤ length loaded.now }
-    ensures those { IsPartitionPoint (λ segment. end_of segment ≤ address) (λ segment. address < end_of segment) loaded.now result }
+    ensures those { IsPartitionPoint (λ segment. end_of segment ≤ address) (λ segment.
+        address < end_of segment) loaded.now result }
 {
     loaded.partition_point(|segment| segment.end() <= address)
 }
@@ -70,7 +72,8 @@ fn count_ending_by(loaded: &[ProgramHeader], address: u64) -> usize
 fn count_starting_below(loaded: &[ProgramHeader], address: u64) -> usize
     requires rising { IsNonDecreasingBy (λ segment. segment.address) loaded.now }
     ensures bound { result ≤ length loaded.now }
-    ensures those { IsPartitionPoint (λ segment. segment.address < address) (λ segment. address ≤ segment.address) loaded.now result }
+    ensures those { IsPartitionPoint (λ segment. segment.address < address) (λ segment.
+        address ≤ segment.address) loaded.now result }
 {
     loaded.partition_point(|segment| (segment.address as u64) < address)
 }

@@ -26,7 +26,8 @@ impl Image {
         ensures image { IfOk result (λ image. image ≡ image_of_words words.now) }
         ensures large { (result ≡ Err ElfFault.TooLarge) ↔ (most_words < length words.now) }
         ensures empty { (result ≡ Err ElfFault.EntryNotExecutable) ↔ (words.now ≡ []) }
-        ensures other { IfErr result (λ fault. fault ≢ ElfFault.TooLarge → fault ≢ ElfFault.NoMemory → fault ≡ ElfFault.EntryNotExecutable) }
+        ensures other { IfErr result (λ fault. fault ≢ ElfFault.TooLarge →
+            fault ≢ ElfFault.NoMemory → fault ≡ ElfFault.EntryNotExecutable) }
     {
         if words.len() > MOST_PAGES * PAGE_WORDS {
             return Err(ElfFault::TooLarge);
@@ -42,7 +43,8 @@ impl Image {
 /// The pages that a list of words fills.
 fn pages_of_words(alloc: Global, words: &[u32]) -> Result<Vec<ImagePage>, AllocError>
     requires { length words.now ≤ most_words }
-    ensures { IfOk result (λ pages. pages.items ≡ map (word_page words.now) (range_with_len 0 (word_pages words.now))) }
+    ensures { IfOk result (λ pages. pages.items ≡ map (word_page words.now) (range_with_len 0
+        (word_pages words.now))) }
 {
     let mut pages = Vec::new(alloc);
     for place in 0..words.len().div_ceil(PAGE_WORDS) {
@@ -69,7 +71,11 @@ fn page_of_words(alloc: Global, words: &[u32], place: usize) -> Result<ImagePage
 /// A page that begins with these words.
 fn page_with_words(alloc: Global, words: &[u32]) -> Result<SharedPage, AllocError>
     requires { length words.now ≤ 1024 }
-    ensures { IfOk result (λ page. page ≡ record { rights = readable_code; bytes = padded (bytes_of words.now) }) }
+    ensures { IfOk result (λ page. page ≡ record {
+      rights = readable_code;
+      bytes = padded
+          (bytes_of words.now);
+    }) }
 {
     let mut page = Page::zeroed(alloc, Rights::READ_EXECUTE)?;
     let mut address = 0;

@@ -128,8 +128,10 @@ fn put_segment_header(file: &mut Vec<u8>, start: u32, run: &Run) -> Result<(), A
 
 /// Appends the program headers of runs.
 fn put_segment_headers(file: &mut Vec<u8>, start: u32, segments: &[Run]) -> Result<(), AllocError>
-    requires { (k : ℕ) (d : Run) → k < length segments.now → HasRoom start (slice_index_or segments.now k d) }
-    ensures { OnOk result (file.new.items ≡ file.old.items ++ flat_map (segment_header start) segments.now) }
+    requires { (k : ℕ) (d : Run) → k < length segments.now →
+        HasRoom start (slice_index_or segments.now k d) }
+    ensures { OnOk result (file.new.items ≡ file.old.items ++
+        flat_map (segment_header start) segments.now) }
 {
     for run in segments {
         put_segment_header(file, start, run)?;
@@ -151,7 +153,8 @@ fn offset_of_pages(count: usize) -> usize
 fn put_front(file: &mut Vec<u8>, entry: u32, segments: &[Run]) -> Result<(), AllocError>
     requires empty { file.old.items ≡ [] }
     requires few { length segments.now ≤ most_image_pages }
-    requires room { (k : ℕ) (d : Run) → k < length segments.now → HasRoom (pages_offset (length segments.now)) (slice_index_or segments.now k d) }
+    requires room { (k : ℕ) (d : Run) → k < length segments.now →
+        HasRoom (pages_offset (length segments.now)) (slice_index_or segments.now k d) }
     ensures { OnOk result (file.new.items ≡ file_front entry segments.now) }
 {
     let start = offset_of_pages(segments.len());

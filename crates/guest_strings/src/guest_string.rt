@@ -51,7 +51,9 @@ impl GuestString {
 
     /// Takes a reference in. The one that was held is done where the new one is to another page.
     fn hold(&mut self, next: Reference) -> Option<Reference>
-        ensures string { (string : List Reference) → joined (listed self.old.held ++ (next ∷ string)) ≡ listed result ++ joined (listed self.new.held ++ string) }
+        ensures string { (string : List Reference) →
+            joined (listed self.old.held ++ (next ∷ string)) ≡ listed result ++
+            joined (listed self.new.held ++ string) }
         ensures same { self.new.uses ≡ self.old.uses }
     {
         let Some(held) = self.held else {

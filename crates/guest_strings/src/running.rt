@@ -17,7 +17,8 @@ use std::alloc::AllocError;
 impl Round {
     pub(crate) fn new(processes: Vec<FlatProcess>, slice: u32, limit: u64) -> Self
         requires { length processes.items ≤ MOST_PROCESSES }
-        ensures { uses_to_come result ≡ used (by_slices slice limit (first_turn slice processes.items) processes.items) processes.items }
+        ensures { uses_to_come result ≡ used (by_slices slice limit
+            (first_turn slice processes.items) processes.items) processes.items }
     {
         let turn = first_turn(processes.as_slice(), slice);
         Round {
@@ -30,7 +31,8 @@ impl Round {
 
     /// Runs the next instruction, and tells what it refers to. There is none once no hart may step, or as many have run as may.
     pub(crate) fn step(&mut self) -> Result<Option<StepUse>, AllocError>
-        ensures told { IfOk result (λ step. uses_to_come self.old ≡ told_by step ++ uses_to_come self.new) }
+        ensures told { IfOk result (λ step. uses_to_come self.old ≡ told_by step ++
+            uses_to_come self.new) }
         ensures done { IfOk result (λ step. step ≡ None → uses_to_come self.new ≡ []) }
         ensures fewer { IfOk result (λ step. IfSome step (λ _. self.new.left < self.old.left)) }
         ensures wants { OnErr result (RoundWants self.new) }

@@ -27,7 +27,8 @@ impl Uses {
     pub(crate) fn next(&mut self) -> Result<Option<Reference>, AllocError>
         ensures next { IfOk result (λ next. all_uses self.old ≡ listed next ++ all_uses self.new) }
         ensures done { IfOk result (λ next. next ≡ None → all_uses self.new ≡ []) }
-        ensures fewer { IfOk result (λ next. IfSome next (λ _. uses_left self.new < uses_left self.old)) }
+        ensures fewer { IfOk result (λ next. IfSome next (λ _.
+            uses_left self.new < uses_left self.old)) }
         ensures wants { OnErr result (RoundWants self.new.round) }
     {
         if let Some(data) = self.data.take() {

@@ -83,7 +83,8 @@ fn carry_process<L: Ledger, S: SwapSlot, C: Clock, G: Gate, R: Wait>(
 
 /// Whether a hart of a process falls to a worker.
 fn falls_to(process: u32, hart: u32, shift: &Shift) -> bool
-    ensures { 0 < shift.now.workers → result ≡ ((process + hart) % shift.now.workers == shift.now.worker) }
+    ensures { 0 < shift.now.workers →
+        result ≡ ((process + hart) % shift.now.workers == shift.now.worker) }
 {
     if shift.workers == 0 {
         return false;

@@ -31,7 +31,8 @@ pub(crate) fn close<L: Ledger, S: SwapSlot, C: Clock>(
     requires few { vec_len parts.processes ≤ most_processes }
     requires empty { room.items ≡ [] }
     requires room { length handed.now ≤ vec_capacity room }
-    ensures stands { S.honest → result.0.audit ≡ true → StandsForRuns handed.entry.now result.0.lines.items }
+    ensures stands { S.honest → result.0.audit ≡ true →
+        StandsForRuns handed.entry.now result.0.lines.items }
     ensures last { All (λ line. line.last ≡ counts_of line) result.0.lines.items }
     ensures many { result.0.audit ≡ true → vec_len result.0.lines ≡ length handed.entry.now }
     ensures frames { result.0.frames ≡ frames }
@@ -88,7 +89,8 @@ fn all_hold(agrees: bool, sized: bool, sound: bool, whole: bool, started: bool) 
     ensures sound { result ≡ true → sound ≡ true }
     ensures whole { result ≡ true → whole ≡ true }
     ensures started { result ≡ true → started ≡ true }
-    ensures exact { agrees ≡ true → sized ≡ true → sound ≡ true → whole ≡ true → started ≡ true → result ≡ true }
+    ensures exact { agrees ≡ true → sized ≡ true → sound ≡ true → whole ≡ true → started ≡ true →
+        result ≡ true }
 {
     if !agrees || !sized {
         return false;

@@ -38,7 +38,8 @@ pub(crate) fn line_of<L: Ledger, S: SwapSlot>(
     image: &Image,
     input: &[u8],
 ) -> (Line, bool)
-    ensures stands { S.honest → result.1 ≡ true → StandsForRun (start_of image.now input.now) result.0 }
+    ensures stands { S.honest → result.1 ≡ true →
+        StandsForRun (start_of image.now input.now) result.0 }
     ensures last { result.0.last ≡ counts_of result.0 }
 {
     let Ran { process, last } = ran;

@@ -25,7 +25,8 @@ pub fn tell<L: Ledger, S: SwapSlot>(
 ) -> Told
     requires empty { room.items ≡ [] }
     requires room { length handed.now ≤ vec_capacity room }
-    ensures stands { S.honest → result.started ≡ true → StandsForRuns handed.entry.now result.lines.items }
+    ensures stands { S.honest → result.started ≡ true →
+        StandsForRuns handed.entry.now result.lines.items }
     ensures last { All (λ line. line.last ≡ counts_of line) result.lines.items }
     ensures many { result.started ≡ true → vec_len result.lines ≡ length handed.entry.now }
 {

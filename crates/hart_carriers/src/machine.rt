@@ -38,15 +38,20 @@ pub fn run_machine<S: SwapSlot + Send, C: Clock + Send, G: Gate + Sync, R: Threa
 ) -> Result<Report, RunRefusal>
     requires workers { 0 < workers }
     requires slice { 0 < slice }
-    ensures stands { IfOk result (λ report. S.honest → report.audit ≡ true → StandsForRuns handed.now report.lines.items) }
-    ensures last { IfOk result (λ report. All (λ line. line.last ≡ counts_of line) report.lines.items) }
-    ensures many { IfOk result (λ report. report.audit ≡ true → vec_len report.lines ≡ length handed.now) }
+    ensures stands { IfOk result (λ report. S.honest → report.audit ≡ true →
+        StandsForRuns handed.now report.lines.items) }
+    ensures last { IfOk result (λ report. All (λ line.
+        line.last ≡ counts_of line) report.lines.items) }
+    ensures many { IfOk result (λ report. report.audit ≡ true →
+        vec_len report.lines ≡ length handed.now) }
     ensures frames { IfOk result (λ report. report.frames ≡ frames) }
     ensures slots { IfOk result (λ report. report.audit ≡ true → report.slots ≡ vec_len slots) }
     ensures crew { IfOk result (λ report. IsCrewOf workers slice report.crew) }
-    ensures sound { IfOk result (λ report. report.audit ≡ true → EndsSound S (length handed.now) report) }
+    ensures sound { IfOk result (λ report. report.audit ≡ true →
+        EndsSound S (length handed.now) report) }
     ensures bad_size { IsErrOf result RunRefusal.BadSize ↔ ((frames < 4) ⊎ (4096 < frames)) }
-    ensures too_many { IsErrOf result RunRefusal.TooManyProcesses ↔ ((4 ≤ frames) × ((frames ≤ 4096) × (16 < length handed.now))) }
+    ensures too_many { IsErrOf result RunRefusal.TooManyProcesses ↔ ((4 ≤ frames) ×
+        ((frames ≤ 4096) × (16 < length handed.now))) }
 {
     let blank = Blank::new(u64::from(frames) + 1);
     report_over::<Brand, S, C, G, R>(
@@ -77,15 +82,20 @@ fn report_over<
     requires one_each { L.parts ≡ frames + 1 }
     requires workers { 0 < workers }
     requires slice { 0 < slice }
-    ensures stands { IfOk result (λ report. S.honest → report.audit ≡ true → StandsForRuns handed.now report.lines.items) }
-    ensures last { IfOk result (λ report. All (λ line. line.last ≡ counts_of line) report.lines.items) }
-    ensures many { IfOk result (λ report. report.audit ≡ true → vec_len report.lines ≡ length handed.now) }
+    ensures stands { IfOk result (λ report. S.honest → report.audit ≡ true →
+        StandsForRuns handed.now report.lines.items) }
+    ensures last { IfOk result (λ report. All (λ line.
+        line.last ≡ counts_of line) report.lines.items) }
+    ensures many { IfOk result (λ report. report.audit ≡ true →
+        vec_len report.lines ≡ length handed.now) }
     ensures frames { IfOk result (λ report. report.frames ≡ frames) }
     ensures slots { IfOk result (λ report. report.audit ≡ true → report.slots ≡ vec_len slots) }
     ensures crew { IfOk result (λ report. IsCrewOf workers slice report.crew) }
-    ensures sound { IfOk result (λ report. report.audit ≡ true → EndsSound S (length handed.now) report) }
+    ensures sound { IfOk result (λ report. report.audit ≡ true →
+        EndsSound S (length handed.now) report) }
     ensures bad_size { IsErrOf result RunRefusal.BadSize ↔ ((frames < 4) ⊎ (4096 < frames)) }
-    ensures too_many { IsErrOf result RunRefusal.TooManyProcesses ↔ ((4 ≤ frames) × ((frames ≤ 4096) × (16 < length handed.now))) }
+    ensures too_many { IsErrOf result RunRefusal.TooManyProcesses ↔ ((4 ≤ frames) ×
+        ((frames ≤ 4096) × (16 < length handed.now))) }
 {
     match run_over::<L, S, C, G, R>(
         rt, alloc, frames, blank, slots, handed, workers, slice, gate,
@@ -119,16 +129,20 @@ pub fn run_over<
     requires one_each { L.parts ≡ frames + 1 }
     requires workers { 0 < workers }
     requires slice { 0 < slice }
-    ensures stands { IfOk result (λ ran. S.honest → ran.0.audit ≡ true → StandsForRuns handed.now ran.0.lines.items) }
+    ensures stands { IfOk result (λ ran. S.honest → ran.0.audit ≡ true →
+        StandsForRuns handed.now ran.0.lines.items) }
     ensures last { IfOk result (λ ran. All (λ line. line.last ≡ counts_of line) ran.0.lines.items) }
-    ensures many { IfOk result (λ ran. ran.0.audit ≡ true → vec_len ran.0.lines ≡ length handed.now) }
+    ensures many { IfOk result (λ ran. ran.0.audit ≡ true →
+        vec_len ran.0.lines ≡ length handed.now) }
     ensures frames { IfOk result (λ ran. ran.0.frames ≡ frames) }
     ensures slots { IfOk result (λ ran. ran.0.audit ≡ true → ran.0.slots ≡ vec_len slots) }
     ensures crew { IfOk result (λ ran. IsCrewOf workers slice ran.0.crew) }
-    ensures sound { IfOk result (λ ran. ran.0.audit ≡ true → EndsSound S (length handed.now) ran.0) }
+    ensures sound { IfOk result (λ ran. ran.0.audit ≡ true →
+        EndsSound S (length handed.now) ran.0) }
     ensures shares { IfOk result (λ ran. ran.0.audit ≡ true → ran.1.parts ≡ L.parts) }
     ensures bad_size { IsErrOf result RunRefusal.BadSize ↔ ((frames < 4) ⊎ (4096 < frames)) }
-    ensures too_many { IsErrOf result RunRefusal.TooManyProcesses ↔ ((4 ≤ frames) × ((frames ≤ 4096) × (16 < length handed.now))) }
+    ensures too_many { IsErrOf result RunRefusal.TooManyProcesses ↔ ((4 ≤ frames) ×
+        ((frames ≤ 4096) × (16 < length handed.now))) }
 {
     let desk: Desk<L, C> = make_desk(alloc, frames, handed.len(), blank)?;
     match run_on::<L, S, C, G, R>(rt, alloc, desk, frames, slots, handed, workers, slice, gate) {
@@ -148,7 +162,8 @@ fn make_desk<L: Ledger, C: Clock>(
     requires parts { blank.parts ≡ L.parts }
     requires one_each { L.parts ≡ frames + 1 }
     ensures bad_size { IsErrOf result RunRefusal.BadSize ↔ ((frames < 4) ⊎ (4096 < frames)) }
-    ensures too_many { IsErrOf result RunRefusal.TooManyProcesses ↔ ((4 ≤ frames) × ((frames ≤ 4096) × (16 < processes))) }
+    ensures too_many { IsErrOf result RunRefusal.TooManyProcesses ↔ ((4 ≤ frames) ×
+        ((frames ≤ 4096) × (16 < processes))) }
     ensures few { OnOk result (processes ≤ most_processes) }
 {
     if frames < FEWEST_FRAMES || frames > MOST_FRAMES {
@@ -183,13 +198,16 @@ fn run_on<
     gate: &G,
 ) -> Result<(Report, Share<L>), AllocError>
     requires { length handed.now ≤ most_processes }
-    ensures stands { IfOk result (λ ran. S.honest → ran.0.audit ≡ true → StandsForRuns handed.now ran.0.lines.items) }
+    ensures stands { IfOk result (λ ran. S.honest → ran.0.audit ≡ true →
+        StandsForRuns handed.now ran.0.lines.items) }
     ensures last { IfOk result (λ ran. All (λ line. line.last ≡ counts_of line) ran.0.lines.items) }
-    ensures many { IfOk result (λ ran. ran.0.audit ≡ true → vec_len ran.0.lines ≡ length handed.now) }
+    ensures many { IfOk result (λ ran. ran.0.audit ≡ true →
+        vec_len ran.0.lines ≡ length handed.now) }
     ensures frames { IfOk result (λ ran. ran.0.frames ≡ frames) }
     ensures slots { IfOk result (λ ran. ran.0.audit ≡ true → ran.0.slots ≡ vec_len slots) }
     ensures crew { IfOk result (λ ran. IsCrewOf workers slice ran.0.crew) }
-    ensures sound { IfOk result (λ ran. ran.0.audit ≡ true → EndsSound S (length handed.now) ran.0) }
+    ensures sound { IfOk result (λ ran. ran.0.audit ≡ true →
+        EndsSound S (length handed.now) ran.0) }
     ensures shares { IfOk result (λ ran. ran.0.audit ≡ true → ran.1.parts ≡ frames + 1) }
 {
     let room: Vec<Line> = Vec::with_capacity(alloc, handed.len())?;

@@ -46,7 +46,8 @@ pub fn guest_rows<P: Progress>(
     progress: &mut P,
 ) -> Result<Vec<Counts>, AllocError>
     requires { length processes.items ≤ MOST_PROCESSES }
-    ensures { IfOk result (λ rows. IsTable (guest_pages slice limit processes.items) (option_map (λ f. f.items) frames) rows.items) }
+    ensures { IfOk result (λ rows. IsTable (guest_pages slice limit processes.items)
+        (option_map (λ f. f.items) frames) rows.items) }
 {
     let string = pages_of(alloc, GuestString::new(processes, slice, limit), progress)?;
     let Some(frames) = frames else {
@@ -84,7 +85,8 @@ fn count_pages(alloc: Global, string: &[Key]) -> Result<usize, AllocError>
 fn note(seen: &mut HashSet<Key>, page: Key) -> Result<usize, AllocError>
     ensures new { IfOk result (λ new. new ≡ cond (contains is_page seen.old page) 0 1) }
     ensures few { IfOk result (λ new. new ≤ 1) }
-    ensures seen { OnOk result ((q : Key) → contains is_page seen.new q ≡ cond (is_page page q) true (contains is_page seen.old q)) }
+    ensures seen { OnOk result ((q : Key) → contains is_page seen.new q ≡
+        cond (is_page page q) true (contains is_page seen.old q)) }
 {
     match seen.insert(page) {
         Ok(true) => Ok(1),

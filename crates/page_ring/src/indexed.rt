@@ -52,6 +52,7 @@ impl IndexedRing {
         ensures apart { DistinctNodes self.now.cells }
         ensures distinct { DistinctPages self.now.cells }
     {
+        // For the proof alone: a read tells its invariant.
         let _ = &self.index;
         self.links.len()
     }
@@ -67,7 +68,8 @@ impl IndexedRing {
     #[inline(always)]
     pub fn node(&self, at: usize) -> Node
         requires { is_at self.now.cells at ≡ true }
-        ensures { (c : Cell) → (cs : List Cell) → Rotates self.now.cells (c ∷ cs) → c.at ≡ at → result ≡ record { entry = c.entry; next = first_at cs at; previous = last_at at cs } }
+        ensures { (c : Cell) → (cs : List Cell) → Rotates self.now.cells (c ∷ cs) → c.at ≡ at →
+            result ≡ record { entry = c.entry; next = first_at cs at; previous = last_at at cs } }
     {
         self.links.node(at)
     }
@@ -87,7 +89,8 @@ impl IndexedRing {
     /// Gives an entry another kind, where it stands.
     pub fn mark(&mut self, at: usize, kind: EntryKind)
         requires { is_at self.old.cells at ≡ true }
-        ensures cells { (u v : List Cell) → (c : Cell) → self.old.cells ≡ u ++ c ∷ v → c.at ≡ at → self.new.cells ≡ u ++ of_kind kind c ∷ v }
+        ensures cells { (u v : List Cell) → (c : Cell) → self.old.cells ≡ u ++ c ∷ v → c.at ≡ at →
+            self.new.cells ≡ u ++ of_kind kind c ∷ v }
         ensures apart { DistinctNodes self.new.cells }
         ensures room { self.new.room ≡ self.old.room }
     {
@@ -97,7 +100,8 @@ impl IndexedRing {
     /// The front becomes the last.
     pub fn turn(&mut self)
         requires { 1 ≤ length self.old.cells }
-        ensures cells { (c : Cell) → (cs : List Cell) → self.old.cells ≡ c ∷ cs → self.new.cells ≡ cs ++ c ∷ [] }
+        ensures cells { (c : Cell) → (cs : List Cell) → self.old.cells ≡ c ∷ cs →
+            self.new.cells ≡ cs ++ c ∷ [] }
         ensures apart { DistinctNodes self.new.cells }
         ensures room { self.new.room ≡ self.old.room }
     {
@@ -110,7 +114,8 @@ impl IndexedRing {
     pub fn append(&mut self, entry: Entry) -> usize
         requires new { at_of entry.key self.old.cells ≡ None }
         requires room { length self.old.cells < self.old.room }
-        ensures cells { self.new.cells ≡ self.old.cells ++ record { at = result; entry = entry } ∷ [] }
+        ensures cells { self.new.cells ≡ self.old.cells ++ record { at = result; entry = entry } ∷
+            [] }
         ensures fresh { is_at self.old.cells result ≡ false }
         ensures apart { DistinctNodes self.new.cells }
         ensures room { self.new.room ≡ self.old.room }
@@ -125,7 +130,8 @@ impl IndexedRing {
     /// Takes an entry out. A front that goes is followed by the next.
     pub fn remove(&mut self, at: usize)
         requires { is_at self.old.cells at ≡ true }
-        ensures cells { (u v : List Cell) → (c : Cell) → self.old.cells ≡ u ++ c ∷ v → c.at ≡ at → self.new.cells ≡ u ++ v }
+        ensures cells { (u v : List Cell) → (c : Cell) → self.old.cells ≡ u ++ c ∷ v → c.at ≡ at →
+            self.new.cells ≡ u ++ v }
         ensures apart { DistinctNodes self.new.cells }
         ensures room { self.new.room ≡ self.old.room }
     {
@@ -137,7 +143,8 @@ impl IndexedRing {
     /// An entry becomes the last, of this kind, and stays in its node.
     pub fn send_to_end(&mut self, at: usize, kind: EntryKind)
         requires { is_at self.old.cells at ≡ true }
-        ensures cells { (u v : List Cell) → (c : Cell) → self.old.cells ≡ u ++ c ∷ v → c.at ≡ at → self.new.cells ≡ (u ++ v) ++ of_kind kind c ∷ [] }
+        ensures cells { (u v : List Cell) → (c : Cell) → self.old.cells ≡ u ++ c ∷ v → c.at ≡ at →
+            self.new.cells ≡ (u ++ v) ++ of_kind kind c ∷ [] }
         ensures apart { DistinctNodes self.new.cells }
         ensures room { self.new.room ≡ self.old.room }
     {

@@ -42,7 +42,8 @@ fn set_previous(nodes: &mut Slab<Node>, at: usize, previous: usize)
 }
 
 fn set_kind(nodes: &mut Slab<Node>, at: usize, kind: EntryKind)
-    ensures set { (node : Node) → get nodes.old at ≡ Some node → get nodes.new at ≡ Some (record node { entry = record node.entry { kind = kind } }) }
+    ensures set { (node : Node) → get nodes.old at ≡ Some node →
+        get nodes.new at ≡ Some (record node { entry = record node.entry { kind = kind } }) }
     ensures others { (k : ℕ) → k ≢ at → get nodes.new k ≡ get nodes.old k }
     ensures none { get nodes.old at ≡ None → nodes.new ≡ nodes.old }
     ensures len { slab_len nodes.new ≡ slab_len nodes.old }
@@ -56,8 +57,10 @@ fn set_kind(nodes: &mut Slab<Node>, at: usize, kind: EntryKind)
 /// Takes a node out, and answers the one behind it.
 fn unlink(nodes: &mut Slab<Node>, at: usize) -> usize
     requires { ContainsKey nodes.old at }
-    ensures circle { (c : Cell) → (cs : List Cell) → c.at ≡ at → Circle nodes.old (c ∷ cs) → Circle nodes.new cs }
-    ensures next { (c : Cell) → (cs : List Cell) → c.at ≡ at → Circle nodes.old (c ∷ cs) → result ≡ first_at cs at }
+    ensures circle { (c : Cell) → (cs : List Cell) → c.at ≡ at → Circle nodes.old (c ∷ cs) →
+        Circle nodes.new cs }
+    ensures next { (c : Cell) → (cs : List Cell) → c.at ≡ at → Circle nodes.old (c ∷ cs) →
+        result ≡ first_at cs at }
     ensures len { slab_len nodes.new + 1 ≡ slab_len nodes.old }
     ensures capacity { nodes.new.capacity ≡ nodes.old.capacity }
 {
@@ -71,7 +74,8 @@ fn unlink(nodes: &mut Slab<Node>, at: usize) -> usize
 fn pass_over(nodes: &mut Slab<Node>, at: usize) -> Node
     requires { ContainsKey nodes.old at }
     ensures node { get nodes.old at ≡ Some result }
-    ensures circle { (c : Cell) → (cs : List Cell) → c.at ≡ at → Circle nodes.old (c ∷ cs) → Circle nodes.new cs }
+    ensures circle { (c : Cell) → (cs : List Cell) → c.at ≡ at → Circle nodes.old (c ∷ cs) →
+        Circle nodes.new cs }
     ensures kept { (k : ℕ) → ContainsKey nodes.old k → ContainsKey nodes.new k }
     ensures len { slab_len nodes.new ≡ slab_len nodes.old }
     ensures capacity { nodes.new.capacity ≡ nodes.old.capacity }
@@ -97,7 +101,9 @@ fn set_node(nodes: &mut Slab<Node>, at: usize, node: Node)
 fn link_again(nodes: &mut Slab<Node>, front: usize, at: usize, entry: Entry)
     requires at { ContainsKey nodes.old at }
     requires front { ContainsKey nodes.old front }
-    ensures circle { (d : Cell) → (ds : List Cell) → d.at ≡ front → is_at (d ∷ ds) at ≡ false → Circle nodes.old (d ∷ ds) → Circle nodes.new ((d ∷ ds) ++ record { at = at; entry = entry } ∷ []) }
+    ensures circle { (d : Cell) → (ds : List Cell) → d.at ≡ front → is_at (d ∷ ds) at ≡ false →
+        Circle nodes.old (d ∷ ds) → Circle nodes.new ((d ∷ ds) ++
+        record { at = at; entry = entry } ∷ []) }
     ensures len { slab_len nodes.new ≡ slab_len nodes.old }
     ensures capacity { nodes.new.capacity ≡ nodes.old.capacity }
 {
@@ -120,7 +126,8 @@ fn link_again(nodes: &mut Slab<Node>, front: usize, at: usize, entry: Entry)
 fn link_last(nodes: &mut Slab<Node>, front: usize, entry: Entry) -> usize
     requires room { HasRoomFor nodes.old 1 }
     requires front { ContainsKey nodes.old front }
-    ensures circle { (d : Cell) → (ds : List Cell) → d.at ≡ front → Circle nodes.old (d ∷ ds) → Circle nodes.new ((d ∷ ds) ++ record { at = result; entry = entry } ∷ []) }
+    ensures circle { (d : Cell) → (ds : List Cell) → d.at ≡ front → Circle nodes.old (d ∷ ds) →
+        Circle nodes.new ((d ∷ ds) ++ record { at = result; entry = entry } ∷ []) }
     ensures free { get nodes.old result ≡ None }
     ensures len { slab_len nodes.new ≡ slab_len nodes.old + 1 }
     ensures capacity { nodes.new.capacity ≡ nodes.old.capacity }
@@ -206,7 +213,8 @@ impl Links {
     #[inline(always)]
     pub(crate) fn node(&self, at: usize) -> Node
         requires { is_at self.now.cells at ≡ true }
-        ensures { (c : Cell) → (cs : List Cell) → Rotates self.now.cells (c ∷ cs) → c.at ≡ at → result ≡ record { entry = c.entry; next = first_at cs at; previous = last_at at cs } }
+        ensures { (c : Cell) → (cs : List Cell) → Rotates self.now.cells (c ∷ cs) → c.at ≡ at →
+            result ≡ record { entry = c.entry; next = first_at cs at; previous = last_at at cs } }
     {
         self.nodes[at]
     }
@@ -229,7 +237,8 @@ impl Links {
 
     pub(crate) fn mark(&mut self, at: usize, kind: EntryKind)
         requires { is_at self.old.cells at ≡ true }
-        ensures cells { (u v : List Cell) → (c : Cell) → self.old.cells ≡ u ++ c ∷ v → c.at ≡ at → self.new.cells ≡ u ++ of_kind kind c ∷ v }
+        ensures cells { (u v : List Cell) → (c : Cell) → self.old.cells ≡ u ++ c ∷ v → c.at ≡ at →
+            self.new.cells ≡ u ++ of_kind kind c ∷ v }
         ensures apart { DistinctNodes self.new.cells }
         ensures room { self.new.room ≡ self.old.room }
     {
@@ -239,7 +248,8 @@ impl Links {
     /// The front becomes the last.
     pub(crate) fn turn(&mut self)
         requires { 1 ≤ length self.old.cells }
-        ensures cells { (c : Cell) → (cs : List Cell) → self.old.cells ≡ c ∷ cs → self.new.cells ≡ cs ++ c ∷ [] }
+        ensures cells { (c : Cell) → (cs : List Cell) → self.old.cells ≡ c ∷ cs →
+            self.new.cells ≡ cs ++ c ∷ [] }
         ensures apart { DistinctNodes self.new.cells }
         ensures room { self.new.room ≡ self.old.room }
     {
@@ -250,7 +260,8 @@ impl Links {
     #[inline(always)]
     pub(crate) fn append(&mut self, entry: Entry) -> usize
         requires { length self.old.cells < self.old.room }
-        ensures cells { self.new.cells ≡ self.old.cells ++ record { at = result; entry = entry } ∷ [] }
+        ensures cells { self.new.cells ≡ self.old.cells ++ record { at = result; entry = entry } ∷
+            [] }
         ensures fresh { is_at self.old.cells result ≡ false }
         ensures apart { DistinctNodes self.new.cells }
         ensures room { self.new.room ≡ self.old.room }
@@ -265,7 +276,8 @@ impl Links {
     /// Takes an entry out. A front that goes is followed by the next.
     pub(crate) fn remove(&mut self, at: usize)
         requires { is_at self.old.cells at ≡ true }
-        ensures cells { (u v : List Cell) → (c : Cell) → self.old.cells ≡ u ++ c ∷ v → c.at ≡ at → self.new.cells ≡ u ++ v }
+        ensures cells { (u v : List Cell) → (c : Cell) → self.old.cells ≡ u ++ c ∷ v → c.at ≡ at →
+            self.new.cells ≡ u ++ v }
         ensures apart { DistinctNodes self.new.cells }
         ensures room { self.new.room ≡ self.old.room }
     {
@@ -276,7 +288,8 @@ impl Links {
     /// An entry becomes the last, of this kind, and stays in its node.
     pub(crate) fn send_to_end(&mut self, at: usize, kind: EntryKind)
         requires { is_at self.old.cells at ≡ true }
-        ensures cells { (u v : List Cell) → (c : Cell) → self.old.cells ≡ u ++ c ∷ v → c.at ≡ at → self.new.cells ≡ (u ++ v) ++ of_kind kind c ∷ [] }
+        ensures cells { (u v : List Cell) → (c : Cell) → self.old.cells ≡ u ++ c ∷ v → c.at ≡ at →
+            self.new.cells ≡ (u ++ v) ++ of_kind kind c ∷ [] }
         ensures apart { DistinctNodes self.new.cells }
         ensures room { self.new.room ≡ self.old.room }
     {

@@ -79,7 +79,8 @@ impl NodeIndex {
     pub(crate) fn insert(&mut self, key: Key, at: usize) -> Result<(), AllocError>
         requires new { node_of key self.old ≡ None }
         requires parted { Parted self.old }
-        ensures put { OnOk result ((k : Key) → node_of k self.new ≡ cond (same_key key k) (Some at) (node_of k self.old)) }
+        ensures put { OnOk result ((k : Key) → node_of k self.new ≡ cond (same_key key k) (Some at)
+            (node_of k self.old)) }
         ensures err { OnErr result ((k : Key) → node_of k self.new ≡ node_of k self.old) }
         ensures taken { OnErr result (IsSlotTaken self.old.slots.items key ⊎ 2 ^ 32 ≤ at) }
         ensures parted { Parted self.new }
@@ -98,7 +99,8 @@ impl NodeIndex {
     fn insert_other(&mut self, key: Key, at: usize) -> Result<(), AllocError>
         requires new { node_of key self.old ≡ None }
         requires parted { Parted self.old }
-        ensures put { OnOk result ((k : Key) → node_of k self.new ≡ cond (same_key key k) (Some at) (node_of k self.old)) }
+        ensures put { OnOk result ((k : Key) → node_of k self.new ≡ cond (same_key key k) (Some at)
+            (node_of k self.old)) }
         ensures err { OnErr result ((k : Key) → node_of k self.new ≡ node_of k self.old) }
         ensures parted { Parted self.new }
     {
@@ -112,7 +114,8 @@ impl NodeIndex {
     #[inline(always)]
     pub(crate) fn remove(&mut self, key: Key)
         requires { Parted self.old }
-        ensures taken { (k : Key) → node_of k self.new ≡ cond (same_key key k) None (node_of k self.old) }
+        ensures taken { (k : Key) → node_of k self.new ≡ cond (same_key key k) None
+            (node_of k self.old) }
         ensures parted { Parted self.new }
     {
         let slot = self.slot(key);

@@ -69,7 +69,8 @@ impl<L: Ledger, C: Clock> Pager<L, C> {
 
         // Memory is wanting only where nothing else is.
         ensures refused { IfErr result (λ refusal. RefusesAdmission refusal key self.old) }
-        ensures grows { result ≡ Err AdmitRefusal.NoMemory → kind_of key self.old.list.entries ≡ None }
+        ensures grows { result ≡ Err AdmitRefusal.NoMemory → kind_of key self.old.list.entries ≡
+            None }
         ensures err { OnErr result (self.new ≡ self.old) }
         ensures lawful { OnOk result (Lawful self.new.list) }
     {
@@ -125,7 +126,8 @@ impl<L: Ledger, C: Clock> Pager<L, C> {
         ensures lawful { Lawful self.new.list }
 
         // An answer without a victim lowers the number of answers that are left.
-        ensures lowers { result ≡ Ok Verdict.GoOn → answers_left self.new.list < answers_left self.old.list }
+        ensures lowers { result ≡ Ok Verdict.GoOn →
+            answers_left self.new.list < answers_left self.old.list }
     {
         let verdict = self.list.answer(bit)?;
         self.tallies.questions = tally(self.tallies.questions);
@@ -171,7 +173,10 @@ impl<L: Ledger, C: Clock> Pager<L, C> {
     /// Gives a frame back. Where all are there it is another pager's, and is handed back.
     pub fn free(&mut self, frame: Frame<L>) -> Result<(), Frame<L>>
         ensures full { IsErr result ↔ (length self.old.free ≡ self.old.size) }
-        ensures ok { OnOk result (self.new ≡ record self.old { free = self.old.free ++ frame ∷ [] }) }
+        ensures ok { OnOk result (self.new ≡ record self.old {
+          free = self.old.free ++
+              frame ∷ [];
+        }) }
         ensures handed_back { IfErr result (λ back. back ≡ frame) }
         ensures err { OnErr result (self.new ≡ self.old) }
     {
@@ -197,7 +202,8 @@ impl<L: Ledger, C: Clock> Pager<L, C> {
     pub fn copy_entries(&self, to: &mut Vec<Entry>) -> Result<(), AllocError>
         ensures items { OnOk result (to.new.items ≡ to.old.items ++ self.now.list.entries) }
         ensures err { OnErr result (to.new.items ≡ to.old.items) }
-        ensures room { vec_len to.old + length self.now.list.entries ≤ vec_capacity to.old → IsOk result }
+        ensures room { vec_len to.old + length self.now.list.entries ≤ vec_capacity to.old →
+            IsOk result }
     {
         self.list.copy_entries(to)
     }

@@ -17,7 +17,8 @@ pub fn write_process<W: Write>(
     steps: u64,
     out: &mut W,
 ) -> io::Result<()>
-    ensures { OnOk result (Appends (W.contents out.old) (W.contents out.new) (process_text number output.now end steps)) }
+    ensures { OnOk result (Appends (W.contents out.old) (W.contents out.new)
+        (process_text number output.now end steps)) }
 {
     write_output(number, output, out)?;
     write_end(number, end, steps, out)
@@ -25,7 +26,8 @@ pub fn write_process<W: Write>(
 
 /// Writes the output of a process below a line that tells how many bytes it has.
 fn write_output<W: Write>(number: usize, output: &[u8], out: &mut W) -> io::Result<()>
-    ensures { OnOk result (Appends (W.contents out.old) (W.contents out.new) (output_text number output.now)) }
+    ensures { OnOk result (Appends (W.contents out.old) (W.contents out.new)
+        (output_text number output.now)) }
 {
     write_length(number, output.len(), out)?;
     out.write_all(output)?;
@@ -34,14 +36,16 @@ fn write_output<W: Write>(number: usize, output: &[u8], out: &mut W) -> io::Resu
 
 #[tactic(auto, unfolding(crate::specs::ProcessText::length_text))]
 fn write_length<W: Write>(number: usize, length: usize, out: &mut W) -> io::Result<()>
-    ensures { OnOk result (Appends (W.contents out.old) (W.contents out.new) (length_text number length)) }
+    ensures { OnOk result (Appends (W.contents out.old) (W.contents out.new)
+        (length_text number length)) }
 {
     writeln!(out, "process {number} output {length}")
 }
 
 #[tactic(auto, unfolding(crate::specs::ProcessText::end_text))]
 fn write_end<W: Write>(number: usize, end: End, steps: u64, out: &mut W) -> io::Result<()>
-    ensures { OnOk result (Appends (W.contents out.old) (W.contents out.new) (end_text number end steps)) }
+    ensures { OnOk result (Appends (W.contents out.old) (W.contents out.new)
+        (end_text number end steps)) }
 {
     let ending = Ending(end);
     writeln!(out, "process {number} {ending} after {steps} steps")

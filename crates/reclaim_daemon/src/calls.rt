@@ -24,7 +24,8 @@ pub(crate) fn sweep<L: Ledger, S: SwapSlot, C: Clock>(
     held: &mut Held<L, S>,
 ) -> Swept
     ensures swept { Sweeps pager.old pager.new held.old.side held.new.side result }
-    ensures agree { AsksOf pager.old.pager held.old.side.space → AgreeStill None pager.old.pager pager.new.pager held.old.side.space held.new.side.space }
+    ensures agree { AsksOf pager.old.pager held.old.side.space →
+        AgreeStill None pager.old.pager pager.new.pager held.old.side.space held.new.side.space }
     ensures held { held.new ≡ record held.old { side = held.new.side } }
 {
     machine_sides::sweep(pager, &mut held.side)
@@ -38,10 +39,17 @@ pub(crate) fn collect<L: Ledger, S: SwapSlot, C: Clock>(
     vpn: u32,
     slots: &mut SlotPool<S>,
 ) -> Looked<L, S>
-    ensures looked { Looks vpn pager.old pager.new held.old.side held.new.side slots.old slots.new result }
-    ensures agree { AgreeStill None pager.old.pager pager.new.pager held.old.side.space held.new.side.space }
-    ensures memory { S.honest → memory_of S.content held.new.side.space.memory ≡ memory_of S.content held.old.side.space.memory }
-    ensures held { held.new ≡ record held.old { side = held.new.side; tries = tried_if (look_failed result) held.old.tries } }
+    ensures looked { Looks vpn pager.old pager.new held.old.side held.new.side slots.old slots.new
+        result }
+    ensures agree { AgreeStill None pager.old.pager pager.new.pager held.old.side.space
+        held.new.side.space }
+    ensures memory { S.honest → memory_of S.content held.new.side.space.memory ≡
+        memory_of S.content held.old.side.space.memory }
+    ensures held { held.new ≡ record held.old {
+      side = held.new.side;
+      tries = tried_if
+          (look_failed result) held.old.tries;
+    } }
 {
     let looked = machine_sides::collect(pager, &mut held.side, vpn, slots);
     if matches!(looked, Looked::NoSlot) {
@@ -58,9 +66,15 @@ pub(crate) fn saved<L: Ledger, S: SwapSlot, C: Clock>(
     job: SavedJob<S>,
 ) -> SaveOutcome<L, S>
     ensures ends { EndsSave job pager.old pager.new held.old.side held.new.side result }
-    ensures agree { AgreeStill None pager.old.pager pager.new.pager held.old.side.space held.new.side.space }
-    ensures memory { S.honest → memory_of S.content held.new.side.space.memory ≡ memory_of S.content held.old.side.space.memory }
-    ensures held { held.new ≡ record held.old { side = held.new.side; tries = tried_if (save_failed result) held.old.tries } }
+    ensures agree { AgreeStill None pager.old.pager pager.new.pager held.old.side.space
+        held.new.side.space }
+    ensures memory { S.honest → memory_of S.content held.new.side.space.memory ≡
+        memory_of S.content held.old.side.space.memory }
+    ensures held { held.new ≡ record held.old {
+      side = held.new.side;
+      tries = tried_if
+          (save_failed result) held.old.tries;
+    } }
 {
     let outcome = machine_sides::saved(pager, &mut held.side, job);
     if matches!(outcome, SaveOutcome::ResidentAgain(_)) {
@@ -76,8 +90,10 @@ pub(crate) fn purge<L: Ledger, S: SwapSlot, C: Clock>(
     held: &mut Held<L, S>,
     slots: &mut SlotPool<S>,
 ) -> Purging<L, S>
-    ensures purges { Purges pager.old pager.new held.old.side held.new.side slots.old slots.new result }
-    ensures agree { AgreesPurged pager.old.pager pager.new.pager held.old.side.space held.new.side.space result }
+    ensures purges { Purges pager.old pager.new held.old.side held.new.side slots.old slots.new
+        result }
+    ensures agree { AgreesPurged pager.old.pager pager.new.pager held.old.side.space
+        held.new.side.space result }
     ensures held { held.new ≡ record held.old { side = held.new.side } }
 {
     machine_sides::purge(pager, &mut held.side, slots)

@@ -51,7 +51,8 @@ impl<L: Ledger, C: Clock> Desk<L, C> {
         requires name { blank.name ≡ L.name }
         requires parts { blank.parts ≡ L.parts }
         requires one_each { L.parts ≡ frames + 1 }
-        ensures pager { IfOk result (λ desk. desk.pager ≡ record { pager = full_pager frames; saves = 0; drops = 0 }) }
+        ensures pager { IfOk result (λ desk. desk.pager ≡
+            record { pager = full_pager frames; saves = 0; drops = 0 }) }
         ensures strays { IfOk result (λ desk. desk.strays ≡ []) }
         ensures room { IfOk result (λ desk. frames ≤ desk.room) }
         ensures sound { IfOk result (λ desk. desk.sound ≡ true) }
@@ -82,7 +83,8 @@ impl<L: Ledger, C: Clock> Desk<L, C> {
 
     /// Whether fewer frames are free than are to be: one, or one for each sixteen of the machine's.
     pub fn wants_frames(&self) -> bool
-        ensures { result ≡ nat_lt (length self.now.pager.pager.free) (frames_wanted self.now.pager.pager.size) }
+        ensures { result ≡ nat_lt (length self.now.pager.pager.free)
+            (frames_wanted self.now.pager.pager.size) }
     {
         let wanted = (self.pager.size() / 16).max(1);
         self.pager.counts().pager.free < wanted as usize
@@ -132,8 +134,10 @@ impl<L: Ledger, C: Clock> Desk<L, C> {
         key: Key,
         slots: &mut SlotPool<S>,
     ) -> Option<Collection<S>>
-        ensures collects { CollectsHeld key self.old self.new held.old held.new slots.old slots.new result }
-        ensures memory { S.honest → memory_of S.content held.new.side.space.memory ≡ memory_of S.content held.old.side.space.memory }
+        ensures collects { CollectsHeld key self.old self.new held.old held.new slots.old slots.new
+            result }
+        ensures memory { S.honest → memory_of S.content held.new.side.space.memory ≡
+            memory_of S.content held.old.side.space.memory }
     {
         if held.process() != key.process {
             self.mark_unsound();
@@ -151,7 +155,8 @@ impl<L: Ledger, C: Clock> Desk<L, C> {
         job: SavedJob<S>,
     ) -> Option<SaveReply<S>>
         ensures saves { SavesHeld job self.old self.new held.old held.new result }
-        ensures memory { S.honest → memory_of S.content held.new.side.space.memory ≡ memory_of S.content held.old.side.space.memory }
+        ensures memory { S.honest → memory_of S.content held.new.side.space.memory ≡
+            memory_of S.content held.old.side.space.memory }
     {
         if held.process() != job.process() {
             self.mark_unsound();
@@ -280,7 +285,8 @@ impl<L: Ledger, C: Clock> Desk<L, C> {
     fn keep_any(&mut self, frame: Option<Frame<L>>)
         ensures pager { self.new.pager ≡ self.old.pager }
         ensures sound { self.new.sound ≡ false }
-        ensures kept { length self.old.strays < self.old.room → self.new.strays ≡ self.old.strays ++ as_list frame }
+        ensures kept { length self.old.strays < self.old.room →
+            self.new.strays ≡ self.old.strays ++ as_list frame }
     {
         match frame {
             Some(frame) => self.keep(frame),

@@ -59,7 +59,8 @@ impl<L: Ledger, S: SwapSlot> Held<L, S> {
         image: Image,
         input: Vec<u8>,
     ) -> Result<(Self, Viewer), AllocError>
-        ensures begins { IfOk result (λ made. Begins number (start_of image input.items) made.0.side) }
+        ensures begins { IfOk result (λ made.
+            Begins number (start_of image input.items) made.0.side) }
         ensures tries { IfOk result (λ made. made.0.tries ≡ 0) }
         ensures viewer { IfOk result (λ made. made.1 ≡ viewer_value made.0.writer.cell nothing) }
     {
@@ -86,6 +87,7 @@ impl<L: Ledger, S: SwapSlot> Held<L, S> {
         ensures stands { S.honest → StandsFor S.content self.now.side.space }
         ensures published { self.now.writer.last ≡ status_of self.now.side.space }
     {
+        // For the proof alone: a read tells its invariant.
         let _ = &self.told;
         self.side.coherent();
     }
@@ -129,7 +131,8 @@ impl<L: Ledger, S: SwapSlot> Held<L, S> {
     /// Runs up to so many instructions of a hart, and publishes how far the process has come.
     #[tactic(auto, using(crate::proofs::Statuses::slice_steps, crate::proofs::Statuses::slice_rises))]
     pub fn slice<R: Wait>(&mut self, rt: &R, hart: u32, budget: u32) -> Slice
-        ensures { SlicesHeld S.content S.honest hart budget self.old self.new result.ran result.stop }
+        ensures { SlicesHeld S.content S.honest hart budget self.old self.new result.ran
+            result.stop }
     {
         let slice = self.side.slice(hart, budget);
         self.tries = tries_after(slice.ran, self.tries);
@@ -160,10 +163,16 @@ impl<L: Ledger, S: SwapSlot> Held<L, S> {
     #[tactic(auto, using(crate::proofs::Statuses::load_leaves, crate::proofs::Statuses::no_load_leaves), unfolding(pager_core::specs::Pager::tallied))]
     pub fn load(&mut self, admission: Admission<L>) -> Result<(), (Admission<L>, PageInFault)>
         ensures loaded { OnOk result (LoadsHeld S.content S.honest admission self.old self.new) }
-        ensures refused { IfErr result (λ back. DoesNotLoadHeld S.content S.honest S.failures admission back.0 back.1 self.old self.new) }
-        ensures agree { OnOk result ((pager : PagerState) → AgreeStill (Some (key_of self.old.side.space.memory.process admission.key.vpn)) pager pager self.old.side.space self.new.side.space) }
-        ensures meets { OnOk result (AgreesWhereListed self.new.side.space (key_of self.old.side.space.memory.process admission.key.vpn)) }
-        ensures keeps { OnErr result ((pager : PagerState) → AgreeStill None pager pager self.old.side.space self.new.side.space) }
+        ensures refused { IfErr result (λ back.
+            DoesNotLoadHeld S.content S.honest S.failures admission back.0 back.1 self.old
+            self.new) }
+        ensures agree { OnOk result ((pager : PagerState) →
+            AgreeStill (Some (key_of self.old.side.space.memory.process admission.key.vpn)) pager
+            pager self.old.side.space self.new.side.space) }
+        ensures meets { OnOk result (AgreesWhereListed self.new.side.space
+            (key_of self.old.side.space.memory.process admission.key.vpn)) }
+        ensures keeps { OnErr result ((pager : PagerState) →
+            AgreeStill None pager pager self.old.side.space self.new.side.space) }
     {
         self.tries = self.tries.saturating_add(1);
         self.side.load(admission)
@@ -176,6 +185,7 @@ fn status_after<L: Ledger, S: SwapSlot>(side: &ProcessSide<L, S>, steps: u64, ra
     requires { length (written_out side.now.space.schedule) ≡ steps + ran }
     ensures { result ≡ status_of side.now.space }
 {
+    // For the proof alone: a read tells that what is read is lawful.
     let _turns = side.schedule().turns();
     Status {
         steps: steps + u64::from(ran),

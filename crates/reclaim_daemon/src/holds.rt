@@ -66,7 +66,8 @@ impl<L: Ledger, S: SwapSlot, C: Clock> Shared<L, S, C> {
         hart: u32,
         budget: u32,
     ) -> Option<HoldOfProcess<L, S, Slice>>
-        ensures { IfSome result (λ hold. RunsHart S.content S.honest number hart budget hold.process.before.value hold.process.after.value hold.reply.ran hold.reply.stop) }
+        ensures { IfSome result (λ hold. RunsHart S.content S.honest number hart budget
+            hold.process.before.value hold.process.after.value hold.reply.ran hold.reply.stop) }
     {
         let lock = self.processes.get(number as usize)?;
         let mut held = lock.lock(rt);
@@ -93,7 +94,8 @@ impl<L: Ledger, S: SwapSlot, C: Clock> Shared<L, S, C> {
 
     /// A hart of a process drops its translations that are to be dropped.
     pub fn notice<R: Wait>(&self, rt: &R, number: u32, hart: u32) -> Option<HoldOfProcess<L, S, ()>>
-        ensures { IfSome result (λ hold. NoticesNumber number hart hold.process.before.value hold.process.after.value) }
+        ensures { IfSome result (λ hold. NoticesNumber number hart hold.process.before.value
+            hold.process.after.value) }
     {
         let lock = self.processes.get(number as usize)?;
         let mut held = lock.lock(rt);
@@ -119,7 +121,8 @@ impl<L: Ledger, S: SwapSlot, C: Clock> Shared<L, S, C> {
         number: u32,
         cause: KillCause,
     ) -> Option<HoldOfProcess<L, S, ()>>
-        ensures { IfSome result (λ hold. KillsNumber number cause hold.process.before.value hold.process.after.value) }
+        ensures { IfSome result (λ hold. KillsNumber number cause hold.process.before.value
+            hold.process.after.value) }
     {
         let lock = self.processes.get(number as usize)?;
         let mut held = lock.lock(rt);
@@ -146,7 +149,8 @@ impl<L: Ledger, S: SwapSlot, C: Clock> Shared<L, S, C> {
     /// The machine ends a process for want of a place for its pages, where it was tried for as often as a process may be. Answers
     /// whether it was.
     pub fn kill_if_spent<R: Wait>(&self, rt: &R, number: u32) -> Option<HoldOfProcess<L, S, bool>>
-        ensures { IfSome result (λ hold. KillsSpent number self.now.most_tries hold.reply hold.process.before.value hold.process.after.value) }
+        ensures { IfSome result (λ hold. KillsSpent number self.now.most_tries hold.reply
+            hold.process.before.value hold.process.after.value) }
     {
         let lock = self.processes.get(number as usize)?;
         let mut held = lock.lock(rt);
@@ -177,7 +181,8 @@ impl<L: Ledger, S: SwapSlot, C: Clock> Shared<L, S, C> {
     ///
     /// There is none where no page is resident, or where the page is of no process that there is.
     pub fn sweep<R: Wait>(&self, rt: &R) -> Option<HoldOfBoth<L, S, C, Option<Swept>>>
-        ensures { IfSome result (λ hold. SweepsHeld hold.desk.before.value hold.desk.after.value hold.process.before.value hold.process.after.value hold.reply) }
+        ensures { IfSome result (λ hold. SweepsHeld hold.desk.before.value hold.desk.after.value
+            hold.process.before.value hold.process.after.value hold.reply) }
     {
         let mut desk = self.desk.lock(rt);
         let key = desk.pager().question()?;
@@ -210,7 +215,9 @@ impl<L: Ledger, S: SwapSlot, C: Clock> Shared<L, S, C> {
         rt: &R,
         key: Key,
     ) -> Option<HoldOfAll<L, S, C, Option<Collection<S>>>>
-        ensures { IfSome result (λ hold. CollectsHeld key hold.desk.before.value hold.desk.after.value hold.process.before.value hold.process.after.value hold.slots.before.value hold.slots.after.value hold.reply) }
+        ensures { IfSome result (λ hold.
+            CollectsHeld key hold.desk.before.value hold.desk.after.value hold.process.before.value
+            hold.process.after.value hold.slots.before.value hold.slots.after.value hold.reply) }
     {
         let lock = self.processes.get(key.process as usize)?;
         let mut desk = self.desk.lock(rt);
@@ -246,7 +253,8 @@ impl<L: Ledger, S: SwapSlot, C: Clock> Shared<L, S, C> {
         rt: &R,
         job: SavedJob<S>,
     ) -> Option<HoldOfBoth<L, S, C, Option<SaveReply<S>>>>
-        ensures { IfSome result (λ hold. SavesHeld job hold.desk.before.value hold.desk.after.value hold.process.before.value hold.process.after.value hold.reply) }
+        ensures { IfSome result (λ hold. SavesHeld job hold.desk.before.value hold.desk.after.value
+            hold.process.before.value hold.process.after.value hold.reply) }
     {
         let lock = self.processes.get(job.process() as usize)?;
         let mut desk = self.desk.lock(rt);
@@ -276,7 +284,10 @@ impl<L: Ledger, S: SwapSlot, C: Clock> Shared<L, S, C> {
         rt: &R,
         number: u32,
     ) -> Option<HoldOfAll<L, S, C, Option<PurgeReply>>>
-        ensures { IfSome result (λ hold. PurgesHeld number hold.desk.before.value hold.desk.after.value hold.process.before.value hold.process.after.value hold.slots.before.value hold.slots.after.value hold.reply) }
+        ensures { IfSome result (λ hold.
+            PurgesHeld number hold.desk.before.value hold.desk.after.value
+            hold.process.before.value hold.process.after.value hold.slots.before.value
+            hold.slots.after.value hold.reply) }
     {
         let lock = self.processes.get(number as usize)?;
         let mut desk = self.desk.lock(rt);

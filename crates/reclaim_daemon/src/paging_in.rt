@@ -38,7 +38,8 @@ impl<L: Ledger, S: SwapSlot, C: Clock> Shared<L, S, C> {
         rt: &R,
         key: Key,
     ) -> Option<HoldOfPager<L, S, C, Option<Result<Admission<L>, NotAdmitted>>>>
-        ensures { IfSome result (λ hold. AdmitsOrNot hold.desk.before.value hold.desk.after.value hold.process.value key hold.reply) }
+        ensures { IfSome result (λ hold. AdmitsOrNot hold.desk.before.value hold.desk.after.value
+            hold.process.value key hold.reply) }
     {
         let lock = self.processes.get(key.process as usize)?;
         let mut desk = self.desk.lock(rt);
@@ -64,7 +65,8 @@ impl<L: Ledger, S: SwapSlot, C: Clock> Shared<L, S, C> {
         rt: &R,
         admission: Admission<L>,
     ) -> Option<HoldOfPager<L, S, C, Undone<L>>>
-        ensures { IfSome result (λ hold. UndoesHeld hold.desk.before.value hold.desk.after.value hold.process.value admission hold.reply) }
+        ensures { IfSome result (λ hold. UndoesHeld hold.desk.before.value hold.desk.after.value
+            hold.process.value admission hold.reply) }
     {
         let lock = self.processes.get(admission.key().process as usize)?;
         let mut desk = self.desk.lock(rt);
@@ -92,7 +94,9 @@ impl<L: Ledger, S: SwapSlot, C: Clock> Shared<L, S, C> {
         gate: &G,
         key: Key,
     ) -> Option<HoldOfBoth<L, S, C, Option<PagedIn<L>>>>
-        ensures { IfSome result (λ hold. PagesInHeld S.content S.honest S.failures key hold.desk.before.value hold.desk.after.value hold.process.before.value hold.process.after.value hold.reply) }
+        ensures { IfSome result (λ hold. PagesInHeld S.content S.honest S.failures key
+            hold.desk.before.value hold.desk.after.value hold.process.before.value
+            hold.process.after.value hold.reply) }
     {
         let lock = self.processes.get(key.process as usize)?;
         let mut desk = self.desk.lock(rt);

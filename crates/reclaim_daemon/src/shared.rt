@@ -94,8 +94,12 @@ impl<L: Ledger, S: SwapSlot, C: Clock> Shared<L, S, C> {
 
     /// One more process, of the next number, that is to run an image on an input; and a viewer of its counts.
     pub fn add(&mut self, alloc: Global, image: Image, input: Vec<u8>) -> Result<Viewer, AddRefusal>
-        ensures added { OnOk result (self.new ≡ record self.old { processes = self.old.processes + 1 }) }
-        ensures too_many { IsErrOf result AddRefusal.TooMany ↔ (self.old.processes ≡ most_processes) }
+        ensures added { OnOk result (self.new ≡ record self.old {
+          processes = self.old.processes +
+              1;
+        }) }
+        ensures too_many { IsErrOf result AddRefusal.TooMany ↔
+            (self.old.processes ≡ most_processes) }
         ensures err { OnErr result (self.new ≡ self.old) }
     {
         if self.processes.len() >= MOST_PROCESSES {

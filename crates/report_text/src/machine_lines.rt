@@ -37,7 +37,8 @@ fn write_standings<L: Ledger, S: SwapSlot, C: Clock, W: Write>(
     core: &Core<L, S, C>,
     out: &mut W,
 ) -> io::Result<()>
-    ensures { OnOk result (Appends (W.contents out.old) (W.contents out.new) (processes_text 0 (map come_to core.now.processes))) }
+    ensures { OnOk result (Appends (W.contents out.old) (W.contents out.new) (processes_text 0
+        (map come_to core.now.processes))) }
 {
     'processes: for number in 0..core.processes() as u32 {
         write_standing(number, standing_of(core, number), out)?;
@@ -46,7 +47,8 @@ fn write_standings<L: Ledger, S: SwapSlot, C: Clock, W: Write>(
 }
 
 fn write_standing<W: Write>(number: u32, process: Standing<'_>, out: &mut W) -> io::Result<()>
-    ensures { OnOk result (Appends (W.contents out.old) (W.contents out.new) (line_text number (told_of process.entry))) }
+    ensures { OnOk result (Appends (W.contents out.old) (W.contents out.new) (line_text number
+        (told_of process.entry))) }
 {
     let Standing { output, end, steps } = process;
     write_process(number as usize, output, end_of(end), steps, out)
@@ -57,7 +59,11 @@ fn write_counts<L: Ledger, S: SwapSlot, C: Clock, W: Write>(
     core: &Core<L, S, C>,
     out: &mut W,
 ) -> io::Result<()>
-    ensures { OnOk result (Appends (W.contents out.old) (W.contents out.new) (places_text core.now.pager.pager.size core.now.pager.pager.tallies.page_ins core.now.pager.pager.tallies.victims ++ savings_text core.now.pager.saves core.now.pager.drops core.now.pager.pager.tallies.questions)) }
+    ensures { OnOk result (Appends (W.contents out.old) (W.contents out.new)
+        (places_text core.now.pager.pager.size core.now.pager.pager.tallies.page_ins
+        core.now.pager.pager.tallies.victims ++
+        savings_text core.now.pager.saves core.now.pager.drops
+        core.now.pager.pager.tallies.questions)) }
 {
     let counts = core.counts();
     let tallies = counts.pager.tallies;
@@ -67,7 +73,8 @@ fn write_counts<L: Ledger, S: SwapSlot, C: Clock, W: Write>(
 
 /// The exit status of a run that left this machine: the highest of its processes' statuses.
 pub fn status_of_machine<L: Ledger, S: SwapSlot, C: Clock>(core: &Core<L, S, C>) -> u8
-    ensures { result ≡ worst_status 0 (map (λ (process : Told). process.end) (map come_to core.now.processes)) }
+    ensures { result ≡ worst_status 0 (map (λ (process : Told). process.end)
+        (map come_to core.now.processes)) }
 {
     let mut status = 0;
     'processes: for number in 0..core.processes() as u32 {

@@ -12,7 +12,8 @@ use std::io::Write;
 
 /// Writes what each process has come to, by their numbers, then what was counted, and whether an audit found nothing amiss.
 pub fn write_report<W: Write>(report: &Report, out: &mut W) -> io::Result<()>
-    ensures { OnOk result (Appends (W.contents out.old) (W.contents out.new) (report_text report.now)) }
+    ensures { OnOk result (Appends (W.contents out.old) (W.contents out.new)
+        (report_text report.now)) }
 {
     write_processes(report.processes.as_slice(), out)?;
     write_counts(report, out)?;
@@ -21,7 +22,8 @@ pub fn write_report<W: Write>(report: &Report, out: &mut W) -> io::Result<()>
 
 /// Writes what each process has come to, by their numbers.
 fn write_processes<W: Write>(processes: &[ProcessReport], out: &mut W) -> io::Result<()>
-    ensures { OnOk result (Appends (W.contents out.old) (W.contents out.new) (processes_text 0 (map told processes.now))) }
+    ensures { OnOk result (Appends (W.contents out.old) (W.contents out.new) (processes_text 0
+        (map told processes.now))) }
 {
     let mut number = 0;
     let mut rest = processes;
@@ -34,7 +36,8 @@ fn write_processes<W: Write>(processes: &[ProcessReport], out: &mut W) -> io::Re
 }
 
 fn write_line<W: Write>(number: usize, process: &ProcessReport, out: &mut W) -> io::Result<()>
-    ensures { OnOk result (Appends (W.contents out.old) (W.contents out.new) (line_text number (told process.now))) }
+    ensures { OnOk result (Appends (W.contents out.old) (W.contents out.new) (line_text number
+        (told process.now))) }
 {
     let end = end_of(process.end);
     write_process(number, process.output.as_slice(), end, process.steps, out)
@@ -42,7 +45,8 @@ fn write_line<W: Write>(number: usize, process: &ProcessReport, out: &mut W) -> 
 
 /// Writes the count line.
 fn write_counts<W: Write>(report: &Report, out: &mut W) -> io::Result<()>
-    ensures { OnOk result (Appends (W.contents out.old) (W.contents out.new) (counts_text (told_by report.now))) }
+    ensures { OnOk result (Appends (W.contents out.old) (W.contents out.new)
+        (counts_text (told_by report.now))) }
 {
     write_places(report.frames, report.page_ins, report.victims, out)?;
     write_savings(report.saves, report.drops, report.questions, out)
@@ -56,7 +60,8 @@ pub(crate) fn write_places<W: Write>(
     victims: u64,
     out: &mut W,
 ) -> io::Result<()>
-    ensures { OnOk result (Appends (W.contents out.old) (W.contents out.new) (places_text frames page_ins victims)) }
+    ensures { OnOk result (Appends (W.contents out.old) (W.contents out.new)
+        (places_text frames page_ins victims)) }
 {
     write!(out, "frames {frames} page-ins {page_ins} victims {victims}")
 }
@@ -69,14 +74,16 @@ pub(crate) fn write_savings<W: Write>(
     questions: u64,
     out: &mut W,
 ) -> io::Result<()>
-    ensures { OnOk result (Appends (W.contents out.old) (W.contents out.new) (savings_text saves drops questions)) }
+    ensures { OnOk result (Appends (W.contents out.old) (W.contents out.new)
+        (savings_text saves drops questions)) }
 {
     writeln!(out, " saves {saves} drops {drops} questions {questions}")
 }
 
 /// Writes whether an audit found nothing amiss.
 pub(crate) fn write_audit<W: Write>(is_sound: bool, out: &mut W) -> io::Result<()>
-    ensures { OnOk result (Appends (W.contents out.old) (W.contents out.new) (audit_text is_sound)) }
+    ensures { OnOk result (Appends (W.contents out.old) (W.contents out.new)
+        (audit_text is_sound)) }
 {
     if is_sound {
         writeln!(out, "audit ok")

@@ -30,7 +30,8 @@ use std::alloc::{AllocError, Global};
 pub fn assemble(alloc: Global, source: &str) -> Result<Listing, AsmError>
     ensures listing { IfOk result (Assembles source.now) }
     ensures refusal { IfErr result (IsFirstFault source.now) }
-    ensures exact { (line : ℕ) (kind : FaultKind) → FirstFault source.now line kind → (result ≡ Err (AsmError.Fault line kind)) ⊎ (result ≡ Err AsmError.NoMemory) }
+    ensures exact { (line : ℕ) (kind : FaultKind) → FirstFault source.now line kind →
+        (result ≡ Err (AsmError.Fault line kind)) ⊎ (result ≡ Err AsmError.NoMemory) }
 {
     assemble_in_passes(alloc, source)
 }
@@ -61,6 +62,7 @@ fn make_listing(
     requires some { 0 < size Text program.now.items }
     ensures { IfOk result (Lists (record { items = program.now.items; sections = sections })) }
 {
+    // For the proof alone: a read tells that what is read is lawful.
     let _ = program.items();
     let (words, instructions, bytes) = sections.into_parts();
     let code = bytes_of_words(alloc, &words)?;

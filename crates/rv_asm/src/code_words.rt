@@ -20,7 +20,8 @@ pub(crate) fn code_words(
     code: &Code<'_>,
 ) -> Result<Words, FaultKind>
     requires { here < 2 ^ 31 }
-    ensures { map_value words_list result ≡ code_words (address_of program.now.items) here code.now }
+    ensures { map_value words_list result ≡ code_words
+        (address_of program.now.items) here code.now }
 {
     match code {
         Code::Fixed(insn) => Ok(Words::One(TextWord::Instruction(*insn))),

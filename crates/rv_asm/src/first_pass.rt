@@ -65,7 +65,8 @@ fn read_effect<'a>(
     name: Option<Span<'a>>,
     operands: &[Operand<'a>],
 ) -> Result<Effect<'a>, Refusal>
-    ensures effect { IfOk result (λ effect. effect_of_name section operands.now name.entry ≡ Ok (effect_value effect)) }
+    ensures effect { IfOk result (λ effect. effect_of_name section operands.now name.entry ≡
+        Ok (effect_value effect)) }
     ensures refusal { IfErr result (RefusesLine (effect_of_name section operands.now name.entry)) }
 {
     match name {
@@ -92,8 +93,10 @@ fn with_effect<'a>(
     program: Program<'a>,
     effect: Effect<'a>,
 ) -> Result<Program<'a>, Refusal>
-    ensures program { IfOk result (λ more. with_effect line program.entry (effect_value effect.entry) ≡ Ok more) }
-    ensures refusal { IfErr result (RefusesLine (with_effect line program.entry (effect_value effect.entry))) }
+    ensures program { IfOk result (λ more. with_effect line program.entry
+        (effect_value effect.entry) ≡ Ok more) }
+    ensures refusal { IfErr result (RefusesLine (with_effect line program.entry
+        (effect_value effect.entry))) }
 {
     match effect {
         Effect::Enter(section) => Ok(program.entered(section)),
@@ -109,8 +112,10 @@ fn with_text<'a>(
     mut program: Program<'a>,
     parts: Vec<Code<'a>>,
 ) -> Result<Program<'a>, Refusal>
-    ensures program { IfOk result (λ more. with_items program.entry (map (InText line) parts.entry.items) ≡ Ok more) }
-    ensures refusal { IfErr result (RefusesLine (with_items program.entry (map (InText line) parts.entry.items))) }
+    ensures program { IfOk result (λ more. with_items program.entry
+        (map (InText line) parts.entry.items) ≡ Ok more) }
+    ensures refusal { IfErr result (RefusesLine (with_items program.entry
+        (map (InText line) parts.entry.items))) }
 {
     for code in parts {
         program = program.with_code(line, code)?;
@@ -125,8 +130,10 @@ fn with_data<'a>(
     mut program: Program<'a>,
     parts: Vec<Datum<'a>>,
 ) -> Result<Program<'a>, Refusal>
-    ensures program { IfOk result (λ more. with_items program.entry (map (InData line) parts.entry.items) ≡ Ok more) }
-    ensures refusal { IfErr result (RefusesLine (with_items program.entry (map (InData line) parts.entry.items))) }
+    ensures program { IfOk result (λ more. with_items program.entry
+        (map (InData line) parts.entry.items) ≡ Ok more) }
+    ensures refusal { IfErr result (RefusesLine (with_items program.entry
+        (map (InData line) parts.entry.items))) }
 {
     for datum in parts {
         program = program.with_datum(line, datum)?;

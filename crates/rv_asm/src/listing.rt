@@ -28,7 +28,13 @@ impl Listing {
         instructions: Vec<Option<Insn>>,
         data_bytes: u32,
     ) -> Self
-        ensures { result ≡ record { image = image; words = words.items; instructions = instructions.items; data_bytes = data_bytes } }
+        ensures { result ≡ record {
+          image = image;
+          words = words.items;
+          instructions =
+              instructions.items;
+          data_bytes = data_bytes;
+        } }
     {
         Listing {
             image,

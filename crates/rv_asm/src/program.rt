@@ -169,16 +169,20 @@ impl<'a> Program<'a> {
 
     /// The program with one more part of its text, from a line.
     pub(crate) fn with_code(self, line: usize, code: Code<'a>) -> Result<Self, Refusal>
-        ensures program { IfOk result (λ program. with_item self.entry (InText line code.entry) ≡ Ok program) }
-        ensures refusal { IfErr result (RefusesLine (with_item self.entry (InText line code.entry))) }
+        ensures program { IfOk result (λ program. with_item self.entry (InText line code.entry) ≡
+            Ok program) }
+        ensures refusal { IfErr result (RefusesLine (with_item self.entry
+            (InText line code.entry))) }
     {
         self.with_item(Item::InText { line, code })
     }
 
     /// The program with one more part of its data, from a line.
     pub(crate) fn with_datum(self, line: usize, datum: Datum<'a>) -> Result<Self, Refusal>
-        ensures program { IfOk result (λ program. with_item self.entry (InData line datum.entry) ≡ Ok program) }
-        ensures refusal { IfErr result (RefusesLine (with_item self.entry (InData line datum.entry))) }
+        ensures program { IfOk result (λ program. with_item self.entry (InData line datum.entry) ≡
+            Ok program) }
+        ensures refusal { IfErr result (RefusesLine (with_item self.entry
+            (InData line datum.entry))) }
     {
         self.with_item(Item::InData { line, datum })
     }

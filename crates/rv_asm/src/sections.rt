@@ -62,7 +62,8 @@ impl Sections {
     #[tactic(auto, unfolding(crate::specs::SecondPass::put))]
     pub(crate) fn with_item(self, program: &Program<'_>, item: &Item<'_>) -> Result<Self, AsmError>
         requires { length self.text ≤ 65536 }
-        ensures sections { IfOk result (λ sections. put program.now.items self item.now ≡ Ok sections) }
+        ensures sections { IfOk result (λ sections. put program.now.items self item.now ≡
+            Ok sections) }
         ensures refusal { IfErr result (Fails (put program.now.items self item.now)) }
     {
         match item {
@@ -81,7 +82,8 @@ impl Sections {
         code: &Code<'_>,
     ) -> Result<Self, AsmError>
         requires { length self.text ≤ 65536 }
-        ensures sections { IfOk result (λ sections. put program.now.items self (InText line code.now) ≡ Ok sections) }
+        ensures sections { IfOk result (λ sections.
+            put program.now.items self (InText line code.now) ≡ Ok sections) }
         ensures refusal { IfErr result (Fails (put program.now.items self (InText line code.now))) }
     {
         match code_words(program, self.next_address(), code) {
@@ -107,7 +109,10 @@ impl Sections {
 
     /// The sections with more words of text.
     fn with_words(self, words: Words) -> Result<Self, AllocError>
-        ensures { IfOk result (λ sections. sections ≡ record self { text = self.text ++ words_list words }) }
+        ensures { IfOk result (λ sections. sections ≡ record self {
+          text = self.text ++
+              words_list words;
+        }) }
     {
         match words {
             Words::One(word) => self.with_word(word),
@@ -117,7 +122,10 @@ impl Sections {
 
     /// The sections with one more word of text.
     fn with_word(mut self, word: TextWord) -> Result<Self, AllocError>
-        ensures { IfOk result (λ sections. sections ≡ record self { text = self.text ++ word ∷ [] }) }
+        ensures { IfOk result (λ sections. sections ≡ record self {
+          text = self.text ++
+              word ∷ [];
+        }) }
     {
         self.words.push(word.number())?;
         self.instructions.push(word.instruction())?;
@@ -132,8 +140,10 @@ impl Sections {
         program: &Program<'_>,
         datum: &Datum<'_>,
     ) -> Result<Self, AsmError>
-        ensures sections { IfOk result (λ sections. put program.now.items self (InData line datum.now) ≡ Ok sections) }
-        ensures refusal { IfErr result (Fails (put program.now.items self (InData line datum.now))) }
+        ensures sections { IfOk result (λ sections.
+            put program.now.items self (InData line datum.now) ≡ Ok sections) }
+        ensures refusal { IfErr result (Fails (put program.now.items self
+            (InData line datum.now))) }
     {
         let more = match datum {
             Datum::Word(number) => self.with_bytes(&number.to_le_bytes())?,
@@ -153,7 +163,10 @@ impl Sections {
 
     /// The sections with more bytes of data.
     fn with_bytes(mut self, bytes: &[u8]) -> Result<Self, AllocError>
-        ensures { IfOk result (λ sections. sections ≡ record self { bytes = self.bytes ++ bytes.now }) }
+        ensures { IfOk result (λ sections. sections ≡ record self {
+          bytes = self.bytes ++
+              bytes.now;
+        }) }
     {
         self.bytes.extend_from_slice(bytes)?;
         Ok(self)
@@ -161,7 +174,10 @@ impl Sections {
 
     /// The sections with so many zeros more in the data.
     fn with_zeros(mut self, count: u32) -> Result<Self, AllocError>
-        ensures { IfOk result (λ sections. sections ≡ record self { bytes = self.bytes ++ replicate count 0 }) }
+        ensures { IfOk result (λ sections. sections ≡ record self {
+          bytes = self.bytes ++
+              replicate count 0;
+        }) }
     {
         for _ in 0..count {
             self.bytes.push(0)?;

@@ -5,7 +5,8 @@ ghost use Rattle.rv_isa.specs.Table.{Agrees, insn_of};
 /// A word stands for one instruction.
 #[tactic(auto, using(crate::specs::TableLaws::agrees_with_one))]
 pub fn one_instruction()
-    ensures { (word : ℕ) (first second : Insn) → Agrees word first → Agrees word second → first ≡ second }
+    ensures { (word : ℕ) (first second : Insn) → Agrees word first → Agrees word second →
+        first ≡ second }
 {}
 
 /// An instruction has one word.

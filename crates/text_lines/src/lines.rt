@@ -5,7 +5,8 @@ ghost use Rattle.text_lines.specs.Text.{lines_of, is_line_end};
 /// may do without; a carriage return is a byte of its line.
 #[tactic(auto, using(crate::proofs::Parts::parts_at_end_found, crate::proofs::Parts::parts_at_no_end))]
 pub fn next_line(text: &[u8]) -> Option<(&[u8], &[u8])>
-    ensures lines { MatchOption result (lines_of text.now ≡ []) (λ cut. lines_of text.now ≡ cut.0.now ∷ lines_of cut.1.now) }
+    ensures lines { MatchOption result (lines_of text.now ≡ []) (λ cut. lines_of text.now ≡
+        cut.0.now ∷ lines_of cut.1.now) }
     ensures shorter { IfSome result (λ cut. length cut.1.now < length text.now) }
 {
     if text.is_empty() {

@@ -3,7 +3,8 @@ ghost use Rattle.text_lines.specs.Text.{words_of, parts_at, is_blank};
 
 /// The first word of a line, and what follows it. Words are parted by spaces and tabs.
 pub fn next_word(line: &[u8]) -> Option<(&[u8], &[u8])>
-    ensures words { MatchOption result (words_of line.now ≡ []) (λ cut. words_of line.now ≡ cut.0.now ∷ words_of cut.1.now) }
+    ensures words { MatchOption result (words_of line.now ≡ []) (λ cut. words_of line.now ≡
+        cut.0.now ∷ words_of cut.1.now) }
     ensures shorter { IfSome result (λ cut. length cut.1.now < length line.now) }
 {
     let mut rest = line;

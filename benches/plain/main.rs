@@ -51,17 +51,22 @@ fn debug<T: debug_core::Target>(name: &str, point: &str, target: T) {
     println!("debug {name} {point} {why:?} steps {steps} seconds {:.3}", processor_time() - begin);
 }
 
+fn hash(bytes: &[u8]) -> u64 {
+    bytes.iter().fold(0xcbf2_9ce4_8422_2325, |sum, byte| (sum ^ *byte as u64).wrapping_mul(0x100_0000_01b3))
+}
+
 fn main() {
     let words: Vec<String> = std::env::args().skip(1).collect();
     let words: Vec<&str> = words.iter().map(|word| word.as_str()).collect();
+    let limit: u64 = std::env::var("LIMIT").ok().and_then(|text| text.parse().ok()).unwrap_or(1_000_000_000);
     let none = || roomy(Vec::<u8>::new());
     match words[..] {
         ["flat", guest] => {
             let mut process = flat_machine::FlatProcess::new(Global, &image(guest), none()).unwrap();
             let begin = processor_time();
-            let steps = process.run_for(1_000_000_000).ok().unwrap();
+            let steps = process.run_for(limit).ok().unwrap();
             let seconds = processor_time() - begin;
-            println!("flat output {} steps {steps} seconds {seconds:.3}", process.output().len());
+            println!("flat output {} hash {:x} end {:?} steps {steps} seconds {seconds:.3}", process.output().len(), hash(process.output()), process.end());
         }
         ["serial", frames, slice, ref guests @ ..] if !guests.is_empty() => {
             let frames: u32 = frames.parse().unwrap();
@@ -70,12 +75,12 @@ fn main() {
             let mut core: machine_core::Core<Brand, swap_slots::MemorySlot, clock_ring::ClockRing> =
                 machine_core::Core::new(Global, frames, Blank::new(0), slots, processes).ok().unwrap();
             let begin = processor_time();
-            let report = serial_driver::run_serial(Global, &mut core, slice.parse().unwrap(), 1_000_000_000).unwrap();
+            let report = serial_driver::run_serial(Global, &mut core, slice.parse().unwrap(), limit).unwrap();
             let seconds = processor_time() - begin;
             let first = &report.processes[0];
             println!(
-                "serial output {} steps {} page-ins {} victims {} saves {} audit {} seconds {seconds:.3}",
-                first.output.len(), first.steps, report.page_ins, report.victims, report.saves, report.audit
+                "serial output {} hash {:x} end {:?} steps {} page-ins {} victims {} saves {} audit {} seconds {seconds:.3}",
+                first.output.len(), hash(&first.output), first.end, first.steps, report.page_ins, report.victims, report.saves, report.audit
             );
         }
         ["debug", point, guest] => {

@@ -708,3 +708,10 @@ pub mod sha2 {
         }
     }
 }
+
+/// What the proved program has where a match is proved not to come: a trap.
+#[cold]
+#[inline(never)]
+pub fn never() -> ! {
+    std::process::abort()
+}

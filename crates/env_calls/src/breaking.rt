@@ -14,13 +14,15 @@ use rv_exec::{Bus, Regs};
 /// Serves a request to move the break: the break that stands is the answer.
 #[tactic(auto, unfolding(crate::specs::Calls::move_break, crate::specs::Calls::answers))]
 pub fn serve_break<B: Bus>(env: &mut Env, regs: &mut Regs, bus: &mut B) -> Result<Served, ServeStop>
-    ensures served { let effect = move_break regs.old env.old (B.memory bus.old) (register regs.old a0) in
+    ensures served { let effect = move_break regs.old env.old (B.memory bus.old)
+        (register regs.old a0) in
         IfOk result (λ served. Serves effect served regs.new env.new (B.memory bus.new)) }
     ensures regs_stay { OnErr result (regs.new ≡ regs.old) }
     ensures env_stays { OnErr result (env.new ≡ env.old) }
     ensures memory_stays { OnErr result (B.memory bus.new ≡ B.memory bus.old) }
     ensures stop { OnErr result (result ≡ Err ServeStop.NoMemory) }
-    ensures no_memory { let effect = move_break regs.old env.old (B.memory bus.old) (register regs.old a0) in
+    ensures no_memory { let effect = move_break regs.old env.old (B.memory bus.old)
+        (register regs.old a0) in
         result ≡ Err ServeStop.NoMemory → TakesMemory env.old effect }
     ensures bound { Bounds (B.within bus.old) (B.within bus.new) [] [] }
     ensures kept { B.keeps bus.old bus.new }

@@ -158,7 +158,10 @@ impl Env {
 
     /// Writes bytes behind the others.
     pub(crate) fn write(&mut self, bytes: &[u8]) -> Result<(), AllocError>
-        ensures ok { OnOk result (self.new ≡ record self.old { output = self.old.output ++ bytes.now }) }
+        ensures ok { OnOk result (self.new ≡ record self.old {
+          output = self.old.output ++
+              bytes.now;
+        }) }
         ensures err { OnErr result (self.new ≡ self.old) }
     {
         self.output.extend_from_slice(bytes)
@@ -177,7 +180,11 @@ impl Env {
     /// Moves the break, where that was granted, past so many new pages.
     pub(crate) fn set_break(&mut self, break_at: u32, count: u32)
         requires { self.old.pages + count ≤ most_pages }
-        ensures { self.new ≡ record self.old { break_at = break_at; pages = self.old.pages + count } }
+        ensures { self.new ≡ record self.old {
+          break_at = break_at;
+          pages = self.old.pages +
+              count;
+        } }
     {
         self.break_at = break_at;
         self.pages += count;
@@ -194,7 +201,8 @@ impl Env {
     /// A hart is live no more, if another one is: whether that is so.
     pub(crate) fn end_hart(&mut self, hart: u32) -> bool
         ensures others { result ≡ any_live (without hart self.old.live) }
-        ensures done { OnTrue result (self.new ≡ record self.old { live = without hart self.old.live }) }
+        ensures done { OnTrue result (self.new ≡
+            record self.old { live = without hart self.old.live }) }
         ensures last { OnFalse result (self.new ≡ self.old) }
     {
         self.harts.end_beside_others(hart as usize)

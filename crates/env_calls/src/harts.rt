@@ -14,7 +14,8 @@ use rv_exec::Regs;
 /// Serves the end of a hart: the last live one ends its process.
 #[tactic(auto, unfolding(crate::specs::Calls::end_hart))]
 pub fn serve_end_hart(env: &mut Env, hart: u32, regs: &mut Regs) -> Served
-    ensures served { (memory : Memory) → Serves (end_hart hart regs.old env.old memory) result regs.new env.new memory }
+    ensures served { (memory : Memory) →
+        Serves (end_hart hart regs.old env.old memory) result regs.new env.new memory }
 {
     let status = regs.x(A0);
     regs.set_pc(regs.next_pc());
@@ -28,7 +29,8 @@ pub fn serve_end_hart(env: &mut Env, hart: u32, regs: &mut Regs) -> Served
 /// Serves a spawn.
 #[tactic(auto, unfolding(crate::specs::Calls::spawn, crate::specs::Calls::answers))]
 pub fn serve_spawn(env: &mut Env, regs: &mut Regs) -> Served
-    ensures served { (memory : Memory) → Serves (spawn regs.old env.old memory) result regs.new env.new memory }
+    ensures served { (memory : Memory) → Serves (spawn regs.old env.old memory) result regs.new
+        env.new memory }
 {
     let started = env.marks().len();
     if started < MOST_HARTS {

@@ -47,7 +47,8 @@ pub fn serve<B: Bus>(
         Bounds (B.within bus.old) (B.within bus.new) (call_pages regs.old memory) (call_stores regs.old memory) }
 
     // Only output and new pages take memory.
-    ensures no_memory { result ≡ Err ServeStop.NoMemory → TakesMemory env.old (call hart regs.old env.old (B.memory bus.old)) }
+    ensures no_memory { result ≡ Err ServeStop.NoMemory →
+        TakesMemory env.old (call hart regs.old env.old (B.memory bus.old)) }
     ensures kept { B.keeps bus.old bus.new }
 {
     match Call::from_number(regs.x(A7)) {

@@ -54,7 +54,8 @@ pub fn step<B: Bus>(
         Bounds (B.within bus.old) (B.within bus.new) (step_pages hart regs.old memory) (step_stores hart regs.old memory) }
 
     // Only output and new pages take memory.
-    ensures no_memory { result ≡ Err ServeStop.NoMemory → TakesMemory env.old (effect hart regs.old env.old (B.memory bus.old)) }
+    ensures no_memory { result ≡ Err ServeStop.NoMemory →
+        TakesMemory env.old (effect hart regs.old env.old (B.memory bus.old)) }
     ensures kept { B.keeps bus.old bus.new }
 {
     match execute(hart, regs, bus) {
@@ -85,12 +86,14 @@ pub fn finish<B: Bus>(
     ensures memory_stays { Stays result (B.memory bus.new ≡ B.memory bus.old) }
 
     // The call's pages, as `serve` answers of them; with no call the outcome says what the answer is.
-    ensures pages { RestUses (B.has bus.old) (B.marks bus.new) (B.lacks bus.old) outcome regs.old (B.memory bus.old) result }
+    ensures pages { RestUses (B.has bus.old) (B.marks bus.new) (B.lacks bus.old) outcome regs.old
+        (B.memory bus.old) result }
     ensures bound { let memory = B.memory bus.old in
         Bounds (B.within bus.old) (B.within bus.new) (rest_pages outcome regs.old memory) (rest_stores outcome regs.old memory) }
 
     // Only output and new pages take memory.
-    ensures no_memory { result ≡ Err ServeStop.NoMemory → TakesMemory env.old (rest_effect outcome hart regs.old env.old (B.memory bus.old)) }
+    ensures no_memory { result ≡ Err ServeStop.NoMemory →
+        TakesMemory env.old (rest_effect outcome hart regs.old env.old (B.memory bus.old)) }
     ensures kept { B.keeps bus.old bus.new }
 {
     match outcome {

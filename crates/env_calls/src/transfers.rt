@@ -47,9 +47,11 @@ pub fn serve_read<B: Bus>(env: &mut Env, regs: &mut Regs, bus: &mut B) -> Result
     ensures regs_stay { OnErr result (regs.new ≡ regs.old) }
     ensures env_stays { OnErr result (env.new ≡ env.old) }
     ensures memory_stays { OnErr result (B.memory bus.new ≡ B.memory bus.old) }
-    ensures pages { let used = read_pages (B.memory bus.old) (register regs.old a1) (register regs.old a2) in
+    ensures pages { let used = read_pages (B.memory bus.old) (register regs.old a1)
+        (register regs.old a2) in
         UsesPages (B.has bus.old) (B.marks bus.new) (B.lacks bus.old) used result }
-    ensures bound { let used = read_pages (B.memory bus.old) (register regs.old a1) (register regs.old a2) in
+    ensures bound { let used = read_pages (B.memory bus.old) (register regs.old a1)
+        (register regs.old a2) in
         Bounds (B.within bus.old) (B.within bus.new) used used }
     ensures no_memory { result ≢ Err ServeStop.NoMemory }
     ensures kept { B.keeps bus.old bus.new }
@@ -81,9 +83,11 @@ fn read_in_page<B: Bus>(
     ensures regs_stay { OnErr result (regs.new ≡ regs.old) }
     ensures env_stays { OnErr result (env.new ≡ env.old) }
     ensures memory_stays { OnErr result (B.memory bus.new ≡ B.memory bus.old) }
-    ensures pages { let used = page_of_access address (usable (B.memory bus.old).pages Access.Store address) in
+    ensures pages { let used = page_of_access address
+        (usable (B.memory bus.old).pages Access.Store address) in
         UsesPages (B.has bus.old) (B.marks bus.new) (B.lacks bus.old) used result }
-    ensures bound { let used = page_of_access address (usable (B.memory bus.old).pages Access.Store address) in
+    ensures bound { let used = page_of_access address
+        (usable (B.memory bus.old).pages Access.Store address) in
         Bounds (B.within bus.old) (B.within bus.new) used used }
     ensures no_memory { result ≢ Err ServeStop.NoMemory }
     ensures kept { B.keeps bus.old bus.new }
@@ -107,9 +111,11 @@ pub fn serve_write<B: Bus>(env: &mut Env, regs: &mut Regs, bus: &mut B) -> Resul
     ensures regs_stay { OnErr result (regs.new ≡ regs.old) }
     ensures env_stays { OnErr result (env.new ≡ env.old) }
     ensures memory_stays { OnErr result (B.memory bus.new ≡ B.memory bus.old) }
-    ensures pages { let used = write_pages (B.memory bus.old) (register regs.old a1) (register regs.old a2) in
+    ensures pages { let used = write_pages (B.memory bus.old) (register regs.old a1)
+        (register regs.old a2) in
         UsesPages (B.has bus.old) (B.marks bus.new) (B.lacks bus.old) used result }
-    ensures bound { let used = write_pages (B.memory bus.old) (register regs.old a1) (register regs.old a2) in
+    ensures bound { let used = write_pages (B.memory bus.old) (register regs.old a1)
+        (register regs.old a2) in
         Bounds (B.within bus.old) (B.within bus.new) used [] }
     ensures no_memory { let memory = B.memory bus.old in
         let effect = write regs.old env.old memory (register regs.old a1) (register regs.old a2) in
@@ -142,9 +148,11 @@ fn write_in_page<B: Bus>(
     ensures regs_stay { OnErr result (regs.new ≡ regs.old) }
     ensures env_stays { OnErr result (env.new ≡ env.old) }
     ensures memory_stays { OnErr result (B.memory bus.new ≡ B.memory bus.old) }
-    ensures pages { let used = page_of_access address (copied_out (B.memory bus.old) address count) in
+    ensures pages { let used = page_of_access address (copied_out (B.memory bus.old) address count)
+        in
         UsesPages (B.has bus.old) (B.marks bus.new) (B.lacks bus.old) used result }
-    ensures bound { let used = page_of_access address (copied_out (B.memory bus.old) address count) in
+    ensures bound { let used = page_of_access address (copied_out (B.memory bus.old) address count)
+        in
         Bounds (B.within bus.old) (B.within bus.new) used [] }
     ensures no_memory { let bytes = copied_out (B.memory bus.old) address count in
         let effect = wrote regs.old env.old (B.memory bus.old) count bytes in

@@ -23,10 +23,12 @@ impl FlatProcess {
     /// At first it is the turn of hart 0, or where that is not live of the least live one; after a step of
     /// a hart, of the least live one above it, else of the least live one.
     pub fn run_for(&mut self, limit: u64) -> Result<u64, OutOfMemory>
-        ensures ran { IfOk result (λ steps. (turn : ℕ) × (by_turns steps (first_turn self.old) self.old ≡ Some (turn, self.new))) }
+        ensures ran { IfOk result (λ steps. (turn : ℕ) ×
+            (by_turns steps (first_turn self.old) self.old ≡ Some (turn, self.new))) }
         ensures within { IfOk result (λ steps. steps ≤ limit) }
         ensures ended { IfOk result (λ steps. steps < limit → IsSome self.new.ending) }
-        ensures memory { IfErr result (λ stop. (stop.steps < limit) × WantsAt (first_turn self.old) self.old stop.steps self.new) }
+        ensures memory { IfErr result (λ stop. (stop.steps < limit) ×
+            WantsAt (first_turn self.old) self.old stop.steps self.new) }
     {
         let mut steps: u64 = 0;
         let mut hart = self.first_turn();
@@ -51,9 +53,11 @@ impl FlatProcess {
     fn run_turn(&mut self, hart: u32, most: u64) -> Result<u64, OutOfMemory>
         requires may { may_step hart self.old ≡ true }
         requires some { 0 < most }
-        ensures ran { IfOk result (λ steps. by_turns steps hart self.old ≡ Some (turn_after hart self.new, self.new)) }
+        ensures ran { IfOk result (λ steps. by_turns steps hart self.old ≡
+            Some (turn_after hart self.new, self.new)) }
         ensures within { IfOk result (λ steps. (0 < steps) × (steps ≤ most)) }
-        ensures memory { IfErr result (λ stop. (stop.steps < most) × WantsAt hart self.old stop.steps self.new) }
+        ensures memory { IfErr result (λ stop. (stop.steps < most) ×
+            WantsAt hart self.old stop.steps self.new) }
     {
         if self.turn_after(hart) == hart {
             self.run_alone(hart, most)
@@ -69,10 +73,12 @@ impl FlatProcess {
     fn run_alone(&mut self, hart: u32, most: u64) -> Result<u64, OutOfMemory>
         requires may { may_step hart self.old ≡ true }
         requires alone { turn_after hart self.old ≡ hart }
-        ensures ran { IfOk result (λ steps. by_turns steps hart self.old ≡ Some (turn_after hart self.new, self.new)) }
+        ensures ran { IfOk result (λ steps. by_turns steps hart self.old ≡
+            Some (turn_after hart self.new, self.new)) }
         ensures some { IfOk result (λ steps. 0 < most → 0 < steps) }
         ensures within { IfOk result (λ steps. steps ≤ most) }
-        ensures memory { IfErr result (λ stop. (stop.steps < most) × WantsAt hart self.old stop.steps self.new) }
+        ensures memory { IfErr result (λ stop. (stop.steps < most) ×
+            WantsAt hart self.old stop.steps self.new) }
     {
         let mut steps: u64 = 0;
         while steps < most {

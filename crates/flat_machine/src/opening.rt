@@ -89,7 +89,8 @@ fn opening_memory(alloc: Global, pages: &[ImagePage]) -> Result<FlatMemory, Allo
 /// The memory of an image's pages.
 fn image_memory(alloc: Global, pages: &[ImagePage]) -> Result<FlatMemory, AllocError>
     requires { ArePages pages.now }
-    ensures { IfOk result (λ memory. memory ≡ unreserved (from_entries (map image_entry pages.now))) }
+    ensures { IfOk result (λ memory. memory ≡ unreserved
+        (from_entries (map image_entry pages.now))) }
 {
     let mut memory = FlatMemory::new(alloc)?;
     for listed in pages {

@@ -24,7 +24,8 @@ pub(crate) fn run_plainly(hart: u32, regs: &mut Regs, memory: &mut FlatMemory, m
 /// The same where pc is at hand.
 #[inline(always)]
 fn run_at_hand(hart: u32, pc: &mut u32, regs: &mut Regs, memory: &mut FlatMemory, most: u64) -> u64
-    ensures ran { plain_run hart result (with_pc regs.old pc.old) memory.old ≡ Some (with_pc regs.new pc.new, memory.new) }
+    ensures ran { plain_run hart result (with_pc regs.old pc.old) memory.old ≡
+        Some (with_pc regs.new pc.new, memory.new) }
     ensures within { result ≤ most }
     ensures stopped { result < most → plain_step hart (with_pc regs.new pc.new, memory.new) ≡ None }
 {

@@ -12,7 +12,8 @@ impl FlatProcess {
     /// stand.
     pub fn run(&mut self, schedule: &Schedule) -> Result<(), (StepRefusal, u64)>
         ensures ok { OnOk result (flat_run (written_out schedule.now) self.old ≡ Some self.new) }
-        ensures refused { IfErr result (λ stop. StopsAt (written_out schedule.now) self.old stop.0 stop.1 self.new) }
+        ensures refused { IfErr result (λ stop.
+            StopsAt (written_out schedule.now) self.old stop.0 stop.1 self.new) }
     {
         let mut before: u64 = 0;
         for turn in schedule.turns() {
@@ -27,7 +28,9 @@ impl FlatProcess {
     /// Steps one hart so many times.
     fn repeat(&mut self, hart: u32, count: u32) -> Result<(), (StepRefusal, u32)>
         ensures ok { OnOk result (flat_run (replicate count hart) self.old ≡ Some self.new) }
-        ensures refused { IfErr result (λ stop. (stop.1 < count) × (flat_run (replicate stop.1 hart) self.old ≡ Some self.new) × RefusesStep stop.0 hart self.new) }
+        ensures refused { IfErr result (λ stop. (stop.1 < count) ×
+            (flat_run (replicate stop.1 hart) self.old ≡ Some self.new) ×
+            RefusesStep stop.0 hart self.new) }
     {
         for done in 0..count {
             if let Err(refusal) = self.step(hart) {

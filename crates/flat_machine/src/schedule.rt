@@ -78,6 +78,7 @@ impl Schedule {
         ensures recorded { written_out self.new ≡ written_out self.old ++ replicate count hart }
         ensures left { room self.new hart + count ≡ room self.old hart }
     {
+        // For the proof alone: a read tells its invariant.
         let _ = &self.turns;
         let rest = rest_in_last(self.turns(), hart);
         let more = count.min(rest);
@@ -94,9 +95,11 @@ impl Schedule {
     pub fn push(&mut self, hart: u32) -> Result<(), ScheduleFull>
         ensures exact { is_ok result ≡ fits self.old hart }
         ensures ok { OnOk result (written_out self.new ≡ written_out self.old ++ hart ∷ []) }
-        ensures full { OnErr result ((length self.old ≡ most_turns) × (rest_in_last self.old hart ≡ 0)) }
+        ensures full { OnErr result ((length self.old ≡ most_turns) ×
+            (rest_in_last self.old hart ≡ 0)) }
         ensures err { OnErr result (self.new ≡ self.old) }
     {
+        // For the proof alone: a read tells its invariant.
         let _ = &self.turns;
         if self.fits(hart) {
             self.record(hart, 1);

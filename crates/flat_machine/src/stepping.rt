@@ -46,7 +46,8 @@ impl FlatProcess {
     pub(crate) fn step_live(&mut self, hart: u32) -> Result<bool, AllocError>
         requires { may_step hart self.old ≡ true }
         ensures ok { OnOk result (flat_step hart self.old ≡ Some self.new) }
-        ensures same { IfOk result (λ same. same ≡ true → (self.new.ending ≡ None) × (self.new.environment.live ≡ self.old.environment.live)) }
+        ensures same { IfOk result (λ same. same ≡ true → (self.new.ending ≡ None) ×
+            (self.new.environment.live ≡ self.old.environment.live)) }
         ensures wants { OnErr result (WantsMemory hart self.old) }
         ensures err { OnErr result (self.new ≡ self.old) }
     {
@@ -63,8 +64,10 @@ impl FlatProcess {
         requires { may_step hart self.old ≡ true }
         ensures none { result ≡ 0 → self.new ≡ self.old }
         ensures one { result ≡ 1 → flat_step hart self.old ≡ Some self.new }
-        ensures alone { turn_after hart self.old ≡ hart → by_turns result hart self.old ≡ Some (hart, self.new) }
-        ensures same { (self.new.ending ≡ None) × (self.new.environment.live ≡ self.old.environment.live) }
+        ensures alone { turn_after hart self.old ≡ hart → by_turns result hart self.old ≡
+            Some (hart, self.new) }
+        ensures same { (self.new.ending ≡ None) ×
+            (self.new.environment.live ≡ self.old.environment.live) }
         ensures within { result ≤ most }
     {
         let regs = &mut self.harts[hart as usize];
@@ -77,7 +80,8 @@ impl FlatProcess {
     pub(crate) fn step_fully(&mut self, hart: u32) -> Result<bool, AllocError>
         requires { may_step hart self.old ≡ true }
         ensures ok { OnOk result (flat_step hart self.old ≡ Some self.new) }
-        ensures same { IfOk result (λ same. same ≡ true → (self.new.ending ≡ None) × (self.new.environment.live ≡ self.old.environment.live)) }
+        ensures same { IfOk result (λ same. same ≡ true → (self.new.ending ≡ None) ×
+            (self.new.environment.live ≡ self.old.environment.live)) }
         ensures wants { OnErr result (WantsMemory hart self.old) }
         ensures err { OnErr result (self.new ≡ self.old) }
     {

@@ -99,6 +99,7 @@ impl<L: Ledger> FramePool<L> {
         ensures size { self.new.size ≡ self.old.size }
     {
         let frame = self.free.pop()?;
+        // For the proof alone: a read tells that what is read is lawful.
         let _bytes = frame.bytes();
         Some(frame)
     }

@@ -21,8 +21,10 @@ pub(crate) fn place_allowed(
     requires { number < 2 ^ 20 }
     ensures place { IfOk result (λ place. place_of number pages.now ≡ Some place) }
     ensures within { IfOk result (λ place. place < length pages.now) }
-    ensures allowed { IfOk result (λ place. IsSomeAnd (value_at place pages.now) (λ page. IsTrue (may access page.rights))) }
-    ensures fault { IfErr result (λ fault. with_right access (map.get (map.from_entries {R = nat_cmp} pages.now) number) ≡ Err fault) }
+    ensures allowed { IfOk result (λ place. IsSomeAnd (value_at place pages.now) (λ page.
+        IsTrue (may access page.rights))) }
+    ensures fault { IfErr result (λ fault. with_right access
+        (map.get (map.from_entries {R = nat_cmp} pages.now) number) ≡ Err fault) }
 {
     let Some(place) = pages.place(number) else {
         return Err(MemoryFault::PageFault);

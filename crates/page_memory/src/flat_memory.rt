@@ -52,7 +52,10 @@ impl FlatMemory {
     pub fn map_page(&mut self, number: u32, page: Page) -> Result<(), AllocError>
         requires small { number < 2 ^ 20 }
         requires absent { map.get self.old.pages number ≡ None }
-        ensures ok { OnOk result (self.new ≡ record self.old { pages = map.insert self.old.pages number page }) }
+        ensures ok { OnOk result (self.new ≡ record self.old {
+          pages = map.insert self.old.pages
+              number page;
+        }) }
         ensures err { OnErr result (self.new ≡ self.old) }
     {
         self.pages.map_page(number, page)
@@ -91,7 +94,8 @@ impl FlatMemory {
     /// Loads the word that an atomic instruction is to replace: its page needs the right to write.
     #[inline]
     pub fn load_to_replace(&self, address: u32) -> Result<u32, MemoryFault>
-        ensures { result ≡ answer_by (number_at 4 address) (aligned_page self.now.pages Access.Store 4 address) }
+        ensures { result ≡ answer_by (number_at 4 address)
+            (aligned_page self.now.pages Access.Store 4 address) }
     {
         self.pages.load_to_replace(address)
     }
@@ -114,7 +118,8 @@ impl FlatMemory {
 
     /// Loads the word at an address, and reserves it for a hart.
     pub fn load_reserved(&mut self, hart: u32, address: u32) -> Result<u32, MemoryFault>
-        ensures ok { IfOk result (λ word. loaded_reserved self.old hart address ≡ Ok (word, self.new)) }
+        ensures ok { IfOk result (λ word. loaded_reserved self.old hart address ≡
+            Ok (word, self.new)) }
         ensures fault { IfErr result (λ fault. loaded_reserved self.old hart address ≡ Err fault) }
         ensures err { OnErr result (self.new ≡ self.old) }
     {
@@ -134,8 +139,10 @@ impl FlatMemory {
         address: u32,
         word: u32,
     ) -> Result<bool, MemoryFault>
-        ensures ok { IfOk result (λ is_stored. stored_conditionally self.old hart address word ≡ Ok (is_stored, self.new)) }
-        ensures fault { IfErr result (λ fault. stored_conditionally self.old hart address word ≡ Err fault) }
+        ensures ok { IfOk result (λ is_stored. stored_conditionally self.old hart address word ≡
+            Ok (is_stored, self.new)) }
+        ensures fault { IfErr result (λ fault. stored_conditionally self.old hart address word ≡
+            Err fault) }
         ensures err { OnErr result (self.new ≡ self.old) }
     {
         if self.reservations.has(hart, address) {
@@ -162,7 +169,8 @@ impl FlatMemory {
     pub fn copy_out(&self, address: u32, to: &mut [u8]) -> Result<(), MemoryFault>
         requires { page_offset address + length to.old ≤ 4096 }
         ensures ok { OnOk result (copied_out self.now address (length to.old) ≡ Ok to.new) }
-        ensures fault { IfErr result (λ fault. copied_out self.now address (length to.old) ≡ Err fault) }
+        ensures fault { IfErr result (λ fault. copied_out self.now address (length to.old) ≡
+            Err fault) }
         ensures err { OnErr result (to.new ≡ to.old) }
     {
         self.pages.copy_out(address, to)

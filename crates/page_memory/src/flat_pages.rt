@@ -161,7 +161,8 @@ impl FlatPages {
     #[inline]
     #[tactic(auto, using(crate::proofs::PageRows::replacing))]
     pub fn load_to_replace(&self, address: u32) -> Result<u32, MemoryFault>
-        ensures { result ≡ answer_by (number_at 4 address) (aligned_page self.now Access.Store 4 address) }
+        ensures { result ≡ answer_by (number_at 4 address)
+            (aligned_page self.now Access.Store 4 address) }
     {
         if address % 4 != 0 {
             return Err(MemoryFault::Misaligned);
@@ -209,7 +210,8 @@ impl FlatPages {
     pub fn copy_out(&self, address: u32, to: &mut [u8]) -> Result<(), MemoryFault>
         requires { page_offset address + length to.old ≤ 4096 }
         ensures ok { OnOk result (copied_out self.now address (length to.old) ≡ Ok to.new) }
-        ensures fault { IfErr result (λ fault. copied_out self.now address (length to.old) ≡ Err fault) }
+        ensures fault { IfErr result (λ fault. copied_out self.now address (length to.old) ≡
+            Err fault) }
         ensures err { OnErr result (to.new ≡ to.old) }
     {
         let page = self.usable_bytes(Access::Load, address)?;
@@ -244,7 +246,9 @@ impl FlatPages {
     /// The bytes of the page that an access may use.
     #[inline]
     fn usable_bytes(&self, access: Access, address: u32) -> Result<&[u8], MemoryFault>
-        ensures bytes { MatchResult result (λ bytes. answer_by (λ page. page.bytes) (usable self.now access address) ≡ Ok bytes.now) (λ fault. usable self.now access address ≡ Err fault) }
+        ensures bytes { MatchResult result (λ bytes. answer_by (λ page. page.bytes)
+            (usable self.now access address) ≡ Ok bytes.now) (λ fault.
+            usable self.now access address ≡ Err fault) }
         ensures whole { IfOk result (λ bytes. length bytes.now ≡ 4096) }
     {
         match place_allowed(&self.pages, page_of(address), access) {

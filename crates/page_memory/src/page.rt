@@ -30,7 +30,8 @@ impl Model for Page {
 impl Page {
     /// A page of zeros.
     pub fn zeroed(alloc: Global, rights: Rights) -> Result<Self, AllocError>
-        ensures { IfOk result (λ page. page ≡ record { rights = rights; bytes = replicate 4096 0 }) }
+        ensures { IfOk result (λ page. page ≡
+            record { rights = rights; bytes = replicate 4096 0 }) }
     {
         Ok(Page {
             rights,
@@ -72,7 +73,10 @@ impl Page {
     #[inline]
     pub fn put_number(&mut self, width: Width, address: u32, word: u32)
         requires { address % bytes_in width ≡ 0 }
-        ensures { self.new ≡ record self.old { bytes = overwritten self.old.bytes (page_offset address) (little_bytes (bytes_in width) word) } }
+        ensures { self.new ≡ record self.old {
+          bytes = overwritten self.old.bytes
+              (page_offset address) (little_bytes (bytes_in width) word);
+        } }
     {
         put_number(self.bytes.as_mut_slice(), width, address, word);
     }
@@ -80,7 +84,9 @@ impl Page {
     /// Writes bytes from an offset on.
     pub fn put_bytes(&mut self, offset: usize, bytes: &[u8])
         requires { offset + length bytes.now ≤ 4096 }
-        ensures { self.new ≡ record self.old { bytes = overwritten self.old.bytes offset bytes.now } }
+        ensures { self.new ≡ record self.old {
+          bytes = overwritten self.old.bytes offset bytes.now;
+        } }
     {
         put_bytes(self.bytes.as_mut_slice(), offset, bytes);
     }

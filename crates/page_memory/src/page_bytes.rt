@@ -27,7 +27,8 @@ pub fn number(page: &[u8], width: Width, address: u32) -> u32
 pub fn put_number(page: &mut [u8], width: Width, address: u32, word: u32)
     requires whole { length page.old ≡ 4096 }
     requires aligned { address % bytes_in width ≡ 0 }
-    ensures { page.new ≡ overwritten page.old (page_offset address) (little_bytes (bytes_in width) word) }
+    ensures { page.new ≡ overwritten page.old (page_offset address)
+        (little_bytes (bytes_in width) word) }
 {
     let offset = offset_in_page(address);
     match width {

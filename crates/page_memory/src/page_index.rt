@@ -59,6 +59,7 @@ impl PageIndex {
         ensures page { result ≡ slice_index self.now place }
         ensures small { result < 2 ^ 20 }
     {
+        // For the proof alone: a read tells its invariant.
         let _ = &self.directory;
         self.pages[place]
     }
@@ -81,10 +82,14 @@ impl PageIndex {
     /// The first listed page number, in the order of numbers, from this one on.
     pub fn first_from(&self, from: u32) -> Option<u32>
         ensures within { IfSome result (λ page. (from ≤ page) × (page < 2 ^ 20)) }
-        ensures listed { IfSome result (λ page. is_some (position (λ listed. listed == page) self.now) ≡ true) }
-        ensures before { IfSome result (λ page. (q : ℕ) → from ≤ q → q < page → position (λ listed. listed == q) self.now ≡ None) }
-        ensures none { IfNone result ((q : ℕ) → from ≤ q → q < 2 ^ 20 → position (λ listed. listed == q) self.now ≡ None) }
+        ensures listed { IfSome result (λ page.
+            is_some (position (λ listed. listed == page) self.now) ≡ true) }
+        ensures before { IfSome result (λ page. (q : ℕ) → from ≤ q → q < page →
+            position (λ listed. listed == q) self.now ≡ None) }
+        ensures none { IfNone result ((q : ℕ) → from ≤ q → q < 2 ^ 20 →
+            position (λ listed. listed == q) self.now ≡ None) }
     {
+        // For the proof alone: a read tells its invariant.
         let _ = &self.pages;
         first_kept(&self.directory, from)
     }

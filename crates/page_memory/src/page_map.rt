@@ -48,6 +48,7 @@ impl<T> PageMap<T> {
     pub fn len(&self) -> usize
         ensures { result ≡ length self.now }
     {
+        // For the proof alone: a read tells its invariant.
         let _ = &self.index;
         self.values.len()
     }
@@ -60,6 +61,7 @@ impl<T> PageMap<T> {
         ensures page { result ≡ slice_index (pages_of self.now) place }
         ensures small { result < 2 ^ 20 }
     {
+        // For the proof alone: a read tells its invariant.
         let _ = &self.values;
         self.index.page(place)
     }
@@ -72,6 +74,7 @@ impl<T> PageMap<T> {
         ensures place { result ≡ place_of page self.now }
         ensures within { IfSome result (λ place. place < length self.now) }
     {
+        // For the proof alone: a read tells its invariant.
         let _ = &self.values;
         self.index.find(page)
     }
@@ -81,9 +84,12 @@ impl<T> PageMap<T> {
     pub fn first_from(&self, from: u32) -> Option<u32>
         ensures within { IfSome result (λ page. (from ≤ page) × (page < 2 ^ 20)) }
         ensures listed { IfSome result (λ page. is_some (place_of page self.now) ≡ true) }
-        ensures before { IfSome result (λ page. (q : ℕ) → from ≤ q → q < page → place_of q self.now ≡ None) }
-        ensures none { IfNone result ((q : ℕ) → from ≤ q → q < 2 ^ 20 → place_of q self.now ≡ None) }
+        ensures before { IfSome result (λ page. (q : ℕ) → from ≤ q → q < page →
+            place_of q self.now ≡ None) }
+        ensures none { IfNone result ((q : ℕ) → from ≤ q → q < 2 ^ 20 →
+            place_of q self.now ≡ None) }
     {
+        // For the proof alone: a read tells its invariant.
         let _ = &self.values;
         self.index.first_from(from)
     }
@@ -94,6 +100,7 @@ impl<T> PageMap<T> {
         requires { place < length self.now }
         ensures { value_at place self.now ≡ Some result.now }
     {
+        // For the proof alone: a read tells its invariant.
         let _ = &self.index;
         &self.values[place]
     }
@@ -105,6 +112,7 @@ impl<T> PageMap<T> {
         ensures* writes_back { sem 𝓛 (LendsValue T.row self.entry place result) }
         ensures value { value_at place self.old ≡ Some result.now }
     {
+        // For the proof alone: a read tells its invariant.
         let _ = &self.index;
         &mut self.values[place]
     }

@@ -55,6 +55,7 @@ impl PageRow {
     pub fn len(&self) -> usize
         ensures { result ≡ length self.now }
     {
+        // For the proof alone: a read tells its invariant.
         let _ = &self.bytes;
         self.rights.len()
     }
@@ -67,6 +68,7 @@ impl PageRow {
         ensures place { result ≡ place_of page self.now }
         ensures within { IfSome result (λ place. place < length self.now) }
     {
+        // For the proof alone: a read tells its invariant.
         let _ = &self.bytes;
         self.rights.place(page)
     }
@@ -77,6 +79,7 @@ impl PageRow {
         requires { place < length self.now }
         ensures { IsSomeAnd (value_at place self.now) (λ page. page.rights ≡ result) }
     {
+        // For the proof alone: a read tells its invariant.
         let _ = &self.bytes;
         *self.rights.at(place)
     }
@@ -88,6 +91,7 @@ impl PageRow {
         ensures bytes { IsSomeAnd (value_at place self.now) (λ page. page.bytes ≡ result.now) }
         ensures whole { length result.now ≡ 4096 }
     {
+        // For the proof alone: a read tells its invariant.
         let _ = &self.rights;
         page_in(self.bytes.as_slice(), place)
     }
@@ -97,8 +101,10 @@ impl PageRow {
     pub fn put_number(&mut self, place: usize, width: Width, address: u32, word: u32)
         requires within { place < length self.old }
         requires aligned { address % bytes_in width ≡ 0 }
-        ensures { Rewritten place (page_offset address) (little_bytes (bytes_in width) word) self.old self.new }
+        ensures { Rewritten place (page_offset address) (little_bytes (bytes_in width) word)
+            self.old self.new }
     {
+        // For the proof alone: a read tells its invariant.
         let _ = &self.rights;
         put_number_in(self.bytes.as_mut_slice(), place, width, address, word);
     }
@@ -109,6 +115,7 @@ impl PageRow {
         requires fits { offset + length bytes.now ≤ 4096 }
         ensures { Rewritten place offset bytes.now self.old self.new }
     {
+        // For the proof alone: a read tells its invariant.
         let _ = &self.rights;
         put_bytes_in(self.bytes.as_mut_slice(), place, offset, bytes);
     }
@@ -134,7 +141,8 @@ impl PageRow {
         requires small { number < 2 ^ 20 }
         requires absent { place_of number self.old ≡ None }
         requires whole { length bytes.now ≡ 4096 }
-        ensures ok { OnOk result (self.new ≡ self.old ++ (number, record { rights = rights; bytes = bytes.now }) ∷ []) }
+        ensures ok { OnOk result (self.new ≡ self.old ++
+            (number, record { rights = rights; bytes = bytes.now }) ∷ []) }
         ensures err { OnErr result (self.new ≡ self.old) }
     {
         self.bytes.reserve(PAGE_SIZE)?;
@@ -181,7 +189,8 @@ fn page_in(bytes: &[u8], place: usize) -> &[u8]
 fn put_number_in(bytes: &mut [u8], place: usize, width: Width, address: u32, word: u32)
     requires within { place * 4096 + 4096 ≤ length bytes.old }
     requires aligned { address % bytes_in width ≡ 0 }
-    ensures { bytes.new ≡ with_page place (overwritten (page_of_row place bytes.old) (page_offset address) (little_bytes (bytes_in width) word)) bytes.old }
+    ensures { bytes.new ≡ with_page place (overwritten (page_of_row place bytes.old)
+        (page_offset address) (little_bytes (bytes_in width) word)) bytes.old }
 {
     let start = place * PAGE_SIZE;
     put_number(&mut bytes[start..start + PAGE_SIZE], width, address, word);
@@ -191,7 +200,8 @@ fn put_number_in(bytes: &mut [u8], place: usize, width: Width, address: u32, wor
 fn put_bytes_in(bytes: &mut [u8], place: usize, offset: usize, from: &[u8])
     requires within { place * 4096 + 4096 ≤ length bytes.old }
     requires fits { offset + length from.now ≤ 4096 }
-    ensures { bytes.new ≡ with_page place (overwritten (page_of_row place bytes.old) offset from.now) bytes.old }
+    ensures { bytes.new ≡ with_page place (overwritten (page_of_row place bytes.old) offset
+        from.now) bytes.old }
 {
     let start = place * PAGE_SIZE;
     put_bytes(&mut bytes[start..start + PAGE_SIZE], offset, from);

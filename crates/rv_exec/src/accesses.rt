@@ -30,13 +30,16 @@ pub fn perform_load<B: Bus>(
     rs1: Reg,
     offset: Immediate,
 ) -> Outcome
-    ensures line { let line = load_line (with_pc regs.old pc.old) (B.memory bus.old) kind rd (address_at (with_pc regs.old pc.old) rs1 offset) in
+    ensures line { let line = load_line (with_pc regs.old pc.old) (B.memory bus.old) kind rd
+        (address_at (with_pc regs.old pc.old) rs1 offset) in
         Follows line result (with_pc regs.new pc.new) (B.memory bus.new) }
     ensures registers_stay { UnlessDone result (with_pc regs.new pc.new ≡ with_pc regs.old pc.old) }
     ensures memory_stays { UnlessDone result (B.memory bus.new ≡ B.memory bus.old) }
-    ensures pages { let used = load_pages (B.memory bus.old) kind (address_at (with_pc regs.old pc.old) rs1 offset) in
+    ensures pages { let used = load_pages (B.memory bus.old) kind
+        (address_at (with_pc regs.old pc.old) rs1 offset) in
         UsesPages (B.has bus.old) (B.marks bus.new) (B.lacks bus.old) used result }
-    ensures bound { Bounds (B.within bus.old) (B.within bus.new) (load_pages (B.memory bus.old) kind (address_at (with_pc regs.old pc.old) rs1 offset)) [] }
+    ensures bound { Bounds (B.within bus.old) (B.within bus.new)
+        (load_pages (B.memory bus.old) kind (address_at (with_pc regs.old pc.old) rs1 offset)) [] }
     ensures kept { B.keeps bus.old bus.new }
 {
     let address = add(read(*pc, regs, rs1), offset.word());
@@ -54,13 +57,15 @@ fn load_from<B: Bus>(
     rd: Reg,
     address: u32,
 ) -> Outcome
-    ensures line { let line = load_line (with_pc regs.old pc.old) (B.memory bus.old) kind rd address in
+    ensures line { let line = load_line (with_pc regs.old pc.old)
+        (B.memory bus.old) kind rd address in
         Follows line result (with_pc regs.new pc.new) (B.memory bus.new) }
     ensures registers_stay { UnlessDone result (with_pc regs.new pc.new ≡ with_pc regs.old pc.old) }
     ensures memory_stays { UnlessDone result (B.memory bus.new ≡ B.memory bus.old) }
     ensures pages { let used = load_pages (B.memory bus.old) kind address in
         UsesPages (B.has bus.old) (B.marks bus.new) (B.lacks bus.old) used result }
-    ensures bound { Bounds (B.within bus.old) (B.within bus.new) (load_pages (B.memory bus.old) kind address) [] }
+    ensures bound { Bounds (B.within bus.old) (B.within bus.new)
+        (load_pages (B.memory bus.old) kind address) [] }
     ensures kept { B.keeps bus.old bus.new }
 {
     match bus.load(width_of_load(kind), address) {
@@ -81,13 +86,19 @@ pub fn perform_store<B: Bus>(
     rs2: Reg,
     offset: Immediate,
 ) -> Outcome
-    ensures line { let line = store_line (with_pc regs.old pc.old) (B.memory bus.old) kind (address_at (with_pc regs.old pc.old) rs1 offset) (register (with_pc regs.old pc.old) rs2) in
+    ensures line { let line = store_line (with_pc regs.old pc.old) (B.memory bus.old) kind
+        (address_at (with_pc regs.old pc.old) rs1 offset) (register (with_pc regs.old pc.old) rs2)
+        in
         Follows line result (with_pc regs.new pc.new) (B.memory bus.new) }
     ensures registers_stay { UnlessDone result (with_pc regs.new pc.new ≡ with_pc regs.old pc.old) }
     ensures memory_stays { UnlessDone result (B.memory bus.new ≡ B.memory bus.old) }
-    ensures pages { let used = store_pages (B.memory bus.old) kind (address_at (with_pc regs.old pc.old) rs1 offset) (register (with_pc regs.old pc.old) rs2) in
+    ensures pages { let used = store_pages (B.memory bus.old) kind
+        (address_at (with_pc regs.old pc.old) rs1 offset) (register (with_pc regs.old pc.old) rs2)
+        in
         UsesPages (B.has bus.old) (B.marks bus.new) (B.lacks bus.old) used result }
-    ensures bound { let used = store_pages (B.memory bus.old) kind (address_at (with_pc regs.old pc.old) rs1 offset) (register (with_pc regs.old pc.old) rs2) in
+    ensures bound { let used = store_pages (B.memory bus.old) kind
+        (address_at (with_pc regs.old pc.old) rs1 offset) (register (with_pc regs.old pc.old) rs2)
+        in
         Bounds (B.within bus.old) (B.within bus.new) used used }
     ensures kept { B.keeps bus.old bus.new }
 {
@@ -107,7 +118,8 @@ fn store_to<B: Bus>(
     address: u32,
     word: u32,
 ) -> Outcome
-    ensures line { let line = store_line (with_pc regs.old pc.old) (B.memory bus.old) kind address word in
+    ensures line { let line = store_line (with_pc regs.old pc.old)
+        (B.memory bus.old) kind address word in
         Follows line result (with_pc regs.new pc.new) (B.memory bus.new) }
     ensures registers_stay { UnlessDone result (with_pc regs.new pc.new ≡ with_pc regs.old pc.old) }
     ensures memory_stays { UnlessDone result (B.memory bus.new ≡ B.memory bus.old) }
@@ -136,7 +148,8 @@ pub fn perform_amo<B: Bus>(
     address: u32,
     operand: u32,
 ) -> Outcome
-    ensures line { let line = amo_line (with_pc regs.old pc.old) (B.memory bus.old) kind rd address operand in
+    ensures line { let line = amo_line (with_pc regs.old pc.old)
+        (B.memory bus.old) kind rd address operand in
         Follows line result (with_pc regs.new pc.new) (B.memory bus.new) }
     ensures registers_stay { UnlessDone result (with_pc regs.new pc.new ≡ with_pc regs.old pc.old) }
     ensures memory_stays { UnlessDone result (B.memory bus.new ≡ B.memory bus.old) }
@@ -164,13 +177,15 @@ pub fn perform_load_reserved<B: Bus>(
     rd: Reg,
     address: u32,
 ) -> Outcome
-    ensures line { let line = reserving_line hart (with_pc regs.old pc.old) (B.memory bus.old) rd address in
+    ensures line { let line = reserving_line hart (with_pc regs.old pc.old)
+        (B.memory bus.old) rd address in
         Follows line result (with_pc regs.new pc.new) (B.memory bus.new) }
     ensures registers_stay { UnlessDone result (with_pc regs.new pc.new ≡ with_pc regs.old pc.old) }
     ensures memory_stays { UnlessDone result (B.memory bus.new ≡ B.memory bus.old) }
     ensures pages { let used = load_pages (B.memory bus.old) LoadKind.Lw address in
         UsesPages (B.has bus.old) (B.marks bus.new) (B.lacks bus.old) used result }
-    ensures bound { Bounds (B.within bus.old) (B.within bus.new) (load_pages (B.memory bus.old) LoadKind.Lw address) [] }
+    ensures bound { Bounds (B.within bus.old) (B.within bus.new)
+        (load_pages (B.memory bus.old) LoadKind.Lw address) [] }
     ensures kept { B.keeps bus.old bus.new }
 {
     match bus.load_reserved(hart, address) {
@@ -192,7 +207,8 @@ pub fn perform_store_conditional<B: Bus>(
     address: u32,
     word: u32,
 ) -> Outcome
-    ensures line { let line = conditional_line hart (with_pc regs.old pc.old) (B.memory bus.old) rd address word in
+    ensures line { let line = conditional_line hart (with_pc regs.old pc.old)
+        (B.memory bus.old) rd address word in
         Follows line result (with_pc regs.new pc.new) (B.memory bus.new) }
     ensures registers_stay { UnlessDone result (with_pc regs.new pc.new ≡ with_pc regs.old pc.old) }
     ensures memory_stays { UnlessDone result (B.memory bus.new ≡ B.memory bus.old) }

@@ -23,7 +23,8 @@ pub fn read(pc: u32, regs: &Regs, named: Reg) -> u32
 #[tactic(auto, using(crate::specs::RegistersLaws::advanced))]
 pub fn advance(pc: &mut u32, regs: &Regs) -> Outcome
     ensures done { result ≡ Outcome.Done }
-    ensures moved { with_pc regs.now pc.new ≡ with_pc (with_pc regs.now pc.old) (next_pc (with_pc regs.now pc.old)) }
+    ensures moved { with_pc regs.now pc.new ≡ with_pc (with_pc regs.now pc.old)
+        (next_pc (with_pc regs.now pc.old)) }
 {
     let _ = regs;
     *pc = pc.wrapping_add(4);
@@ -47,7 +48,8 @@ pub fn compute(pc: &mut u32, regs: &mut Regs, rd: Reg, value: u32) -> Outcome
 #[tactic(auto, using(crate::specs::RegistersLaws::landed_aside))]
 pub fn land(pc: &mut u32, regs: &mut Regs, link: u8, target: u32)
     requires { link < 32 }
-    ensures { with_pc regs.new pc.new ≡ with_register (with_pc (with_pc regs.old pc.old) target) link (next_pc (with_pc regs.old pc.old)) }
+    ensures { with_pc regs.new pc.new ≡ with_register (with_pc (with_pc regs.old pc.old) target)
+        link (next_pc (with_pc regs.old pc.old)) }
 {
     let next = pc.wrapping_add(4);
     *pc = target;

@@ -59,7 +59,8 @@ pub trait Bus {
         ensures answer { let expected = fetched (memory self.old) address in
             Answers (has self.old) (marks self.new) (lacks self.old) address expected result }
         ensures same { memory self.new ≡ memory self.old }
-        ensures bound { let pages = page_of_access address (fetched (memory self.old) address) in Bounds (within self.old) (within self.new) pages [] }
+        ensures bound { let pages = page_of_access address (fetched (memory self.old) address) in
+            Bounds (within self.old) (within self.new) pages [] }
         ensures kept { keeps self.old self.new };
 
     /// The number at an address, not extended.
@@ -67,7 +68,8 @@ pub trait Bus {
         ensures answer { let expected = loaded (memory self.old) width address in
             Answers (has self.old) (marks self.new) (lacks self.old) address expected result }
         ensures same { memory self.new ≡ memory self.old }
-        ensures bound { let pages = page_of_access address (loaded (memory self.old) width address) in Bounds (within self.old) (within self.new) pages [] }
+        ensures bound { let pages = page_of_access address (loaded (memory self.old) width address)
+            in Bounds (within self.old) (within self.new) pages [] }
         ensures kept { keeps self.old self.new };
 
     /// Stores the low bytes of a word.
@@ -76,7 +78,9 @@ pub trait Bus {
             let after = with_answer (λ _. memory self.new) result in
             Answers (has self.old) (marks self.new) (lacks self.old) address expected after }
         ensures refused { OnErr result (memory self.new ≡ memory self.old) }
-        ensures bound { let pages = page_of_access address (stored (memory self.old) width address word) in Bounds (within self.old) (within self.new) pages pages }
+        ensures bound { let pages = page_of_access address
+            (stored (memory self.old) width address word) in
+            Bounds (within self.old) (within self.new) pages pages }
         ensures kept { keeps self.old self.new };
 
     /// Replaces the word at an address by the operation's result, in one step, and answers the old word.
@@ -86,7 +90,9 @@ pub trait Bus {
             let after = with_answer (λ old. (old, memory self.new)) result in
             Answers (has self.old) (marks self.new) (lacks self.old) address expected after }
         ensures refused { OnErr result (memory self.new ≡ memory self.old) }
-        ensures bound { let pages = page_of_access address (replaced (memory self.old) (λ (old : ℕ). amo_result operation old operand) address) in Bounds (within self.old) (within self.new) pages pages }
+        ensures bound { let pages = page_of_access address (replaced (memory self.old)
+            (λ (old : ℕ). amo_result operation old operand) address) in
+            Bounds (within self.old) (within self.new) pages pages }
         ensures kept { keeps self.old self.new };
 
     /// Loads the word at an address, and reserves it for the hart of a number.
@@ -95,7 +101,9 @@ pub trait Bus {
             let after = with_answer (λ word. (word, memory self.new)) result in
             Answers (has self.old) (marks self.new) (lacks self.old) address expected after }
         ensures refused { OnErr result (memory self.new ≡ memory self.old) }
-        ensures bound { let pages = page_of_access address (loaded (memory self.old) Width.Word address) in Bounds (within self.old) (within self.new) pages [] }
+        ensures bound { let pages = page_of_access address
+            (loaded (memory self.old) Width.Word address) in
+            Bounds (within self.old) (within self.new) pages [] }
         ensures kept { keeps self.old self.new };
 
     /// Stores a word where the hart of a number has reserved it, and answers whether it has. The hart's reservation goes.
@@ -104,7 +112,9 @@ pub trait Bus {
             let after = with_answer (λ is_stored. (is_stored, memory self.new)) result in
             Answers (has self.old) (marks self.new) (lacks self.old) address expected after }
         ensures refused { OnErr result (memory self.new ≡ memory self.old) }
-        ensures bound { let pages = page_of_access address (stored (memory self.old) Width.Word address word) in Bounds (within self.old) (within self.new) pages pages }
+        ensures bound { let pages = page_of_access address
+            (stored (memory self.old) Width.Word address word) in
+            Bounds (within self.old) (within self.new) pages pages }
         ensures kept { keeps self.old self.new };
 
     /// Copies bytes of one page to a slice.
@@ -115,7 +125,8 @@ pub trait Bus {
             Answers (has self.old) (marks self.new) (lacks self.old) address expected copied }
         ensures refused { OnErr result (to.new ≡ to.old) }
         ensures same { memory self.new ≡ memory self.old }
-        ensures bound { let pages = page_of_access address (copied_out (memory self.old) address (length to.old)) in Bounds (within self.old) (within self.new) pages [] }
+        ensures bound { let pages = page_of_access address (copied_out (memory self.old) address
+            (length to.old)) in Bounds (within self.old) (within self.new) pages [] }
         ensures kept { keeps self.old self.new };
 
     /// Copies a slice into one page.
@@ -125,7 +136,9 @@ pub trait Bus {
             let after = with_answer (λ _. memory self.new) result in
             Answers (has self.old) (marks self.new) (lacks self.old) address expected after }
         ensures refused { OnErr result (memory self.new ≡ memory self.old) }
-        ensures bound { let pages = page_of_access address (copied_in (memory self.old) address from.now) in Bounds (within self.old) (within self.new) pages pages }
+        ensures bound { let pages = page_of_access address
+            (copied_in (memory self.old) address from.now) in
+            Bounds (within self.old) (within self.new) pages pages }
         ensures kept { keeps self.old self.new };
 
     /// Maps pages of zeros that may be read and written at so many page numbers from the first on, wherever

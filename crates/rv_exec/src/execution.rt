@@ -31,7 +31,8 @@ use rv_isa::{
 /// Takes no memory.
 #[inline(always)]
 pub fn execute<B: Bus>(hart: u32, regs: &mut Regs, bus: &mut B) -> Outcome
-    ensures line { Follows (line hart regs.old (B.memory bus.old)) result regs.new (B.memory bus.new) }
+    ensures line { Follows (line hart regs.old (B.memory bus.old)) result regs.new
+        (B.memory bus.new) }
     ensures registers_stay { UnlessDone result (regs.new ≡ regs.old) }
     ensures memory_stays { UnlessDone result (B.memory bus.new ≡ B.memory bus.old) }
 
@@ -51,7 +52,8 @@ pub fn execute<B: Bus>(hart: u32, regs: &mut Regs, bus: &mut B) -> Outcome
 /// The same where pc is at hand: what `regs` has of it is neither read nor written.
 #[inline(always)]
 pub fn execute_at<B: Bus>(hart: u32, pc: &mut u32, regs: &mut Regs, bus: &mut B) -> Outcome
-    ensures line { Follows (line hart (with_pc regs.old pc.old) (B.memory bus.old)) result (with_pc regs.new pc.new) (B.memory bus.new) }
+    ensures line { Follows (line hart (with_pc regs.old pc.old) (B.memory bus.old)) result
+        (with_pc regs.new pc.new) (B.memory bus.new) }
     ensures registers_stay { UnlessDone result (with_pc regs.new pc.new ≡ with_pc regs.old pc.old) }
     ensures memory_stays { UnlessDone result (B.memory bus.new ≡ B.memory bus.old) }
 
@@ -74,11 +76,13 @@ pub fn execute_at<B: Bus>(hart: u32, pc: &mut u32, regs: &mut Regs, bus: &mut B)
 /// if the word was decoded, but no instruction is built, which would take as long as to run it.
 #[inline(always)]
 fn perform<B: Bus>(hart: u32, pc: &mut u32, regs: &mut Regs, bus: &mut B, word: u32) -> Outcome
-    ensures line { let line = decoded_line hart (with_pc regs.old pc.old) (B.memory bus.old) word (insn_of word) in
+    ensures line { let line = decoded_line hart (with_pc regs.old pc.old) (B.memory bus.old) word
+        (insn_of word) in
         Follows line result (with_pc regs.new pc.new) (B.memory bus.new) }
     ensures registers_stay { UnlessDone result (with_pc regs.new pc.new ≡ with_pc regs.old pc.old) }
     ensures memory_stays { UnlessDone result (B.memory bus.new ≡ B.memory bus.old) }
-    ensures pages { let used = decoded_pages (with_pc regs.old pc.old) (B.memory bus.old) (insn_of word) in
+    ensures pages { let used = decoded_pages (with_pc regs.old pc.old) (B.memory bus.old)
+        (insn_of word) in
         UsesPages (B.has bus.old) (B.marks bus.new) (B.lacks bus.old) used result }
     ensures bound { let memory = B.memory bus.old in
         Bounds (B.within bus.old) (B.within bus.new) (decoded_pages (with_pc regs.old pc.old) memory (insn_of word)) (decoded_stores (with_pc regs.old pc.old) memory (insn_of word)) }
@@ -97,11 +101,13 @@ fn perform_form<B: Bus>(
     form: Form,
     word: u32,
 ) -> Outcome
-    ensures line { let line = decoded_line hart (with_pc regs.old pc.old) (B.memory bus.old) word (insn_of_form form word) in
+    ensures line { let line = decoded_line hart (with_pc regs.old pc.old) (B.memory bus.old) word
+        (insn_of_form form word) in
         Follows line result (with_pc regs.new pc.new) (B.memory bus.new) }
     ensures registers_stay { UnlessDone result (with_pc regs.new pc.new ≡ with_pc regs.old pc.old) }
     ensures memory_stays { UnlessDone result (B.memory bus.new ≡ B.memory bus.old) }
-    ensures pages { let used = decoded_pages (with_pc regs.old pc.old) (B.memory bus.old) (insn_of_form form word) in
+    ensures pages { let used = decoded_pages (with_pc regs.old pc.old) (B.memory bus.old)
+        (insn_of_form form word) in
         UsesPages (B.has bus.old) (B.marks bus.new) (B.lacks bus.old) used result }
     ensures bound { let memory = B.memory bus.old in
         Bounds (B.within bus.old) (B.within bus.new) (decoded_pages (with_pc regs.old pc.old) memory (insn_of_form form word)) (decoded_stores (with_pc regs.old pc.old) memory (insn_of_form form word)) }
@@ -161,9 +167,12 @@ fn illegal(word: u32) -> Outcome
 #[inline(always)]
 #[tactic(auto, unfolding(crate::specs::Line::insn_line, crate::specs::Uses::data_pages, crate::specs::Uses::data_stores))]
 fn upper(pc: &mut u32, regs: &mut Regs, word: u32) -> Outcome
-    ensures line { (hart : ℕ) (memory : Memory) → Follows (decoded_line hart (with_pc regs.old pc.old) memory word (insn_of_form Form.Lui word)) result (with_pc regs.new pc.new) memory }
+    ensures line { (hart : ℕ) (memory : Memory) →
+        Follows (decoded_line hart (with_pc regs.old pc.old) memory word
+        (insn_of_form Form.Lui word)) result (with_pc regs.new pc.new) memory }
     ensures registers_stay { UnlessDone result (with_pc regs.new pc.new ≡ with_pc regs.old pc.old) }
-    ensures no_pages { (memory : Memory) → decoded_pages (with_pc regs.old pc.old) memory (insn_of_form Form.Lui word) ≡ [] }
+    ensures no_pages { (memory : Memory) → decoded_pages (with_pc regs.old pc.old) memory
+        (insn_of_form Form.Lui word) ≡ [] }
     ensures present { IsPresent result }
 {
     compute(pc, regs, rd(word), upper_immediate(word).value() << 12)
@@ -173,9 +182,12 @@ fn upper(pc: &mut u32, regs: &mut Regs, word: u32) -> Outcome
 #[inline(always)]
 #[tactic(auto, unfolding(crate::specs::Registers::with_pc, crate::specs::Line::insn_line, crate::specs::Uses::data_pages, crate::specs::Uses::data_stores))]
 fn upper_past_pc(pc: &mut u32, regs: &mut Regs, word: u32) -> Outcome
-    ensures line { (hart : ℕ) (memory : Memory) → Follows (decoded_line hart (with_pc regs.old pc.old) memory word (insn_of_form Form.Auipc word)) result (with_pc regs.new pc.new) memory }
+    ensures line { (hart : ℕ) (memory : Memory) →
+        Follows (decoded_line hart (with_pc regs.old pc.old) memory word
+        (insn_of_form Form.Auipc word)) result (with_pc regs.new pc.new) memory }
     ensures registers_stay { UnlessDone result (with_pc regs.new pc.new ≡ with_pc regs.old pc.old) }
-    ensures no_pages { (memory : Memory) → decoded_pages (with_pc regs.old pc.old) memory (insn_of_form Form.Auipc word) ≡ [] }
+    ensures no_pages { (memory : Memory) → decoded_pages (with_pc regs.old pc.old) memory
+        (insn_of_form Form.Auipc word) ≡ [] }
     ensures present { IsPresent result }
 {
     let sum = add(*pc, upper_immediate(word).value() << 12);
@@ -186,9 +198,12 @@ fn upper_past_pc(pc: &mut u32, regs: &mut Regs, word: u32) -> Outcome
 #[inline(always)]
 #[tactic(auto, unfolding(crate::specs::Registers::with_pc, crate::specs::Line::insn_line, crate::specs::Uses::data_pages, crate::specs::Uses::data_stores))]
 fn jal(pc: &mut u32, regs: &mut Regs, word: u32) -> Outcome
-    ensures line { (hart : ℕ) (memory : Memory) → Follows (decoded_line hart (with_pc regs.old pc.old) memory word (insn_of_form Form.Jal word)) result (with_pc regs.new pc.new) memory }
+    ensures line { (hart : ℕ) (memory : Memory) →
+        Follows (decoded_line hart (with_pc regs.old pc.old) memory word
+        (insn_of_form Form.Jal word)) result (with_pc regs.new pc.new) memory }
     ensures registers_stay { UnlessDone result (with_pc regs.new pc.new ≡ with_pc regs.old pc.old) }
-    ensures no_pages { (memory : Memory) → decoded_pages (with_pc regs.old pc.old) memory (insn_of_form Form.Jal word) ≡ [] }
+    ensures no_pages { (memory : Memory) → decoded_pages (with_pc regs.old pc.old) memory
+        (insn_of_form Form.Jal word) ≡ [] }
     ensures present { IsPresent result }
 {
     perform_jal(pc, regs, rd(word), jump_offset(word))
@@ -198,9 +213,12 @@ fn jal(pc: &mut u32, regs: &mut Regs, word: u32) -> Outcome
 #[inline(always)]
 #[tactic(auto, unfolding(crate::specs::Line::insn_line, crate::specs::Uses::data_pages, crate::specs::Uses::data_stores))]
 fn jalr(pc: &mut u32, regs: &mut Regs, word: u32) -> Outcome
-    ensures line { (hart : ℕ) (memory : Memory) → Follows (decoded_line hart (with_pc regs.old pc.old) memory word (insn_of_form Form.Jalr word)) result (with_pc regs.new pc.new) memory }
+    ensures line { (hart : ℕ) (memory : Memory) →
+        Follows (decoded_line hart (with_pc regs.old pc.old) memory word
+        (insn_of_form Form.Jalr word)) result (with_pc regs.new pc.new) memory }
     ensures registers_stay { UnlessDone result (with_pc regs.new pc.new ≡ with_pc regs.old pc.old) }
-    ensures no_pages { (memory : Memory) → decoded_pages (with_pc regs.old pc.old) memory (insn_of_form Form.Jalr word) ≡ [] }
+    ensures no_pages { (memory : Memory) → decoded_pages (with_pc regs.old pc.old) memory
+        (insn_of_form Form.Jalr word) ≡ [] }
     ensures present { IsPresent result }
 {
     perform_jalr(pc, regs, rd(word), rs1(word), immediate(word))
@@ -210,9 +228,12 @@ fn jalr(pc: &mut u32, regs: &mut Regs, word: u32) -> Outcome
 #[inline(always)]
 #[tactic(auto, unfolding(crate::specs::Registers::with_pc, crate::specs::Line::insn_line, crate::specs::Uses::data_pages, crate::specs::Uses::data_stores))]
 fn branch(pc: &mut u32, regs: &mut Regs, kind: BranchKind, word: u32) -> Outcome
-    ensures line { (hart : ℕ) (memory : Memory) → Follows (decoded_line hart (with_pc regs.old pc.old) memory word (Some (branch_insn kind word))) result (with_pc regs.new pc.new) memory }
+    ensures line { (hart : ℕ) (memory : Memory) →
+        Follows (decoded_line hart (with_pc regs.old pc.old) memory word
+        (Some (branch_insn kind word))) result (with_pc regs.new pc.new) memory }
     ensures registers_stay { UnlessDone result (with_pc regs.new pc.new ≡ with_pc regs.old pc.old) }
-    ensures no_pages { (memory : Memory) → decoded_pages (with_pc regs.old pc.old) memory (Some (branch_insn kind word)) ≡ [] }
+    ensures no_pages { (memory : Memory) → decoded_pages (with_pc regs.old pc.old) memory
+        (Some (branch_insn kind word)) ≡ [] }
     ensures present { IsPresent result }
 {
     perform_branch(pc, regs, kind, rs1(word), rs2(word), branch_offset(word))
@@ -222,11 +243,13 @@ fn branch(pc: &mut u32, regs: &mut Regs, kind: BranchKind, word: u32) -> Outcome
 #[inline(always)]
 #[tactic(auto, unfolding(crate::specs::Line::insn_line, crate::specs::Uses::data_pages, crate::specs::Uses::data_stores))]
 fn load<B: Bus>(pc: &mut u32, regs: &mut Regs, bus: &mut B, kind: LoadKind, word: u32) -> Outcome
-    ensures line { (hart : ℕ) → let line = decoded_line hart (with_pc regs.old pc.old) (B.memory bus.old) word (Some (load_insn kind word)) in
+    ensures line { (hart : ℕ) → let line = decoded_line hart (with_pc regs.old pc.old)
+        (B.memory bus.old) word (Some (load_insn kind word)) in
         Follows line result (with_pc regs.new pc.new) (B.memory bus.new) }
     ensures registers_stay { UnlessDone result (with_pc regs.new pc.new ≡ with_pc regs.old pc.old) }
     ensures memory_stays { UnlessDone result (B.memory bus.new ≡ B.memory bus.old) }
-    ensures pages { let used = decoded_pages (with_pc regs.old pc.old) (B.memory bus.old) (Some (load_insn kind word)) in
+    ensures pages { let used = decoded_pages (with_pc regs.old pc.old) (B.memory bus.old)
+        (Some (load_insn kind word)) in
         UsesPages (B.has bus.old) (B.marks bus.new) (B.lacks bus.old) used result }
     ensures bound { let memory = B.memory bus.old in
         Bounds (B.within bus.old) (B.within bus.new) (decoded_pages (with_pc regs.old pc.old) memory (Some (load_insn kind word))) (decoded_stores (with_pc regs.old pc.old) memory (Some (load_insn kind word))) }
@@ -239,11 +262,13 @@ fn load<B: Bus>(pc: &mut u32, regs: &mut Regs, bus: &mut B, kind: LoadKind, word
 #[inline(always)]
 #[tactic(auto, unfolding(crate::specs::Line::insn_line, crate::specs::Uses::data_pages, crate::specs::Uses::data_stores))]
 fn store<B: Bus>(pc: &mut u32, regs: &mut Regs, bus: &mut B, kind: StoreKind, word: u32) -> Outcome
-    ensures line { (hart : ℕ) → let line = decoded_line hart (with_pc regs.old pc.old) (B.memory bus.old) word (Some (store_insn kind word)) in
+    ensures line { (hart : ℕ) → let line = decoded_line hart (with_pc regs.old pc.old)
+        (B.memory bus.old) word (Some (store_insn kind word)) in
         Follows line result (with_pc regs.new pc.new) (B.memory bus.new) }
     ensures registers_stay { UnlessDone result (with_pc regs.new pc.new ≡ with_pc regs.old pc.old) }
     ensures memory_stays { UnlessDone result (B.memory bus.new ≡ B.memory bus.old) }
-    ensures pages { let used = decoded_pages (with_pc regs.old pc.old) (B.memory bus.old) (Some (store_insn kind word)) in
+    ensures pages { let used = decoded_pages (with_pc regs.old pc.old) (B.memory bus.old)
+        (Some (store_insn kind word)) in
         UsesPages (B.has bus.old) (B.marks bus.new) (B.lacks bus.old) used result }
     ensures bound { let memory = B.memory bus.old in
         Bounds (B.within bus.old) (B.within bus.new) (decoded_pages (with_pc regs.old pc.old) memory (Some (store_insn kind word))) (decoded_stores (with_pc regs.old pc.old) memory (Some (store_insn kind word))) }
@@ -264,9 +289,12 @@ fn store<B: Bus>(pc: &mut u32, regs: &mut Regs, bus: &mut B, kind: StoreKind, wo
 #[inline(always)]
 #[tactic(auto, unfolding(crate::specs::Line::insn_line, crate::specs::Uses::data_pages, crate::specs::Uses::data_stores))]
 fn op_immediate(pc: &mut u32, regs: &mut Regs, kind: ImmediateKind, word: u32) -> Outcome
-    ensures line { (hart : ℕ) (memory : Memory) → Follows (decoded_line hart (with_pc regs.old pc.old) memory word (Some (immediate_insn kind word))) result (with_pc regs.new pc.new) memory }
+    ensures line { (hart : ℕ) (memory : Memory) →
+        Follows (decoded_line hart (with_pc regs.old pc.old) memory word
+        (Some (immediate_insn kind word))) result (with_pc regs.new pc.new) memory }
     ensures registers_stay { UnlessDone result (with_pc regs.new pc.new ≡ with_pc regs.old pc.old) }
-    ensures no_pages { (memory : Memory) → decoded_pages (with_pc regs.old pc.old) memory (Some (immediate_insn kind word)) ≡ [] }
+    ensures no_pages { (memory : Memory) → decoded_pages (with_pc regs.old pc.old) memory
+        (Some (immediate_insn kind word)) ≡ [] }
     ensures present { IsPresent result }
 {
     perform_immediate(pc, regs, kind, rd(word), rs1(word), immediate(word))
@@ -276,9 +304,12 @@ fn op_immediate(pc: &mut u32, regs: &mut Regs, kind: ImmediateKind, word: u32) -
 #[inline(always)]
 #[tactic(auto, unfolding(crate::specs::Line::insn_line, crate::specs::Uses::data_pages, crate::specs::Uses::data_stores))]
 fn shift(pc: &mut u32, regs: &mut Regs, kind: ShiftKind, word: u32) -> Outcome
-    ensures line { (hart : ℕ) (memory : Memory) → Follows (decoded_line hart (with_pc regs.old pc.old) memory word (Some (shift_insn kind word))) result (with_pc regs.new pc.new) memory }
+    ensures line { (hart : ℕ) (memory : Memory) →
+        Follows (decoded_line hart (with_pc regs.old pc.old) memory word
+        (Some (shift_insn kind word))) result (with_pc regs.new pc.new) memory }
     ensures registers_stay { UnlessDone result (with_pc regs.new pc.new ≡ with_pc regs.old pc.old) }
-    ensures no_pages { (memory : Memory) → decoded_pages (with_pc regs.old pc.old) memory (Some (shift_insn kind word)) ≡ [] }
+    ensures no_pages { (memory : Memory) → decoded_pages (with_pc regs.old pc.old) memory
+        (Some (shift_insn kind word)) ≡ [] }
     ensures present { IsPresent result }
 {
     perform_shift(pc, regs, kind, rd(word), rs1(word), shift_amount(word))
@@ -288,9 +319,12 @@ fn shift(pc: &mut u32, regs: &mut Regs, kind: ShiftKind, word: u32) -> Outcome
 #[inline(always)]
 #[tactic(auto, unfolding(rv_isa::specs::Forms::shift_left_of))]
 fn shift_left(pc: &mut u32, regs: &mut Regs, word: u32) -> Outcome
-    ensures line { (hart : ℕ) (memory : Memory) → Follows (decoded_line hart (with_pc regs.old pc.old) memory word (shift_left_of word)) result (with_pc regs.new pc.new) memory }
+    ensures line { (hart : ℕ) (memory : Memory) →
+        Follows (decoded_line hart (with_pc regs.old pc.old) memory word (shift_left_of word))
+        result (with_pc regs.new pc.new) memory }
     ensures registers_stay { UnlessDone result (with_pc regs.new pc.new ≡ with_pc regs.old pc.old) }
-    ensures no_pages { (memory : Memory) → decoded_pages (with_pc regs.old pc.old) memory (shift_left_of word) ≡ [] }
+    ensures no_pages { (memory : Memory) → decoded_pages (with_pc regs.old pc.old) memory
+        (shift_left_of word) ≡ [] }
     ensures present { IsPresent result }
 {
     match funct7(word) {
@@ -303,9 +337,12 @@ fn shift_left(pc: &mut u32, regs: &mut Regs, word: u32) -> Outcome
 #[inline(always)]
 #[tactic(auto, unfolding(rv_isa::specs::Forms::shift_right_of))]
 fn shift_right(pc: &mut u32, regs: &mut Regs, word: u32) -> Outcome
-    ensures line { (hart : ℕ) (memory : Memory) → Follows (decoded_line hart (with_pc regs.old pc.old) memory word (shift_right_of word)) result (with_pc regs.new pc.new) memory }
+    ensures line { (hart : ℕ) (memory : Memory) →
+        Follows (decoded_line hart (with_pc regs.old pc.old) memory word (shift_right_of word))
+        result (with_pc regs.new pc.new) memory }
     ensures registers_stay { UnlessDone result (with_pc regs.new pc.new ≡ with_pc regs.old pc.old) }
-    ensures no_pages { (memory : Memory) → decoded_pages (with_pc regs.old pc.old) memory (shift_right_of word) ≡ [] }
+    ensures no_pages { (memory : Memory) → decoded_pages (with_pc regs.old pc.old) memory
+        (shift_right_of word) ≡ [] }
     ensures present { IsPresent result }
 {
     match funct7(word) {
@@ -319,9 +356,12 @@ fn shift_right(pc: &mut u32, regs: &mut Regs, word: u32) -> Outcome
 #[inline(always)]
 #[tactic(auto, unfolding(crate::specs::Line::insn_line, crate::specs::Uses::data_pages, crate::specs::Uses::data_stores))]
 fn op(pc: &mut u32, regs: &mut Regs, kind: OpKind, word: u32) -> Outcome
-    ensures line { (hart : ℕ) (memory : Memory) → Follows (decoded_line hart (with_pc regs.old pc.old) memory word (Some (op_insn kind word))) result (with_pc regs.new pc.new) memory }
+    ensures line { (hart : ℕ) (memory : Memory) →
+        Follows (decoded_line hart (with_pc regs.old pc.old) memory word
+        (Some (op_insn kind word))) result (with_pc regs.new pc.new) memory }
     ensures registers_stay { UnlessDone result (with_pc regs.new pc.new ≡ with_pc regs.old pc.old) }
-    ensures no_pages { (memory : Memory) → decoded_pages (with_pc regs.old pc.old) memory (Some (op_insn kind word)) ≡ [] }
+    ensures no_pages { (memory : Memory) → decoded_pages (with_pc regs.old pc.old) memory
+        (Some (op_insn kind word)) ≡ [] }
     ensures present { IsPresent result }
 {
     perform_op(pc, regs, kind, rd(word), rs1(word), rs2(word))
@@ -331,9 +371,12 @@ fn op(pc: &mut u32, regs: &mut Regs, kind: OpKind, word: u32) -> Outcome
 #[inline(always)]
 #[tactic(auto, unfolding(rv_isa::specs::Forms::op_of_two))]
 fn op_of_two(pc: &mut u32, regs: &mut Regs, base: OpKind, m: OpKind, word: u32) -> Outcome
-    ensures line { (hart : ℕ) (memory : Memory) → Follows (decoded_line hart (with_pc regs.old pc.old) memory word (op_of_two base m word)) result (with_pc regs.new pc.new) memory }
+    ensures line { (hart : ℕ) (memory : Memory) →
+        Follows (decoded_line hart (with_pc regs.old pc.old) memory word (op_of_two base m word))
+        result (with_pc regs.new pc.new) memory }
     ensures registers_stay { UnlessDone result (with_pc regs.new pc.new ≡ with_pc regs.old pc.old) }
-    ensures no_pages { (memory : Memory) → decoded_pages (with_pc regs.old pc.old) memory (op_of_two base m word) ≡ [] }
+    ensures no_pages { (memory : Memory) → decoded_pages (with_pc regs.old pc.old) memory
+        (op_of_two base m word) ≡ [] }
     ensures present { IsPresent result }
 {
     match funct7(word) {
@@ -354,9 +397,12 @@ fn op_of_three(
     other: OpKind,
     word: u32,
 ) -> Outcome
-    ensures line { (hart : ℕ) (memory : Memory) → Follows (decoded_line hart (with_pc regs.old pc.old) memory word (op_of_three base m other word)) result (with_pc regs.new pc.new) memory }
+    ensures line { (hart : ℕ) (memory : Memory) →
+        Follows (decoded_line hart (with_pc regs.old pc.old) memory word
+        (op_of_three base m other word)) result (with_pc regs.new pc.new) memory }
     ensures registers_stay { UnlessDone result (with_pc regs.new pc.new ≡ with_pc regs.old pc.old) }
-    ensures no_pages { (memory : Memory) → decoded_pages (with_pc regs.old pc.old) memory (op_of_three base m other word) ≡ [] }
+    ensures no_pages { (memory : Memory) → decoded_pages (with_pc regs.old pc.old) memory
+        (op_of_three base m other word) ≡ [] }
     ensures present { IsPresent result }
 {
     match funct7(word) {
@@ -371,9 +417,12 @@ fn op_of_three(
 #[inline(always)]
 #[tactic(auto, unfolding(crate::specs::Line::insn_line, crate::specs::Uses::data_pages, crate::specs::Uses::data_stores))]
 fn fence(pc: &mut u32, regs: &mut Regs, word: u32) -> Outcome
-    ensures line { (hart : ℕ) (memory : Memory) → Follows (decoded_line hart (with_pc regs.old pc.old) memory word (insn_of_form Form.Fence word)) result (with_pc regs.new pc.new) memory }
+    ensures line { (hart : ℕ) (memory : Memory) →
+        Follows (decoded_line hart (with_pc regs.old pc.old) memory word
+        (insn_of_form Form.Fence word)) result (with_pc regs.new pc.new) memory }
     ensures registers_stay { UnlessDone result (with_pc regs.new pc.new ≡ with_pc regs.old pc.old) }
-    ensures no_pages { (memory : Memory) → decoded_pages (with_pc regs.old pc.old) memory (insn_of_form Form.Fence word) ≡ [] }
+    ensures no_pages { (memory : Memory) → decoded_pages (with_pc regs.old pc.old) memory
+        (insn_of_form Form.Fence word) ≡ [] }
     ensures present { IsPresent result }
 {
     advance(pc, regs)
@@ -383,11 +432,13 @@ fn fence(pc: &mut u32, regs: &mut Regs, word: u32) -> Outcome
 #[inline(always)]
 #[tactic(auto, unfolding(rv_isa::specs::Table::amo_of, crate::specs::Line::insn_line, crate::specs::Uses::data_pages, crate::specs::Uses::data_stores))]
 fn amo<B: Bus>(hart: u32, pc: &mut u32, regs: &mut Regs, bus: &mut B, word: u32) -> Outcome
-    ensures line { let line = decoded_line hart (with_pc regs.old pc.old) (B.memory bus.old) word (amo_of word) in
+    ensures line { let line = decoded_line hart (with_pc regs.old pc.old) (B.memory bus.old) word
+        (amo_of word) in
         Follows line result (with_pc regs.new pc.new) (B.memory bus.new) }
     ensures registers_stay { UnlessDone result (with_pc regs.new pc.new ≡ with_pc regs.old pc.old) }
     ensures memory_stays { UnlessDone result (B.memory bus.new ≡ B.memory bus.old) }
-    ensures pages { let used = decoded_pages (with_pc regs.old pc.old) (B.memory bus.old) (amo_of word) in
+    ensures pages { let used = decoded_pages (with_pc regs.old pc.old) (B.memory bus.old)
+        (amo_of word) in
         UsesPages (B.has bus.old) (B.marks bus.new) (B.lacks bus.old) used result }
     ensures bound { let memory = B.memory bus.old in
         Bounds (B.within bus.old) (B.within bus.new) (decoded_pages (with_pc regs.old pc.old) memory (amo_of word)) (decoded_stores (with_pc regs.old pc.old) memory (amo_of word)) }
@@ -407,11 +458,13 @@ fn amo<B: Bus>(hart: u32, pc: &mut u32, regs: &mut Regs, bus: &mut B, word: u32)
 #[inline(always)]
 #[tactic(auto, unfolding(rv_isa::specs::Table::reservation_of, crate::specs::Line::insn_line, crate::specs::Uses::data_pages, crate::specs::Uses::data_stores))]
 fn reservation<B: Bus>(hart: u32, pc: &mut u32, regs: &mut Regs, bus: &mut B, word: u32) -> Outcome
-    ensures line { let line = decoded_line hart (with_pc regs.old pc.old) (B.memory bus.old) word (reservation_of word) in
+    ensures line { let line = decoded_line hart (with_pc regs.old pc.old) (B.memory bus.old) word
+        (reservation_of word) in
         Follows line result (with_pc regs.new pc.new) (B.memory bus.new) }
     ensures registers_stay { UnlessDone result (with_pc regs.new pc.new ≡ with_pc regs.old pc.old) }
     ensures memory_stays { UnlessDone result (B.memory bus.new ≡ B.memory bus.old) }
-    ensures pages { let used = decoded_pages (with_pc regs.old pc.old) (B.memory bus.old) (reservation_of word) in
+    ensures pages { let used = decoded_pages (with_pc regs.old pc.old) (B.memory bus.old)
+        (reservation_of word) in
         UsesPages (B.has bus.old) (B.marks bus.new) (B.lacks bus.old) used result }
     ensures bound { let memory = B.memory bus.old in
         Bounds (B.within bus.old) (B.within bus.new) (decoded_pages (with_pc regs.old pc.old) memory (reservation_of word)) (decoded_stores (with_pc regs.old pc.old) memory (reservation_of word)) }
@@ -435,9 +488,12 @@ fn reservation<B: Bus>(hart: u32, pc: &mut u32, regs: &mut Regs, bus: &mut B, wo
 #[inline(always)]
 #[tactic(auto, unfolding(crate::specs::Registers::with_pc, rv_isa::specs::Table::system_of, crate::specs::Line::insn_line, crate::specs::Uses::data_pages, crate::specs::Uses::data_stores))]
 fn system(pc: &mut u32, regs: &mut Regs, word: u32) -> Outcome
-    ensures line { (hart : ℕ) (memory : Memory) → Follows (decoded_line hart (with_pc regs.old pc.old) memory word (system_of word)) result (with_pc regs.new pc.new) memory }
+    ensures line { (hart : ℕ) (memory : Memory) →
+        Follows (decoded_line hart (with_pc regs.old pc.old) memory word (system_of word)) result
+        (with_pc regs.new pc.new) memory }
     ensures registers_stay { UnlessDone result (with_pc regs.new pc.new ≡ with_pc regs.old pc.old) }
-    ensures no_pages { (memory : Memory) → decoded_pages (with_pc regs.old pc.old) memory (system_of word) ≡ [] }
+    ensures no_pages { (memory : Memory) → decoded_pages (with_pc regs.old pc.old) memory
+        (system_of word) ≡ [] }
     ensures present { IsPresent result }
 {
     match word {

@@ -18,7 +18,9 @@ use rv_isa::{BranchKind, BranchOffset, Immediate, JumpOffset, Reg};
 #[tactic(auto, unfolding(crate::specs::Line::jumped))]
 fn jump(pc: &mut u32, regs: &mut Regs, link: u8, target: u32) -> Outcome
     requires { link < 32 }
-    ensures line { (memory : Memory) → Follows (jumped (with_pc regs.old pc.old) memory link target) result (with_pc regs.new pc.new) memory }
+    ensures line { (memory : Memory) →
+        Follows (jumped (with_pc regs.old pc.old) memory link target) result
+        (with_pc regs.new pc.new) memory }
     ensures registers_stay { UnlessDone result (with_pc regs.new pc.new ≡ with_pc regs.old pc.old) }
     ensures present { IsPresent result }
 {
@@ -33,7 +35,9 @@ fn jump(pc: &mut u32, regs: &mut Regs, link: u8, target: u32) -> Outcome
 /// Jumps to a target where the branch is taken.
 #[inline(always)]
 fn branch(pc: &mut u32, regs: &mut Regs, target: u32, taken: bool) -> Outcome
-    ensures line { (memory : Memory) → Follows (branched (with_pc regs.old pc.old) memory target taken) result (with_pc regs.new pc.new) memory }
+    ensures line { (memory : Memory) →
+        Follows (branched (with_pc regs.old pc.old) memory target taken) result
+        (with_pc regs.new pc.new) memory }
     ensures registers_stay { UnlessDone result (with_pc regs.new pc.new ≡ with_pc regs.old pc.old) }
     ensures present { IsPresent result }
 {
@@ -66,7 +70,8 @@ pub fn perform_branch(
     rs2: Reg,
     offset: BranchOffset,
 ) -> Outcome
-    ensures line { let taken = is_taken kind (register (with_pc regs.old pc.old) rs1) (register (with_pc regs.old pc.old) rs2) in
+    ensures line { let taken = is_taken kind (register (with_pc regs.old pc.old) rs1)
+        (register (with_pc regs.old pc.old) rs2) in
         (memory : Memory) → Follows (branched (with_pc regs.old pc.old) memory (word_sum pc.old (word_of_signed offset)) taken) result (with_pc regs.new pc.new) memory }
     ensures registers_stay { UnlessDone result (with_pc regs.new pc.new ≡ with_pc regs.old pc.old) }
     ensures present { IsPresent result }

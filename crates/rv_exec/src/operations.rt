@@ -21,7 +21,9 @@ pub fn perform_op(
     rs2: Reg,
 ) -> Outcome
     ensures done { result ≡ Outcome.Done }
-    ensures written { (with_pc regs.new pc.new) ≡ computed (with_pc regs.old pc.old) rd (result_of kind (register (with_pc regs.old pc.old) rs1) (register (with_pc regs.old pc.old) rs2)) }
+    ensures written { (with_pc regs.new pc.new) ≡ computed (with_pc regs.old pc.old) rd
+        (result_of kind (register (with_pc regs.old pc.old) rs1)
+        (register (with_pc regs.old pc.old) rs2)) }
 {
     let value = operate(kind, read(*pc, regs, rs1), read(*pc, regs, rs2));
     compute(pc, regs, rd, value)
@@ -38,7 +40,9 @@ pub fn perform_immediate(
     immediate: Immediate,
 ) -> Outcome
     ensures done { result ≡ Outcome.Done }
-    ensures written { (with_pc regs.new pc.new) ≡ computed (with_pc regs.old pc.old) rd (result_of (immediate_operation kind) (register (with_pc regs.old pc.old) rs1) (word_of_signed immediate)) }
+    ensures written { (with_pc regs.new pc.new) ≡ computed (with_pc regs.old pc.old) rd
+        (result_of (immediate_operation kind) (register (with_pc regs.old pc.old) rs1)
+        (word_of_signed immediate)) }
 {
     let value = operate_immediate(kind, read(*pc, regs, rs1), immediate.word());
     compute(pc, regs, rd, value)
@@ -55,7 +59,8 @@ pub fn perform_shift(
     amount: ShiftAmount,
 ) -> Outcome
     ensures done { result ≡ Outcome.Done }
-    ensures written { (with_pc regs.new pc.new) ≡ computed (with_pc regs.old pc.old) rd (result_of (shift_operation kind) (register (with_pc regs.old pc.old) rs1) amount) }
+    ensures written { (with_pc regs.new pc.new) ≡ computed (with_pc regs.old pc.old) rd
+        (result_of (shift_operation kind) (register (with_pc regs.old pc.old) rs1) amount) }
 {
     let value = shift(kind, read(*pc, regs, rs1), u32::from(amount.value()));
     compute(pc, regs, rd, value)

@@ -25,7 +25,8 @@ impl Model for FuseSlot {
 impl FuseSlot {
     /// A slot that holds a page of zeros, and of whose saves and loads the first `passes` succeed.
     pub fn new(alloc: Global, passes: u64) -> Result<FuseSlot, AllocError>
-        ensures { IfOk result (λ slot. slot ≡ record { content = zero_content; left = passes; failures = 0 }) }
+        ensures { IfOk result (λ slot. slot ≡
+            record { content = zero_content; left = passes; failures = 0 }) }
     {
         Ok(FuseSlot {
             slot: MemorySlot::new(alloc)?,
@@ -40,7 +41,8 @@ impl FuseSlot {
         ensures content { self.new.content ≡ self.old.content }
         ensures left { self.new.left ≡ self.old.left - 1 }
         ensures passed { OnOk result (self.new.failures ≡ self.old.failures) }
-        ensures failed { OnErr result (self.new.failures ≡ min (self.old.failures + 1) (2 ^ 64 - 1)) }
+        ensures failed { OnErr result (self.new.failures ≡ min (self.old.failures + 1)
+            (2 ^ 64 - 1)) }
         ensures fault { OnErr result (Rose self.old.failures self.new.failures) }
         ensures counted { self.old.failures ≤ self.new.failures }
     {
@@ -66,7 +68,8 @@ impl SwapSlot for FuseSlot {
         ensures saved { OnOk result (self.new.content ≡ page.now) }
         ensures unsaved { OnErr result (self.new.content ≡ self.old.content) }
         ensures passed { OnOk result (self.new.failures ≡ self.old.failures) }
-        ensures failed { OnErr result (self.new.failures ≡ min (self.old.failures + 1) (2 ^ 64 - 1)) }
+        ensures failed { OnErr result (self.new.failures ≡ min (self.old.failures + 1)
+            (2 ^ 64 - 1)) }
         ensures fault { OnErr result (Rose self.old.failures self.new.failures) }
         ensures counted { self.old.failures ≤ self.new.failures }
     {
@@ -81,7 +84,8 @@ impl SwapSlot for FuseSlot {
         ensures unloaded { OnErr result (page.new ≡ page.old) }
         ensures kept { self.new.content ≡ self.old.content }
         ensures passed { OnOk result (self.new.failures ≡ self.old.failures) }
-        ensures failed { OnErr result (self.new.failures ≡ min (self.old.failures + 1) (2 ^ 64 - 1)) }
+        ensures failed { OnErr result (self.new.failures ≡ min (self.old.failures + 1)
+            (2 ^ 64 - 1)) }
         ensures fault { OnErr result (Rose self.old.failures self.new.failures) }
         ensures counted { self.old.failures ≤ self.new.failures }
     {

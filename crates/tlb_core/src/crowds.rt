@@ -33,7 +33,8 @@ impl Crowds {
     /// The entry of a page comes.
     pub(crate) fn come(&mut self, page: u32)
         requires { slice_index_or self.old.counts (page % 256) 0 < 255 }
-        ensures { self.new.counts ≡ slice_set self.old.counts (page % 256) (slice_index_or self.old.counts (page % 256) 0 + 1) }
+        ensures { self.new.counts ≡ slice_set self.old.counts (page % 256)
+            (slice_index_or self.old.counts (page % 256) 0 + 1) }
     {
         self.counts[(page as usize) % CROWDS] += 1;
     }
@@ -41,7 +42,8 @@ impl Crowds {
     /// The entry of a page goes.
     pub(crate) fn go(&mut self, page: u32)
         requires { 0 < slice_index_or self.old.counts (page % 256) 0 }
-        ensures { self.new.counts ≡ slice_set self.old.counts (page % 256) (slice_index_or self.old.counts (page % 256) 0 - 1) }
+        ensures { self.new.counts ≡ slice_set self.old.counts (page % 256)
+            (slice_index_or self.old.counts (page % 256) 0 - 1) }
     {
         self.counts[(page as usize) % CROWDS] -= 1;
     }

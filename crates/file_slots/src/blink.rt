@@ -25,7 +25,8 @@ impl BlinkSlot {
     /// A slot that holds a page of zeros. Of its saves and loads, counted together from 1, the one of this number fails; with 0
     /// none does.
     pub fn new(alloc: Global, failing: u64) -> Result<BlinkSlot, AllocError>
-        ensures { IfOk result (λ slot. slot ≡ record { content = zero_content; failing = failing; failures = 0 }) }
+        ensures { IfOk result (λ slot. slot ≡
+            record { content = zero_content; failing = failing; failures = 0 }) }
     {
         Ok(BlinkSlot {
             slot: MemorySlot::new(alloc)?,
@@ -40,7 +41,8 @@ impl BlinkSlot {
         ensures content { self.new.content ≡ self.old.content }
         ensures failing { self.new.failing ≡ self.old.failing - 1 }
         ensures passed { OnOk result (self.new.failures ≡ self.old.failures) }
-        ensures failed { OnErr result (self.new.failures ≡ min (self.old.failures + 1) (2 ^ 64 - 1)) }
+        ensures failed { OnErr result (self.new.failures ≡ min (self.old.failures + 1)
+            (2 ^ 64 - 1)) }
         ensures fault { OnErr result (Rose self.old.failures self.new.failures) }
         ensures counted { self.old.failures ≤ self.new.failures }
     {
@@ -67,7 +69,8 @@ impl SwapSlot for BlinkSlot {
         ensures saved { OnOk result (self.new.content ≡ page.now) }
         ensures unsaved { OnErr result (self.new.content ≡ self.old.content) }
         ensures passed { OnOk result (self.new.failures ≡ self.old.failures) }
-        ensures failed { OnErr result (self.new.failures ≡ min (self.old.failures + 1) (2 ^ 64 - 1)) }
+        ensures failed { OnErr result (self.new.failures ≡ min (self.old.failures + 1)
+            (2 ^ 64 - 1)) }
         ensures fault { OnErr result (Rose self.old.failures self.new.failures) }
         ensures counted { self.old.failures ≤ self.new.failures }
     {
@@ -82,7 +85,8 @@ impl SwapSlot for BlinkSlot {
         ensures unloaded { OnErr result (page.new ≡ page.old) }
         ensures kept { self.new.content ≡ self.old.content }
         ensures passed { OnOk result (self.new.failures ≡ self.old.failures) }
-        ensures failed { OnErr result (self.new.failures ≡ min (self.old.failures + 1) (2 ^ 64 - 1)) }
+        ensures failed { OnErr result (self.new.failures ≡ min (self.old.failures + 1)
+            (2 ^ 64 - 1)) }
         ensures fault { OnErr result (Rose self.old.failures self.new.failures) }
         ensures counted { self.old.failures ≤ self.new.failures }
     {

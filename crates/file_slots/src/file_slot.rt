@@ -52,7 +52,8 @@ impl<F> FileSlot<F> {
         ensures number { self.new.number ≡ self.old.number }
         ensures file { self.new.file ≡ self.old.file }
         ensures passed { OnOk result (self.new.failures ≡ self.old.failures) }
-        ensures failed { OnErr result (self.new.failures ≡ min (self.old.failures + 1) (2 ^ 64 - 1)) }
+        ensures failed { OnErr result (self.new.failures ≡ min (self.old.failures + 1)
+            (2 ^ 64 - 1)) }
         ensures fault { OnErr result (Rose self.old.failures self.new.failures) }
         ensures counted { self.old.failures ≤ self.new.failures }
     {
@@ -73,10 +74,12 @@ impl<F: Read + Write + Seek + Drop> SwapSlot for FileSlot<F> {
     ghost honest = { ⊥ };
 
     fn save(&mut self, page: &[u8; 4096]) -> Result<(), SlotFault>
-        ensures written { OnOk result (FromStart F.stream_position (λ start end. Appends (F.contents start) (F.contents end) page.now) self.old.file self.new.file) }
+        ensures written { OnOk result (FromStart F.stream_position (λ start end.
+            Appends (F.contents start) (F.contents end) page.now) self.old.file self.new.file) }
         ensures number { self.new.number ≡ self.old.number }
         ensures passed { OnOk result (self.new.failures ≡ self.old.failures) }
-        ensures failed { OnErr result (self.new.failures ≡ min (self.old.failures + 1) (2 ^ 64 - 1)) }
+        ensures failed { OnErr result (self.new.failures ≡ min (self.old.failures + 1)
+            (2 ^ 64 - 1)) }
         ensures fault { OnErr result (Rose self.old.failures self.new.failures) }
         ensures counted { self.old.failures ≤ self.new.failures }
     {
@@ -85,10 +88,12 @@ impl<F: Read + Write + Seek + Drop> SwapSlot for FileSlot<F> {
     }
 
     fn load(&mut self, page: &mut [u8; 4096]) -> Result<(), SlotFault>
-        ensures read { OnOk result (FromStart F.stream_position (λ start end. Consumes (F.remaining start) (F.remaining end) page.new) self.old.file self.new.file) }
+        ensures read { OnOk result (FromStart F.stream_position (λ start end.
+            Consumes (F.remaining start) (F.remaining end) page.new) self.old.file self.new.file) }
         ensures number { self.new.number ≡ self.old.number }
         ensures passed { OnOk result (self.new.failures ≡ self.old.failures) }
-        ensures failed { OnErr result (self.new.failures ≡ min (self.old.failures + 1) (2 ^ 64 - 1)) }
+        ensures failed { OnErr result (self.new.failures ≡ min (self.old.failures + 1)
+            (2 ^ 64 - 1)) }
         ensures fault { OnErr result (Rose self.old.failures self.new.failures) }
         ensures counted { self.old.failures ≤ self.new.failures }
     {
@@ -103,7 +108,8 @@ impl<F: Read + Write + Seek + Drop> SwapSlot for FileSlot<F> {
 
 /// Writes a page to a file, from its start on and whole.
 fn write_page<F: Write + Seek>(file: &mut F, page: &[u8; 4096]) -> io::Result<()>
-    ensures { OnOk result (FromStart F.stream_position (λ start end. Appends (F.contents start) (F.contents end) page.now) file.old file.new) }
+    ensures { OnOk result (FromStart F.stream_position (λ start end.
+        Appends (F.contents start) (F.contents end) page.now) file.old file.new) }
 {
     file.rewind()?;
     write_whole(file, page)
@@ -121,7 +127,8 @@ fn write_whole<F: Write>(file: &mut F, page: &[u8; 4096]) -> io::Result<()>
 /// Reads a page from a file, from its start on and whole: a short read goes on, and one that is interrupted is tried again. A file
 /// that ends before is an error.
 fn read_page<F: Read + Seek>(file: &mut F, page: &mut [u8; 4096]) -> io::Result<()>
-    ensures { OnOk result (FromStart F.stream_position (λ start end. Consumes (F.remaining start) (F.remaining end) page.new) file.old file.new) }
+    ensures { OnOk result (FromStart F.stream_position (λ start end. Consumes (F.remaining start)
+        (F.remaining end) page.new) file.old file.new) }
 {
     file.rewind()?;
     file.read_exact(page)

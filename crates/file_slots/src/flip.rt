@@ -25,7 +25,8 @@ impl FlipSlot {
     /// A slot that holds a page of zeros. Of its loads, counted from 1, the one of this number turns bit 0 of the first byte of what
     /// it answers; with 0 none does.
     pub fn new(alloc: Global, flipping: u64) -> Result<FlipSlot, AllocError>
-        ensures { IfOk result (λ slot. slot ≡ record { content = zero_content; flipping = flipping }) }
+        ensures { IfOk result (λ slot. slot ≡
+            record { content = zero_content; flipping = flipping }) }
     {
         Ok(FlipSlot {
             slot: MemorySlot::new(alloc)?,
@@ -51,7 +52,8 @@ impl SwapSlot for FlipSlot {
 
     fn load(&mut self, page: &mut [u8; 4096]) -> Result<(), SlotFault>
         ensures succeeds { IsOk result }
-        ensures loaded { page.new ≡ (if self.old.flipping == 1 then flipped self.old.content else self.old.content) }
+        ensures loaded { page.new ≡ (if self.old.flipping == 1 then flipped self.old.content else
+            self.old.content) }
         ensures kept { self.new.content ≡ self.old.content }
         ensures flipping { self.new.flipping ≡ self.old.flipping - 1 }
     {

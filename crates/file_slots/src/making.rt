@@ -20,7 +20,8 @@ pub fn make_file_slots<'a, R: Files + AllocGlobal>(
     prefix: &'a str,
     count: u32,
 ) -> Result<Vec<FileSlot<R::File>>, FilesFault<'a>>
-    ensures numbers { IfOk result (λ slots. map (λ slot. slot.number) slots.items ≡ range_with_len 0 (min count MOST_FILES)) }
+    ensures numbers { IfOk result (λ slots. map (λ slot. slot.number) slots.items ≡
+        range_with_len 0 (min count MOST_FILES)) }
     ensures unused { IfOk result (λ slots. All (λ slot. slot.failures ≡ 0) slots.items) }
     ensures refused { IfErr result (NamesOneOf prefix.now (min count MOST_FILES)) }
 {

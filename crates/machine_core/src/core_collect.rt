@@ -16,7 +16,8 @@ use swap_slots::{SlotPool, SwapSlot};
 impl<L: Ledger, S: SwapSlot, C: Clock> Core<L, S, C> {
     /// A page that is to leave its frame is looked at: whether a cache holds it still, whether it is to be saved.
     pub(crate) fn collect(&mut self, key: Key) -> Reply
-        ensures { RefusesEvent (collect_refusal key self.old.processes) self.old self.new result ⊎ CollectsOnce S.content S.honest key self.old self.new result }
+        ensures { RefusesEvent (collect_refusal key self.old.processes) self.old self.new result ⊎
+            CollectsOnce S.content S.honest key self.old self.new result }
     {
         let refusal = collect_refusal(self.processes.as_slice(), key);
         if let Some(refusal) = refusal {
@@ -56,7 +57,8 @@ fn collect_at<L: Ledger, S: SwapSlot, C: Clock>(
     slots: &mut SlotPool<S>,
 ) -> Looked<L, S>
     requires { key.process < length processes.old }
-    ensures { LooksAt S.content S.honest key.process key.vpn pager.old pager.new slots.old slots.new processes.old processes.new result }
+    ensures { LooksAt S.content S.honest key.process key.vpn pager.old pager.new slots.old
+        slots.new processes.old processes.new result }
 {
     collect(pager, &mut processes[key.process as usize], key.vpn, slots)
 }

@@ -16,7 +16,8 @@ use swap_slots::SwapSlot;
 impl<L: Ledger, S: SwapSlot, C: Clock> Core<L, S, C> {
     /// A page of a process is brought in.
     pub(crate) fn page_in(&mut self, key: Key) -> Reply
-        ensures { RefusesEvent (page_in_refusal key self.old) self.old self.new result ⊎ PagesInOnce S.content S.honest S.failures key self.old self.new result }
+        ensures { RefusesEvent (page_in_refusal key self.old) self.old self.new result ⊎
+            PagesInOnce S.content S.honest S.failures key self.old self.new result }
     {
         if key.process as usize >= self.processes.len() {
             return Reply::Refused(EventRefusal::NoProcess);
@@ -33,7 +34,8 @@ fn page_in_at<L: Ledger, S: SwapSlot, C: Clock>(
 ) -> Reply
     requires there { key.process < length processes.old }
     requires fits { length pager.old.pager.free ≤ pager.old.pager.size }
-    ensures { PagesInAt S.content S.honest S.failures key pager.old pager.new processes.old processes.new result }
+    ensures { PagesInAt S.content S.honest S.failures key pager.old pager.new processes.old
+        processes.new result }
 {
     page_in(pager, &mut processes[key.process as usize], key)
 }

@@ -15,7 +15,8 @@ use swap_slots::{SlotPool, SwapSlot};
 impl<L: Ledger, S: SwapSlot, C: Clock> Core<L, S, C> {
     /// An ended process gives its frames and slots back.
     pub(crate) fn purge(&mut self, process: u32) -> Reply
-        ensures { RefusesEvent (purge_refusal process self.old.processes) self.old self.new result ⊎ PurgesOnce process self.old self.new result }
+        ensures { RefusesEvent (purge_refusal process self.old.processes) self.old self.new
+            result ⊎ PurgesOnce process self.old self.new result }
     {
         let refusal = purge_refusal(self.processes.as_slice(), process);
         if let Some(refusal) = refusal {
@@ -66,7 +67,8 @@ fn purge_at<L: Ledger, S: SwapSlot, C: Clock>(
     slots: &mut SlotPool<S>,
 ) -> Purging<L, S>
     requires { process < length processes.old }
-    ensures { PurgesAt pager.old pager.new process processes.old processes.new slots.old slots.new result }
+    ensures { PurgesAt pager.old pager.new process processes.old processes.new slots.old slots.new
+        result }
 {
     purge(pager, &mut processes[process], slots)
 }

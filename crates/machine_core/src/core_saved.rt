@@ -16,7 +16,8 @@ use swap_slots::SwapSlot;
 impl<L: Ledger, S: SwapSlot, C: Clock> Core<L, S, C> {
     /// A page's save is made and comes back.
     pub(crate) fn saved(&mut self, key: Key) -> Reply
-        ensures { RefusesEvent (saved_refusal key self.old.processes) self.old self.new result ⊎ SavesOnce S.content S.honest S.failures key self.old self.new result }
+        ensures { RefusesEvent (saved_refusal key self.old.processes) self.old self.new result ⊎
+            SavesOnce S.content S.honest S.failures key self.old self.new result }
     {
         let refusal = saved_refusal(self.processes.as_slice(), key);
         if let Some(refusal) = refusal {
@@ -53,7 +54,8 @@ fn saved_refusal<L: Ledger, S: SwapSlot>(
 
 /// Takes the save of a page from those that are out, and makes it.
 fn make_save<S: SwapSlot>(jobs: &mut Vec<SaveJob<S>>, key: Key) -> Option<SavedJob<S>>
-    ensures makes { IfSome result (MakesSave S.content S.honest S.failures key jobs.old.items jobs.new.items) }
+    ensures makes { IfSome result (MakesSave S.content S.honest S.failures key jobs.old.items
+        jobs.new.items) }
     ensures none { IfNone result (position (is_save_of key) jobs.old.items ≡ None) }
     ensures capacity { vec_capacity jobs.new ≡ vec_capacity jobs.old }
 {
@@ -83,7 +85,8 @@ fn saved_at<L: Ledger, S: SwapSlot, C: Clock>(
     job: SavedJob<S>,
 ) -> SaveOutcome<L, S>
     requires { process < length processes.old }
-    ensures { SavedAt S.content S.honest job pager.old pager.new process processes.old processes.new result }
+    ensures { SavedAt S.content S.honest job pager.old pager.new process processes.old
+        processes.new result }
 {
     saved(pager, &mut processes[process], job)
 }

@@ -56,7 +56,8 @@ pub(crate) fn step<L: Ledger, S: SwapSlot>(
     hart: u32,
 ) -> SliceStop
     requires { process < length processes.old }
-    ensures { ChangesOne (StepsOnce S.content S.honest hart result) process processes.old processes.new }
+    ensures { ChangesOne (StepsOnce S.content S.honest hart result) process processes.old
+        processes.new }
 {
     processes[process].step(hart)
 }

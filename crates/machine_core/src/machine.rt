@@ -39,7 +39,8 @@ impl<L: Ledger, S: SwapSlot, C: Clock> Model for Core<L, S, C> {
 impl<L: Ledger, S: SwapSlot, C: Clock> Core<L, S, C> {
     /// A hart runs one instruction.
     pub(crate) fn step(&mut self, process: u32, hart: u32) -> Reply
-        ensures { RefusesEvent (hart_refusal process hart self.old.processes) self.old self.new result ⊎ Steps S.content S.honest process hart self.old self.new result }
+        ensures { RefusesEvent (hart_refusal process hart self.old.processes) self.old self.new
+            result ⊎ Steps S.content S.honest process hart self.old self.new result }
     {
         let refusal = core_steps::hart_refusal(self.processes.as_slice(), process, hart);
         if let Some(refusal) = refusal {
@@ -51,7 +52,8 @@ impl<L: Ledger, S: SwapSlot, C: Clock> Core<L, S, C> {
 
     /// A hart drops its translations that are to be dropped.
     pub(crate) fn notice(&mut self, process: u32, hart: u32) -> Reply
-        ensures { RefusesEvent (hart_refusal process hart self.old.processes) self.old self.new result ⊎ Notices process hart self.old self.new result }
+        ensures { RefusesEvent (hart_refusal process hart self.old.processes) self.old self.new
+            result ⊎ Notices process hart self.old self.new result }
     {
         let refusal = core_steps::hart_refusal(self.processes.as_slice(), process, hart);
         if let Some(refusal) = refusal {
@@ -63,7 +65,8 @@ impl<L: Ledger, S: SwapSlot, C: Clock> Core<L, S, C> {
 
     /// The machine ends a process.
     pub(crate) fn kill(&mut self, process: u32, cause: KillCause) -> Reply
-        ensures { RefusesEvent (kill_refusal process self.old.processes) self.old self.new result ⊎ Kills process cause self.old self.new result }
+        ensures { RefusesEvent (kill_refusal process self.old.processes) self.old self.new result ⊎
+            Kills process cause self.old self.new result }
     {
         let refusal = core_steps::kill_refusal(self.processes.as_slice(), process);
         if let Some(refusal) = refusal {
@@ -75,7 +78,8 @@ impl<L: Ledger, S: SwapSlot, C: Clock> Core<L, S, C> {
 
     /// The list asks for a page, and is answered by its accessed bit.
     pub(crate) fn sweep(&mut self) -> Reply
-        ensures { RefusesEvent (sweep_refusal (question_of self.old.pager.pager.list)) self.old self.new result ⊎ SweepsOnce self.old self.new result }
+        ensures { RefusesEvent (sweep_refusal (question_of self.old.pager.pager.list)) self.old
+            self.new result ⊎ SweepsOnce self.old self.new result }
     {
         let Some(key) = self.pager.question() else {
             return Reply::Refused(EventRefusal::NothingResident);

@@ -29,7 +29,9 @@ impl<L: Ledger, S: SwapSlot, C: Clock> Core<L, S, C> {
     /// Steps of one hart, one after another, up to so many: they end with the first that is not answered with
     /// [`Reply::Ran`].
     pub fn steps(&mut self, process: u32, hart: u32, most: u32) -> Steps
-        ensures runs { Runs S.content S.honest S.failures (steps_of process hart result.ran result.last) (replies_of result.ran result.last) self.old self.new }
+        ensures runs { Runs S.content S.honest S.failures
+            (steps_of process hart result.ran result.last)
+            (replies_of result.ran result.last) self.old self.new }
         ensures within { result.ran ≤ most }
         ensures all { IfNone result.last (result.ran ≡ most) }
         ensures short { IfSome result.last (λ _. result.ran < most) }
@@ -70,7 +72,8 @@ fn slices_at<L: Ledger, S: SwapSlot>(
     most: u32,
 ) -> space_core::Steps
     requires { process < length processes.old }
-    ensures changes { ChangesOne (SlicesMany S.content S.honest hart result.ran (option_map (λ slice. slice.stop) result.last)) process processes.old processes.new }
+    ensures changes { ChangesOne (SlicesMany S.content S.honest hart result.ran
+        (option_map (λ slice. slice.stop) result.last)) process processes.old processes.new }
     ensures within { result.ran ≤ most }
     ensures all { IfNone result.last (result.ran ≡ most) }
     ensures short { IfSome result.last (λ _. result.ran < most) }

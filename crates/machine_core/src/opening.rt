@@ -30,9 +30,11 @@ impl<L: Ledger, S: SwapSlot, C: Clock> Core<L, S, C> {
         requires name { blank.name ≡ L.name }
         requires parts { blank.parts ≡ L.parts }
         requires one_each { L.parts ≡ frames + 1 }
-        ensures begins { IfOk result (λ core. MachineBegins frames slots.items (map (λ start. start_of start.0 start.1.items) processes.items) core) }
+        ensures begins { IfOk result (λ core. MachineBegins frames slots.items (map (λ start.
+            start_of start.0 start.1.items) processes.items) core) }
         ensures bad_size { IsErrOf result CoreError.BadSize ↔ ((frames < 4) ⊎ (4096 < frames)) }
-        ensures too_many { IsErrOf result CoreError.TooManyProcesses ↔ ((4 ≤ frames) × ((frames ≤ 4096) × (16 < length processes.items))) }
+        ensures too_many { IsErrOf result CoreError.TooManyProcesses ↔ ((4 ≤ frames) ×
+            ((frames ≤ 4096) × (16 < length processes.items))) }
     {
         if frames < FEWEST_FRAMES || frames > MOST_FRAMES {
             return Err(CoreError::BadSize);
@@ -66,7 +68,8 @@ fn begin_all<L: Ledger, S: SwapSlot>(
     starts: Vec<(Image, Vec<u8>)>,
 ) -> Result<Vec<ProcessSide<L, S>>, AllocError>
     requires { length starts.items ≤ 16 }
-    ensures { IfOk result (λ sides. AllBegin (map (λ start. start_of start.0 start.1.items) starts.items) sides.items) }
+    ensures { IfOk result (λ sides. AllBegin (map (λ start.
+        start_of start.0 start.1.items) starts.items) sides.items) }
 {
     let mut sides = Vec::new(alloc);
     for (image, input) in starts {

@@ -16,7 +16,8 @@ pub(crate) fn page_in<L: Ledger, S: SwapSlot, C: Clock>(
     key: Key,
 ) -> Reply
     requires { length pager.old.pager.free ≤ pager.old.pager.size }
-    ensures { PagesIn S.content S.honest S.failures key pager.old pager.new process.old process.new result }
+    ensures { PagesIn S.content S.honest S.failures key pager.old pager.new process.old process.new
+        result }
 {
     let admission = match admit(pager, process, key) {
         Ok(admission) => admission,

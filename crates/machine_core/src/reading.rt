@@ -24,31 +24,38 @@ use swap_slots::SwapSlot;
 impl<L: Ledger, S: SwapSlot, C: Clock> Core<L, S, C> {
     /// A hart's registers, where there is such a process and the hart was started.
     pub fn regs(&self, process: u32, hart: u32) -> Option<&Regs>
-        ensures exact { option_copied result ≡ option_and_then (λ process. slice_get process.space.running.harts hart) (slice_get self.now.processes process) }
-        ensures flat { IfThere S.honest (λ flat. option_copied result ≡ slice_get flat.harts hart) (slice_get self.now.processes process) }
+        ensures exact { option_copied result ≡ option_and_then (λ process.
+            slice_get process.space.running.harts hart) (slice_get self.now.processes process) }
+        ensures flat { IfThere S.honest (λ flat. option_copied result ≡ slice_get flat.harts hart)
+            (slice_get self.now.processes process) }
     {
         self.processes.get(process as usize)?.regs(hart)
     }
 
     /// What a process has written so far, where there is such a process.
     pub fn output(&self, process: u32) -> Option<&[u8]>
-        ensures exact { option_copied result ≡ option_map (λ process. process.space.running.environment.output) (slice_get self.now.processes process) }
-        ensures flat { IfThere S.honest (λ flat. option_copied result ≡ Some flat.environment.output) (slice_get self.now.processes process) }
+        ensures exact { option_copied result ≡ option_map (λ process.
+            process.space.running.environment.output) (slice_get self.now.processes process) }
+        ensures flat { IfThere S.honest (λ flat. option_copied result ≡
+            Some flat.environment.output) (slice_get self.now.processes process) }
     {
         Some(self.processes.get(process as usize)?.output())
     }
 
     /// How a process ended, if it did, where there is such a process.
     pub fn end(&self, process: u32) -> Option<Option<End>>
-        ensures exact { result ≡ option_map (λ process. process.space.running.ending) (slice_get self.now.processes process) }
-        ensures flat { IfThere S.honest (λ flat. option_map own_ending result ≡ Some flat.ending) (slice_get self.now.processes process) }
+        ensures exact { result ≡ option_map (λ process. process.space.running.ending)
+            (slice_get self.now.processes process) }
+        ensures flat { IfThere S.honest (λ flat. option_map own_ending result ≡ Some flat.ending)
+            (slice_get self.now.processes process) }
     {
         Some(self.processes.get(process as usize)?.end())
     }
 
     /// The instructions that a process ran, where there is such a process.
     pub fn schedule(&self, process: u32) -> Option<&Schedule>
-        ensures { option_copied result ≡ option_map (λ process. process.space.schedule) (slice_get self.now.processes process) }
+        ensures { option_copied result ≡ option_map (λ process. process.space.schedule)
+            (slice_get self.now.processes process) }
     {
         Some(self.processes.get(process as usize)?.schedule())
     }
@@ -73,7 +80,8 @@ impl<L: Ledger, S: SwapSlot, C: Clock> Core<L, S, C> {
 
     /// Where a page of a process is, or `None` where there is no such process or none is mapped.
     pub fn state(&self, process: u32, vpn: u32) -> Option<PageState>
-        ensures { result ≡ option_and_then (λ process. stage_at process.space vpn) (slice_get self.now.processes process) }
+        ensures { result ≡ option_and_then (λ process. stage_at process.space vpn)
+            (slice_get self.now.processes process) }
     {
         self.processes.get(process as usize)?.state(vpn)
     }
@@ -90,9 +98,11 @@ impl<L: Ledger, S: SwapSlot, C: Clock> Core<L, S, C> {
 
     /// The entry of the list at a place, counted from the front.
     pub fn entry(&self, i: usize) -> Option<(Key, EntryKind)>
-        ensures entry { result ≡ option_map (λ e. (e.key, e.kind)) (slice_get self.now.pager.pager.list.entries i) }
+        ensures entry { result ≡ option_map (λ e. (e.key, e.kind))
+            (slice_get self.now.pager.pager.list.entries i) }
         ensures few { length self.now.pager.pager.list.entries ≤ 2 * self.now.pager.pager.size }
     {
+        // For the proof alone: a read tells its invariant.
         let _ = &self.pager;
         self.pager.entry(i)
     }
@@ -101,6 +111,7 @@ impl<L: Ledger, S: SwapSlot, C: Clock> Core<L, S, C> {
     pub fn resident_entries(&self) -> usize
         ensures { result ≡ residents self.now.pager.pager.list (λ _. true) }
     {
+        // For the proof alone: a read tells its invariant.
         let _ = &self.processes;
         resident_entries(&self.pager)
     }
@@ -134,8 +145,10 @@ impl<L: Ledger, S: SwapSlot, C: Clock> Core<L, S, C> {
     /// Whether a process was started from this image and this input, where there is such a process.
     pub fn started_from(&self, process: u32, image: &Image, input: &[u8]) -> Option<bool>
         ensures there { IsNone result ↔ (slice_get self.now.processes process ≡ None) }
-        ensures same { result ≡ Some true → IfSome (slice_get self.now.processes process) (λ process. (image.now ≡ process.space.image) × (input.now ≡ process.space.input)) }
-        ensures different { result ≡ Some false → IfSome (slice_get self.now.processes process) (λ process. image.now ≡ process.space.image → input.now ≢ process.space.input) }
+        ensures same { result ≡ Some true → IfSome (slice_get self.now.processes process)
+            (λ process. (image.now ≡ process.space.image) × (input.now ≡ process.space.input)) }
+        ensures different { result ≡ Some false → IfSome (slice_get self.now.processes process)
+            (λ process. image.now ≡ process.space.image → input.now ≢ process.space.input) }
     {
         Some(
             self.processes
@@ -153,7 +166,8 @@ impl<L: Ledger, S: SwapSlot, C: Clock> Core<L, S, C> {
         bytes: &mut [Option<u8>],
     ) -> Option<Result<(), PeekFault>>
         requires { page_offset address + length bytes.old ≤ 4096 }
-        ensures { PeeksAt S.content S.honest S.failures process address bytes.old bytes.new result self.old self.new }
+        ensures { PeeksAt S.content S.honest S.failures process address bytes.old bytes.new result
+            self.old self.new }
     {
         if process as usize >= self.processes.len() {
             return None;
@@ -176,7 +190,8 @@ fn peek_at<L: Ledger, S: SwapSlot>(
 ) -> Result<(), PeekFault>
     requires there { process < length processes.old }
     requires within { page_offset address + length bytes.old ≤ 4096 }
-    ensures { ChangesOne (Peeks S.content S.honest S.failures address bytes.old bytes.new result) process processes.old processes.new }
+    ensures { ChangesOne (Peeks S.content S.honest S.failures address bytes.old bytes.new result)
+        process processes.old processes.new }
 {
     processes[process].peek(address, bytes)
 }

@@ -20,8 +20,11 @@ impl<L: Ledger, S: SwapSlot, C: Clock> Core<L, S, C> {
     /// Applies events one after another, and gives their replies: whatever events come in whatever order, paging is invisible.
     /// Room for the replies is taken first; where it is refused, nothing has changed.
     pub fn run(&mut self, alloc: Global, events: &[Event]) -> Result<Vec<Reply>, AllocError>
-        ensures runs { IfOk result (λ replies. Runs S.content S.honest S.failures events.now replies.items self.old self.new) }
-        ensures invisible { IfOk result (λ replies. PagingIsInvisible S.content S.honest S.failures events.now replies.items self.old self.new) }
+        ensures runs { IfOk result (λ replies.
+            Runs S.content S.honest S.failures events.now replies.items self.old self.new) }
+        ensures invisible { IfOk result (λ replies.
+            PagingIsInvisible S.content S.honest S.failures events.now replies.items self.old
+            self.new) }
         ensures coherent { EachCoherent S.content S.honest self.new.processes }
         ensures refused { OnErr result (self.new ≡ self.old) }
     {
@@ -39,5 +42,8 @@ impl<L: Ledger, S: SwapSlot, C: Clock> Core<L, S, C> {
 /// Each prefix of a run is a run, and what is left goes on from the machine that it leaves. It does nothing.
 #[tactic(auto, using(crate::specs::ApplyingLaws::run_cut))]
 pub fn cut_run<S: SwapSlot>()
-    ensures { (first second : List machine_event.Event) → (replies : List machine_reply.Reply) → (old new : CoreValue S) → Runs S.content S.honest S.failures (first ++ second) replies old new → CutRun S.content S.honest S.failures first second replies old new }
+    ensures { (first second : List machine_event.Event) → (replies : List machine_reply.Reply) →
+        (old new : CoreValue S) → Runs S.content S.honest S.failures (first ++
+        second) replies old new → CutRun S.content S.honest S.failures first second replies old
+        new }
 {}

@@ -15,7 +15,8 @@ use swap_slots::SwapSlot;
 impl<L: Ledger, S: SwapSlot, C: Clock> Core<L, S, C> {
     /// What is shown of a page of a process, or `None` where there is no such process or none is mapped.
     pub fn status(&self, process: u32, vpn: u32) -> Option<PageStatus>
-        ensures { result ≡ option_and_then (λ process. status_at process.space vpn) (slice_get self.now.processes process) }
+        ensures { result ≡ option_and_then (λ process. status_at process.space vpn)
+            (slice_get self.now.processes process) }
     {
         self.processes.get(process as usize)?.status(vpn)
     }
@@ -33,9 +34,11 @@ impl<L: Ledger, S: SwapSlot, C: Clock> Core<L, S, C> {
     /// Adds all entries of the list to a vector, from the front, in time linear in the list. It takes memory only where the
     /// vector has not the room.
     pub fn copy_entries(&self, to: &mut Vec<Entry>) -> Result<(), AllocError>
-        ensures items { OnOk result (to.new.items ≡ to.old.items ++ self.now.pager.pager.list.entries) }
+        ensures items { OnOk result (to.new.items ≡ to.old.items ++
+            self.now.pager.pager.list.entries) }
         ensures err { OnErr result (to.new.items ≡ to.old.items) }
-        ensures room { vec_len to.old + length self.now.pager.pager.list.entries ≤ vec_capacity to.old → IsOk result }
+        ensures room { vec_len to.old + length self.now.pager.pager.list.entries ≤
+            vec_capacity to.old → IsOk result }
     {
         self.pager.copy_entries(to)
     }

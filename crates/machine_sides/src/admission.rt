@@ -59,9 +59,12 @@ pub fn admit<L: Ledger, S: SwapSlot, C: Clock>(
     process: &ProcessSide<L, S>,
     key: Key,
 ) -> Result<Admission<L>, NotAdmitted>
-    ensures admitted { IfOk result (λ admission. Admits key pager.old pager.new process.now.space admission) }
-    ensures refused { IfErr result (λ refusal. DoesNotAdmit key pager.old pager.new process.now.space refusal) }
-    ensures agree { OnOk result (AgreeStill (Some key) pager.old.pager pager.new.pager process.now.space process.now.space) }
+    ensures admitted { IfOk result (λ admission.
+        Admits key pager.old pager.new process.now.space admission) }
+    ensures refused { IfErr result (λ refusal.
+        DoesNotAdmit key pager.old pager.new process.now.space refusal) }
+    ensures agree { OnOk result (AgreeStill (Some key) pager.old.pager pager.new.pager
+        process.now.space process.now.space) }
 {
     list_and_take(pager, process, key)
 }
@@ -72,8 +75,10 @@ fn list_and_take<L: Ledger, S: SwapSlot, C: Clock>(
     process: &ProcessSide<L, S>,
     key: Key,
 ) -> Result<Admission<L>, NotAdmitted>
-    ensures admitted { IfOk result (λ admission. Admits key pager.old pager.new process.now.space admission) }
-    ensures refused { IfErr result (λ refusal. DoesNotAdmit key pager.old pager.new process.now.space refusal) }
+    ensures admitted { IfOk result (λ admission.
+        Admits key pager.old pager.new process.now.space admission) }
+    ensures refused { IfErr result (λ refusal.
+        DoesNotAdmit key pager.old pager.new process.now.space refusal) }
 {
     if let Some(reason) = page_bars(process, key.vpn) {
         return Err(reason);
@@ -119,13 +124,22 @@ pub fn undo<L: Ledger, S: SwapSlot, C: Clock>(
     process: &ProcessSide<L, S>,
     admission: Admission<L>,
 ) -> Result<(), Frame<L>>
-    ensures list { pager.new.pager.list ≡ taken_back (is_resident_at process.now.space admission.key.vpn) admission.key pager.old.pager.list }
-    ensures freed { OnOk result (pager.new ≡ record pager.old { pager = record pager.old.pager { list = pager.new.pager.list; free = pager.old.pager.free ++ admission.frame ∷ [] } }) }
+    ensures list { pager.new.pager.list ≡ taken_back
+        (is_resident_at process.now.space admission.key.vpn) admission.key pager.old.pager.list }
+    ensures freed { OnOk result (pager.new ≡ record pager.old {
+      pager = record pager.old.pager
+          { list = pager.new.pager.list; free = pager.old.pager.free ++ admission.frame ∷ [] };
+    }) }
     ensures full { IsErr result ↔ (length pager.old.pager.free ≡ pager.old.pager.size) }
     ensures handed_back { IfErr result (λ back. back ≡ admission.frame) }
-    ensures kept { OnErr result (pager.new ≡ record pager.old { pager = record pager.old.pager { list = pager.new.pager.list } }) }
-    ensures agree { AgreeStill None pager.old.pager pager.new.pager process.now.space process.now.space }
-    ensures settled { is_resident_at process.now.space admission.key.vpn ≡ false → Agree pager.new.pager process.now.space admission.key }
+    ensures kept { OnErr result (pager.new ≡ record pager.old {
+      pager = record pager.old.pager
+          { list = pager.new.pager.list };
+    }) }
+    ensures agree { AgreeStill None pager.old.pager pager.new.pager process.now.space
+        process.now.space }
+    ensures settled { is_resident_at process.now.space admission.key.vpn ≡ false →
+        Agree pager.new.pager process.now.space admission.key }
 {
     withdraw_and_free(pager, process, admission)
 }
@@ -136,11 +150,18 @@ fn withdraw_and_free<L: Ledger, S: SwapSlot, C: Clock>(
     process: &ProcessSide<L, S>,
     admission: Admission<L>,
 ) -> Result<(), Frame<L>>
-    ensures list { pager.new.pager.list ≡ taken_back (is_resident_at process.now.space admission.key.vpn) admission.key pager.old.pager.list }
-    ensures freed { OnOk result (pager.new ≡ record pager.old { pager = record pager.old.pager { list = pager.new.pager.list; free = pager.old.pager.free ++ admission.frame ∷ [] } }) }
+    ensures list { pager.new.pager.list ≡ taken_back
+        (is_resident_at process.now.space admission.key.vpn) admission.key pager.old.pager.list }
+    ensures freed { OnOk result (pager.new ≡ record pager.old {
+      pager = record pager.old.pager
+          { list = pager.new.pager.list; free = pager.old.pager.free ++ admission.frame ∷ [] };
+    }) }
     ensures full { IsErr result ↔ (length pager.old.pager.free ≡ pager.old.pager.size) }
     ensures handed_back { IfErr result (λ back. back ≡ admission.frame) }
-    ensures kept { OnErr result (pager.new ≡ record pager.old { pager = record pager.old.pager { list = pager.new.pager.list } }) }
+    ensures kept { OnErr result (pager.new ≡ record pager.old {
+      pager = record pager.old.pager
+          { list = pager.new.pager.list };
+    }) }
     ensures lawful { Lawful pager.old.pager.list }
 {
     // A question tells that the list is lawful, so that its entry of the page is the only one.

@@ -45,9 +45,12 @@ pub fn collect<L: Ledger, S: SwapSlot, C: Clock>(
     vpn: u32,
     slots: &mut SlotPool<S>,
 ) -> Looked<L, S>
-    ensures looked { Looks vpn pager.old pager.new process.old process.new slots.old slots.new result }
-    ensures agree { AgreeStill None pager.old.pager pager.new.pager process.old.space process.new.space }
-    ensures memory { S.honest → memory_of S.content process.new.space.memory ≡ memory_of S.content process.old.space.memory }
+    ensures looked { Looks vpn pager.old pager.new process.old process.new slots.old slots.new
+        result }
+    ensures agree { AgreeStill None pager.old.pager pager.new.pager process.old.space
+        process.new.space }
+    ensures memory { S.honest → memory_of S.content process.new.space.memory ≡
+        memory_of S.content process.old.space.memory }
 {
     look_at_page(pager, process, vpn, slots)
 }
@@ -59,8 +62,10 @@ fn look_at_page<L: Ledger, S: SwapSlot, C: Clock>(
     vpn: u32,
     slots: &mut SlotPool<S>,
 ) -> Looked<L, S>
-    ensures looked { Looks vpn pager.old pager.new process.old process.new slots.old slots.new result }
-    ensures memory { S.honest → memory_of S.content process.new.space.memory ≡ memory_of S.content process.old.space.memory }
+    ensures looked { Looks vpn pager.old pager.new process.old process.new slots.old slots.new
+        result }
+    ensures memory { S.honest → memory_of S.content process.new.space.memory ≡
+        memory_of S.content process.old.space.memory }
 {
     match process.look(vpn, slots, &mut pager.room) {
         Collected::NotLeaving => Looked::NotLeaving,
@@ -81,7 +86,11 @@ impl<L: Ledger, C: Clock> PagerSide<L, C> {
     /// Gives back the frame of a page that was dropped, and counts it. Where all are there, the frame is handed back.
     pub(crate) fn free_dropped(&mut self, frame: Frame<L>) -> Result<(), Frame<L>>
         ensures full { IsErr result ↔ (length self.old.pager.free ≡ self.old.pager.size) }
-        ensures ok { OnOk result (self.new ≡ record self.old { pager = record self.old.pager { free = self.old.pager.free ++ frame ∷ [] }; drops = tallied self.old.drops }) }
+        ensures ok { OnOk result (self.new ≡ record self.old {
+          pager = record self.old.pager
+              { free = self.old.pager.free ++ frame ∷ [] };
+          drops = tallied self.old.drops;
+        }) }
         ensures handed_back { IfErr result (λ back. back ≡ frame) }
         ensures err { OnErr result (self.new ≡ self.old) }
     {
@@ -117,7 +126,8 @@ impl<L: Ledger, S: SwapSlot> ProcessSide<L, S> {
         room: &mut Box<[u8; 4096]>,
     ) -> Collected<L, S>
         ensures found { Finds vpn self.old self.new slots.old slots.new result }
-        ensures memory { S.honest → memory_of S.content self.new.space.memory ≡ memory_of S.content self.old.space.memory }
+        ensures memory { S.honest → memory_of S.content self.new.space.memory ≡
+            memory_of S.content self.old.space.memory }
     {
         if vpn >= PAGE_COUNT {
             return Collected::NotLeaving;

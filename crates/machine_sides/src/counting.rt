@@ -14,6 +14,7 @@ use swap_slots::SwapSlot;
 pub fn resident_entries<L: Ledger, C: Clock>(pager: &PagerSide<L, C>) -> usize
     ensures { result ≡ residents pager.now.pager.list (λ _. true) }
 {
+    // For the proof alone: a read tells that what is read is lawful.
     let _ = pager.question();
     let mut count = 0;
     'entries: for i in 0..usize::MAX {
@@ -32,6 +33,7 @@ pub fn entries_of_resident_pages<L: Ledger, S: SwapSlot, C: Clock>(
 ) -> usize
     ensures { result ≡ residents pager.now.pager.list (is_resident_of side.now.space) }
 {
+    // For the proof alone: a read tells that what is read is lawful.
     let _ = pager.question();
     let mut count = 0;
     'entries: for i in 0..usize::MAX {

@@ -15,11 +15,18 @@ impl<L: Ledger, S: SwapSlot> ProcessSide<L, S> {
     /// Brings an admitted page into its frame, from its slot or as it began, and maps it with its rights, as used and not
     /// changed. A refusal hands the admission back, to be undone, and leaves the page where it was.
     pub fn load(&mut self, admission: Admission<L>) -> Result<(), (Admission<L>, PageInFault)>
-        ensures loaded { OnOk result (Loads S.content S.honest admission self.old.space self.new.space) }
-        ensures refused { IfErr result (λ back. DoesNotLoad S.content S.honest S.failures admission back.0 back.1 self.old.space self.new.space) }
-        ensures agree { OnOk result ((pager : PagerState) → AgreeStill (Some (key_of self.old.space.memory.process admission.key.vpn)) pager pager self.old.space self.new.space) }
-        ensures meets { OnOk result (AgreesWhereListed self.new.space (key_of self.old.space.memory.process admission.key.vpn)) }
-        ensures keeps { OnErr result ((pager : PagerState) → AgreeStill None pager pager self.old.space self.new.space) }
+        ensures loaded { OnOk result (Loads S.content S.honest admission self.old.space
+            self.new.space) }
+        ensures refused { IfErr result (λ back.
+            DoesNotLoad S.content S.honest S.failures admission back.0 back.1 self.old.space
+            self.new.space) }
+        ensures agree { OnOk result ((pager : PagerState) →
+            AgreeStill (Some (key_of self.old.space.memory.process admission.key.vpn)) pager pager
+            self.old.space self.new.space) }
+        ensures meets { OnOk result (AgreesWhereListed self.new.space
+            (key_of self.old.space.memory.process admission.key.vpn)) }
+        ensures keeps { OnErr result ((pager : PagerState) →
+            AgreeStill None pager pager self.old.space self.new.space) }
         ensures purged { self.new.purged ≡ self.old.purged }
     {
         self.bring_in(admission)
@@ -27,8 +34,11 @@ impl<L: Ledger, S: SwapSlot> ProcessSide<L, S> {
 
     /// The page comes into its frame, or the admission back.
     fn bring_in(&mut self, admission: Admission<L>) -> Result<(), (Admission<L>, PageInFault)>
-        ensures loaded { OnOk result (Loads S.content S.honest admission self.old.space self.new.space) }
-        ensures refused { IfErr result (λ back. DoesNotLoad S.content S.honest S.failures admission back.0 back.1 self.old.space self.new.space) }
+        ensures loaded { OnOk result (Loads S.content S.honest admission self.old.space
+            self.new.space) }
+        ensures refused { IfErr result (λ back.
+            DoesNotLoad S.content S.honest S.failures admission back.0 back.1 self.old.space
+            self.new.space) }
         ensures purged { self.new.purged ≡ self.old.purged }
     {
         let Admission { key, frame } = admission;

@@ -47,7 +47,8 @@ impl<L: Ledger, C: Clock> PagerSide<L, C> {
         requires name { blank.name ≡ L.name }
         requires parts { blank.parts ≡ L.parts }
         requires one_each { L.parts ≡ frames + 1 }
-        ensures made { IfOk result (λ side. side ≡ record { pager = full_pager frames; saves = 0; drops = 0 }) }
+        ensures made { IfOk result (λ side. side ≡
+            record { pager = full_pager frames; saves = 0; drops = 0 }) }
         ensures bad_size { IsErrOf result PoolError.BadSize ↔ ((frames < 4) ⊎ (4096 < frames)) }
     {
         Ok(PagerSide {
@@ -72,7 +73,8 @@ impl<L: Ledger, C: Clock> PagerSide<L, C> {
 
     /// The entry of the list at a place, counted from the front.
     pub fn entry(&self, i: usize) -> Option<(Key, EntryKind)>
-        ensures { result ≡ option_map (λ e. (e.key, e.kind)) (slice_get self.now.pager.list.entries i) }
+        ensures { result ≡ option_map (λ e. (e.key, e.kind))
+            (slice_get self.now.pager.list.entries i) }
     {
         self.pager.entry(i)
     }

@@ -23,8 +23,10 @@ impl<L: Ledger, S: SwapSlot> ProcessSide<L, S> {
 
     /// Whether it was started from this image and this input.
     pub fn started_from(&self, image: &Image, input: &[u8]) -> bool
-        ensures same { OnTrue result ((image.now ≡ self.now.space.image) × (input.now ≡ self.now.space.input)) }
-        ensures different { OnFalse result (image.now ≡ self.now.space.image → input.now ≢ self.now.space.input) }
+        ensures same { OnTrue result ((image.now ≡ self.now.space.image) ×
+            (input.now ≡ self.now.space.input)) }
+        ensures different { OnFalse result (image.now ≡ self.now.space.image →
+            input.now ≢ self.now.space.input) }
     {
         self.space.started_from(image, input)
     }
@@ -45,7 +47,8 @@ impl<L: Ledger, S: SwapSlot> ProcessSide<L, S> {
     /// leaves the room as it was.
     pub fn peek(&mut self, address: u32, bytes: &mut [Option<u8>]) -> Result<(), PeekFault>
         requires { page_offset address + length bytes.old ≤ 4096 }
-        ensures { Peeks S.content S.honest S.failures address bytes.old bytes.new result self.old self.new }
+        ensures { Peeks S.content S.honest S.failures address bytes.old bytes.new result self.old
+            self.new }
     {
         self.space.peek(address, bytes)
     }

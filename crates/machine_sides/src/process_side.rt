@@ -116,7 +116,8 @@ impl<L: Ledger, S: SwapSlot> ProcessSide<L, S> {
 
     /// Runs up to so many instructions of a hart, and records each; see [`Space::slice`].
     pub fn slice(&mut self, hart: u32, budget: u32) -> Slice
-        ensures slice { Slices S.content S.honest hart budget self.old.space self.new.space result.ran result.stop }
+        ensures slice { Slices S.content S.honest hart budget self.old.space self.new.space
+            result.ran result.stop }
         ensures purged { self.new.purged ≡ self.old.purged }
     {
         self.space.slice(hart, budget)
@@ -131,7 +132,8 @@ impl<L: Ledger, S: SwapSlot> ProcessSide<L, S> {
 
     /// Runs instructions of a hart one at a time, up to so many, until one does not go on; see [`Space::steps`].
     pub fn steps(&mut self, hart: u32, most: u32) -> Steps
-        ensures slices { SlicesMany S.content S.honest hart result.ran (option_map (λ slice. slice.stop) result.last) self.old self.new }
+        ensures slices { SlicesMany S.content S.honest hart result.ran (option_map (λ slice.
+            slice.stop) result.last) self.old self.new }
         ensures within { result.ran ≤ most }
         ensures all { IfNone result.last (result.ran ≡ most) }
         ensures short { IfSome result.last (λ _. result.ran < most) }
@@ -163,7 +165,8 @@ impl<L: Ledger, S: SwapSlot> ProcessSide<L, S> {
     /// A hart's registers, where the hart was started.
     pub fn regs(&self, hart: u32) -> Option<&Regs>
         ensures exact { option_copied result ≡ slice_get self.now.space.running.harts hart }
-        ensures flat { OfFlat S.honest (λ flat. option_copied result ≡ slice_get flat.harts hart) self.now.space }
+        ensures flat { OfFlat S.honest (λ flat. option_copied result ≡
+            slice_get flat.harts hart) self.now.space }
     {
         self.space.regs(hart)
     }
@@ -171,7 +174,8 @@ impl<L: Ledger, S: SwapSlot> ProcessSide<L, S> {
     /// What was written so far.
     pub fn output(&self) -> &[u8]
         ensures exact { result.now ≡ self.now.space.running.environment.output }
-        ensures flat { OfFlat S.honest (λ flat. result.now ≡ flat.environment.output) self.now.space }
+        ensures flat { OfFlat S.honest (λ flat.
+            result.now ≡ flat.environment.output) self.now.space }
     {
         self.space.output()
     }

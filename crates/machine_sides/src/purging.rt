@@ -46,7 +46,8 @@ pub fn purge<L: Ledger, S: SwapSlot, C: Clock>(
     slots: &mut SlotPool<S>,
 ) -> Purging<L, S>
     ensures purges { Purges pager.old pager.new process.old process.new slots.old slots.new result }
-    ensures agree { AgreesPurged pager.old.pager pager.new.pager process.old.space process.new.space result }
+    ensures agree { AgreesPurged pager.old.pager pager.new.pager process.old.space
+        process.new.space result }
 {
     give_back_and_forget(pager, process, slots)
 }

@@ -23,7 +23,8 @@ pub(crate) fn bring_back<L: Ledger, S: SwapSlot, C: Clock>(
     requires leaving { is_leaving_stage (stage_in process.old.space.memory vpn) ≡ true }
     ensures back { OnOk result (ComesBack vpn pager.old pager.new process.old process.new) }
     ensures refused { IfErr result (StaysLeaving vpn pager.old pager.new process.old process.new) }
-    ensures memory { memory_of S.content process.new.space.memory ≡ memory_of S.content process.old.space.memory }
+    ensures memory { memory_of S.content process.new.space.memory ≡
+        memory_of S.content process.old.space.memory }
 {
     let process_number = process.space.process();
     pager.pager.restore(Key {

@@ -51,8 +51,10 @@ pub fn saved<L: Ledger, S: SwapSlot, C: Clock>(
     job: SavedJob<S>,
 ) -> SaveOutcome<L, S>
     ensures ends { EndsSave job pager.old pager.new process.old process.new result }
-    ensures agree { AgreeStill None pager.old.pager pager.new.pager process.old.space process.new.space }
-    ensures memory { S.honest → memory_of S.content process.new.space.memory ≡ memory_of S.content process.old.space.memory }
+    ensures agree { AgreeStill None pager.old.pager pager.new.pager process.old.space
+        process.new.space }
+    ensures memory { S.honest → memory_of S.content process.new.space.memory ≡
+        memory_of S.content process.old.space.memory }
 {
     settle_save(pager, process, job)
 }
@@ -64,7 +66,8 @@ fn settle_save<L: Ledger, S: SwapSlot, C: Clock>(
     job: SavedJob<S>,
 ) -> SaveOutcome<L, S>
     ensures ends { EndsSave job pager.old pager.new process.old process.new result }
-    ensures memory { S.honest → memory_of S.content process.new.space.memory ≡ memory_of S.content process.old.space.memory }
+    ensures memory { S.honest → memory_of S.content process.new.space.memory ≡
+        memory_of S.content process.old.space.memory }
 {
     let vpn = job.vpn();
     match process.end_save(job, &mut pager.room) {
@@ -109,7 +112,8 @@ impl<L: Ledger, S: SwapSlot> ProcessSide<L, S> {
     /// Ends the save of a page of this process.
     fn end_save(&mut self, job: SavedJob<S>, room: &mut Box<[u8; 4096]>) -> SaveEnd<L, S>
         ensures ends { Ends job self.old self.new result }
-        ensures memory { S.honest → memory_of S.content self.new.space.memory ≡ memory_of S.content self.old.space.memory }
+        ensures memory { S.honest → memory_of S.content self.new.space.memory ≡
+            memory_of S.content self.old.space.memory }
     {
         match self.space.saved(job, room) {
             Ok(frame) => SaveEnd::Passed(frame),

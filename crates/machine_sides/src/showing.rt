@@ -41,7 +41,8 @@ impl<L: Ledger, C: Clock> PagerSide<L, C> {
     pub fn copy_entries(&self, to: &mut Vec<Entry>) -> Result<(), AllocError>
         ensures items { OnOk result (to.new.items ≡ to.old.items ++ self.now.pager.list.entries) }
         ensures err { OnErr result (to.new.items ≡ to.old.items) }
-        ensures room { vec_len to.old + length self.now.pager.list.entries ≤ vec_capacity to.old → IsOk result }
+        ensures room { vec_len to.old + length self.now.pager.list.entries ≤ vec_capacity to.old →
+            IsOk result }
     {
         self.pager.copy_entries(to)
     }

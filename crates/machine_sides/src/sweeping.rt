@@ -30,7 +30,8 @@ pub fn sweep<L: Ledger, S: SwapSlot, C: Clock>(
     process: &mut ProcessSide<L, S>,
 ) -> Swept
     ensures swept { Sweeps pager.old pager.new process.old process.new result }
-    ensures agree { AsksOf pager.old.pager process.old.space → AgreeStill None pager.old.pager pager.new.pager process.old.space process.new.space }
+    ensures agree { AsksOf pager.old.pager process.old.space →
+        AgreeStill None pager.old.pager pager.new.pager process.old.space process.new.space }
 {
     ask_and_answer(pager, process)
 }

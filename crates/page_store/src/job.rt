@@ -69,7 +69,8 @@ impl<S: SwapSlot> SaveJob<S> {
         ensures copy { result.copy ≡ self.copy }
         ensures saved { S.honest → IsTrue result.passed → S.content result.slot ≡ self.copy }
         ensures passed { IsTrue result.passed → S.failures result.slot ≡ S.failures self.slot }
-        ensures fault { IsFalse result.passed → Rose (S.failures self.slot) (S.failures result.slot) }
+        ensures fault { IsFalse result.passed →
+            Rose (S.failures self.slot) (S.failures result.slot) }
         ensures counted { S.failures self.slot ≤ S.failures result.slot }
     {
         let SaveJob {

@@ -52,7 +52,11 @@ impl<L: Ledger, S: SwapSlot> StoredPage<L, S> {
 
     /// A page that begins with zeros.
     pub fn zeroed(rights: Rights) -> Self
-        ensures { result ≡ record { origin = record { rights = rights; bytes = zero_bytes }; place = Fresh } }
+        ensures { result ≡ record {
+          origin = record { rights = rights; bytes = zero_bytes };
+          place
+              = Fresh;
+        } }
     {
         StoredPage {
             origin: Origin::Zeros(rights),
@@ -110,7 +114,8 @@ impl<L: Ledger, S: SwapSlot> StoredPage<L, S> {
     #[inline]
     pub fn bytes_mut(&mut self) -> Option<&mut [u8; 4096]>
         ensures* writes_back { sem 𝓛 (LendsBytes L.row S.row L.Ledger S.SwapSlot self.entry result) }
-        ensures bytes { option_copied_mut result ≡ option_map (λ f. f.bytes) (writable self.old.place) }
+        ensures bytes { option_copied_mut result ≡ option_map (λ f.
+            f.bytes) (writable self.old.place) }
     {
         self.state.bytes_mut()
     }
@@ -121,10 +126,14 @@ impl<L: Ledger, S: SwapSlot> StoredPage<L, S> {
         ensures filled { OnOk result (Filled frame self.old self.new) }
         ensures whole { OnOk result (Matches self.old.place (content S.content self.new)) }
         ensures digest { kept_digest self.new.place ≡ kept_digest self.old.place }
-        ensures passed { OnOk result (failures_at S.failures self.new.place ≡ failures_at S.failures self.old.place) }
-        ensures refused { IfErr result (λ back. RefusesFill S.honest S.failures frame self.old.place self.new.place back.0 back.1) }
-        ensures content { Known S.honest self.old.place → content S.content self.new ≡ content S.content self.old }
-        ensures backed { Known S.honest self.old.place → OnOk result (Backed S.content false self.new) }
+        ensures passed { OnOk result (failures_at S.failures self.new.place ≡
+            failures_at S.failures self.old.place) }
+        ensures refused { IfErr result (λ back.
+            RefusesFill S.honest S.failures frame self.old.place self.new.place back.0 back.1) }
+        ensures content { Known S.honest self.old.place → content S.content self.new ≡
+            content S.content self.old }
+        ensures backed { Known S.honest self.old.place →
+            OnOk result (Backed S.content false self.new) }
         ensures origin { self.new.origin ≡ self.old.origin }
     {
         match mem::replace(&mut self.state, State::Purged) {
@@ -154,7 +163,8 @@ impl<L: Ledger, S: SwapSlot> StoredPage<L, S> {
         ensures refused { IfErr result (λ refusal. left changed self.old.place ≡ Err refusal) }
         ensures err { OnErr result (self.new ≡ self.old) }
         ensures content { content S.content self.new ≡ content S.content self.old }
-        ensures backed { OnOk result (Backed S.content changed self.old → Backed S.content changed self.new) }
+        ensures backed { OnOk result (Backed S.content changed self.old →
+            Backed S.content changed self.new) }
         ensures origin { self.new.origin ≡ self.old.origin }
     {
         match mem::replace(&mut self.state, State::Purged) {
@@ -179,11 +189,13 @@ impl<L: Ledger, S: SwapSlot> StoredPage<L, S> {
 
     /// Ends to leave, with the mark whether it counts as changed.
     pub fn bring_back(&mut self) -> Result<bool, NotLeaving>
-        ensures ok { IfOk result (λ changed. brought_back self.old.place ≡ Some (self.new.place, changed)) }
+        ensures ok { IfOk result (λ changed. brought_back self.old.place ≡
+            Some (self.new.place, changed)) }
         ensures refused { IsErr result ↔ (brought_back self.old.place ≡ None) }
         ensures err { OnErr result (self.new ≡ self.old) }
         ensures content { content S.content self.new ≡ content S.content self.old }
-        ensures backed { IfOk result (λ changed. Backed S.content false self.old → Backed S.content changed self.new) }
+        ensures backed { IfOk result (λ changed. Backed S.content false self.old →
+            Backed S.content changed self.new) }
         ensures origin { self.new.origin ≡ self.old.origin }
     {
         match mem::replace(&mut self.state, State::Purged) {
@@ -207,8 +219,10 @@ impl<L: Ledger, S: SwapSlot> StoredPage<L, S> {
         cached: bool,
         spare: &mut Option<S>,
     ) -> Collected<L, S>
-        ensures answer { (self.new.place, (spare.new, result)) ≡ collected process vpn cached self.old.place spare.old }
-        ensures content { Backed S.content false self.old → content S.content self.new ≡ content S.content self.old }
+        ensures answer { (self.new.place, (spare.new, result)) ≡
+            collected process vpn cached self.old.place spare.old }
+        ensures content { Backed S.content false self.old → content S.content self.new ≡
+            content S.content self.old }
         ensures origin { self.new.origin ≡ self.old.origin }
     {
         match mem::replace(&mut self.state, State::Purged) {
@@ -239,8 +253,10 @@ impl<L: Ledger, S: SwapSlot> StoredPage<L, S> {
         spare: &mut Option<S>,
         room: &mut Box<[u8; 4096]>,
     ) -> Collected<L, S>
-        ensures answer { (self.new.place, (spare.new, result)) ≡ collected process vpn cached self.old.place spare.old }
-        ensures content { Backed S.content false self.old → content S.content self.new ≡ content S.content self.old }
+        ensures answer { (self.new.place, (spare.new, result)) ≡
+            collected process vpn cached self.old.place spare.old }
+        ensures content { Backed S.content false self.old → content S.content self.new ≡
+            content S.content self.old }
         ensures origin { self.new.origin ≡ self.old.origin }
     {
         self.swap_room(room);
@@ -258,7 +274,8 @@ impl<L: Ledger, S: SwapSlot> StoredPage<L, S> {
 
     /// Ends the save of the page, where the frame holds what was saved.
     pub fn saved(&mut self, job: SavedJob<S>) -> Result<Frame<L>, SaveRefusal<S>>
-        ensures freed { IfOk result (λ frame. (self.old.place ≡ Saving frame) × (self.new.place ≡ Away (copy_of job)) × (frame.bytes ≡ job.copy) × IsTrue job.passed) }
+        ensures freed { IfOk result (λ frame. (self.old.place ≡ Saving frame) ×
+            (self.new.place ≡ Away (copy_of job)) × (frame.bytes ≡ job.copy) × IsTrue job.passed) }
         ensures refused { IfErr result (RefusesSave job self.old.place self.new.place) }
         ensures content { S.honest → content S.content self.new ≡ content S.content self.old }
         ensures origin { self.new.origin ≡ self.old.origin }
@@ -297,7 +314,8 @@ impl<L: Ledger, S: SwapSlot> StoredPage<L, S> {
         job: SavedJob<S>,
         room: &mut Box<[u8; 4096]>,
     ) -> Result<Frame<L>, SaveRefusal<S>>
-        ensures freed { IfOk result (λ frame. (self.old.place ≡ Saving frame) × (self.new.place ≡ Away (copy_of job)) × (frame.bytes ≡ job.copy) × IsTrue job.passed) }
+        ensures freed { IfOk result (λ frame. (self.old.place ≡ Saving frame) ×
+            (self.new.place ≡ Away (copy_of job)) × (frame.bytes ≡ job.copy) × IsTrue job.passed) }
         ensures refused { IfErr result (RefusesSave job self.old.place self.new.place) }
         ensures content { S.honest → content S.content self.new ≡ content S.content self.old }
         ensures origin { self.new.origin ≡ self.old.origin }
@@ -315,14 +333,17 @@ impl<L: Ledger, S: SwapSlot> StoredPage<L, S> {
     /// is away. A refusal leaves the room as it was.
     pub fn read(&mut self, offset: usize, bytes: &mut [Option<u8>]) -> Result<(), ReadFault>
         requires { offset + length bytes.old ≤ 4096 }
-        ensures bytes { Known S.honest self.old.place → OnOk result (bytes.new ≡ some_from (content S.content self.old) offset (length bytes.old)) }
+        ensures bytes { Known S.honest self.old.place →
+            OnOk result (bytes.new ≡ some_from (content S.content self.old) offset
+            (length bytes.old)) }
         ensures unread { OnErr result (bytes.new ≡ bytes.old) }
         ensures mapped { OnOk result (self.old.place ≢ Purged) }
         ensures refused { IfErr result (RefusesRead S.failures self.old.place self.new.place) }
         ensures state { page_state_of self.new.place ≡ page_state_of self.old.place }
         ensures digest { kept_digest self.new.place ≡ kept_digest self.old.place }
         ensures at_hand { (¬ IfAway self.old.place (λ _. Unit {0})) → self.new ≡ self.old }
-        ensures content { Known S.honest self.old.place → content S.content self.new ≡ content S.content self.old }
+        ensures content { Known S.honest self.old.place → content S.content self.new ≡
+            content S.content self.old }
         ensures origin { self.new.origin ≡ self.old.origin }
     {
         let State::Away(copy) = &mut self.state else {
@@ -340,7 +361,8 @@ impl<L: Ledger, S: SwapSlot> StoredPage<L, S> {
     fn read_at_hand(&self, offset: usize, bytes: &mut [Option<u8>]) -> Result<(), ReadFault>
         requires within { offset + length bytes.old ≤ 4096 }
         requires at_hand { ¬ IfAway self.now.place (λ _. Unit {0}) }
-        ensures bytes { OnOk result (bytes.new ≡ some_from (content S.content self.now) offset (length bytes.old)) }
+        ensures bytes { OnOk result (bytes.new ≡ some_from (content S.content self.now) offset
+            (length bytes.old)) }
         ensures unread { OnErr result (bytes.new ≡ bytes.old) }
         ensures purged { IsErr result ↔ (self.now.place ≡ Purged) }
         ensures refused { IfErr result (λ fault. fault ≡ ReadFault.Purged) }
@@ -383,8 +405,11 @@ fn collect_leaving<L: Ledger, S: SwapSlot>(
     cached: bool,
     spare: &mut Option<S>,
 ) -> (State<L, S>, Collected<L, S>)
-    ensures answer { (place_in_state result.0, (spare.new, result.1)) ≡ collect_leaving process vpn page.0 page.1 page.2 cached spare.old }
-    ensures shown { (origin : List ℕ) → BackedAt S.content origin false (Leaving page.0 page.1 page.2) → shown S.content origin (place_in_state result.0) ≡ page.0.bytes }
+    ensures answer { (place_in_state result.0, (spare.new, result.1)) ≡
+        collect_leaving process vpn page.0 page.1 page.2 cached spare.old }
+    ensures shown { (origin : List ℕ) → BackedAt S.content origin false
+        (Leaving page.0 page.1 page.2) → shown S.content origin (place_in_state result.0) ≡
+        page.0.bytes }
 {
     let (frame, slot, changed) = page;
     if cached {

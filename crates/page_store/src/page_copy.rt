@@ -50,7 +50,8 @@ impl<S: SwapSlot> PageCopy<S> {
     /// Loads the page, and compares its digest with the one that was kept.
     pub(crate) fn load_whole(&mut self, page: &mut [u8; 4096]) -> Result<(), FillFault>
         ensures whole { OnOk result (sha256 page.new ≡ self.old.digest) }
-        ensures refused { IfErr result (RefusesLoad S.honest S.failures self.old self.new page.new) }
+        ensures refused { IfErr result (RefusesLoad S.honest S.failures self.old self.new
+            page.new) }
         ensures loaded { S.honest → OnOk result (page.new ≡ S.content self.old.slot) }
         ensures kept { S.honest → S.content self.new.slot ≡ S.content self.old.slot }
         ensures passed { OnOk result (S.failures self.new.slot ≡ S.failures self.old.slot) }

@@ -31,9 +31,12 @@ pub(crate) fn at_hand<L: Ledger, S: SwapSlot>(
     requires hart { hart < length caches.now }
     requires holds { Holds S.content S.honest pages.now tables.now caches.now }
     ensures aligned { IfSome result (λ _. address % bytes_in width ≡ 0) }
-    ensures reaches { IfSome result (λ place. Reaches pages.now tables.now access (page_number address) place) }
-    ensures has { IfSome result (λ _. HasPage pages.now (cache_of caches.now hart) (page_number address)) }
-    ensures marked { IfSome result (λ _. MarksUse pages.now tables.now (cache_of caches.now hart) access (page_number address)) }
+    ensures reaches { IfSome result (λ place. Reaches pages.now tables.now access
+        (page_number address) place) }
+    ensures has { IfSome result (λ _. HasPage pages.now (cache_of caches.now hart)
+        (page_number address)) }
+    ensures marked { IfSome result (λ _. MarksUse pages.now tables.now
+        (cache_of caches.now hart) access (page_number address)) }
 {
     caches.ready(hart, access, width, address)
 }
@@ -43,8 +46,10 @@ pub(crate) fn at_hand<L: Ledger, S: SwapSlot>(
 fn hit(caches: &Caches, hart: usize, access: Access, page: u32) -> Result<usize, Miss>
     requires { hart < length caches.now }
     ensures hits { IfOk result (λ place. Hits (cache_of caches.now hart) access page place) }
-    ensures none { OnErr result ((place : ℕ) → ¬ Hits (cache_of caches.now hart) access page place) }
-    ensures unknown { IfErr result (λ miss. (miss ≡ Miss.Unknown) ↔ (translation_of page (cache_of caches.now hart) ≡ None)) }
+    ensures none { OnErr result ((place : ℕ) →
+        ¬ Hits (cache_of caches.now hart) access page place) }
+    ensures unknown { IfErr result (λ miss. (miss ≡ Miss.Unknown) ↔
+        (translation_of page (cache_of caches.now hart) ≡ None)) }
 {
     let Some(entry) = caches.look(hart, page) else {
         return Err(Miss::Unknown);
@@ -82,7 +87,8 @@ fn locate<L: Ledger, S: SwapSlot>(
     page: u32,
 ) -> Result<Located, BusError>
     requires { page < 2 ^ 20 }
-    ensures found { IfOk result (λ found. Locates pages.now access page found.place found.frame found.rights) }
+    ensures found { IfOk result (λ found. Locates pages.now access page found.place found.frame
+        found.rights) }
     ensures refused { IfErr result (RefusesAccess pages.now access page) }
 {
     let Some(place) = pages.place(page) else {
@@ -106,7 +112,8 @@ fn locate<L: Ledger, S: SwapSlot>(
 /// Whether a page's entry has D after a walk: what the leaf tells that the walk found.
 fn is_dirty_after(tables: &PageTables, page: u32, walked: Result<Leaf, WalkFault>) -> bool
     requires small { page < 2 ^ 20 }
-    requires told { IfOk walked (λ leaf. (entry_of leaf.pte.0).dirty ≡ dirty_of (entry_at tables.now page)) }
+    requires told { IfOk walked (λ leaf. (entry_of leaf.pte.0).dirty ≡
+        dirty_of (entry_at tables.now page)) }
     ensures { result ≡ dirty_of (entry_at tables.now page) }
 {
     match walked {
@@ -140,7 +147,8 @@ fn walk<L: Ledger, S: SwapSlot>(
     ensures entries { MayWalk access page tables.old tables.new }
     ensures unmarked { OnErr result (tables.new ≡ tables.old) }
     ensures has { OnOk result (HasPage pages.now (cache_of caches.old hart) page) }
-    ensures used { OnOk result (is_used (seen_at pages.now page) (entry_at tables.new page) ≡ true) }
+    ensures used { OnOk result (is_used (seen_at pages.now page) (entry_at tables.new page) ≡
+        true) }
 {
     let Located {
         place,
@@ -176,15 +184,18 @@ fn hit_or_walk<L: Ledger, S: SwapSlot>(
     requires hart { hart < length caches.old }
     requires holds { Holds S.content S.honest pages.now tables.old caches.old }
     ensures holds { Holds S.content S.honest pages.now tables.new caches.new }
-    ensures reaches { IfOk result (λ place. Reaches pages.now tables.new access (page_number address) place) }
-    ensures hits { IfOk result (λ place. Hits (cache_of caches.new hart) access (page_number address) place) }
+    ensures reaches { IfOk result (λ place. Reaches pages.now tables.new access
+        (page_number address) place) }
+    ensures hits { IfOk result (λ place. Hits (cache_of caches.new hart) access
+        (page_number address) place) }
     ensures refused { IfErr result (RefusesAccess pages.now access (page_number address)) }
     ensures held { ServesHeld (cache_of caches.old hart) access (page_number address) result }
     ensures kept { KeepsTranslations pages.now hart tables.old tables.new caches.old caches.new }
     ensures entries { MayWalk access (page_number address) tables.old tables.new }
     ensures unmarked { OnErr result (tables.new ≡ tables.old) }
     ensures has { OnOk result (HasPage pages.now (cache_of caches.old hart) (page_number address)) }
-    ensures marked { OnOk result (MarksUse pages.now tables.new (cache_of caches.old hart) access (page_number address)) }
+    ensures marked { OnOk result (MarksUse pages.now tables.new (cache_of caches.old hart) access
+        (page_number address)) }
 {
     let page = page_of(address);
     match hit(caches, hart, access, page) {
@@ -205,14 +216,16 @@ pub(crate) fn reach<L: Ledger, S: SwapSlot>(
     requires hart { hart < length caches.old }
     requires holds { Holds S.content S.honest pages.now tables.old caches.old }
     ensures holds { Holds S.content S.honest pages.now tables.new caches.new }
-    ensures reaches { IfOk result (λ place. Reaches pages.now tables.new access (page_number address) place) }
+    ensures reaches { IfOk result (λ place. Reaches pages.now tables.new access
+        (page_number address) place) }
     ensures refused { IfErr result (RefusesAccess pages.now access (page_number address)) }
     ensures held { ServesHeld (cache_of caches.old hart) access (page_number address) result }
     ensures kept { KeepsTranslations pages.now hart tables.old tables.new caches.old caches.new }
     ensures entries { MayWalk access (page_number address) tables.old tables.new }
     ensures unmarked { OnErr result (tables.new ≡ tables.old) }
     ensures has { OnOk result (HasPage pages.now (cache_of caches.old hart) (page_number address)) }
-    ensures marked { OnOk result (MarksUse pages.now tables.new (cache_of caches.old hart) access (page_number address)) }
+    ensures marked { OnOk result (MarksUse pages.now tables.new (cache_of caches.old hart) access
+        (page_number address)) }
 {
     match hit_or_walk(pages, tables, caches, hart, access, address) {
         Ok(place) => {

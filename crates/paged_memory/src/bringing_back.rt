@@ -41,7 +41,8 @@ impl<L: Ledger, S: SwapSlot> PagedMemory<L, S> {
 fn leaves<L: Ledger, S: SwapSlot>(pages: &PageMap<StoredPage<L, S>>, vpn: u32) -> bool
     requires { vpn < 2 ^ 20 }
     ensures leaving { result ≡ is_leaving (page_at pages.now vpn) }
-    ensures stage { result ≡ is_leaving_stage (option_map (λ page. page_state_of page.place) (page_at pages.now vpn)) }
+    ensures stage { result ≡ is_leaving_stage (option_map (λ page. page_state_of page.place)
+        (page_at pages.now vpn)) }
 {
     matches!(state_in(pages, vpn), Some(PageState::Leaving))
 }
@@ -60,7 +61,8 @@ fn bring_back_page<L: Ledger, S: SwapSlot>(
 ) -> Mapping
     requires vpn { vpn < 2 ^ 20 }
     requires leaving { is_leaving (page_at pages.old vpn) ≡ true }
-    ensures back { ChangesBy (ReturnsAs result.frame result.rights result.changed) pages.old pages.new vpn }
+    ensures back { ChangesBy (ReturnsAs result.frame result.rights result.changed) pages.old
+        pages.new vpn }
     ensures frame { result.frame < 2 ^ 22 }
 {
     let Some(place) = pages.place(vpn) else {

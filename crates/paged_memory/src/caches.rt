@@ -89,7 +89,8 @@ impl Caches {
     pub fn ready(&self, hart: usize, access: Access, width: Width, address: u32) -> Option<usize>
         requires { hart < length self.now }
         ensures aligned { IfSome result (λ _. address % bytes_in width ≡ 0) }
-        ensures hits { IfSome result (λ place. Hits (slice_index_or self.now hart []) access (page_number address) place) }
+        ensures hits { IfSome result (λ place. Hits (slice_index_or self.now hart []) access
+            (page_number address) place) }
     {
         self.harts.as_slice()[hart].ready(access, width, address)
     }
@@ -108,8 +109,10 @@ impl Caches {
     #[tactic(auto, using(crate::proofs::Mapping::refilled_at))]
     pub fn fill(&mut self, hart: usize, entry: Translation, miss: Miss)
         requires hart { hart < length self.old }
-        requires unknown { miss ≡ Miss.Unknown → translation_of entry.page (slice_index_or self.old hart []) ≡ None }
-        ensures { self.new ≡ slice_set self.old hart (filled entry (slice_index_or self.old hart [])) }
+        requires unknown { miss ≡ Miss.Unknown →
+            translation_of entry.page (slice_index_or self.old hart []) ≡ None }
+        ensures { self.new ≡ slice_set self.old hart (filled entry (slice_index_or self.old hart
+            [])) }
     {
         match miss {
             Miss::Unknown => self.harts.as_mut_slice()[hart].add(entry),

@@ -14,6 +14,7 @@ impl<L: Ledger, S: SwapSlot> PagedMemory<L, S> {
         ensures framed { HoldsFramed self.now.pages self.now.caches }
         ensures walks { WalksLead self.now.pages self.now.tables }
     {
+        // For the proof alone: a read tells its invariant.
         let _ = &self.pages;
         self.tables.translates();
     }

@@ -40,7 +40,8 @@ fn collect_page<L: Ledger, S: SwapSlot>(
     room: &mut Box<[u8; 4096]>,
 ) -> Collected<L, S>
     requires { vpn < 2 ^ 20 }
-    ensures answer { CollectsAt process vpn cached spare.old spare.new result pages.old pages.new (page_at pages.old vpn) }
+    ensures answer { CollectsAt process vpn cached spare.old spare.new result pages.old pages.new
+        (page_at pages.old vpn) }
     ensures same { lets_go result ≡ false → pages.new ≡ pages.old }
 {
     let Some(place) = pages.place(vpn) else {

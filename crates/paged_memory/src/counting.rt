@@ -48,8 +48,10 @@ impl<L: Ledger, S: SwapSlot> PagedMemory<L, S> {
 #[tactic(auto, using(crate::proofs::HeldLaws::resident_by, crate::proofs::HeldLaws::framed_by))]
 fn held_at<L: Ledger, S: SwapSlot>(pages: &PageMap<StoredPage<L, S>>, vpn: u32) -> HeldPages
     requires { vpn < 2 ^ 20 }
-    ensures resident { result.resident ≡ cond (page_passes (λ page. is_resident_place page.place && true) (page_at pages.now vpn)) 1 0 }
-    ensures framed { result.framed ≡ cond (page_passes (λ page. frame_passes (λ _. true) (frame_of page.place)) (page_at pages.now vpn)) 1 0 }
+    ensures resident { result.resident ≡ cond (page_passes (λ page. is_resident_place page.place &&
+        true) (page_at pages.now vpn)) 1 0 }
+    ensures framed { result.framed ≡ cond (page_passes (λ page. frame_passes (λ _.
+        true) (frame_of page.place)) (page_at pages.now vpn)) 1 0 }
     ensures few_resident { result.resident ≤ 1 }
     ensures few_framed { result.framed ≤ 1 }
 {

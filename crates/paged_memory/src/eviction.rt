@@ -78,7 +78,8 @@ fn refuse_leave<L: Ledger, S: SwapSlot>(
     vpn: u32,
 ) -> Result<(), LeaveRefusal>
     requires { vpn < 2 ^ 20 }
-    ensures resident { OnOk result (option_map (λ page. page_state_of page.place) (page_at pages.now vpn) ≡ Some PageState.Resident) }
+    ensures resident { OnOk result (option_map (λ page. page_state_of page.place)
+        (page_at pages.now vpn) ≡ Some PageState.Resident) }
     ensures refused { IfErr result (RefusesLeave (page_at pages.now vpn)) }
 {
     match state_in(pages, vpn) {
@@ -92,7 +93,8 @@ fn refuse_leave<L: Ledger, S: SwapSlot>(
 /// A resident page begins to leave.
 fn leave<L: Ledger, S: SwapSlot>(pages: &mut PageMap<StoredPage<L, S>>, vpn: u32, changed: bool)
     requires vpn { vpn < 2 ^ 20 }
-    requires resident { option_map (λ page. page_state_of page.place) (page_at pages.old vpn) ≡ Some PageState.Resident }
+    requires resident { option_map (λ page. page_state_of page.place) (page_at pages.old vpn) ≡
+        Some PageState.Resident }
     ensures { ChangesBy (Leaves changed) pages.old pages.new vpn }
 {
     let Some(place) = pages.place(vpn) else {

@@ -43,7 +43,8 @@ impl<L: Ledger, S: SwapSlot> PagedMemory<L, S> {
     pub fn page_in(&mut self, vpn: u32, frame: Frame<L>) -> Result<(), (Frame<L>, PageInFault)>
         requires { vpn < 2 ^ 20 }
         ensures ok { OnOk result (ComesIn S.content S.honest frame vpn self.old self.new) }
-        ensures refused { IfErr result (λ back. RefusesIn S.content S.honest S.failures frame vpn back.0 back.1 self.old self.new) }
+        ensures refused { IfErr result (λ back.
+            RefusesIn S.content S.honest S.failures frame vpn back.0 back.1 self.old self.new) }
         ensures memory { S.honest → memory_of S.content self.new ≡ memory_of S.content self.old }
         ensures unmapped { OnErr result (SameEntries self.old self.new) }
         ensures process { self.new.process ≡ self.old.process }
@@ -78,8 +79,10 @@ fn bring_page_in<L: Ledger, S: SwapSlot>(
     requires vpn { vpn < 2 ^ 20 }
     requires absent { IsAbsent (Some page.old) }
     ensures ok { OnOk result (BroughtIn S.content S.honest frame page.old page.new) }
-    ensures refused { IfErr result (λ back. RefusesAbsent S.content S.honest S.failures frame (has_table tables.old vpn) page.old page.new back.0 back.1) }
-    ensures entries { OnOk result (ChangesEntry tables.old tables.new vpn (page_entry frame.number page.old.origin.rights true false)) }
+    ensures refused { IfErr result (λ back. RefusesAbsent S.content S.honest S.failures frame
+        (has_table tables.old vpn) page.old page.new back.0 back.1) }
+    ensures entries { OnOk result (ChangesEntry tables.old tables.new vpn
+        (page_entry frame.number page.old.origin.rights true false)) }
     ensures tables { OnOk result (AddsTable tables.old tables.new vpn) }
     ensures unmapped { OnErr result (tables.new ≡ tables.old) }
 {
@@ -107,9 +110,11 @@ fn fault_of(fault: FillFault) -> PageInFault
 /// Takes the frame back from a page that was just brought into it.
 fn unfill<L: Ledger, S: SwapSlot>(page: &mut StoredPage<L, S>) -> Frame<L>
     requires { IsUnchanged page.old }
-    ensures place { IfResident page.old.place (λ frame slot. (result ≡ frame) × (Some page.new.place ≡ dropped slot)) }
+    ensures place { IfResident page.old.place (λ frame slot. (result ≡ frame) ×
+        (Some page.new.place ≡ dropped slot)) }
     ensures digest { kept_digest page.new.place ≡ kept_digest page.old.place }
-    ensures content { Backed S.content false page.old → content S.content page.new ≡ content S.content page.old }
+    ensures content { Backed S.content false page.old → content S.content page.new ≡
+        content S.content page.old }
     ensures origin { page.new.origin ≡ page.old.origin }
 {
     let _ = page.leave(false);

@@ -50,7 +50,8 @@ fn first_with_something<L: Ledger, S: SwapSlot>(
     ensures small { IfSome result (λ first. first < 2 ^ 20) }
     ensures looked { IfSome result (λ first. from ≤ first) }
     ensures something { IfSome result (λ first. ¬ GivesNothing (page_at pages.now first)) }
-    ensures first { IfSome result (λ first. (q : ℕ) → q < first → GivesNothing (page_at pages.now q)) }
+    ensures first { IfSome result (λ first. (q : ℕ) → q < first →
+        GivesNothing (page_at pages.now q)) }
     ensures none { IfNone result ((q : ℕ) → q < 2 ^ 20 → GivesNothing (page_at pages.now q)) }
 {
     let mut from = from;

@@ -20,7 +20,8 @@ impl<L: Ledger, S: SwapSlot> PagedMemory<L, S> {
     pub fn map_page(&mut self, vpn: u32, page: SharedPage) -> Result<(), AllocError>
         requires small { vpn < 2 ^ 20 }
         requires absent { IsUnmapped vpn self.old }
-        requires readable { may Access.Store page.rights ≡ true → may Access.Load page.rights ≡ true }
+        requires readable { may Access.Store page.rights ≡ true → may Access.Load page.rights ≡
+            true }
         ensures ok { OnOk result (AddsFresh vpn page self.old self.new) }
         ensures err { OnErr result (self.new ≡ self.old) }
     {
@@ -39,8 +40,10 @@ impl<L: Ledger, S: SwapSlot> PagedMemory<L, S> {
     pub fn map_zeroed(&mut self, first: u32, count: u32) -> Result<(), AllocError>
         requires { first + count ≤ 2 ^ 20 }
         ensures adds { OnOk result (AddsZeros first count self.old self.new) }
-        ensures ok { OnOk result (self.new.pages ≡ with_added first count fresh_zero_page self.old.pages) }
-        ensures memory { OnOk result (memory_of S.content self.new ≡ with_zeroed first count (memory_of S.content self.old)) }
+        ensures ok { OnOk result (self.new.pages ≡
+            with_added first count fresh_zero_page self.old.pages) }
+        ensures memory { OnOk result (memory_of S.content self.new ≡ with_zeroed first count
+            (memory_of S.content self.old)) }
         ensures err { OnErr result (self.new ≡ self.old) }
         ensures missing { IsErr result → LacksOne first count self.old.pages }
         ensures process { self.new.process ≡ self.old.process }

@@ -93,8 +93,11 @@ impl<'a, L: Ledger, S: SwapSlot, O: Opening> Bus for HartMemory<'a, L, S, O> {
     #[inline]
     #[tactic(auto, unfolding(page_memory::specs::Pages::fetched, page_memory::specs::Pages::aligned_page))]
     fn fetch(&mut self, address: u32) -> Result<u32, BusError>
-        ensures answer { AnswersAccess self.old.hart Access.Fetch self.old.memory.now self.new.memory.now address (fetched (memory_of S.content self.old.memory.now) address) result }
-        ensures reads { Reads self.old.hart Access.Fetch (page_number address) result self.old.memory.now self.new.memory.now }
+        ensures answer { AnswersAccess self.old.hart Access.Fetch self.old.memory.now
+            self.new.memory.now address (fetched (memory_of S.content self.old.memory.now) address)
+            result }
+        ensures reads { Reads self.old.hart Access.Fetch
+            (page_number address) result self.old.memory.now self.new.memory.now }
         ensures hart { self.new.hart ≡ self.old.hart }
         ensures same_reference { self.new.memory.ghost_name ≡ self.old.memory.ghost_name }
     {
@@ -123,8 +126,11 @@ impl<'a, L: Ledger, S: SwapSlot, O: Opening> Bus for HartMemory<'a, L, S, O> {
     #[inline]
     #[tactic(auto, unfolding(page_memory::specs::Pages::loaded, page_memory::specs::Pages::aligned_page))]
     fn load(&mut self, width: Width, address: u32) -> Result<u32, BusError>
-        ensures answer { AnswersAccess self.old.hart Access.Load self.old.memory.now self.new.memory.now address (loaded (memory_of S.content self.old.memory.now) width address) result }
-        ensures reads { Reads self.old.hart Access.Load (page_number address) result self.old.memory.now self.new.memory.now }
+        ensures answer { AnswersAccess self.old.hart Access.Load self.old.memory.now
+            self.new.memory.now address (loaded (memory_of S.content self.old.memory.now) width
+            address) result }
+        ensures reads { Reads self.old.hart Access.Load
+            (page_number address) result self.old.memory.now self.new.memory.now }
         ensures hart { self.new.hart ≡ self.old.hart }
         ensures same_reference { self.new.memory.ghost_name ≡ self.old.memory.ghost_name }
     {
@@ -153,9 +159,11 @@ impl<'a, L: Ledger, S: SwapSlot, O: Opening> Bus for HartMemory<'a, L, S, O> {
 
     #[inline]
     fn store(&mut self, width: Width, address: u32, word: u32) -> Result<(), BusError>
-        ensures answer { let after = with_answer (λ _. memory_of S.content self.new.memory.now) result in
+        ensures answer { let after = with_answer (λ _.
+            memory_of S.content self.new.memory.now) result in
             AnswersAccess self.old.hart Access.Store self.old.memory.now self.new.memory.now address (stored (memory_of S.content self.old.memory.now) width address word) after }
-        ensures writes { Writes self.old.hart Access.Store (page_number address) result self.old.memory.now self.new.memory.now }
+        ensures writes { Writes self.old.hart Access.Store
+            (page_number address) result self.old.memory.now self.new.memory.now }
         ensures hart { self.new.hart ≡ self.old.hart }
         ensures same_reference { self.new.memory.ghost_name ≡ self.old.memory.ghost_name }
     {
@@ -182,7 +190,8 @@ impl<'a, L: Ledger, S: SwapSlot, O: Opening> Bus for HartMemory<'a, L, S, O> {
         ensures answer { let update = λ (old : ℕ). amo_result operation old operand in
             let after = with_answer (λ old. (old, memory_of S.content self.new.memory.now)) result in
             AnswersAccess self.old.hart Access.Store self.old.memory.now self.new.memory.now address (replaced (memory_of S.content self.old.memory.now) update address) after }
-        ensures writes { Writes self.old.hart Access.Store (page_number address) result self.old.memory.now self.new.memory.now }
+        ensures writes { Writes self.old.hart Access.Store
+            (page_number address) result self.old.memory.now self.new.memory.now }
         ensures hart { self.new.hart ≡ self.old.hart }
         ensures same_reference { self.new.memory.ghost_name ≡ self.old.memory.ghost_name }
     {
@@ -205,9 +214,11 @@ impl<'a, L: Ledger, S: SwapSlot, O: Opening> Bus for HartMemory<'a, L, S, O> {
     }
 
     fn load_reserved(&mut self, hart: u32, address: u32) -> Result<u32, BusError>
-        ensures answer { let after = with_answer (λ word. (word, memory_of S.content self.new.memory.now)) result in
+        ensures answer { let after = with_answer (λ word.
+            (word, memory_of S.content self.new.memory.now)) result in
             AnswersAccess self.old.hart Access.Load self.old.memory.now self.new.memory.now address (loaded_reserved (memory_of S.content self.old.memory.now) hart address) after }
-        ensures reserves { Reserves self.old.hart Access.Load (page_number address) result self.old.memory.now self.new.memory.now }
+        ensures reserves { Reserves self.old.hart Access.Load
+            (page_number address) result self.old.memory.now self.new.memory.now }
         ensures hart { self.new.hart ≡ self.old.hart }
         ensures same_reference { self.new.memory.ghost_name ≡ self.old.memory.ghost_name }
     {
@@ -222,9 +233,11 @@ impl<'a, L: Ledger, S: SwapSlot, O: Opening> Bus for HartMemory<'a, L, S, O> {
     }
 
     fn store_conditional(&mut self, hart: u32, address: u32, word: u32) -> Result<bool, BusError>
-        ensures answer { let after = with_answer (λ is_stored. (is_stored, memory_of S.content self.new.memory.now)) result in
+        ensures answer { let after = with_answer (λ is_stored.
+            (is_stored, memory_of S.content self.new.memory.now)) result in
             AnswersAccess self.old.hart Access.Store self.old.memory.now self.new.memory.now address (stored_conditionally (memory_of S.content self.old.memory.now) hart address word) after }
-        ensures writes { Writes self.old.hart Access.Store (page_number address) result self.old.memory.now self.new.memory.now }
+        ensures writes { Writes self.old.hart Access.Store
+            (page_number address) result self.old.memory.now self.new.memory.now }
         ensures hart { self.new.hart ≡ self.old.hart }
         ensures same_reference { self.new.memory.ghost_name ≡ self.old.memory.ghost_name }
     {
@@ -269,7 +282,8 @@ impl<'a, L: Ledger, S: SwapSlot, O: Opening> Bus for HartMemory<'a, L, S, O> {
         ensures answer { let copied = with_answer (λ _. to.new) result in
             AnswersAccess self.old.hart Access.Load self.old.memory.now self.new.memory.now address (copied_out (memory_of S.content self.old.memory.now) address (length to.old)) copied }
         ensures refused { OnErr result (to.new ≡ to.old) }
-        ensures reads { Reads self.old.hart Access.Load (page_number address) result self.old.memory.now self.new.memory.now }
+        ensures reads { Reads self.old.hart Access.Load
+            (page_number address) result self.old.memory.now self.new.memory.now }
         ensures hart { self.new.hart ≡ self.old.hart }
         ensures same_reference { self.new.memory.ghost_name ≡ self.old.memory.ghost_name }
     {
@@ -293,9 +307,11 @@ impl<'a, L: Ledger, S: SwapSlot, O: Opening> Bus for HartMemory<'a, L, S, O> {
 
     fn copy_in(&mut self, address: u32, from: &[u8]) -> Result<(), BusError>
         requires within { page_offset address + length from.now ≤ 4096 }
-        ensures answer { let after = with_answer (λ _. memory_of S.content self.new.memory.now) result in
+        ensures answer { let after = with_answer (λ _.
+            memory_of S.content self.new.memory.now) result in
             AnswersAccess self.old.hart Access.Store self.old.memory.now self.new.memory.now address (copied_in (memory_of S.content self.old.memory.now) address from.now) after }
-        ensures writes { Writes self.old.hart Access.Store (page_number address) result self.old.memory.now self.new.memory.now }
+        ensures writes { Writes self.old.hart Access.Store
+            (page_number address) result self.old.memory.now self.new.memory.now }
         ensures hart { self.new.hart ≡ self.old.hart }
         ensures same_reference { self.new.memory.ghost_name ≡ self.old.memory.ghost_name }
     {

@@ -27,10 +27,13 @@ impl<L: Ledger, S: SwapSlot> PagedMemory<L, S> {
     /// is. No page is brought in, and no hart's use of it is marked. A refusal leaves the room as it was.
     pub fn peek(&mut self, address: u32, bytes: &mut [Option<u8>]) -> Result<(), PeekFault>
         requires { page_offset address + length bytes.old ≤ 4096 }
-        ensures bytes { OnOk result (ShowsIn S.content S.honest self.old address (length bytes.old) bytes.new) }
-        ensures shown { S.honest → OnOk result (bytes_of (memory_of S.content self.old) address (length bytes.old) ≡ Some bytes.new) }
+        ensures bytes { OnOk result (ShowsIn S.content S.honest self.old address
+            (length bytes.old) bytes.new) }
+        ensures shown { S.honest → OnOk result (bytes_of (memory_of S.content self.old) address
+            (length bytes.old) ≡ Some bytes.new) }
         ensures unread { OnErr result (bytes.new ≡ bytes.old) }
-        ensures refused { IfErr result (DoesNotShow S.content S.honest S.failures address self.old self.new) }
+        ensures refused { IfErr result (DoesNotShow S.content S.honest S.failures address self.old
+            self.new) }
         ensures left { LeavesLookedAt S.content S.honest address self.old self.new }
         ensures memory { S.honest → memory_of S.content self.new ≡ memory_of S.content self.old }
         ensures stays { OnlyPages self.old self.new }
@@ -53,9 +56,11 @@ fn read_page<L: Ledger, S: SwapSlot>(
 ) -> Result<(), PeekFault>
     requires vpn { vpn < 2 ^ 20 }
     requires within { offset + length bytes.old ≤ 4096 }
-    ensures bytes { OnOk result (ShowsBytes S.content S.honest (page_at pages.old vpn) offset (length bytes.old) bytes.new) }
+    ensures bytes { OnOk result (ShowsBytes S.content S.honest (page_at pages.old vpn) offset
+        (length bytes.old) bytes.new) }
     ensures unread { OnErr result (bytes.new ≡ bytes.old) }
-    ensures refused { IfErr result (RefusesPeek S.content S.honest S.failures pages.old pages.new vpn) }
+    ensures refused { IfErr result (RefusesPeek S.content S.honest S.failures pages.old pages.new
+        vpn) }
     ensures left { LeavesPage S.content S.honest pages.old pages.new vpn (page_at pages.old vpn) }
 {
     let Some(place) = pages.place(vpn) else {

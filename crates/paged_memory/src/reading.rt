@@ -55,10 +55,13 @@ pub(crate) fn read_ready<'a, L: Ledger, S: SwapSlot>(
     requires hart { hart < length caches.now }
     requires holds { Holds S.content S.honest pages.now tables.now caches.now }
     ensures aligned { IfSome result (λ _. address % bytes_in width ≡ 0) }
-    ensures bytes { IfSome result (λ bytes. UsesBytes (usable (flat_pages S.content pages.now) access address) bytes.now) }
+    ensures bytes { IfSome result (λ bytes. UsesBytes
+        (usable (flat_pages S.content pages.now) access address) bytes.now) }
     ensures whole { IfSome result (λ bytes. length bytes.now ≡ 4096) }
-    ensures has { IfSome result (λ _. HasPage pages.now (cache_of caches.now hart) (page_number address)) }
-    ensures marked { IfSome result (λ _. MarksUse pages.now tables.now (cache_of caches.now hart) access (page_number address)) }
+    ensures has { IfSome result (λ _. HasPage pages.now (cache_of caches.now hart)
+        (page_number address)) }
+    ensures marked { IfSome result (λ _. MarksUse pages.now tables.now
+        (cache_of caches.now hart) access (page_number address)) }
 {
     match at_hand(pages, tables, caches, hart, access, width, address) {
         Some(place) => Some(bytes_of(pages.at(place))),
@@ -79,15 +82,18 @@ pub(crate) fn read<'a, L: Ledger, S: SwapSlot>(
     requires hart { hart < length caches.old }
     requires holds { Holds S.content S.honest pages.now tables.old caches.old }
     ensures holds { Holds S.content S.honest pages.now tables.new caches.new }
-    ensures bytes { IfOk result (λ bytes. UsesBytes (usable (flat_pages S.content pages.now) access address) bytes.now) }
+    ensures bytes { IfOk result (λ bytes. UsesBytes
+        (usable (flat_pages S.content pages.now) access address) bytes.now) }
     ensures whole { IfOk result (λ bytes. length bytes.now ≡ 4096) }
-    ensures refused { IfErr result (BusRefuses (LacksPage pages.now) address (usable (flat_pages S.content pages.now) access address)) }
+    ensures refused { IfErr result (BusRefuses (LacksPage pages.now) address
+        (usable (flat_pages S.content pages.now) access address)) }
     ensures held { ServesHeld (cache_of caches.old hart) access (page_number address) result }
     ensures kept { KeepsTranslations pages.now hart tables.old tables.new caches.old caches.new }
     ensures entries { MayWalk access (page_number address) tables.old tables.new }
     ensures unmarked { OnErr result (tables.new ≡ tables.old) }
     ensures has { OnOk result (HasPage pages.now (cache_of caches.old hart) (page_number address)) }
-    ensures marked { OnOk result (MarksUse pages.now tables.new (cache_of caches.old hart) access (page_number address)) }
+    ensures marked { OnOk result (MarksUse pages.now tables.new (cache_of caches.old hart) access
+        (page_number address)) }
 {
     match reach(pages, tables, caches, hart, access, address) {
         Ok(place) => Ok(bytes_of(pages.at(place))),
@@ -109,8 +115,12 @@ pub(crate) fn fetch_anew<L: Ledger, S: SwapSlot>(
     requires hart { hart < length caches.old }
     requires holds { Holds S.content S.honest pages.now tables.old caches.old }
     ensures holds { Holds S.content S.honest pages.now tables.new caches.new }
-    ensures answer { Answers (HasPage pages.now (cache_of caches.old hart)) (MarksUse pages.now tables.new (cache_of caches.old hart) Access.Fetch) (LacksPage pages.now) address (fetched (flat_pages S.content pages.now) address) (loaded_by result) }
-    ensures held { ServesHeld (cache_of caches.old hart) Access.Fetch (page_number address) (loaded_by result) }
+    ensures answer { Answers (HasPage pages.now (cache_of caches.old hart))
+        (MarksUse pages.now tables.new (cache_of caches.old hart) Access.Fetch)
+        (LacksPage pages.now) address (fetched (flat_pages S.content pages.now) address)
+        (loaded_by result) }
+    ensures held { ServesHeld (cache_of caches.old hart) Access.Fetch (page_number address)
+        (loaded_by result) }
     ensures kept { KeepsTranslations pages.now hart tables.old tables.new caches.old caches.new }
     ensures entries { MayWalk Access.Fetch (page_number address) tables.old tables.new }
     ensures unmarked { OnErr (loaded_by result) (tables.new ≡ tables.old) }
@@ -141,8 +151,12 @@ pub(crate) fn load_anew<L: Ledger, S: SwapSlot>(
     requires hart { hart < length caches.old }
     requires holds { Holds S.content S.honest pages.now tables.old caches.old }
     ensures holds { Holds S.content S.honest pages.now tables.new caches.new }
-    ensures answer { Answers (HasPage pages.now (cache_of caches.old hart)) (MarksUse pages.now tables.new (cache_of caches.old hart) Access.Load) (LacksPage pages.now) address (loaded (flat_pages S.content pages.now) width address) (loaded_by result) }
-    ensures held { ServesHeld (cache_of caches.old hart) Access.Load (page_number address) (loaded_by result) }
+    ensures answer { Answers (HasPage pages.now (cache_of caches.old hart))
+        (MarksUse pages.now tables.new (cache_of caches.old hart) Access.Load)
+        (LacksPage pages.now) address (loaded (flat_pages S.content pages.now) width address)
+        (loaded_by result) }
+    ensures held { ServesHeld (cache_of caches.old hart) Access.Load (page_number address)
+        (loaded_by result) }
     ensures kept { KeepsTranslations pages.now hart tables.old tables.new caches.old caches.new }
     ensures entries { MayWalk Access.Load (page_number address) tables.old tables.new }
     ensures unmarked { OnErr (loaded_by result) (tables.new ≡ tables.old) }
@@ -170,7 +184,10 @@ pub(crate) fn load_to_replace<L: Ledger, S: SwapSlot>(
     requires hart { hart < length caches.old }
     requires holds { Holds S.content S.honest pages.now tables.old caches.old }
     ensures holds { Holds S.content S.honest pages.now tables.new caches.new }
-    ensures answer { Answers (HasPage pages.now (cache_of caches.old hart)) (MarksUse pages.now tables.new (cache_of caches.old hart) Access.Store) (LacksPage pages.now) address (answer_by (number_at 4 address) (aligned_page (flat_pages S.content pages.now) Access.Store 4 address)) result }
+    ensures answer { Answers (HasPage pages.now (cache_of caches.old hart))
+        (MarksUse pages.now tables.new (cache_of caches.old hart) Access.Store)
+        (LacksPage pages.now) address (answer_by (number_at 4 address)
+        (aligned_page (flat_pages S.content pages.now) Access.Store 4 address)) result }
     ensures held { ServesHeld (cache_of caches.old hart) Access.Store (page_number address) result }
     ensures kept { KeepsTranslations pages.now hart tables.old tables.new caches.old caches.new }
     ensures entries { MayWalk Access.Store (page_number address) tables.old tables.new }

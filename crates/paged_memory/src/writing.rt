@@ -35,7 +35,8 @@ fn put_number_in<L: Ledger, S: SwapSlot>(
 )
     requires framed { is_some (writable page.old.place) ≡ true }
     requires aligned { address % bytes_in width ≡ 0 }
-    ensures { page.new ≡ with_bytes page.old (overwritten (content S.content page.old) (page_offset address) (little_bytes (bytes_in width) word)) }
+    ensures { page.new ≡ with_bytes page.old (overwritten (content S.content page.old)
+        (page_offset address) (little_bytes (bytes_in width) word)) }
 {
     match page.bytes_mut() {
         Some(bytes) => put_number(bytes, width, address, word),
@@ -51,7 +52,8 @@ fn put_number_in<L: Ledger, S: SwapSlot>(
 fn put_bytes_in<L: Ledger, S: SwapSlot>(page: &mut StoredPage<L, S>, offset: usize, from: &[u8])
     requires framed { is_some (writable page.old.place) ≡ true }
     requires within { offset + length from.now ≤ 4096 }
-    ensures { page.new ≡ with_bytes page.old (overwritten (content S.content page.old) offset from.now) }
+    ensures { page.new ≡ with_bytes page.old (overwritten
+        (content S.content page.old) offset from.now) }
 {
     match page.bytes_mut() {
         Some(bytes) => put_bytes(bytes, offset, from),
@@ -69,8 +71,10 @@ fn replace_word_in<L: Ledger, S: SwapSlot>(
 ) -> u32
     requires framed { is_some (writable page.old.place) ≡ true }
     requires aligned { address % 4 ≡ 0 }
-    ensures old { result ≡ little_number 4 (drop (page_offset address) (content S.content page.old)) }
-    ensures page { page.new ≡ with_bytes page.old (overwritten (content S.content page.old) (page_offset address) (little_bytes 4 (amo_result operation result operand))) }
+    ensures old { result ≡ little_number 4 (drop (page_offset address)
+        (content S.content page.old)) }
+    ensures page { page.new ≡ with_bytes page.old (overwritten (content S.content page.old)
+        (page_offset address) (little_bytes 4 (amo_result operation result operand))) }
 {
     let old = number(bytes_of(page), Width::Word, address);
     let word = amo_word(operation, old, operand);
@@ -130,11 +134,13 @@ fn store_anew<L: Ledger, S: SwapSlot>(
     requires hart { hart < length caches.old }
     requires holds { Holds S.content S.honest pages.old tables.old caches.old }
     ensures holds { Holds S.content S.honest pages.new tables.new caches.new }
-    ensures answer { let after = with_answer (λ _. flat_pages S.content pages.new) (stored_by result) in
+    ensures answer { let after = with_answer (λ _. flat_pages S.content pages.new)
+        (stored_by result) in
         Answers (HasPage pages.old (cache_of caches.old hart)) (MarksUse pages.old tables.new (cache_of caches.old hart) Access.Store) (LacksPage pages.old) address (stored (flat_pages S.content pages.old) width address word) after }
     ensures refused { OnErr (stored_by result) (pages.new ≡ pages.old) }
     ensures bare { KeepsBare pages.old pages.new }
-    ensures held { ServesHeld (cache_of caches.old hart) Access.Store (page_number address) (stored_by result) }
+    ensures held { ServesHeld (cache_of caches.old hart) Access.Store (page_number address)
+        (stored_by result) }
     ensures kept { KeepsTranslations pages.old hart tables.old tables.new caches.old caches.new }
     ensures entries { MayWalk Access.Store (page_number address) tables.old tables.new }
     ensures unmarked { OnErr (stored_by result) (tables.new ≡ tables.old) }

@@ -30,7 +30,9 @@ fn finish_on<L: Ledger, S: SwapSlot, O: Opening>(
 ) -> Result<Stepped, ServeStop>
     requires started { hart < harts_in memory.old }
     requires opening { cache_in memory.old hart ≡ O.opening }
-    ensures rest { IsRest (HasIn memory.old hart) (MarksSince memory.new (cache_in memory.old hart)) (LacksIn memory.old) (MarkedIn memory.old) (MarkedIn memory.new)
+    ensures rest { IsRest (HasIn memory.old hart) (MarksSince memory.new
+        (cache_in memory.old hart)) (LacksIn memory.old) (MarkedIn memory.old)
+        (MarkedIn memory.new)
         hart outcome regs.old env.old (memory_of S.content memory.old) result regs.new env.new (memory_of S.content memory.new) }
     ensures kept { KeepsAccess hart memory.old memory.new }
 {
@@ -51,10 +53,12 @@ impl Running {
         memory: &mut PagedMemory<L, S>,
         outcome: Outcome,
     ) -> Result<Progress, ServeStop>
-        requires may { may_step hart (with_memory self.old (memory_of S.content memory.old)) ≡ true }
+        requires may { may_step hart (with_memory self.old (memory_of S.content memory.old)) ≡
+            true }
         requires cached { harts_in memory.old ≡ length self.old.harts }
         requires left { LeftBy S.content S.honest hart outcome self.old memory.old }
-        ensures ends { (left : LeftBy S.content S.honest hart outcome self.old memory.old) → EndsStep S.content S.honest hart result self.old left.before self.new memory.new }
+        ensures ends { (left : LeftBy S.content S.honest hart outcome self.old memory.old) →
+            EndsStep S.content S.honest hart result self.old left.before self.new memory.new }
     {
         let regs = &mut self.harts[hart as usize];
         match finish_on::<L, S, Brand>(&mut self.env, hart, regs, memory, outcome) {
@@ -75,11 +79,14 @@ impl Running {
         memory: &mut PagedMemory<L, S>,
         outcome: Outcome,
     ) -> Slice
-        requires may { may_step hart (with_memory self.old (memory_of S.content memory.old)) ≡ true }
+        requires may { may_step hart (with_memory self.old (memory_of S.content memory.old)) ≡
+            true }
         requires cached { harts_in memory.old ≡ length self.old.harts }
         requires left { LeftBy S.content S.honest hart outcome self.old memory.old }
         ensures within { result.ran ≤ 1 }
-        ensures ends { (left : LeftBy S.content S.honest hart outcome self.old memory.old) → (fits : ℕ) → 0 < fits → EndsOne S.content S.honest hart fits result.ran result.stop self.old left.before self.new memory.new }
+        ensures ends { (left : LeftBy S.content S.honest hart outcome self.old memory.old) →
+            (fits : ℕ) → 0 < fits → EndsOne S.content S.honest hart fits result.ran result.stop
+            self.old left.before self.new memory.new }
     {
         match self.end_step(hart, memory, outcome) {
             Ok(progress) => Slice {

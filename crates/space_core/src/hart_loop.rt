@@ -35,7 +35,8 @@ fn run_one<L: Ledger, S: SwapSlot, O: Opening>(
 ) -> Outcome
     requires started { hart < harts_in memory.old }
     requires opening { cache_in memory.old hart ≡ O.opening }
-    ensures ran { RunsTo S.content S.honest hart result (with_pc regs.old pc.old) memory.old (with_pc regs.new pc.new) memory.new }
+    ensures ran { RunsTo S.content S.honest hart result (with_pc regs.old pc.old) memory.old
+        (with_pc regs.new pc.new) memory.new }
 {
     let mut bus: HartMemory<L, S, O> = HartMemory::new(memory, hart as usize);
     let outcome = execute_at(hart, pc, regs, &mut bus);
@@ -53,7 +54,8 @@ fn run_each<L: Ledger, S: SwapSlot>(
 ) -> Course
     requires started { hart < harts_in memory.old }
     ensures within { result.done ≤ most }
-    ensures ran { RunsUntil S.content S.honest hart most result.done result.last regs.old memory.old regs.new memory.new }
+    ensures ran { RunsUntil S.content S.honest hart most result.done result.last regs.old
+        memory.old regs.new memory.new }
     ensures harts { harts_in memory.new ≡ harts_in memory.old }
 {
     let mut pc = regs.pc();
@@ -73,7 +75,8 @@ fn run_at_hand<L: Ledger, S: SwapSlot>(
 ) -> Course
     requires started { hart < harts_in memory.old }
     ensures within { result.done ≤ most }
-    ensures ran { RunsUntil S.content S.honest hart most result.done result.last (with_pc regs.old pc.old) memory.old (with_pc regs.new pc.new) memory.new }
+    ensures ran { RunsUntil S.content S.honest hart most result.done result.last
+        (with_pc regs.old pc.old) memory.old (with_pc regs.new pc.new) memory.new }
     ensures harts { harts_in memory.new ≡ harts_in memory.old }
 {
     let mut left = most;
@@ -137,10 +140,13 @@ impl Running {
         memory: &mut PagedMemory<L, S>,
         most: u32,
     ) -> Course
-        requires may { may_step hart (with_memory self.old (memory_of S.content memory.old)) ≡ true }
+        requires may { may_step hart (with_memory self.old (memory_of S.content memory.old)) ≡
+            true }
         requires cached { harts_in memory.old ≡ length self.old.harts }
         ensures within { result.done ≤ most }
-        ensures ran { HartRuns hart (λ regs regs'. RunsUntil S.content S.honest hart most result.done result.last regs memory.old regs' memory.new) self.old self.new }
+        ensures ran { HartRuns hart (λ regs regs'.
+            RunsUntil S.content S.honest hart most result.done result.last regs memory.old regs'
+            memory.new) self.old self.new }
         ensures harts { harts_in memory.new ≡ harts_in memory.old }
     {
         let regs = &mut self.harts[hart as usize];

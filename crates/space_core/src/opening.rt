@@ -27,7 +27,8 @@ impl<L: Ledger, S: SwapSlot> Space<L, S> {
     ) -> Result<Self, AllocError>
         ensures image { IfOk result (λ space. space.image ≡ image) }
         ensures input { IfOk result (λ space. space.input ≡ input.items) }
-        ensures running { IfOk result (λ space. space.running ≡ beside (opening image input.items)) }
+        ensures running { IfOk result (λ space.
+            space.running ≡ beside (opening image input.items)) }
         ensures schedule { IfOk result (λ space. space.schedule ≡ []) }
         ensures process { IfOk result (λ space. space.memory.process ≡ process) }
         ensures pages { IfOk result (λ space. HasFresh (opening_pages image.pages) space.memory) }
@@ -49,7 +50,8 @@ impl<L: Ledger, S: SwapSlot> Space<L, S> {
     /// Whether it was started from this image and this input.
     pub fn started_from(&self, image: &Image, input: &[u8]) -> bool
         ensures same { OnTrue result ((image.now ≡ self.now.image) × (input.now ≡ self.now.input)) }
-        ensures different { OnFalse result (image.now ≡ self.now.image → input.now ≢ self.now.input) }
+        ensures different { OnFalse result (image.now ≡ self.now.image →
+            input.now ≢ self.now.input) }
     {
         if !is_same_image(image, &self.image) {
             return false;

@@ -40,7 +40,11 @@ impl Model for Recorded {
 impl Recorded {
     /// What a process that is to run an image on an input begins with.
     pub fn new(alloc: Global, image: &Image, input: SharedBytes) -> Result<Self, AllocError>
-        ensures { IfOk result (λ recorded. recorded ≡ record { running = beside (opening image.now input); schedule = [] }) }
+        ensures { IfOk result (λ recorded. recorded ≡ record {
+          running = beside
+              (opening image.now input);
+          schedule = [];
+        }) }
     {
         Ok(Recorded {
             running: Running::new(alloc, image, input)?,
@@ -56,11 +60,13 @@ impl Recorded {
         memory: &mut PagedMemory<L, S>,
         most: u32,
     ) -> Steps
-        requires may { may_step hart (with_memory self.old.running (memory_of S.content memory.old)) ≡ true }
+        requires may { may_step hart (with_memory self.old.running
+            (memory_of S.content memory.old)) ≡ true }
         requires cached { harts_in memory.old ≡ length self.old.running.harts }
         requires fits { most ≤ room self.old.schedule hart }
         ensures within { result.ran ≤ most }
-        ensures runs { RunsRecorded S.content S.honest hart result.ran (option_map (λ slice. (slice.ran, slice.stop)) result.last) self.old self.new memory.old memory.new }
+        ensures runs { RunsRecorded S.content S.honest hart result.ran (option_map (λ slice.
+            (slice.ran, slice.stop)) result.last) self.old self.new memory.old memory.new }
         ensures all { IfNone result.last (result.ran ≡ most) }
         ensures short { IfSome result.last (λ _. result.ran < most) }
     {
@@ -86,7 +92,10 @@ impl Recorded {
 
     /// The machine ends the process, unless it has ended.
     pub fn kill(&mut self, cause: KillCause)
-        ensures { self.new ≡ record self.old { running = record self.old.running { ending = option_or self.old.running.ending (Some (End.Killed cause)) } } }
+        ensures { self.new ≡ record self.old {
+          running = record self.old.running
+              { ending = option_or self.old.running.ending (Some (End.Killed cause)) };
+        } }
     {
         self.running.kill(cause);
     }

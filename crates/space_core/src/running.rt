@@ -68,7 +68,10 @@ impl Running {
 
     /// The machine ends the process, unless it has ended.
     pub fn kill(&mut self, cause: KillCause)
-        ensures { self.new ≡ record self.old { ending = option_or self.old.ending (Some (End.Killed cause)) } }
+        ensures { self.new ≡ record self.old {
+          ending = option_or self.old.ending
+              (Some (End.Killed cause));
+        } }
     {
         if self.end.is_none() {
             self.end = Some(End::Killed(cause));

@@ -110,7 +110,8 @@ impl<L: Ledger, S: SwapSlot> Space<L, S> {
     #[tactic(auto, using(crate::proofs::Shown::flat_harts))]
     pub fn regs(&self, hart: u32) -> Option<&Regs>
         ensures exact { option_copied result ≡ slice_get self.now.running.harts hart }
-        ensures flat { OfFlat S.honest (λ flat. option_copied result ≡ slice_get flat.harts hart) self.now }
+        ensures flat { OfFlat S.honest (λ flat. option_copied result ≡
+            slice_get flat.harts hart) self.now }
     {
         self.coherent();
         self.recorded.running().regs(hart)

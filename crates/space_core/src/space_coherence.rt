@@ -18,6 +18,7 @@ impl<L: Ledger, S: SwapSlot> Space<L, S> {
         ensures framed { HoldsFramedIn self.now.memory }
         ensures walks { WalksLeadIn self.now.memory }
     {
+        // For the proof alone: a read tells its invariant.
         let _ = &self.image;
         self.memory.coherent();
     }

@@ -23,9 +23,13 @@ impl<L: Ledger, S: SwapSlot> Space<L, S> {
     ) -> Collected<L, S>
         requires { vpn < 2 ^ 20 }
         ensures answer { LooksAt vpn spare.old spare.new result self.old.memory self.new.memory }
-        ensures stays { self.new ≡ record self.old { memory = with_pages self.old.memory self.new.memory } }
+        ensures stays { self.new ≡ record self.old {
+          memory = with_pages self.old.memory
+              self.new.memory;
+        } }
         ensures same { lets_go result ≡ false → self.new ≡ self.old }
-        ensures memory { S.honest → memory_of S.content self.new.memory ≡ memory_of S.content self.old.memory }
+        ensures memory { S.honest → memory_of S.content self.new.memory ≡
+            memory_of S.content self.old.memory }
     {
         self.memory.collect(vpn, spare, room)
     }
@@ -39,9 +43,14 @@ impl<L: Ledger, S: SwapSlot> Space<L, S> {
         room: &mut Box<[u8; 4096]>,
     ) -> Result<Frame<L>, SaveRefusal<S>>
         ensures freed { IfOk result (λ frame. SavedAway job frame self.old.memory self.new.memory) }
-        ensures refused { IfErr result (λ refusal. IsNotSaved job refusal self.old.memory self.new.memory) }
-        ensures stays { self.new ≡ record self.old { memory = with_pages self.old.memory self.new.memory } }
-        ensures memory { S.honest → memory_of S.content self.new.memory ≡ memory_of S.content self.old.memory }
+        ensures refused { IfErr result (λ refusal.
+            IsNotSaved job refusal self.old.memory self.new.memory) }
+        ensures stays { self.new ≡ record self.old {
+          memory = with_pages self.old.memory
+              self.new.memory;
+        } }
+        ensures memory { S.honest → memory_of S.content self.new.memory ≡
+            memory_of S.content self.old.memory }
     {
         self.memory.saved(job, room)
     }

@@ -28,9 +28,13 @@ impl<L: Ledger, S: SwapSlot> Space<L, S> {
     /// it, only where the page has no table yet.
     pub fn page_in(&mut self, vpn: u32, frame: Frame<L>) -> Result<(), (Frame<L>, PageInFault)>
         requires { vpn < 2 ^ 20 }
-        ensures ok { OnOk result (ComesIn S.content S.honest frame vpn self.old.memory self.new.memory) }
-        ensures refused { IfErr result (λ back. RefusesIn S.content S.honest S.failures frame vpn back.0 back.1 self.old.memory self.new.memory) }
-        ensures memory { S.honest → memory_of S.content self.new.memory ≡ memory_of S.content self.old.memory }
+        ensures ok { OnOk result (ComesIn S.content S.honest frame vpn self.old.memory
+            self.new.memory) }
+        ensures refused { IfErr result (λ back.
+            RefusesIn S.content S.honest S.failures frame vpn back.0 back.1 self.old.memory
+            self.new.memory) }
+        ensures memory { S.honest → memory_of S.content self.new.memory ≡
+            memory_of S.content self.old.memory }
         ensures unmapped { OnErr result (SameEntries self.old.memory self.new.memory) }
         ensures stays { self.new ≡ record self.old { memory = self.new.memory } }
         ensures process { self.new.memory.process ≡ self.old.memory.process }
@@ -45,14 +49,24 @@ impl<L: Ledger, S: SwapSlot> Space<L, S> {
     /// leaves the room as it was.
     pub fn peek(&mut self, address: u32, bytes: &mut [Option<u8>]) -> Result<(), PeekFault>
         requires { page_offset address + length bytes.old ≤ 4096 }
-        ensures bytes { OnOk result (ShowsIn S.content S.honest self.old.memory address (length bytes.old) bytes.new) }
-        ensures shown { S.honest → OnOk result (bytes_of (memory_of S.content self.old.memory) address (length bytes.old) ≡ Some bytes.new) }
-        ensures flat { S.honest → OnOk result ((flat : Process) → flat_run (written_out self.old.schedule) (opening self.old.image self.old.input) ≡ Some flat → bytes_of flat.memory address (length bytes.old) ≡ Some bytes.new) }
+        ensures bytes { OnOk result (ShowsIn S.content S.honest self.old.memory address
+            (length bytes.old) bytes.new) }
+        ensures shown { S.honest →
+            OnOk result (bytes_of (memory_of S.content self.old.memory) address
+            (length bytes.old) ≡ Some bytes.new) }
+        ensures flat { S.honest → OnOk result ((flat : Process) →
+            flat_run (written_out self.old.schedule) (opening self.old.image self.old.input) ≡
+            Some flat → bytes_of flat.memory address (length bytes.old) ≡ Some bytes.new) }
         ensures unread { OnErr result (bytes.new ≡ bytes.old) }
-        ensures refused { IfErr result (DoesNotShow S.content S.honest S.failures address self.old.memory self.new.memory) }
+        ensures refused { IfErr result (DoesNotShow S.content S.honest S.failures address
+            self.old.memory self.new.memory) }
         ensures left { LeavesLookedAt S.content S.honest address self.old.memory self.new.memory }
-        ensures memory { S.honest → memory_of S.content self.new.memory ≡ memory_of S.content self.old.memory }
-        ensures stays { self.new ≡ record self.old { memory = with_pages self.old.memory self.new.memory } }
+        ensures memory { S.honest → memory_of S.content self.new.memory ≡
+            memory_of S.content self.old.memory }
+        ensures stays { self.new ≡ record self.old {
+          memory = with_pages self.old.memory
+              self.new.memory;
+        } }
     {
         self.memory.peek(address, bytes)
     }
@@ -71,11 +85,14 @@ impl<L: Ledger, S: SwapSlot> Space<L, S> {
         ensures given { IfSome result (λ given. GivesIn given self.old.memory self.new.memory) }
         ensures tabled { SameTablesIn self.old.memory self.new.memory }
         ensures ended { IfSome result (λ _. IsSome self.old.running.ending) }
-        ensures none { IfNone result (IsSome self.old.running.ending → HasNothingBelow (2 ^ 20) self.old.memory) }
-        ensures left { IfNone result (self.new ≡ record self.old { memory = if_ended self.old.running.ending self.old.memory }) }
+        ensures none { IfNone result (IsSome self.old.running.ending →
+            HasNothingBelow (2 ^ 20) self.old.memory) }
+        ensures left { IfNone result (self.new ≡
+            record self.old { memory = if_ended self.old.running.ending self.old.memory }) }
         ensures stays { self.new ≡ record self.old { memory = self.new.memory } }
         ensures process { self.new.memory.process ≡ self.old.memory.process }
-        ensures caches { SameCaches (if_ended self.old.running.ending self.old.memory) self.new.memory }
+        ensures caches { SameCaches (if_ended self.old.running.ending self.old.memory)
+            self.new.memory }
         ensures reserved { self.new.memory.reserved ≡ self.old.memory.reserved }
     {
         match self.take_from(0) {
@@ -93,11 +110,14 @@ impl<L: Ledger, S: SwapSlot> Space<L, S> {
         ensures behind { IfSome result (λ taken. LiesBehindIn self.old.memory from taken.1) }
         ensures tabled { SameTablesIn self.old.memory self.new.memory }
         ensures ended { IfSome result (λ _. IsSome self.old.running.ending) }
-        ensures none { IfNone result (IsSome self.old.running.ending → HasNothingBelow (2 ^ 20) self.old.memory) }
-        ensures left { IfNone result (self.new ≡ record self.old { memory = if_ended self.old.running.ending self.old.memory }) }
+        ensures none { IfNone result (IsSome self.old.running.ending →
+            HasNothingBelow (2 ^ 20) self.old.memory) }
+        ensures left { IfNone result (self.new ≡
+            record self.old { memory = if_ended self.old.running.ending self.old.memory }) }
         ensures stays { self.new ≡ record self.old { memory = self.new.memory } }
         ensures process { self.new.memory.process ≡ self.old.memory.process }
-        ensures caches { SameCaches (if_ended self.old.running.ending self.old.memory) self.new.memory }
+        ensures caches { SameCaches (if_ended self.old.running.ending self.old.memory)
+            self.new.memory }
         ensures reserved { self.new.memory.reserved ≡ self.old.memory.reserved }
     {
         self.recorded.running().end()?;

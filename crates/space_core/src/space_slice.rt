@@ -21,7 +21,8 @@ use swap_slots::SwapSlot;
 impl<L: Ledger, S: SwapSlot> Space<L, S> {
     /// Runs instructions of a hart, each as a slice of its own, up to so many, until one of them stops.
     fn slice_each(&mut self, hart: u32, budget: u32) -> Slice
-        ensures each { SlicesEach S.content S.honest hart budget result.ran result.stop self.old self.new }
+        ensures each { SlicesEach S.content S.honest hart budget result.ran result.stop self.old
+            self.new }
     {
         let mut ran = 0;
         'turns: loop {
@@ -51,21 +52,27 @@ impl<L: Ledger, S: SwapSlot> Space<L, S> {
     ///
     /// A hart that does not go on drops its translations, and so do all where the process ended.
     pub fn slice(&mut self, hart: u32, budget: u32) -> Slice
-        ensures ran { flat_run (replicate result.ran hart) (shown_process S.content self.old) ≡ Some (shown_process S.content self.new) }
-        ensures recorded { written_out self.new.schedule ≡ written_out self.old.schedule ++ replicate result.ran hart }
+        ensures ran { flat_run (replicate result.ran hart) (shown_process S.content self.old) ≡
+            Some (shown_process S.content self.new) }
+        ensures recorded { written_out self.new.schedule ≡ written_out self.old.schedule ++
+            replicate result.ran hart }
         ensures left { room self.new.schedule hart + result.ran ≡ room self.old.schedule hart }
         ensures within { result.ran ≤ budget }
-        ensures stop { StopsRecorded (LacksIn self.old.memory) hart budget (room self.old.schedule hart) (shown_process S.content self.old) result.stop result.ran (shown_process S.content self.new) }
+        ensures stop { StopsRecorded (LacksIn self.old.memory) hart budget
+            (room self.old.schedule hart) (shown_process S.content self.old) result.stop result.ran
+            (shown_process S.content self.new) }
         ensures pages { let opening = cache_in self.old.memory hart in
             EachStep (λ at. Used (HasIn self.old.memory hart) (MarksSince self.new.memory opening) (next_pages hart at)) hart (answered result.stop result.ran) (shown_process S.content self.old) }
-        ensures bound { BoundsEach (MarkedIn self.old.memory) (MarkedIn self.new.memory) hart (begun result.stop result.ran) (shown_process S.content self.old) }
+        ensures bound { BoundsEach (MarkedIn self.old.memory) (MarkedIn self.new.memory) hart
+            (begun result.stop result.ran) (shown_process S.content self.old) }
         ensures kept { KeepsSpace hart result.stop self.old self.new }
         ensures stands { S.honest → StandsFor S.content self.new }
         ensures coheres { Coheres S.content S.honest self.new.memory }
 
         // Each instruction says of itself which pages were had and marked: a page's use may be without a mark only where the hart
         // had a translation of it that was to be dropped when that very instruction began.
-        ensures each { SlicesEach S.content S.honest hart budget result.ran result.stop self.old self.new }
+        ensures each { SlicesEach S.content S.honest hart budget result.ran result.stop self.old
+            self.new }
     {
         self.memory.coherent();
         self.slice_each(hart, budget)

@@ -26,7 +26,8 @@ fn stop_refused<L: Ledger, S: SwapSlot>(
     memory: &PagedMemory<L, S>,
     hart: u32,
 ) -> SliceStop
-    requires refused { may_step hart (with_memory recorded.now.running (memory_of S.content memory.now)) ≡ true → room recorded.now.schedule hart ≡ 0 }
+    requires refused { may_step hart (with_memory recorded.now.running
+        (memory_of S.content memory.now)) ≡ true → room recorded.now.schedule hart ≡ 0 }
     ensures answers { answered result 0 ≡ 0 }
     ensures begins { begun result 0 ≡ 0 }
     ensures stop { let now = with_memory recorded.now.running (memory_of S.content memory.now) in
@@ -56,7 +57,8 @@ impl<L: Ledger, S: SwapSlot> Space<L, S> {
         requires some { 0 < most }
         requires fits { most ≤ room self.old.schedule hart }
         ensures within { result.ran ≤ most }
-        ensures each { StepsEach S.content S.honest hart result.ran (option_map (λ slice. (slice.ran, slice.stop)) result.last) self.old self.new }
+        ensures each { StepsEach S.content S.honest hart result.ran (option_map (λ slice.
+            (slice.ran, slice.stop)) result.last) self.old self.new }
         ensures all { IfNone result.last (result.ran ≡ most) }
         ensures short { IfSome result.last (λ _. result.ran < most) }
     {
@@ -73,8 +75,10 @@ impl<L: Ledger, S: SwapSlot> Space<L, S> {
     /// The same of any hart: none run where it may not step, and no more than the schedule takes.
     fn run_allowed(&mut self, hart: u32, most: u32) -> Steps
         ensures within { result.ran ≤ most }
-        ensures each { StepsEach S.content S.honest hart result.ran (option_map (λ slice. (slice.ran, slice.stop)) result.last) self.old self.new }
-        ensures all { IfNone result.last ((result.ran ≡ most) ⊎ RefusesAll S.content hart self.new) }
+        ensures each { StepsEach S.content S.honest hart result.ran (option_map (λ slice.
+            (slice.ran, slice.stop)) result.last) self.old self.new }
+        ensures all { IfNone result.last ((result.ran ≡ most) ⊎
+            RefusesAll S.content hart self.new) }
         ensures short { IfSome result.last (λ _. result.ran < most) }
     {
         let allowed = least(most, self.schedule().room(hart));
@@ -104,7 +108,8 @@ impl<L: Ledger, S: SwapSlot> Space<L, S> {
     /// not pass on to the next.
     pub fn steps(&mut self, hart: u32, most: u32) -> Steps
         ensures within { result.ran ≤ most }
-        ensures each { StepsEach S.content S.honest hart result.ran (option_map (λ slice. (slice.ran, slice.stop)) result.last) self.old self.new }
+        ensures each { StepsEach S.content S.honest hart result.ran (option_map (λ slice.
+            (slice.ran, slice.stop)) result.last) self.old self.new }
         ensures all { IfNone result.last (result.ran ≡ most) }
         ensures short { IfSome result.last (λ _. result.ran < most) }
     {

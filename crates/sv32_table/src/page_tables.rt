@@ -46,9 +46,11 @@ impl PageTables {
     #[tactic(auto, using(crate::proofs::TreeCalls::answer_of_walk, crate::proofs::TreeCalls::leaf_dirty, crate::proofs::TreeCalls::tree_after_walk, crate::proofs::TreeCalls::entries_after_walk, crate::proofs::TreeCalls::tables_after_walk))]
     pub fn walk(&mut self, address: u32, access: Access) -> Result<Leaf, WalkFault>
         ensures leaf { result ≡ walk_entry (entry_at self.old (address / 0x1000)) address access }
-        ensures entries { ChangesEntry self.old self.new (address / 0x1000) (walked_entry (entry_at self.old (address / 0x1000)) access) }
+        ensures entries { ChangesEntry self.old self.new (address / 0x1000)
+            (walked_entry (entry_at self.old (address / 0x1000)) access) }
         ensures tables { SameTables self.old self.new }
-        ensures dirty { IfOk result (λ leaf. (entry_of leaf.pte.0).dirty ≡ dirty_of (entry_at self.new (address / 0x1000))) }
+        ensures dirty { IfOk result (λ leaf. (entry_of leaf.pte.0).dirty ≡
+            dirty_of (entry_at self.new (address / 0x1000))) }
         ensures manual { IsTranslation self.old address access result self.new }
     {
         self.tables.walk(address, access)
@@ -60,6 +62,7 @@ impl PageTables {
     pub fn translates(&self)
         ensures { LeadsByEntry self.now }
     {
+        // For the proof alone: a read tells its invariant.
         let _ = &self.tables;
     }
 
@@ -76,7 +79,8 @@ impl PageTables {
     ) -> Result<(), AllocError>
         requires vpn { vpn < 2 ^ 20 }
         requires ppn { ppn < 2 ^ 22 }
-        ensures ok { OnOk result (ChangesEntry self.old self.new vpn (leaf_entry ppn rights accessed)) }
+        ensures ok { OnOk result (ChangesEntry self.old self.new vpn
+            (leaf_entry ppn rights accessed)) }
         ensures tables { OnOk result (AddsTable self.old self.new vpn) }
         ensures no_memory { IsErr result → has_table self.old vpn ≡ false }
         ensures err { OnErr result (self.new ≡ self.old) }
@@ -96,7 +100,8 @@ impl PageTables {
         requires vpn { vpn < 2 ^ 20 }
         requires ppn { ppn < 2 ^ 22 }
         requires table { has_table self.old vpn ≡ true }
-        ensures entries { ChangesEntry self.old self.new vpn (page_entry ppn rights accessed dirty) }
+        ensures entries { ChangesEntry self.old self.new vpn
+            (page_entry ppn rights accessed dirty) }
         ensures tables { SameTables self.old self.new }
     {
         self.tables
@@ -108,7 +113,8 @@ impl PageTables {
     pub fn unmap(&mut self, vpn: u32) -> Option<Pte>
         requires { vpn < 2 ^ 20 }
         ensures answer { result ≡ valid_word (entry_at self.old vpn) }
-        ensures entries { ChangesEntry self.old self.new vpn (unmapped_entry (entry_at self.old vpn)) }
+        ensures entries { ChangesEntry self.old self.new vpn
+            (unmapped_entry (entry_at self.old vpn)) }
         ensures tables { SameTables self.old self.new }
     {
         self.tables.unmap(vpn)
@@ -119,7 +125,8 @@ impl PageTables {
     pub fn test_and_clear_accessed(&mut self, vpn: u32) -> Option<bool>
         requires { vpn < 2 ^ 20 }
         ensures answer { result ≡ accessed_of (entry_at self.old vpn) }
-        ensures entries { ChangesEntry self.old self.new vpn (unaccessed_entry (entry_at self.old vpn)) }
+        ensures entries { ChangesEntry self.old self.new vpn (unaccessed_entry
+            (entry_at self.old vpn)) }
         ensures tables { SameTables self.old self.new }
         ensures gone { IfNone result (self.new ≡ self.old) }
     {

@@ -73,8 +73,10 @@ impl Tables {
     ) -> Result<(), MapFault>
         requires vpn { vpn < 2 ^ 20 }
         requires ppn { ppn < 2 ^ 22 }
-        ensures ok { OnOk result (self.new ≡ mapped self.old vpn (word_of (leaf_entry ppn rights accessed))) }
-        ensures too_many { IsErrOf result MapFault.TooManyTables ↔ ((table_for self.old vpn ≡ None) × (length self.old ≡ MAX_TABLES)) }
+        ensures ok { OnOk result (self.new ≡ mapped self.old vpn
+            (word_of (leaf_entry ppn rights accessed))) }
+        ensures too_many { IsErrOf result MapFault.TooManyTables ↔
+            ((table_for self.old vpn ≡ None) × (length self.old ≡ MAX_TABLES)) }
         ensures no_memory { IsErrOf result MapFault.NoMemory → table_for self.old vpn ≡ None }
         ensures room { IsErrOf result MapFault.NoMemory → length self.old < MAX_TABLES }
         ensures err { OnErr result (self.new ≡ self.old) }
@@ -125,8 +127,10 @@ impl Tables {
     #[tactic(auto, unfolding(crate::specs::Tables::marked, crate::specs::Tables::marked_from, crate::specs::Tables::found, crate::specs::Tables::found_from, crate::specs::Tables::word_if_valid))]
     pub fn test_and_clear_accessed(&mut self, vpn: u32) -> Option<bool>
         requires { vpn < 2 ^ 20 }
-        ensures answer { result ≡ option_map (λ pte. (entry_of pte.0).accessed) (found self.old vpn) }
-        ensures words { self.new ≡ marked self.old vpn (λ e. word_of (record e { accessed = false })) }
+        ensures answer { result ≡ option_map (λ pte. (entry_of pte.0).accessed)
+            (found self.old vpn) }
+        ensures words { self.new ≡ marked self.old vpn (λ e.
+            word_of (record e { accessed = false })) }
         ensures gone { IfNone result (self.new ≡ self.old) }
     {
         let table = self.table_for(vpn)?;
@@ -157,6 +161,7 @@ impl Tables {
         ensures table { result ≡ table_for self.now vpn }
         ensures within { IfSome result (λ table. table < length self.now) }
     {
+        // For the proof alone: a read tells its invariant.
         let _ = &self.tables;
         let root = Pte(self.word(0, (vpn / 1024) as usize));
         match root.shape() {
@@ -170,7 +175,8 @@ impl Tables {
     fn add_table(&mut self, index: u32) -> Result<usize, MapFault>
         requires { index < 1024 }
         ensures ok { OnOk result (self.new ≡ with_table self.old index) }
-        ensures table { IfOk result (λ table. (table ≡ length self.old) × (table < length self.new)) }
+        ensures table { IfOk result (λ table. (table ≡ length self.old) ×
+            (table < length self.new)) }
         ensures too_many { IsErrOf result MapFault.TooManyTables ↔ (length self.old ≡ MAX_TABLES) }
         ensures room { IsErrOf result MapFault.NoMemory → length self.old < MAX_TABLES }
         ensures err { OnErr result (self.new ≡ self.old) }
@@ -231,8 +237,10 @@ impl Tables {
     #[tactic(auto, unfolding(crate::specs::Tables::walk_end, crate::specs::Tables::root_step))]
     fn walk_end(&self, address: u32) -> Result<LeafPlace, WalkFault>
         ensures place { result ≡ walk_end self.now address }
-        ensures within { IfOk result (λ place. (place.table < length self.now) × (place.index < 1024)) }
+        ensures within { IfOk result (λ place. (place.table < length self.now) ×
+            (place.index < 1024)) }
     {
+        // For the proof alone: a read tells its invariant.
         let _ = &self.tables;
         let index = (address / 0x40_0000) as usize;
         let root = Pte(self.word(0, index));
@@ -254,7 +262,8 @@ impl Tables {
     #[tactic(auto, unfolding(crate::specs::Tables::root_step, crate::specs::Tables::next_step, crate::specs::Tables::last_step))]
     fn pointer_end(&self, root: Pte, address: u32) -> Result<LeafPlace, WalkFault>
         ensures place { result ≡ root_step self.now address (entry_of root.0) Shape.Pointer }
-        ensures within { IfOk result (λ place. (place.table < length self.now) × (place.index < 1024)) }
+        ensures within { IfOk result (λ place. (place.table < length self.now) ×
+            (place.index < 1024)) }
     {
         if root.has_reserved() {
             return Err(WalkFault::PageFault);
@@ -282,6 +291,7 @@ impl Tables {
         ensures words { self.new ≡ (walked self.old address access).1 }
         ensures manual { IsTranslation self.old address access result self.new }
     {
+        // For the proof alone: a read tells its invariant.
         let _ = &self.tables;
         self.walk_tables(address, access)
     }

@@ -1,4 +1,5 @@
 pub mod Passing
 pub mod Points
+pub mod Room
 pub mod Trimmed
 pub mod Watching

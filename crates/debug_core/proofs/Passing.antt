@@ -1,5 +1,6 @@
 -- Steps that pass with no reason to stop.
-use Rattle.std.proofs.Common.{◌≡◌, ◌≢◌, ℕ, zero, suc, ◌+◌, ◌≤◌, List, [], ◌∷◌, length, replicate, take, slice_index_or, Option, Some, None, IfSome, option_and_then, option_map, slice_index, nat_cmp, subst, sym, ap, ◌∙◌, refl, below_more, arith}
+use Rattle.std.proofs.Common.{◌≡◌, ◌≢◌, ℕ, zero, suc, ◌+◌, ◌≤◌, List, [], ◌∷◌, length, replicate, take, slice_index_or, Option, Some, None, IfSome, option_and_then, option_map, slice_index, nat_cmp, inl, inr, subst, sym, ap, ◌∙◌, refl, below_more, arith}
+use Rattle.std.specs.Prelude.{◌↔◌}
 use Rattle.std.specs.FinMap as map
 use Rattle.std.proofs.lemmas.List.{get_or-replicate}
 use Rattle.page_memory.specs.Pages.{Page}
@@ -8,34 +9,54 @@ use Rattle.page_memory.specs.Memory.{byte_at, unreserved}
 use Rattle.page_memory.specs.Words.{page_number, page_offset}
 use Rattle.debug_core.specs.Points.{bytes_from, point_at, IsPoint, ArePoints}
 use Rattle.debug_core.specs.Seen.{AreSeen, IsSeen}
-use Rattle.debug_core.specs.Stops.{Moment, moment_after, next_moment, reason, Advances, Passes}
+use Rattle.debug_core.specs.Limits.{Limit}
+use Rattle.debug_core.specs.Stops.{Moment, moment_after, next_moment, reason, Advances, IsFullAt, Passes, StopsFor}
 use Rattle.flat_machine.specs.Process.{Process}
 use Rattle.debug_core.specs.declared.point.Why.{Why}
+use Rattle.debug_core.specs.declared.point.Why.TheVariants.{Ended, Watch as Watched, Break as Broke, Limit as Limited, Absent}
 use Rattle.debug_core.specs.declared.point.Point.{Point}
 use Rattle.debug_core.specs.declared.point.Point.TheVariants.{Break, Watch}
 
-pub passes_none : (points : List (Option Point)) (limit : ℕ) (first : Moment) → Passes points limit 0 first first
+pub passes_none : (limits : Limit → Type 0) (points : List (Option Point)) (limit : ℕ) (first : Moment) → Passes limits points limit 0 first first
 unfolding moment_after
-passes_none points limit first = record { reached = refl; within = omega arith; before = λ count h. absurd (omega (arith, h)) }
+passes_none limits points limit first = record { reached = refl; within = omega arith; before = λ count h. absurd (omega (arith, h)) }
 
 -- one step more
-pub passes_more : (points : List (Option Point)) (limit count : ℕ) (first now next : Moment) → Passes points limit count first now → reason points limit count now ≡ None
-    → next_moment now ≡ Some next → count ≢ limit → Passes points limit (count + 1) first next
+pub passes_more : (limits : Limit → Type 0) (points : List (Option Point)) (limit count : ℕ) (first now next : Moment) → Passes limits points limit count first now → reason points limit count now ≡ None
+    → (¬ IsFullAt limits count first now) → next_moment now ≡ Some next → count ≢ limit → Passes limits points limit (count + 1) first next
 unfolding moment_after
-passes_more points limit count first now next passes none step below =
+passes_more limits points limit count first now next passes none recordable step below =
     let more : suc count ≡ count + 1 = omega arith in
-    let here : IfSome (moment_after count first) (λ m. reason points limit count m ≡ None) =
-    subst (λ found. IfSome found (λ m. reason points limit count m ≡ None)) (sym passes.reached) none in
+    let here : IfSome (moment_after count first) (λ m. (reason points limit count m ≡ None) × (¬ IsFullAt limits count first m)) =
+    subst (λ found. IfSome found (λ m. (reason points limit count m ≡ None) × (¬ IsFullAt limits count first m))) (sym passes.reached) (none, recordable) in
     record {
       reached = ap (λ k. moment_after k first) (sym more) ∙ ap (option_and_then next_moment) passes.reached ∙ step;
       within = let within = passes.within in omega (arith, below);
-      before = λ k h. below_more (λ i. IfSome (moment_after i first) (λ m. reason points limit i m ≡ None)) count (λ i l. passes.before i l) here k h;
+      before = λ k h. below_more (λ i. IfSome (moment_after i first) (λ m. (reason points limit i m ≡ None) × (¬ IsFullAt limits i first m))) count (λ i l. passes.before i l) here k h;
     }
 
--- a step of a run by what it was answered with
-pub advances_by : (told why : Option Why) (points : List (Option Point)) (limit count : ℕ) (now : Moment) (turn : ℕ) (process : Process) → told ≡ why
-    → Advances told points limit count now turn process → Advances why points limit count now turn process
-advances_by told why points limit count now turn process same advances = subst (λ w. Advances w points limit count now turn process) same advances
+module _ {T : Type 0} (shown : T → Process) (limits : T → Limit → Type 0) where
+  -- a step of a run by what it was answered with
+  pub advances_by : (full : Type 0) (told why : Option Why) (points : List (Option Point)) (limit count : ℕ) (now : Moment) (turn : ℕ) (process : Process) → told ≡ why
+      → Advances shown limits full told points limit count now turn process → Advances shown limits full why points limit count now turn process
+  advances_by full told why points limit count now turn process same advances = subst (λ w. Advances shown limits full w points limit count now turn process) same advances
+
+  -- where no more can be recorded is told in two ways
+  pub stops_as : (full other : Type 0) → full ↔ other → (why : Why) (points : List (Option Point)) (limit count : ℕ) (now : Moment) (process : Process)
+      → StopsFor shown limits full why points limit count now process → StopsFor shown limits other why points limit count now process
+  stops_as full other same Ended points limit count now process stops =
+      elim stops [
+        | inl ended ↦ inl ended
+        | inr ran_out ↦ inr (ran_out.0, (ran_out.1.0, same.0 ran_out.1.1))
+      ]
+  stops_as full other same (Watched number) points limit count now process stops = stops
+  stops_as full other same (Broke number) points limit count now process stops = stops
+  stops_as full other same Limited points limit count now process stops = stops
+  stops_as full other same Absent points limit count now process stops =
+      (stops.0, elim stops.1 [
+        | inl lacking ↦ inl (lacking.0, ((λ o. lacking.1.0 (same.1 o)), lacking.1.1))
+        | inr unread ↦ inr unread
+      ])
 
 -- ---- before anything was seen
 

@@ -8,10 +8,14 @@ use Rattle.rv_exec.specs.Registers.{Registers}
 use Rattle.flat_machine.specs.Process.{Process, hart_registers}
 use Rattle.debug_core.specs.Points.{point_at, is_break_at, is_hit, ArePoints, IsPoint}
 use Rattle.debug_core.specs.Progresses.{ended_full}
-use Rattle.debug_core.specs.Stops.{break_at, moment_after, reason, watch_hit, GoesOnBefore, Moment, Passes, Stops, StopsFor, Wants}
+use Rattle.debug_core.specs.Limits.{Limit}
+use Rattle.debug_core.specs.Seen.{CannotSee, IsUnread}
+use Rattle.debug_core.specs.Stops.{break_at, moment_after, reason, watch_hit, GoesOnBefore, IsFullAt, Moment, Passes, Stops, StopsFor, Wants}
 use Rattle.debug_core.specs.declared.point.Point.{Point}
 use Rattle.debug_core.specs.declared.point.Why.{Why}
-use Rattle.debug_core.specs.declared.point.Why.TheVariants.{Ended, Watch, Break, Limit, Absent}
+use Rattle.debug_core.specs.declared.point.Why.TheVariants.{Ended, Watch, Break, Limit as Limited, Absent}
+use Rattle.debug_core.specs.declared.target.ReadFault.{ReadFault}
+use Rattle.page_memory.specs.Memory.{Memory}
 
 none_behind : (test : Option Point → Bool) → test None ≡ false → (n : ℕ) (points : List (Option Point)) → ((number : ℕ) → point_at points number ≡ None) → position_from test n points ≡ None
 none_behind test unset n [] none = refl
@@ -34,6 +38,19 @@ taken_at (suc used) number [] = inr refl
 taken_at (suc used) zero (point ∷ points) = inl refl
 taken_at (suc used) (suc number) (point ∷ points) = taken_at used number points
 
+-- what stands below a point that is among them is among them
+taken_below : (used number lower : ℕ) (points : List (Option Point)) (point : Point) → lower ≤ number → point_at (take used points) number ≡ Some point → point_at (take used points) lower ≡ point_at points lower
+taken_below zero number lower points point below at = cc
+taken_below (suc used) number lower [] point below at = refl
+taken_below (suc used) number zero (first ∷ points) point below at = refl
+taken_below (suc used) zero (suc lower) (first ∷ points) point below at = absurd (omega (arith, below))
+taken_below (suc used) (suc number) (suc lower) (first ∷ points) point below at = taken_below used number lower points point (omega (arith, below)) at
+
+-- bytes that can't be read are those of a point
+seen_point : (limits : Limit → Type 0) (point : Option Point) (why : ReadFault) → CannotSee limits point why → (there : Point) × (point ≡ Some there)
+seen_point limits None why unseen = absurd unseen
+seen_point limits (Some there) why unseen = (there, refl)
+
 pub points_trimmed : (used : ℕ) (points : List (Option Point)) → ArePoints points → ArePoints (take used points)
 points_trimmed used points are number =
     elim (taken_at used number points) [
@@ -53,59 +70,81 @@ module _ (used : ℕ) (points : List (Option Point)) (none : (number : ℕ) → 
   reason_trimmed : (limit count : ℕ) (now : Moment) → reason (take used points) limit count now ≡ reason points limit count now
   reason_trimmed limit count now =
       ap (λ hit. if is_some now.process.ending then Some Ended else option_or (option_map Watch hit)
-      (option_or (option_map Break (break_at (take used points) (hart_registers now.turn now.process))) (if count == limit then Some Limit else None)))
+      (option_or (option_map Break (break_at (take used points) (hart_registers now.turn now.process))) (if count == limit then Some Limited else None)))
       (position_trimmed (is_hit now.was now.process.memory) refl used 0 points none)
       ∙ ap (λ met. if is_some now.process.ending then Some Ended else option_or (option_map Watch (watch_hit points now))
-      (option_or (option_map Break met) (if count == limit then Some Limit else None)))
+      (option_or (option_map Break met) (if count == limit then Some Limited else None)))
       (break_trimmed (hart_registers now.turn now.process))
 
-  passes_trimmed : (limit count : ℕ) (first now : Moment) → Passes (take used points) limit count first now → Passes points limit count first now
-  passes_trimmed limit count first now passes = record {
+  passes_trimmed : (limits : Limit → Type 0) (limit count : ℕ) (first now : Moment) → Passes limits (take used points) limit count first now → Passes limits points limit count first now
+  passes_trimmed limits limit count first now passes = record {
     reached = passes.reached;
     within = passes.within;
     before = λ earlier below.
-        if_some (moment_after earlier first) (λ at. reason (take used points) limit earlier at ≡ None) (λ at. reason points limit earlier at ≡ None)
-        (λ at e. sym (reason_trimmed limit earlier at) ∙ e) (passes.before earlier below);
+        if_some (moment_after earlier first) (λ at. (reason (take used points) limit earlier at ≡ None) × (¬ IsFullAt limits earlier first at))
+        (λ at. (reason points limit earlier at ≡ None) × (¬ IsFullAt limits earlier first at))
+        (λ at e. (sym (reason_trimmed limit earlier at) ∙ e.0, e.1)) (passes.before earlier below);
   }
 
-  stops_for : (why : Why) (limit count : ℕ) (now : Moment) (process : Process) → StopsFor why (take used points) limit count now process → StopsFor why points limit count now process
-  stops_for Ended limit count now process stops =
-      elim stops [
-        | inl ended ↦ inl (ended.0, sym (reason_trimmed limit count now) ∙ ended.1)
-        | inr full ↦ inr (full.0, sym (reason_trimmed limit count now) ∙ full.1)
-      ]
-  stops_for (Watch number) limit count now process stops = (stops.0, sym (reason_trimmed limit count now) ∙ stops.1)
-  stops_for (Break number) limit count now process stops = (stops.0, sym (reason_trimmed limit count now) ∙ stops.1)
-  stops_for Limit limit count now process stops = (stops.0, sym (reason_trimmed limit count now) ∙ stops.1)
-  stops_for Absent limit count now process stops = stops
+  module _ {T : Type 0} (shown : T → Process) (limits : T → Limit → Type 0) where
+    unread_trimmed : (was : Memory) (process : Process) → IsUnread shown limits (take used points) was process → IsUnread shown limits points was process
+    unread_trimmed was process unread =
+        let point = seen_point (limits unread.at) (point_at (take used points) unread.number) unread.why unread.unseen in
+        record {
+          number = unread.number;
+          at = unread.at;
+          why = unread.why;
+          shows = unread.shows;
+          unseen = subst (λ p. CannotSee (limits unread.at) p unread.why) (taken_below used unread.number unread.number points point.0 (omega arith) point.1) unread.unseen;
+          before = λ lower below.
+              subst (λ p. is_hit was process.memory p ≡ false) (taken_below used unread.number lower points point.0 (omega (arith, below)) point.1) (unread.before lower below);
+        }
 
-  stops_trimmed : (limit : ℕ) (why : Why) (count : ℕ) (first : Moment) (turn : ℕ) (process : Process) → Stops (take used points) limit why count first turn process → Stops points limit why count first turn process
-  stops_trimmed limit why count first turn process stops = record {
-    now = stops.now;
-    passes = passes_trimmed limit count first stops.now stops.passes;
-    stops = stops_for why limit count stops.now process stops.stops;
-    turn_is = stops.turn_is;
-  }
+    stops_for : (full : Type 0) (why : Why) (limit count : ℕ) (now : Moment) (process : Process) → StopsFor shown limits full why (take used points) limit count now process
+        → StopsFor shown limits full why points limit count now process
+    stops_for full Ended limit count now process stops =
+        elim stops [
+          | inl ended ↦ inl (ended.0, sym (reason_trimmed limit count now) ∙ ended.1)
+          | inr ran_out ↦ inr (ran_out.0, (sym (reason_trimmed limit count now) ∙ ran_out.1.0, ran_out.1.1))
+        ]
+    stops_for full (Watch number) limit count now process stops = (stops.0, sym (reason_trimmed limit count now) ∙ stops.1)
+    stops_for full (Break number) limit count now process stops = (stops.0, sym (reason_trimmed limit count now) ∙ stops.1)
+    stops_for full Limited limit count now process stops = (stops.0, sym (reason_trimmed limit count now) ∙ stops.1)
+    stops_for full Absent limit count now process stops =
+        (stops.0, elim stops.1 [
+          | inl lacking ↦ inl (sym (reason_trimmed limit count now) ∙ lacking.0, lacking.1)
+          | inr unread ↦ inr (unread.0, unread_trimmed now.was now.process unread.1)
+        ])
 
-  wants_trimmed : (limit : ℕ) (first : Moment) (turn : ℕ) (process : Process) → Wants (take used points) limit first turn process → Wants points limit first turn process
-  wants_trimmed limit first turn process wants = record {
-    count = wants.count;
-    now = wants.now;
-    passes = passes_trimmed limit wants.count first wants.now wants.passes;
-    none = sym (reason_trimmed limit wants.count wants.now) ∙ wants.none;
-    process_is = wants.process_is;
-    turn_is = wants.turn_is;
-  }
+    stops_trimmed : (target : T) (limit : ℕ) (why : Why) (count : ℕ) (first : Moment) (turn : ℕ) (process : Process) → Stops shown limits target (take used points) limit why count first turn process
+        → Stops shown limits target points limit why count first turn process
+    stops_trimmed target limit why count first turn process stops = record {
+      now = stops.now;
+      passes = passes_trimmed (limits target) limit count first stops.now stops.passes;
+      stops = stops_for (IsFullAt (limits target) count first stops.now) why limit count stops.now process stops.stops;
+      turn_is = stops.turn_is;
+    }
 
-  pub stops_answered : (limit : ℕ) (first : Moment) (turn : ℕ) (process : Process) {E : Type 0} (answer : Result (Why × ℕ) E)
-      → IfOk answer (λ stop. Stops (take used points) limit stop.0 stop.1 first turn process) → IfOk answer (λ stop. Stops points limit stop.0 stop.1 first turn process)
-  stops_answered limit first turn process (Ok stop) stops = stops_trimmed limit stop.0 stop.1 first turn process stops
-  stops_answered limit first turn process (Err error) stops = stops
+    wants_trimmed : (target : T) (limit : ℕ) (first : Moment) (turn : ℕ) (process : Process) → Wants limits target (take used points) limit first turn process → Wants limits target points limit first turn process
+    wants_trimmed target limit first turn process wants = record {
+      count = wants.count;
+      now = wants.now;
+      passes = passes_trimmed (limits target) limit wants.count first wants.now wants.passes;
+      none = sym (reason_trimmed limit wants.count wants.now) ∙ wants.none;
+      recordable = wants.recordable;
+      process_is = wants.process_is;
+      turn_is = wants.turn_is;
+    }
 
-  pub wants_answered : (limit : ℕ) (first : Moment) (turn : ℕ) (process : Process) {E : Type 0} (answer : Result (Why × ℕ) E)
-      → OnErr answer (Wants (take used points) limit first turn process) → OnErr answer (Wants points limit first turn process)
-  wants_answered limit first turn process (Ok stop) wants = wants
-  wants_answered limit first turn process (Err error) wants = wants_trimmed limit first turn process wants
+    pub stops_answered : (target : T) (limit : ℕ) (first : Moment) (turn : ℕ) (process : Process) {E : Type 0} (answer : Result (Why × ℕ) E)
+        → IfOk answer (λ stop. Stops shown limits target (take used points) limit stop.0 stop.1 first turn process) → IfOk answer (λ stop. Stops shown limits target points limit stop.0 stop.1 first turn process)
+    stops_answered target limit first turn process (Ok stop) stops = stops_trimmed target limit stop.0 stop.1 first turn process stops
+    stops_answered target limit first turn process (Err error) stops = stops
+
+    pub wants_answered : (target : T) (limit : ℕ) (first : Moment) (turn : ℕ) (process : Process) {E : Type 0} (answer : Result (Why × ℕ) E)
+        → OnErr answer (Wants limits target (take used points) limit first turn process) → OnErr answer (Wants limits target points limit first turn process)
+    wants_answered target limit first turn process (Ok stop) wants = wants
+    wants_answered target limit first turn process (Err error) wants = wants_trimmed target limit first turn process wants
 
 -- ---- counting the points in use
 

@@ -1,14 +1,14 @@
 -- A debugger: what it looks at, its points, and whose turn it is; and what its calls do.
-use Rattle.std.specs.Prelude.{◌≡◌, ◌⊎◌, ℕ, true, false, IsSome, List, slice_set, Option, Some, None, is_none}
+use Rattle.std.specs.Prelude.{◌≡◌, ◌⊎◌, ℕ, true, false, IsSome, List, [], slice_set, Option, Some, None, is_none}
 use Rattle.std.specs.List.{position_from}
 use Rattle.std.specs.FinMap as map
 use Rattle.flat_machine.specs.ByTurns.{turn_after}
 use Rattle.flat_machine.specs.Process.{Process, is_live, may_step, flat_step}
+use Rattle.debug_core.specs.Limits.{CannotHave, CannotRead, CannotRecord, Limit}
 use Rattle.debug_core.specs.Progresses.{ended_full}
 use Rattle.debug_core.specs.Stops.{Moment}
 use Rattle.page_memory.specs.Memory.{Memory, unreserved}
 use Rattle.debug_core.specs.Points.{all_there, bytes_from, IsRange}
-use Rattle.debug_core.specs.declared.target.ReadFault.{ReadFault}
 use Rattle.debug_core.specs.declared.target.ReadFault.TheVariants as fault
 use Rattle.debug_core.specs.declared.point.Point.{Point}
 use Rattle.debug_core.specs.declared.point.Stepped.{Stepped}
@@ -35,33 +35,34 @@ pub record AddsPoint (point : Point) (number : ℕ) (old new : List (Option Poin
 abbrev pub first_moment : Process → ℕ → Moment
 first_moment process turn = record { process = process; turn = turn; was = unreserved map.empty }
 
--- one step of a hart: it is the flat step, and the turn goes on; or none was taken
-abbrev pub StepsOnce : Stepped → ℕ → Process → ℕ → Process → ℕ → Type 0
-StepsOnce Ran hart old turn new next = (flat_step hart old ≡ Some new) × (next ≡ turn_after hart new)
-StepsOnce Absent hart old turn new next = (new ≡ old) × (next ≡ turn)
+-- One step of a hart, where the target that it is taken on has these limits: it is the flat step, and the turn goes on; or none was
+-- taken, though the hart may step, since a page that it needs can't be had. In both cases it could be recorded.
+abbrev pub StepsOnce : (Limit → Type 0) → Stepped → ℕ → Process → ℕ → Process → ℕ → Type 0
+StepsOnce limits Ran hart old turn new next = (flat_step hart old ≡ Some new) × (next ≡ turn_after hart new) × (¬ limits (CannotRecord [] hart))
+StepsOnce limits Absent hart old turn new next = (new ≡ old) × (next ≡ turn) × (may_step hart old ≡ true) × (¬ limits (CannotRecord [] hart)) × limits (CannotHave hart)
 
--- Why a step is refused: the hart is not live, or the process has ended, also where no more steps can be recorded and it is ended
--- for that, or memory is wanting.
-abbrev pub RefusesStep : DebugRefusal → ℕ → Process → Process → Type 0
-RefusesStep Full hart old new = ⊥
-RefusesStep BadRange hart old new = ⊥
-RefusesStep NoPoint hart old new = ⊥
-RefusesStep NoHart hart old new = (is_live hart old ≡ false) × (new ≡ old)
-RefusesStep Ended hart old new = (is_live hart old ≡ true) × ((IsSome old.ending × (new ≡ old)) ⊎ ((old.ending ≡ None) × (new ≡ ended_full old)))
-RefusesStep NotMapped hart old new = ⊥
-RefusesStep Purged hart old new = ⊥
-RefusesStep Device hart old new = ⊥
-RefusesStep NoMemory hart old new = (may_step hart old ≡ true) × (new ≡ old)
+-- Why a step is refused: the hart is not live, or the process has ended, or is ended now since the step can't be recorded, or memory is
+-- wanting.
+abbrev pub RefusesStep : (Limit → Type 0) → DebugRefusal → ℕ → Process → Process → Type 0
+RefusesStep limits Full hart old new = ⊥
+RefusesStep limits BadRange hart old new = ⊥
+RefusesStep limits NoPoint hart old new = ⊥
+RefusesStep limits NoHart hart old new = (is_live hart old ≡ false) × (new ≡ old)
+RefusesStep limits Ended hart old new = (is_live hart old ≡ true) × ((IsSome old.ending × (new ≡ old)) ⊎ ((old.ending ≡ None) × (new ≡ ended_full old) × limits (CannotRecord [] hart)))
+RefusesStep limits NotMapped hart old new = ⊥
+RefusesStep limits Purged hart old new = ⊥
+RefusesStep limits Device hart old new = ⊥
+RefusesStep limits NoMemory hart old new = (may_step hart old ≡ true) × (new ≡ old) × (¬ limits (CannotRecord [] hart))
 
 -- Why a look at so many bytes from an address on is refused: they are no range, or no page is mapped at one of them, or the target
 -- can't read them, or memory is wanting.
-abbrev pub RefusesLook : {T : Type 0} → (T → ℕ → ℕ → ReadFault → Type 0) → DebugRefusal → ℕ → ℕ → T → Memory → Type 0
-RefusesLook fails Full address count target memory = ⊥
-RefusesLook fails BadRange address count target memory = ¬ IsRange 4096 address count
-RefusesLook fails NoPoint address count target memory = ⊥
-RefusesLook fails NoHart address count target memory = ⊥
-RefusesLook fails Ended address count target memory = ⊥
-RefusesLook fails NotMapped address count target memory = IsRange 4096 address count × (all_there (bytes_from memory address count) ≡ false)
-RefusesLook fails Purged address count target memory = IsRange 4096 address count × ((all_there (bytes_from memory address count) ≡ true) × fails target address count fault.Purged)
-RefusesLook fails Device address count target memory = IsRange 4096 address count × ((all_there (bytes_from memory address count) ≡ true) × fails target address count fault.Device)
-RefusesLook fails NoMemory address count target memory = IsRange 4096 address count × (all_there (bytes_from memory address count) ≡ true)
+abbrev pub RefusesLook : (Limit → Type 0) → DebugRefusal → ℕ → ℕ → Memory → Type 0
+RefusesLook limits Full address count memory = ⊥
+RefusesLook limits BadRange address count memory = ¬ IsRange 4096 address count
+RefusesLook limits NoPoint address count memory = ⊥
+RefusesLook limits NoHart address count memory = ⊥
+RefusesLook limits Ended address count memory = ⊥
+RefusesLook limits NotMapped address count memory = IsRange 4096 address count × (all_there (bytes_from memory address count) ≡ false)
+RefusesLook limits Purged address count memory = IsRange 4096 address count × ((all_there (bytes_from memory address count) ≡ true) × limits (CannotRead address count fault.Purged))
+RefusesLook limits Device address count memory = IsRange 4096 address count × ((all_there (bytes_from memory address count) ≡ true) × limits (CannotRead address count fault.Device))
+RefusesLook limits NoMemory address count memory = IsRange 4096 address count × (all_there (bytes_from memory address count) ≡ true)

@@ -1,4 +1,5 @@
 pub mod Debugging
+pub mod Limits
 pub mod Points
 pub mod Progresses
 pub mod ReadingLaws

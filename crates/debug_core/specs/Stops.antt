@@ -1,16 +1,19 @@
 -- Where a debugger stops: after the least number of steps by turns at which there is a reason.
-use Rattle.std.specs.Prelude.{◌≡◌, ℕ, zero, suc, ◌<◌, ◌≤◌, ◌==◌, List, ◌⊎◌, Option, Some, None, IfSome, is_some, option_map, option_and_then, if◌then◌else◌}
+use Rattle.std.specs.Prelude.{◌≡◌, ℕ, zero, suc, ◌<◌, ◌≤◌, ◌==◌, List, [], ◌∷◌, ◌++◌, ◌⊎◌, Option, Some, None, IfSome, is_some, option_map, option_and_then, if◌then◌else◌}
 use Rattle.std.specs.Option.{option_or}
 use Rattle.std.specs.List.{position_from}
 use Rattle.page_memory.specs.Memory.{Memory}
 use Rattle.rv_exec.specs.Registers.{Registers}
 use Rattle.flat_machine.specs.ByTurns.{turn_after}
 use Rattle.flat_machine.specs.Process.{Process, hart_registers, flat_step}
+use Rattle.debug_core.specs.Limits.{CannotHave, CannotRecord, Limit}
 use Rattle.debug_core.specs.Points.{is_hit, is_break_at}
 use Rattle.debug_core.specs.Progresses.{ended_full}
+use Rattle.debug_core.specs.Seen.{IsUnread}
 use Rattle.debug_core.specs.declared.point.Point.{Point}
 use Rattle.debug_core.specs.declared.point.Why.{Why}
-use Rattle.debug_core.specs.declared.point.Why.TheVariants.{Ended, Watch, Break, Limit, Absent}
+use Rattle.debug_core.specs.declared.point.Why.TheVariants.{Ended, Watch, Break, Absent}
+use Rattle.debug_core.specs.declared.point.Why.TheVariants as stop
 
 -- a process, whose turn it is, and the memory before the last step, which is none before the first
 pub record Moment : Type 0 where
@@ -43,45 +46,70 @@ reason points limit count now =
     if is_some now.process.ending then Some Ended
     else option_or (option_map Watch (watch_hit points now))
     (option_or (option_map Break (break_at points (hart_registers now.turn now.process)))
-    (if count == limit then Some Limit else None))
+    (if count == limit then Some stop.Limit else None))
 
--- after none of the steps before this many there is a reason to stop
-abbrev pub GoesOnBefore : List (Option Point) → ℕ → ℕ → Moment → Type 0
-GoesOnBefore points limit bound first = (count : ℕ) → count < bound → IfSome (moment_after count first) (λ now. reason points limit count now ≡ None)
+-- the harts of so many steps from a first moment on, in order
+abbrev pub turn_in : Option Moment → List ℕ
+turn_in None = []
+turn_in (Some now) = now.turn ∷ []
+
+unfoldable pub harts_before : ℕ → Moment → List ℕ
+harts_before zero first = []
+harts_before (suc count) first = harts_before count first ++ turn_in (moment_after count first)
+
+-- no step can be recorded at a moment after so many steps from a first one on, where the target then had these limits
+abbrev pub IsFullAt : (Limit → Type 0) → ℕ → Moment → Moment → Type 0
+IsFullAt limits count first now = limits (CannotRecord (harts_before count first) now.turn)
+
+-- after none of the steps before this many there is a reason to stop, and each next one can be recorded
+abbrev pub GoesOnBefore : (Limit → Type 0) → List (Option Point) → ℕ → ℕ → Moment → Type 0
+GoesOnBefore limits points limit bound first =
+    (count : ℕ) → count < bound → IfSome (moment_after count first) (λ now. (reason points limit count now ≡ None) × (¬ IsFullAt limits count first now))
 
 -- so many steps were done, and after none of them there was a reason to stop
-pub record Passes (points : List (Option Point)) (limit count : ℕ) (first now : Moment) : Type 0 where
+pub record Passes (limits : Limit → Type 0) (points : List (Option Point)) (limit count : ℕ) (first now : Moment) : Type 0 where
   pub reached : moment_after count first ≡ Some now
   pub within : count ≤ limit
-  pub before : GoesOnBefore points limit count first
+  pub before : GoesOnBefore limits points limit count first
 
--- Why a debugger stops after so many steps, and with which process. Where a page can't be had, or no more steps can be recorded,
--- there was no reason before.
-abbrev pub StopsFor : Why → List (Option Point) → ℕ → ℕ → Moment → Process → Type 0
-StopsFor Ended points limit count now process =
-    ((process ≡ now.process) × (reason points limit count now ≡ Some Ended)) ⊎ ((process ≡ ended_full now.process) × (reason points limit count now ≡ None))
-StopsFor (Watch number) points limit count now process = (process ≡ now.process) × (reason points limit count now ≡ Some (Watch number))
-StopsFor (Break number) points limit count now process = (process ≡ now.process) × (reason points limit count now ≡ Some (Break number))
-StopsFor Limit points limit count now process = (process ≡ now.process) × (reason points limit count now ≡ Some Limit)
-StopsFor Absent points limit count now process = process ≡ now.process
+module _ {T : Type 0} (shown : T → Process) (limits : T → Limit → Type 0) where
+  -- a target that shows this process can't have a page that the next step of a hart needs
+  abbrev pub IsLacking : ℕ → Process → Type 0
+  IsLacking hart process = (at : T) × ((shown at ≡ process) × limits at (CannotHave hart))
 
--- the answer of a run that may stop: after the least number of steps with a reason
-pub record Stops (points : List (Option Point)) (limit : ℕ) (why : Why) (count : ℕ) (first : Moment) (turn : ℕ) (process : Process) : Type 0 where
-  pub now : Moment
-  pub passes : Passes points limit count first now
-  pub stops : StopsFor why points limit count now process
-  pub turn_is : turn ≡ now.turn
+  -- Why a debugger stops after so many steps, and with which process; `full` tells that no more can be recorded. Where that is so, or
+  -- where a page that the next step needs can't be had, there was no reason before; where the bytes of a watch can't be read, the
+  -- process has not ended, and no watch with a lower number was hit.
+  abbrev pub StopsFor : Type 0 → Why → List (Option Point) → ℕ → ℕ → Moment → Process → Type 0
+  StopsFor full Ended points limit count now process =
+      ((process ≡ now.process) × (reason points limit count now ≡ Some Ended)) ⊎ ((process ≡ ended_full now.process) × ((reason points limit count now ≡ None) × full))
+  StopsFor full (Watch number) points limit count now process = (process ≡ now.process) × (reason points limit count now ≡ Some (Watch number))
+  StopsFor full (Break number) points limit count now process = (process ≡ now.process) × (reason points limit count now ≡ Some (Break number))
+  StopsFor full stop.Limit points limit count now process = (process ≡ now.process) × (reason points limit count now ≡ Some stop.Limit)
+  StopsFor full Absent points limit count now process = (process ≡ now.process) ×
+      (((reason points limit count now ≡ None) × ((¬ full) × IsLacking now.turn now.process))
+      ⊎ ((now.process.ending ≡ None) × IsUnread shown limits points now.was now.process))
 
--- What one step of such a run does: it stops for a reason, or nothing speaks for stopping and the step is taken.
-abbrev pub Advances : Option Why → List (Option Point) → ℕ → ℕ → Moment → ℕ → Process → Type 0
-Advances None points limit count now turn process = (reason points limit count now ≡ None) × (next_moment now ≡ Some (record { process = process; turn = turn; was = now.process.memory }))
-Advances (Some why) points limit count now turn process = StopsFor why points limit count now process × (turn ≡ now.turn)
+  -- the answer of a run that may stop: after the least number of steps with a reason
+  pub record Stops (target : T) (points : List (Option Point)) (limit : ℕ) (why : Why) (count : ℕ) (first : Moment) (turn : ℕ) (process : Process) : Type 0 where
+    pub now : Moment
+    pub passes : Passes (limits target) points limit count first now
+    pub stops : StopsFor (IsFullAt (limits target) count first now) why points limit count now process
+    pub turn_is : turn ≡ now.turn
 
--- so many steps were done, none of them and nothing after the last was a reason to stop, and for the next one memory is wanting
-pub record Wants (points : List (Option Point)) (limit : ℕ) (first : Moment) (turn : ℕ) (process : Process) : Type 0 where
+  -- What one step of such a run does: it stops for a reason, or nothing speaks for stopping and the step is taken.
+  abbrev pub Advances : Type 0 → Option Why → List (Option Point) → ℕ → ℕ → Moment → ℕ → Process → Type 0
+  Advances full None points limit count now turn process =
+      (reason points limit count now ≡ None) × ((next_moment now ≡ Some (record { process = process; turn = turn; was = now.process.memory })) × (¬ full))
+  Advances full (Some why) points limit count now turn process = StopsFor full why points limit count now process × (turn ≡ now.turn)
+
+-- so many steps were done, none of them and nothing after the last was a reason to stop, and for the next one, which could be recorded,
+-- memory is wanting
+pub record Wants {T : Type 0} (limits : T → Limit → Type 0) (target : T) (points : List (Option Point)) (limit : ℕ) (first : Moment) (turn : ℕ) (process : Process) : Type 0 where
   pub count : ℕ
   pub now : Moment
-  pub passes : Passes points limit count first now
+  pub passes : Passes (limits target) points limit count first now
   pub none : reason points limit count now ≡ None
+  pub recordable : ¬ IsFullAt (limits target) count first now
   pub process_is : process ≡ now.process
   pub turn_is : turn ≡ now.turn

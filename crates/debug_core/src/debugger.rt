@@ -100,8 +100,8 @@ impl<T: Target> Debugger<T> {
 
     /// Runs one instruction of a hart.
     pub fn step(&mut self, hart: u32) -> Result<Stepped, DebugRefusal>
-        ensures ok { IfOk result (λ stepped. StepsOnce stepped hart (T.shown self.old.target) self.old.turn (T.shown self.new.target) self.new.turn) }
-        ensures refused { IfErr result (λ why. RefusesStep why hart (T.shown self.old.target) (T.shown self.new.target)) }
+        ensures ok { IfOk result (λ stepped. StepsOnce (T.limits self.old.target) stepped hart (T.shown self.old.target) self.old.turn (T.shown self.new.target) self.new.turn) }
+        ensures refused { IfErr result (λ why. RefusesStep (T.limits self.old.target) why hart (T.shown self.old.target) (T.shown self.new.target)) }
         ensures turn { OnErr result (self.new.turn ≡ self.old.turn) }
         ensures points { self.new.points ≡ self.old.points }
     {
@@ -131,8 +131,8 @@ impl<T: Target> Debugger<T> {
     /// Want of memory for a step; the steps before it stand.
     #[tactic(auto, using(crate::proofs::Trimmed::points_trimmed))]
     pub fn go(&mut self, limit: u64) -> Result<(Why, u64), AllocError>
-        ensures stops { IfOk result (λ stop. Stops self.old.points limit stop.0 stop.1 (first_moment (T.shown self.old.target) self.old.turn) self.new.turn (T.shown self.new.target)) }
-        ensures wants { OnErr result (Wants self.old.points limit (first_moment (T.shown self.old.target) self.old.turn) self.new.turn (T.shown self.new.target)) }
+        ensures stops { IfOk result (λ stop. Stops T.shown T.limits self.old.target self.old.points limit stop.0 stop.1 (first_moment (T.shown self.old.target) self.old.turn) self.new.turn (T.shown self.new.target)) }
+        ensures wants { OnErr result (Wants T.limits self.old.target self.old.points limit (first_moment (T.shown self.old.target) self.old.turn) self.new.turn (T.shown self.new.target)) }
         ensures points { self.new.points ≡ self.old.points }
     {
         let points = self.points;

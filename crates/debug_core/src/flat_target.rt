@@ -1,4 +1,4 @@
-//! A process on flat memory is a target: it shows itself, and nothing of it is ever absent.
+//! A process on flat memory is a target: it shows itself, and lacks nothing.
 
 ghost use Rattle.std.specs.Prelude.{◌≡◌, ℕ, ◌+◌, ◌^◌, ◌≤◌, length};
 ghost use Rattle.page_memory.specs.Memory.{Memory};
@@ -13,7 +13,7 @@ use std::alloc::AllocError;
 impl Target for FlatProcess {
     ghost shown = { λ process. process };
 
-    ghost fails = { λ process address count fault. ⊥ };
+    ghost limits = { λ process limit. ⊥ };
 
     fn is_live(&self, hart: u32) -> bool {
         FlatProcess::is_live(self, hart)

@@ -1,10 +1,11 @@
 //! Watches: the bytes of each as they were, against those that a target shows.
 
-ghost use Rattle.std.specs.Prelude.{◌≡◌, ℕ, ◌+◌, ◌^◌, ◌<◌, ◌≤◌, IfOk, OnOk, None, length};
+ghost use Rattle.std.specs.Prelude.{◌≡◌, ℕ, ◌+◌, ◌^◌, ◌<◌, ◌≤◌, IfErr, IfOk, OnErr, OnOk, None, length};
 ghost use Rattle.std.specs.List.{position_from};
 ghost use Rattle.page_memory.specs.Memory.{Memory};
 ghost use Rattle.debug_core.specs.Points.{any_changed, has_changed, is_hit, ArePoints, IsPoint};
-ghost use Rattle.debug_core.specs.Seen.{AreSeen, IsSeen};
+ghost use Rattle.debug_core.specs.Limits.{KeepsRoom};
+ghost use Rattle.debug_core.specs.Seen.{AreSeen, CannotSee, IsSeen, IsUnread};
 
 use crate::point::{MOST_WATCHED, Point};
 use crate::target::{ReadFault, Target};
@@ -26,8 +27,10 @@ pub(crate) fn look<T: Target>(
     requires few { length points.now ≤ 32 }
     ensures hit { IfOk result (λ hit. (was : Memory) → AreSeen points.now seen.old was → hit ≡ position_from (is_hit was (T.shown target.old).memory) 0 points.now) }
     ensures seen { IfOk result (λ hit. hit ≡ None → AreSeen points.now seen.new (T.shown target.old).memory) }
+    ensures unread { OnErr result ((was : Memory) → AreSeen points.now seen.old was → IsUnread T.shown T.limits points.now was (T.shown target.old)) }
     ensures room { length seen.new ≡ length seen.old }
     ensures shown { T.shown target.new ≡ T.shown target.old }
+    ensures kept { KeepsRoom (T.limits target.old) (T.limits target.new) }
 {
     'points: for number in 0..points.len() {
         if look_at(target, points[number], &mut seen[number])? {
@@ -46,7 +49,9 @@ fn look_at<T: Target>(
     requires point { IsPoint point }
     ensures hit { IfOk result (λ hit. (was : Memory) → IsSeen point seen.old was → hit ≡ is_hit was (T.shown target.old).memory point) }
     ensures seen { OnOk result (IsSeen point seen.new (T.shown target.old).memory) }
+    ensures unread { IfErr result (CannotSee (T.limits target.old) point) }
     ensures shown { T.shown target.new ≡ T.shown target.old }
+    ensures kept { KeepsRoom (T.limits target.old) (T.limits target.new) }
 {
     let Some(Point::Watch { address, length }) = point else {
         return Ok(false);

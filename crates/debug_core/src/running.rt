@@ -1,13 +1,14 @@
 //! Steps by turns, until there is a reason to stop.
 
-ghost use Rattle.std.specs.Prelude.{◌≡◌, ◌≢◌, ℕ, ◌<◌, ◌≤◌, true, None, Some, IfOk, OnErr, length};
+ghost use Rattle.std.specs.Prelude.{◌≡◌, ◌≢◌, ℕ, ◌<◌, ◌≤◌, [], true, None, Some, IfOk, OnErr, length};
 ghost use Rattle.std.specs.List.{position_from};
 ghost use Rattle.page_memory.specs.Memory.{Memory};
 ghost use Rattle.flat_machine.specs.ByTurns.{turn_after};
 ghost use Rattle.flat_machine.specs.Process.{Process, hart_registers, is_live, may_step};
 ghost use Rattle.debug_core.specs.Debugging.{first_moment};
+ghost use Rattle.debug_core.specs.Limits.{CannotRecord, KeepsRoom, RecordsOne};
 ghost use Rattle.debug_core.specs.Points.{is_break_at, ArePoints};
-ghost use Rattle.debug_core.specs.Seen.{AreSeen};
+ghost use Rattle.debug_core.specs.Seen.{AreSeen, IsUnread};
 ghost use Rattle.debug_core.specs.Stops.{break_at, reason, Advances, Stops, Wants};
 ghost use Rattle.debug_core.specs.declared.point.Why.TheVariants as why;
 
@@ -64,8 +65,11 @@ fn reason_now<T: Target>(
     ensures why { IfOk result (λ why. (was : Memory) → AreSeen points.now seen.old was → why ≡ reason points.now limit done (record { process = T.shown target.old; turn = turn; was = was })) }
     ensures seen { IfOk result (λ why. why ≡ None → AreSeen points.now seen.new (T.shown target.old).memory) }
     ensures goes_on { IfOk result (λ why. why ≡ None → ((T.shown target.old).ending ≡ None) × (done ≢ limit)) }
+    ensures unread { OnErr result ((was : Memory) → AreSeen points.now seen.old was → IsUnread T.shown T.limits points.now was (T.shown target.old)) }
+    ensures not_ended { OnErr result ((T.shown target.old).ending ≡ None) }
     ensures room { length seen.new ≡ length seen.old }
     ensures shown { T.shown target.new ≡ T.shown target.old }
+    ensures kept { KeepsRoom (T.limits target.old) (T.limits target.new) }
 {
     if target.end().is_some() {
         return Ok(Some(Why::Ended));
@@ -100,11 +104,12 @@ fn advance<T: Target>(
     requires points { ArePoints points.now }
     requires room { length points.now ≤ length seen.old }
     requires few { length points.now ≤ 32 }
-    ensures advances { IfOk result (λ why. (was : Memory) → AreSeen points.now seen.old was → Advances why points.now limit done (record { process = T.shown target.old; turn = turn.old; was = was }) turn.new (T.shown target.new)) }
+    ensures advances { IfOk result (λ why. (was : Memory) → AreSeen points.now seen.old was → Advances T.shown T.limits (T.limits target.old (CannotRecord [] turn.old)) why points.now limit done (record { process = T.shown target.old; turn = turn.old; was = was }) turn.new (T.shown target.new)) }
     ensures seen { IfOk result (λ why. why ≡ None → AreSeen points.now seen.new (T.shown target.old).memory) }
     ensures goes_on { IfOk result (λ why. why ≡ None → done ≢ limit) }
     ensures wants { OnErr result ((was : Memory) → AreSeen points.now seen.old was → reason points.now limit done (record { process = T.shown target.old; turn = turn.old; was = was }) ≡ None) }
-    ensures err { OnErr result ((T.shown target.new ≡ T.shown target.old) × (turn.new ≡ turn.old)) }
+    ensures err { OnErr result ((T.shown target.new ≡ T.shown target.old) × ((turn.new ≡ turn.old) × (¬ T.limits target.old (CannotRecord [] turn.old)))) }
+    ensures recorded { IfOk result (λ why. why ≡ None → RecordsOne turn.old (T.limits target.old) (T.limits target.new)) }
     ensures room { length seen.new ≡ length seen.old }
     ensures live { is_live turn.new (T.shown target.new) ≡ true }
 {
@@ -138,8 +143,8 @@ pub(crate) fn run<T: Target>(
     requires live { is_live turn.old (T.shown target.old) ≡ true }
     requires points { ArePoints points.now }
     requires few { length points.now ≤ 32 }
-    ensures stops { IfOk result (λ stop. Stops points.now limit stop.0 stop.1 (first_moment (T.shown target.old) turn.old) turn.new (T.shown target.new)) }
-    ensures wants { OnErr result (Wants points.now limit (first_moment (T.shown target.old) turn.old) turn.new (T.shown target.new)) }
+    ensures stops { IfOk result (λ stop. Stops T.shown T.limits target.old points.now limit stop.0 stop.1 (first_moment (T.shown target.old) turn.old) turn.new (T.shown target.new)) }
+    ensures wants { OnErr result (Wants T.limits target.old points.now limit (first_moment (T.shown target.old) turn.old) turn.new (T.shown target.new)) }
     ensures live { is_live turn.new (T.shown target.new) ≡ true }
 {
     let mut seen = [NOTHING; MOST_POINTS];

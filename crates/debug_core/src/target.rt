@@ -1,10 +1,11 @@
 //! What a debugger looks at.
 
-ghost use Rattle.std.specs.Prelude.{◌≡◌, ◌+◌, ◌^◌, ◌≤◌, ℕ, true, is_some, length, option_copied, OnOk, OnErr, IfOk, IfErr};
+ghost use Rattle.std.specs.Prelude.{◌≡◌, ◌+◌, ◌^◌, ◌≤◌, ℕ, [], true, is_some, length, option_copied, OnOk, OnErr, IfOk, IfErr};
 ghost use Rattle.flat_machine.specs.ByTurns.{turn_after};
 ghost use Rattle.flat_machine.specs.Process.{Process, hart_registers, is_live, may_step};
 ghost use Rattle.page_memory.specs.Memory.{byte_at};
 ghost use Rattle.debug_core.specs.Points.{bytes_from};
+ghost use Rattle.debug_core.specs.Limits.{CannotRead, CannotRecord, HeedsLimits, KeepsRoom, LeavesRoom, Limit};
 ghost use Rattle.debug_core.specs.Progresses.{Progresses};
 
 use flat_machine::End;
@@ -33,13 +34,13 @@ pub enum ReadFault {
 
 /// A process that a debugger steps and looks at: whatever shows the state of a process on flat memory.
 pub trait Target: Drop {
-    ghost use Rattle.debug_core.specs.declared.target.ReadFault.{ReadFault};
+    ghost use Rattle.debug_core.specs.Limits.{Limit};
 
     /// The flat process that it shows.
     ghost shown: { Self → Process };
 
-    /// When bytes can't be read for this reason: so many, from an address on.
-    ghost fails: { Self → ℕ → ℕ → ReadFault → Type 0 };
+    /// What it lacks, though the flat process does not.
+    ghost limits: { Self → Limit → Type 0 };
 
     /// Whether a hart was started and is live.
     fn is_live(&self, hart: u32) -> bool
@@ -62,21 +63,27 @@ pub trait Target: Drop {
     fn regs(&self, hart: u32) -> Option<&Regs>
         ensures { option_copied result ≡ hart_registers hart (shown self.now) };
 
-    /// Runs one instruction of a hart that may step.
+    /// Runs one instruction of a hart that may step, unless it can't be recorded, which is tested first, or a page that it needs
+    /// can't be had.
     ///
     /// # Errors
     ///
-    /// Want of memory; the process is as before.
+    /// Want of memory, where the instruction could be recorded; the process is as before.
     fn step(&mut self, hart: u32) -> Result<Progress, AllocError>
         requires { may_step hart (shown self.old) ≡ true }
         ensures ok { IfOk result (λ progress. Progresses progress hart (shown self.old) (shown self.new)) }
-        ensures err { OnErr result (shown self.new ≡ shown self.old) };
+        ensures heeds { IfOk result (λ progress. HeedsLimits progress hart (limits self.old)) }
+        ensures recorded { IfOk result (λ progress. LeavesRoom progress hart (limits self.old) (limits self.new)) }
+        ensures err { OnErr result (shown self.new ≡ shown self.old) }
+        ensures wants { OnErr result (¬ limits self.old (CannotRecord [] hart)) }
+        ensures kept { OnErr result (KeepsRoom (limits self.old) (limits self.new)) };
 
     /// Reads the bytes from an address on, as many as there are places; `None` where no page is mapped. What the process shows
     /// stays. Where it fails, what is in the places is open.
     fn read(&mut self, address: u32, bytes: &mut [Option<u8>]) -> Result<(), ReadFault>
         requires { address + length bytes.old ≤ 2 ^ 32 }
         ensures ok { OnOk result (bytes.new ≡ bytes_from (shown self.old).memory address (length bytes.old)) }
-        ensures refused { IfErr result (fails self.old address (length bytes.old)) }
-        ensures shown { shown self.new ≡ shown self.old };
+        ensures refused { IfErr result (λ why. limits self.old (CannotRead address (length bytes.old) why)) }
+        ensures shown { shown self.new ≡ shown self.old }
+        ensures kept { KeepsRoom (limits self.old) (limits self.new) };
 }

@@ -5,7 +5,7 @@ use Rattle.std.specs.Io.KnownBytes.{Appends}
 use Rattle.flat_machine.specs.Process.{Process}
 use Rattle.text_lines.specs.Text.{lines_of}
 use Rattle.debug_core.specs.Debugging.{DebuggerValue}
-use Rattle.debug_core.specs.declared.target.ReadFault.{ReadFault}
+use Rattle.debug_core.specs.Limits.{Limit}
 use Rattle.debug_session.specs.Lines.{AsksFor}
 use Rattle.debug_session.specs.declared.lines.DebugLine.TheVariants.{Quit}
 use Rattle.debug_session.specs.Conversation.{AreAnswered, Ends, HasConversed, IsAnswered, IsBad, IsWritten}
@@ -78,9 +78,9 @@ pub all_remains : (input : Option (List ℕ)) → Remains input [] input
 all_remains None = tt
 all_remains (Some bytes) = refl
 
-module _ {T : Type 0} (shown : T → Process) (fails : T → ℕ → ℕ → ReadFault → Type 0) where
-  answered_more : (lines : List (List ℕ)) (line : List ℕ) (old now new : DebuggerValue T) (told said : List ℕ) → AreAnswered shown fails lines old told now
-      → IsAnswered shown fails line now said new → AreAnswered shown fails (lines ++ line ∷ []) old (told ++ said) new
+module _ {T : Type 0} (shown : T → Process) (limits : T → Limit → Type 0) where
+  answered_more : (lines : List (List ℕ)) (line : List ℕ) (old now new : DebuggerValue T) (told said : List ℕ) → AreAnswered shown limits lines old told now
+      → IsAnswered shown limits line now said new → AreAnswered shown limits (lines ++ line ∷ []) old (told ++ said) new
   unfolding AreAnswered
   answered_more [] line old now new told said none one = (
     new,
@@ -88,7 +88,7 @@ module _ {T : Type 0} (shown : T → Process) (fails : T → ℕ → ℕ → Rea
       said,
       (
         [],
-        subst (λ d. IsAnswered shown fails line d said new) none.1 one,
+        subst (λ d. IsAnswered shown limits line d said new) none.1 one,
         (refl, refl),
         ap (λ l. l ++ said) none.0 ∙ sym (append-nil said),
       ),
@@ -107,7 +107,7 @@ module _ {T : Type 0} (shown : T → Process) (fails : T → ℕ → ℕ → Rea
     ),
   )
 
-  pub none_answered : (old : DebuggerValue T) → AreAnswered shown fails [] old [] old
+  pub none_answered : (old : DebuggerValue T) → AreAnswered shown limits [] old [] old
   unfolding AreAnswered
   none_answered old = (refl, refl)
 
@@ -116,7 +116,7 @@ module _ {T : Type 0} (shown : T → Process) (fails : T → ℕ → ℕ → Rea
       (above : ℕ) : Type 0 where
     pub lines : List (List ℕ)
     pub told : List ℕ
-    pub answered : AreAnswered shown fails lines old told new
+    pub answered : AreAnswered shown limits lines old told new
     pub appended : Appends written wrote told
     pub remains : Remains input lines known
     pub count : above ≡ length lines
@@ -132,7 +132,7 @@ module _ {T : Type 0} (shown : T → Process) (fails : T → ℕ → ℕ → Rea
   }
 
   pub passes : (input known rest : Option (List ℕ)) (old now new : DebuggerValue T) (written wrote after : Option (List ℕ)) (above : ℕ) (line said : List ℕ)
-      → HasPassed input known old written now wrote above → TakesLine known true line rest → IsAnswered shown fails line now said new → Appends wrote after said
+      → HasPassed input known old written now wrote above → TakesLine known true line rest → IsAnswered shown limits line now said new → Appends wrote after said
       → HasPassed input rest old written new after (above + 1)
   passes input known rest old now new written wrote after above line said passed one answered appended = record {
     lines = passed.lines ++ line ∷ [];
@@ -152,7 +152,7 @@ module _ {T : Type 0} (shown : T → Process) (fails : T → ℕ → ℕ → Rea
 
   pub stops : (result : Result (Unit {0}) SessionFault) (input known : Option (List ℕ)) (old now : DebuggerValue T) (written wrote after : Option (List ℕ)) (above : ℕ)
       → (passed : HasPassed input known old written now wrote above) → IsWritten result written passed.told after → EndsOf result above known
-      → HasConversed shown fails result input old written now after
+      → HasConversed shown limits result input old written now after
   stops result input known old now written wrote after above passed is_written end = record {
     lines = passed.lines;
     told = passed.told;
@@ -162,8 +162,8 @@ module _ {T : Type 0} (shown : T → Process) (fails : T → ℕ → ℕ → Rea
   }
 
   pub breaks_off : (input known rest : Option (List ℕ)) (old now new : DebuggerValue T) (written wrote after : Option (List ℕ)) (above : ℕ) (line said : List ℕ)
-      → HasPassed input known old written now wrote above → TakesLine known true line rest → IsAnswered shown fails line now said new
-      → HasConversed shown fails (Err CannotWrite) input old written new after
+      → HasPassed input known old written now wrote above → TakesLine known true line rest → IsAnswered shown limits line now said new
+      → HasConversed shown limits (Err CannotWrite) input old written new after
   breaks_off input known rest old now new written wrote after above line said passed one answered = record {
     lines = passed.lines ++ line ∷ [];
     told = passed.told ++ said;

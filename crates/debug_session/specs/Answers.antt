@@ -2,11 +2,11 @@
 use Rattle.std.specs.Prelude.{◌≡◌, ◌⊎◌, ℕ, List, map, slice_set, Option, None, Some, IsSomeAnd}
 use Rattle.flat_machine.specs.Process.{Process, hart_registers}
 use Rattle.debug_core.specs.Debugging.{DebuggerValue, AddsPoint, RefusesLook, RefusesStep, StepsOnce, first_moment, lowest_free}
+use Rattle.debug_core.specs.Limits.{Limit}
 use Rattle.debug_core.specs.Points.{bytes_from, point_at, IsRange}
 use Rattle.debug_core.specs.Stops.{Stops, Wants}
 use Rattle.debug_core.specs.declared.point.Point.TheVariants as point
 use Rattle.debug_core.specs.declared.refusal.DebugRefusal.TheVariants as refusal
-use Rattle.debug_core.specs.declared.target.ReadFault.{ReadFault}
 use Rattle.debug_session.specs.declared.lines.DebugLine.{DebugLine}
 use Rattle.debug_session.specs.declared.lines.DebugLine.TheVariants.{Break, Watch, Remove, Step, Go, Regs, Mem, Quit}
 use Rattle.debug_session.specs.declared.reply.DebugReply.{DebugReply}
@@ -35,23 +35,23 @@ AnswersRemove number old Removed new =
 AnswersRemove number old (Refused why) new = (why ≡ refusal.NoPoint) × (point_at old.points number ≡ None) × (new ≡ old)
 AnswersRemove number old other new = ⊥
 
--- `shown` is the flat process that a target shows
-module _ {T : Type 0} (shown : T → Process) where
+-- `shown` is the flat process that a target shows, and `limits` tells what it lacks
+module _ {T : Type 0} (shown : T → Process) (limits : T → Limit → Type 0) where
   -- the flat step of a hart
   abbrev pub AnswersStep : ℕ → DebuggerValue T → DebugReply → DebuggerValue T → Type 0
   AnswersStep hart old (Stepped stepped) new =
-      StepsOnce stepped hart (shown old.target) old.turn (shown new.target) new.turn × (new.points ≡ old.points)
+      StepsOnce (limits old.target) stepped hart (shown old.target) old.turn (shown new.target) new.turn × (new.points ≡ old.points)
   AnswersStep hart old (Refused why) new =
-      RefusesStep why hart (shown old.target) (shown new.target) × (new.turn ≡ old.turn) × (new.points ≡ old.points)
+      RefusesStep (limits old.target) why hart (shown old.target) (shown new.target) × (new.turn ≡ old.turn) × (new.points ≡ old.points)
   AnswersStep hart old other new = ⊥
 
   -- flat steps by turns, to the first reason to stop
   abbrev pub AnswersGo : ℕ → DebuggerValue T → DebugReply → DebuggerValue T → Type 0
   AnswersGo limit old (Stopped why turn steps) new =
-      Stops old.points limit why steps (first_moment (shown old.target) old.turn) new.turn (shown new.target)
+      Stops shown limits old.target old.points limit why steps (first_moment (shown old.target) old.turn) new.turn (shown new.target)
       × (turn ≡ new.turn) × (new.points ≡ old.points)
   AnswersGo limit old (Refused why) new =
-      (why ≡ refusal.NoMemory) × Wants old.points limit (first_moment (shown old.target) old.turn) new.turn (shown new.target)
+      (why ≡ refusal.NoMemory) × Wants limits old.target old.points limit (first_moment (shown old.target) old.turn) new.turn (shown new.target)
       × (new.points ≡ old.points)
   AnswersGo limit old other new = ⊥
 
@@ -65,21 +65,21 @@ module _ {T : Type 0} (shown : T → Process) where
   abbrev pub ShowsTheSame : DebuggerValue T → DebuggerValue T → Type 0
   ShowsTheSame old new = (shown new.target ≡ shown old.target) × (new.points ≡ old.points) × (new.turn ≡ old.turn)
 
-  -- the flat process's bytes; `fails` tells when a target can't read them
-  abbrev pub AnswersMem : (T → ℕ → ℕ → ReadFault → Type 0) → ℕ → ℕ → DebuggerValue T → DebugReply → DebuggerValue T → Type 0
-  AnswersMem fails address length old (Bytes bytes) new = IsRange 4096 address length
+  -- the flat process's bytes
+  abbrev pub AnswersMem : ℕ → ℕ → DebuggerValue T → DebugReply → DebuggerValue T → Type 0
+  AnswersMem address length old (Bytes bytes) new = IsRange 4096 address length
       × (map Some bytes.items ≡ bytes_from (shown old.target).memory address length) × ShowsTheSame old new
-  AnswersMem fails address length old (Refused why) new =
-      RefusesLook fails why address length old.target (shown old.target).memory × ShowsTheSame old new
-  AnswersMem fails address length old other new = ⊥
+  AnswersMem address length old (Refused why) new =
+      RefusesLook (limits old.target) why address length (shown old.target).memory × ShowsTheSame old new
+  AnswersMem address length old other new = ⊥
 
   -- what is done for a line, and replied; there is no reply to `quit`
-  abbrev pub Answers : (T → ℕ → ℕ → ReadFault → Type 0) → DebugLine → DebuggerValue T → Option DebugReply → DebuggerValue T → Type 0
-  Answers fails (Break address) old reply new = IsSomeAnd reply (λ reply. AnswersBreak address old reply new)
-  Answers fails (Watch address length) old reply new = IsSomeAnd reply (λ reply. AnswersWatch address length old reply new)
-  Answers fails (Remove number) old reply new = IsSomeAnd reply (λ reply. AnswersRemove number old reply new)
-  Answers fails (Step hart) old reply new = IsSomeAnd reply (λ reply. AnswersStep hart old reply new)
-  Answers fails (Go limit) old reply new = IsSomeAnd reply (λ reply. AnswersGo limit old reply new)
-  Answers fails (Regs hart) old reply new = IsSomeAnd reply (λ reply. AnswersRegs hart old reply new)
-  Answers fails (Mem address length) old reply new = IsSomeAnd reply (λ reply. AnswersMem fails address length old reply new)
-  Answers fails Quit old reply new = (reply ≡ None) × (new ≡ old)
+  abbrev pub Answers : DebugLine → DebuggerValue T → Option DebugReply → DebuggerValue T → Type 0
+  Answers (Break address) old reply new = IsSomeAnd reply (λ reply. AnswersBreak address old reply new)
+  Answers (Watch address length) old reply new = IsSomeAnd reply (λ reply. AnswersWatch address length old reply new)
+  Answers (Remove number) old reply new = IsSomeAnd reply (λ reply. AnswersRemove number old reply new)
+  Answers (Step hart) old reply new = IsSomeAnd reply (λ reply. AnswersStep hart old reply new)
+  Answers (Go limit) old reply new = IsSomeAnd reply (λ reply. AnswersGo limit old reply new)
+  Answers (Regs hart) old reply new = IsSomeAnd reply (λ reply. AnswersRegs hart old reply new)
+  Answers (Mem address length) old reply new = IsSomeAnd reply (λ reply. AnswersMem address length old reply new)
+  Answers Quit old reply new = (reply ≡ None) × (new ≡ old)

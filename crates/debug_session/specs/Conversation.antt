@@ -5,7 +5,7 @@ use Rattle.text_lines.specs.Text.{lines_of}
 use Rattle.text_lines.specs.Lines.{IsSkipped}
 use Rattle.flat_machine.specs.Process.{Process}
 use Rattle.debug_core.specs.Debugging.{DebuggerValue}
-use Rattle.debug_core.specs.declared.target.ReadFault.{ReadFault}
+use Rattle.debug_core.specs.Limits.{Limit}
 use Rattle.debug_session.specs.Answers.{Answers}
 use Rattle.debug_session.specs.Lines.{AsksFor}
 use Rattle.debug_session.specs.ReplyText.{reply_text}
@@ -42,12 +42,12 @@ IsWritten (Err NoMemory) written told wrote = Appends written wrote told
 IsWritten (Err CannotRead) written told wrote = Appends written wrote told
 IsWritten (Err CannotWrite) written told wrote = ⊤
 
--- `shown` is the flat process that a target shows, and `fails` tells when it can't read bytes
-module _ {T : Type 0} (shown : T → Process) (fails : T → ℕ → ℕ → ReadFault → Type 0) where
+-- `shown` is the flat process that a target shows, and `limits` tells what it lacks
+module _ {T : Type 0} (shown : T → Process) (limits : T → Limit → Type 0) where
   -- what is told of a line, and what the debugger is after it
   abbrev pub IsAnswered : List ℕ → DebuggerValue T → List ℕ → DebuggerValue T → Type 0
   IsAnswered line old told new = (IsRemark line × (told ≡ []) × (new ≡ old))
-      ⊎ ((asked : DebugLine) × ((reply : DebugReply) × AsksFor asked line × Answers shown fails asked old (Some reply) new
+      ⊎ ((asked : DebugLine) × ((reply : DebugReply) × AsksFor asked line × Answers shown limits asked old (Some reply) new
       × (told ≡ reply_text reply ++ 10 ∷ [])))
 
   -- the same of lines, one after another

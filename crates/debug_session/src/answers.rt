@@ -13,7 +13,7 @@ pub fn answer<T: Target>(
     debugger: &mut Debugger<T>,
     line: DebugLine,
 ) -> Option<DebugReply>
-    ensures { Answers T.shown T.fails line debugger.old result debugger.new }
+    ensures { Answers T.shown T.limits line debugger.old result debugger.new }
 {
     match line {
         DebugLine::Break { address } => Some(add_break(debugger, address)),
@@ -55,7 +55,7 @@ fn remove<T: Target>(debugger: &mut Debugger<T>, number: u32) -> DebugReply
 }
 
 fn step<T: Target>(debugger: &mut Debugger<T>, hart: u32) -> DebugReply
-    ensures { AnswersStep T.shown hart debugger.old result debugger.new }
+    ensures { AnswersStep T.shown T.limits hart debugger.old result debugger.new }
 {
     match debugger.step(hart) {
         Ok(stepped) => DebugReply::Stepped(stepped),
@@ -64,7 +64,7 @@ fn step<T: Target>(debugger: &mut Debugger<T>, hart: u32) -> DebugReply
 }
 
 fn go<T: Target>(debugger: &mut Debugger<T>, limit: u32) -> DebugReply
-    ensures { AnswersGo T.shown limit debugger.old result debugger.new }
+    ensures { AnswersGo T.shown T.limits limit debugger.old result debugger.new }
 {
     match debugger.go(u64::from(limit)) {
         Ok((why, steps)) => DebugReply::Stopped {
@@ -77,7 +77,7 @@ fn go<T: Target>(debugger: &mut Debugger<T>, limit: u32) -> DebugReply
 }
 
 fn regs<T: Target>(debugger: &mut Debugger<T>, hart: u32) -> DebugReply
-    ensures { AnswersRegs T.shown hart debugger.old result debugger.new }
+    ensures { AnswersRegs T.shown T.limits hart debugger.old result debugger.new }
 {
     match debugger.regs(hart) {
         Ok(regs) => DebugReply::Registers(*regs),
@@ -91,7 +91,7 @@ fn mem<T: Target>(
     address: u32,
     length: u32,
 ) -> DebugReply
-    ensures { AnswersMem T.shown T.fails address length debugger.old result debugger.new }
+    ensures { AnswersMem T.shown T.limits address length debugger.old result debugger.new }
 {
     match debugger.mem(alloc, address, length) {
         Ok(bytes) => DebugReply::Bytes(bytes),

@@ -31,8 +31,8 @@ pub(crate) fn take_turn<T: Target, O: Write>(
     line: &[u8],
     out: &mut O,
 ) -> io::Result<Turn>
-    ensures taken { IfOk result (λ turn. TakesTurn T.shown T.fails turn line.now debugger.old (O.contents out.old) debugger.new (O.contents out.new)) }
-    ensures err { OnErr result ((told : List ℕ) × IsAnswered T.shown T.fails line.now debugger.old told debugger.new) }
+    ensures taken { IfOk result (λ turn. TakesTurn T.shown T.limits turn line.now debugger.old (O.contents out.old) debugger.new (O.contents out.new)) }
+    ensures err { OnErr result ((told : List ℕ) × IsAnswered T.shown T.limits line.now debugger.old told debugger.new) }
 {
     let Ok(asked) = debug_line(line) else {
         return Ok(Turn::Bad);

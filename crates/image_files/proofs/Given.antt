@@ -1,36 +1,61 @@
 -- The files of processes are read one after another.
-use Rattle.std.proofs.Common.{◌≡◌, ◌∙◌, ◌++◌, ◌∷◌, ◌+◌, ◌<◌, ◌≤◌, ℕ, List, [], length, map, drop, get_or, append_assoc, append-nil, ap, refl, sym, subst, suc, slice_index_or, slice_set, Option, None}
-use Rattle.std.proofs.lemmas.List.{map-append, drop_more, drop_all, nil_from_length}
+use Rattle.std.proofs.Common.{◌≡◌, ◌∙◌, ◌++◌, ◌∷◌, ◌+◌, ◌<◌, ◌≤◌, ℕ, List, [], length, map, drop, take, get_or, ap, arith, refl, sym, subst, suc, slice_index_or, slice_set, Option, None}
+use Rattle.std.proofs.lemmas.List.{map-append, drop_more, take_more, take_all, take-append-drop, nil_from_length}
 use Rattle.elf_image.specs.Start.{Start}
+use Rattle.image_files.specs.Faults.{IsOfFile}
 use Rattle.image_files.specs.Reading.{AreGiven, GivesImage, GivesInput}
+use Rattle.image_files.specs.Refused.{StopsAtImage}
+use Rattle.image_files.specs.declared.fault.Fault.{Fault}
+use Rattle.image_files.specs.declared.fault.Fault.TheVariants as fault
 
 module _ (gives : List ℕ → List ℕ → Type 0) where
-  -- what is still to be read goes behind what was read
-  abbrev pub Completes : List (List ℕ) → List (List ℕ) → List Start → Type 0
-  Completes names rest starts = (more : List Start) → AreGiven gives None rest more → AreGiven gives None names (starts ++ more)
+  given_behind : (names more : List (List ℕ)) (starts others : List Start) → AreGiven gives None names starts → AreGiven gives None more others → AreGiven gives None (names ++ more) (starts ++ others)
+  unfolding AreGiven
+  given_behind [] more [] others given behind = behind
+  given_behind [] more (start ∷ starts) others given behind = absurd given
+  given_behind (name ∷ names) more [] others given behind = absurd given
+  given_behind (name ∷ names) more (start ∷ starts) others given behind = (given.0, (given.1.0, given_behind names more starts others given.1.1 behind))
 
-  pub none_read : {P : Type 0} (start : P → Start) (names : List (List ℕ)) (items : List P) → items ≡ [] → Completes names names (map start items)
-  none_read start names items e = λ more given. subst (λ l. AreGiven gives None names (map start l ++ more)) (sym e) given
+  pub none_read : {X P : Type 0} (called : X → List ℕ) (start : P → Start) (images : List X) (items : List P) → items ≡ [] → AreGiven gives None (map called (take 0 images)) (map start items)
+  unfolding AreGiven
+  none_read called start images items e = subst (λ l. AreGiven gives None [] (map start l)) (sym e) (tt {0})
 
   pub one_read : {X P : Type 0} (called : X → List ℕ) (start : P → Start) (images : List X) (i : ℕ) (d : X) (old new : List P) (one : P) → i < length images
-      → Completes (map called images) (map called (drop i images)) (map start old) → GivesImage gives (called (get_or images i d)) (start one).image
-      → (start one).input ≡ [] → new ≡ old ++ one ∷ [] → Completes (map called images) (map called (drop (i + 1) images)) (map start new)
+      → AreGiven gives None (map called (take i images)) (map start old) → GivesImage gives (called (get_or images i d)) (start one).image
+      → (start one).input ≡ [] → new ≡ old ++ one ∷ [] → AreGiven gives None (map called (take (i + 1) images)) (map start new)
   unfolding AreGiven
-  one_read called start images i d old new one within whole given none e = λ more rest.
-      let joined : map start new ++ more ≡ map start old ++ (start one ∷ more) =
-      ap (λ l. map start l ++ more) e ∙ ap (λ l. l ++ more) (map-append start old (one ∷ [])) ∙ append_assoc (map start old) (start one ∷ []) more in
-      let cut : map called (drop i images) ≡ called (get_or images i d) ∷ map called (drop (i + 1) images) = ap (map called) (drop_more images i d within) in
-      let next : AreGiven gives None (map called (drop i images)) (start one ∷ more) =
-      subst (λ l. AreGiven gives None l (start one ∷ more)) (sym cut) (given, (none, rest)) in
-      subst (λ l. AreGiven gives None (map called images) l) (sym joined) (whole (start one ∷ more) next)
+  one_read called start images i d old new one within read given none e =
+      let names : map called (take (i + 1) images) ≡ map called (take i images) ++ called (get_or images i d) ∷ [] =
+          ap (map called) (take_more images i d within) ∙ map-append called (take i images) (get_or images i d ∷ []) in
+      let starts : map start new ≡ map start old ++ start one ∷ [] = ap (map start) e ∙ map-append start old (one ∷ []) in
+      subst (λ l. AreGiven gives None l (map start new)) (sym names)
+      (subst (λ l. AreGiven gives None (map called (take i images) ++ called (get_or images i d) ∷ []) l) (sym starts)
+      (given_behind (map called (take i images)) (called (get_or images i d) ∷ []) (map start old) (start one ∷ []) read (given, (none, tt {0}))))
 
   pub all_read : {X P : Type 0} (called : X → List ℕ) (start : P → Start) (images : List X) (i : ℕ) (items : List P) → length images ≤ i
-      → Completes (map called images) (map called (drop i images)) (map start items) → AreGiven gives None (map called images) (map start items)
-  unfolding AreGiven
-  all_read called start images i items past whole =
-      let none : AreGiven gives None (map called (drop i images)) [] =
-      subst (λ l. AreGiven gives None (map called l) []) (sym (drop_all i images past)) (tt {0}) in
-      subst (λ l. AreGiven gives None (map called images) l) (append-nil (map start items)) (whole [] none)
+      → AreGiven gives None (map called (take i images)) (map start items) → AreGiven gives None (map called images) (map start items)
+  all_read called start images i items past read = subst (λ l. AreGiven gives None (map called l) (map start items)) (take_all i images past) read
+
+  -- a fault of one image, behind those that were read
+  pub stops_at : {X P : Type 0} (called : X → List ℕ) (start : P → Start) (images : List X) (i : ℕ) (d : X) (items : List P) (why : Fault) → i < length images
+      → AreGiven gives None (map called (take i images)) (map start items) → IsOfFile (called (get_or images i d)) why → StopsAtImage gives (map called images) why
+  stops_at called start images i d items why within read of = record {
+    above = map called (take i images);
+    name = called (get_or images i d);
+    below = map called (drop (i + 1) images);
+    starts = map start items;
+    stands =
+        ap (map called) (sym (take-append-drop i images)) ∙ ap (λ l. map called (take i images ++ l)) (drop_more images i d within)
+        ∙ map-append called (take i images) (get_or images i d ∷ drop (i + 1) images);
+    read = read;
+    of_file = of;
+  }
+
+  -- the same for want of memory
+  pub stops_scant : {X P : Type 0} (called : X → List ℕ) (start : P → Start) (images : List X) (i : ℕ) (items : List P) → i < length images
+      → AreGiven gives None (map called (take i images)) (map start items) → StopsAtImage gives (map called images) fault.NoMemory
+  stops_scant called start [] i items within read = absurd (omega (arith, within))
+  stops_scant called start (image ∷ images) i items within read = stops_at called start (image ∷ images) i image items fault.NoMemory within read (tt {0})
 
   pub none_given : {P : Type 0} (start : P → Start) (input : Option (List ℕ)) (names : List (List ℕ)) (items : List P) → length items ≡ 0
       → AreGiven gives None names (map start items) → AreGiven gives input names (map start items)

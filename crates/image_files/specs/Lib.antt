@@ -1,5 +1,6 @@
 pub mod Faults
 pub mod ImageKind
 pub mod Reading
+pub mod Refused
 pub mod SlotFiles
 pub mod WordsFile

@@ -22,6 +22,12 @@ module _ (gives : List ℕ → List ℕ → Type 0) where
     pub given : gives name file
     pub holds : HoldsImage file image
 
+  -- what such bytes, as a source, are assembled to
+  pub record GivesListing (name : List ℕ) (listing : ListingContent) : Type 0 where
+    pub file : List ℕ
+    pub given : gives name file
+    pub assembles : Assembles file listing
+
   -- an input: such bytes, or none where no file is named
   abbrev pub GivesInput : Option (List ℕ) → List ℕ → Type 0
   GivesInput None input = input ≡ []

@@ -1,6 +1,7 @@
 -- Slots in files that are made, and why they could not be made.
 use Rattle.std.specs.Prelude.{◌≡◌, ℕ, ◌<◌, ⊤, List, All, map, min}
 use Rattle.std.specs.List.{range_with_len}
+use Rattle.file_slots.specs.FileNames.{file_name}
 use Rattle.file_slots.specs.FileSlotValue.{FileSlotValue}
 use Rattle.file_slots.specs.declared.fault.FilesFault.{FilesFault}
 use Rattle.file_slots.specs.declared.fault.FilesFault.TheVariants as files
@@ -17,7 +18,9 @@ CannotMakeOneOf prefix count (fault.CannotMake name) = (name.prefix.now ≡ pref
 CannotMakeOneOf prefix count fault.NoMemory = ⊤
 CannotMakeOneOf prefix count _ = ⊥
 
--- new slots in files, which are numbered from 0: as many as are wanted, but no more than so many
-pub record AreNewFiles {F : Type 0} (count : ℕ) (slots : List (FileSlotValue F)) : Type 0 where
+-- New slots in files, which are numbered from 0: as many as are wanted, but no more than 512, each in a file that was made anew under
+-- the name `PREFIX.K` of its number. `makes` tells under which names an open file may have been made.
+pub record AreNewFiles {F : Type 0} (makes : List ℕ → F → Type 0) (prefix : List ℕ) (count : ℕ) (slots : List (FileSlotValue F)) : Type 0 where
   pub numbers : map (λ slot. slot.number) slots ≡ range_with_len 0 (min count 512)
   pub unused : All (λ slot. slot.failures ≡ 0) slots
+  pub named : All (λ slot. makes (file_name prefix slot.number) slot.file) slots

@@ -43,6 +43,11 @@ impl From<AllocError> for Fault<'_> {
 }
 
 impl From<UsageError> for Fault<'_> {
+    ghost use Rattle.std.specs.Prelude.{◌≡◌};
+    ghost use Rattle.image_files.specs.Faults.{usage_fault};
+
+    ghost from_gives = { λ error fault. fault ≡ usage_fault error };
+
     fn from(error: UsageError) -> Self {
         match error {
             UsageError::BadUsage => Fault::BadUsage,
@@ -67,6 +72,11 @@ impl<'a> From<FilesFault<'a>> for Fault<'a> {
 
 /// Of what is written to standard output.
 impl From<io::Error> for Fault<'_> {
+    ghost use Rattle.std.specs.Prelude.{◌≡◌};
+    ghost use Rattle.image_files.specs.declared.fault.Fault.TheVariants.{CannotWrite};
+
+    ghost from_gives = { λ _ fault. fault ≡ CannotWrite };
+
     fn from(_: io::Error) -> Self {
         Fault::CannotWrite
     }

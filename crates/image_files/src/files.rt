@@ -1,8 +1,9 @@
 //! Files that commands read and write whole, and files of slots.
 
 ghost use Rattle.std.specs.Prelude.{◌≡◌, ◌≤◌, ℕ, ⊤, List, [], false, is_some, IfErr, IfOk, min, option_map, vec_len};
-ghost use Rattle.image_files.specs.Faults.{IsOfNoLine};
+ghost use Rattle.image_files.specs.Faults.{IsOfFile, IsOfNoLine};
 ghost use Rattle.image_files.specs.Reading.{GivesInput};
+ghost use Rattle.image_files.specs.Refused.{IsOfInput};
 ghost use Rattle.image_files.specs.SlotFiles.{AreNewFiles, CannotMakeOneOf};
 
 use crate::fault::Fault;
@@ -20,14 +21,19 @@ pub trait Folder {
     /// Whether a file of this name may be found to hold these bytes.
     ghost gives: { List ℕ → List ℕ → Type 0 };
 
+    /// Whether an open file may be one that was made anew, empty, under this name.
+    ghost makes: { List ℕ → Self.File → Type 0 };
+
     /// The bytes of a file.
     fn read<'a>(&self, name: &'a str) -> Result<Vec<u8>, Fault<'a>>
         ensures bytes { IfOk result (λ bytes. gives name.now bytes.items) }
-        ensures fault { IfErr result IsOfNoLine };
+        ensures fault { IfErr result IsOfNoLine }
+        ensures of_file { IfErr result (IsOfFile name.now) };
 
     /// Makes a file anew of these bytes. Where it takes none, no file is left that was not there before.
     fn write<'a>(&self, name: &'a str, bytes: &[u8]) -> Result<(), Fault<'a>>
-        ensures fault { IfErr result IsOfNoLine };
+        ensures fault { IfErr result IsOfNoLine }
+        ensures of_file { IfErr result (IsOfFile name.now) };
 
     /// So many slots, but 512 at most, each in a file of its own that is made anew: `PREFIX.0`, `PREFIX.1` and so on.
     fn make_slots<'a>(
@@ -35,15 +41,17 @@ pub trait Folder {
         prefix: &'a str,
         count: u32,
     ) -> Result<Vec<FileSlot<Self::File>>, Fault<'a>>
-        ensures made { IfOk result (λ slots. AreNewFiles count slots.items) }
+        ensures made { IfOk result (λ slots. AreNewFiles makes prefix.now count slots.items) }
         ensures refused { IfErr result (CannotMakeOneOf prefix.now (min count 512)) };
 }
 
-/// Of the system's files nothing is known before they are read.
+/// Of the system's files nothing is known before they are read, nor which one an open file is.
 impl<R: Files + AllocGlobal> Folder for R {
     type File = R::File;
 
     ghost gives = { λ _ _. ⊤ };
+
+    ghost makes = { λ _ _. ⊤ };
 
     fn read<'a>(&self, name: &'a str) -> Result<Vec<u8>, Fault<'a>> {
         read_file(self, name)
@@ -69,6 +77,7 @@ impl<R: Files + AllocGlobal> Folder for R {
 pub fn read_file<'a, R: Files + AllocGlobal>(rt: &R, name: &'a str) -> Result<Vec<u8>, Fault<'a>>
     ensures few { IfOk result (λ bytes. vec_len bytes ≤ MOST_BYTES) }
     ensures fault { IfErr result IsOfNoLine }
+    ensures of_file { IfErr result (IsOfFile name.now) }
 {
     let Some(file) = open_to_read(rt, name) else {
         return Err(Fault::CannotRead(name));
@@ -93,6 +102,8 @@ pub fn read_input<'a, R: Folder + AllocGlobal>(
 ) -> Result<Vec<u8>, Fault<'a>>
     ensures none { IfOk result (λ bytes. is_some name.entry ≡ false → bytes.items ≡ []) }
     ensures given { IfOk result (λ bytes. GivesInput R.gives (option_map (λ s. s.now) name.entry) bytes.items) }
+    ensures fault { IfErr result IsOfNoLine }
+    ensures of_input { IfErr result (IsOfInput (option_map (λ s. s.now) name.entry)) }
 {
     match name {
         Some(name) => rt.read(name),
@@ -102,7 +113,9 @@ pub fn read_input<'a, R: Folder + AllocGlobal>(
 
 /// The text of a file, which has to be UTF-8.
 pub fn read_text<'a, R: Folder>(rt: &R, name: &'a str) -> Result<String, Fault<'a>>
-    ensures { IfOk result (λ text. R.gives name.now text.bytes.items) }
+    ensures text { IfOk result (λ text. R.gives name.now text.bytes.items) }
+    ensures fault { IfErr result IsOfNoLine }
+    ensures of_file { IfErr result (IsOfFile name.now) }
 {
     text_of(rt.read(name)?, name)
 }
@@ -111,6 +124,7 @@ pub fn read_text<'a, R: Folder>(rt: &R, name: &'a str) -> Result<String, Fault<'
 pub fn text_of(bytes: Vec<u8>, name: &str) -> Result<String, Fault<'_>>
     ensures text { IfOk result (λ text. text.bytes.items ≡ bytes.items) }
     ensures fault { IfErr result IsOfNoLine }
+    ensures of_file { IfErr result (IsOfFile name.now) }
 {
     String::from_utf8(bytes).map_err(|_| Fault::CannotRead(name))
 }

@@ -3,8 +3,9 @@
 ghost use Rattle.std.specs.Prelude.{◌≡◌, None, Ok, IfErr, IfOk, length, map, option_map};
 ghost use Rattle.elf_image.specs.Image.{image_of_words};
 ghost use Rattle.elf_image.specs.Start.{start_of};
-ghost use Rattle.image_files.specs.Faults.{IsOfNoLine};
-ghost use Rattle.image_files.specs.Reading.{AreGiven, GivesImage, HoldsImage};
+ghost use Rattle.image_files.specs.Faults.{IsOfFile, IsOfNoLine};
+ghost use Rattle.image_files.specs.Reading.{AreGiven, GivesImage, GivesListing, HoldsImage};
+ghost use Rattle.image_files.specs.Refused.{StopsAtImage, StopsReading};
 ghost use Rattle.image_files.specs.WordsFile.{words_in};
 ghost use Rattle.rv_asm.specs.Assembly.{Assembles};
 
@@ -20,6 +21,7 @@ use std::alloc::Global;
 pub fn read_image<'a, R: Folder + AllocGlobal>(rt: &R, name: &'a str) -> Result<Image, Fault<'a>>
     ensures image { IfOk result (GivesImage R.gives name.now) }
     ensures fault { IfErr result IsOfNoLine }
+    ensures of_file { IfErr result (IsOfFile name.now) }
 {
     let file = rt.read(name)?;
     image_in(rt.alloc(), file, name)
@@ -29,6 +31,7 @@ pub fn read_image<'a, R: Folder + AllocGlobal>(rt: &R, name: &'a str) -> Result<
 fn image_in<'a>(alloc: Global, file: Vec<u8>, name: &'a str) -> Result<Image, Fault<'a>>
     ensures image { IfOk result (HoldsImage file.items) }
     ensures fault { IfErr result IsOfNoLine }
+    ensures of_file { IfErr result (IsOfFile name.now) }
 {
     match kind_of_file(file.as_slice()) {
         ImageKind::Elf => image_or_fault(read_elf(alloc, file.as_slice()), name),
@@ -46,6 +49,8 @@ pub fn read_processes<'a, R: Folder + AllocGlobal>(
 ) -> Result<Vec<(Image, Vec<u8>)>, Fault<'a>>
     ensures many { IfOk result (λ processes. length processes.items ≡ length images.now) }
     ensures given { IfOk result (λ processes. AreGiven R.gives (option_map (λ s. s.now) input.entry) (map (λ s. s.now) images.now) (map (λ start. start_of start.0 start.1.items) processes.items)) }
+    ensures fault { IfErr result IsOfNoLine }
+    ensures refused { IfErr result (StopsReading R.gives (option_map (λ s. s.now) input.entry) (map (λ s. s.now) images.now)) }
 {
     let mut processes = read_images(rt, images)?;
     let input = read_input(rt, input)?;
@@ -61,7 +66,9 @@ fn read_images<'a, R: Folder + AllocGlobal>(
     rt: &R,
     images: &[&'a str],
 ) -> Result<Vec<(Image, Vec<u8>)>, Fault<'a>>
-    ensures { IfOk result (λ processes. AreGiven R.gives None (map (λ s. s.now) images.now) (map (λ start. start_of start.0 start.1.items) processes.items)) }
+    ensures read { IfOk result (λ processes. AreGiven R.gives None (map (λ s. s.now) images.now) (map (λ start. start_of start.0 start.1.items) processes.items)) }
+    ensures fault { IfErr result IsOfNoLine }
+    ensures refused { IfErr result (StopsAtImage R.gives (map (λ s. s.now) images.now)) }
 {
     let mut processes = Vec::new(rt.alloc());
     for name in images {
@@ -77,13 +84,18 @@ fn read_images<'a, R: Folder + AllocGlobal>(
 pub fn read_source<'a, R: Folder + AllocGlobal>(
     rt: &R,
     name: &'a str,
-) -> Result<Listing, Fault<'a>> {
+) -> Result<Listing, Fault<'a>>
+    ensures listing { IfOk result (GivesListing R.gives name.now) }
+    ensures fault { IfErr result IsOfNoLine }
+    ensures of_file { IfErr result (IsOfFile name.now) }
+{
     listing_of(rt.alloc(), rt.read(name)?, name)
 }
 
 fn listing_of<'a>(alloc: Global, file: Vec<u8>, name: &'a str) -> Result<Listing, Fault<'a>>
     ensures listing { IfOk result (Assembles file.items) }
     ensures fault { IfErr result IsOfNoLine }
+    ensures of_file { IfErr result (IsOfFile name.now) }
 {
     let source = text_of(file, name)?;
     match assemble(alloc, source.as_str()) {
@@ -96,6 +108,7 @@ fn listing_of<'a>(alloc: Global, file: Vec<u8>, name: &'a str) -> Result<Listing
 fn image_of_words<'a>(alloc: Global, file: &[u8], name: &'a str) -> Result<Image, Fault<'a>>
     ensures image { IfOk result (λ image. image ≡ image_of_words (words_in file.now)) }
     ensures fault { IfErr result IsOfNoLine }
+    ensures of_file { IfErr result (IsOfFile name.now) }
 {
     match words_of_file(alloc, file) {
         Ok(words) => image_or_fault(Image::from_words(alloc, words.as_slice()), name),
@@ -107,6 +120,7 @@ fn image_of_words<'a>(alloc: Global, file: &[u8], name: &'a str) -> Result<Image
 fn image_or_fault(made: Result<Image, ElfFault>, name: &str) -> Result<Image, Fault<'_>>
     ensures image { IfOk result (λ image. made ≡ Ok image) }
     ensures fault { IfErr result IsOfNoLine }
+    ensures of_file { IfErr result (IsOfFile name.now) }
 {
     match made {
         Ok(image) => Ok(image),

@@ -1,10 +1,10 @@
--- LRU has the inclusion property: a proof.
+-- LRU has the inclusion property, and never misses more with more frames: proofs.
 use Rattle.std.specs.Prelude.{◌≡◌, ℕ, zero, suc, ◌≤◌, Bool, true, false, cond, List, [], ◌∷◌, take, refl}
-use Rattle.std.proofs.Common.{arith, ap}
+use Rattle.std.proofs.Common.{arith, sym, ap, ◌∙◌}
 use Rattle.clock_policy.specs.declared.key.Key.{Key}
 use Rattle.page_policies.specs.Strings.{is_page, holds, without, misses}
 use Rattle.page_policies.specs.Queues.{lru, lru_misses}
-use Rattle.page_policies.specs.Inclusion.{Inclusion}
+use Rattle.page_policies.specs.Inclusion.{lru_leaves, Inclusion, MissesNoMore}
 
 -- The pages by their last use, without a bound: what n frames hold are its first n.
 
@@ -63,8 +63,25 @@ nothing : (n : ℕ) → take n (let none : List Key = [] in none) ≡ []
 nothing zero = refl
 nothing (suc n) = refl
 
+-- what n frames hold once a string was served are the first n pages by their last use
+abbrev restacked : List Key → List Key → List Key
+restacked s [] = s
+restacked s (p ∷ ps) = restacked (stacked p s) ps
+
+left_first : (n : ℕ) (s string : List Key) → lru_leaves n (take n s) string ≡ take n (restacked s string)
+left_first n s [] = refl
+left_first n s (p ∷ ps) = ap (λ (l : List Key). lru_leaves n l ps) (cut_step n p s) ∙ left_first n (stacked p s) ps
+
+left_empty : (n : ℕ) (string : List Key) → lru_leaves n [] string ≡ take n (restacked [] string)
+left_empty n string = ap (λ (l : List Key). lru_leaves n l string) (sym (nothing n)) ∙ left_first n [] string
+
 pub inclusion : Inclusion
+inclusion few many string page h there =
+    let small : holds page (take few (restacked [] string)) ≡ true = ap (holds page) (sym (left_empty few string)) ∙ there in
+    ap (holds page) (left_empty many string) ∙ held_more few many page (restacked [] string) h small
+
+pub lru_misses_no_more : MissesNoMore 0 lru_misses
 unfolding lru_misses
-inclusion few many string h =
+lru_misses_no_more few many string least h =
     let e : misses holds (lru many) (take many []) string ≤ misses holds (lru few) (take few []) string = from_stack few many [] string h in
     rw (nothing many, nothing few) at e

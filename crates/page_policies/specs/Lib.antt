@@ -20,3 +20,4 @@ pub mod NextPlaceLaws
 pub mod PlaceStepLaws
 pub mod SlotPlayLaws
 pub mod ClockPlayLaws
+pub mod MoreFramesLaws

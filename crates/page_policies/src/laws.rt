@@ -1,6 +1,6 @@
 //! Laws of the policies' definitions.
 
-ghost use Rattle.page_policies.specs.Inclusion.{Inclusion};
+ghost use Rattle.page_policies.specs.Inclusion.{Inclusion, MissesNoMore};
 ghost use Rattle.page_policies.specs.Queues.{fifo_misses, lru_misses};
 ghost use Rattle.page_policies.specs.SecondChance.{clock_misses};
 ghost use Rattle.page_policies.specs.Optimal.{optimal_misses};
@@ -8,14 +8,21 @@ ghost use Rattle.page_policies.specs.Demand.{NoneMissesLess, IsPlayed, IsPlayedW
 ghost use Rattle.page_policies.specs.ClockProPlay.{clock_pro_misses};
 ghost use Rattle.clock_policy.specs.FrameCounts.{least_frames, most_frames};
 
-/// LRU has the inclusion property: with more frames it never misses more, whatever the string.
+/// LRU has the inclusion property: at each moment the pages in fewer frames are among those in more, whatever the string.
 #[tactic(auto, using(crate::specs::InclusionLaws::inclusion))]
-pub fn more_frames_never_miss_more()
+pub fn fewer_frames_hold_fewer_pages()
     ensures { Inclusion }
 {}
 
-/// No way to serve a string misses less than the optimum: whichever pages leave, and whenever, as long as each page is there when
-/// it is used and no more pages than frames ever are.
+/// With more frames LRU never misses more, nor does the optimum, whatever the string.
+#[tactic(auto, using(crate::specs::InclusionLaws::lru_misses_no_more, crate::specs::MoreFramesLaws::optimum_misses_no_more))]
+pub fn more_frames_never_miss_more()
+    ensures lru { MissesNoMore 0 lru_misses }
+    ensures optimum { MissesNoMore 1 optimal_misses }
+{}
+
+/// No way to serve a string that brings each page in when it is used, and no sooner, misses less than the optimum: whichever pages
+/// leave, and whenever, as long as each page is there when it is used and no more pages than frames ever are.
 #[tactic(auto, using(crate::specs::DemandLaws::none_misses_less))]
 pub fn no_policy_misses_less()
     ensures { NoneMissesLess }

@@ -2,7 +2,6 @@
 #![tactic(auto)]
 
 mod clock_pro;
-mod counter;
 mod fifo_policy;
 mod frames;
 mod laws;
@@ -13,11 +12,11 @@ mod second_chance;
 mod string_uses;
 
 pub use clock_pro::ClockPro;
-pub use counter::Counter;
 pub use fifo_policy::Fifo;
 pub use frames::Frames;
 pub use laws::{
-    clock_pro_is_a_play, more_frames_never_miss_more, no_policy_misses_less, optimum_is_a_play,
+    clock_pro_is_a_play, fewer_frames_hold_fewer_pages, more_frames_never_miss_more,
+    no_policy_misses_less, optimum_is_a_play,
 };
 pub use lru_policy::Lru;
 pub use optimum::Optimum;

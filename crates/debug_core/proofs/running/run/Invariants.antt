@@ -4,6 +4,7 @@ use Rattle.flat_machine.specs.Process.{is_live}
 use Rattle.debug_core.specs.Debugging.{first_moment}
 use Rattle.debug_core.specs.Seen.{AreSeen}
 use Rattle.debug_core.specs.Stops.{Passes}
+use Rattle.debug_core.proofs.Room.{RoomAfter}
 use Rattle.debug_core.proofs.running.run.Given as goal
 
 -- so many steps were done, after none of them there was a reason to stop, and the watches are seen as before the last
@@ -15,8 +16,9 @@ invariant-steps g l =
     let shown = g.T.Target.shown in
     record {
       was : Memory;
-      passes : Passes l.points l.limit l.done (first_moment (shown l.fn.target) l.fn.turn) (record { process = shown l.target; turn = l.turn; was = was });
+      passes : Passes (g.T.Target.limits l.fn.target) l.points l.limit l.done (first_moment (shown l.fn.target) l.fn.turn) (record { process = shown l.target; turn = l.turn; was = was });
       seen : AreSeen l.points l.seen was;
       room : length l.seen ≡ 32;
+      recorded : RoomAfter (g.T.Target.limits l.fn.target) (g.T.Target.limits l.target) l.done (first_moment (shown l.fn.target) l.fn.turn);
       live : is_live l.turn (shown l.target) ≡ true;
     }

@@ -7,5 +7,5 @@ use Rattle.debug_session.proofs.turn.take_turn.Goals as goal
 pub returns-clause-err : goal.returns-clause-err
 returns-clause-err g c =
     let asks : AsksFor c.in-Some.asked c.args.line.now = search rules in
-    let answers : Answers g.T.Target.shown g.T.Target.fails c.in-Some.asked c.args.debugger.now (Some c.in-Some-answer.reply) c.answer.new.debugger = search rules in
+    let answers : Answers g.T.Target.shown g.T.Target.limits c.in-Some.asked c.args.debugger.now (Some c.in-Some-answer.reply) c.answer.new.debugger = search rules in
     (reply_text c.in-Some-answer.reply ++ 10 ∷ [], inr (c.in-Some.asked, (c.in-Some-answer.reply, asks, answers, refl)))

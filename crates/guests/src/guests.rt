@@ -7,10 +7,10 @@ use std::io::Write;
 use std::sync::Wait;
 use std::thread::Threads;
 
-/// The words that each guest is run on, and options for the machine of four frames alone. The harts of `words.elf` and `lock.elf`
-/// wait for one another, so that their steps are counted alike where they take turns as on flat memory: one instruction each. Threads
-/// take no such turns.
-const GUESTS: [(&str, &str); 15] = [
+/// The words that each guest is run on, and options for the machine of four frames alone. The harts of `words.elf`, `lock.elf` and
+/// `harts.elf` wait for one another, so that their steps are counted alike where they take turns as on flat memory: one instruction
+/// each. Threads take no such turns.
+const GUESTS: [(&str, &str); 18] = [
     ("hi.words", ""),
     ("p8.s", ""),
     ("p11.s", ""),
@@ -26,6 +26,9 @@ const GUESTS: [(&str, &str); 15] = [
     ("--input c/address.txt c/words.elf", "--slice 1 "),
     ("c/lock.elf", "--slice 1 "),
     ("--input c/address.txt c/sorted.elf", ""),
+    ("c/statics.elf", ""),
+    ("c/library.elf", ""),
+    ("c/harts.elf", "--slice 1 "),
 ];
 
 /// Shows each guest by both commands.

@@ -1,0 +1,4 @@
+pub mod Accesses
+pub mod Flows
+pub mod StepsToCome
+pub mod Telling

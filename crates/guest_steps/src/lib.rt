@@ -1,0 +1,15 @@
+//! A process on flat memory, step by step, and what each step did: its instruction, and its hart's registers before and after it.
+#![tactic(auto)]
+
+mod access;
+mod flow;
+mod run;
+mod step;
+mod step_string;
+mod told_step;
+
+pub use access::{Access, access_of, destination_of};
+pub use flow::{Flow, flow_of};
+pub use run::run_turns;
+pub use step_string::StepString;
+pub use told_step::ToldStep;

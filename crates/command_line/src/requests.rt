@@ -23,7 +23,8 @@ use std::alloc::Global;
 
 pub fn asm_request<'a>(matches: &ArgMatches<'a>) -> Result<AsmRequest<'a>, UsageError>
     ensures asked { IfOk result (AsksAsm (rows_of (found_of matches.now))) }
-    ensures bad { IsErr result → (request : AsmRequest) → ¬ AsksAsm (rows_of (found_of matches.now)) request }
+    ensures bad { IsErr result → (request : AsmRequest) →
+        ¬ AsksAsm (rows_of (found_of matches.now)) request }
     ensures refused { IfErr result (λ error. error ≡ UsageError.BadUsage) }
 {
     let source = value(matches, "source")?;
@@ -34,7 +35,8 @@ pub fn asm_request<'a>(matches: &ArgMatches<'a>) -> Result<AsmRequest<'a>, Usage
 pub fn flat_request<'a>(matches: &ArgMatches<'a>) -> Result<FlatRequest<'a>, UsageError>
     ensures in_range { IfOk result IsFlatInRange }
     ensures asked { IfOk result (AsksFlat (rows_of (found_of matches.now))) }
-    ensures bad { IsErr result → (request : FlatRequest) → ¬ AsksFlat (rows_of (found_of matches.now)) request }
+    ensures bad { IsErr result → (request : FlatRequest) →
+        ¬ AsksFlat (rows_of (found_of matches.now)) request }
     ensures refused { IfErr result (λ error. error ≡ UsageError.BadUsage) }
 {
     let limit = limit(matches)?;
@@ -50,7 +52,8 @@ pub fn flat_request<'a>(matches: &ArgMatches<'a>) -> Result<FlatRequest<'a>, Usa
 pub fn clock_request<'a>(matches: &ArgMatches<'a>) -> Result<ClockRequest<'a>, UsageError>
     ensures in_range { IfOk result IsClockInRange }
     ensures asked { IfOk result (AsksClock (rows_of (found_of matches.now))) }
-    ensures bad { IsErr result → (request : ClockRequest) → ¬ AsksClock (rows_of (found_of matches.now)) request }
+    ensures bad { IsErr result → (request : ClockRequest) →
+        ¬ AsksClock (rows_of (found_of matches.now)) request }
     ensures refused { IfErr result (λ error. error ≡ UsageError.BadUsage) }
 {
     let frames = value(matches, "frames")?;
@@ -65,7 +68,8 @@ pub fn drive_request<'a>(
 ) -> Result<DriveRequest<'a>, UsageError>
     ensures in_range { IfOk result IsDriveInRange }
     ensures asked { IfOk result (AsksDrive (rows_of (found_of matches.now))) }
-    ensures bad { result ≡ Err UsageError.BadUsage → (request : DriveRequest) → ¬ AsksDrive (rows_of (found_of matches.now)) request }
+    ensures bad { result ≡ Err UsageError.BadUsage → (request : DriveRequest) →
+        ¬ AsksDrive (rows_of (found_of matches.now)) request }
 {
     let frames = number_or(matches, "frames", 64, FEWEST_FRAMES, MOST_FRAMES)?;
     let slots = number_or(matches, "slots", 4096, 0, 65_536)?;
@@ -85,7 +89,8 @@ pub fn run_request<'a>(
 ) -> Result<RunRequest<'a>, UsageError>
     ensures in_range { IfOk result IsRunInRange }
     ensures asked { IfOk result (AsksRun (rows_of (found_of matches.now))) }
-    ensures bad { result ≡ Err UsageError.BadUsage → (request : RunRequest) → ¬ AsksRun (rows_of (found_of matches.now)) request }
+    ensures bad { result ≡ Err UsageError.BadUsage → (request : RunRequest) →
+        ¬ AsksRun (rows_of (found_of matches.now)) request }
 {
     let frames = number_or(matches, "frames", 64, FEWEST_FRAMES, MOST_FRAMES)?;
     let slots = number_or(matches, "slots", 4096, 0, 65_536)?;
@@ -110,7 +115,8 @@ pub fn run_request<'a>(
 pub fn debug_request<'a>(matches: &ArgMatches<'a>) -> Result<DebugRequest<'a>, UsageError>
     ensures in_range { IfOk result IsDebugInRange }
     ensures asked { IfOk result (AsksDebug (rows_of (found_of matches.now))) }
-    ensures bad { IsErr result → (request : DebugRequest) → ¬ AsksDebug (rows_of (found_of matches.now)) request }
+    ensures bad { IsErr result → (request : DebugRequest) →
+        ¬ AsksDebug (rows_of (found_of matches.now)) request }
     ensures refused { IfErr result (λ error. error ≡ UsageError.BadUsage) }
 {
     let frames = number_if_given(matches, "frames", FEWEST_FRAMES, MOST_FRAMES)?;
@@ -122,7 +128,8 @@ pub fn debug_request<'a>(matches: &ArgMatches<'a>) -> Result<DebugRequest<'a>, U
 fn threading(matches: &ArgMatches<'_>) -> Result<Threading, UsageError>
     ensures in_range { IfOk result IsThreadingInRange }
     ensures asked { IfOk result (AsksThreading (rows_of (found_of matches.now))) }
-    ensures bad { IsErr result → (threading : Threading) → ¬ AsksThreading (rows_of (found_of matches.now)) threading }
+    ensures bad { IsErr result → (threading : Threading) →
+        ¬ AsksThreading (rows_of (found_of matches.now)) threading }
     ensures refused { IfErr result (λ error. error ≡ UsageError.BadUsage) }
 {
     let workers = number_or(matches, "workers", 4, 1, 64)?;

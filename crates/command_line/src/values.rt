@@ -15,14 +15,16 @@ use text_lines::numeral;
 /// The value of an argument, if it was given.
 #[tactic(auto, using(crate::proofs::Rows::value_by_rows))]
 pub fn found<'a>(matches: &ArgMatches<'a>, name: &str) -> Option<&'a str>
-    ensures { option_map (λ text. text.now) result ≡ first_of name.now (rows_of (found_of matches.now)) }
+    ensures { option_map (λ text. text.now) result ≡ first_of name.now
+        (rows_of (found_of matches.now)) }
 {
     matches.get_str(name)
 }
 
 /// The value of an argument that has to be given.
 pub fn value<'a>(matches: &ArgMatches<'a>, name: &str) -> Result<&'a str, UsageError>
-    ensures given { IfOk result (λ text. first_of name.now (rows_of (found_of matches.now)) ≡ Some text.now) }
+    ensures given { IfOk result (λ text. first_of name.now (rows_of (found_of matches.now)) ≡
+        Some text.now) }
     ensures missing { IsErr result → first_of name.now (rows_of (found_of matches.now)) ≡ None }
     ensures refused { IfErr result (λ error. error ≡ UsageError.BadUsage) }
 {
@@ -35,15 +37,18 @@ pub fn value<'a>(matches: &ArgMatches<'a>, name: &str) -> Result<&'a str, UsageE
 /// The values of an argument that may be given several times.
 #[tactic(auto, using(crate::proofs::Rows::values_by_rows))]
 fn all<'m, 'a>(matches: &'m ArgMatches<'a>, name: &str) -> Option<&'m [&'a str]>
-    ensures { option_map (λ texts. map (λ text. text.now) texts.now) result ≡ all_of name.now (rows_of (found_of matches.now)) }
+    ensures { option_map (λ texts. map (λ text. text.now) texts.now) result ≡ all_of name.now
+        (rows_of (found_of matches.now)) }
 {
     matches.get_strs(name)
 }
 
 /// The files of the images, of which a machine has so many at most.
 pub fn images<'a>(alloc: Global, matches: &ArgMatches<'a>) -> Result<Vec<&'a str>, UsageError>
-    ensures given { IfOk result (λ names. AreImages (rows_of (found_of matches.now)) (map (λ name. name.now) names.items)) }
-    ensures bad { result ≡ Err UsageError.BadUsage → (names : List (List ℕ)) → ¬ AreImages (rows_of (found_of matches.now)) names }
+    ensures given { IfOk result (λ names. AreImages (rows_of (found_of matches.now)) (map (λ name.
+        name.now) names.items)) }
+    ensures bad { result ≡ Err UsageError.BadUsage → (names : List (List ℕ)) →
+        ¬ AreImages (rows_of (found_of matches.now)) names }
 {
     let Some(names) = all(matches, "image") else {
         return Err(UsageError::BadUsage);
@@ -56,7 +61,8 @@ pub fn images<'a>(alloc: Global, matches: &ArgMatches<'a>) -> Result<Vec<&'a str
 
 /// Whether a flag is set.
 pub fn is_given(matches: &ArgMatches<'_>, name: &str) -> bool
-    ensures { IsTrue result ↔ (first_of name.now (rows_of (found_of matches.now)) ≡ Some (codes "true")) }
+    ensures { IsTrue result ↔ (first_of name.now (rows_of (found_of matches.now)) ≡
+        Some (codes "true")) }
 {
     match found(matches, name) {
         Some(text) => text == "true",
@@ -66,8 +72,10 @@ pub fn is_given(matches: &ArgMatches<'_>, name: &str) -> bool
 
 /// The most instructions or events that are run.
 pub fn limit(matches: &ArgMatches<'_>) -> Result<u32, UsageError>
-    ensures number { IfOk result (λ number. IsOption usual_limit 1 highest_limit number (first_of (codes "limit") (rows_of (found_of matches.now)))) }
-    ensures bad { IsErr result → (number : ℕ) → ¬ IsOption usual_limit 1 highest_limit number (first_of (codes "limit") (rows_of (found_of matches.now))) }
+    ensures number { IfOk result (λ number. IsOption usual_limit 1 highest_limit number
+        (first_of (codes "limit") (rows_of (found_of matches.now)))) }
+    ensures bad { IsErr result → (number : ℕ) → ¬ IsOption usual_limit 1 highest_limit number
+        (first_of (codes "limit") (rows_of (found_of matches.now))) }
     ensures within { IfOk result (λ number. (1 ≤ number) × (number ≤ highest_limit)) }
     ensures refused { IfErr result (λ error. error ≡ UsageError.BadUsage) }
 {
@@ -84,8 +92,10 @@ pub fn number_or(
 ) -> Result<u32, UsageError>
     requires at_least { least ≤ default }
     requires at_most { default ≤ most }
-    ensures number { IfOk result (λ number. IsOption default least most number (first_of name.now (rows_of (found_of matches.now)))) }
-    ensures bad { IsErr result → (number : ℕ) → ¬ IsOption default least most number (first_of name.now (rows_of (found_of matches.now))) }
+    ensures number { IfOk result (λ number. IsOption default least most number (first_of name.now
+        (rows_of (found_of matches.now)))) }
+    ensures bad { IsErr result → (number : ℕ) → ¬ IsOption default least most number
+        (first_of name.now (rows_of (found_of matches.now))) }
     ensures within { IfOk result (λ number. (least ≤ number) × (number ≤ most)) }
     ensures refused { IfErr result (λ error. error ≡ UsageError.BadUsage) }
 {
@@ -102,9 +112,12 @@ pub fn number_if_given(
     least: u32,
     most: u32,
 ) -> Result<Option<u32>, UsageError>
-    ensures number { IfOk result (λ number. IsNumberIfGiven least most number (first_of name.now (rows_of (found_of matches.now)))) }
-    ensures bad { IsErr result → (number : Option ℕ) → ¬ IsNumberIfGiven least most number (first_of name.now (rows_of (found_of matches.now))) }
-    ensures within { IfOk result (λ number. IfSome number (λ number. (least ≤ number) × (number ≤ most))) }
+    ensures number { IfOk result (λ number. IsNumberIfGiven least most number (first_of name.now
+        (rows_of (found_of matches.now)))) }
+    ensures bad { IsErr result → (number : Option ℕ) →
+        ¬ IsNumberIfGiven least most number (first_of name.now (rows_of (found_of matches.now))) }
+    ensures within { IfOk result (λ number. IfSome number (λ number. (least ≤ number) ×
+        (number ≤ most))) }
     ensures refused { IfErr result (λ error. error ≡ UsageError.BadUsage) }
 {
     match found(matches, name) {

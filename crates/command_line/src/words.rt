@@ -37,9 +37,11 @@ pub fn read_request<'a, S: AsStr>(alloc: Global, words: &'a [S]) -> Result<Reque
 
 /// The words as arguments of the commands.
 fn parse<'a, S: AsStr>(alloc: Global, words: &'a [S]) -> Result<ArgMatches<'a>, UsageError>
-    ensures rows { IfOk result (λ matches. subcommand_rows_of matches ≡ subcommand_of paged_app (map S.text words.now)) }
+    ensures rows { IfOk result (λ matches. subcommand_rows_of matches ≡ subcommand_of paged_app
+        (map S.text words.now)) }
     ensures no_fault { IfOk result (λ _. fault_of paged_app (map S.text words.now) ≡ []) }
-    ensures bad { result ≡ Err UsageError.BadUsage → fault_of paged_app (map S.text words.now) ≢ [] }
+    ensures bad { result ≡ Err UsageError.BadUsage → fault_of paged_app (map S.text words.now) ≢
+        [] }
 {
     match paged(alloc)?.try_get_matches_from(words) {
         Ok(matches) => Ok(matches),
@@ -61,7 +63,8 @@ fn usage_error(kind: ErrorKind) -> UsageError
 fn request_of<'a>(alloc: Global, matches: &ArgMatches<'a>) -> Result<Request<'a>, UsageError>
     ensures in_range { IfOk result IsInRange }
     ensures asked { IfOk result (IsAsked (subcommand_rows_of matches.now)) }
-    ensures bad { result ≡ Err UsageError.BadUsage → (request : Request) → ¬ IsAsked (subcommand_rows_of matches.now) request }
+    ensures bad { result ≡ Err UsageError.BadUsage → (request : Request) →
+        ¬ IsAsked (subcommand_rows_of matches.now) request }
 {
     match matches.subcommand() {
         Some((name, matches)) => named_request(alloc, name, matches),
@@ -77,7 +80,8 @@ fn named_request<'a>(
 ) -> Result<Request<'a>, UsageError>
     ensures in_range { IfOk result IsInRange }
     ensures asked { IfOk result (Asks name.now (rows_of (found_of matches.now))) }
-    ensures bad { result ≡ Err UsageError.BadUsage → (request : Request) → ¬ Asks name.now (rows_of (found_of matches.now)) request }
+    ensures bad { result ≡ Err UsageError.BadUsage → (request : Request) →
+        ¬ Asks name.now (rows_of (found_of matches.now)) request }
 {
     match name {
         "asm" => Ok(Request::Asm(asm_request(matches)?)),

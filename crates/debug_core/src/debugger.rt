@@ -42,7 +42,12 @@ impl<T: Target> Model for Debugger<T> {
 impl<T: Target> Debugger<T> {
     /// A debugger with no point. It is the turn of hart 0.
     pub fn new(target: T) -> Self
-        ensures { result ≡ record { target = target; points = replicate 32 None; turn = first_turn (T.shown target) } }
+        ensures { result ≡ record {
+          target = target;
+          points = replicate 32 None;
+          turn = first_turn
+              (T.shown target);
+        } }
     {
         let turn = first_turn(&target);
         Debugger {
@@ -55,8 +60,10 @@ impl<T: Target> Debugger<T> {
     /// Stops before the instruction at an address. The answer is the point's number, the lowest that is free.
     #[tactic(auto, using(crate::proofs::Points::with_point))]
     pub fn add_break(&mut self, address: u32) -> Result<u32, DebugRefusal>
-        ensures ok { IfOk result (λ number. AddsPoint (point.Break address) number self.old.points self.new.points) }
-        ensures refused { IfErr result (λ why. (why ≡ refusal.Full) × (lowest_free self.old.points ≡ None)) }
+        ensures ok { IfOk result (λ number. AddsPoint (point.Break address) number self.old.points
+            self.new.points) }
+        ensures refused { IfErr result (λ why. (why ≡ refusal.Full) ×
+            (lowest_free self.old.points ≡ None)) }
         ensures err { OnErr result (self.new ≡ self.old) }
         ensures stays { self.new ≡ record self.old { points = self.new.points } }
     {
@@ -69,8 +76,11 @@ impl<T: Target> Debugger<T> {
     /// lowest that is free.
     #[tactic(auto, using(crate::proofs::Points::with_point))]
     pub fn add_watch(&mut self, address: u32, length: u32) -> Result<u32, DebugRefusal>
-        ensures ok { IfOk result (λ number. IsRange 16 address length × AddsPoint (point.Watch address length) number self.old.points self.new.points) }
-        ensures refused { IfErr result (λ why. ((why ≡ refusal.Full) × (lowest_free self.old.points ≡ None)) ⊎ ((why ≡ refusal.BadRange) × ((¬ (lowest_free self.old.points ≡ None)) × (¬ IsRange 16 address length)))) }
+        ensures ok { IfOk result (λ number. IsRange 16 address length ×
+            AddsPoint (point.Watch address length) number self.old.points self.new.points) }
+        ensures refused { IfErr result (λ why. ((why ≡ refusal.Full) ×
+            (lowest_free self.old.points ≡ None)) ⊎ ((why ≡ refusal.BadRange) ×
+            ((¬ (lowest_free self.old.points ≡ None)) × (¬ IsRange 16 address length)))) }
         ensures err { OnErr result (self.new ≡ self.old) }
         ensures stays { self.new ≡ record self.old { points = self.new.points } }
     {
@@ -85,8 +95,10 @@ impl<T: Target> Debugger<T> {
     /// Removes a point.
     #[tactic(auto, using(crate::proofs::Points::with_point))]
     pub fn remove(&mut self, number: u32) -> Result<(), DebugRefusal>
-        ensures ok { OnOk result ((¬ (point_at self.old.points number ≡ None)) × (self.new.points ≡ slice_set self.old.points number None)) }
-        ensures refused { IfErr result (λ why. (why ≡ refusal.NoPoint) × (point_at self.old.points number ≡ None)) }
+        ensures ok { OnOk result ((¬ (point_at self.old.points number ≡ None)) ×
+            (self.new.points ≡ slice_set self.old.points number None)) }
+        ensures refused { IfErr result (λ why. (why ≡ refusal.NoPoint) ×
+            (point_at self.old.points number ≡ None)) }
         ensures err { OnErr result (self.new ≡ self.old) }
         ensures stays { self.new ≡ record self.old { points = self.new.points } }
     {
@@ -100,8 +112,10 @@ impl<T: Target> Debugger<T> {
 
     /// Runs one instruction of a hart.
     pub fn step(&mut self, hart: u32) -> Result<Stepped, DebugRefusal>
-        ensures ok { IfOk result (λ stepped. StepsOnce (T.limits self.old.target) stepped hart (T.shown self.old.target) self.old.turn (T.shown self.new.target) self.new.turn) }
-        ensures refused { IfErr result (λ why. RefusesStep (T.limits self.old.target) why hart (T.shown self.old.target) (T.shown self.new.target)) }
+        ensures ok { IfOk result (λ stepped. StepsOnce (T.limits self.old.target) stepped hart
+            (T.shown self.old.target) self.old.turn (T.shown self.new.target) self.new.turn) }
+        ensures refused { IfErr result (λ why. RefusesStep (T.limits self.old.target) why hart
+            (T.shown self.old.target) (T.shown self.new.target)) }
         ensures turn { OnErr result (self.new.turn ≡ self.old.turn) }
         ensures points { self.new.points ≡ self.old.points }
     {
@@ -131,8 +145,12 @@ impl<T: Target> Debugger<T> {
     /// Want of memory for a step; the steps before it stand.
     #[tactic(auto, using(crate::proofs::Trimmed::points_trimmed))]
     pub fn go(&mut self, limit: u64) -> Result<(Why, u64), AllocError>
-        ensures stops { IfOk result (λ stop. Stops T.shown T.limits self.old.target self.old.points limit stop.0 stop.1 (first_moment (T.shown self.old.target) self.old.turn) self.new.turn (T.shown self.new.target)) }
-        ensures wants { OnErr result (Wants T.limits self.old.target self.old.points limit (first_moment (T.shown self.old.target) self.old.turn) self.new.turn (T.shown self.new.target)) }
+        ensures stops { IfOk result (λ stop. Stops T.shown T.limits self.old.target self.old.points
+            limit stop.0 stop.1 (first_moment (T.shown self.old.target) self.old.turn)
+            self.new.turn (T.shown self.new.target)) }
+        ensures wants { OnErr result (Wants T.limits self.old.target self.old.points limit
+            (first_moment (T.shown self.old.target) self.old.turn) self.new.turn
+            (T.shown self.new.target)) }
         ensures points { self.new.points ≡ self.old.points }
     {
         let points = self.points;
@@ -149,8 +167,10 @@ impl<T: Target> Debugger<T> {
 
     /// A hart's registers.
     pub fn regs(&self, hart: u32) -> Result<&Regs, DebugRefusal>
-        ensures found { IfOk result (λ regs. hart_registers hart (T.shown self.now.target) ≡ Some regs.now) }
-        ensures refused { IfErr result (λ why. (why ≡ refusal.NoHart) × (hart_registers hart (T.shown self.now.target) ≡ None)) }
+        ensures found { IfOk result (λ regs. hart_registers hart (T.shown self.now.target) ≡
+            Some regs.now) }
+        ensures refused { IfErr result (λ why. (why ≡ refusal.NoHart) ×
+            (hart_registers hart (T.shown self.now.target) ≡ None)) }
     {
         self.target.regs(hart).ok_or(DebugRefusal::NoHart)
     }

@@ -25,9 +25,12 @@ pub(crate) fn look<T: Target>(
     requires points { ArePoints points.now }
     requires room { length points.now ≤ length seen.old }
     requires few { length points.now ≤ 32 }
-    ensures hit { IfOk result (λ hit. (was : Memory) → AreSeen points.now seen.old was → hit ≡ position_from (is_hit was (T.shown target.old).memory) 0 points.now) }
-    ensures seen { IfOk result (λ hit. hit ≡ None → AreSeen points.now seen.new (T.shown target.old).memory) }
-    ensures unread { OnErr result ((was : Memory) → AreSeen points.now seen.old was → IsUnread T.shown T.limits points.now was (T.shown target.old)) }
+    ensures hit { IfOk result (λ hit. (was : Memory) → AreSeen points.now seen.old was →
+        hit ≡ position_from (is_hit was (T.shown target.old).memory) 0 points.now) }
+    ensures seen { IfOk result (λ hit. hit ≡ None →
+        AreSeen points.now seen.new (T.shown target.old).memory) }
+    ensures unread { OnErr result ((was : Memory) → AreSeen points.now seen.old was →
+        IsUnread T.shown T.limits points.now was (T.shown target.old)) }
     ensures room { length seen.new ≡ length seen.old }
     ensures shown { T.shown target.new ≡ T.shown target.old }
     ensures kept { KeepsRoom (T.limits target.old) (T.limits target.new) }
@@ -47,7 +50,8 @@ fn look_at<T: Target>(
     seen: &mut Window,
 ) -> Result<bool, ReadFault>
     requires point { IsPoint point }
-    ensures hit { IfOk result (λ hit. (was : Memory) → IsSeen point seen.old was → hit ≡ is_hit was (T.shown target.old).memory point) }
+    ensures hit { IfOk result (λ hit. (was : Memory) → IsSeen point seen.old was →
+        hit ≡ is_hit was (T.shown target.old).memory point) }
     ensures seen { OnOk result (IsSeen point seen.new (T.shown target.old).memory) }
     ensures unread { IfErr result (CannotSee (T.limits target.old) point) }
     ensures shown { T.shown target.new ≡ T.shown target.old }

@@ -15,8 +15,11 @@ const MOST_BYTES: u32 = 4096;
 impl<T: Target> Debugger<T> {
     /// So many bytes of memory, 1 to 4096, from an address on.
     pub fn mem(&mut self, alloc: Global, address: u32, length: u32) -> Result<Vec<u8>, DebugRefusal>
-        ensures ok { IfOk result (λ bytes. IsRange 4096 address length × (map Some bytes.items ≡ bytes_from (T.shown self.old.target).memory address length)) }
-        ensures refused { IfErr result (λ why. RefusesLook (T.limits self.old.target) why address length (T.shown self.old.target).memory) }
+        ensures ok { IfOk result (λ bytes. IsRange 4096 address length ×
+            (map Some bytes.items ≡ bytes_from (T.shown self.old.target).memory address length)) }
+        ensures refused { IfErr result (λ why.
+            RefusesLook (T.limits self.old.target) why address length
+            (T.shown self.old.target).memory) }
         ensures shown { T.shown self.new.target ≡ T.shown self.old.target }
         ensures points { self.new.points ≡ self.old.points }
         ensures turn { self.new.turn ≡ self.old.turn }

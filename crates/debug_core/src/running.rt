@@ -62,10 +62,19 @@ fn reason_now<T: Target>(
     requires points { ArePoints points.now }
     requires room { length points.now ≤ length seen.old }
     requires few { length points.now ≤ 32 }
-    ensures why { IfOk result (λ why. (was : Memory) → AreSeen points.now seen.old was → why ≡ reason points.now limit done (record { process = T.shown target.old; turn = turn; was = was })) }
-    ensures seen { IfOk result (λ why. why ≡ None → AreSeen points.now seen.new (T.shown target.old).memory) }
-    ensures goes_on { IfOk result (λ why. why ≡ None → ((T.shown target.old).ending ≡ None) × (done ≢ limit)) }
-    ensures unread { OnErr result ((was : Memory) → AreSeen points.now seen.old was → IsUnread T.shown T.limits points.now was (T.shown target.old)) }
+    ensures why { IfOk result (λ why. (was : Memory) → AreSeen points.now seen.old was →
+        why ≡ reason points.now limit done (record {
+          process = T.shown target.old;
+          turn = turn;
+          was
+              = was;
+        })) }
+    ensures seen { IfOk result (λ why. why ≡ None →
+        AreSeen points.now seen.new (T.shown target.old).memory) }
+    ensures goes_on { IfOk result (λ why. why ≡ None → ((T.shown target.old).ending ≡ None) ×
+        (done ≢ limit)) }
+    ensures unread { OnErr result ((was : Memory) → AreSeen points.now seen.old was →
+        IsUnread T.shown T.limits points.now was (T.shown target.old)) }
     ensures not_ended { OnErr result ((T.shown target.old).ending ≡ None) }
     ensures room { length seen.new ≡ length seen.old }
     ensures shown { T.shown target.new ≡ T.shown target.old }
@@ -104,12 +113,24 @@ fn advance<T: Target>(
     requires points { ArePoints points.now }
     requires room { length points.now ≤ length seen.old }
     requires few { length points.now ≤ 32 }
-    ensures advances { IfOk result (λ why. (was : Memory) → AreSeen points.now seen.old was → Advances T.shown T.limits (T.limits target.old (CannotRecord [] turn.old)) why points.now limit done (record { process = T.shown target.old; turn = turn.old; was = was }) turn.new (T.shown target.new)) }
-    ensures seen { IfOk result (λ why. why ≡ None → AreSeen points.now seen.new (T.shown target.old).memory) }
+    ensures advances { IfOk result (λ why. (was : Memory) → AreSeen points.now seen.old was →
+        Advances T.shown T.limits (T.limits target.old (CannotRecord [] turn.old)) why points.now
+        limit done (record { process = T.shown target.old; turn = turn.old; was = was }) turn.new
+        (T.shown target.new)) }
+    ensures seen { IfOk result (λ why. why ≡ None →
+        AreSeen points.now seen.new (T.shown target.old).memory) }
     ensures goes_on { IfOk result (λ why. why ≡ None → done ≢ limit) }
-    ensures wants { OnErr result ((was : Memory) → AreSeen points.now seen.old was → reason points.now limit done (record { process = T.shown target.old; turn = turn.old; was = was }) ≡ None) }
-    ensures err { OnErr result ((T.shown target.new ≡ T.shown target.old) × ((turn.new ≡ turn.old) × (¬ T.limits target.old (CannotRecord [] turn.old)))) }
-    ensures recorded { IfOk result (λ why. why ≡ None → RecordsOne turn.old (T.limits target.old) (T.limits target.new)) }
+    ensures wants { OnErr result ((was : Memory) → AreSeen points.now seen.old was →
+        reason points.now limit done (record {
+          process = T.shown target.old;
+          turn = turn.old;
+          was =
+              was;
+        }) ≡ None) }
+    ensures err { OnErr result ((T.shown target.new ≡ T.shown target.old) ×
+        ((turn.new ≡ turn.old) × (¬ T.limits target.old (CannotRecord [] turn.old)))) }
+    ensures recorded { IfOk result (λ why. why ≡ None → RecordsOne turn.old (T.limits target.old)
+        (T.limits target.new)) }
     ensures room { length seen.new ≡ length seen.old }
     ensures live { is_live turn.new (T.shown target.new) ≡ true }
 {
@@ -143,8 +164,10 @@ pub(crate) fn run<T: Target>(
     requires live { is_live turn.old (T.shown target.old) ≡ true }
     requires points { ArePoints points.now }
     requires few { length points.now ≤ 32 }
-    ensures stops { IfOk result (λ stop. Stops T.shown T.limits target.old points.now limit stop.0 stop.1 (first_moment (T.shown target.old) turn.old) turn.new (T.shown target.new)) }
-    ensures wants { OnErr result (Wants T.limits target.old points.now limit (first_moment (T.shown target.old) turn.old) turn.new (T.shown target.new)) }
+    ensures stops { IfOk result (λ stop. Stops T.shown T.limits target.old points.now limit stop.0
+        stop.1 (first_moment (T.shown target.old) turn.old) turn.new (T.shown target.new)) }
+    ensures wants { OnErr result (Wants T.limits target.old points.now limit
+        (first_moment (T.shown target.old) turn.old) turn.new (T.shown target.new)) }
     ensures live { is_live turn.new (T.shown target.new) ≡ true }
 {
     let mut seen = [NOTHING; MOST_POINTS];

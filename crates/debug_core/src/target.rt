@@ -71,9 +71,11 @@ pub trait Target: Drop {
     /// Want of memory, where the instruction could be recorded; the process is as before.
     fn step(&mut self, hart: u32) -> Result<Progress, AllocError>
         requires { may_step hart (shown self.old) ≡ true }
-        ensures ok { IfOk result (λ progress. Progresses progress hart (shown self.old) (shown self.new)) }
+        ensures ok { IfOk result (λ progress. Progresses progress hart (shown self.old)
+            (shown self.new)) }
         ensures heeds { IfOk result (λ progress. HeedsLimits progress hart (limits self.old)) }
-        ensures recorded { IfOk result (λ progress. LeavesRoom progress hart (limits self.old) (limits self.new)) }
+        ensures recorded { IfOk result (λ progress. LeavesRoom progress hart (limits self.old)
+            (limits self.new)) }
         ensures err { OnErr result (shown self.new ≡ shown self.old) }
         ensures wants { OnErr result (¬ limits self.old (CannotRecord [] hart)) }
         ensures kept { OnErr result (KeepsRoom (limits self.old) (limits self.new)) };
@@ -82,8 +84,10 @@ pub trait Target: Drop {
     /// stays. Where it fails, what is in the places is open.
     fn read(&mut self, address: u32, bytes: &mut [Option<u8>]) -> Result<(), ReadFault>
         requires { address + length bytes.old ≤ 2 ^ 32 }
-        ensures ok { OnOk result (bytes.new ≡ bytes_from (shown self.old).memory address (length bytes.old)) }
-        ensures refused { IfErr result (λ why. limits self.old (CannotRead address (length bytes.old) why)) }
+        ensures ok { OnOk result (bytes.new ≡ bytes_from (shown self.old).memory address
+            (length bytes.old)) }
+        ensures refused { IfErr result (λ why.
+            limits self.old (CannotRead address (length bytes.old) why)) }
         ensures shown { shown self.new ≡ shown self.old }
         ensures kept { KeepsRoom (limits self.old) (limits self.new) };
 }

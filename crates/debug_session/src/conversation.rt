@@ -30,7 +30,8 @@ pub fn converse<T: Target, I: Read + Drop, O: Write>(
     input: I,
     out: &mut O,
 ) -> Result<(), SessionFault>
-    ensures { HasConversed T.shown T.limits result (I.remaining input) debugger.old (O.contents out.old) debugger.new (O.contents out.new) }
+    ensures { HasConversed T.shown T.limits result (I.remaining input) debugger.old
+        (O.contents out.old) debugger.new (O.contents out.new) }
 {
     let Ok(mut lines) = InputLines::new(alloc, input) else {
         return Err(SessionFault::NoMemory);

@@ -38,9 +38,12 @@ impl<I: Read + Drop> InputLines<I> {
     /// Reads the next line into an empty one, without its line feed. Answers whether there was one.
     pub(crate) fn read_line(&mut self, line: &mut Vec<u8>) -> Result<bool, LineFault>
         requires { line.old.items ≡ [] }
-        ensures taken { IfOk result (λ found. TakesLine (known_bytes I.remaining self.old) found line.new.items (known_bytes I.remaining self.new)) }
+        ensures taken { IfOk result (λ found.
+            TakesLine (known_bytes I.remaining self.old) found line.new.items
+            (known_bytes I.remaining self.new)) }
         ensures short { IfOk result (λ found. length line.new.items ≤ 33554432) }
-        ensures too_long { result ≡ Err fault.TooLong → BeginsTooLong (known_bytes I.remaining self.old) }
+        ensures too_long { result ≡ Err fault.TooLong →
+            BeginsTooLong (known_bytes I.remaining self.old) }
     {
         'bytes: while line.len() <= MOST_BYTES {
             match self.next_byte()? {
@@ -58,7 +61,8 @@ impl<I: Read + Drop> InputLines<I> {
 
     /// The next byte, if there is one. A read is never interrupted, since the program handles no signal.
     fn next_byte(&mut self) -> Result<Option<u8>, LineFault>
-        ensures byte { IfOk result (λ byte. GivesByte (known_bytes I.remaining self.old) byte (known_bytes I.remaining self.new)) }
+        ensures byte { IfOk result (λ byte. GivesByte (known_bytes I.remaining self.old) byte
+            (known_bytes I.remaining self.new)) }
         ensures fault { ¬ (result ≡ Err fault.TooLong) }
     {
         let mut buffer = [0u8];

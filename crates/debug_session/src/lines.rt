@@ -61,7 +61,8 @@ fn is_utf8(line: &[u8]) -> bool
 /// What a name asks for with the words behind it.
 fn line_with(name: &[u8], rest: &[u8]) -> Option<DebugLine>
     ensures found { IfSome result (λ asked. WritesLine asked (name.now ∷ words_of rest.now)) }
-    ensures none { result ≡ None → (asked : DebugLine) → ¬ WritesLine asked (name.now ∷ words_of rest.now) }
+    ensures none { result ≡ None → (asked : DebugLine) →
+        ¬ WritesLine asked (name.now ∷ words_of rest.now) }
 {
     let Some((first, rest)) = next_word(rest) else {
         return line_alone(name);
@@ -90,7 +91,8 @@ fn line_alone(name: &[u8]) -> Option<DebugLine>
 /// What a name and a number ask for.
 fn line_of_one(name: &[u8], first: &[u8]) -> Option<DebugLine>
     ensures found { IfSome result (λ asked. WritesLine asked (name.now ∷ first.now ∷ [])) }
-    ensures none { result ≡ None → (asked : DebugLine) → ¬ WritesLine asked (name.now ∷ first.now ∷ []) }
+    ensures none { result ≡ None → (asked : DebugLine) →
+        ¬ WritesLine asked (name.now ∷ first.now ∷ []) }
 {
     let number = word_number(first)?;
     if name == b"break".as_slice() {
@@ -110,8 +112,10 @@ fn line_of_one(name: &[u8], first: &[u8]) -> Option<DebugLine>
 
 /// What a name and two numbers ask for.
 fn line_of_two(name: &[u8], first: &[u8], second: &[u8]) -> Option<DebugLine>
-    ensures found { IfSome result (λ asked. WritesLine asked (name.now ∷ first.now ∷ second.now ∷ [])) }
-    ensures none { result ≡ None → (asked : DebugLine) → ¬ WritesLine asked (name.now ∷ first.now ∷ second.now ∷ []) }
+    ensures found { IfSome result (λ asked. WritesLine asked (name.now ∷ first.now ∷ second.now ∷
+        [])) }
+    ensures none { result ≡ None → (asked : DebugLine) →
+        ¬ WritesLine asked (name.now ∷ first.now ∷ second.now ∷ []) }
 {
     let address = word_number(first)?;
     let length = word_number(second)?;

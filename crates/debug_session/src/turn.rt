@@ -31,8 +31,10 @@ pub(crate) fn take_turn<T: Target, O: Write>(
     line: &[u8],
     out: &mut O,
 ) -> io::Result<Turn>
-    ensures taken { IfOk result (λ turn. TakesTurn T.shown T.limits turn line.now debugger.old (O.contents out.old) debugger.new (O.contents out.new)) }
-    ensures err { OnErr result ((told : List ℕ) × IsAnswered T.shown T.limits line.now debugger.old told debugger.new) }
+    ensures taken { IfOk result (λ turn. TakesTurn T.shown T.limits turn line.now debugger.old
+        (O.contents out.old) debugger.new (O.contents out.new)) }
+    ensures err { OnErr result ((told : List ℕ) ×
+        IsAnswered T.shown T.limits line.now debugger.old told debugger.new) }
 {
     let Ok(asked) = debug_line(line) else {
         return Ok(Turn::Bad);
@@ -51,7 +53,8 @@ pub(crate) fn take_turn<T: Target, O: Write>(
 
 /// Writes a reply with a line end, at once.
 fn say<O: Write>(reply: &DebugReply, out: &mut O) -> io::Result<()>
-    ensures { OnOk result (Appends (O.contents out.old) (O.contents out.new) (reply_text reply.now ++ 10 ∷ [])) }
+    ensures { OnOk result (Appends (O.contents out.old) (O.contents out.new)
+        (reply_text reply.now ++ 10 ∷ [])) }
 {
     writeln!(out, "{reply}")?;
     out.flush()

@@ -101,7 +101,8 @@ pub fn read_input<'a, R: Folder + AllocGlobal>(
     name: Option<&'a str>,
 ) -> Result<Vec<u8>, Fault<'a>>
     ensures none { IfOk result (λ bytes. is_some name.entry ≡ false → bytes.items ≡ []) }
-    ensures given { IfOk result (λ bytes. GivesInput R.gives (option_map (λ s. s.now) name.entry) bytes.items) }
+    ensures given { IfOk result (λ bytes. GivesInput R.gives (option_map (λ s.
+        s.now) name.entry) bytes.items) }
     ensures fault { IfErr result IsOfNoLine }
     ensures of_input { IfErr result (IsOfInput (option_map (λ s. s.now) name.entry)) }
 {

@@ -48,9 +48,12 @@ pub fn read_processes<'a, R: Folder + AllocGlobal>(
     input: Option<&'a str>,
 ) -> Result<Vec<(Image, Vec<u8>)>, Fault<'a>>
     ensures many { IfOk result (λ processes. length processes.items ≡ length images.now) }
-    ensures given { IfOk result (λ processes. AreGiven R.gives (option_map (λ s. s.now) input.entry) (map (λ s. s.now) images.now) (map (λ start. start_of start.0 start.1.items) processes.items)) }
+    ensures given { IfOk result (λ processes. AreGiven R.gives (option_map (λ s.
+        s.now) input.entry) (map (λ s. s.now) images.now) (map (λ start.
+        start_of start.0 start.1.items) processes.items)) }
     ensures fault { IfErr result IsOfNoLine }
-    ensures refused { IfErr result (StopsReading R.gives (option_map (λ s. s.now) input.entry) (map (λ s. s.now) images.now)) }
+    ensures refused { IfErr result (StopsReading R.gives (option_map (λ s. s.now) input.entry)
+        (map (λ s. s.now) images.now)) }
 {
     let mut processes = read_images(rt, images)?;
     let input = read_input(rt, input)?;
@@ -66,7 +69,8 @@ fn read_images<'a, R: Folder + AllocGlobal>(
     rt: &R,
     images: &[&'a str],
 ) -> Result<Vec<(Image, Vec<u8>)>, Fault<'a>>
-    ensures read { IfOk result (λ processes. AreGiven R.gives None (map (λ s. s.now) images.now) (map (λ start. start_of start.0 start.1.items) processes.items)) }
+    ensures read { IfOk result (λ processes. AreGiven R.gives None (map (λ s. s.now) images.now)
+        (map (λ start. start_of start.0 start.1.items) processes.items)) }
     ensures fault { IfErr result IsOfNoLine }
     ensures refused { IfErr result (StopsAtImage R.gives (map (λ s. s.now) images.now)) }
 {
@@ -81,10 +85,7 @@ fn read_images<'a, R: Folder + AllocGlobal>(
 }
 
 /// The listing of the source that a file holds, whatever it begins with.
-pub fn read_source<'a, R: Folder + AllocGlobal>(
-    rt: &R,
-    name: &'a str,
-) -> Result<Listing, Fault<'a>>
+pub fn read_source<'a, R: Folder + AllocGlobal>(rt: &R, name: &'a str) -> Result<Listing, Fault<'a>>
     ensures listing { IfOk result (GivesListing R.gives name.now) }
     ensures fault { IfErr result IsOfNoLine }
     ensures of_file { IfErr result (IsOfFile name.now) }

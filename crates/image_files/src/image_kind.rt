@@ -20,7 +20,8 @@ pub enum ImageKind {
 /// What a file is: an ELF file by its first four bytes, words by its first line, and else a source.
 pub fn kind_of_file(file: &[u8]) -> ImageKind
     ensures elf { (result ≡ ImageKind.Elf) ↔ BeginsAsElf file.now }
-    ensures words { (result ≡ ImageKind.Words) ↔ ((¬ BeginsAsElf file.now) × BeginsAsWords file.now) }
+    ensures words { (result ≡ ImageKind.Words) ↔ ((¬ BeginsAsElf file.now) ×
+        BeginsAsWords file.now) }
 {
     if begins_as_elf(file) {
         return ImageKind::Elf;

@@ -37,7 +37,8 @@ fn is_named_pipe<R: Files>(rt: &R, name: &str) -> bool {
 
 /// Whether a file is not read: a folder, or one that is known to have more bytes than a file may have.
 pub fn is_refused(metadata: &Metadata) -> bool
-    ensures { IsTrue result ↔ (IsDir (file_type metadata.now) ⊎ (MOST_BYTES < metadata_len metadata.now)) }
+    ensures { IsTrue result ↔ (IsDir (file_type metadata.now) ⊎
+        (MOST_BYTES < metadata_len metadata.now)) }
 {
     metadata.is_dir() || metadata.len() > MOST_BYTES as u64
 }

@@ -42,7 +42,8 @@ fn is_resident_kind(kind: Option<EntryKind>) -> bool
 
 /// The question is answered by its page's mark, which the page loses.
 fn ask<C: Clock>(clock: &mut C, used: &mut HashSet<Key>)
-    ensures { play_of (C.state clock.new) used.new ≡ asked (question_of (C.state clock.old)) (play_of (C.state clock.old) used.old) }
+    ensures { play_of (C.state clock.new) used.new ≡ asked (question_of (C.state clock.old))
+        (play_of (C.state clock.old) used.old) }
 {
     if let Some(page) = clock.question() {
         let was = used.remove(&page);
@@ -53,7 +54,8 @@ fn ask<C: Clock>(clock: &mut C, used: &mut HashSet<Key>)
 
 /// The page comes in where there is a frame for it, and answers whether there is none.
 fn enter<C: Clock>(clock: &mut C, page: Key) -> Result<bool, AllocError>
-    ensures full { IfOk result (λ full. full ≡ is_full_refusal (admitted page (C.state clock.old)).1) }
+    ensures full { IfOk result (λ full. full ≡ is_full_refusal
+        (admitted page (C.state clock.old)).1) }
     ensures moved { OnOk result (C.state clock.new ≡ (admitted page (C.state clock.old)).0) }
 {
     match clock.admit(page) {
@@ -73,7 +75,8 @@ fn place<C: Clock>(
     turns: usize,
     page: Key,
 ) -> Result<(), AllocError>
-    ensures { OnOk result (play_of (C.state clock.new) used.new ≡ placed turns page (play_of (C.state clock.old) used.old)) }
+    ensures { OnOk result (play_of (C.state clock.new) used.new ≡ placed turns page
+        (play_of (C.state clock.old) used.old)) }
 {
     for _turn in 0..turns {
         if !enter(clock, page)? {
@@ -87,7 +90,8 @@ fn place<C: Clock>(
 
 /// The page is marked as used.
 fn mark_used(used: &mut HashSet<Key>, page: Key) -> Result<(), AllocError>
-    ensures { OnOk result ((q : Key) → contains is_page used.new q ≡ cond (is_page page q) true (contains is_page used.old q)) }
+    ensures { OnOk result ((q : Key) → contains is_page used.new q ≡ cond (is_page page q) true
+        (contains is_page used.old q)) }
 {
     match used.insert(page) {
         Ok(_) => Ok(()),

@@ -33,6 +33,7 @@ impl Policy for Fifo {
     }
 
     fn refer(&mut self, page: Key) -> Result<Outcome, AllocError> {
+        // For the proof alone: a read tells that what is read is lawful.
         let _ = self.pages.len();
         if self.pages.contains(&page) {
             return Ok(Outcome::Hit);

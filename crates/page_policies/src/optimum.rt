@@ -88,7 +88,8 @@ fn refer(
 
 /// How many references miss with so many frames, from how far ahead each page is used again.
 fn count_misses(uses: &[usize], alloc: Global, frames: Frames) -> Result<usize, AllocError>
-    ensures { IfOk result (λ count. (string : List Key) → uses.now ≡ next_uses string → count ≡ optimal_misses frames.number string) }
+    ensures { IfOk result (λ count. (string : List Key) → uses.now ≡ next_uses string →
+        count ≡ optimal_misses frames.number string) }
 {
     let mut resident = BTreeSet::new(alloc);
     let mut count = 0;
@@ -111,7 +112,8 @@ impl Optimum {
 
     /// How many references of the string miss with so many frames, whichever pages leave.
     pub fn misses(&self, alloc: Global, frames: Frames) -> Result<usize, AllocError>
-        ensures { IfOk result (λ count. (string : List Key) → self.now ≡ next_uses string → count ≡ optimal_misses frames.number string) }
+        ensures { IfOk result (λ count. (string : List Key) → self.now ≡ next_uses string →
+            count ≡ optimal_misses frames.number string) }
     {
         count_misses(self.uses.as_slice(), alloc, frames)
     }

@@ -27,11 +27,13 @@ pub trait Policy: Drop {
 
     /// The policy with all its frames empty.
     fn new(alloc: Global, frames: Frames) -> Result<Self, AllocError>
-        ensures { IfOk result (λ policy. (string : List Key) → to_miss policy string ≡ misses frames.number string) };
+        ensures { IfOk result (λ policy. (string : List Key) →
+            to_miss policy string ≡ misses frames.number string) };
 
     /// A page is used.
     fn refer(&mut self, page: Key) -> Result<Outcome, AllocError>
-        ensures { IfOk result (λ outcome. (string : List Key) → to_miss self.old (page ∷ string) ≡ miss_count outcome + to_miss self.new string) };
+        ensures { IfOk result (λ outcome. (string : List Key) → to_miss self.old (page ∷ string) ≡
+            miss_count outcome + to_miss self.new string) };
 
     ghost none_to_miss: { (policy : Self) → to_miss policy [] ≡ 0 };
 }

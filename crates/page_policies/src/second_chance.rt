@@ -74,7 +74,8 @@ fn remove_one(ring: &mut IndexedRing, turns: usize)
 /// Marks a page as used, if it is there.
 fn touch(ring: &mut IndexedRing, page: Key) -> bool
     ensures found { result ≡ in_slots page (slots_of ring.old.cells) }
-    ensures slots { result ≡ true → slots_of ring.new.cells ≡ touched page (slots_of ring.old.cells) }
+    ensures slots { result ≡ true → slots_of ring.new.cells ≡ touched page
+        (slots_of ring.old.cells) }
     ensures nowhere { result ≡ false → at_of page ring.old.cells ≡ None }
     ensures same { result ≡ false → ring.new ≡ ring.old }
     ensures len { length ring.new.cells ≡ length ring.old.cells }
@@ -106,7 +107,8 @@ fn bring_in(ring: &mut IndexedRing, frames: usize, page: Key)
     requires few { length ring.old.cells ≤ frames }
     requires room { frames ≤ ring.old.room }
     requires new { at_of page ring.old.cells ≡ None }
-    ensures slots { slots_of ring.new.cells ≡ room_made frames (slots_of ring.old.cells) ++ record { page = page; used = true } ∷ [] }
+    ensures slots { slots_of ring.new.cells ≡ room_made frames (slots_of ring.old.cells) ++
+        record { page = page; used = true } ∷ [] }
     ensures few { length ring.new.cells ≤ frames }
     ensures room { ring.new.room ≡ ring.old.room }
 {

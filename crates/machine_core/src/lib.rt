@@ -15,6 +15,7 @@ mod error;
 mod event;
 mod machine;
 mod many_steps;
+mod memory_showing;
 mod opening;
 mod paging_in;
 mod reading;

@@ -8,6 +8,7 @@ mod admission;
 mod collecting;
 mod counting;
 mod loading;
+mod memory_showing;
 mod pager_side;
 mod process_reading;
 mod process_side;

@@ -1,6 +1,6 @@
 ghost use Rattle.std.specs.Prelude.{◌≡◌, ◌≢◌, ◌+◌, ◌≤◌, ◌↔◌, length, ℕ, List, Ok, Err, Some, None, OnOk, OnErr, IfOk, IfErr, IsErr, IsTrue, false, OnSome, IfNone, option_copied, option_map};
 ghost use Rattle.page_store.specs.Moves.{left, brought_back, given_back, collected, collect_leaving, job_of, copy_of, RefusesSave, Filled, RefusesFill, RefusesRead, IfAway};
-ghost use Rattle.page_store.specs.PageValue.{Leaving, Saving, Away, Purged, Backed, BackedAt, shown, Known, content, page_state_of, frame_of, writable, failures_at, kept_digest, Matches};
+ghost use Rattle.page_store.specs.PageValue.{Leaving, Saving, Away, Purged, Backed, BackedAt, shown, changed as counts_as_changed, Known, content, page_state_of, frame_of, writable, failures_at, kept_digest, Matches};
 ghost use Rattle.page_store.specs.Reading.{some_from};
 ghost use Rattle.page_store.specs.View.{place_in_state};
 
@@ -91,6 +91,18 @@ impl<L: Ledger, S: SwapSlot> StoredPage<L, S> {
             State::Leaving(frame, _, _) => Some(frame.bare()),
             State::Saving(frame) => Some(frame),
             _ => None,
+        }
+    }
+
+    /// Whether the page counts as changed, where `dirty` says whether its page-table entry has D.
+    pub fn is_changed(&self, dirty: bool) -> bool
+        ensures { result ≡ counts_as_changed dirty self.now.place }
+    {
+        match &self.state {
+            State::Resident(_, slot) => dirty || slot.is_unsaved(),
+            State::Leaving(_, slot, mark) => *mark || slot.is_unsaved(),
+            State::Saving(_) => true,
+            State::Fresh | State::Away(_) | State::Purged => false,
         }
     }
 

@@ -40,6 +40,7 @@ pub enum Keeping<S: SwapSlot> {
 impl<S: SwapSlot> Keeping<S> {
     ghost use Rattle.std.specs.Prelude.{◌≡◌};
     ghost use Rattle.page_store.specs.Kept.{kept};
+    ghost use Rattle.page_store.specs.PageValue.{is_unsaved};
 
     /// The slot, if it has one.
     pub(crate) fn into_slot(self) -> Option<S>
@@ -49,6 +50,17 @@ impl<S: SwapSlot> Keeping<S> {
             Keeping::NoSlot => None,
             Keeping::Unsaved(slot) => Some(slot),
             Keeping::Saved(copy) => Some(copy.into_slot()),
+        }
+    }
+
+    /// Whether it holds nothing for its page yet.
+    pub(crate) fn is_unsaved(&self) -> bool
+        ensures { result ≡ is_unsaved self.now }
+    {
+        match self {
+            Keeping::NoSlot => false,
+            Keeping::Unsaved(_) => true,
+            Keeping::Saved(_) => false,
         }
     }
 }

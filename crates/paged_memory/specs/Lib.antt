@@ -18,6 +18,7 @@ pub mod Peeking
 pub mod GivingBack
 pub mod Coherence
 pub mod PageStatus
+pub mod Translating
 pub mod Stages
 pub mod StagesLaws
 pub mod Whole

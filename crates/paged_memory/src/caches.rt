@@ -1,4 +1,4 @@
-ghost use Rattle.std.specs.Prelude.{◌≡◌, ◌<◌, ◌%◌, [], ◌∷◌, ◌++◌, None, map, length, is_some, IfSome, slice_index_or, slice_set};
+ghost use Rattle.std.specs.Prelude.{◌≡◌, ◌<◌, ◌≤◌, ◌%◌, [], ◌∷◌, ◌++◌, None, map, length, is_some, IfSome, option_copied, slice_get, slice_index_or, slice_set};
 ghost use Rattle.page_memory.specs.Words.{page_number, bytes_in};
 ghost use Rattle.tlb_core.specs.Cache.{Hits, doomed, undoomed, filled, translation_of};
 ghost use Rattle.paged_memory.specs.Soundness.{is_held};
@@ -67,6 +67,21 @@ impl Caches {
         ensures { result ≡ translation_of page (slice_index_or self.now hart []) }
     {
         self.harts.as_slice()[hart].look(page)
+    }
+
+    /// How many harts there are: no more than eight.
+    pub fn count(&self) -> u32
+        ensures count { result ≡ length self.now }
+        ensures few { result ≤ 8 }
+    {
+        self.harts.len() as u32
+    }
+
+    /// What a hart has cached, the oldest first, if there is such a hart.
+    pub fn entries(&self, hart: usize) -> Option<&[Translation]>
+        ensures { option_copied result ≡ slice_get self.now hart }
+    {
+        Some(self.harts.as_slice().get(hart)?.entries())
     }
 
     /// The place of an address's page that is ready for an aligned access of a hart.

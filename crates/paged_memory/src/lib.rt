@@ -20,6 +20,7 @@ mod reply;
 mod saving;
 mod status;
 mod still_saving;
+mod translating;
 mod writing;
 
 pub use counting::HeldPages;

@@ -2,6 +2,7 @@
 #![tactic(auto)]
 
 mod program;
+mod run_program;
 
 use crate::program::{FAULT, run_show};
 use std::io::{BufWriter, ErrorKind, Write};

@@ -13,6 +13,7 @@ mod settling;
 mod space;
 mod space_coherence;
 mod space_harts;
+mod space_memory;
 mod space_moves;
 mod space_paging;
 mod space_slice;

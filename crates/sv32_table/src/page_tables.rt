@@ -135,6 +135,13 @@ impl PageTables {
         self.tables.lookup(vpn)
     }
 
+    /// The words of all tables, the root's first.
+    pub fn words(&self) -> &[[u32; 1024]]
+        ensures { result.now ≡ self.now }
+    {
+        self.tables.words()
+    }
+
     /// Whether a page's entry has A, or `None` where the page has none with V.
     #[tactic(auto, using(crate::proofs::TreeCalls::accessed_word, crate::proofs::TreeCalls::none_accessed))]
     pub fn accessed(&self, vpn: u32) -> Option<bool>

@@ -187,6 +187,13 @@ impl Tables {
         Ok(table)
     }
 
+    /// The words of all tables, the root's first.
+    pub fn words(&self) -> &[[u32; 1024]]
+        ensures { result.now ≡ self.now }
+    {
+        self.tables.as_slice()
+    }
+
     #[tactic(auto, unfolding(crate::specs::Tables::word_in))]
     fn word(&self, table: usize, index: usize) -> u32
         requires table { table < length self.now }

@@ -10,7 +10,8 @@ returns-then-self-eq0-clause-over g c = λ slice limit first played.
 
 pub returns-in_default-clause-over : goal.returns-in_default-clause-over
 returns-in_default-clause-over g c = λ slice limit first played.
-    played_out g.S.SwapSlot.content g.S.SwapSlot.honest g.S.SwapSlot.failures slice limit first c.args.core.now c.play_one.new.core c.args.self.now _ played
+    played_out g.S.SwapSlot.content g.S.SwapSlot.honest g.S.SwapSlot.failures slice limit first c.args.core.now c.play_one.new.core c.args.self.now
+    (record { turns = c.play_one.new.turns; patience = c.play_one.new.patience; left = c.args.self.now.left }) played
     c.in_default.ensures.none c.in_default.ensures.kept c.in_default.ensures.settled c.in_default.ensures.ended
 
 pub returns-clause-goes_on : goal.returns-clause-goes_on

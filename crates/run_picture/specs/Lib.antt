@@ -1,2 +1,4 @@
 pub mod Films
 pub mod Pictures
+pub mod Processes
+pub mod RunFilms

@@ -1,8 +1,10 @@
 //! A film as JSON, a scene a line.
 
 use crate::event_line::EventLine;
+use crate::json_process::write_process;
 use crate::picture::{Picture, ShownPage};
-use crate::scene::{Film, Scene};
+use crate::run::RunFilm;
+use crate::scene::{Film, Output, Scene};
 use crate::text::ByteText;
 use clock_policy::{Entry, Key};
 use event_scripts::ReplyLine;
@@ -10,9 +12,33 @@ use page_store::PageState;
 use std::io::Write;
 use std::{fmt, io};
 
-/// Writes a film of processes that run images of these names.
+/// Writes a film of a script, of processes that run images of these names.
 pub fn write_film<W: Write>(film: &Film, names: &[&str], out: &mut W) -> io::Result<()> {
-    write!(out, "{{\"frames\":{},\"names\":[", film.frames)?;
+    write_head(film.frames, names, film.outputs.as_slice(), out)?;
+    write_scenes(&film.first, film.scenes.as_slice(), out)?;
+    writeln!(out, "]}}")
+}
+
+/// Writes a film of a run alike. Its last scene is the end, which no event stands for.
+pub fn write_run_film<W: Write>(film: &RunFilm, names: &[&str], out: &mut W) -> io::Result<()> {
+    write_head(film.frames, names, film.outputs.as_slice(), out)?;
+    write_scenes(&film.first, film.scenes.as_slice(), out)?;
+    write!(
+        out,
+        ",\n{{\"event\":null,\"reply\":null,\"passed\":{}",
+        film.rest
+    )?;
+    write_picture(&film.last, out)?;
+    writeln!(out, "]}}")
+}
+
+fn write_head<W: Write>(
+    frames: u32,
+    names: &[&str],
+    outputs: &[Output],
+    out: &mut W,
+) -> io::Result<()> {
+    write!(out, "{{\"frames\":{frames},\"names\":[")?;
     let mut comma = "";
     for name in names {
         write!(out, "{comma}{}", ByteText(name.as_bytes()))?;
@@ -20,23 +46,35 @@ pub fn write_film<W: Write>(film: &Film, names: &[&str], out: &mut W) -> io::Res
     }
     write!(out, "],\"outputs\":[")?;
     let mut comma = "";
-    for output in film.outputs.as_slice() {
+    for output in outputs {
         write!(out, "{comma}{}", ByteText(output.bytes.as_slice()))?;
         comma = ",";
     }
-    write!(out, "],\"scenes\":[\n{{\"event\":null,\"reply\":null")?;
-    write_picture(&film.first, out)?;
-    for scene in film.scenes.as_slice() {
+    write!(out, "],")
+}
+
+/// Writes the machine before its first event, and the scenes.
+fn write_scenes<W: Write>(first: &Picture, scenes: &[Scene], out: &mut W) -> io::Result<()> {
+    write!(
+        out,
+        "\"scenes\":[\n{{\"event\":null,\"reply\":null,\"passed\":0"
+    )?;
+    write_picture(first, out)?;
+    for scene in scenes {
         writeln!(out, ",")?;
         write_scene(scene, out)?;
     }
-    writeln!(out, "]}}")
+    Ok(())
 }
 
 fn write_scene<W: Write>(scene: &Scene, out: &mut W) -> io::Result<()> {
     let event = EventLine(scene.event);
     let reply = ReplyLine(scene.reply);
-    write!(out, "{{\"event\":\"{event}\",\"reply\":\"{reply}\"")?;
+    let passed = scene.passed;
+    write!(
+        out,
+        "{{\"event\":\"{event}\",\"reply\":\"{reply}\",\"passed\":{passed}"
+    )?;
     write_picture(&scene.picture, out)
 }
 
@@ -56,22 +94,32 @@ fn write_picture<W: Write>(picture: &Picture, out: &mut W) -> io::Result<()> {
         write!(out, "{comma}{count}")?;
         comma = ",";
     }
+    write!(out, "],\"processes\":[")?;
+    let mut comma = "";
+    for process in picture.processes.as_slice() {
+        write!(out, "{comma}")?;
+        write_process(process, out)?;
+        comma = ",";
+    }
     write!(out, "]}}")
 }
 
+/// Writes a page: where it is, its frame, the accessed and the dirty bit of its page-table entry, and whether it counts as changed; of a page
+/// that is not mapped its key alone.
 fn write_page<W: Write>(page: ShownPage, out: &mut W) -> io::Result<()> {
-    write!(out, "{{\"page\":\"{}\"", page.key)?;
+    write!(out, "[\"{}\"", page.key)?;
     if let Some(status) = page.status {
         let state = word_of(status.state);
         let frame = OrNull(status.frame);
         let accessed = OrNull(status.accessed);
         let dirty = status.dirty;
+        let changed = OrNull(page.changed);
         write!(
             out,
-            ",\"state\":\"{state}\",\"frame\":{frame},\"accessed\":{accessed},\"dirty\":{dirty}"
+            ",\"{state}\",{frame},{accessed},{dirty},{changed}"
         )?;
     }
-    write!(out, "}}")
+    write!(out, "]")
 }
 
 fn word_of(state: PageState) -> &'static str {
@@ -104,7 +152,7 @@ fn write_list<W: Write>(picture: &Picture, out: &mut W) -> io::Result<()> {
 fn write_entry<W: Write>(entry: Entry, comma: &str, out: &mut W) -> io::Result<()> {
     write!(
         out,
-        "{comma}{{\"page\":\"{}\",\"kind\":\"{}\"}}",
+        "{comma}[\"{}\",\"{}\"]",
         entry.key, entry.kind
     )
 }
@@ -126,7 +174,7 @@ fn write_counts<W: Write>(picture: &Picture, out: &mut W) -> io::Result<()> {
 
 /// A value of JSON, or `null`.
 #[derive(Clone, Copy)]
-struct OrNull<T>(Option<T>);
+pub(crate) struct OrNull<T>(pub(crate) Option<T>);
 
 impl<T: fmt::Display> fmt::Display for OrNull<T> {
     fn fmt<W: fmt::Write>(&self, f: &mut fmt::Formatter<W>) -> fmt::Result {

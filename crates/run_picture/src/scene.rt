@@ -12,11 +12,13 @@ use std::alloc::{AllocError, Global};
 use std::sync::ledger::Ledger;
 use swap_slots::SwapSlot;
 
-/// An event with its reply, and the machine after it.
+/// An event with its reply, and the machine that it left.
 #[derive(Drop)]
 pub struct Scene {
     pub event: Event,
     pub reply: Reply,
+    /// How many events before it, behind the scene before, have none.
+    pub passed: u64,
     pub picture: Picture,
 }
 
@@ -60,6 +62,7 @@ pub(crate) fn next_scene<L: Ledger, S: SwapSlot, C: Clock>(
     Ok(Scene {
         event,
         reply,
+        passed: 0,
         picture,
     })
 }

@@ -10,4 +10,5 @@ pub mod Reached
 pub mod Stopped
 pub mod Told
 pub mod Tried
+pub mod Watching
 mod OutOwed

@@ -11,3 +11,4 @@ pub mod Serving
 pub mod Stands
 pub mod Turning
 pub mod TurnsDuty
+pub mod Watched

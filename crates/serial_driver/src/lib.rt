@@ -15,8 +15,10 @@ mod serial;
 mod serving;
 mod standing;
 mod turns;
+mod watched;
 
 pub use auditing::audit;
 pub use serial::{play, run_serial};
 pub use serving::{Served, serve_step};
 pub use standing::{Standing, standing_of};
+pub use watched::SerialRun;

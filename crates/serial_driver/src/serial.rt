@@ -98,7 +98,7 @@ fn play_events<L: Ledger, S: SwapSlot, C: Clock>(
 
 /// What comes next where so many events may happen still, or `None` once each process has ended. A process whose pages were
 /// tried for too often is ended, once what the last reply has settled is done.
-fn what_is_next<L: Ledger, S: SwapSlot, C: Clock>(
+pub(crate) fn what_is_next<L: Ledger, S: SwapSlot, C: Clock>(
     core: &Core<L, S, C>,
     turns: &mut Turns,
     patience: &Patience,
@@ -191,7 +191,7 @@ fn run<L: Ledger, S: SwapSlot, C: Clock>(
 }
 
 /// Does the save that is out, if there is one.
-fn save<L: Ledger, S: SwapSlot, C: Clock>(core: &mut Core<L, S, C>, unsaved: Option<Key>)
+pub(crate) fn save<L: Ledger, S: SwapSlot, C: Clock>(core: &mut Core<L, S, C>, unsaved: Option<Key>)
     ensures { DoesSave S.content S.honest S.failures unsaved core.old core.new }
 {
     let Some(page) = unsaved else {
@@ -201,7 +201,7 @@ fn save<L: Ledger, S: SwapSlot, C: Clock>(core: &mut Core<L, S, C>, unsaved: Opt
 }
 
 /// Ends each process that goes on, and takes back what the processes have.
-fn end_all<L: Ledger, S: SwapSlot, C: Clock>(core: &mut Core<L, S, C>)
+pub(crate) fn end_all<L: Ledger, S: SwapSlot, C: Clock>(core: &mut Core<L, S, C>)
     ensures closes { Closes S.content S.honest S.failures core.old core.new }
     ensures ended { (number : ℕ) → HasEnded core.new number }
 {

@@ -114,10 +114,7 @@ fn write_page<W: Write>(page: ShownPage, out: &mut W) -> io::Result<()> {
         let accessed = OrNull(status.accessed);
         let dirty = status.dirty;
         let changed = OrNull(page.changed);
-        write!(
-            out,
-            ",\"{state}\",{frame},{accessed},{dirty},{changed}"
-        )?;
+        write!(out, ",\"{state}\",{frame},{accessed},{dirty},{changed}")?;
     }
     write!(out, "]")
 }
@@ -150,11 +147,7 @@ fn write_list<W: Write>(picture: &Picture, out: &mut W) -> io::Result<()> {
 }
 
 fn write_entry<W: Write>(entry: Entry, comma: &str, out: &mut W) -> io::Result<()> {
-    write!(
-        out,
-        "{comma}[\"{}\",\"{}\"]",
-        entry.key, entry.kind
-    )
+    write!(out, "{comma}[\"{}\",\"{}\"]", entry.key, entry.kind)
 }
 
 fn write_counts<W: Write>(picture: &Picture, out: &mut W) -> io::Result<()> {

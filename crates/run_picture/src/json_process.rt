@@ -11,11 +11,7 @@ use std::{fmt, io};
 use tlb_core::Translation;
 
 pub(crate) fn write_process<W: Write>(process: &ShownProcess, out: &mut W) -> io::Result<()> {
-    write!(
-        out,
-        "{{\"end\":{},\"harts\":[",
-        OrNull(end_of(process.end))
-    )?;
+    write!(out, "{{\"end\":{},\"harts\":[", OrNull(end_of(process.end)))?;
     let mut comma = "";
     for hart in process.harts.as_slice() {
         write!(out, "{comma}")?;

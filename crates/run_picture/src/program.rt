@@ -3,9 +3,9 @@
 ghost use Rattle.std.specs.Prelude.{◌≡◌, ◌+◌, ◌≤◌, length};
 ghost use Rattle.command_line.specs.Requests.{IsDriveInRange};
 
-use crate::run_program::{show_run, wanted_scenes};
 use crate::drive::film;
 use crate::json::write_film;
+use crate::run_program::{show_run, wanted_scenes};
 use crate::scene::Film;
 use command_line::{DriveRequest, Request, read_request};
 use command_shell::finish;

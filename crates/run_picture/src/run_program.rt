@@ -3,11 +3,11 @@
 ghost use Rattle.std.specs.Prelude.{◌≡◌, ◌+◌, ◌≤◌, length};
 ghost use Rattle.command_line.specs.Requests.{IsRunInRange};
 
+use crate::json::write_run_film;
+use crate::run::{RunFilm, Scenes, film_run};
 use command_line::{RunRequest, Threading};
 use elf_image::Image;
 use image_files::{Fault, read_processes};
-use crate::json::write_run_film;
-use crate::run::{RunFilm, Scenes, film_run};
 use serial_commands::new_machine;
 use std::alloc::{AllocError, Global};
 use std::convert::AsStr;
@@ -99,5 +99,11 @@ fn film_asked_with<L: Ledger>(
 {
     let (frames, slots) = (request.frames, request.slots);
     let mut core = new_machine::<L>(alloc, frames, blank, slots, processes)?;
-    film_run(alloc, &mut core, request.slice, u64::from(request.limit), wanted)
+    film_run(
+        alloc,
+        &mut core,
+        request.slice,
+        u64::from(request.limit),
+        wanted,
+    )
 }

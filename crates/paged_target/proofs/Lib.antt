@@ -1,6 +1,8 @@
+pub mod Joined
 pub mod PageBytes
 pub mod Peeked
 pub mod ReadsOn
+pub mod Recorded
 pub mod Showing
 pub mod Stepping
 pub mod Turning

@@ -16,6 +16,7 @@ use Rattle.machine_core.specs.Reading.{PeeksAt}
 use Rattle.machine_core.specs.TotalLaws.{get_set_same}
 use Rattle.debug_core.specs.Points.{bytes_from}
 use Rattle.paged_target.specs.Reads.{KeepsShown}
+use Rattle.paged_target.specs.Recording.{recorded, recorded_in}
 use Rattle.paged_target.specs.Shown.{flat_at, flat_in, flat_of, stage_of, stage_shown, IsGivenBack}
 use Rattle.paged_target.proofs.PageBytes.{in_page, no_page}
 use Rattle.paged_target.proofs.Showing.{ShowsFlat, page_shown, byte_shown}
@@ -41,13 +42,16 @@ module _ {S : Type 0} (held : S → List ℕ) (honest : Type 0) where
     flat_stays : flat_at new ≡ flat_at old
     flat_stays = ap flat_in left_at ∙ ap (λ (p : ProcessSideValue S). flat_of p.space) peeks.one.how.stays ∙ ap flat_in (sym peeks.one.found)
 
+    recorded_stays : recorded new ≡ recorded old
+    recorded_stays = ap recorded_in left_at ∙ ap (λ (p : ProcessSideValue S). written_out p.space.schedule) peeks.one.how.stays ∙ ap recorded_in (sym peeks.one.found)
+
     stage_stays : (number : ℕ) → stage_shown new number ≡ stage_shown old number
     stage_stays number =
         ap (option_and_then (stage_of number)) left_at ∙ looked_stage held honest address peeks.one.process.space.memory peeks.one.process'.space.memory peeks.one.how.left number
         ∙ ap (option_and_then (stage_of number)) (sym peeks.one.found)
 
     pub peek_keeps : KeepsShown old new
-    peek_keeps = record { there = subst IsSome (sym left_at) cc; flat = flat_stays; purged = λ number e. sym (stage_stays number) ∙ e }
+    peek_keeps = record { there = subst IsSome (sym left_at) cc; flat = flat_stays; recorded = recorded_stays; purged = λ number e. sym (stage_stays number) ∙ e }
 
   module _ (failures : S → ℕ) (address : ℕ) (room bytes : List (Option ℕ)) (old new : CoreValue S) where
     side_is : (shows : ShowsFlat held old) (side : ProcessSideValue S) → slice_get old.processes 0 ≡ Some side → shows.side ≡ side

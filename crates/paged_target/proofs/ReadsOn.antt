@@ -9,12 +9,13 @@ use Rattle.paged_target.specs.Shown.{stage_shown}
 
 module _ {S : Type 0} where
   pub keeps_same : (core : CoreValue S) → IsSome (slice_get core.processes 0) → KeepsShown core core
-  keeps_same core there = record { there = there; flat = refl; purged = λ number e. e }
+  keeps_same core there = record { there = there; flat = refl; recorded = refl; purged = λ number e. e }
 
   pub keeps_then : (old between new : CoreValue S) → KeepsShown old between → KeepsShown between new → KeepsShown old new
   keeps_then old between new first second = record {
     there = second.there;
     flat = second.flat ∙ first.flat;
+    recorded = second.recorded ∙ first.recorded;
     purged = λ number e. first.purged number (second.purged number e);
   }
 

@@ -1,5 +1,5 @@
 -- What events that serve a hart make of the flat process.
-use Rattle.std.proofs.Common.{◌≡◌, ℕ, Bool, true, false, ◌&&◌, List, [], ◌∷◌, ◌++◌, Option, Some, None, IsSome, slice_get, refl, sym, ap, ◌∙◌, subst, append_assoc}
+use Rattle.std.proofs.Common.{◌≡◌, ℕ, Bool, true, false, ◌&&◌, List, [], ◌∷◌, ◌++◌, Option, Some, None, IsSome, slice_get, refl, sym, ap, ◌∙◌, subst, append_assoc, append-nil}
 use Rattle.std.specs.Prelude.{◌==◌, if◌then◌else◌, option_and_then}
 use Rattle.elf_image.specs.Image.{ImageContent}
 use Rattle.flat_machine.specs.Process.{Process, opening, flat_run, flat_step}
@@ -18,8 +18,12 @@ use Rattle.machine_core.specs.declared.event.Reply.TheVariants as reply
 use Rattle.serial_driver.specs.Serving.{Serves}
 use Rattle.serial_driver.specs.declared.serving.Served.{Served}
 use Rattle.serial_driver.specs.declared.serving.Served.TheVariants as served
-use Rattle.paged_target.specs.Serving.{ServesFlat}
+use Rattle.debug_core.specs.Limits.{KeepsRoom}
+use Rattle.paged_target.specs.Lacks.{LacksOn}
+use Rattle.paged_target.specs.Recording.{recorded, recorded_in}
+use Rattle.paged_target.specs.Serving.{added_by, ServesFlat}
 use Rattle.paged_target.specs.Shown.{flat_at}
+use Rattle.paged_target.proofs.Recorded.{keeps_room}
 use Rattle.paged_target.proofs.Showing.{ShowsFlat, shows_flat}
 
 step_of : (hart : ℕ) (old new : Process) → flat_run (hart ∷ []) old ≡ Some new → flat_step hart old ≡ Some new
@@ -43,13 +47,6 @@ refused_quiet (Saved key) number why = refl
 refused_quiet (PageIn key) number why = refl
 refused_quiet (Kill process cause) number why = refl
 refused_quiet (Purge process) number why = refl
-
--- the harts that an instruction adds to the recorded order
-abbrev added_by : Served → ℕ → List ℕ
-added_by served.Ran hart = hart ∷ []
-added_by served.Absent hart = []
-added_by served.Full hart = []
-added_by served.NoMemory hart = []
 
 module _ {S : Type 0} where
   goes_then : (first second : List ℕ) (old between new : SpaceValue S) → GoesOn first old between → GoesOn second between new → GoesOn (first ++ second) old new
@@ -135,3 +132,13 @@ module _ {S : Type 0} where
     serves_flat hart what old new shows is_honest faithful serves =
         by_kind hart what old new shows (shows_flat held honest new is_honest faithful (serves_there hart what old new shows serves))
         (serves_remains hart what old new shows.side serves shows.found)
+
+    pub serves_recorded : (hart : ℕ) (what : Served) (old new : CoreValue S) (shows : ShowsFlat held old) → Serves held honest failures 0 hart what old new → recorded new ≡ recorded old ++ added_by what hart
+    serves_recorded hart what old new shows serves =
+        let remains = serves_remains hart what old new shows.side serves shows.found in
+        ap recorded_in remains.found ∙ remains.goes_on.recorded ∙ ap (λ o. recorded_in o ++ added_by what hart) (sym shows.found)
+
+    -- what an ending by the machine leaves to be recorded
+    pub remains_room : (old new : CoreValue S) (shows : ShowsFlat held old) → Remains 0 [] new.processes shows.side → KeepsRoom (LacksOn old) (LacksOn new)
+    remains_room old new shows remains =
+        keeps_room old new (ap recorded_in remains.found ∙ remains.goes_on.recorded ∙ append-nil (written_out shows.side.space.schedule) ∙ ap recorded_in (sym shows.found))

@@ -1,4 +1,6 @@
+pub mod Lacks
 pub mod Marks
 pub mod Reads
+pub mod Recording
 pub mod Serving
 pub mod Shown

@@ -1,5 +1,5 @@
 -- What an instruction that was served makes of the flat process.
-use Rattle.std.specs.Prelude.{◌≡◌, ℕ, Some}
+use Rattle.std.specs.Prelude.{◌≡◌, ℕ, List, [], ◌∷◌, Some}
 use Rattle.flat_machine.specs.Process.{Process, flat_step}
 use Rattle.serial_driver.specs.declared.serving.Served.{Served}
 use Rattle.serial_driver.specs.declared.serving.Served.TheVariants.{Ran, Absent, Full, NoMemory}
@@ -10,3 +10,10 @@ ServesFlat Ran hart old new = flat_step hart old ≡ Some new
 ServesFlat Absent hart old new = new ≡ old
 ServesFlat Full hart old new = new ≡ old
 ServesFlat NoMemory hart old new = new ≡ old
+
+-- the harts that it adds to the recorded order
+abbrev pub added_by : Served → ℕ → List ℕ
+added_by Ran hart = hart ∷ []
+added_by Absent hart = []
+added_by Full hart = []
+added_by NoMemory hart = []

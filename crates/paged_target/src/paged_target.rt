@@ -1,8 +1,11 @@
-ghost use Rattle.std.specs.Prelude.{◌≡◌, ◌≢◌, ◌+◌, ◌<◌, ◌≤◌, ◌↔◌, ◌⊎◌, [], false, true, None, Some, IfOk, IsErrOf, IsSome, slice_get};
+ghost use Rattle.std.specs.Prelude.{◌≡◌, ◌≢◌, ◌+◌, ◌<◌, ◌≤◌, ◌↔◌, ◌⊎◌, [], ◌∷◌, ◌++◌, false, true, None, Some, IfOk, IsErrOf, IsSome, slice_get};
 ghost use Rattle.debug_core.specs.declared.target.Progress.TheVariants.{Ran as HasRun};
 ghost use Rattle.flat_machine.specs.Process.{flat_step, opening};
 ghost use Rattle.space_core.specs.StandsFor.{own_ending};
-ghost use Rattle.paged_target.specs.Reads.{FailsToReadFrom};
+ghost use Rattle.elf_image.specs.Start.{start_of};
+ghost use Rattle.machine_core.specs.Opening.{MachineBegins};
+ghost use Rattle.debug_core.specs.Limits.{CannotRecord, KeepsRoom};
+ghost use Rattle.paged_target.specs.Lacks.{Lacks, LacksOn, LeavesRoomFor};
 ghost use Rattle.paged_target.specs.Serving.{ServesFlat};
 ghost use Rattle.paged_target.specs.Shown.{flat_at, shown_of, TargetValue};
 
@@ -56,6 +59,7 @@ impl<L: Ledger, C: Clock> PagedTarget<L, C> {
         requires least { 4 ≤ frames }
         requires most { frames ≤ 4096 }
         ensures opens { IfOk result (λ target. shown_of target ≡ opening image []) }
+        ensures begins { IfOk result (λ target. MachineBegins frames slots.items (start_of image [] ∷ []) target.core) }
     {
         let mut processes = Vec::new(alloc);
         processes.push((image, Vec::new(alloc)))?;
@@ -68,6 +72,7 @@ impl<L: Ledger, C: Clock> PagedTarget<L, C> {
     /// The process is ended because no more steps can be recorded.
     fn end_full(&mut self)
         ensures flat { flat_at self.new.core ≡ flat_at self.old.core }
+        ensures kept { KeepsRoom (LacksOn self.old.core) (LacksOn self.new.core) }
         ensures full { self.new.full ≡ true }
     {
         self.core.faithful();
@@ -82,7 +87,7 @@ impl<L: Ledger, C: Clock> PagedTarget<L, C> {
 impl<L: Ledger, C: Clock> Target for PagedTarget<L, C> {
     ghost shown = { shown_of };
 
-    ghost fails = { λ target address count fault. FailsToReadFrom address count target.core fault };
+    ghost limits = { Lacks };
 
     fn is_live(&self, hart: u32) -> bool {
         self.core.faithful();
@@ -119,14 +124,16 @@ impl<L: Ledger, C: Clock> Target for PagedTarget<L, C> {
     }
 
     fn step(&mut self, hart: u32) -> Result<Progress, AllocError> {
+        if !fits(&self.core, hart) {
+            self.end_full();
+            return Ok(Progress::Full);
+        }
         match serve(&mut self.core, hart) {
             Served::Ran => Ok(Progress::Ran),
             Served::Absent => Ok(Progress::Absent),
             Served::NoMemory => Err(AllocError),
-            Served::Full => {
-                self.end_full();
-                Ok(Progress::Full)
-            }
+            // It was seen that the instruction fits.
+            Served::Full => Ok(Progress::Absent),
         }
     }
 
@@ -139,12 +146,26 @@ impl<L: Ledger, C: Clock> Target for PagedTarget<L, C> {
 fn serve<L: Ledger, C: Clock>(core: &mut Core<L, MemorySlot, C>, hart: u32) -> Served
     requires there { IsSome (slice_get core.old.processes 0) }
     ensures serves { ServesFlat result hart (flat_at core.old) (flat_at core.new) }
+    ensures room { LeavesRoomFor result hart core.old core.new }
     ensures there { IsSome (slice_get core.new.processes 0) }
 {
     core.faithful();
     let served = serve_step(core, 0, hart);
     core.faithful();
     served
+}
+
+/// Whether one more instruction of a hart of process 0 can be recorded.
+fn fits<L: Ledger, C: Clock>(core: &Core<L, MemorySlot, C>, hart: u32) -> bool
+    requires there { IsSome (slice_get core.now.processes 0) }
+    ensures roomy { result ≡ true → ¬ LacksOn core.now (CannotRecord [] hart) }
+    ensures full { result ≡ false → LacksOn core.now (CannotRecord [] hart) }
+{
+    let Some(schedule) = core.schedule(0) else {
+        unreachable!()
+    };
+    let _turns = schedule.turns();
+    schedule.fits(hart)
 }
 
 /// How a process ended by its own instructions, if it did.

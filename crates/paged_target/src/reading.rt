@@ -3,6 +3,8 @@
 ghost use Rattle.std.specs.Prelude.{◌≡◌, ◌+◌, ◌^◌, ◌≤◌, ◌<◌, IfErr, IsSome, OnOk, length, slice_get};
 ghost use Rattle.page_memory.specs.Words.{page_offset};
 ghost use Rattle.debug_core.specs.Points.{bytes_from};
+ghost use Rattle.debug_core.specs.Limits.{KeepsRoom};
+ghost use Rattle.paged_target.specs.Lacks.{LacksOn};
 ghost use Rattle.paged_target.specs.Reads.{FailsToReadFrom, KeepsShown};
 ghost use Rattle.paged_target.specs.Shown.{flat_at};
 
@@ -25,6 +27,7 @@ pub(crate) fn read<L: Ledger, C: Clock>(
     ensures ok { OnOk result (bytes.new ≡ bytes_from (flat_at core.old).memory address (length bytes.old)) }
     ensures refused { IfErr result (FailsToReadFrom address (length bytes.old) core.old) }
     ensures kept { KeepsShown core.old core.new }
+    ensures room { KeepsRoom (LacksOn core.old) (LacksOn core.new) }
 {
     let mut done = 0;
     'pages: while done < bytes.len() {

@@ -5,6 +5,7 @@ use Rattle.debug_core.specs.Points.{bytes_from}
 use Rattle.debug_core.specs.ReadingLaws.{bytes_none}
 use Rattle.paged_target.specs.Shown.{flat_at}
 use Rattle.paged_target.proofs.PageBytes.{page_more, page_size, part_size}
+use Rattle.paged_target.proofs.Recorded.{keeps_room}
 use Rattle.paged_target.proofs.ReadsOn.{fails_among, keeps_same, keeps_then}
 use Rattle.paged_target.proofs.reading.read.Goals as goal
 
@@ -46,3 +47,6 @@ returns-in_err-read_page-clause-refused g c =
     let same = c.pages.invariant.size in
     rw (p.1, p.2)
     (fails_among c.args.address (length c.args.bytes.now) c.pages.done _ c.args.core.now c.pages.core _ (omega (arith, size, within, same)) c.pages.invariant.kept c.in_err-read_page.ensures.refused)
+
+pub returns-clause-room : goal.returns-clause-room
+returns-clause-room g c = keeps_room c.args.core.now c.pages.core c.pages.invariant.kept.recorded

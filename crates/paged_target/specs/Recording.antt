@@ -1,0 +1,20 @@
+-- The recorded order of a machine's one process, and when it takes no more.
+use Rattle.std.specs.Prelude.{◌≡◌, ℕ, List, [], Option, None, Some, slice_get}
+use Rattle.flat_machine.specs.Schedule.{room, written_out, IsJoined}
+use Rattle.flat_machine.specs.declared.schedule.Turn.{Turn}
+use Rattle.machine_core.specs.Machine.{CoreValue}
+use Rattle.machine_sides.specs.Sides.{ProcessSideValue}
+
+module _ {S : Type 0} where
+  abbrev pub recorded_in : Option (ProcessSideValue S) → List ℕ
+  recorded_in None = []
+  recorded_in (Some side) = written_out side.space.schedule
+
+  -- the harts of its completed instructions, in order
+  abbrev pub recorded : CoreValue S → List ℕ
+  recorded core = recorded_in (slice_get core.processes 0)
+
+-- The schedule in which this order is recorded has no room for one more instruction of a hart. There is one such schedule at most, since
+-- neighbours of one hart are joined.
+abbrev pub IsFull : List ℕ → ℕ → Type 0
+IsFull order hart = (turns : List Turn) → IsJoined turns → written_out turns ≡ order → room turns hart ≡ 0

@@ -33,7 +33,8 @@ pub enum ClockCall {
 /// The call that a line of a clock script stands for, if it is not skipped.
 pub fn call_on_line(line: &[u8]) -> Result<Option<ClockCall>, BadLine>
     ensures skipped { result ≡ Ok None ↔ IsSkipped line.now }
-    ensures call { IfOk result (λ found. IfSome found (λ call. WritesCall call (words_of line.now))) }
+    ensures call { IfOk result (λ found. IfSome found (λ call.
+        WritesCall call (words_of line.now))) }
     ensures bad { IsErr result → (call : ClockCall) → ¬ WritesCall call (words_of line.now) }
 {
     if is_skipped(line) {
@@ -80,7 +81,8 @@ fn call_without(name: &[u8]) -> Option<ClockCall>
 /// A call that is a word and what it is about.
 fn call_with(name: &[u8], argument: &[u8]) -> Option<ClockCall>
     ensures found { IfSome result (λ call. WritesCall call (name.now ∷ argument.now ∷ [])) }
-    ensures none { result ≡ None → (call : ClockCall) → ¬ WritesCall call (name.now ∷ argument.now ∷ []) }
+    ensures none { result ≡ None → (call : ClockCall) →
+        ¬ WritesCall call (name.now ∷ argument.now ∷ []) }
 {
     if name == b"admit".as_slice() {
         Some(ClockCall::Admit(key(argument)?))

@@ -14,7 +14,8 @@ use text_lines::{BadLine, is_skipped, next_word, word_number};
 /// The event that a line of a drive script writes, if it is not skipped.
 pub fn event_on_line(line: &[u8]) -> Result<Option<Event>, BadLine>
     ensures skipped { result ≡ Ok None ↔ IsSkipped line.now }
-    ensures event { IfOk result (λ found. IfSome found (λ event. WritesEvent event (words_of line.now))) }
+    ensures event { IfOk result (λ found. IfSome found (λ event.
+        WritesEvent event (words_of line.now))) }
     ensures bad { IsErr result → (event : Event) → ¬ WritesEvent event (words_of line.now) }
 {
     if is_skipped(line) {
@@ -32,7 +33,8 @@ pub fn event_on_line(line: &[u8]) -> Result<Option<Event>, BadLine>
 /// The event of a name and the words behind it.
 fn event_with(name: &[u8], rest: &[u8]) -> Option<Event>
     ensures found { IfSome result (λ event. WritesEvent event (name.now ∷ words_of rest.now)) }
-    ensures none { result ≡ None → (event : Event) → ¬ WritesEvent event (name.now ∷ words_of rest.now) }
+    ensures none { result ≡ None → (event : Event) →
+        ¬ WritesEvent event (name.now ∷ words_of rest.now) }
 {
     let Some((first, rest)) = next_word(rest) else {
         return event_alone(name);
@@ -61,7 +63,8 @@ fn event_alone(name: &[u8]) -> Option<Event>
 /// An event that is a word and a number.
 fn event_of_one(name: &[u8], first: &[u8]) -> Option<Event>
     ensures found { IfSome result (λ event. WritesEvent event (name.now ∷ first.now ∷ [])) }
-    ensures none { result ≡ None → (event : Event) → ¬ WritesEvent event (name.now ∷ first.now ∷ []) }
+    ensures none { result ≡ None → (event : Event) → ¬ WritesEvent event (name.now ∷ first.now ∷
+        []) }
 {
     if name == b"purge".as_slice() {
         Some(Event::Purge {
@@ -74,8 +77,10 @@ fn event_of_one(name: &[u8], first: &[u8]) -> Option<Event>
 
 /// An event that is a word and two numbers.
 fn event_of_two(name: &[u8], first: &[u8], second: &[u8]) -> Option<Event>
-    ensures found { IfSome result (λ event. WritesEvent event (name.now ∷ first.now ∷ second.now ∷ [])) }
-    ensures none { result ≡ None → (event : Event) → ¬ WritesEvent event (name.now ∷ first.now ∷ second.now ∷ []) }
+    ensures found { IfSome result (λ event. WritesEvent event (name.now ∷ first.now ∷ second.now ∷
+        [])) }
+    ensures none { result ≡ None → (event : Event) → ¬ WritesEvent event (name.now ∷ first.now ∷
+        second.now ∷ []) }
 {
     let process = word_number(first)?;
     let second = word_number(second)?;

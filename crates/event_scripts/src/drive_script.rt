@@ -20,7 +20,8 @@ pub struct DriveScript {
 
 /// Reads a drive script up to its first bad line.
 pub fn read_drive_script(alloc: Global, text: &[u8]) -> Result<DriveScript, AllocError>
-    ensures { IfOk result (λ script. IsScript (lines_of text.now) script.events.items script.bad_line) }
+    ensures { IfOk result (λ script. IsScript (lines_of text.now) script.events.items
+        script.bad_line) }
 {
     let mut events = Vec::new(alloc);
     let mut number = 0;

@@ -59,7 +59,8 @@ impl<L: Ledger, C: Clock> PagedTarget<L, C> {
         requires least { 4 ≤ frames }
         requires most { frames ≤ 4096 }
         ensures opens { IfOk result (λ target. shown_of target ≡ opening image []) }
-        ensures begins { IfOk result (λ target. MachineBegins frames slots.items (start_of image [] ∷ []) target.core) }
+        ensures begins { IfOk result (λ target. MachineBegins frames slots.items
+            (start_of image [] ∷ []) target.core) }
     {
         let mut processes = Vec::new(alloc);
         processes.push((image, Vec::new(alloc)))?;

@@ -24,7 +24,8 @@ pub(crate) fn read<L: Ledger, C: Clock>(
 ) -> Result<(), ReadFault>
     requires range { address + length bytes.old ≤ 2 ^ 32 }
     requires there { IsSome (slice_get core.old.processes 0) }
-    ensures ok { OnOk result (bytes.new ≡ bytes_from (flat_at core.old).memory address (length bytes.old)) }
+    ensures ok { OnOk result (bytes.new ≡ bytes_from (flat_at core.old).memory address
+        (length bytes.old)) }
     ensures refused { IfErr result (FailsToReadFrom address (length bytes.old) core.old) }
     ensures kept { KeepsShown core.old core.new }
     ensures room { KeepsRoom (LacksOn core.old) (LacksOn core.new) }
@@ -48,7 +49,8 @@ fn read_page<L: Ledger, C: Clock>(
     requires some { 0 < length bytes.old }
     requires within { page_offset address + length bytes.old ≤ 4096 }
     requires there { IsSome (slice_get core.old.processes 0) }
-    ensures ok { OnOk result (bytes.new ≡ bytes_from (flat_at core.old).memory address (length bytes.old)) }
+    ensures ok { OnOk result (bytes.new ≡ bytes_from (flat_at core.old).memory address
+        (length bytes.old)) }
     ensures refused { IfErr result (FailsToReadFrom address (length bytes.old) core.old) }
     ensures kept { KeepsShown core.old core.new }
 {

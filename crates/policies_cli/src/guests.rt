@@ -29,7 +29,8 @@ pub fn read_guests<'a, R: Folder + AllocGlobal>(
 
 /// A process for each image and input.
 fn opened(alloc: Global, starts: Vec<(Image, Vec<u8>)>) -> Result<Vec<FlatProcess>, AllocError>
-    ensures { IfOk result (λ processes. processes.items ≡ map opened (map (λ start. start_of start.0 start.1.items) starts.items)) }
+    ensures { IfOk result (λ processes. processes.items ≡ map opened (map (λ start.
+        start_of start.0 start.1.items) starts.items)) }
 {
     let mut processes = Vec::new(alloc);
     'starts: for (image, input) in starts {

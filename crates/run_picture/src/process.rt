@@ -99,8 +99,10 @@ fn harts_of<L: Ledger, S: SwapSlot, C: Clock>(
     memory: &PagedMemory<L, S>,
 ) -> Result<Vec<ShownHart>, AllocError>
     requires coherent { EachCoherent S.content S.honest core.now.processes }
-    requires memory { option_map (λ p. p.space.memory) (slice_get core.now.processes process) ≡ Some memory.now }
-    ensures each { IfOk result (λ harts. (side : ProcessSideValue S) → slice_get core.now.processes process ≡ Some side → EachIs (IsHart side) 0 harts.items) }
+    requires memory { option_map (λ p. p.space.memory) (slice_get core.now.processes process) ≡
+        Some memory.now }
+    ensures each { IfOk result (λ harts. (side : ProcessSideValue S) →
+        slice_get core.now.processes process ≡ Some side → EachIs (IsHart side) 0 harts.items) }
     ensures count { IfOk result (λ harts. length harts.items ≡ harts_in memory.now) }
 {
     let mut harts = Vec::new(alloc);
@@ -119,9 +121,11 @@ fn hart_of<L: Ledger, S: SwapSlot, C: Clock>(
     hart: u32,
 ) -> Result<ShownHart, AllocError>
     requires coherent { EachCoherent S.content S.honest core.now.processes }
-    requires memory { option_map (λ p. p.space.memory) (slice_get core.now.processes process) ≡ Some memory.now }
+    requires memory { option_map (λ p. p.space.memory) (slice_get core.now.processes process) ≡
+        Some memory.now }
     requires there { hart < harts_in memory.now }
-    ensures { IfOk result (λ shown. (side : ProcessSideValue S) → slice_get core.now.processes process ≡ Some side → IsHart side hart shown) }
+    ensures { IfOk result (λ shown. (side : ProcessSideValue S) →
+        slice_get core.now.processes process ≡ Some side → IsHart side hart shown) }
 {
     let Some(regs) = core.regs(process, hart) else {
         unreachable!()

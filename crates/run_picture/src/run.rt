@@ -48,9 +48,11 @@ pub fn film_run<L: Ledger, S: SwapSlot, C: Clock>(
     wanted: Scenes,
 ) -> Result<RunFilm, AllocError>
     ensures first { IfOk result (λ film. IsPictureOf core.old [] film.first) }
-    ensures film { IfOk result (λ film. IsRunFilm S.content S.honest S.failures wanted (max slice 1) limit film core.old core.new) }
+    ensures film { IfOk result (λ film. IsRunFilm S.content S.honest S.failures wanted
+        (max slice 1) limit film core.old core.new) }
     ensures frames { IfOk result (λ film. film.frames ≡ core.new.pager.pager.size) }
-    ensures outputs { IfOk result (λ film. map bytes_in film.outputs.items ≡ map output_by core.new.processes) }
+    ensures outputs { IfOk result (λ film. map bytes_in film.outputs.items ≡
+        map output_by core.new.processes) }
 {
     let first = opening(alloc, core)?;
     let mut run = SerialRun::new(core, slice, limit);
@@ -80,8 +82,12 @@ fn film_events<L: Ledger, S: SwapSlot, C: Clock>(
 ) -> Result<u64, AllocError>
     requires empty { scenes.old.items ≡ [] }
     requires fits { left_of run.old < 2 ^ 64 }
-    ensures filmed { IfOk result (λ rest. IsFilmed S.content S.honest S.failures wanted scenes.new.items rest core.old core.new) }
-    ensures over { OnOk result ((slice limit : ℕ) → HasPlayed S.content S.honest S.failures slice limit core.old core.old run.old → PlaysUpTo S.content S.honest S.failures slice limit (unsaved_of run.new) core.old core.new) }
+    ensures filmed { IfOk result (λ rest. IsFilmed S.content S.honest S.failures wanted
+        scenes.new.items rest core.old core.new) }
+    ensures over { OnOk result ((slice limit : ℕ) →
+        HasPlayed S.content S.honest S.failures slice limit core.old core.old run.old →
+        PlaysUpTo S.content S.honest S.failures slice limit
+        (unsaved_of run.new) core.old core.new) }
 {
     let mut passed = 0;
     'events: loop {
@@ -104,7 +110,8 @@ fn add_scene<L: Ledger, S: SwapSlot, C: Clock>(
     reply: Reply,
 ) -> Result<u64, AllocError>
     requires fits { passed + 1 < 2 ^ 64 }
-    ensures { IfOk result (λ now. AddsSceneIf (has_scene wanted passed event) core.now event reply passed now scenes.old.items scenes.new.items) }
+    ensures { IfOk result (λ now. AddsSceneIf (has_scene wanted passed event) core.now event reply
+        passed now scenes.old.items scenes.new.items) }
 {
     named.heed(event, reply)?;
     if !has_scene(wanted, passed, event) {

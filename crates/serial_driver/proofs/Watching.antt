@@ -29,7 +29,7 @@ module _ {S : Type 0} (held : S → List ℕ) (honest : Type 0) (failures : S �
   -- and goes on by an event
   pub played_more : (slice limit : ℕ) (first old new : CoreValue S) (before run : SerialRun) → HasPlayed held honest failures slice limit first old before → run.left + 1 ≡ before.left
       → ((most : ℕ) (tried : ℕ → ℕ) → IsPatient most tried before.patience
-          → PlaysWith held honest failures most tried (duty_of before.turns) before.patience.spent 1 old new run.patience (duty_of run.turns))
+      → PlaysWith held honest failures most tried (duty_of before.turns) before.patience.spent 1 old new run.patience (duty_of run.turns))
       → HasPlayed held honest failures slice limit first new run
   played_more slice limit first old new before run played left plays = record {
     faithful = played.faithful;

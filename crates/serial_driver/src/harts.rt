@@ -84,7 +84,8 @@ fn first_running<L: Ledger, S: SwapSlot, C: Clock>(
     from: u32,
     below: u32,
 ) -> Option<u32>
-    ensures { IfNone result ((number : ℕ) → from ≤ number → number < below → HasEnded core.now number) }
+    ensures { IfNone result ((number : ℕ) → from ≤ number → number < below →
+        HasEnded core.now number) }
 {
     'processes: for process in from..below {
         if is_running(core, process) {

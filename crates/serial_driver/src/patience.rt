@@ -41,8 +41,10 @@ impl Patience {
     /// Heeds an event and the reply to it.
     pub(crate) fn heed(&mut self, event: Event, reply: Reply)
         requires { (number : ℕ) → try_of event reply ≡ Some number → number < 16 }
-        ensures tries { (most : ℕ) (tried : ℕ → ℕ) → IsPatient most tried self.old → IsPatient most (λ number. tried_with number event reply (tried number)) self.new }
-        ensures spent { (most : ℕ) (tried : ℕ → ℕ) → IsPatient most tried self.old → self.new.spent ≡ spent_with most tried event reply }
+        ensures tries { (most : ℕ) (tried : ℕ → ℕ) → IsPatient most tried self.old →
+            IsPatient most (λ number. tried_with number event reply (tried number)) self.new }
+        ensures spent { (most : ℕ) (tried : ℕ → ℕ) → IsPatient most tried self.old →
+            self.new.spent ≡ spent_with most tried event reply }
     {
         self.renew(run_of(event, reply));
         self.try_again(try_of(event, reply));
@@ -50,7 +52,10 @@ impl Patience {
 
     /// Heeds steps of a process's hart in a row.
     pub(crate) fn heed_steps(&mut self, process: u32, steps: Steps)
-        ensures tries { (most : ℕ) (tried : ℕ → ℕ) (hart : ℕ) → IsPatient most tried self.old → IsPatient most (λ number. tried_after number (steps_of process hart steps.ran steps.last) (replies_of steps.ran steps.last) (tried number)) self.new }
+        ensures tries { (most : ℕ) (tried : ℕ → ℕ) (hart : ℕ) → IsPatient most tried self.old →
+            IsPatient most (λ number. tried_after number
+            (steps_of process hart steps.ran steps.last) (replies_of steps.ran steps.last)
+            (tried number)) self.new }
         ensures spent { self.new.spent ≡ None }
     {
         let ran = if any_ran(steps) { Some(process) } else { None };
@@ -60,7 +65,8 @@ impl Patience {
 
     /// A process has completed an instruction.
     fn renew(&mut self, process: Option<u32>)
-        ensures { (most : ℕ) (tried : ℕ → ℕ) → IsPatient most tried self.old → IsPatient most (λ number. renewed number process (tried number)) self.new }
+        ensures { (most : ℕ) (tried : ℕ → ℕ) → IsPatient most tried self.old →
+            IsPatient most (λ number. renewed number process (tried number)) self.new }
     {
         let Some(process) = process else {
             return;
@@ -74,8 +80,11 @@ impl Patience {
     /// A page of a process was brought in, or failed to leave.
     fn try_again(&mut self, process: Option<u32>)
         requires { (number : ℕ) → process ≡ Some number → number < 16 }
-        ensures tries { (most : ℕ) (tried : ℕ → ℕ) → IsPatient most tried self.old → IsPatient most (λ number. tried_again number process (tried number)) self.new }
-        ensures spent { (most : ℕ) (tried : ℕ → ℕ) → IsPatient most tried self.old → self.new.spent ≡ spent_of most (λ number. tried_again number process (tried number)) process }
+        ensures tries { (most : ℕ) (tried : ℕ → ℕ) → IsPatient most tried self.old →
+            IsPatient most (λ number. tried_again number process (tried number)) self.new }
+        ensures spent { (most : ℕ) (tried : ℕ → ℕ) → IsPatient most tried self.old →
+            self.new.spent ≡ spent_of most (λ number.
+            tried_again number process (tried number)) process }
     {
         self.spent = None;
         let Some(process) = process else {

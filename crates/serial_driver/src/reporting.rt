@@ -58,7 +58,8 @@ fn process_report<L: Ledger, S: SwapSlot, C: Clock>(
     number: u32,
 ) -> Result<ProcessReport, AllocError>
     requires there { number < length core.now.processes }
-    ensures { IfOk result (λ report. Some (told report) ≡ option_map come_to (slice_get core.now.processes number)) }
+    ensures { IfOk result (λ report. Some (told report) ≡ option_map come_to
+        (slice_get core.now.processes number)) }
 {
     let Standing { output, end, steps } = standing_of(core, number);
     let output = Vec::from_slice(alloc, output)?;

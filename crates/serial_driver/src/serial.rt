@@ -42,12 +42,14 @@ pub fn run_serial<L: Ledger, S: SwapSlot, C: Clock>(
     limit: u64,
 ) -> Result<Report, AllocError>
     ensures reached { LeadsTo S.content S.honest S.failures core.old core.new }
-    ensures limited { IfOk result (λ _. EndsByLimit S.content S.honest S.failures (max slice 1) limit core.old core.new) }
+    ensures limited { IfOk result (λ _. EndsByLimit S.content S.honest S.failures
+        (max slice 1) limit core.old core.new) }
     ensures ended { IfOk result (λ _. (number : ℕ) → HasEnded core.new number) }
     ensures report { IfOk result (λ report. Reports core.new report) }
 
     // Of a machine that has just begun, each line tells of a flat run of the image and the input that its process was given.
-    ensures flat { IfOk result (λ report. (frames : ℕ) → (free : List S) → (starts : List Start) → MachineBegins frames free starts core.old → S.honest → StandsForRuns starts report) }
+    ensures flat { IfOk result (λ report. (frames : ℕ) → (free : List S) → (starts : List Start) →
+        MachineBegins frames free starts core.old → S.honest → StandsForRuns starts report) }
 {
     let room = Vec::with_capacity(alloc, core.processes())?;
     play(core, slice, limit);
@@ -59,11 +61,14 @@ pub fn run_serial<L: Ledger, S: SwapSlot, C: Clock>(
 /// [`standing_of`](crate::standing_of) and the machine's own readers still tell it. It takes no memory but for the processes that run.
 pub fn play<L: Ledger, S: SwapSlot, C: Clock>(core: &mut Core<L, S, C>, slice: u32, limit: u64)
     ensures reached { LeadsTo S.content S.honest S.failures core.old core.new }
-    ensures limited { EndsByLimit S.content S.honest S.failures (max slice 1) limit core.old core.new }
+    ensures limited { EndsByLimit S.content S.honest S.failures
+        (max slice 1) limit core.old core.new }
     ensures ended { (number : ℕ) → HasEnded core.new number }
 
     // Of a machine that has just begun, each process tells of a flat run of the image and the input that it was given.
-    ensures flat { (frames : ℕ) → (free : List S) → (starts : List Start) → MachineBegins frames free starts core.old → S.honest → HaveLines starts (map come_to core.new.processes) }
+    ensures flat { (frames : ℕ) → (free : List S) → (starts : List Start) →
+        MachineBegins frames free starts core.old → S.honest →
+        HaveLines starts (map come_to core.new.processes) }
 {
     core.faithful();
     let mut turns = Turns::new(slice);
@@ -81,10 +86,12 @@ fn play_events<L: Ledger, S: SwapSlot, C: Clock>(
     patience: &mut Patience,
     limit: u64,
 ) -> Option<Key>
-    requires patient { IsPatient (tries_per_frame * core.old.pager.pager.size) (λ _. 0) patience.old }
+    requires patient { IsPatient (tries_per_frame * core.old.pager.pager.size) (λ _.
+        0) patience.old }
     requires spent { patience.old.spent ≡ None }
     requires free { duty_of turns.old ≡ no_duty turns.old.slice }
-    ensures { PlaysUpTo S.content S.honest S.failures turns.old.slice limit result core.old core.new }
+    ensures { PlaysUpTo S.content S.honest S.failures turns.old.slice limit result core.old
+        core.new }
 {
     let mut left = limit;
     'turns: while left > 0 {
@@ -131,7 +138,9 @@ fn act<L: Ledger, S: SwapSlot, C: Clock>(
 ) -> u64
     requires some { 0 < most_events next }
     requires may_come { MayCome patience.old.spent (duty_of turns.old) next }
-    ensures plays { (most : ℕ) (tried : ℕ → ℕ) → IsPatient most tried patience.old → PlaysWith S.content S.honest S.failures most tried (duty_of turns.old) patience.old.spent result core.old core.new patience.new (duty_of turns.new) }
+    ensures plays { (most : ℕ) (tried : ℕ → ℕ) → IsPatient most tried patience.old →
+        PlaysWith S.content S.honest S.failures most tried (duty_of turns.old) patience.old.spent
+        result core.old core.new patience.new (duty_of turns.new) }
     ensures some { 0 < result }
     ensures within { result ≤ most_events next }
 {
@@ -155,7 +164,9 @@ fn apply<L: Ledger, S: SwapSlot, C: Clock>(
     requires unlimited { is_limit_kill event ≡ false }
     requires pays { Pays (next_owed (stage_owes turns.old.stage) patience.old.spent) event }
     requires in_turn { IsInTurn (turn_of turns.old) event }
-    ensures plays { (most : ℕ) (tried : ℕ → ℕ) → IsPatient most tried patience.old → PlaysWith S.content S.honest S.failures most tried (duty_of turns.old) patience.old.spent 1 core.old core.new patience.new (duty_of turns.new) }
+    ensures plays { (most : ℕ) (tried : ℕ → ℕ) → IsPatient most tried patience.old →
+        PlaysWith S.content S.honest S.failures most tried (duty_of turns.old) patience.old.spent 1
+        core.old core.new patience.new (duty_of turns.new) }
     ensures one { result ≡ 1 }
 {
     let reply = core.apply(event);
@@ -174,10 +185,13 @@ fn run<L: Ledger, S: SwapSlot, C: Clock>(
     most: u32,
 ) -> u64
     requires some { 0 < most }
-    requires pays { Pays (next_owed (stage_owes turns.old.stage) patience.old.spent) (Step process hart) }
+    requires pays { Pays (next_owed (stage_owes turns.old.stage) patience.old.spent)
+        (Step process hart) }
     requires in_turn { IsInTurn (turn_of turns.old) (Step process hart) }
     requires few { most ≤ max turns.old.left 1 }
-    ensures plays { (bound : ℕ) (tried : ℕ → ℕ) → IsPatient bound tried patience.old → PlaysWith S.content S.honest S.failures bound tried (duty_of turns.old) patience.old.spent result core.old core.new patience.new (duty_of turns.new) }
+    ensures plays { (bound : ℕ) (tried : ℕ → ℕ) → IsPatient bound tried patience.old →
+        PlaysWith S.content S.honest S.failures bound tried (duty_of turns.old) patience.old.spent
+        result core.old core.new patience.new (duty_of turns.new) }
     ensures some { 0 < result }
     ensures within { result ≤ most }
 {

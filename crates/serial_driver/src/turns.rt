@@ -82,7 +82,12 @@ impl Turns {
 
     /// A hart that runs its next instruction, and no more.
     pub(crate) fn at(running: HartOf) -> Self
-        ensures { duty_of result ≡ record { faults = 0; owed = None; turn = record { slice = 1; process = running.process; hart = running.hart; left = 1; phase = Runs } } }
+        ensures { duty_of result ≡ record {
+          faults = 0;
+          owed = None;
+          turn = record
+              { slice = 1; process = running.process; hart = running.hart; left = 1; phase = Runs };
+        } }
     {
         Turns {
             stage: Stage::Run,
@@ -101,7 +106,8 @@ impl Turns {
         allowed: u64,
     ) -> Option<Next>
         requires { 0 < allowed }
-        ensures next { (spent : Option ℕ) → next_owed (stage_owes self.old.stage) spent ≡ stage_owes self.old.stage → IfSome result (IsNext allowed spent (duty_of self.new)) }
+        ensures next { (spent : Option ℕ) → next_owed (stage_owes self.old.stage) spent ≡
+            stage_owes self.old.stage → IfSome result (IsNext allowed spent (duty_of self.new)) }
         ensures none { IfNone result ((number : ℕ) → HasEnded core.now number) }
         ensures settled { IfNone result (stage_owes self.new.stage ≡ None) }
         ensures kept { duty_of self.new ≡ duty_of self.old }
@@ -129,7 +135,8 @@ impl Turns {
     #[tactic(auto, using(crate::proofs::Owed::steps_told, crate::proofs::Owed::steps_all))]
     pub(crate) fn heed_steps(&mut self, process: u32, hart: u32, steps: Steps)
         requires some { IfNone steps.last (0 < steps.ran) }
-        ensures { duty_of self.new ≡ duty_after (steps_of process hart steps.ran steps.last) (replies_of steps.ran steps.last) (duty_of self.old) }
+        ensures { duty_of self.new ≡ duty_after (steps_of process hart steps.ran steps.last)
+            (replies_of steps.ran steps.last) (duty_of self.old) }
     {
         self.ran(steps.ran);
         match steps.last {
@@ -177,7 +184,9 @@ impl Turns {
     /// Steps of a hart, as many as its slice has left and as may happen still.
     fn steps(&self, of: HartOf, allowed: u64) -> Next
         requires { 0 < allowed }
-        ensures { (spent : Option ℕ) → next_owed (stage_owes self.now.stage) spent ≡ None → IsInTurn (turn_of self.now) (machine.Step of.process of.hart) → IsNext allowed spent (duty_of self.now) result }
+        ensures { (spent : Option ℕ) → next_owed (stage_owes self.now.stage) spent ≡ None →
+            IsInTurn (turn_of self.now) (machine.Step of.process of.hart) →
+            IsNext allowed spent (duty_of self.now) result }
     {
         let HartOf { process, hart } = of;
         let most = u32::try_from(allowed)
@@ -228,7 +237,13 @@ impl Turns {
 
     /// A step of a hart was replied with.
     fn after_step(&mut self, process: u32, hart: u32, reply: Reply)
-        ensures { duty_of self.new ≡ record { faults = step_faults reply self.old.load_faults; owed = step_owes process reply; turn = step_turn process hart reply self.old.slice self.old.left } }
+        ensures { duty_of self.new ≡ record {
+          faults = step_faults reply self.old.load_faults;
+          owed
+              = step_owes process reply;
+          turn = step_turn process hart reply self.old.slice
+              self.old.left;
+        } }
     {
         self.running = HartOf { process, hart };
         match reply {
@@ -259,7 +274,12 @@ impl Turns {
 
     /// The hart's slice is over where nothing is left of it.
     fn rest_at_end(&mut self, process: u32, hart: u32)
-        ensures { duty_of self.new ≡ record { faults = self.old.load_faults; owed = None; turn = ran_turn process hart self.old.slice self.old.left } }
+        ensures { duty_of self.new ≡ record {
+          faults = self.old.load_faults;
+          owed = None;
+          turn =
+              ran_turn process hart self.old.slice self.old.left;
+        } }
     {
         self.running = HartOf { process, hart };
         self.stage = if self.left == 0 {
@@ -271,7 +291,12 @@ impl Turns {
 
     /// A process goes on no more.
     fn stop(&mut self, process: u32, reply: Reply)
-        ensures { duty_of self.new ≡ record { faults = self.old.load_faults; owed = stop_owes process reply; turn = waiting (turn_of self.old) } }
+        ensures { duty_of self.new ≡ record {
+          faults = self.old.load_faults;
+          owed = stop_owes
+              process reply;
+          turn = waiting (turn_of self.old);
+        } }
     {
         if matches!(reply, Reply::ScheduleFull) {
             self.kill(process, Failure::ScheduleFull);
@@ -283,14 +308,24 @@ impl Turns {
     }
 
     fn purge(&mut self, process: u32)
-        ensures { duty_of self.new ≡ record { faults = self.old.load_faults; owed = Some (machine.Purge process); turn = waiting (turn_of self.old) } }
+        ensures { duty_of self.new ≡ record {
+          faults = self.old.load_faults;
+          owed = Some
+              (machine.Purge process);
+          turn = waiting (turn_of self.old);
+        } }
     {
         self.stage = Stage::Purge { process };
     }
 
     /// The hart behind the one that had the slice is next, with a slice of its own.
     fn choose(&mut self)
-        ensures { duty_of self.new ≡ record { faults = self.old.load_faults; owed = None; turn = begun (turn_of self.old) } }
+        ensures { duty_of self.new ≡ record {
+          faults = self.old.load_faults;
+          owed = None;
+          turn =
+              begun (turn_of self.old);
+        } }
     {
         let HartOf { process, hart } = self.running;
         self.left = self.slice;
@@ -301,7 +336,12 @@ impl Turns {
     }
 
     fn after_notice(&mut self)
-        ensures { duty_of self.new ≡ record { faults = self.old.load_faults; owed = None; turn = noticed_in (phase_of self.old.stage) (turn_of self.old) } }
+        ensures { duty_of self.new ≡ record {
+          faults = self.old.load_faults;
+          owed = None;
+          turn =
+              noticed_in (phase_of self.old.stage) (turn_of self.old);
+        } }
     {
         match self.stage {
             Stage::Clear { .. } => {}
@@ -316,7 +356,12 @@ impl Turns {
     }
 
     fn after_sweep(&mut self, reply: Reply)
-        ensures { duty_of self.new ≡ record { faults = self.old.load_faults; owed = None; turn = waiting (turn_of self.old) } }
+        ensures { duty_of self.new ≡ record {
+          faults = self.old.load_faults;
+          owed = None;
+          turn =
+              waiting (turn_of self.old);
+        } }
     {
         self.stage = match reply {
             Reply::Victim(victim) => Stage::Clear { victim, hart: 0 },
@@ -325,7 +370,12 @@ impl Turns {
     }
 
     fn after_collect(&mut self, victim: Key, reply: Reply)
-        ensures { duty_of self.new ≡ record { faults = self.old.load_faults; owed = collect_owes victim reply; turn = waiting (turn_of self.old) } }
+        ensures { duty_of self.new ≡ record {
+          faults = self.old.load_faults;
+          owed = collect_owes
+              victim reply;
+          turn = waiting (turn_of self.old);
+        } }
     {
         if is_dirty(reply) {
             self.stage = Stage::Save(victim);
@@ -336,7 +386,12 @@ impl Turns {
 
     /// The victim, of this process, has left its frame, or has not.
     fn after_save(&mut self, process: u32, reply: Reply)
-        ensures { duty_of self.new ≡ record { faults = self.old.load_faults; owed = save_owes process reply; turn = waiting (turn_of self.old) } }
+        ensures { duty_of self.new ≡ record {
+          faults = self.old.load_faults;
+          owed = save_owes
+              process reply;
+          turn = waiting (turn_of self.old);
+        } }
     {
         if is_out_of_memory(reply) {
             self.kill(process, Failure::NoMemory);
@@ -346,7 +401,13 @@ impl Turns {
     }
 
     fn after_page_in(&mut self, process: u32, reply: Reply)
-        ensures { duty_of self.new ≡ record { faults = load_faults reply self.old.load_faults; owed = load_owes self.old.load_faults process reply; turn = paged_in (is_mapped reply) (turn_of self.old) } }
+        ensures { duty_of self.new ≡ record {
+          faults = load_faults reply self.old.load_faults;
+          owed
+              = load_owes self.old.load_faults process reply;
+          turn = paged_in (is_mapped reply)
+              (turn_of self.old);
+        } }
     {
         match reply {
             Reply::Mapped => {
@@ -361,7 +422,14 @@ impl Turns {
 
     /// The page that the hart waits for could not be loaded.
     fn after_load_fault(&mut self, process: u32)
-        ensures { duty_of self.new ≡ record { faults = min (self.old.load_faults + 1) most_load_faults; owed = if nat_le most_load_faults (self.old.load_faults + 1) then Some (machine.Kill process cause.LoadFailed) else None; turn = waiting (turn_of self.old) } }
+        ensures { duty_of self.new ≡ record {
+          faults = min (self.old.load_faults +
+              1) most_load_faults;
+          owed = if nat_le most_load_faults (self.old.load_faults + 1) then
+              Some (machine.Kill process cause.LoadFailed) else None;
+          turn = waiting
+              (turn_of self.old);
+        } }
     {
         let faults = self.load_faults.saturating_add(1).min(MOST_LOAD_FAULTS);
         self.load_faults = faults;
@@ -373,14 +441,24 @@ impl Turns {
     }
 
     fn kill(&mut self, process: u32, failure: Failure)
-        ensures { duty_of self.new ≡ record { faults = self.old.load_faults; owed = Some (machine.Kill process (cause_of failure)); turn = waiting (turn_of self.old) } }
+        ensures { duty_of self.new ≡ record {
+          faults = self.old.load_faults;
+          owed = Some
+              (machine.Kill process (cause_of failure));
+          turn = waiting (turn_of self.old);
+        } }
     {
         self.stage = Stage::Kill { process, failure };
     }
 
     /// A process is gone: the hart that has the slice is of it, or waits on.
     fn after_purge(&mut self, process: u32)
-        ensures { duty_of self.new ≡ record { faults = self.old.load_faults; owed = None; turn = purged_in process (turn_of self.old) } }
+        ensures { duty_of self.new ≡ record {
+          faults = self.old.load_faults;
+          owed = None;
+          turn =
+              purged_in process (turn_of self.old);
+        } }
     {
         if process == self.running.process {
             self.choose();

@@ -38,7 +38,8 @@ impl SerialRun {
         slice: u32,
         limit: u64,
     ) -> Self
-        ensures begins { HasPlayed S.content S.honest S.failures (max slice 1) limit core.now core.now result }
+        ensures begins { HasPlayed S.content S.honest S.failures
+            (max slice 1) limit core.now core.now result }
     {
         core.faithful();
         SerialRun {
@@ -54,10 +55,16 @@ impl SerialRun {
         &mut self,
         core: &mut Core<L, S, C>,
     ) -> Option<(Event, Reply)>
-        ensures applies { IfSome result (λ told. Applies S.content S.honest S.failures told.0 core.old core.new told.1) }
+        ensures applies { IfSome result (λ told.
+            Applies S.content S.honest S.failures told.0 core.old core.new told.1) }
         ensures none { IfNone result (core.new ≡ core.old) }
-        ensures goes_on { OnSome result ((slice limit : ℕ) (first : CoreValue S) → HasPlayed S.content S.honest S.failures slice limit first core.old self.old → HasPlayed S.content S.honest S.failures slice limit first core.new self.new) }
-        ensures over { IfNone result ((slice limit : ℕ) (first : CoreValue S) → HasPlayed S.content S.honest S.failures slice limit first core.old self.old → PlaysUpTo S.content S.honest S.failures slice limit (unsaved_of self.new) first core.new) }
+        ensures goes_on { OnSome result ((slice limit : ℕ) (first : CoreValue S) →
+            HasPlayed S.content S.honest S.failures slice limit first core.old self.old →
+            HasPlayed S.content S.honest S.failures slice limit first core.new self.new) }
+        ensures over { IfNone result ((slice limit : ℕ) (first : CoreValue S) →
+            HasPlayed S.content S.honest S.failures slice limit first core.old self.old →
+            PlaysUpTo S.content S.honest S.failures slice limit
+            (unsaved_of self.new) first core.new) }
         ensures fewer { OnSome result (left_of self.new < left_of self.old) }
     {
         if self.left == 0 {
@@ -72,7 +79,11 @@ impl SerialRun {
 
     /// Closes a run that is over: the save that is out is done, each process that goes on is killed for the limit, and all are purged.
     pub fn close<L: Ledger, S: SwapSlot, C: Clock>(&self, core: &mut Core<L, S, C>)
-        ensures closed { (slice limit : ℕ) (first : CoreValue S) → IsFaithful S.content S.honest first → PlaysUpTo S.content S.honest S.failures slice limit (unsaved_of self.now) first core.old → EndsByLimit S.content S.honest S.failures slice limit first core.new }
+        ensures closed { (slice limit : ℕ) (first : CoreValue S) →
+            IsFaithful S.content S.honest first →
+            PlaysUpTo S.content S.honest S.failures slice limit
+            (unsaved_of self.now) first core.old →
+            EndsByLimit S.content S.honest S.failures slice limit first core.new }
         ensures ended { (number : ℕ) → HasEnded core.new number }
     {
         let unsaved = self.turns.unsaved();
@@ -87,8 +98,11 @@ fn play_one<L: Ledger, S: SwapSlot, C: Clock>(
     turns: &mut Turns,
     patience: &mut Patience,
 ) -> Option<(Event, Reply)>
-    ensures applies { IfSome result (λ told. Applies S.content S.honest S.failures told.0 core.old core.new told.1) }
-    ensures plays { OnSome result ((most : ℕ) (tried : ℕ → ℕ) → IsPatient most tried patience.old → PlaysWith S.content S.honest S.failures most tried (duty_of turns.old) patience.old.spent 1 core.old core.new patience.new (duty_of turns.new)) }
+    ensures applies { IfSome result (λ told. Applies S.content S.honest S.failures told.0 core.old
+        core.new told.1) }
+    ensures plays { OnSome result ((most : ℕ) (tried : ℕ → ℕ) → IsPatient most tried patience.old →
+        PlaysWith S.content S.honest S.failures most tried (duty_of turns.old) patience.old.spent 1
+        core.old core.new patience.new (duty_of turns.new)) }
     ensures none { IfNone result (core.new ≡ core.old) }
     ensures ended { IfNone result ((number : ℕ) → HasEnded core.new number) }
     ensures settled { IfNone result (stage_owes turns.new.stage ≡ None) }
@@ -108,7 +122,9 @@ fn act_once<L: Ledger, S: SwapSlot, C: Clock>(
 ) -> (Event, Reply)
     requires may_come { MayCome patience.old.spent (duty_of turns.old) next }
     ensures applies { Applies S.content S.honest S.failures result.0 core.old core.new result.1 }
-    ensures plays { (most : ℕ) (tried : ℕ → ℕ) → IsPatient most tried patience.old → PlaysWith S.content S.honest S.failures most tried (duty_of turns.old) patience.old.spent 1 core.old core.new patience.new (duty_of turns.new) }
+    ensures plays { (most : ℕ) (tried : ℕ → ℕ) → IsPatient most tried patience.old →
+        PlaysWith S.content S.honest S.failures most tried (duty_of turns.old) patience.old.spent 1
+        core.old core.new patience.new (duty_of turns.new) }
 {
     match next {
         Next::Event(event) => (event, happen(core, turns, patience, event)),
@@ -130,7 +146,9 @@ fn happen<L: Ledger, S: SwapSlot, C: Clock>(
     requires pays { Pays (next_owed (stage_owes turns.old.stage) patience.old.spent) event }
     requires in_turn { IsInTurn (turn_of turns.old) event }
     ensures applies { Applies S.content S.honest S.failures event core.old core.new result }
-    ensures plays { (most : ℕ) (tried : ℕ → ℕ) → IsPatient most tried patience.old → PlaysWith S.content S.honest S.failures most tried (duty_of turns.old) patience.old.spent 1 core.old core.new patience.new (duty_of turns.new) }
+    ensures plays { (most : ℕ) (tried : ℕ → ℕ) → IsPatient most tried patience.old →
+        PlaysWith S.content S.honest S.failures most tried (duty_of turns.old) patience.old.spent 1
+        core.old core.new patience.new (duty_of turns.new) }
 {
     let reply = core.apply(event);
     patience.heed(event, reply);

@@ -35,13 +35,20 @@ class Image:
             with open(elf, "rb") as it:
                 self.read_elf(it.read())
         listed = subprocess.run([f"{TOP}/scripts/list-asm", self.name], stdout=subprocess.PIPE, text=True).stdout
+        labels, in_text = [], True
         for line in listed.splitlines():
+            text = line[30:].strip()    # behind the address and the words
+            if text.startswith((".text", ".data")):
+                in_text = text.startswith(".text")
+            label, colon, _ = text.partition(":")
+            if in_text and colon and label.isascii() and not set(label) & set(" \t#\"("):
+                labels.append(label)
             if line.startswith("0x"):
                 address = int(line[:10], 16)
-                self.lines[address] = line[31:].strip() if len(line) > 31 else ""
-                label = self.lines[address].partition(":")
-                if label[1] and " " not in label[0]:
-                    self.symbols.setdefault(address, label[0])
+                self.lines[address] = text
+                for label in labels[:1]:
+                    self.symbols.setdefault(address, label)
+                labels = []
 
     def read_elf(self, content):
         """Segments that may be executed, and the symbols that name code or places in it."""
@@ -107,7 +114,7 @@ class Image:
         word = self.word(address)
         if word is None:
             return "no instruction"
-        if address in self.lines and self.lines[address]:
+        if self.lines.get(address):
             return self.lines[address]
         return text_of(word, address, self)
 

@@ -1,4 +1,2 @@
 pub mod Films
 pub mod Pictures
-pub mod Processes
-pub mod RunFilms

@@ -1,12 +1,10 @@
 -- What a picture of a machine shows: what the machine is, and nothing else.
-use Rattle.std.specs.Prelude.{◌≡◌, ℕ, Bool, List, Option, length, map, slice_get}
+use Rattle.std.specs.Prelude.{◌≡◌, ℕ, List, length, map, slice_get}
 use Rattle.std.specs.Option.{option_and_then}
 use Rattle.clock_policy.specs.declared.key.Key.{Key}
 use Rattle.machine_core.specs.Machine.{CoreValue}
 use Rattle.machine_sides.specs.PageStatusAt.{status_at}
 use Rattle.machine_sides.specs.Sides.{ProcessSideValue}
-use Rattle.paged_memory.specs.Translating.{changed_in}
-use Rattle.run_picture.specs.Processes.{EachIs, IsProcess}
 use Rattle.run_picture.specs.declared.picture.Picture.{Picture}
 use Rattle.run_picture.specs.declared.scene.Output.{Output}
 use Rattle.run_picture.specs.declared.picture.ShownPage.{ShownPage}
@@ -16,16 +14,11 @@ abbrev pub bytes_in : Output → List ℕ
 bytes_in output = output.bytes.items
 
 module _ {S : Type 0} where
-  -- whether a page counts as changed, where it is mapped
-  abbrev pub changed_at : CoreValue S → Key → Option Bool
-  changed_at core key = option_and_then (λ process. changed_in process.space.memory key.vpn) (slice_get core.processes key.process)
-
   -- a page as the machine has it
   abbrev pub shown_in : CoreValue S → Key → ShownPage
   shown_in core key = record {
     key = key;
     status = option_and_then (λ process. status_at process.space key.vpn) (slice_get core.processes key.process);
-    changed = changed_at core key;
   }
 
   -- what a process has written, and how much
@@ -48,5 +41,3 @@ module _ {S : Type 0} where
     pub saves : picture.counts.saves ≡ core.pager.saves
     pub drops : picture.counts.drops ≡ core.pager.drops
     pub written : picture.written.items ≡ map written_by core.processes
-    pub processes : EachIs (IsProcess core) 0 picture.processes.items
-    pub all : length picture.processes.items ≡ length core.processes

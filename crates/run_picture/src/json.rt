@@ -1,10 +1,8 @@
 //! A film as JSON, a scene a line.
 
 use crate::event_line::EventLine;
-use crate::json_process::write_process;
 use crate::picture::{Picture, ShownPage};
-use crate::run::RunFilm;
-use crate::scene::{Film, Output, Scene};
+use crate::scene::{Film, Scene};
 use crate::text::ByteText;
 use clock_policy::{Entry, Key};
 use event_scripts::ReplyLine;
@@ -12,33 +10,9 @@ use page_store::PageState;
 use std::io::Write;
 use std::{fmt, io};
 
-/// Writes a film of a script, of processes that run images of these names.
+/// Writes a film of processes that run images of these names.
 pub fn write_film<W: Write>(film: &Film, names: &[&str], out: &mut W) -> io::Result<()> {
-    write_head(film.frames, names, film.outputs.as_slice(), out)?;
-    write_scenes(&film.first, film.scenes.as_slice(), out)?;
-    writeln!(out, "]}}")
-}
-
-/// Writes a film of a run alike. Its last scene is the end, which no event stands for.
-pub fn write_run_film<W: Write>(film: &RunFilm, names: &[&str], out: &mut W) -> io::Result<()> {
-    write_head(film.frames, names, film.outputs.as_slice(), out)?;
-    write_scenes(&film.first, film.scenes.as_slice(), out)?;
-    write!(
-        out,
-        ",\n{{\"event\":null,\"reply\":null,\"passed\":{}",
-        film.rest
-    )?;
-    write_picture(&film.last, out)?;
-    writeln!(out, "]}}")
-}
-
-fn write_head<W: Write>(
-    frames: u32,
-    names: &[&str],
-    outputs: &[Output],
-    out: &mut W,
-) -> io::Result<()> {
-    write!(out, "{{\"frames\":{frames},\"names\":[")?;
+    write!(out, "{{\"frames\":{},\"names\":[", film.frames)?;
     let mut comma = "";
     for name in names {
         write!(out, "{comma}{}", ByteText(name.as_bytes()))?;
@@ -46,35 +20,23 @@ fn write_head<W: Write>(
     }
     write!(out, "],\"outputs\":[")?;
     let mut comma = "";
-    for output in outputs {
+    for output in film.outputs.as_slice() {
         write!(out, "{comma}{}", ByteText(output.bytes.as_slice()))?;
         comma = ",";
     }
-    write!(out, "],")
-}
-
-/// Writes the machine before its first event, and the scenes.
-fn write_scenes<W: Write>(first: &Picture, scenes: &[Scene], out: &mut W) -> io::Result<()> {
-    write!(
-        out,
-        "\"scenes\":[\n{{\"event\":null,\"reply\":null,\"passed\":0"
-    )?;
-    write_picture(first, out)?;
-    for scene in scenes {
+    write!(out, "],\"scenes\":[\n{{\"event\":null,\"reply\":null")?;
+    write_picture(&film.first, out)?;
+    for scene in film.scenes.as_slice() {
         writeln!(out, ",")?;
         write_scene(scene, out)?;
     }
-    Ok(())
+    writeln!(out, "]}}")
 }
 
 fn write_scene<W: Write>(scene: &Scene, out: &mut W) -> io::Result<()> {
     let event = EventLine(scene.event);
     let reply = ReplyLine(scene.reply);
-    let passed = scene.passed;
-    write!(
-        out,
-        "{{\"event\":\"{event}\",\"reply\":\"{reply}\",\"passed\":{passed}"
-    )?;
+    write!(out, "{{\"event\":\"{event}\",\"reply\":\"{reply}\"")?;
     write_picture(&scene.picture, out)
 }
 
@@ -94,29 +56,22 @@ fn write_picture<W: Write>(picture: &Picture, out: &mut W) -> io::Result<()> {
         write!(out, "{comma}{count}")?;
         comma = ",";
     }
-    write!(out, "],\"processes\":[")?;
-    let mut comma = "";
-    for process in picture.processes.as_slice() {
-        write!(out, "{comma}")?;
-        write_process(process, out)?;
-        comma = ",";
-    }
     write!(out, "]}}")
 }
 
-/// Writes a page: where it is, its frame, the accessed and the dirty bit of its page-table entry, and whether it counts as changed; of a page
-/// that is not mapped its key alone.
 fn write_page<W: Write>(page: ShownPage, out: &mut W) -> io::Result<()> {
-    write!(out, "[\"{}\"", page.key)?;
+    write!(out, "{{\"page\":\"{}\"", page.key)?;
     if let Some(status) = page.status {
         let state = word_of(status.state);
         let frame = OrNull(status.frame);
         let accessed = OrNull(status.accessed);
         let dirty = status.dirty;
-        let changed = OrNull(page.changed);
-        write!(out, ",\"{state}\",{frame},{accessed},{dirty},{changed}")?;
+        write!(
+            out,
+            ",\"state\":\"{state}\",\"frame\":{frame},\"accessed\":{accessed},\"dirty\":{dirty}"
+        )?;
     }
-    write!(out, "]")
+    write!(out, "}}")
 }
 
 fn word_of(state: PageState) -> &'static str {
@@ -147,7 +102,11 @@ fn write_list<W: Write>(picture: &Picture, out: &mut W) -> io::Result<()> {
 }
 
 fn write_entry<W: Write>(entry: Entry, comma: &str, out: &mut W) -> io::Result<()> {
-    write!(out, "{comma}[\"{}\",\"{}\"]", entry.key, entry.kind)
+    write!(
+        out,
+        "{comma}{{\"page\":\"{}\",\"kind\":\"{}\"}}",
+        entry.key, entry.kind
+    )
 }
 
 fn write_counts<W: Write>(picture: &Picture, out: &mut W) -> io::Result<()> {
@@ -167,7 +126,7 @@ fn write_counts<W: Write>(picture: &Picture, out: &mut W) -> io::Result<()> {
 
 /// A value of JSON, or `null`.
 #[derive(Clone, Copy)]
-pub(crate) struct OrNull<T>(pub(crate) Option<T>);
+struct OrNull<T>(Option<T>);
 
 impl<T: fmt::Display> fmt::Display for OrNull<T> {
     fn fmt<W: fmt::Write>(&self, f: &mut fmt::Formatter<W>) -> fmt::Result {

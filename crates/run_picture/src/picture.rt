@@ -1,9 +1,8 @@
 //! A picture of a machine between two events.
 
 ghost use Rattle.std.specs.Prelude.{◌≡◌, ◌<◌, IfOk, Some, length, map, option_map, slice_get};
-ghost use Rattle.run_picture.specs.Pictures.{IsPictureOf, changed_at, shown_in, written_by};
+ghost use Rattle.run_picture.specs.Pictures.{IsPictureOf, shown_in, written_by};
 
-use crate::process::{ShownProcess, processes_of};
 use clock_policy::{Clock, Entry, Key};
 use machine_core::{Core, SideCounts};
 use paged_memory::PageStatus;
@@ -17,8 +16,6 @@ use swap_slots::SwapSlot;
 pub struct ShownPage {
     pub key: Key,
     pub status: Option<PageStatus>,
-    /// Whether it counts as changed: where it leaves, whether it has to be saved.
-    pub changed: Option<bool>,
 }
 
 /// What the machine shows between two events.
@@ -31,7 +28,6 @@ pub struct Picture {
     pub counts: SideCounts,
     /// How many bytes each process has written so far.
     pub written: Vec<usize>,
-    pub processes: Vec<ShownProcess>,
 }
 
 /// The picture of a machine, with these pages.
@@ -50,7 +46,6 @@ pub fn picture_of<L: Ledger, S: SwapSlot, C: Clock>(
         hands: core.hands(),
         counts: core.counts(),
         written: lengths(alloc, core)?,
-        processes: processes_of(alloc, core)?,
     })
 }
 
@@ -74,15 +69,7 @@ fn show<L: Ledger, S: SwapSlot, C: Clock>(core: &Core<L, S, C>, key: Key) -> Sho
     ShownPage {
         key,
         status: core.status(key.process, key.vpn),
-        changed: is_changed(core, key),
     }
-}
-
-/// Whether a page counts as changed, where it is mapped.
-fn is_changed<L: Ledger, S: SwapSlot, C: Clock>(core: &Core<L, S, C>, key: Key) -> Option<bool>
-    ensures { result ≡ changed_at core.now key }
-{
-    core.memory(key.process)?.is_changed(key.vpn)
 }
 
 /// How many bytes each process has written.

@@ -5,7 +5,6 @@ ghost use Rattle.command_line.specs.Requests.{IsDriveInRange};
 
 use crate::drive::film;
 use crate::json::write_film;
-use crate::run_program::{show_run, wanted_scenes};
 use crate::scene::Film;
 use command_line::{DriveRequest, Request, read_request};
 use command_shell::finish;
@@ -21,9 +20,8 @@ use std::marker::Brand;
 use std::rt::Files;
 use std::sync::ledger::{Blank, Ledger};
 
-/// Runs the program on the words behind its name, which are those of the commands `drive` and `run --serial` of `paged`, maybe behind
-/// `--scenes` and which events of a run are to have scenes: `all`, `page-ins` or one in so many. Answers its exit status: 0, or 2
-/// for a fault, which is told on `err`. A script with a bad line has no film.
+/// Runs the program on the words behind its name, which are those of the command `drive` of `paged`, and answers its exit
+/// status: 0, or 2 for a fault, which is told on `err`. A script with a bad line has no film.
 pub fn run_show<R: Files + AllocGlobal, S: AsStr, O: Write, E: Write>(
     rt: &R,
     words: &[S],
@@ -39,15 +37,17 @@ fn run_words<'a, R: Files + AllocGlobal, S: AsStr, O: Write>(
     words: &'a [S],
     out: &mut O,
 ) -> Result<u8, Fault<'a>> {
-    let (wanted, words) = wanted_scenes(words)?;
     match read_request(rt.alloc(), words)? {
-        Request::Drive(request) => show_drive(rt, &request, out)?,
-        Request::Run(request) => show_run(rt, &request, wanted, out)?,
-        Request::Asm(_) | Request::Flat(_) | Request::Clock(_) | Request::Debug(_) => {
-            return Err(Fault::BadUsage);
+        Request::Drive(request) => {
+            show_drive(rt, &request, out)?;
+            Ok(0)
         }
+        Request::Run(_)
+        | Request::Asm(_)
+        | Request::Flat(_)
+        | Request::Clock(_)
+        | Request::Debug(_) => Err(Fault::BadUsage),
     }
-    Ok(0)
 }
 
 /// Writes the film of the script in a file, on a new machine with a process for each image.

@@ -12,13 +12,11 @@ use std::alloc::{AllocError, Global};
 use std::sync::ledger::Ledger;
 use swap_slots::SwapSlot;
 
-/// An event with its reply, and the machine that it left.
+/// An event with its reply, and the machine after it.
 #[derive(Drop)]
 pub struct Scene {
     pub event: Event,
     pub reply: Reply,
-    /// How many events before it, behind the scene before, have none.
-    pub passed: u64,
     pub picture: Picture,
 }
 
@@ -62,7 +60,6 @@ pub(crate) fn next_scene<L: Ledger, S: SwapSlot, C: Clock>(
     Ok(Scene {
         event,
         reply,
-        passed: 0,
         picture,
     })
 }
@@ -72,8 +69,7 @@ pub(crate) fn outputs_of<L: Ledger, S: SwapSlot, C: Clock>(
     alloc: Global,
     core: &Core<L, S, C>,
 ) -> Result<Vec<Output>, AllocError>
-    ensures { IfOk result (λ outputs. map bytes_in outputs.items ≡
-        map output_by core.now.processes) }
+    ensures { IfOk result (λ outputs. map bytes_in outputs.items ≡ map output_by core.now.processes) }
 {
     let mut outputs = Vec::new(alloc);
     'processes: for process in 0..core.processes() as u32 {
@@ -89,8 +85,7 @@ fn output_at<L: Ledger, S: SwapSlot, C: Clock>(
     process: u32,
 ) -> Result<Output, AllocError>
     requires { process < length core.now.processes }
-    ensures { IfOk result (λ output. Some (bytes_in output) ≡ option_map output_by
-        (slice_get core.now.processes process)) }
+    ensures { IfOk result (λ output. Some (bytes_in output) ≡ option_map output_by (slice_get core.now.processes process)) }
 {
     let Some(output) = core.output(process) else {
         unreachable!()

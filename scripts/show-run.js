@@ -5,7 +5,8 @@ const run = JSON.parse(document.getElementById("run").textContent);
 const scenes = unfold(run.scenes);
 const most = scenes.length - 1;
 const isWhole = scenes.every(scene => scene.passed === 0);
-const hasHarts = Boolean(scenes[0].processes);    // whether the film tells of harts, with what they have cached, and of page tables
+const hasHarts = Boolean(scenes[0].processes);    // whether the film tells of harts
+const translates = hasHarts && scenes[0].processes.some(process => process.harts.some(hart => hart.cached));    // and what they have cached
 // The list takes the room that its longest state needs at each event, so that what stands below it stays where it is.
 const longest = Math.max(...scenes.map(scene => scene.entries.length));
 const by = id => document.getElementById(id);
@@ -49,7 +50,7 @@ function unfoldProcess(process, before) {
     for (const [number, value] of hart.x || []) x[number] = value;
     return { ...old, ...hart, x };
   });
-  return { end: process.end, harts, tables: process.tables.map((table, k) => table || before.tables[k]) };
+  return { end: process.end, harts, tables: (process.tables || []).map((table, k) => table || before.tables[k]) };
 }
 
 function text(bytes) {
@@ -81,7 +82,7 @@ function yes(bit) {
 // Which harts have cached a page, with the marks of their translations.
 function holders(scene, key) {
   const [process, vpn] = key.split("/").map(Number);
-  const of = hasHarts && scene.processes[process];
+  const of = translates && scene.processes[process];
   if (!of) return [];
   return of.harts.flatMap((hart, number) => hart.cached.filter(entry => entry[0] === vpn)
     .map(entry => "hart " + number + (entry[4] ? " (doomed)" : "")));
@@ -101,12 +102,12 @@ function leavesDirty(scene, [key, , , , , changed]) {
 // What the table says of a page: where it is, its frame, its two bits, and who has cached it.
 function cells(scene, row) {
   const [key, state, frame, accessed, dirty] = row;
-  if (!state) return ["not mapped", none, none, none, ...(hasHarts ? [none] : [])];
+  if (!state) return ["not mapped", none, none, none, ...(translates ? [none] : [])];
   const known = accessed !== null;
   const left = state === "leaving" || state === "saving" ? leavesDirty(scene, row) : undefined;
   return [signs[state] + " " + state, frame === null ? none : String(frame), known ? yes(accessed) : none,
     known ? yes(dirty) : left === undefined ? none : left ? "to be saved" : "unchanged",
-    ...(hasHarts ? [holders(scene, key).join(", ") || none] : [])];
+    ...(translates ? [holders(scene, key).join(", ") || none] : [])];
 }
 
 function showFrames(scene) {
@@ -226,9 +227,9 @@ function sourceLine(process, address) {
 }
 
 function instruction(process, hart) {
-  const what = hart.word === null ? "its page is in no frame" : hart.text || "the word " + hex(hart.word, 8) + ", which is no instruction";
+  const what = !translates ? "" : hart.word === null ? "its page is in no frame" : hart.text || "the word " + hex(hart.word, 8) + ", which is no instruction";
   const line = sourceLine(process, hart.pc);
-  return make("span", {}, make("span", { class: "code" }, hex(hart.pc, 8) + "  " + what), line ? make("span", { class: "soft" }, "  " + line) : "");
+  return make("span", {}, make("span", { class: "code" }, hex(hart.pc, 8) + (what ? "  " + what : "")), line ? make("span", { class: "soft" }, "  " + line) : "");
 }
 
 function register(number, value, was) {
@@ -248,7 +249,7 @@ function showHarts(scene, before) {
       const all = make("details", { id: "registers-" + p + "-" + h }, make("summary", {}, "all registers"),
         make("ul", { class: "registers" }, ...hart.x.map((value, k) => register(k + 1, value, old && old.x[k]))));
       if (open && open.open) all.open = true;
-      shown.push(make("h3", {}, "process " + p + ", hart " + h + (hart.live ? "" : ", done")),
+      shown.push(make("h3", {}, "process " + p + ", hart " + h + (hart.live === false ? ", done" : "")),
         make("p", {}, "next: ", instruction(p, hart)),
         make("p", {}, changed.length ? "changed: " : "no register changed", ...changed.flatMap(([number, value, was], k) => [
           k ? ", " : "", make("span", { class: "code" }, "x" + number + " " + names[number] + " " + hex(was, 8) + " \u2192 " + hex(value, 8))])), all);
@@ -428,7 +429,7 @@ function showCaches(scene) {
 
 // How many accesses of the instructions that ran so far were served by a cached translation, for each hart after each event: counted where
 // each event has its picture. An instruction is an access to its own page, and one to that which it loads from or stores to.
-const counted = isWhole && hasHarts ? countUses() : null;
+const counted = isWhole && translates ? countUses() : null;
 
 function countUses() {
   const sums = new Map();
@@ -478,7 +479,7 @@ function fill(select, count) {
 }
 
 function showTranslation(scene) {
-  if (!hasHarts) return;
+  if (!translates) return;
   fill(by("process"), scene.processes.length);
   fill(by("hart"), Math.max(1, (scene.processes[chosenProcess()] || { harts: [] }).harts.length));
   showTranslated(false);
@@ -545,14 +546,15 @@ by("slider").oninput = event => go(Number(event.target.value));
 by("ask").onsubmit = event => { event.preventDefault(); showTranslated(true); showTree(); };
 for (const id of ["address", "access", "hart"]) by(id).oninput = () => { showTranslated(false); showTree(); };
 by("process").oninput = () => showTranslation(scenes[at]);
-by("process-label").hidden = !hasHarts || scenes[0].processes.length < 2;
+by("process-label").hidden = !translates || scenes[0].processes.length < 2;
+for (const part of document.querySelectorAll(".translates")) part.hidden = !translates;
 for (const part of document.querySelectorAll(".harts")) part.hidden = !hasHarts;
 addEventListener("hashchange", () => show(chosen()));
 addEventListener("beforeprint", () => { for (const part of document.querySelectorAll("details")) part.open = true; });
 
 const moves = {
   ArrowLeft: () => go(at - 1), ArrowRight: () => go(at + 1), PageUp: () => go(at - 1), PageDown: () => go(at + 1), Home: () => go(0), End: () => go(most),
-  n: () => goToPageIn(1), N: () => goToPageIn(1), p: () => goToPageIn(-1), P: () => goToPageIn(-1), ...(hasHarts ? { "/": () => by("address").select() } : {}),
+  n: () => goToPageIn(1), N: () => goToPageIn(1), p: () => goToPageIn(-1), P: () => goToPageIn(-1), ...(translates ? { "/": () => by("address").select() } : {}),
 };
 
 // A key means itself where it is typed or where it works a control.

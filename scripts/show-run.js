@@ -5,6 +5,8 @@ const run = JSON.parse(document.getElementById("run").textContent);
 const scenes = unfold(run.scenes);
 const most = scenes.length - 1;
 const isWhole = scenes.every(scene => scene.passed === 0);
+const hasHarts = Boolean(scenes[0].processes);    // whether the film tells of harts
+const translates = hasHarts && scenes[0].processes.some(process => process.harts.some(hart => hart.cached));    // and what they have cached
 // The list takes the room that its longest state needs at each event, so that what stands below it stays where it is.
 const longest = Math.max(...scenes.map(scene => scene.entries.length));
 const by = id => document.getElementById(id);
@@ -29,8 +31,12 @@ function unfold(folded) {
     }
     const pages = new Map(before.pages.map(row => [row[0], row]));
     for (const row of scene.pages || []) pages.set(row[0], row);
-    const processes = (scene.processes || []).map((process, k) => process && unfoldProcess(process, before.processes[k]));
-    whole.push({ ...before, ...scene, pages: [...pages.values()], processes: before.processes.map((process, k) => processes[k] || process) });
+    const made = { ...before, ...scene, pages: [...pages.values()] };
+    if (before.processes) {
+      const processes = (scene.processes || []).map((process, k) => process && unfoldProcess(process, before.processes[k]));
+      made.processes = before.processes.map((process, k) => processes[k] || process);
+    }
+    whole.push(made);
   }
   return whole;
 }
@@ -44,7 +50,7 @@ function unfoldProcess(process, before) {
     for (const [number, value] of hart.x || []) x[number] = value;
     return { ...old, ...hart, x };
   });
-  return { end: process.end, harts, tables: process.tables.map((table, k) => table || before.tables[k]) };
+  return { end: process.end, harts, tables: (process.tables || []).map((table, k) => table || before.tables[k]) };
 }
 
 function text(bytes) {
@@ -76,20 +82,32 @@ function yes(bit) {
 // Which harts have cached a page, with the marks of their translations.
 function holders(scene, key) {
   const [process, vpn] = key.split("/").map(Number);
-  const of = scene.processes[process];
+  const of = translates && scene.processes[process];
   if (!of) return [];
   return of.harts.flatMap((hart, number) => hart.cached.filter(entry => entry[0] === vpn)
     .map(entry => "hart " + number + (entry[4] ? " (doomed)" : "")));
 }
 
+// What the dirty bit was of a page that is leaving, when it was last seen in its frame and mapped: by it the page will be saved or dropped.
+// Where the film itself tells whether the page counts as changed, that is taken.
+function leavesDirty(scene, [key, , , , , changed]) {
+  if (changed !== undefined) return changed;
+  for (let k = scenes.indexOf(scene) - 1; k >= 0; k--) {
+    const row = scenes[k].pages.find(([name]) => name === key);
+    if (row && row[1] === "resident") return row[4];
+  }
+  return undefined;
+}
+
 // What the table says of a page: where it is, its frame, its two bits, and who has cached it.
 function cells(scene, row) {
-  const [key, state, frame, accessed, dirty, changed] = row;
-  if (!state) return ["not mapped", none, none, none, none];
+  const [key, state, frame, accessed, dirty] = row;
+  if (!state) return ["not mapped", none, none, none, ...(translates ? [none] : [])];
   const known = accessed !== null;
-  const leaves = state === "leaving" || state === "saving";
+  const left = state === "leaving" || state === "saving" ? leavesDirty(scene, row) : undefined;
   return [signs[state] + " " + state, frame === null ? none : String(frame), known ? yes(accessed) : none,
-    known ? yes(dirty) : leaves ? (changed ? "to be saved" : "unchanged") : none, holders(scene, key).join(", ") || none];
+    known ? yes(dirty) : left === undefined ? none : left ? "to be saved" : "unchanged",
+    ...(translates ? [holders(scene, key).join(", ") || none] : [])];
 }
 
 function showFrames(scene) {
@@ -103,8 +121,8 @@ function showFrames(scene) {
       items.push(make("li", { class: "free" }, label, "free"));
       continue;
     }
-    const [key, state, , accessed, dirty, changed] = row;
-    const bits = accessed === null ? (changed ? " (D)" : "") : " " + (accessed ? "A" : "") + (dirty ? "D" : "");
+    const [key, state, , accessed, dirty] = row;
+    const bits = accessed === null ? (leavesDirty(scene, row) ? " (D)" : "") : " " + (accessed ? "A" : "") + (dirty ? "D" : "");
     items.push(make("li", { class: state }, label, make("span", { class: "page code" }, pageName(key)), bits, make("br"), signs[state] + " " + state));
   }
   by("frames").replaceChildren(...items);
@@ -209,9 +227,9 @@ function sourceLine(process, address) {
 }
 
 function instruction(process, hart) {
-  const what = hart.word === null ? "its page is in no frame" : hart.text || "the word " + hex(hart.word, 8) + ", which is no instruction";
+  const what = !translates ? "" : hart.word === null ? "its page is in no frame" : hart.text || "the word " + hex(hart.word, 8) + ", which is no instruction";
   const line = sourceLine(process, hart.pc);
-  return make("span", {}, make("span", { class: "code" }, hex(hart.pc, 8) + "  " + what), line ? make("span", { class: "soft" }, "  " + line) : "");
+  return make("span", {}, make("span", { class: "code" }, hex(hart.pc, 8) + (what ? "  " + what : "")), line ? make("span", { class: "soft" }, "  " + line) : "");
 }
 
 function register(number, value, was) {
@@ -220,6 +238,7 @@ function register(number, value, was) {
 }
 
 function showHarts(scene, before) {
+  if (!hasHarts) return;
   const shown = [];
   scene.processes.forEach((process, p) => {
     if (process.end) shown.push(make("p", {}, "process " + p + ": " + process.end));
@@ -230,7 +249,7 @@ function showHarts(scene, before) {
       const all = make("details", { id: "registers-" + p + "-" + h }, make("summary", {}, "all registers"),
         make("ul", { class: "registers" }, ...hart.x.map((value, k) => register(k + 1, value, old && old.x[k]))));
       if (open && open.open) all.open = true;
-      shown.push(make("h3", {}, "process " + p + ", hart " + h + (hart.live ? "" : ", done")),
+      shown.push(make("h3", {}, "process " + p + ", hart " + h + (hart.live === false ? ", done" : "")),
         make("p", {}, "next: ", instruction(p, hart)),
         make("p", {}, changed.length ? "changed: " : "no register changed", ...changed.flatMap(([number, value, was], k) => [
           k ? ", " : "", make("span", { class: "code" }, "x" + number + " " + names[number] + " " + hex(was, 8) + " \u2192 " + hex(value, 8))])), all);
@@ -245,7 +264,7 @@ function showAbout(scene, before) {
   const passed = scene.passed;
   if (passed) parts.push(passed + (passed === 1 ? " event" : " events") + " before it " + (passed === 1 ? "has" : "have") + " no picture. ");
   const step = /^step (\d+) (\d+)$/.exec(scene.event || "");
-  if (step && !passed && before) {
+  if (hasHarts && step && !passed && before) {
     const process = before.processes[step[1]];
     const hart = process && process.harts[step[2]];
     if (hart) parts.push((ran.has(scene.reply) ? "It ran " : "It is at "), instruction(Number(step[1]), hart));
@@ -253,7 +272,7 @@ function showAbout(scene, before) {
   const named = /^(?:pagein|collect|saved) (\d+) (\d+)$/.exec(scene.event || "");
   if (named) parts.push("Page " + named[1] + "/" + hex(Number(named[2])) + ".");
   const absent = /^absent (\d+)$/.exec(scene.reply || "");
-  if (absent) parts.push(", and needs page " + hex(Number(absent[1])) + ".");
+  if (absent) parts.push((hasHarts ? ", and needs page " : "It needs page ") + hex(Number(absent[1])) + ".");
   by("about-event").replaceChildren(...parts);
   const comments = run.comments || [];
   by("comment").textContent = comments.slice(0, at + 1).filter(Boolean).pop() || comments.find(Boolean) || "";
@@ -410,7 +429,7 @@ function showCaches(scene) {
 
 // How many accesses of the instructions that ran so far were served by a cached translation, for each hart after each event: counted where
 // each event has its picture. An instruction is an access to its own page, and one to that which it loads from or stores to.
-const counted = isWhole ? countUses() : null;
+const counted = isWhole && translates ? countUses() : null;
 
 function countUses() {
   const sums = new Map();
@@ -460,6 +479,7 @@ function fill(select, count) {
 }
 
 function showTranslation(scene) {
+  if (!translates) return;
   fill(by("process"), scene.processes.length);
   fill(by("hart"), Math.max(1, (scene.processes[chosenProcess()] || { harts: [] }).harts.length));
   showTranslated(false);
@@ -526,13 +546,15 @@ by("slider").oninput = event => go(Number(event.target.value));
 by("ask").onsubmit = event => { event.preventDefault(); showTranslated(true); showTree(); };
 for (const id of ["address", "access", "hart"]) by(id).oninput = () => { showTranslated(false); showTree(); };
 by("process").oninput = () => showTranslation(scenes[at]);
-by("process-label").hidden = scenes[0].processes.length < 2;
+by("process-label").hidden = !translates || scenes[0].processes.length < 2;
+for (const part of document.querySelectorAll(".translates")) part.hidden = !translates;
+for (const part of document.querySelectorAll(".harts")) part.hidden = !hasHarts;
 addEventListener("hashchange", () => show(chosen()));
 addEventListener("beforeprint", () => { for (const part of document.querySelectorAll("details")) part.open = true; });
 
 const moves = {
   ArrowLeft: () => go(at - 1), ArrowRight: () => go(at + 1), PageUp: () => go(at - 1), PageDown: () => go(at + 1), Home: () => go(0), End: () => go(most),
-  n: () => goToPageIn(1), N: () => goToPageIn(1), p: () => goToPageIn(-1), P: () => goToPageIn(-1), "/": () => by("address").select(),
+  n: () => goToPageIn(1), N: () => goToPageIn(1), p: () => goToPageIn(-1), P: () => goToPageIn(-1), ...(translates ? { "/": () => by("address").select() } : {}),
 };
 
 // A key means itself where it is typed or where it works a control.

@@ -27,18 +27,12 @@ pub(crate) fn bytes_of<L: Ledger, S: SwapSlot>(page: &StoredPage<L, S>) -> &[u8;
 {
     match page.frame() {
         Some(frame) => frame.bytes(),
-        None => no_page(),
+        None => {
+            // One of none of no pages: no test of the page's state is left, where `unreachable!()` leaves one.
+            let none: [&[u8; 4096]; 0] = [];
+            none[0]
+        }
     }
-}
-
-/// The bytes of none of no pages: what stands where a page is proved to have a frame. In place of `unreachable!()`, which
-/// leaves a test of the page's state at each instruction, it leaves none.
-#[inline]
-fn no_page<'a>() -> &'a [u8; 4096]
-    requires { ⊥ }
-{
-    let none: [&[u8; 4096]; 0] = [];
-    none[0]
 }
 
 /// The bytes of a page that is ready for an aligned access of a hart.

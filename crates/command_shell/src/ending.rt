@@ -15,7 +15,7 @@ pub fn finish<O: Write, E: Write>(
     out: &mut O,
     err: &mut E,
 ) -> u8
-    ensures { MatchResult done (λ status. (result ≡ status) ⊎ (result ≡ 2)) (λ _. result ≡ 2) }
+    ensures { MatchResult done.entry (λ status. (result ≡ status) ⊎ (result ≡ 2)) (λ _. result ≡ 2) }
 {
     let flushed = out.flush();
     match done {

@@ -10,8 +10,12 @@ mod fuses;
 #[cfg(test)]
 mod guests;
 #[cfg(test)]
+mod late_slots;
+#[cfg(test)]
 mod machine;
 #[cfg(test)]
 mod no_loads;
 #[cfg(test)]
 mod scant;
+#[cfg(test)]
+mod served;

@@ -10,6 +10,8 @@ mod fuses;
 #[cfg(test)]
 mod guests;
 #[cfg(test)]
+mod late_slots;
+#[cfg(test)]
 mod machine;
 #[cfg(test)]
 mod no_loads;
@@ -17,3 +19,5 @@ mod no_loads;
 mod page_ins;
 #[cfg(test)]
 mod scant;
+#[cfg(test)]
+mod served;

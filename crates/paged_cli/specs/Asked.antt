@@ -9,6 +9,6 @@ use Rattle.paged_cli.specs.Running.{IsRunAsAsked}
 
 module _ (gives : List ℕ → List ℕ → Type 0) where
   -- on one thread, or by as many workers as were asked for
-  abbrev pub RunsByThreading : Type 0 → Threading → RunRequest → Option (List ℕ) → Option (List ℕ) → ℕ → Type 0
-  RunsByThreading F Serial request old new status = RunsAsAsked gives F request old new status
-  RunsByThreading F (Workers workers told) request old new status = IsRunAsAsked gives F request workers old new status
+  abbrev pub RunsByThreading : {F : Type 0} → (List ℕ → F → Type 0) → Threading → RunRequest → Option (List ℕ) → Option (List ℕ) → ℕ → Type 0
+  RunsByThreading makes Serial request old new status = RunsAsAsked gives makes request old new status
+  RunsByThreading makes (Workers workers told) request old new status = IsRunAsAsked gives makes request workers old new status

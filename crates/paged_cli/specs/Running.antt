@@ -57,26 +57,27 @@ pub record IsToldAs (report : Report) (told : machine.Report) : Type 0 where
 unfoldable pub CameTo : {S : Type 0} → Type 0 → ℕ → List S → List Start → ℕ → ℕ → Report → Type 0
 CameTo {S} honest frames slots starts workers slice report = IsReportOf S honest frames (length slots) starts workers slice report
 
--- the same on new slots in files, which are not honest
-pub record RunsFiles (F : Type 0) (frames slots : ℕ) (starts : List Start) (workers slice : ℕ) (report : Report) : Type 0 where
+-- the same on new slots in files, which are not honest, by the names that begin with a prefix; `makes` tells under which names an open
+-- file may have been made
+pub record RunsFiles {F : Type 0} (makes : List ℕ → F → Type 0) (prefix : List ℕ) (frames slots : ℕ) (starts : List Start) (workers slice : ℕ) (report : Report) : Type 0 where
   pub files : List (FileSlotValue F)
-  pub made : AreNewFiles slots files
+  pub made : AreNewFiles makes prefix slots files
   pub run : CameTo ⊥ frames files starts workers slice report
 
 -- slots are in memory, and honest, or in files where a prefix of their names is given
-abbrev pub RunsAsked : Type 0 → Option (List ℕ) → ℕ → ℕ → List Start → ℕ → ℕ → Report → Type 0
-RunsAsked F None frames slots starts workers slice report = CameTo ⊤ frames (replicate slots zero_content) starts workers slice report
-RunsAsked F (Some prefix) frames slots starts workers slice report = RunsFiles F frames slots starts workers slice report
+abbrev pub RunsAsked : {F : Type 0} → (List ℕ → F → Type 0) → Option (List ℕ) → ℕ → ℕ → List Start → ℕ → ℕ → Report → Type 0
+RunsAsked makes None frames slots starts workers slice report = CameTo ⊤ frames (replicate slots zero_content) starts workers slice report
+RunsAsked makes (Some prefix) frames slots starts workers slice report = RunsFiles makes prefix frames slots starts workers slice report
 
 -- A machine of the frames and slots that were asked for ran, with a process for each image, the first on the input, by as many workers
 -- and in slices of the length that were asked for, until each process had ended; what is reported of it is written, as of a machine that
 -- ran on one thread, and the status is that of the report.
-pub record IsRunAsAsked (gives : List ℕ → List ℕ → Type 0) (F : Type 0) (request : RunRequest) (workers : ℕ) (old new : Option (List ℕ)) (status : ℕ) : Type 0 where
+pub record IsRunAsAsked (gives : List ℕ → List ℕ → Type 0) {F : Type 0} (makes : List ℕ → F → Type 0) (request : RunRequest) (workers : ℕ) (old new : Option (List ℕ)) (status : ℕ) : Type 0 where
   pub starts : List Start
   pub report : Report
   pub told : machine.Report
   pub given : AreGiven gives (option_map (λ s. s.now) request.input) (map (λ s. s.now) request.images.items) starts
-  pub ran_as : RunsAsked F (option_map (λ s. s.now) request.swap) request.frames request.slots starts workers request.slice report
+  pub ran_as : RunsAsked makes (option_map (λ s. s.now) request.swap) request.frames request.slots starts workers request.slice report
   pub told_as : IsToldAs report told
   pub written : Appends old new (report_text told)
   pub status_is : status ≡ worst_status 0 (map (λ process. process.end) told.processes.items)

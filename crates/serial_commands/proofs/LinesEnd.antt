@@ -34,3 +34,10 @@ line_told (session.BadLine number) told P Q is ends gives = subst (λ f. IfBadLi
 line_told session.NoMemory told P Q is ends gives = subst (λ f. IfBadLine f (λ number. Q (Err (session.BadLine number)))) (sym is) tt
 line_told session.CannotRead told P Q is ends gives = no_line told _ is
 line_told session.CannotWrite told P Q is ends gives = subst (λ f. IfBadLine f (λ number. Q (Err (session.BadLine number)))) (sym is) tt
+
+-- neither is one of what could not be written, nor want of memory
+pub not_written : (why : Fault) → why ≡ fault.CannotWrite → IsOfNoLine why
+not_written why is = subst IsOfNoLine (sym is) (tt {0})
+
+pub no_memory : (why : Fault) → why ≡ fault.NoMemory → IsOfNoLine why
+no_memory why is = subst IsOfNoLine (sym is) (tt {0})

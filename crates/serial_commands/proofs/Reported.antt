@@ -43,12 +43,12 @@ writes_as (Ok status) old new as_other wrote = record { machine = wrote.machine;
 writes_as (Err fault) old new as_other wrote = wrote
 
 -- a run on slots in memory, and one on slots in files, is the one that was asked for
-pub on_memory : {X : Type 0} (F : Type 0) (named : X → List ℕ) (swap : Option X) (frames slots slice limit : ℕ) (starts : List Start) (free : List Slot) (machine : MachineTold) → swap ≡ None → free ≡ replicate slots zero_content
-    → ReportsOver page_of ⊤ never frames free starts slice limit machine → ReportsAsked F (option_map named swap) frames slots starts slice limit machine
-on_memory F named swap frames slots slice limit starts free machine is made ran =
-    subst (λ o. ReportsAsked F (option_map named o) frames slots starts slice limit machine) (sym is) (subst (λ l. ReportsOver page_of ⊤ never frames l starts slice limit machine) made ran)
+pub on_memory : {X F : Type 0} (makes : List ℕ → F → Type 0) (named : X → List ℕ) (swap : Option X) (frames slots slice limit : ℕ) (starts : List Start) (free : List Slot) (machine : MachineTold) → swap ≡ None → free ≡ replicate slots zero_content
+    → ReportsOver page_of ⊤ never frames free starts slice limit machine → ReportsAsked makes (option_map named swap) frames slots starts slice limit machine
+on_memory makes named swap frames slots slice limit starts free machine is made ran =
+    subst (λ o. ReportsAsked makes (option_map named o) frames slots starts slice limit machine) (sym is) (subst (λ l. ReportsOver page_of ⊤ never frames l starts slice limit machine) made ran)
 
-pub on_files : {X F : Type 0} (named : X → List ℕ) (swap : Option X) (prefix : X) (frames slots slice limit : ℕ) (starts : List Start) (files : List (FileSlotValue F)) (machine : MachineTold) → swap ≡ Some prefix → AreNewFiles slots files
-    → ReportsOver unknown ⊥ failures_of frames files starts slice limit machine → ReportsAsked F (option_map named swap) frames slots starts slice limit machine
-on_files {X} {F} named swap prefix frames slots slice limit starts files machine is made ran =
-    subst (λ o. ReportsAsked F (option_map named o) frames slots starts slice limit machine) (sym is) (record { files = files; made = made; run = ran })
+pub on_files : {X F : Type 0} (makes : List ℕ → F → Type 0) (named : X → List ℕ) (swap : Option X) (prefix : X) (frames slots slice limit : ℕ) (starts : List Start) (files : List (FileSlotValue F)) (machine : MachineTold) → swap ≡ Some prefix
+    → AreNewFiles makes (named prefix) slots files → ReportsOver unknown ⊥ failures_of frames files starts slice limit machine → ReportsAsked makes (option_map named swap) frames slots starts slice limit machine
+on_files makes named swap prefix frames slots slice limit starts files machine is made ran =
+    subst (λ o. ReportsAsked makes (option_map named o) frames slots starts slice limit machine) (sym is) (record { files = files; made = made; run = ran })

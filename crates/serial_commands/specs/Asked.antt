@@ -15,15 +15,15 @@ use Rattle.image_files.specs.Reading.{AreGiven}
 use Rattle.serial_commands.specs.Replies.{replies_text}
 
 module _ (gives : List ℕ → List ℕ → Type 0) where
-  -- A machine of the frames and slots that were asked for, in memory or in files of the type `F`, with a process
+  -- A machine of the frames and slots that were asked for, in memory or in files of the names that were asked for, with a process
   -- for each image, the first on the input, ran in slices of the length
   -- that was asked for, until each process had ended or as many events had happened as were asked for; what is told of it is written, and
   -- the status is that of what is told.
-  pub record RunsAsAsked (F : Type 0) (request : RunRequest) (old new : Option (List ℕ)) (status : ℕ) : Type 0 where
+  pub record RunsAsAsked {F : Type 0} (makes : List ℕ → F → Type 0) (request : RunRequest) (old new : Option (List ℕ)) (status : ℕ) : Type 0 where
     pub starts : List Start
     pub machine : MachineTold
     pub given : AreGiven gives (option_map (λ s. s.now) request.input) (map (λ s. s.now) request.images.items) starts
-    pub ran : ReportsAsked F (option_map (λ s. s.now) request.swap) request.frames request.slots starts request.slice request.limit machine
+    pub ran : ReportsAsked makes (option_map (λ s. s.now) request.swap) request.frames request.slots starts request.slice request.limit machine
     pub told : Appends old new (machine_text machine)
     pub status_is : status ≡ worst_status 0 (map (λ (process : Told). process.end) machine.processes)
 

@@ -1,15 +1,18 @@
 -- What a debugger that the program starts tells.
-use Rattle.std.specs.Prelude.{◌≡◌, ⊤, ℕ, List, [], Option, Some, None, Result, Ok, Err, replicate}
+use Rattle.std.specs.Prelude.{◌≡◌, ⊤, ℕ, List, [], ◌∷◌, Option, Some, None, Result, Ok, Err, replicate}
 use Rattle.command_line.specs.declared.request.DebugRequest.{DebugRequest}
 use Rattle.elf_image.specs.Image.{ImageContent}
+use Rattle.elf_image.specs.Start.{start_of}
+use Rattle.machine_core.specs.Opening.{MachineBegins}
+use Rattle.swap_slots.specs.Slot.{zero_content}
 use Rattle.flat_machine.specs.ByTurns.{first_turn}
 use Rattle.flat_machine.specs.Process.{Process, opening}
 use Rattle.debug_core.specs.Debugging.{DebuggerValue}
-use Rattle.debug_core.specs.declared.target.ReadFault.{ReadFault}
+use Rattle.debug_core.specs.Limits.{Limit}
 use Rattle.debug_session.specs.Conversation.{HasConversed}
 use Rattle.debug_session.specs.declared.conversation.SessionFault.{SessionFault}
 use Rattle.debug_session.specs.declared.conversation.SessionFault.TheVariants as session
-use Rattle.paged_target.specs.Reads.{FailsToReadFrom}
+use Rattle.paged_target.specs.Lacks.{Lacks}
 use Rattle.paged_target.specs.Shown.{TargetValue, shown_of}
 use Rattle.image_files.specs.Faults.{IsOfNoLine}
 use Rattle.image_files.specs.Reading.{GivesImage}
@@ -20,19 +23,23 @@ use Rattle.image_files.specs.declared.fault.Fault.TheVariants as fault
 abbrev pub new_debugger : {T : Type 0} → (T → Process) → T → DebuggerValue T
 new_debugger shown target = record { target = target; points = replicate 32 None; turn = first_turn (shown target) }
 
--- A new debugger of a target that shows the process that an image and no input begin conversed over an input, with this result. `input` is
--- what there is to read, `old` and `new` are what stands in the output before and after.
-pub record Converses {T : Type 0} (shown : T → Process) (fails : T → ℕ → ℕ → ReadFault → Type 0) (image : ImageContent) (input old new : Option (List ℕ)) (result : Result (Unit {0}) SessionFault) : Type 0 where
+-- A new debugger of a target that begins so, and shows the process that an image and no input begin, conversed over an input, with this
+-- result. `input` is what there is to read, `old` and `new` are what stands in the output before and after.
+pub record Converses {T : Type 0} (shown : T → Process) (limits : T → Limit → Type 0) (begins : T → Type 0) (image : ImageContent) (input old new : Option (List ℕ)) (result : Result (Unit {0}) SessionFault) : Type 0 where
   pub target : T
+  pub begun : begins target
   pub opens : shown target ≡ opening image []
   pub end : DebuggerValue T
-  pub conversed : HasConversed shown fails result input (new_debugger shown target) old end new
+  pub conversed : HasConversed shown limits result input (new_debugger shown target) old end new
 
--- the same on flat memory, or on as many frames as are asked for
+-- a machine of one process for an image, on so many frames and 4096 slots in memory, before its first event
+abbrev pub BeginsOn : ℕ → ImageContent → TargetValue → Type 0
+BeginsOn frames image target = MachineBegins frames (replicate 4096 zero_content) (start_of image [] ∷ []) target.core
+
+-- the same on flat memory, or on such a machine of as many frames as are asked for
 abbrev pub ConversesOver : Option ℕ → ImageContent → Option (List ℕ) → Option (List ℕ) → Option (List ℕ) → Result (Unit {0}) SessionFault → Type 0
-ConversesOver None image input old new result = Converses {T = Process} (λ process. process) (λ process address count fault. ⊥) image input old new result
-ConversesOver (Some frames) image input old new result =
-    Converses {T = TargetValue} shown_of (λ target address count fault. FailsToReadFrom address count target.core fault) image input old new result
+ConversesOver None image input old new result = Converses {T = Process} (λ process. process) (λ process limit. ⊥) (λ process. ⊤) image input old new result
+ConversesOver (Some frames) image input old new result = Converses {T = TargetValue} shown_of Lacks (BeginsOn frames image) image input old new result
 
 -- what is told of a conversation that came to its end, or to a bad line
 abbrev pub IfLinesEnd : Result (Unit {0}) SessionFault → (Result (Unit {0}) SessionFault → Type 0) → Type 0

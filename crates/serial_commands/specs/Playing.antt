@@ -64,16 +64,16 @@ unknown slot = []
 abbrev pub failures_of : {F : Type 0} → FileSlotValue F → ℕ
 failures_of slot = slot.failures
 
--- the same on slots in files
-pub record ReportsFiles (F : Type 0) (frames slots : ℕ) (starts : List Start) (slice limit : ℕ) (machine : MachineTold) : Type 0 where
+-- the same on slots in files, by the names that begin with a prefix; `makes` tells under which names an open file may have been made
+pub record ReportsFiles {F : Type 0} (makes : List ℕ → F → Type 0) (prefix : List ℕ) (frames slots : ℕ) (starts : List Start) (slice limit : ℕ) (machine : MachineTold) : Type 0 where
   pub files : List (FileSlotValue F)
-  pub made : AreNewFiles slots files
+  pub made : AreNewFiles makes prefix slots files
   pub run : ReportsOver unknown ⊥ failures_of frames files starts slice limit machine
 
 -- slots are in memory, or in files where a prefix of their names is given
-abbrev pub ReportsAsked : Type 0 → Option (List ℕ) → ℕ → ℕ → List Start → ℕ → ℕ → MachineTold → Type 0
-ReportsAsked F None frames slots starts slice limit machine = ReportsRun frames slots starts slice limit machine
-ReportsAsked F (Some prefix) frames slots starts slice limit machine = ReportsFiles F frames slots starts slice limit machine
+abbrev pub ReportsAsked : {F : Type 0} → (List ℕ → F → Type 0) → Option (List ℕ) → ℕ → ℕ → List Start → ℕ → ℕ → MachineTold → Type 0
+ReportsAsked makes None frames slots starts slice limit machine = ReportsRun frames slots starts slice limit machine
+ReportsAsked makes (Some prefix) frames slots starts slice limit machine = ReportsFiles makes prefix frames slots starts slice limit machine
 
 -- a machine has come to what is wanted; what is told of it is written, and the status is that of its processes
 pub record WritesRun (Came : MachineTold → Type 0) (old new : Option (List ℕ)) (status : ℕ) : Type 0 where

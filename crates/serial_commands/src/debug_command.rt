@@ -120,7 +120,7 @@ fn debug<T: Target, I: Read + Drop, W: Write>(
     input: I,
     out: &mut W,
 ) -> Result<(), SessionFault>
-    ensures { (end : DebuggerValue T) × HasConversed T.shown T.fails result (I.remaining input) (new_debugger T.shown target) (W.contents out.old) end (W.contents out.new) }
+    ensures { (end : DebuggerValue T) × HasConversed T.shown T.limits result (I.remaining input) (new_debugger T.shown target) (W.contents out.old) end (W.contents out.new) }
 {
     let mut debugger = Debugger::new(target);
     converse(alloc, &mut debugger, input, out)

@@ -1,8 +1,9 @@
 //! `paged drive`: a machine that answers the events of a script.
 
-ghost use Rattle.std.specs.Prelude.{◌≡◌, ◌+◌, ◌≤◌, IfOk, IsOk, None, length, map};
+ghost use Rattle.std.specs.Prelude.{◌≡◌, ◌+◌, ◌≤◌, IfErr, IfOk, None, Some, length, map};
 ghost use Rattle.command_line.specs.Requests.{IsDriveInRange};
 ghost use Rattle.elf_image.specs.Start.{start_of};
+ghost use Rattle.image_files.specs.Faults.{IfBadLine, IsOfNoLine};
 ghost use Rattle.serial_commands.specs.Asked.{IsPlayedAsAsked, PlaysAsAsked};
 ghost use Rattle.serial_commands.specs.Playing.{Plays};
 ghost use Rattle.text_lines.specs.Text.{lines_of};
@@ -27,7 +28,8 @@ pub fn run_drive<'a, R: Folder + AllocGlobal, W: Write>(
     out: &mut W,
 ) -> Result<(), Fault<'a>>
     requires { IsDriveInRange request.now }
-    ensures { IsOk result → PlaysAsAsked R.gives request.now (W.contents out.old) (W.contents out.new) None }
+    ensures done { IfOk result (λ _. PlaysAsAsked R.gives request.now (W.contents out.old) (W.contents out.new) None) }
+    ensures bad_line { IfErr result (λ fault. IfBadLine fault (λ number. PlaysAsAsked R.gives request.now (W.contents out.old) (W.contents out.new) (Some number))) }
 {
     match play_file(rt, request, out)? {
         Some(number) => Err(Fault::BadLine(number)),
@@ -42,7 +44,8 @@ fn play_file<'a, R: Folder + AllocGlobal, W: Write>(
     out: &mut W,
 ) -> Result<Option<u64>, Fault<'a>>
     requires { IsDriveInRange request.now }
-    ensures { IfOk result (PlaysAsAsked R.gives request.now (W.contents out.old) (W.contents out.new)) }
+    ensures played { IfOk result (PlaysAsAsked R.gives request.now (W.contents out.old) (W.contents out.new)) }
+    ensures fault { IfErr result IsOfNoLine }
 {
     let played = read_and_play(rt, request)?;
     write_replies(played.replies.as_slice(), out)?;
@@ -55,7 +58,8 @@ fn read_and_play<'a, R: Folder + AllocGlobal>(
     request: &DriveRequest<'a>,
 ) -> Result<Played, Fault<'a>>
     requires { IsDriveInRange request.now }
-    ensures { IfOk result (λ played. IsPlayedAsAsked R.gives request.now played.replies.items played.bad_line) }
+    ensures played { IfOk result (λ played. IsPlayedAsAsked R.gives request.now played.replies.items played.bad_line) }
+    ensures fault { IfErr result IsOfNoLine }
 {
     let script = read_text(rt, request.script)?;
     let processes = read_processes(rt, request.images.as_slice(), None)?;

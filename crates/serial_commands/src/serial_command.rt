@@ -27,7 +27,7 @@ pub fn run_serially<'a, R: Folder + AllocGlobal, W: Write>(
     out: &mut W,
 ) -> Result<u8, Fault<'a>>
     requires { IsRunInRange request.now }
-    ensures { IfOk result (λ status. RunsAsAsked R.gives R.File request.now (W.contents out.old) (W.contents out.new) status) }
+    ensures { IfOk result (λ status. RunsAsAsked R.gives R.makes request.now (W.contents out.old) (W.contents out.new) status) }
 {
     let processes = read_processes(rt, request.images.as_slice(), request.input)?;
     let status = run_asked(rt, request, processes, out)?;
@@ -43,7 +43,7 @@ fn run_asked<'a, R: Folder + AllocGlobal, W: Write>(
 ) -> Result<u8, Fault<'a>>
     requires in_range { IsRunInRange request.now }
     requires few { length processes.items ≤ 16 }
-    ensures { IfOk result (WritesRun (ReportsAsked R.File (option_map (λ s. s.now) request.now.swap) request.now.frames request.now.slots (map (λ start. start_of start.0 start.1.items) processes.items) request.now.slice request.now.limit) (W.contents out.old) (W.contents out.new)) }
+    ensures { IfOk result (WritesRun (ReportsAsked R.makes (option_map (λ s. s.now) request.now.swap) request.now.frames request.now.slots (map (λ start. start_of start.0 start.1.items) processes.items) request.now.slice request.now.limit) (W.contents out.old) (W.contents out.new)) }
 {
     match request.swap {
         None => {

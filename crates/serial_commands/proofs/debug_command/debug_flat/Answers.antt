@@ -9,6 +9,7 @@ returns g c =
     let conversed = c.debug.ensures in
     lines_end c.debug.result _ (record {
       target = c.in-Ok.process;
+      begun = tt {0};
       opens = c.in-Ok.ensures ∙ ap (opening c.args.image.now) c.new.ensures.items;
       end = conversed.0;
       conversed = conversed.1;

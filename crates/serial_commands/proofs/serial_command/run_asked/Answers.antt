@@ -9,5 +9,5 @@ returns-in_ok-slots-in-None g c =
 
 pub returns-in_ok-slots-in-Some : goal.returns-in_ok-slots-in-Some
 returns-in_ok-slots-in-Some g c =
-    writes_as c.run-in-Some.result _ _ (λ machine. on_files _ c.args.request.now.swap _ c.args.request.now.frames c.args.request.now.slots c.args.request.now.slice c.args.request.now.limit _ c.in_ok-slots-in-Some.slots.items machine
+    writes_as c.run-in-Some.result _ _ (λ machine. on_files _ _ c.args.request.now.swap _ c.args.request.now.frames c.args.request.now.slots c.args.request.now.slice c.args.request.now.limit _ c.in_ok-slots-in-Some.slots.items machine
     c.in-Some.is c.in_ok-slots-in-Some.ensures.made) c.run-in-Some.ensures

@@ -42,6 +42,8 @@ class Guest:
 
     def __init__(self, image, frames=None, given=None, told=lambda content: None):
         self.image, self.told, self.given, self.name = Image(image), told, given, image
+        if given and not os.path.exists(f"{TOP}/guest"):
+            raise ValueError("a program that reads an input is debugged by the program guest, which is not here")
         words = [f"{TOP}/guest", "debug", "--input", given] if given else [f"{TOP}/paged", "debug"]
         words += ["--frames", str(frames)] if frames else []
         words = os.environ.get("DEBUG_COMMAND", "").split() + ["debug"] + words[2:] if os.environ.get("DEBUG_COMMAND") else words

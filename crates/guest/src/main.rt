@@ -3,10 +3,9 @@
 
 use guest_cli::run_guest;
 use guest_frames::PagedMachine;
-use std::io::{BufWriter, ErrorKind};
+use std::io::{BufWriter, ErrorKind, Write};
 use std::process::ExitCode;
 use std::{env, io};
-use std::io::Write;
 
 /// The exit status where the words can't be read.
 const FAULT: u8 = 2;

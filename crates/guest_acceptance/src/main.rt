@@ -2,12 +2,14 @@
 //! of the repository leads to.
 #![tactic(auto)]
 
+mod guest_runs;
 mod guests;
 mod lines;
 mod run;
 mod table_runs;
 mod tables;
 
+use crate::guest_runs::show_guest_runs;
 use crate::guests::show_guests;
 use crate::lines::show_lines;
 use crate::table_runs::Policies;
@@ -35,5 +37,6 @@ where
     show_guests(rt, &mut out)?;
     show_lines(rt, &mut out)?;
     show_tables(rt, &mut out)?;
+    show_guest_runs(rt, &mut out)?;
     out.flush()
 }

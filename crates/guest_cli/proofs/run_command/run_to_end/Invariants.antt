@@ -1,0 +1,14 @@
+use Rattle.std.proofs.Common.{◌≡◌, ◌≤◌, ◌-◌, Some, true}
+use Rattle.flat_machine.specs.Process.{is_live}
+use Rattle.flat_machine.specs.ByTurns.{by_turns, first_turn}
+use Rattle.guest_cli.proofs.run_command.run_to_end.Given as goal
+
+abbrev pub invariant-pieces : goal.invariant-pieces
+invariant-pieces g l = record {
+  ran : by_turns l.steps (first_turn l.fn.process) l.fn.process ≡ Some (l.turn, l.process);
+  live : is_live l.turn l.process ≡ true;
+  within : l.steps ≤ l.limit;
+}
+
+abbrev pub decreases-pieces : goal.decreases-pieces
+decreases-pieces g l = l.limit - l.steps

@@ -1,0 +1,84 @@
+//! Calls and returns as lines of a trace.
+
+use elf_symbols::Symbols;
+use guest_steps::{Flow, ToldStep, flow_of};
+use rv_isa::decode;
+use std::io;
+use std::io::Write;
+
+/// How many harts a process may have.
+const MOST_HARTS: usize = 8;
+
+/// How deep in calls each hart stands.
+#[derive(Clone, Copy, Debug)]
+pub(crate) struct Depths {
+    depths: [u32; MOST_HARTS],
+}
+
+impl Depths {
+    pub(crate) fn new() -> Self {
+        Depths {
+            depths: [0; MOST_HARTS],
+        }
+    }
+
+    /// How deep a step stands: that of a call where the caller stands, that of a return where it comes back to. `None` for other steps.
+    pub(crate) fn depth_of(&mut self, told: &ToldStep) -> Option<(Flow, u32)> {
+        let insn = decode(told.word.ok()?)?;
+        let depth = self.depths.get_mut(told.hart as usize)?;
+        match flow_of(insn) {
+            Flow::Call => {
+                let here = *depth;
+                *depth = here.saturating_add(1);
+                Some((Flow::Call, here))
+            }
+            Flow::Return => {
+                *depth = depth.saturating_sub(1);
+                Some((Flow::Return, *depth))
+            }
+            Flow::Branch => None,
+            Flow::Other => None,
+        }
+    }
+}
+
+/// Writes a call or a return: the step's number, the hart, and two blanks for each call that it stands in; then what is called and from
+/// where, or where the hart goes back to and with which answer in x10.
+pub(crate) fn write_flow<O: Write>(
+    number: u64,
+    told: &ToldStep,
+    flow: Flow,
+    depth: u32,
+    symbols: &Symbols<'_>,
+    out: &mut O,
+) -> io::Result<()> {
+    let hart = told.hart;
+    write!(out, "{number} {hart} ")?;
+    for _ in 0..depth {
+        write!(out, "  ")?;
+    }
+    let (from, to, answer) = (told.before.pc(), told.after.pc(), told.after.x(10));
+    if flow == Flow::Call {
+        write!(out, "call ")?;
+        write_place(to, symbols, out)?;
+        write!(out, " from ")?;
+        write_place(from, symbols, out)?;
+        writeln!(out)
+    } else {
+        write!(out, "return to ")?;
+        write_place(to, symbols, out)?;
+        writeln!(out, " x10=0x{answer:08X}")
+    }
+}
+
+/// Writes an address by its symbol, or where there is none as a number.
+pub(crate) fn write_place<O: Write>(
+    address: u32,
+    symbols: &Symbols<'_>,
+    out: &mut O,
+) -> io::Result<()> {
+    match symbols.nearest(address) {
+        Some(place) => write!(out, "{place}"),
+        None => write!(out, "0x{address:08X}"),
+    }
+}

@@ -1,0 +1,23 @@
+//! The program `guest`: runs a program as a simulator does, tells its steps, and counts where it spends them.
+#![tactic(auto)]
+
+mod callgrind;
+mod commands;
+mod debug_command;
+mod frame_machine;
+mod functions;
+mod input;
+mod profile_command;
+mod profile_tables;
+mod profile_text;
+mod program;
+mod request;
+mod requests;
+mod run_command;
+mod step_line;
+mod told_end;
+mod trace_command;
+
+pub use frame_machine::FrameMachine;
+pub use program::run_guest;
+pub use told_end::status_of;

@@ -1,0 +1,46 @@
+//! `guest profile`: where a program spends its steps.
+
+use crate::callgrind::write_callgrind;
+use crate::input::read_whole;
+use crate::profile_tables::Tables;
+use crate::profile_text::write_profile;
+use crate::request::ProfileRequest;
+use elf_symbols::Symbols;
+use flat_machine::FlatProcess;
+use guest_profile::Profile;
+use guest_steps::StepString;
+use image_files::{Fault, Folder, read_image};
+use std::io::{Read, Write};
+
+/// Counts the steps of an image on an input, on flat memory, and writes where they are. The image is read before the input.
+pub(crate) fn run_profile<'a, R: Folder + AllocGlobal, I: Read + Drop, O: Write>(
+    rt: &R,
+    request: ProfileRequest<'a>,
+    input: I,
+    out: &mut O,
+) -> Result<u8, Fault<'a>> {
+    let alloc = rt.alloc();
+    let image = read_image(rt, request.image)?;
+    let file = rt.read(request.image)?;
+    let symbols = Symbols::read(alloc, file.as_slice())?;
+    let input = read_whole(alloc, input)?;
+    let process = FlatProcess::new(alloc, &image, input)?;
+    let mut steps = StepString::new(process, request.limit);
+    let mut profile = Profile::new(alloc)?;
+    count_steps(&mut steps, &mut profile)?;
+    profile.end()?;
+    let tables = Tables::of(alloc, &profile, &symbols)?;
+    if request.is_callgrind {
+        write_callgrind(request.image, &tables, &symbols, out)?;
+    } else {
+        write_profile(&profile, &tables, &symbols, request.rows as usize, out)?;
+    }
+    Ok(0)
+}
+
+fn count_steps<'a>(steps: &mut StepString, profile: &mut Profile) -> Result<(), Fault<'a>> {
+    'steps: while let Some(told) = steps.next()? {
+        profile.count(&told)?;
+    }
+    Ok(())
+}

@@ -1,0 +1,52 @@
+//! What is asked for.
+
+/// What is asked for on the command line.
+#[derive(Clone, Copy, Debug)]
+pub(crate) enum Request<'a> {
+    Run(RunRequest<'a>),
+    Trace(TraceRequest<'a>),
+    Profile(ProfileRequest<'a>),
+    Debug(DebugRequest<'a>),
+}
+
+/// Run a program on standard input.
+#[derive(Clone, Copy, Debug)]
+pub(crate) struct RunRequest<'a> {
+    /// How many frames, 4 to 4096; None: flat memory.
+    pub(crate) frames: Option<u32>,
+    /// The most steps.
+    pub(crate) limit: u64,
+    pub(crate) image: &'a str,
+}
+
+/// Tell the steps of a program.
+#[derive(Clone, Copy, Debug)]
+pub(crate) struct TraceRequest<'a> {
+    /// The first step that is told, counted from 1.
+    pub(crate) from: u64,
+    /// How many lines are written at most.
+    pub(crate) count: u64,
+    /// Whose steps are told; None: all harts'.
+    pub(crate) hart: Option<u32>,
+    /// Whether calls and returns alone are told.
+    pub(crate) is_of_functions: bool,
+    pub(crate) image: &'a str,
+}
+
+/// Count where a program spends its steps.
+#[derive(Clone, Copy, Debug)]
+pub(crate) struct ProfileRequest<'a> {
+    pub(crate) limit: u64,
+    /// How many rows a table has at most.
+    pub(crate) rows: u32,
+    pub(crate) is_callgrind: bool,
+    pub(crate) image: &'a str,
+}
+
+/// Answer the lines of a debugger.
+#[derive(Clone, Copy, Debug)]
+pub(crate) struct DebugRequest<'a> {
+    /// The file whose bytes the program reads, if there is one.
+    pub(crate) input: Option<&'a str>,
+    pub(crate) image: &'a str,
+}

@@ -1,0 +1,88 @@
+//! How a guest ended: as a status, and in words.
+
+ghost use Rattle.std.specs.Prelude.{◌≡◌, ◌+◌};
+ghost use Rattle.rv_exec.specs.Causes.{cause_number};
+ghost use Rattle.guest_cli.specs.GuestStatus.{guest_status};
+
+use flat_machine::{End, KillCause};
+use rv_exec::Cause;
+use std::io::Write;
+
+/// The exit status: the guest's own, of which the lower eight bits are seen; 128 and the number of a trap; 125 for a guest that the
+/// machine ended.
+pub fn status_of(end: End) -> u8
+    ensures { result ≡ guest_status end }
+{
+    match end {
+        End::Exited(status) => (status % 256) as u8,
+        End::Trapped { cause, .. } => status_of_trap(cause),
+        End::Killed(_) => 125,
+    }
+}
+
+/// Tells how a guest ended that did not end itself. Where that can't be written, the status alone tells it.
+pub(crate) fn tell_end<E: Write>(end: End, steps: u64, err: &mut E) {
+    match end {
+        End::Exited(_) => return,
+        End::Trapped {
+            hart,
+            cause,
+            pc,
+            value,
+        } => {
+            let number = cause.number();
+            let words = words_of_trap(cause);
+            let _ = writeln!(
+                err,
+                "guest: trap {number} hart {hart} pc 0x{pc:08X} value 0x{value:08X} after {steps} steps: {words}"
+            );
+        }
+        End::Killed(cause) => {
+            let words = words_of_kill(cause);
+            let _ = writeln!(err, "guest: killed {cause} after {steps} steps: {words}");
+        }
+    }
+    let _ = err.flush();
+}
+
+/// 128 and the number of a trap.
+fn status_of_trap(cause: Cause) -> u8
+    ensures { result ≡ 128 + cause_number cause }
+{
+    match cause {
+        Cause::InstructionMisaligned => 128,
+        Cause::IllegalInstruction => 130,
+        Cause::Breakpoint => 131,
+        Cause::LoadMisaligned => 132,
+        Cause::StoreMisaligned => 134,
+        Cause::InstructionPageFault => 140,
+        Cause::LoadPageFault => 141,
+        Cause::StorePageFault => 143,
+    }
+}
+
+/// What a trap means.
+fn words_of_trap(cause: Cause) -> &'static str {
+    match cause {
+        Cause::InstructionMisaligned => "a jump to an address that is no multiple of 4",
+        Cause::IllegalInstruction => "a word that is no instruction of this machine",
+        Cause::Breakpoint => "an ebreak",
+        Cause::LoadMisaligned => "a load from an address that is no multiple of its width",
+        Cause::StoreMisaligned => "a store to an address that is no multiple of its width",
+        Cause::InstructionPageFault => "a jump to where no page may be executed",
+        Cause::LoadPageFault => "a load from where no page may be read",
+        Cause::StorePageFault => "a store to where no page may be written",
+    }
+}
+
+/// What a kill means.
+fn words_of_kill(cause: KillCause) -> &'static str {
+    match cause {
+        KillCause::NoSwap => "no page could be had",
+        KillCause::LoadFailed => "a page could not be loaded",
+        KillCause::Damaged => "a page was no more what was saved",
+        KillCause::ScheduleFull => "its harts took turns more often than can be recorded",
+        KillCause::NoMemory => "there is no memory for its next step",
+        KillCause::Limit => "as many steps were done as were allowed",
+    }
+}

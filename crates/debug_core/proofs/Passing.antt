@@ -52,11 +52,13 @@ module _ {T : Type 0} (shown : T → Process) (limits : T → Limit → Type 0) 
   stops_as full other same (Watched number) points limit count now process stops = stops
   stops_as full other same (Broke number) points limit count now process stops = stops
   stops_as full other same Limited points limit count now process stops = stops
-  stops_as full other same Absent points limit count now process stops =
-      (stops.0, elim stops.1 [
-        | inl lacking ↦ inl (lacking.0, ((λ o. lacking.1.0 (same.1 o)), lacking.1.1))
-        | inr unread ↦ inr unread
-      ])
+  stops_as full other same Absent points limit count now process stops = (
+    stops.0,
+    elim stops.1 [
+      | inl lacking ↦ inl (lacking.0, ((λ o. lacking.1.0 (same.1 o)), lacking.1.1))
+      | inr unread ↦ inr unread
+    ],
+  )
 
 -- ---- before anything was seen
 

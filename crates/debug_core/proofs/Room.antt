@@ -30,9 +30,9 @@ unfolding harts_before
 room_more first now next count moment at reached room one harts hart =
     let more : suc count ≡ count + 1 = omega arith in
     let same : harts_before count moment ++ (at.turn ∷ harts) ≡ harts_before (count + 1) moment ++ harts =
-        sym (append_assoc (harts_before count moment) (at.turn ∷ []) harts)
-        ∙ ap (λ turn. (harts_before count moment ++ turn) ++ harts) (ap turn_in (sym reached))
-        ∙ ap (λ k. harts_before k moment ++ harts) more in
+    sym (append_assoc (harts_before count moment) (at.turn ∷ []) harts)
+    ∙ ap (λ turn. (harts_before count moment ++ turn) ++ harts) (ap turn_in (sym reached))
+    ∙ ap (λ k. harts_before k moment ++ harts) more in
     both_ways (one harts hart) (subst (λ l. now (CannotRecord (at.turn ∷ harts) hart) ↔ first (CannotRecord l hart)) same (room (at.turn ∷ harts) hart))
 
 -- so the next step can be recorded where it can be at the moment

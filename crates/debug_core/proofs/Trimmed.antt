@@ -110,11 +110,13 @@ module _ (used : ℕ) (points : List (Option Point)) (none : (number : ℕ) → 
     stops_for full (Watch number) limit count now process stops = (stops.0, sym (reason_trimmed limit count now) ∙ stops.1)
     stops_for full (Break number) limit count now process stops = (stops.0, sym (reason_trimmed limit count now) ∙ stops.1)
     stops_for full Limited limit count now process stops = (stops.0, sym (reason_trimmed limit count now) ∙ stops.1)
-    stops_for full Absent limit count now process stops =
-        (stops.0, elim stops.1 [
-          | inl lacking ↦ inl (sym (reason_trimmed limit count now) ∙ lacking.0, lacking.1)
-          | inr unread ↦ inr (unread.0, unread_trimmed now.was now.process unread.1)
-        ])
+    stops_for full Absent limit count now process stops = (
+      stops.0,
+      elim stops.1 [
+        | inl lacking ↦ inl (sym (reason_trimmed limit count now) ∙ lacking.0, lacking.1)
+        | inr unread ↦ inr (unread.0, unread_trimmed now.was now.process unread.1)
+      ],
+    )
 
     stops_trimmed : (target : T) (limit : ℕ) (why : Why) (count : ℕ) (first : Moment) (turn : ℕ) (process : Process) → Stops shown limits target (take used points) limit why count first turn process
         → Stops shown limits target points limit why count first turn process

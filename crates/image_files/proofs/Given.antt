@@ -26,7 +26,7 @@ module _ (gives : List ℕ → List ℕ → Type 0) where
   unfolding AreGiven
   one_read called start images i d old new one within read given none e =
       let names : map called (take (i + 1) images) ≡ map called (take i images) ++ called (get_or images i d) ∷ [] =
-          ap (map called) (take_more images i d within) ∙ map-append called (take i images) (get_or images i d ∷ []) in
+      ap (map called) (take_more images i d within) ∙ map-append called (take i images) (get_or images i d ∷ []) in
       let starts : map start new ≡ map start old ++ start one ∷ [] = ap (map start) e ∙ map-append start old (one ∷ []) in
       subst (λ l. AreGiven gives None l (map start new)) (sym names)
       (subst (λ l. AreGiven gives None (map called (take i images) ++ called (get_or images i d) ∷ []) l) (sym starts)

@@ -81,10 +81,7 @@ fn read_images<'a, R: Folder + AllocGlobal>(
 }
 
 /// The listing of the source that a file holds, whatever it begins with.
-pub fn read_source<'a, R: Folder + AllocGlobal>(
-    rt: &R,
-    name: &'a str,
-) -> Result<Listing, Fault<'a>>
+pub fn read_source<'a, R: Folder + AllocGlobal>(rt: &R, name: &'a str) -> Result<Listing, Fault<'a>>
     ensures listing { IfOk result (GivesListing R.gives name.now) }
     ensures fault { IfErr result IsOfNoLine }
     ensures of_file { IfErr result (IsOfFile name.now) }

@@ -68,7 +68,7 @@ one_schedule (turn ∷ turns) (turn' ∷ turns') joined joined' e =
     let first' = begins turn' turns' joined' in
     let hart : turn.hart ≡ turn'.hart = head_is turn.hart turn'.hart first.others first'.others (sym first.is ∙ e ∙ first'.is) in
     let same : replicate turn.count turn.hart ++ written_out turns ≡ replicate turn'.count turn.hart ++ written_out turns' =
-        e ∙ ap (λ h. replicate turn'.count h ++ written_out turns') (sym hart) in
+    e ∙ ap (λ h. replicate turn'.count h ++ written_out turns') (sym hart) in
     elim (compare turn.count turn'.count turn.hart (written_out turns) (written_out turns') same) [
       | inl both ↦
           let rest = one_schedule turns turns' (behind turn turns joined) (behind turn' turns' joined') both.1 in

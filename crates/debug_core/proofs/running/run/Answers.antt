@@ -26,8 +26,8 @@ steps-preserved g c =
     let now : Moment = record { process = shown c.steps.target; turn = c.steps.turn; was = c.steps.invariant.was } in
     let next : Moment = record { process = shown c.advance.new.target; turn = c.advance.new.turn; was = (shown c.steps.target).memory } in
     let goes =
-        advances_by shown limits (limits c.steps.target (CannotRecord [] c.steps.turn)) c.in-Ok-None.field-0 None c.args.points.now c.args.limit c.steps.done now c.advance.new.turn (shown c.advance.new.target) c.in-Ok-None.field-0-is
-        (c.in-Ok-None.ensures.advances c.steps.invariant.was c.steps.invariant.seen) in
+    advances_by shown limits (limits c.steps.target (CannotRecord [] c.steps.turn)) c.in-Ok-None.field-0 None c.args.points.now c.args.limit c.steps.done now c.advance.new.turn (shown c.advance.new.target) c.in-Ok-None.field-0-is
+    (c.in-Ok-None.ensures.advances c.steps.invariant.was c.steps.invariant.seen) in
     let here = room_here (limits c.args.target.now) (limits c.steps.target) c.steps.done first c.steps.turn c.steps.invariant.recorded in
     record {
       was = (shown c.steps.target).memory;
@@ -50,8 +50,8 @@ returns-in-Ok-Some-clause-stops g c =
     let now : Moment = record { process = shown c.steps.target; turn = c.steps.turn; was = c.steps.invariant.was } in
     let full = limits c.steps.target (CannotRecord [] c.steps.turn) in
     let stop =
-        advances_by shown limits full c.in-Ok-Some.field-0 (Some c.in-Ok-Some.why) c.args.points.now c.args.limit c.steps.done now c.advance.new.turn (shown c.advance.new.target) c.in-Ok-Some.field-0-is
-        (c.in-Ok-Some.ensures.advances c.steps.invariant.was c.steps.invariant.seen) in
+    advances_by shown limits full c.in-Ok-Some.field-0 (Some c.in-Ok-Some.why) c.args.points.now c.args.limit c.steps.done now c.advance.new.turn (shown c.advance.new.target) c.in-Ok-Some.field-0-is
+    (c.in-Ok-Some.ensures.advances c.steps.invariant.was c.steps.invariant.seen) in
     record {
       now = now;
       passes = c.steps.invariant.passes;

@@ -7,9 +7,9 @@ use Rattle.paged_target.proofs.paged_target.PagedTarget.new.Goals as goal
 pub returns-in-Ok : goal.returns-in-Ok
 returns-in-Ok g c =
     let alone : map (λ start. start_of start.0 start.1.items) c.push.new.self.items ≡ start_of c.args.image [] ∷ [] =
-        ap (map (λ start. start_of start.0 start.1.items)) c.in_ok-push.ensures.items
-        ∙ ap (λ l. map (λ start. start_of start.0 start.1.items) (l ++ (c.args.image, c.new.result) ∷ [])) c.new-processes.ensures.items
-        ∙ ap (λ l. start_of c.args.image l ∷ []) c.new.ensures.items in
+    ap (map (λ start. start_of start.0 start.1.items)) c.in_ok-push.ensures.items
+    ∙ ap (λ l. map (λ start. start_of start.0 start.1.items) (l ++ (c.args.image, c.new.result) ∷ [])) c.new-processes.ensures.items
+    ∙ ap (λ l. start_of c.args.image l ∷ []) c.new.ensures.items in
     record {
       opens = begins_flat c.args.image (map (λ start. start_of start.0 start.1.items) c.push.new.self.items) c.in-Ok.core alone c.in-Ok.ensures.begins.processes;
       begins = subst (λ starts. MachineBegins c.args.frames c.args.slots.items starts c.in-Ok.core) alone c.in-Ok.ensures.begins;

@@ -58,9 +58,11 @@ fn run_to_end<'a, O: Write>(
     limit: u64,
     out: &mut O,
 ) -> Result<(End, u64), Fault<'a>>
-    ensures ran { IfOk result (λ done. (turn : ℕ) × (by_turns done.1 (first_turn process.old) process.old ≡ Some (turn, process.new))) }
+    ensures ran { IfOk result (λ done. (turn : ℕ) ×
+        (by_turns done.1 (first_turn process.old) process.old ≡ Some (turn, process.new))) }
     ensures within { IfOk result (λ done. done.1 ≤ limit) }
-    ensures ended { IfOk result (λ done. (process.new.ending ≡ Some done.0) ⊎ ((done.0 ≡ Killed Limit × (done.1 ≡ limit)) ⊎ (done.0 ≡ Killed NoMemory))) }
+    ensures ended { IfOk result (λ done. (process.new.ending ≡ Some done.0) ⊎
+        ((done.0 ≡ Killed Limit × (done.1 ≡ limit)) ⊎ (done.0 ≡ Killed NoMemory))) }
 {
     let mut turn = first_turn(process);
     let mut written = 0usize;

@@ -90,7 +90,11 @@ impl CallStack {
     }
 
     /// The hart returns to an address: the last call that was made before it has returned, and those that were made since.
-    pub(crate) fn return_to(&mut self, address: u32, counts: &mut CallCounts) -> Result<(), AllocError> {
+    pub(crate) fn return_to(
+        &mut self,
+        address: u32,
+        counts: &mut CallCounts,
+    ) -> Result<(), AllocError> {
         let behind = self
             .open
             .iter()

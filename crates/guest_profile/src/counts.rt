@@ -32,8 +32,14 @@ impl InsnCounts {
     }
 
     /// Counts a step of the instruction at an address.
-    pub(crate) fn count(&mut self, address: u32, word: u32, is_taken: bool) -> Result<(), AllocError>
-        ensures { OnOk result ((at : ℕ) → counts_of self.new at ≡ counted address word is_taken at (counts_of self.old at)) }
+    pub(crate) fn count(
+        &mut self,
+        address: u32,
+        word: u32,
+        is_taken: bool,
+    ) -> Result<(), AllocError>
+        ensures { OnOk result ((at : ℕ) → counts_of self.new at ≡ counted address word is_taken at
+            (counts_of self.old at)) }
     {
         let counts = match self.counts.get(&address) {
             Some(counts) => *counts,
@@ -44,9 +50,7 @@ impl InsnCounts {
             },
         };
         let more = one_more(counts, is_taken);
-        self.counts
-            .insert(address, more)
-            .map_err(AllocError::from)?;
+        self.counts.insert(address, more).map_err(AllocError::from)?;
         Ok(())
     }
 

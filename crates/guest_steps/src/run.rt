@@ -12,10 +12,12 @@ use flat_machine::{FlatProcess, OutOfMemory, StepRefusal};
 #[tactic(auto, using(flat_machine::specs::RunLaws::by_turns_none, flat_machine::specs::RunLaws::by_turns_more))]
 pub fn run_turns(process: &mut FlatProcess, turn: &mut u32, most: u64) -> Result<u64, OutOfMemory>
     requires live { is_live turn.old process.old ≡ true }
-    ensures ran { IfOk result (λ steps. by_turns steps turn.old process.old ≡ Some (turn.new, process.new)) }
+    ensures ran { IfOk result (λ steps. by_turns steps turn.old process.old ≡
+        Some (turn.new, process.new)) }
     ensures within { IfOk result (λ steps. steps ≤ most) }
     ensures ended { IfOk result (λ steps. steps < most → IsSome process.new.ending) }
-    ensures memory { IfErr result (λ stop. (stop.steps < most) × WantsAt turn.old process.old stop.steps process.new) }
+    ensures memory { IfErr result (λ stop. (stop.steps < most) ×
+        WantsAt turn.old process.old stop.steps process.new) }
     ensures live { is_live turn.new process.new ≡ true }
 {
     let mut steps: u64 = 0;

@@ -52,7 +52,8 @@ impl StepString {
     /// Want of memory for it; nothing has changed then.
     pub fn next(&mut self) -> Result<Option<ToldStep>, AllocError>
         ensures moves { IfOk result (λ next. IfSome next (λ told. Moves told self.old self.new)) }
-        ensures end { IfOk result (λ next. next ≡ None → (self.new ≡ self.old) × ((self.old.left ≡ 0) ⊎ IsSome self.old.process.ending)) }
+        ensures end { IfOk result (λ next. next ≡ None → (self.new ≡ self.old) ×
+            ((self.old.left ≡ 0) ⊎ IsSome self.old.process.ending)) }
         ensures wants { OnErr result (WantsMemory self.old.turn self.old.process) }
         ensures err { OnErr result (self.new ≡ self.old) }
     {

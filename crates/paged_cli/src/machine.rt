@@ -26,7 +26,8 @@ pub(crate) fn run_machine<S: SwapSlot + Send, G: Gate + Sync, R: Threads + Wait 
 ) -> Result<Report, AllocError>
     requires workers { 0 < workers }
     requires slice { 0 < slice }
-    ensures { IfOk result (CameTo S.honest frames slots.items (starts_of handed.now) workers slice) }
+    ensures { IfOk result (CameTo S.honest frames slots.items
+        (starts_of handed.now) workers slice) }
 {
     let ran = hart_carriers::run_machine::<S, ClockRing, G, R>(
         rt, alloc, frames, slots, handed, workers, slice, gate,

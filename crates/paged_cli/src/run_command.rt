@@ -23,7 +23,8 @@ pub fn run_machines<'a, R: Folder + AllocGlobal + Threads + Wait + Sync, O: Writ
 where
     R::File: Send,
     requires { IsRunInRange request.now }
-    ensures { IfOk result (λ status. RunsByThreading R.gives R.makes request.now.threading request.now (O.contents out.old) (O.contents out.new) status) }
+    ensures { IfOk result (λ status. RunsByThreading R.gives R.makes request.now.threading
+        request.now (O.contents out.old) (O.contents out.new) status) }
 {
     match request.threading {
         Threading::Serial => run_serially(rt, request, out),

@@ -43,7 +43,8 @@ impl<R: Wait, E: Write> Gate for StatusLines<'_, R, E> {
 
 /// Writes a line for each process, by their numbers.
 fn write_statuses<E: Write>(statuses: &[Status], err: &mut E) -> io::Result<()>
-    ensures { OnOk result (Appends (E.contents err.old) (E.contents err.new) (statuses_text 0 statuses.now)) }
+    ensures { OnOk result (Appends (E.contents err.old) (E.contents err.new)
+        (statuses_text 0 statuses.now)) }
 {
     let mut number = 0;
     let mut rest = statuses;
@@ -57,7 +58,8 @@ fn write_statuses<E: Write>(statuses: &[Status], err: &mut E) -> io::Result<()>
 
 #[tactic(auto, unfolding(crate::specs::StatusText::status_text))]
 fn write_status<E: Write>(number: usize, status: Status, err: &mut E) -> io::Result<()>
-    ensures { OnOk result (Appends (E.contents err.old) (E.contents err.new) (status_text number status)) }
+    ensures { OnOk result (Appends (E.contents err.old) (E.contents err.new)
+        (status_text number status)) }
 {
     let (steps, output) = (status.steps, status.output);
     writeln!(err, "status {number} steps {steps} output {output}")

@@ -37,7 +37,8 @@ where
     R::File: Send,
     requires in_range { IsRunInRange request.now }
     requires workers { 0 < workers }
-    ensures { IfOk result (λ status. IsRunAsAsked R.gives R.makes request.now workers (O.contents out.old) (O.contents out.new) status) }
+    ensures { IfOk result (λ status. IsRunAsAsked R.gives R.makes request.now workers
+        (O.contents out.old) (O.contents out.new) status) }
 {
     let processes = read_processes(rt, request.images.as_slice(), request.input)?;
     let room = Vec::with_capacity(rt.alloc(), processes.len())?;
@@ -60,7 +61,9 @@ where
     R::File: Send,
     requires in_range { IsRunInRange request.now }
     requires workers { 0 < workers }
-    ensures { IfOk result (RunsAsked R.makes (option_map (λ s. s.now) request.now.swap) request.now.frames request.now.slots (starts_of handed.now) workers request.now.slice) }
+    ensures { IfOk result (RunsAsked R.makes (option_map (λ s.
+        s.now) request.now.swap) request.now.frames request.now.slots
+        (starts_of handed.now) workers request.now.slice) }
 {
     if !is_told {
         return run_asked(rt, request, handed, workers, &OpenGate);
@@ -81,7 +84,9 @@ where
     R::File: Send,
     requires in_range { IsRunInRange request.now }
     requires workers { 0 < workers }
-    ensures { IfOk result (RunsAsked R.makes (option_map (λ s. s.now) request.now.swap) request.now.frames request.now.slots (starts_of handed.now) workers request.now.slice) }
+    ensures { IfOk result (RunsAsked R.makes (option_map (λ s.
+        s.now) request.now.swap) request.now.frames request.now.slots
+        (starts_of handed.now) workers request.now.slice) }
 {
     let (alloc, frames, slice) = (rt.alloc(), request.frames, request.slice);
     match request.swap {

@@ -19,9 +19,11 @@ pub fn film<L: Ledger, S: SwapSlot, C: Clock>(
     events: &[Event],
 ) -> Result<Film, AllocError>
     ensures first { IfOk result (λ film. IsPictureOf core.old [] film.first) }
-    ensures scenes { IfOk result (λ film. IsFilm S.content S.honest S.failures events.now film.scenes.items core.old core.new) }
+    ensures scenes { IfOk result (λ film. IsFilm S.content S.honest S.failures events.now
+        film.scenes.items core.old core.new) }
     ensures frames { IfOk result (λ film. film.frames ≡ core.new.pager.pager.size) }
-    ensures outputs { IfOk result (λ film. map bytes_in film.outputs.items ≡ map output_by core.new.processes) }
+    ensures outputs { IfOk result (λ film. map bytes_in film.outputs.items ≡
+        map output_by core.new.processes) }
 {
     let mut named = Named::new(alloc);
     let first = opening(alloc, core)?;

@@ -69,7 +69,8 @@ pub(crate) fn outputs_of<L: Ledger, S: SwapSlot, C: Clock>(
     alloc: Global,
     core: &Core<L, S, C>,
 ) -> Result<Vec<Output>, AllocError>
-    ensures { IfOk result (λ outputs. map bytes_in outputs.items ≡ map output_by core.now.processes) }
+    ensures { IfOk result (λ outputs. map bytes_in outputs.items ≡
+        map output_by core.now.processes) }
 {
     let mut outputs = Vec::new(alloc);
     'processes: for process in 0..core.processes() as u32 {
@@ -85,7 +86,8 @@ fn output_at<L: Ledger, S: SwapSlot, C: Clock>(
     process: u32,
 ) -> Result<Output, AllocError>
     requires { process < length core.now.processes }
-    ensures { IfOk result (λ output. Some (bytes_in output) ≡ option_map output_by (slice_get core.now.processes process)) }
+    ensures { IfOk result (λ output. Some (bytes_in output) ≡ option_map output_by
+        (slice_get core.now.processes process)) }
 {
     let Some(output) = core.output(process) else {
         unreachable!()

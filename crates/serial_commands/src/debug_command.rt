@@ -33,8 +33,11 @@ pub fn run_debug<'a, R: Folder + AllocGlobal, I: Read + Drop, W: Write>(
     out: &mut W,
 ) -> Result<(), Fault<'a>>
     requires { IsDebugInRange request.now }
-    ensures done { IfOk result (λ _. DebugsAsAsked R.gives request.now (I.remaining input) (W.contents out.old) (W.contents out.new) (Ok tt)) }
-    ensures bad_line { IfErr result (λ fault. IfBadLine fault (λ number. DebugsAsAsked R.gives request.now (I.remaining input) (W.contents out.old) (W.contents out.new) (Err (BadLine number)))) }
+    ensures done { IfOk result (λ _. DebugsAsAsked R.gives request.now (I.remaining input)
+        (W.contents out.old) (W.contents out.new) (Ok tt)) }
+    ensures bad_line { IfErr result (λ fault. IfBadLine fault (λ number.
+        DebugsAsAsked R.gives request.now (I.remaining input) (W.contents out.old)
+        (W.contents out.new) (Err (BadLine number)))) }
 {
     let image = read_image(rt, request.image)?;
     match debug_on(rt.alloc(), request.frames, image, input, out) {
@@ -64,7 +67,8 @@ fn debug_on<I: Read + Drop, W: Write>(
     out: &mut W,
 ) -> Result<(), SessionFault>
     requires { IfSome frames (IsFrom least_frames most_frames) }
-    ensures { IfLinesEnd result (ConversesOver frames image (I.remaining input) (W.contents out.old) (W.contents out.new)) }
+    ensures { IfLinesEnd result (ConversesOver frames image (I.remaining input)
+        (W.contents out.old) (W.contents out.new)) }
 {
     match frames {
         None => debug_flat(alloc, &image, input, out),
@@ -81,7 +85,8 @@ fn debug_flat<I: Read + Drop, W: Write>(
     input: I,
     out: &mut W,
 ) -> Result<(), SessionFault>
-    ensures { IfLinesEnd result (ConversesOver None image.now (I.remaining input) (W.contents out.old) (W.contents out.new)) }
+    ensures { IfLinesEnd result (ConversesOver None image.now (I.remaining input)
+        (W.contents out.old) (W.contents out.new)) }
 {
     let Ok(process) = FlatProcess::new(alloc, image, Vec::new(alloc)) else {
         return Err(SessionFault::NoMemory);
@@ -102,7 +107,8 @@ fn debug_paged<L: Ledger, I: Read + Drop, W: Write>(
     requires one_each { L.parts ≡ frames + 1 }
     requires least { 4 ≤ frames }
     requires most { frames ≤ 4096 }
-    ensures { IfLinesEnd result (ConversesOver (Some frames) image (I.remaining input) (W.contents out.old) (W.contents out.new)) }
+    ensures { IfLinesEnd result (ConversesOver (Some frames) image (I.remaining input)
+        (W.contents out.old) (W.contents out.new)) }
 {
     let Ok(slots) = memory_slots(alloc, SLOTS) else {
         return Err(SessionFault::NoMemory);
@@ -120,7 +126,8 @@ fn debug<T: Target, I: Read + Drop, W: Write>(
     input: I,
     out: &mut W,
 ) -> Result<(), SessionFault>
-    ensures { (end : DebuggerValue T) × HasConversed T.shown T.limits result (I.remaining input) (new_debugger T.shown target) (W.contents out.old) end (W.contents out.new) }
+    ensures { (end : DebuggerValue T) × HasConversed T.shown T.limits result (I.remaining input)
+        (new_debugger T.shown target) (W.contents out.old) end (W.contents out.new) }
 {
     let mut debugger = Debugger::new(target);
     converse(alloc, &mut debugger, input, out)

@@ -28,8 +28,11 @@ pub fn run_drive<'a, R: Folder + AllocGlobal, W: Write>(
     out: &mut W,
 ) -> Result<(), Fault<'a>>
     requires { IsDriveInRange request.now }
-    ensures done { IfOk result (λ _. PlaysAsAsked R.gives request.now (W.contents out.old) (W.contents out.new) None) }
-    ensures bad_line { IfErr result (λ fault. IfBadLine fault (λ number. PlaysAsAsked R.gives request.now (W.contents out.old) (W.contents out.new) (Some number))) }
+    ensures done { IfOk result (λ _. PlaysAsAsked R.gives request.now (W.contents out.old)
+        (W.contents out.new) None) }
+    ensures bad_line { IfErr result (λ fault. IfBadLine fault (λ number.
+        PlaysAsAsked R.gives request.now (W.contents out.old) (W.contents out.new)
+        (Some number))) }
 {
     match play_file(rt, request, out)? {
         Some(number) => Err(Fault::BadLine(number)),
@@ -44,7 +47,8 @@ fn play_file<'a, R: Folder + AllocGlobal, W: Write>(
     out: &mut W,
 ) -> Result<Option<u64>, Fault<'a>>
     requires { IsDriveInRange request.now }
-    ensures played { IfOk result (PlaysAsAsked R.gives request.now (W.contents out.old) (W.contents out.new)) }
+    ensures played { IfOk result (PlaysAsAsked R.gives request.now (W.contents out.old)
+        (W.contents out.new)) }
     ensures fault { IfErr result IsOfNoLine }
 {
     let played = read_and_play(rt, request)?;
@@ -58,7 +62,8 @@ fn read_and_play<'a, R: Folder + AllocGlobal>(
     request: &DriveRequest<'a>,
 ) -> Result<Played, Fault<'a>>
     requires { IsDriveInRange request.now }
-    ensures played { IfOk result (λ played. IsPlayedAsAsked R.gives request.now played.replies.items played.bad_line) }
+    ensures played { IfOk result (λ played.
+        IsPlayedAsAsked R.gives request.now played.replies.items played.bad_line) }
     ensures fault { IfErr result IsOfNoLine }
 {
     let script = read_text(rt, request.script)?;
@@ -86,7 +91,9 @@ pub fn play(
     requires least { 4 ≤ frames }
     requires most { frames ≤ 4096 }
     requires few { length processes.items ≤ 16 }
-    ensures { IfOk result (λ played. Plays frames slots (map (λ start. start_of start.0 start.1.items) processes.items) (lines_of script.now) played.replies.items played.bad_line) }
+    ensures { IfOk result (λ played. Plays frames slots (map (λ start.
+        start_of start.0 start.1.items) processes.items) (lines_of script.now) played.replies.items
+        played.bad_line) }
 {
     let blank = Blank::new(u64::from(frames) + 1);
     play_with::<Brand>(alloc, frames, blank, slots, processes, script)
@@ -106,7 +113,9 @@ fn play_with<L: Ledger>(
     requires least { 4 ≤ frames }
     requires most { frames ≤ 4096 }
     requires few { length processes.items ≤ 16 }
-    ensures { IfOk result (λ played. Plays frames slots (map (λ start. start_of start.0 start.1.items) processes.items) (lines_of script.now) played.replies.items played.bad_line) }
+    ensures { IfOk result (λ played. Plays frames slots (map (λ start.
+        start_of start.0 start.1.items) processes.items) (lines_of script.now) played.replies.items
+        played.bad_line) }
 {
     let script = read_drive_script(alloc, script)?;
     let mut machine = new_machine::<L>(alloc, frames, blank, slots, processes)?;

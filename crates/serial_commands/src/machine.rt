@@ -27,7 +27,8 @@ pub fn new_machine<L: Ledger>(
     requires least { 4 ≤ frames }
     requires most { frames ≤ 4096 }
     requires few { length processes.items ≤ 16 }
-    ensures { IfOk result (λ core. MachineBegins frames (replicate slots zero_content) (map (λ start. start_of start.0 start.1.items) processes.items) core) }
+    ensures { IfOk result (λ core. MachineBegins frames (replicate slots zero_content)
+        (map (λ start. start_of start.0 start.1.items) processes.items) core) }
 {
     let slots = memory_slots(alloc, slots)?;
     machine_on(alloc, frames, blank, slots, processes)
@@ -47,7 +48,8 @@ pub(crate) fn machine_on<L: Ledger, S: SwapSlot>(
     requires least { 4 ≤ frames }
     requires most { frames ≤ 4096 }
     requires few { length processes.items ≤ 16 }
-    ensures { IfOk result (λ core. MachineBegins frames slots.items (map (λ start. start_of start.0 start.1.items) processes.items) core) }
+    ensures { IfOk result (λ core. MachineBegins frames slots.items (map (λ start.
+        start_of start.0 start.1.items) processes.items) core) }
 {
     match Core::new(alloc, frames, blank, slots, processes) {
         Ok(core) => Ok(core),

@@ -11,7 +11,8 @@ use std::io::Write;
 
 /// Writes a line for each reply.
 pub fn write_replies<W: Write>(replies: &[Reply], out: &mut W) -> io::Result<()>
-    ensures { OnOk result (Appends (W.contents out.old) (W.contents out.new) (replies_text replies.now)) }
+    ensures { OnOk result (Appends (W.contents out.old) (W.contents out.new)
+        (replies_text replies.now)) }
 {
     for reply in replies {
         write_reply(*reply, out)?;

@@ -27,7 +27,8 @@ pub fn run_serially<'a, R: Folder + AllocGlobal, W: Write>(
     out: &mut W,
 ) -> Result<u8, Fault<'a>>
     requires { IsRunInRange request.now }
-    ensures { IfOk result (λ status. RunsAsAsked R.gives R.makes request.now (W.contents out.old) (W.contents out.new) status) }
+    ensures { IfOk result (λ status. RunsAsAsked R.gives R.makes request.now (W.contents out.old)
+        (W.contents out.new) status) }
 {
     let processes = read_processes(rt, request.images.as_slice(), request.input)?;
     let status = run_asked(rt, request, processes, out)?;
@@ -43,7 +44,10 @@ fn run_asked<'a, R: Folder + AllocGlobal, W: Write>(
 ) -> Result<u8, Fault<'a>>
     requires in_range { IsRunInRange request.now }
     requires few { length processes.items ≤ 16 }
-    ensures { IfOk result (WritesRun (ReportsAsked R.makes (option_map (λ s. s.now) request.now.swap) request.now.frames request.now.slots (map (λ start. start_of start.0 start.1.items) processes.items) request.now.slice request.now.limit) (W.contents out.old) (W.contents out.new)) }
+    ensures { IfOk result (WritesRun (ReportsAsked R.makes (option_map (λ s.
+        s.now) request.now.swap) request.now.frames request.now.slots (map (λ start.
+        start_of start.0 start.1.items) processes.items) request.now.slice request.now.limit)
+        (W.contents out.old) (W.contents out.new)) }
 {
     match request.swap {
         None => {
@@ -68,7 +72,9 @@ fn run<'a, S: SwapSlot, W: Write>(
 ) -> Result<u8, Fault<'a>>
     requires in_range { IsRunInRange request.now }
     requires few { length processes.items ≤ 16 }
-    ensures { IfOk result (WritesRun (ReportsOver S.content S.honest S.failures request.now.frames slots.items (map (λ start. start_of start.0 start.1.items) processes.items) request.now.slice request.now.limit) (W.contents out.old) (W.contents out.new)) }
+    ensures { IfOk result (WritesRun (ReportsOver S.content S.honest S.failures request.now.frames
+        slots.items (map (λ start. start_of start.0 start.1.items) processes.items)
+        request.now.slice request.now.limit) (W.contents out.old) (W.contents out.new)) }
 {
     let blank = Blank::new(u64::from(request.frames) + 1);
     run_with::<Brand, S, W>(alloc, request, blank, slots, processes, out)
@@ -87,7 +93,9 @@ fn run_with<'a, L: Ledger, S: SwapSlot, W: Write>(
     requires parts { blank.parts ≡ L.parts }
     requires one_each { L.parts ≡ request.now.frames + 1 }
     requires few { length processes.items ≤ 16 }
-    ensures { IfOk result (WritesRun (ReportsOver S.content S.honest S.failures request.now.frames slots.items (map (λ start. start_of start.0 start.1.items) processes.items) request.now.slice request.now.limit) (W.contents out.old) (W.contents out.new)) }
+    ensures { IfOk result (WritesRun (ReportsOver S.content S.honest S.failures request.now.frames
+        slots.items (map (λ start. start_of start.0 start.1.items) processes.items)
+        request.now.slice request.now.limit) (W.contents out.old) (W.contents out.new)) }
 {
     let mut machine = machine_on::<L, S>(alloc, request.frames, blank, slots, processes)?;
     play(&mut machine, request.slice, u64::from(request.limit));

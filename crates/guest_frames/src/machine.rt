@@ -1,0 +1,70 @@
+//! A machine of one process, played to its end.
+
+ghost use Rattle.std.specs.Prelude.{◌≡◌, ◌+◌, ◌≤◌};
+
+use clock_ring::ClockRing;
+use elf_image::Image;
+use flat_machine::{End, KillCause};
+use image_files::{Fault, memory_slots};
+use machine_core::Core;
+use serial_driver::{play, standing_of};
+use std::alloc::Global;
+use std::io::Write;
+use std::marker::Brand;
+use std::sync::ledger::{Blank, Ledger};
+use swap_slots::MemorySlot;
+
+/// The slots of the machine: one for each page that a process may have.
+const SLOTS: u32 = 4096;
+
+/// How many instructions of a hart come before the next hart's turn.
+const SLICE: u32 = 1000;
+
+/// Runs an image on an input, on a machine of so many frames, until it has ended or so many events have happened; writes its output, and
+/// tells its ending and how many steps it took.
+pub(crate) fn run_on_frames<'a, W: Write>(
+    alloc: Global,
+    frames: u32,
+    image: Image,
+    input: Vec<u8>,
+    limit: u64,
+    out: &mut W,
+) -> Result<(End, u64), Fault<'a>> {
+    let blank = Blank::new(u64::from(frames) + 1);
+    run_machine::<Brand, W>(alloc, frames, blank, image, input, limit, out)
+}
+
+fn run_machine<'a, L: Ledger, W: Write>(
+    alloc: Global,
+    frames: u32,
+    blank: Blank,
+    image: Image,
+    input: Vec<u8>,
+    limit: u64,
+    out: &mut W,
+) -> Result<(End, u64), Fault<'a>>
+    requires name { blank.name ≡ L.name }
+    requires parts { blank.parts ≡ L.parts }
+    requires one_each { L.parts ≡ frames + 1 }
+{
+    let slots = memory_slots(alloc, SLOTS)?;
+    let mut processes = Vec::new(alloc);
+    if processes.push((image, input)).is_err() {
+        return Err(Fault::NoMemory);
+    }
+    let made = Core::<L, MemorySlot, ClockRing>::new(alloc, frames, blank, slots, processes);
+    let Ok(mut core) = made else {
+        return Err(Fault::NoMemory);
+    };
+    play(&mut core, SLICE, limit);
+    if core.processes() == 0 {
+        return Err(Fault::NoMemory);
+    }
+    let standing = standing_of(&core, 0);
+    out.write_all(standing.output)?;
+    out.flush()?;
+    match standing.end {
+        Some(end) => Ok((end, standing.steps)),
+        None => Ok((End::Killed(KillCause::Limit), standing.steps)),
+    }
+}

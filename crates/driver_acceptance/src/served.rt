@@ -40,12 +40,12 @@ fn serves<L: Ledger>(
     )?;
     let mut ran = 0;
     let mut other = None;
-    for _ in 0..MOST_STEPS {
+    for before in 0..MOST_STEPS {
         if core.end(0) != Some(None) {
             break;
         }
         match serve_step(&mut core, 0, 0) {
-            Served::Ran => ran += 1,
+            Served::Ran => ran = before + 1,
             served => {
                 other = Some(served);
                 break;

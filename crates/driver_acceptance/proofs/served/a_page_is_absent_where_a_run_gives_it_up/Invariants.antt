@@ -3,6 +3,3 @@ use Rattle.driver_acceptance.proofs.served.a_page_is_absent_where_a_run_gives_it
 
 abbrev pub ghosts-serves : goal.ghosts-serves
 ghosts-serves g a = record { name = a.blank.name; parts = a.blank.parts }
-
-abbrev pub ghosts-serves-2 : goal.ghosts-serves-2
-ghosts-serves-2 g a = record { name = a.blank.name; parts = a.blank.parts }

@@ -82,11 +82,12 @@ impl FlatProcess {
     {
         let mut steps: u64 = 0;
         while steps < most {
-            steps += self.step_plainly(hart, most - steps);
+            let course = self.step_plainly(hart, most - steps);
+            steps += course.done;
             if steps == most {
                 return Ok(steps);
             }
-            match self.step_fully(hart) {
+            match self.end_step(hart, course.last) {
                 Ok(true) => steps += 1,
                 Ok(false) => return Ok(steps + 1),
                 Err(AllocError) => return Err(OutOfMemory { steps }),

@@ -1,12 +1,19 @@
-ghost use Rattle.std.specs.Prelude.{◌≡◌, ◌≤◌, Some, None, true, OnOk, OnErr, IfOk, IfErr};
+ghost use Rattle.std.specs.Prelude.{◌≡◌, ◌<◌, ◌≤◌, Err, Some, None, true, OnOk, OnErr, IfOk, IfErr};
+ghost use Rattle.rv_exec.specs.Line.{line};
+ghost use Rattle.env_calls.specs.Serving.{TakesMemory};
+ghost use Rattle.env_calls.specs.Step.{effect};
+ghost use Rattle.env_calls.specs.Stepping.{IsEffect, Stays};
 ghost use Rattle.flat_machine.specs.Process.{may_step, flat_step};
 ghost use Rattle.flat_machine.specs.ByTurns.{by_turns, turn_after};
+ghost use Rattle.flat_machine.specs.PlainRun.{StopsAs, StopsNext};
 ghost use Rattle.flat_machine.specs.Refusals.{RefusesStep, WantsMemory};
 
 use crate::end::End;
-use crate::plain_run::run_plainly;
+use crate::plain_run::{Course, run_plainly};
 use crate::process::FlatProcess;
-use env_calls::{ServeStop, Stepped, step};
+use env_calls::{Env, ServeStop, Stepped, finish};
+use page_memory::FlatMemory;
+use rv_exec::{Outcome, Regs};
 use std::alloc::AllocError;
 use thiserror::Error;
 
@@ -51,34 +58,37 @@ impl FlatProcess {
         ensures wants { OnErr result (WantsMemory hart self.old) }
         ensures err { OnErr result (self.new ≡ self.old) }
     {
-        if self.step_plainly(hart, 1) == 1 {
+        let course = self.step_plainly(hart, 1);
+        if course.done == 1 {
             return Ok(true);
         }
-        self.step_fully(hart)
+        self.end_step(hart, course.last)
     }
 
-    /// Steps a hart that may step, up to so many times, until its next instruction calls or traps, and tells how
-    /// many steps that were. Nothing but its registers and the memory has changed.
+    /// Steps a hart that may step, up to so many times, until its next instruction calls or traps, and tells how far that
+    /// was. Nothing but its registers and the memory has changed.
     #[inline]
-    pub(crate) fn step_plainly(&mut self, hart: u32, most: u64) -> u64
+    pub(crate) fn step_plainly(&mut self, hart: u32, most: u64) -> Course
         requires { may_step hart self.old ≡ true }
-        ensures none { result ≡ 0 → self.new ≡ self.old }
-        ensures one { result ≡ 1 → flat_step hart self.old ≡ Some self.new }
-        ensures alone { turn_after hart self.old ≡ hart → by_turns result hart self.old ≡
+        ensures none { result.done ≡ 0 → self.new ≡ self.old }
+        ensures one { result.done ≡ 1 → flat_step hart self.old ≡ Some self.new }
+        ensures alone { turn_after hart self.old ≡ hart → by_turns result.done hart self.old ≡
             Some (hart, self.new) }
+        ensures stopped { result.done < most → StopsNext hart result.last self.new }
         ensures same { (self.new.ending ≡ None) ×
             (self.new.environment.live ≡ self.old.environment.live) }
-        ensures within { result ≤ most }
+        ensures within { result.done ≤ most }
     {
         let regs = &mut self.harts[hart as usize];
         run_plainly(hart, regs, &mut self.memory, most)
     }
 
-    /// The same as `step_live`, for a call or a trap: away from the loop, whose steps have no such answers.
+    /// The same as `step_live`, once the hart's next instruction came to an outcome: it calls or traps.
     #[cold]
     #[inline(never)]
-    pub(crate) fn step_fully(&mut self, hart: u32) -> Result<bool, AllocError>
-        requires { may_step hart self.old ≡ true }
+    pub(crate) fn end_step(&mut self, hart: u32, outcome: Outcome) -> Result<bool, AllocError>
+        requires may { may_step hart self.old ≡ true }
+        requires stops { StopsNext hart outcome self.old }
         ensures ok { OnOk result (flat_step hart self.old ≡ Some self.new) }
         ensures same { IfOk result (λ same. same ≡ true → (self.new.ending ≡ None) ×
             (self.new.environment.live ≡ self.old.environment.live)) }
@@ -86,7 +96,7 @@ impl FlatProcess {
         ensures err { OnErr result (self.new ≡ self.old) }
     {
         let regs = &mut self.harts[hart as usize];
-        match step(&mut self.env, hart, regs, &mut self.memory) {
+        match finish_step(&mut self.env, hart, regs, &mut self.memory, outcome) {
             Ok(stepped) => match stepped {
                 Stepped::Ran => Ok(true),
                 Stepped::Yielded => Ok(true),
@@ -117,4 +127,25 @@ impl FlatProcess {
             Err(ServeStop::NoMemory) => Err(AllocError),
         }
     }
+}
+
+/// Does what is left of a hart's step, once its instruction came to an outcome.
+fn finish_step(
+    env: &mut Env,
+    hart: u32,
+    regs: &mut Regs,
+    memory: &mut FlatMemory,
+    outcome: Outcome,
+) -> Result<Stepped, ServeStop>
+    requires stops { StopsAs outcome (line hart regs.old memory.old) }
+    ensures stepped { IfOk result (λ stepped.
+        IsEffect (effect hart regs.old env.old memory.old) stepped regs.new env.new memory.new) }
+    ensures regs_stay { Stays result (regs.new ≡ regs.old) }
+    ensures env_stays { Stays result (env.new ≡ env.old) }
+    ensures memory_stays { Stays result (memory.new ≡ memory.old) }
+    ensures stop { IfErr result (λ stop. stop ≡ ServeStop.NoMemory) }
+    ensures no_memory { result ≡ Err ServeStop.NoMemory →
+        TakesMemory env.old (effect hart regs.old env.old memory.old) }
+{
+    finish(env, hart, regs, memory, outcome)
 }

@@ -147,5 +147,3 @@ bound_call before between after hart regs regs' memory memory' e same_regs same_
       rest.bound u s (back_passes u (pages_used regs memory) (call_pages regs' memory') used) (back_passes s (pages_stored regs memory) (call_stores regs' memory') stores)
       (first.bound u s (front_passes u (pages_used regs memory) (call_pages regs' memory') used) (front_passes s (pages_stored regs memory) (call_stores regs' memory') stores) was);
 }
-
-pub ruleset stepping = (effect_next, effect_call, effect_traps, used_next, used_traps, step_contains, bound_first)

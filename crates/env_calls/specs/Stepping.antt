@@ -1,4 +1,4 @@
--- What an answer of `step` says of the step's effect.
+-- What is said of an answer that tells what became of a hart by a step: of its effect, and of what stays.
 use Rattle.std.specs.Prelude.{◌≡◌, ◌+◌, length, Result, Ok, Err}
 use Rattle.page_memory.specs.Memory.{Memory}
 use Rattle.rv_exec.specs.Registers.{Registers}

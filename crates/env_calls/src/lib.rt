@@ -1,4 +1,4 @@
-//! The environment calls of a process, and whole steps of its harts, over any bus.
+//! The environment calls of a process, and how the steps of its harts end, over any bus.
 //!
 //! An ECALL is served by the number in a7; its answer goes to a0, and pc goes on by 4.
 #![tactic(auto)]
@@ -17,4 +17,4 @@ mod transfers;
 pub use env::Env;
 pub use served::{ServeStop, Served};
 pub use serving::serve;
-pub use stepping::{Stepped, finish, step};
+pub use stepping::{Stepped, finish};

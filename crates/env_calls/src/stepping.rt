@@ -1,14 +1,13 @@
 ghost use Rattle.std.specs.Prelude.{◌≡◌, Err, IfOk, OnErr};
-ghost use Rattle.env_calls.specs.Step.{effect, step_pages, step_stores};
 ghost use Rattle.rv_exec.specs.Bounds.{Bounds};
-ghost use Rattle.env_calls.specs.Serving.{TakesMemory, UsesPages};
+ghost use Rattle.env_calls.specs.Serving.{TakesMemory};
 ghost use Rattle.env_calls.specs.Finishing.{rest_effect, rest_pages, rest_stores, RestUses};
 ghost use Rattle.env_calls.specs.Stepping.{IsEffect, Stays, served_step};
 
 use crate::env::Env;
 use crate::served::{ServeStop, Served};
 use crate::serving::serve;
-use rv_exec::{Bus, Cause, Outcome, Regs, execute};
+use rv_exec::{Bus, Cause, Outcome, Regs};
 
 /// What became of a hart, and of its process, by one step.
 #[derive(Clone, Copy, Debug, PartialEq, Eq)]
@@ -27,49 +26,13 @@ pub enum Stepped {
     Trapped(Cause, u32),
 }
 
-/// Takes one whole step of a hart: its next instruction, and the environment call that it makes.
-///
-/// # Errors
-///
-/// `Absent`, with its number, where a page that the step uses has to be brought in first; `NoMemory` where
-/// the output or the mapped pages could not grow. Nothing has changed.
-#[inline]
-#[tactic(auto, using(crate::specs::StepLaws::stepping))]
-pub fn step<B: Bus>(
-    env: &mut Env,
-    hart: u32,
-    regs: &mut Regs,
-    bus: &mut B,
-) -> Result<Stepped, ServeStop>
-    ensures stepped { let effect = effect hart regs.old env.old (B.memory bus.old) in
-        IfOk result (λ stepped. IsEffect effect stepped regs.new env.new (B.memory bus.new)) }
-    ensures regs_stay { Stays result (regs.new ≡ regs.old) }
-    ensures env_stays { Stays result (env.new ≡ env.old) }
-    ensures memory_stays { Stays result (B.memory bus.new ≡ B.memory bus.old) }
-
-    // Absent only for a page that the step uses and the bus lacks; else the bus had all that it used, and marked them.
-    ensures pages { let used = step_pages hart regs.old (B.memory bus.old) in
-        UsesPages (B.has bus.old) (B.marks bus.new) (B.lacks bus.old) used result }
-    ensures bound { let memory = B.memory bus.old in
-        Bounds (B.within bus.old) (B.within bus.new) (step_pages hart regs.old memory) (step_stores hart regs.old memory) }
-
-    // Only output and new pages take memory.
-    ensures no_memory { result ≡ Err ServeStop.NoMemory →
-        TakesMemory env.old (effect hart regs.old env.old (B.memory bus.old)) }
-    ensures kept { B.keeps bus.old bus.new }
-{
-    match execute(hart, regs, bus) {
-        Outcome::Done => Ok(Stepped::Ran),
-        outcome => finish(env, hart, regs, bus, outcome),
-    }
-}
-
 /// Ends the step of a hart whose instruction came to an outcome: serves the call that it makes, and does nothing more of
 /// any other.
 ///
 /// # Errors
 ///
-/// As [`step`]'s: `Absent` too where the instruction's own outcome is that. Nothing has changed since the instruction.
+/// `Absent`, with its number, where a page that the call uses has to be brought in first, or where the instruction's own
+/// outcome is that; `NoMemory` where the output or the mapped pages could not grow. Nothing has changed since the instruction.
 #[cold]
 #[inline(never)]
 pub fn finish<B: Bus>(

@@ -133,10 +133,10 @@ long_overwritten : (xs : List ℕ) (o : ℕ) (w : List ℕ) → length xs ≡ 40
 long_overwritten xs o w whole fits =
     omega (arith, length-append (take o xs) (w ++ drop (o + length w) xs), length-append w (drop (o + length w) xs), length-take-le o xs (omega arith), length-drop (o + length w) xs)
 
-pub number_fits : (width : Width) (address word : ℕ) → address % bytes_in width ≡ 0 → page_offset address + length (little_bytes (bytes_in width) word) ≤ 4096
-number_fits Byte address word aligned = omega arith
-number_fits Half address word aligned = omega arith
-number_fits Word address word aligned = omega arith
+pub offset_fits : (width : Width) (offset word : ℕ) → offset % bytes_in width ≡ 0 → offset < 4096 → offset + length (little_bytes (bytes_in width) word) ≤ 4096
+offset_fits Byte offset word aligned small = omega arith
+offset_fits Half offset word aligned small = omega arith
+offset_fits Word offset word aligned small = omega arith
 
 module _ (es : List (ℕ × Rights)) (bytes : List ℕ) (place : ℕ) (now : List (ℕ × Page)) where
   -- the page at a place lies within the row

@@ -1,5 +1,5 @@
--- What is remembered of a page that was found: the first address that it serves, and its place.
-use Rattle.std.specs.Prelude.{◌≡◌, ℕ, ◌+◌, ◌*◌, ◌<◌, Bool, true, List, All, length, Option, Some, option_map}
+-- What is remembered of a page that was found: its first address, and where its bytes begin, which tells its place.
+use Rattle.std.specs.Prelude.{◌≡◌, ℕ, ◌+◌, ◌*◌, ◌/◌, ◌%◌, ◌<◌, ◌≤◌, Bool, true, List, All, length, Option, Some, option_map}
 use Rattle.page_memory.specs.declared.words.Access.{Access}
 use Rattle.page_memory.specs.declared.words.Access.TheVariants.{Fetch, Load, Store}
 use Rattle.page_memory.specs.declared.hint.Hint.{Hint}
@@ -18,17 +18,23 @@ pub record StandsAt (access : Access) (pages : List (ℕ × Page)) (number place
   pub there : place_of number pages ≡ Some place
   pub allowed : may_at access place pages ≡ Some true
 
--- an address whose offset past its page's start is below 4 is such a start only where the page stands at the place
+-- a page starts there, and stands at the place; or no address is in it
 pub record Leads (access : Access) (pages : List (ℕ × Page)) (start place : ℕ) : Type 0 where
-  pub aligned : (number past : ℕ) → past < 4 → number * 4096 + past ≡ start → past ≡ 0
-  pub stands : (number past : ℕ) → past < 4 → number * 4096 + past ≡ start → StandsAt access pages number place
+  pub multiple : start % 4096 ≡ 0
+  pub limit : start ≤ 4294967296
+  pub stands : (number : ℕ) → start < 4294967296 → number * 4096 ≡ start → StandsAt access pages number place
+
+-- a page whose bytes begin there
+pub record LeadsTo (access : Access) (pages : List (ℕ × Page)) (hint : Hint) : Type 0 where
+  pub whole : hint.first % 4096 ≡ 0
+  pub leads : Leads access pages hint.start (hint.first / 4096)
 
 -- each of these pages, where it is one
 abbrev pub LeadAll : Access → List (ℕ × Page) → List Hint → Type 0
-LeadAll access pages hints = All (λ hint. Leads access pages hint.start hint.place) hints
+LeadAll access pages hints = All (LeadsTo access pages) hints
 
 -- what is remembered holds of these pages
 pub record Remembers (pages : List (ℕ × Page)) (hints : Hints) : Type 0 where
-  pub fetched : Leads Fetch pages hints.fetched.start hints.fetched.place
+  pub fetched : LeadsTo Fetch pages hints.fetched
   pub loaded : LeadAll Load pages hints.loaded
   pub stored : LeadAll Store pages hints.stored

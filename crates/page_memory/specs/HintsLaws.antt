@@ -1,5 +1,5 @@
 -- How what is remembered of a page serves an access, and how it is kept.
-use Rattle.std.proofs.Common.{◌≡◌, ℕ, zero, suc, ◌+◌, ◌*◌, ◌/◌, ◌%◌, ◌<◌, List, [], ◌∷◌, length, replicate, slice_set, Contains, true, ◌≢◌, IsTrue, Option, Some, None, option_map, option_and_then, Ok, Err, arith, refl, sym, ap, ◌∙◌, ne_eqb}
+use Rattle.std.proofs.Common.{◌≡◌, ℕ, zero, suc, ◌+◌, ◌*◌, ◌/◌, ◌%◌, ◌<◌, List, [], ◌∷◌, length, replicate, slice_set, Contains, true, ◌≢◌, IsTrue, Option, Some, None, option_map, option_and_then, Ok, Err, arith, refl, sym, subst, ap, ◌∙◌, ne_eqb}
 use Rattle.std.proofs.lemmas.Option.{same_Some}
 use Rattle.std.specs.Ordering.{nat_cmp}
 use Rattle.std.specs.Option.{IsSomeAnd}
@@ -19,28 +19,40 @@ use Rattle.page_memory.specs.EntriesLaws.{value_by_place, place_of-with_value, l
 use Rattle.page_memory.specs.AccessLaws.{usable_found, aligned_usable, stored_at}
 use Rattle.page_memory.specs.declared.hint.Hint.{Hint}
 use Rattle.page_memory.specs.declared.hint.Hints.{Hints}
-use Rattle.page_memory.specs.Hints.{may_at, StandsAt, Leads, LeadAll, Remembers}
+use Rattle.page_memory.specs.Hints.{may_at, StandsAt, Leads, LeadsTo, LeadAll, Remembers}
 use Rattle.std.proofs.lemmas.List.Elements.{All-replicate, All-set, All-weaker, All-contains}
 
--- 4 is past the start of every page
-pub leads_nowhere : (access : Access) (pages : List (ℕ × Page)) (place : ℕ) → Leads access pages 4 place
-leads_nowhere access pages place = record { aligned = λ number past below e. absurd (omega arith); stands = λ number past below e. absurd (omega arith) }
+-- where it is past all addresses
+pub leads_nowhere : (access : Access) (pages : List (ℕ × Page)) (place : ℕ) → Leads access pages 4294967296 place
+leads_nowhere access pages place = record { multiple = omega arith; limit = omega arith; stands = λ number low e. absurd (omega arith) }
 
 -- the start of a page that stands there
-pub leads_there : (access : Access) (pages : List (ℕ × Page)) (address start place : ℕ) → start ≡ address / 4096 * 4096 → StandsAt access pages (page_number address) place → Leads access pages start place
-leads_there access pages address start place is stands =
+pub leads_there : (access : Access) (pages : List (ℕ × Page)) (address start place : ℕ) → address < 4294967296 → start ≡ address / 4096 * 4096 → StandsAt access pages (page_number address) place → Leads access pages start place
+leads_there access pages address start place small is stands =
     record {
-      aligned = λ number past below e. omega arith;
-      stands = λ number past below e. let same : number ≡ page_number address = omega arith in rw same stands;
+      multiple = omega arith;
+      limit = omega arith;
+      stands = λ number low e. let same : number ≡ page_number address = omega arith in rw same stands;
     }
+
+-- where an address leads there, its page stands there, and it is aligned
+pub stands_led : (access : Access) (pages : List (ℕ × Page)) (width address start place : ℕ) → Leads access pages start place → address < 4294967296
+    → address % width < 4 → address / 4096 * 4096 + address % width ≡ start → StandsAt access pages (page_number address) place
+stands_led access pages width address start place leads small below e =
+    let multiple = leads.multiple in
+    leads.stands (page_number address) (omega arith) (omega arith)
+
+pub aligned_led : (access : Access) (pages : List (ℕ × Page)) (width address start place : ℕ) → Leads access pages start place
+    → address % width < 4 → address / 4096 * 4096 + address % width ≡ start → address % width ≡ 0
+aligned_led access pages width address start place leads below e = let multiple = leads.multiple in omega arith
 
 -- the page at the place, where an address leads there
 pub page_led_to : (access : Access) (pages : List (ℕ × Page)) (width address start place : ℕ) (page : Page) → Leads access pages start place
-    → address % width < 4 → address / 4096 * 4096 + address % width ≡ start → value_at place pages ≡ Some page → aligned_page (from_entries pages) access width address ≡ Ok page
-page_led_to access pages width address start place page leads below e is =
-    let stands = leads.stands (page_number address) (address % width) below e in
+    → address < 4294967296 → address % width < 4 → address / 4096 * 4096 + address % width ≡ start → value_at place pages ≡ Some page → aligned_page (from_entries pages) access width address ≡ Ok page
+page_led_to access pages width address start place page leads small below e is =
+    let stands = stands_led access pages width address start place leads small below e in
     let found : get (from_entries {R = nat_cmp} pages) (page_number address) ≡ Some page = value_by_place pages (page_number address) ∙ ap (option_and_then (λ k. value_at k pages)) stands.there ∙ is in
-    aligned_usable (from_entries pages) access width address (Ok page) (leads.aligned (page_number address) (address % width) below e)
+    aligned_usable (from_entries pages) access width address (Ok page) (aligned_led access pages width address start place leads below e)
     (usable_found (from_entries pages) access address page found (same_Some _ _ (sym (ap (option_map (λ p. may access p.rights)) is) ∙ stands.allowed)))
 
 -- a page with other bytes and the same rights is allowed what it was
@@ -55,9 +67,10 @@ allowed_stays access (e ∷ es) (suc changed) (suc place) old new was same = all
 pub still_leads : (access : Access) (pages : List (ℕ × Page)) (start place changed : ℕ) (old new : Page) → value_at changed pages ≡ Some old → new.rights ≡ old.rights → Leads access pages start place → Leads access (with_value pages changed new) start place
 still_leads access pages start place changed old new was same leads =
     record {
-      aligned = leads.aligned;
-      stands = λ number past below e.
-          let s = leads.stands number past below e in
+      multiple = leads.multiple;
+      limit = leads.limit;
+      stands = λ number low e.
+          let s = leads.stands number low e in
           record {
             within = let l = length-with_value pages changed new in omega (arith, s.within);
             there = place_of-with_value pages changed number new ∙ s.there;
@@ -65,9 +78,9 @@ still_leads access pages start place changed old new was same leads =
           };
     }
 
-pub fetched_led : (pages : List (ℕ × Page)) (address start place : ℕ) (page : Page) → Leads Fetch pages start place → address / 4096 * 4096 + address % 4 ≡ start → value_at place pages ≡ Some page → fetched (from_entries pages) address ≡ Ok (number_at 4 address page)
+pub fetched_led : (pages : List (ℕ × Page)) (address start place : ℕ) (page : Page) → Leads Fetch pages start place → address < 4294967296 → address / 4096 * 4096 + address % 4 ≡ start → value_at place pages ≡ Some page → fetched (from_entries pages) address ≡ Ok (number_at 4 address page)
 unfolding fetched
-fetched_led pages address start place page leads e is = ap (answer_by (number_at 4 address)) (page_led_to Fetch pages 4 address start place page leads (omega arith) e is)
+fetched_led pages address start place page leads small e is = ap (answer_by (number_at 4 address)) (page_led_to Fetch pages 4 address start place page leads small (omega arith) e is)
 
 allowed_of : (access : Access) (found : Option Page) → IsSomeAnd found (λ page. IsTrue (may access page.rights)) → option_map (λ (page : Page). may access page.rights) found ≡ Some true
 allowed_of access None never = absurd never
@@ -78,9 +91,9 @@ pub stands_of : (access : Access) (pages : List (ℕ × Page)) (number place : �
 stands_of access pages number place within there allowed = record { within = within; there = there; allowed = allowed_of access (value_at place pages) allowed }
 
 -- what is fetched from it
-pub fetched_there : (pages : List (ℕ × Page)) (address place : ℕ) (page : Page) → address % 4 ≡ 0 → StandsAt Fetch pages (page_number address) place → value_at place pages ≡ Some page → fetched (from_entries pages) address ≡ Ok (number_at 4 address page)
-fetched_there pages address place page aligned stands is =
-    fetched_led pages address (address / 4096 * 4096) place page (leads_there Fetch pages address (address / 4096 * 4096) place refl stands) (omega arith) is
+pub fetched_there : (pages : List (ℕ × Page)) (address place : ℕ) (page : Page) → address < 4294967296 → address % 4 ≡ 0 → StandsAt Fetch pages (page_number address) place → value_at place pages ≡ Some page → fetched (from_entries pages) address ≡ Ok (number_at 4 address page)
+fetched_there pages address place page small aligned stands is =
+    fetched_led pages address (address / 4096 * 4096) place page (leads_there Fetch pages address (address / 4096 * 4096) place small refl stands) small (omega arith) is
 
 pub fetched_misaligned : (memory : Pages) (address : ℕ) → address % 4 ≢ 0 → fetched memory address ≡ Err Misaligned
 unfolding fetched aligned_page
@@ -98,16 +111,34 @@ below_four Half address = omega arith
 below_four Word address = omega arith
 
 -- a hint of those that lead
-pub one_of : (access : Access) (pages : List (ℕ × Page)) (hints : List Hint) (hint : Hint) → LeadAll access pages hints → Contains hints hint → Leads access pages hint.start hint.place
-one_of access pages hints hint all among = All-contains (λ (h : Hint). Leads access pages h.start h.place) hints hint all among
+pub one_of : (access : Access) (pages : List (ℕ × Page)) (hints : List Hint) (hint : Hint) → LeadAll access pages hints → Contains hints hint → LeadsTo access pages hint
+one_of access pages hints hint all among = All-contains (LeadsTo access pages) hints hint all among
 
-pub loaded_led : (pages : List (ℕ × Page)) (width : Width) (address start place : ℕ) (page : Page) → Leads Load pages start place → address / 4096 * 4096 + address % bytes_in width ≡ start → value_at place pages ≡ Some page → loaded (from_entries pages) width address ≡ Ok (number_at (bytes_in width) address page)
+-- one that is made of a page that stands there
+pub leads_to_it : (access : Access) (pages : List (ℕ × Page)) (hint : Hint) (address first place : ℕ) → address < 4294967296 → first ≡ place * 4096
+    → hint ≡ record { start = address / 4096 * 4096; first = first } → StandsAt access pages (page_number address) place → LeadsTo access pages hint
+leads_to_it access pages hint address first place small at is stands =
+    let made : Hint = record { start = address / 4096 * 4096; first = first } in
+    let same : place ≡ first / 4096 = omega arith in
+    subst (LeadsTo access pages) (sym is) (record {
+      whole = omega arith;
+      leads = subst (Leads access pages made.start) same (leads_there access pages address (address / 4096 * 4096) place small refl stands);
+    })
+
+still_led_to : (access : Access) (pages : List (ℕ × Page)) (hint : Hint) (changed : ℕ) (old new : Page) → value_at changed pages ≡ Some old → new.rights ≡ old.rights
+    → LeadsTo access pages hint → LeadsTo access (with_value pages changed new) hint
+still_led_to access pages hint changed old new was same is = record { whole = is.whole; leads = still_leads access pages hint.start (hint.first / 4096) changed old new was same is.leads }
+
+to_nowhere : (access : Access) (pages : List (ℕ × Page)) → LeadsTo access pages (record { start = 4294967296; first = 0 })
+to_nowhere access pages = record { whole = refl; leads = leads_nowhere access pages (0 / 4096) }
+
+pub loaded_led : (pages : List (ℕ × Page)) (width : Width) (address start place : ℕ) (page : Page) → Leads Load pages start place → address < 4294967296 → address / 4096 * 4096 + address % bytes_in width ≡ start → value_at place pages ≡ Some page → loaded (from_entries pages) width address ≡ Ok (number_at (bytes_in width) address page)
 unfolding loaded
-loaded_led pages width address start place page leads e is = ap (answer_by (number_at (bytes_in width) address)) (page_led_to Load pages (bytes_in width) address start place page leads (below_four width address) e is)
+loaded_led pages width address start place page leads small e is = ap (answer_by (number_at (bytes_in width) address)) (page_led_to Load pages (bytes_in width) address start place page leads small (below_four width address) e is)
 
-pub loaded_there : (pages : List (ℕ × Page)) (width : Width) (address place : ℕ) (page : Page) → address % bytes_in width ≡ 0 → StandsAt Load pages (page_number address) place → value_at place pages ≡ Some page → loaded (from_entries pages) width address ≡ Ok (number_at (bytes_in width) address page)
-loaded_there pages width address place page aligned stands is =
-    loaded_led pages width address (address / 4096 * 4096) place page (leads_there Load pages address (address / 4096 * 4096) place refl stands) (omega arith) is
+pub loaded_there : (pages : List (ℕ × Page)) (width : Width) (address place : ℕ) (page : Page) → address < 4294967296 → address % bytes_in width ≡ 0 → StandsAt Load pages (page_number address) place → value_at place pages ≡ Some page → loaded (from_entries pages) width address ≡ Ok (number_at (bytes_in width) address page)
+loaded_there pages width address place page small aligned stands is =
+    loaded_led pages width address (address / 4096 * 4096) place page (leads_there Load pages address (address / 4096 * 4096) place small refl stands) small (omega arith) is
 
 pub loaded_misaligned : (memory : Pages) (width : Width) (address : ℕ) → address % bytes_in width ≢ 0 → loaded memory width address ≡ Err Misaligned
 unfolding loaded aligned_page
@@ -120,35 +151,34 @@ not_loaded_there memory width address fault aligned is = ap (answer_by (number_a
 pub ruleset not_loaded = (loaded_misaligned, not_loaded_there)
 
 -- what a store changes where a hint leads
-pub stored_led : (pages : List (ℕ × Page)) (width : Width) (address word start place : ℕ) (page : Page) → Leads Store pages start place → address / 4096 * 4096 + address % bytes_in width ≡ start → value_at place pages ≡ Some page → stored (from_entries pages) width address word ≡ Ok (from_entries (with_value pages place (record page { bytes = overwritten page.bytes (page_offset address) (little_bytes (bytes_in width) word) })))
-stored_led pages width address word start place page leads e is =
-    let stands = leads.stands (page_number address) (address % bytes_in width) (below_four width address) e in
-    stored_at pages width address word place page (leads.aligned (page_number address) (address % bytes_in width) (below_four width address) e) stands.there is
+pub stored_led : (pages : List (ℕ × Page)) (width : Width) (address word start place : ℕ) (page : Page) → Leads Store pages start place → address < 4294967296 → address / 4096 * 4096 + address % bytes_in width ≡ start → value_at place pages ≡ Some page → stored (from_entries pages) width address word ≡ Ok (from_entries (with_value pages place (record page { bytes = overwritten page.bytes (page_offset address) (little_bytes (bytes_in width) word) })))
+stored_led pages width address word start place page leads small e is =
+    let stands = stands_led Store pages (bytes_in width) address start place leads small (below_four width address) e in
+    stored_at pages width address word place page (aligned_led Store pages (bytes_in width) address start place leads (below_four width address) e) stands.there is
     (same_Some _ _ (sym (ap (option_map (λ p. may Store p.rights)) is) ∙ stands.allowed))
 
 -- no page is remembered
-pub nothing_remembered : (pages : List (ℕ × Page)) (hints : Hints) → hints.fetched ≡ record { start = 4; place = 0 } → hints.loaded ≡ replicate 64 (record { start = 4; place = 0 }) → hints.stored ≡ replicate 64 (record { start = 4; place = 0 }) → Remembers pages hints
+pub nothing_remembered : (pages : List (ℕ × Page)) (hints : Hints) → hints.fetched ≡ record { start = 4294967296; first = 0 } → hints.loaded ≡ replicate 64 (record { start = 4294967296; first = 0 }) → hints.stored ≡ replicate 64 (record { start = 4294967296; first = 0 }) → Remembers pages hints
 nothing_remembered pages hints fetched loaded stored =
     record {
-      fetched = rw fetched (leads_nowhere Fetch pages 0);
-      loaded = rw loaded (All-replicate (λ (h : Hint). Leads Load pages h.start h.place) 64 _ (leads_nowhere Load pages 0));
-      stored = rw stored (All-replicate (λ (h : Hint). Leads Store pages h.start h.place) 64 _ (leads_nowhere Store pages 0));
+      fetched = subst (LeadsTo Fetch pages) (sym fetched) (to_nowhere Fetch pages);
+      loaded = subst (LeadAll Load pages) (sym loaded) (All-replicate (LeadsTo Load pages) 64 _ (to_nowhere Load pages));
+      stored = subst (LeadAll Store pages) (sym stored) (All-replicate (LeadsTo Store pages) 64 _ (to_nowhere Store pages));
     }
 
 -- what is remembered holds on where a page's bytes change
 pub still_remembered : (pages : List (ℕ × Page)) (hints : Hints) (changed : ℕ) (old new : Page) → value_at changed pages ≡ Some old → new.rights ≡ old.rights → Remembers pages hints → Remembers (with_value pages changed new) hints
 still_remembered pages hints changed old new was same is =
     record {
-      fetched = still_leads Fetch pages hints.fetched.start hints.fetched.place changed old new was same is.fetched;
+      fetched = still_led_to Fetch pages hints.fetched changed old new was same is.fetched;
       loaded = all_still Load hints.loaded is.loaded;
       stored = all_still Store hints.stored is.stored;
     }
   where
     all_still : (access : Access) (among : List Hint) → LeadAll access pages among → LeadAll access (with_value pages changed new) among
     all_still access among all =
-        All-weaker (λ (h : Hint). Leads access pages h.start h.place) (λ (h : Hint). Leads access (with_value pages changed new) h.start h.place)
-        (λ h leads. still_leads access pages h.start h.place changed old new was same leads) among all
+        All-weaker (LeadsTo access pages) (LeadsTo access (with_value pages changed new)) (λ h leads. still_led_to access pages h changed old new was same leads) among all
 
 -- one more page is remembered
-pub one_remembered : (access : Access) (pages : List (ℕ × Page)) (hints : List Hint) (i : ℕ) (hint : Hint) → Leads access pages hint.start hint.place → LeadAll access pages hints → LeadAll access pages (slice_set hints i hint)
-one_remembered access pages hints i hint leads all = All-set (λ (h : Hint). Leads access pages h.start h.place) hints i hint leads all
+pub one_remembered : (access : Access) (pages : List (ℕ × Page)) (hints : List Hint) (i : ℕ) (hint : Hint) → LeadsTo access pages hint → LeadAll access pages hints → LeadAll access pages (slice_set hints i hint)
+one_remembered access pages hints i hint leads all = All-set (LeadsTo access pages) hints i hint leads all

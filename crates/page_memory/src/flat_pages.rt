@@ -7,9 +7,9 @@ ghost use Rattle.page_memory.specs.Reply.{answered};
 
 use crate::allowed::place_allowed;
 use crate::fault::MemoryFault;
-use crate::hint::{Hint, Hints, hint_for, remember, start_if_aligned};
+use crate::hint::{Hint, Hints, hint_for, remember};
 use crate::page::Page;
-use crate::page_bytes::number;
+use crate::page_bytes::{number, number_from};
 use crate::page_row::PageRow;
 use crate::reply::Reply;
 use crate::rights::Rights;
@@ -88,12 +88,13 @@ impl FlatPages {
         ensures word { result ≡ fetched self.old address }
         ensures memory { self.new ≡ self.old }
     {
-        let start = start_if_aligned(address, Width::Word);
-        if start == self.hints.fetched.start {
-            let page = self.pages.bytes(self.hints.fetched.place);
-            Ok(number(page, Width::Word, address))
-        } else {
-            self.fetch_anew(address).answer()
+        let hint = self.hints.fetched;
+        match hint.past(address, Width::Word) {
+            Some(past) => {
+                let page = self.pages.bytes(hint.first);
+                Ok(number_from(page, Width::Word, past))
+            }
+            None => self.fetch_anew(address).answer(),
         }
     }
 
@@ -113,11 +114,9 @@ impl FlatPages {
             Err(MemoryFault::Misaligned) => return Reply::Misaligned,
             Err(MemoryFault::PageFault) => return Reply::PageFault,
         };
-        self.hints.fetched = Hint {
-            start: address / 4096 * 4096,
-            place,
-        };
-        let page = self.pages.bytes(place);
+        let first = self.pages.first(place);
+        self.hints.fetched = Hint::of(address, first);
+        let page = self.pages.bytes(first);
         Reply::Number(number(page, Width::Word, address))
     }
 
@@ -128,11 +127,12 @@ impl FlatPages {
         ensures memory { self.new ≡ self.old }
     {
         let hint = hint_for(&self.hints.loaded, address);
-        if start_if_aligned(address, width) == hint.start {
-            let page = self.pages.bytes(hint.place);
-            Ok(number(page, width, address))
-        } else {
-            self.load_anew(width, address).answer()
+        match hint.past(address, width) {
+            Some(past) => {
+                let page = self.pages.bytes(hint.first);
+                Ok(number_from(page, width, past))
+            }
+            None => self.load_anew(width, address).answer(),
         }
     }
 
@@ -151,9 +151,10 @@ impl FlatPages {
             Err(MemoryFault::Misaligned) => return Reply::Misaligned,
             Err(MemoryFault::PageFault) => return Reply::PageFault,
         };
-        let start = address / 4096 * 4096;
-        remember(&mut self.hints.loaded, address, Hint { start, place });
-        let page = self.pages.bytes(place);
+        let first = self.pages.first(place);
+        let hint = Hint::of(address, first);
+        remember(&mut self.hints.loaded, address, hint);
+        let page = self.pages.bytes(first);
         Reply::Number(number(page, width, address))
     }
 
@@ -179,11 +180,12 @@ impl FlatPages {
         ensures err { OnErr result (self.new ≡ self.old) }
     {
         let hint = hint_for(&self.hints.stored, address);
-        if start_if_aligned(address, width) == hint.start {
-            self.pages.put_number(hint.place, width, address, word);
-            Ok(())
-        } else {
-            self.store_anew(width, address, word)
+        match hint.past(address, width) {
+            Some(past) => {
+                self.pages.put_number(hint.first, width, past, word);
+                Ok(())
+            }
+            None => self.store_anew(width, address, word),
         }
     }
 
@@ -199,9 +201,11 @@ impl FlatPages {
             return Err(MemoryFault::Misaligned);
         }
         let place = place_allowed(&self.pages, page_of(address), Access::Store)?;
-        let start = address / 4096 * 4096;
-        remember(&mut self.hints.stored, address, Hint { start, place });
-        self.pages.put_number(place, width, address, word);
+        let first = self.pages.first(place);
+        let hint = Hint::of(address, first);
+        remember(&mut self.hints.stored, address, hint);
+        let offset = offset_in_page(address);
+        self.pages.put_number(first, width, offset, word);
         Ok(())
     }
 
@@ -239,7 +243,7 @@ impl FlatPages {
         ensures { result ≡ byte_at self.now address }
     {
         let place = self.pages.place(page_of(address))?;
-        let page = self.pages.bytes(place);
+        let page = self.pages.bytes(self.pages.first(place));
         Some(page[offset_in_page(address)])
     }
 
@@ -252,7 +256,7 @@ impl FlatPages {
         ensures whole { IfOk result (λ bytes. length bytes.now ≡ 4096) }
     {
         match place_allowed(&self.pages, page_of(address), access) {
-            Ok(place) => Ok(self.pages.bytes(place)),
+            Ok(place) => Ok(self.pages.bytes(self.pages.first(place))),
             Err(fault) => Err(fault),
         }
     }

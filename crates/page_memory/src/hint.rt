@@ -1,19 +1,22 @@
-ghost use Rattle.std.specs.Prelude.{◌≡◌, ℕ, ◌+◌, ◌*◌, ◌/◌, ◌%◌, List, Contains, slice_set, replicate};
-ghost use Rattle.page_memory.specs.Words.{page_number, bytes_in};
+ghost use Rattle.std.specs.Prelude.{◌≡◌, ℕ, ◌+◌, ◌*◌, ◌/◌, ◌%◌, ◌<◌, ◌≤◌, List, Contains, IfSome, slice_set, replicate};
+ghost use Rattle.page_memory.specs.Words.{page_number, page_offset, bytes_in};
 ghost use Rattle.page_memory.specs.Pages.{Page};
 ghost use Rattle.page_memory.specs.Hints.{Remembers};
 
 use crate::words::Width;
 
-/// What is remembered of a page that was found: its first address and its place.
+/// What is remembered of a page that was found: its first address, and where its bytes begin in the row.
 #[derive(Clone, Copy, Debug, PartialEq, Eq)]
 pub(crate) struct Hint {
-    pub(crate) start: u32,
-    pub(crate) place: usize,
+    pub(crate) start: u64,
+    pub(crate) first: usize,
 }
 
-/// No page: none starts at 4, and no address less than 4 past its page's start is 4.
-const NOWHERE: Hint = Hint { start: 4, place: 0 };
+/// No page: it starts past all addresses.
+const NOWHERE: Hint = Hint {
+    start: 0x1_0000_0000,
+    first: 0,
+};
 
 /// How many pages are remembered for loads, and for stores: one for each number that the low bits of a
 /// page number can have.
@@ -42,7 +45,7 @@ impl Hints {
 }
 
 fn nowhere() -> [Hint; COUNT as usize]
-    ensures { result ≡ replicate 64 (record { start = 4; place = 0 }) }
+    ensures { result ≡ replicate 64 (record { start = 4294967296; first = 0 }) }
 {
     [NOWHERE; COUNT as usize]
 }
@@ -63,11 +66,35 @@ pub(crate) fn remember(hints: &mut [Hint; COUNT as usize], address: u32, hint: H
     hints[(address / 4096 % COUNT) as usize] = hint;
 }
 
-/// The first address of an address's page, and what the address is past a multiple of an access's width:
-/// one comparison with a page's first address tells that it is this page's, and that the access is aligned.
-#[inline]
-pub(crate) fn start_if_aligned(address: u32, width: Width) -> u32
-    ensures { result ≡ address / 4096 * 4096 + address % bytes_in width }
-{
-    address / 4096 * 4096 + address % width.bytes()
+impl Hint {
+    /// What is remembered of an address's page, whose bytes begin there.
+    #[inline]
+    pub(crate) fn of(address: u32, first: usize) -> Hint
+        ensures { result ≡ record { start = address / 4096 * 4096; first = first } }
+    {
+        Hint {
+            start: u64::from(address / 4096 * 4096),
+            first,
+        }
+    }
+
+    /// How far an address is past the page's first one, where the page serves an access of this width there. The compiler
+    /// makes one comparison of the two.
+    #[inline(always)]
+    pub(crate) fn past(self, address: u32, width: Width) -> Option<usize>
+        requires multiple { self.start % 4096 ≡ 0 }
+        requires limit { self.start ≤ 4294967296 }
+        ensures served { IfSome result (λ _. address / 4096 * 4096 + address % bytes_in width ≡
+            self.start) }
+        ensures offset { IfSome result (λ past. past ≡ page_offset address) }
+        ensures aligned { IfSome result (λ past. past % bytes_in width ≡ 0) }
+        ensures small { IfSome result (λ past. past < 4096) }
+    {
+        let past = u64::from(address).wrapping_sub(self.start);
+        if past < 4096 && past % u64::from(width.bytes()) == 0 {
+            Some(past as usize)
+        } else {
+            None
+        }
+    }
 }

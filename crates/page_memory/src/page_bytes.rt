@@ -1,4 +1,4 @@
-ghost use Rattle.std.specs.Prelude.{◌≡◌, ◌+◌, ◌%◌, ◌≤◌, length, drop};
+ghost use Rattle.std.specs.Prelude.{◌≡◌, ◌+◌, ◌%◌, ◌<◌, ◌≤◌, length, drop};
 ghost use Rattle.byteorder.specs.Endian.{little_bytes, little_number};
 ghost use Rattle.page_memory.specs.Pages.{overwritten};
 ghost use Rattle.page_memory.specs.Words.{bytes_in, page_offset};
@@ -13,7 +13,18 @@ pub fn number(page: &[u8], width: Width, address: u32) -> u32
     requires aligned { address % bytes_in width ≡ 0 }
     ensures { result ≡ little_number (bytes_in width) (drop (page_offset address) page.now) }
 {
-    let from = &page[offset_in_page(address)..];
+    number_from(page, width, offset_in_page(address))
+}
+
+/// The same at an offset.
+#[inline]
+pub(crate) fn number_from(page: &[u8], width: Width, offset: usize) -> u32
+    requires whole { length page.now ≡ 4096 }
+    requires aligned { offset % bytes_in width ≡ 0 }
+    requires within { offset < 4096 }
+    ensures { result ≡ little_number (bytes_in width) (drop offset page.now) }
+{
+    let from = &page[offset..];
     match width {
         Width::Byte => u32::from(from[0]),
         Width::Half => u32::from(LittleEndian::read_u16(from)),
@@ -23,14 +34,24 @@ pub fn number(page: &[u8], width: Width, address: u32) -> u32
 
 /// Writes the low bytes of a word into a page's 4096 bytes at an address that is aligned to their width.
 #[inline]
-#[tactic(auto, using(crate::proofs::Overwriting::one_byte))]
 pub fn put_number(page: &mut [u8], width: Width, address: u32, word: u32)
     requires whole { length page.old ≡ 4096 }
     requires aligned { address % bytes_in width ≡ 0 }
     ensures { page.new ≡ overwritten page.old (page_offset address)
         (little_bytes (bytes_in width) word) }
 {
-    let offset = offset_in_page(address);
+    put_number_from(page, width, offset_in_page(address), word);
+}
+
+/// The same at an offset.
+#[inline]
+#[tactic(auto, using(crate::proofs::Overwriting::one_byte))]
+pub(crate) fn put_number_from(page: &mut [u8], width: Width, offset: usize, word: u32)
+    requires whole { length page.old ≡ 4096 }
+    requires aligned { offset % bytes_in width ≡ 0 }
+    requires within { offset < 4096 }
+    ensures { page.new ≡ overwritten page.old offset (little_bytes (bytes_in width) word) }
+{
     match width {
         Width::Byte => page[offset] = (word % 0x100) as u8,
         Width::Half => {

@@ -1,13 +1,13 @@
-ghost use Rattle.std.specs.Prelude.{◌≡◌, ◌+◌, ◌*◌, ◌≤◌, ◌^◌, ◌<◌, ◌%◌, [], ◌∷◌, ◌++◌, None, IfOk, IfSome, OnOk, OnErr, length, take};
+ghost use Rattle.std.specs.Prelude.{◌≡◌, ◌+◌, ◌*◌, ◌/◌, ◌≤◌, ◌^◌, ◌<◌, ◌%◌, [], ◌∷◌, ◌++◌, None, IfOk, IfSome, OnOk, OnErr, length, take};
 ghost use Rattle.std.specs.Option.{IsSomeAnd};
 ghost use Rattle.byteorder.specs.Endian.{little_bytes};
 ghost use Rattle.page_memory.specs.Entries.{place_of, value_at};
 ghost use Rattle.page_memory.specs.PageRow.{Rewritten, page_of_row, with_page};
 ghost use Rattle.page_memory.specs.Pages.{overwritten};
-ghost use Rattle.page_memory.specs.Words.{bytes_in, page_offset};
+ghost use Rattle.page_memory.specs.Words.{bytes_in};
 
 use crate::page::Page;
-use crate::page_bytes::{put_bytes, put_number};
+use crate::page_bytes::{put_bytes, put_number_from};
 use crate::page_map::PageMap;
 use crate::rights::Rights;
 use crate::words::{PAGE_SIZE, Width};
@@ -84,29 +84,45 @@ impl PageRow {
         *self.rights.at(place)
     }
 
-    /// The bytes of the page at a place.
+    /// Where the bytes of the page at a place begin.
     #[inline]
-    pub fn bytes(&self, place: usize) -> &[u8]
+    pub fn first(&self, place: usize) -> usize
         requires { place < length self.now }
-        ensures bytes { IsSomeAnd (value_at place self.now) (λ page. page.bytes ≡ result.now) }
+        ensures { result ≡ place * 4096 }
+    {
+        // For the proof alone: a read tells its invariant.
+        let _ = &self.rights;
+        let _ = &self.bytes;
+        place * PAGE_SIZE
+    }
+
+    /// The bytes of the page whose bytes begin there.
+    #[inline]
+    pub fn bytes(&self, first: usize) -> &[u8]
+        requires whole { first % 4096 ≡ 0 }
+        requires within { first / 4096 < length self.now }
+        ensures bytes { IsSomeAnd (value_at (first / 4096) self.now) (λ page.
+            page.bytes ≡ result.now) }
         ensures whole { length result.now ≡ 4096 }
     {
         // For the proof alone: a read tells its invariant.
         let _ = &self.rights;
-        page_in(self.bytes.as_slice(), place)
+        page_in(self.bytes.as_slice(), first)
     }
 
-    /// Writes the low bytes of a word at an address of the page at a place. The address is aligned to their width.
+    /// Writes the low bytes of a word at an offset of the page whose bytes begin there. The offset is aligned to their width.
     #[inline]
-    pub fn put_number(&mut self, place: usize, width: Width, address: u32, word: u32)
-        requires within { place < length self.old }
-        requires aligned { address % bytes_in width ≡ 0 }
-        ensures { Rewritten place (page_offset address) (little_bytes (bytes_in width) word)
-            self.old self.new }
+    pub fn put_number(&mut self, first: usize, width: Width, offset: usize, word: u32)
+        requires whole { first % 4096 ≡ 0 }
+        requires within { first / 4096 < length self.old }
+        requires aligned { offset % bytes_in width ≡ 0 }
+        requires small { offset < 4096 }
+        ensures { Rewritten (first / 4096) offset (little_bytes (bytes_in width) word) self.old
+            self.new }
     {
         // For the proof alone: a read tells its invariant.
         let _ = &self.rights;
-        put_number_in(self.bytes.as_mut_slice(), place, width, address, word);
+        put_number_in(self.bytes.as_mut_slice(), first, width, offset, word);
     }
 
     /// Writes bytes into the page at a place, from an offset on.
@@ -173,27 +189,28 @@ impl PageRow {
     }
 }
 
-/// The page at a place of a row of bytes.
+/// The page of a row of bytes that begins there.
 #[inline]
-fn page_in(bytes: &[u8], place: usize) -> &[u8]
-    requires { place * 4096 + 4096 ≤ length bytes.now }
-    ensures page { result.now ≡ page_of_row place bytes.now }
+fn page_in(bytes: &[u8], first: usize) -> &[u8]
+    requires whole { first % 4096 ≡ 0 }
+    requires within { first + 4096 ≤ length bytes.now }
+    ensures page { result.now ≡ page_of_row (first / 4096) bytes.now }
     ensures whole { length result.now ≡ 4096 }
 {
-    let start = place * PAGE_SIZE;
-    &bytes[start..start + PAGE_SIZE]
+    &bytes[first..first + PAGE_SIZE]
 }
 
-/// Writes the low bytes of a word at an aligned address of the page at a place of a row of bytes.
+/// Writes the low bytes of a word at an aligned offset of the page of a row of bytes that begins there.
 #[inline]
-fn put_number_in(bytes: &mut [u8], place: usize, width: Width, address: u32, word: u32)
-    requires within { place * 4096 + 4096 ≤ length bytes.old }
-    requires aligned { address % bytes_in width ≡ 0 }
-    ensures { bytes.new ≡ with_page place (overwritten (page_of_row place bytes.old)
-        (page_offset address) (little_bytes (bytes_in width) word)) bytes.old }
+fn put_number_in(bytes: &mut [u8], first: usize, width: Width, offset: usize, word: u32)
+    requires whole { first % 4096 ≡ 0 }
+    requires within { first + 4096 ≤ length bytes.old }
+    requires aligned { offset % bytes_in width ≡ 0 }
+    requires small { offset < 4096 }
+    ensures { bytes.new ≡ with_page (first / 4096) (overwritten (page_of_row (first / 4096)
+        bytes.old) offset (little_bytes (bytes_in width) word)) bytes.old }
 {
-    let start = place * PAGE_SIZE;
-    put_number(&mut bytes[start..start + PAGE_SIZE], width, address, word);
+    put_number_from(&mut bytes[first..first + PAGE_SIZE], width, offset, word);
 }
 
 /// Writes bytes from an offset on into the page at a place of a row of bytes.

@@ -1,4 +1,4 @@
-use Rattle.std.proofs.Common.{◌≡◌, List, ℕ, Ok, Some, drop, sym, ap, ◌∙◌, arith}
+use Rattle.std.proofs.Common.{◌≡◌, ◌/◌, List, ℕ, Ok, Some, drop, sym, ap, ◌∙◌, arith}
 use Rattle.byteorder.specs.Endian.{little_number}
 use Rattle.page_memory.specs.declared.words.Access.TheVariants.{Fetch}
 use Rattle.page_memory.specs.Words.{page_number, page_offset}
@@ -6,13 +6,24 @@ use Rattle.page_memory.specs.Entries.{place_of, value_at}
 use Rattle.page_memory.specs.Pages.{Page, fetched}
 use Rattle.page_memory.proofs.PageRows.{had}
 use Rattle.page_memory.specs.Hints.{StandsAt}
-use Rattle.page_memory.specs.HintsLaws.{fetched_there, stands_of}
+use Rattle.page_memory.specs.HintsLaws.{fetched_there, leads_to_it, stands_of}
 use Rattle.page_memory.proofs.flat_pages.FlatPages.fetch_anew.Goals as goal
 
 pub returns-clause-word : goal.returns-clause-word
 returns-clause-word c =
     let there : place_of (page_number c.args.address) c.self.inside.pages ≡ Some c.in-Ok.place = ap (λ n. place_of n c.self.inside.pages) (sym c.page_of.ensures.number) ∙ c.in-Ok.ensures.place in
     let stands : StandsAt Fetch c.self.inside.pages (page_number c.args.address) c.in-Ok.place = stands_of Fetch c.self.inside.pages (page_number c.args.address) c.in-Ok.place c.in-Ok.ensures.within there c.in-Ok.ensures.allowed in
-    let got = had (λ (page : Page). page.bytes ≡ c.bytes-page.result.now) (value_at c.in-Ok.place c.self.inside.pages) c.bytes-page.ensures.bytes in
+    let got = had (λ (page : Page). page.bytes ≡ c.bytes-page.result.now) (value_at (c.first-first.result / 4096) c.self.inside.pages) c.bytes-page.ensures.bytes in
+    let same : c.in-Ok.place ≡ c.first-first.result / 4096 = omega (arith, c.first-first.ensures) in
     ap Ok (c.number.ensures ∙ ap (λ (l : List ℕ). little_number 4 (drop (page_offset c.args.address) l)) (sym got.1.1))
-    ∙ sym (ap (λ m. fetched m c.args.address) (sym c.self.view_is) ∙ fetched_there c.self.inside.pages c.args.address c.in-Ok.place got.0 (omega arith) stands got.1.0)
+    ∙ sym (ap (λ m. fetched m c.args.address) (sym c.self.view_is) ∙ fetched_there c.self.inside.pages c.args.address c.in-Ok.place got.0 (omega arith) (omega arith) stands (ap (λ k. value_at k c.self.inside.pages) same ∙ got.1.0))
+
+pub invariant_of-self : goal.invariant_of-self
+invariant_of-self c =
+    let there : place_of (page_number c.args.address) c.self.inside.pages ≡ Some c.in-Ok.place = ap (λ n. place_of n c.self.inside.pages) (sym c.page_of.ensures.number) ∙ c.in-Ok.ensures.place in
+    let stands : StandsAt Fetch c.self.inside.pages (page_number c.args.address) c.in-Ok.place = stands_of Fetch c.self.inside.pages (page_number c.args.address) c.in-Ok.place c.in-Ok.ensures.within there c.in-Ok.ensures.allowed in
+    record {
+      fetched = leads_to_it Fetch c.self.inside.pages _ c.args.address c.first-first.result c.in-Ok.place (omega arith) c.first-first.ensures c.of-self-inside.ensures stands;
+      loaded = c.self.invariant.loaded;
+      stored = c.self.invariant.stored;
+    }

@@ -1,4 +1,4 @@
-use Rattle.std.proofs.Common.{◌≡◌, Ok, Some, sym, ap, ◌∙◌}
+use Rattle.std.proofs.Common.{◌≡◌, ◌/◌, Ok, Some, sym, ap, ◌∙◌, arith}
 use Rattle.page_memory.specs.Words.{page_number}
 use Rattle.page_memory.specs.Entries.{place_of, value_at}
 use Rattle.page_memory.specs.Pages.{Page, answer_by, usable}
@@ -15,6 +15,7 @@ pub returns-in-Ok-clause-bytes : goal.returns-in-Ok-clause-bytes
 returns-in-Ok-clause-bytes c =
     let there : place_of (page_number c.args.address) c.self.inside.pages ≡ Some c.in-Ok.place = ap (λ n. place_of n c.self.inside.pages) (sym c.page_of.ensures.number) ∙ c.in-Ok.ensures.place in
     let stands = stands_of c.args.access c.self.inside.pages (page_number c.args.address) c.in-Ok.place c.in-Ok.ensures.within there c.in-Ok.ensures.allowed in
-    let got = had (λ (page : Page). page.bytes ≡ c.bytes.result.now) (value_at c.in-Ok.place c.self.inside.pages) c.bytes.ensures.bytes in
+    let got = had (λ (page : Page). page.bytes ≡ c.bytes.result.now) (value_at (c.first.result / 4096) c.self.inside.pages) c.bytes.ensures.bytes in
+    let same : c.in-Ok.place ≡ c.first.result / 4096 = omega (arith, c.first.ensures) in
     ap (λ m. answer_by (λ (page : Page). page.bytes) (usable m c.args.access c.args.address)) (sym c.self.view_is)
-    ∙ ap (answer_by (λ (page : Page). page.bytes)) (usable_there c.args.access c.self.inside.pages c.args.address c.in-Ok.place got.0 stands got.1.0) ∙ ap Ok got.1.1
+    ∙ ap (answer_by (λ (page : Page). page.bytes)) (usable_there c.args.access c.self.inside.pages c.args.address c.in-Ok.place got.0 stands (ap (λ k. value_at k c.self.inside.pages) same ∙ got.1.0)) ∙ ap Ok got.1.1

@@ -9,7 +9,7 @@ ghost use Rattle.flat_machine.specs.PlainRun.{StopsAs, StopsNext};
 ghost use Rattle.flat_machine.specs.Refusals.{RefusesStep, WantsMemory};
 
 use crate::end::End;
-use crate::plain_run::{Course, run_plainly};
+use crate::plain_run::run_plainly;
 use crate::process::FlatProcess;
 use env_calls::{Env, ServeStop, Stepped, finish};
 use page_memory::FlatMemory;
@@ -26,6 +26,15 @@ pub enum StepRefusal {
     NoHart,
     #[error("there is no memory for the output or the pages of the process")]
     NoMemory,
+}
+
+/// How far a hart came by its instructions.
+#[derive(Clone, Copy)]
+pub(crate) struct Course {
+    /// How many were done.
+    pub done: u64,
+    /// What the one behind them came to, where there were fewer than were allowed: that one is still to be ended.
+    pub last: Outcome,
 }
 
 impl FlatProcess {
@@ -80,7 +89,11 @@ impl FlatProcess {
         ensures within { result.done ≤ most }
     {
         let regs = &mut self.harts[hart as usize];
-        run_plainly(hart, regs, &mut self.memory, most)
+        let halt = run_plainly(hart, regs, &mut self.memory, most);
+        Course {
+            done: most - halt.left,
+            last: halt.last,
+        }
     }
 
     /// The same as `step_live`, once the hart's next instruction came to an outcome: it calls or traps.

@@ -1,5 +1,5 @@
 -- The laws of a plain run, for the process that is seen.
-use Rattle.std.proofs.Common.{◌≡◌, true, ap, sym, ◌∙◌}
+use Rattle.std.proofs.Common.{◌≡◌, ◌-◌, ◌<◌, true, arith, ap, sym, ◌∙◌}
 use Rattle.flat_machine.specs.Process.{Process, may_step, flat_step}
 use Rattle.flat_machine.specs.ByTurns.{by_turns, turn_after}
 use Rattle.flat_machine.proofs.PlainSteps.{taken_plainly, none_plainly, one_plainly, stops_next}
@@ -8,7 +8,7 @@ use Rattle.flat_machine.proofs.process.FlatProcess.step_plainly.Goals as goal
 pub returns-clause-none : goal.returns-clause-none
 returns-clause-none c = λ zero_steps.
     let process : Process = record { harts = c.self.inside.harts.items; environment = c.self.inside.env; memory = c.self.inside.memory; ending = c.self.inside.end } in
-    none_plainly c.run_plainly.result.done c.args.hart process c.index_mut-regs.result.now c.run_plainly.new.regs c.run_plainly.new.memory zero_steps c.index_mut-regs.ensures.value c.run_plainly.ensures.ran
+    none_plainly (c.args.most - c.run_plainly-halt.result.left) c.args.hart process c.index_mut-regs.result.now c.run_plainly-halt.new.regs c.run_plainly-halt.new.memory zero_steps c.index_mut-regs.ensures.value c.run_plainly-halt.ensures.ran
     ∙ c.self.view_is
 
 pub returns-clause-one : goal.returns-clause-one
@@ -16,18 +16,18 @@ returns-clause-one c = λ one.
     let process : Process = record { harts = c.self.inside.harts.items; environment = c.self.inside.env; memory = c.self.inside.memory; ending = c.self.inside.end } in
     let here : may_step c.args.hart process ≡ true = ap (may_step c.args.hart) c.self.view_is ∙ c.requires in
     ap (flat_step c.args.hart) (sym c.self.view_is)
-    ∙ one_plainly c.run_plainly.result.done c.args.hart process c.index_mut-regs.result.now c.run_plainly.new.regs c.run_plainly.new.memory one c.self.invariant.whole here c.index_mut-regs.ensures.value c.run_plainly.ensures.ran
+    ∙ one_plainly (c.args.most - c.run_plainly-halt.result.left) c.args.hart process c.index_mut-regs.result.now c.run_plainly-halt.new.regs c.run_plainly-halt.new.memory one c.self.invariant.whole here c.index_mut-regs.ensures.value c.run_plainly-halt.ensures.ran
 
 pub returns-clause-alone : goal.returns-clause-alone
 returns-clause-alone c = λ alone.
     let process : Process = record { harts = c.self.inside.harts.items; environment = c.self.inside.env; memory = c.self.inside.memory; ending = c.self.inside.end } in
     let here : may_step c.args.hart process ≡ true = ap (may_step c.args.hart) c.self.view_is ∙ c.requires in
     let alone_here : turn_after c.args.hart process ≡ c.args.hart = ap (turn_after c.args.hart) c.self.view_is ∙ alone in
-    ap (by_turns c.run_plainly.result.done c.args.hart) (sym c.self.view_is)
-    ∙ (taken_plainly c.run_plainly.result.done c.args.hart process c.index_mut-regs.result.now c.run_plainly.new.regs c.run_plainly.new.memory c.self.invariant.whole here alone_here c.index_mut-regs.ensures.value c.run_plainly.ensures.ran).ran
+    ap (by_turns (c.args.most - c.run_plainly-halt.result.left) c.args.hart) (sym c.self.view_is)
+    ∙ (taken_plainly (c.args.most - c.run_plainly-halt.result.left) c.args.hart process c.index_mut-regs.result.now c.run_plainly-halt.new.regs c.run_plainly-halt.new.memory c.self.invariant.whole here alone_here c.index_mut-regs.ensures.value c.run_plainly-halt.ensures.ran).ran
 
 pub returns-clause-stopped : goal.returns-clause-stopped
 returns-clause-stopped c = λ fewer.
     let process : Process = record { harts = c.self.inside.harts.items; environment = c.self.inside.env; memory = c.self.inside.memory; ending = c.self.inside.end } in
     let here : may_step c.args.hart process ≡ true = ap (may_step c.args.hart) c.self.view_is ∙ c.requires in
-    stops_next c.args.hart process c.run_plainly.new.regs c.run_plainly.new.memory c.run_plainly.result.last c.self.invariant.whole here (c.run_plainly.ensures.stopped fewer)
+    stops_next c.args.hart process c.run_plainly-halt.new.regs c.run_plainly-halt.new.memory c.run_plainly-halt.result.last c.self.invariant.whole here (c.run_plainly-halt.ensures.stopped (omega arith))

@@ -20,6 +20,8 @@ pub mod SievePlayLaws
 pub mod S3Fifo
 pub mod S3FifoLaws
 pub mod S3FifoPlayLaws
+pub mod Random
+pub mod RandomLaws
 pub mod SlotLaws
 pub mod Inclusion
 pub mod InclusionLaws

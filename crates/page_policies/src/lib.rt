@@ -11,6 +11,8 @@ mod lru_policy;
 mod optimum;
 mod policy;
 mod queue;
+mod random_policy;
+mod random_state;
 mod s3_fifo;
 mod second_chance;
 mod sieve;
@@ -29,6 +31,7 @@ pub use laws::{
 pub use lru_policy::Lru;
 pub use optimum::Optimum;
 pub use policy::{Outcome, Policy, misses};
+pub use random_state::Random;
 pub use s3_fifo::S3Fifo;
 pub use second_chance::SecondChance;
 pub use sieve::Sieve;

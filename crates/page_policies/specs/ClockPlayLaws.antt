@@ -21,11 +21,12 @@ use Rattle.clock_policy.specs.AdmitLaws.{admitted_residents, admitted_barred, Ba
 use Rattle.clock_policy.specs.ClockLaws.{opening_lawful, answered_lawful, admitted_lawful, left_lowers}
 use Rattle.clock_policy.specs.KeptLaws.{answered_frames, admitted_frames}
 use Rattle.clock_policy.specs.QuestionLaws.{no_question, answered_err}
-use Rattle.page_policies.specs.Strings.{is_page, holds, misses}
-use Rattle.page_policies.specs.ClockProPlay.{Play, is_resident_kind, in_play, bit_of, asked, is_full_refusal, entered, placed, clock_pro, opening_play, clock_pro_misses}
-use Rattle.page_policies.specs.Demand.{number, MayLeave, Plays, IsPlayedWithin}
+use Rattle.page_policies.specs.Strings.{is_page, holds}
+use Rattle.page_policies.specs.ClockProPlay.{Play, is_resident_kind, in_play, bit_of, asked, is_full_refusal, entered, placed, clock_pro, clock_pro_used, opening_play, clock_pro_misses, clock_pro_used_misses}
+use Rattle.page_policies.specs.Demand.{number, MayLeave, IsPlayedWithin}
 use Rattle.page_policies.specs.CountLaws.{none_number, some_number}
 use Rattle.page_policies.specs.PlayedLaws.{stays}
+use Rattle.page_policies.specs.PartLaws.{Serves, served_plays}
 
 -- the pages that are in frames, in the order of the list
 abbrev pages_in : List Entry → List Key
@@ -239,7 +240,11 @@ comes_may p s t out c = record {
   };
 }
 
-leaves : (m : ℕ) (p : Key) (s : Play) → Lawful s.clock → s.clock.frames ≡ m → Leaves p s.clock (clock_pro (5 * m) p s).clock
+-- what a reference does to the list, whatever becomes of the marks
+abbrev referred : ℕ → Key → Play → Play
+referred turns p s = cond (in_play p s) s (placed turns p s)
+
+leaves : (m : ℕ) (p : Key) (s : Play) → Lawful s.clock → s.clock.frames ≡ m → Leaves p s.clock (referred (5 * m) p s).clock
 leaves m p s lawful size = elim (in_play p s) as (λ b. in_play p s ≡ b → Leaves p s.clock (cond b s (placed (5 * m) p s)).clock) [
   | true ↦ λ is. record { lawful = lawful; frames = refl; may = stays s.clock.frames p (pages_in s.clock.entries) (sym (played_there p s lawful) ∙ is) (pages_few s.clock lawful) }
   | false ↦ λ is.
@@ -248,17 +253,30 @@ leaves m p s lawful size = elim (in_play p s) as (λ b. in_play p s ≡ b → Le
       comes_may p s.clock (placed (5 * m) p s).clock out (placed_comes (5 * m) p s lawful (sym (present p s.clock lawful) ∙ out) (λ full. omega (arith, few, size)))
 ] refl
 
-clock_pro_plays : (m : ℕ) (s : Play) (string : List Key) → Lawful s.clock → s.clock.frames ≡ m → Plays m (pages_in s.clock.entries) string (misses in_play (clock_pro (5 * m)) s string)
-clock_pro_plays m s [] lawful size = refl
-clock_pro_plays m s (p ∷ ps) lawful size =
-    let l : Leaves p s.clock (clock_pro (5 * m) p s).clock = leaves m p s lawful size in (
-      pages_in (clock_pro (5 * m) p s).clock.entries,
-      (
-        misses in_play (clock_pro (5 * m)) (clock_pro (5 * m) p s) ps,
-        (subst (λ (k : ℕ). MayLeave k p (pages_in s.clock.entries) (pages_in (clock_pro (5 * m) p s).clock.entries)) size l.may, (ap (λ (b : Bool). cond b 0 1 + misses in_play (clock_pro (5 * m)) (clock_pro (5 * m) p s) ps) (played_there p s lawful), clock_pro_plays m (clock_pro (5 * m) p s) ps l.lawful (l.frames ∙ size))),
-      ),
-    )
+same_list : (turns : ℕ) (p : Key) (s : Play) → (referred turns p s).clock ≡ (clock_pro turns p s).clock
+same_list turns p s = elim (in_play p s) as (λ b. (cond b s (placed turns p s)).clock ≡ (cond b (record { clock = s.clock; used = λ q. cond (is_page p q) true (s.used q) }) (placed turns p s)).clock) [ true ↦ refl | false ↦ refl ]
+
+-- the frames are those of the list, and the list is a lawful one
+abbrev At : ℕ → Play → Type 0
+At m s = Lawful s.clock × (s.clock.frames ≡ m)
+
+abbrev frames_of : Play → List Key
+frames_of s = pages_in s.clock.entries
+
+serves : (m : ℕ) (p : Key) (s t : Play) → At m s → (referred (5 * m) p s).clock ≡ t.clock → Serves m frames_of (At m) in_play p s t
+serves m p s t at is =
+    let l : Leaves p s.clock t.clock = subst (λ (c : ClockState). Leaves p s.clock c) is (leaves m p s at.0 at.1) in record {
+      found = played_there p s at.0;
+      leaves = subst (λ (k : ℕ). MayLeave k p (pages_in s.clock.entries) (pages_in t.clock.entries)) at.1 l.may;
+      lawful_after = (l.lawful, l.frames ∙ at.1);
+    }
 
 pub clock_pro_played : IsPlayedWithin least_frames most_frames clock_pro_misses
 unfolding clock_pro_misses opening_state
-clock_pro_played frames string least most = clock_pro_plays frames (opening_play frames) string (opening_lawful frames least most) refl
+clock_pro_played frames string least most = served_plays frames frames_of (At frames) in_play (clock_pro (5 * frames)) (λ p s at. serves frames p s (clock_pro (5 * frames) p s) at (same_list (5 * frames) p s))
+    (opening_play frames) string (opening_lawful frames least most, refl)
+
+pub clock_pro_used_played : IsPlayedWithin least_frames most_frames clock_pro_used_misses
+unfolding clock_pro_used_misses opening_state
+clock_pro_used_played frames string least most = served_plays frames frames_of (At frames) in_play (clock_pro_used (5 * frames)) (λ p s at. serves frames p s (clock_pro_used (5 * frames) p s) at refl)
+    (opening_play frames) string (opening_lawful frames least most, refl)

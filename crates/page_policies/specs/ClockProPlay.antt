@@ -54,9 +54,14 @@ placed (suc n) p s = cond (is_full_refusal (admitted p s.clock).1) (placed n p (
 abbrev pub marked_used : Key → Play → Play
 marked_used p s = record { clock = s.clock; used = λ q. cond (is_page p q) true (s.used q) }
 
--- A reference brings its page in where it is in no frame, and marks it as used.
+-- As published (Song Jiang, Feng Chen and Xiaodong Zhang, "CLOCK-Pro: An Effective Improvement of the CLOCK Replacement", USENIX
+-- Annual Technical Conference 2005): a page comes in with its reference bit clear, which a use of it in its frame sets.
 abbrev pub clock_pro : ℕ → Key → Play → Play
-clock_pro turns p s = marked_used p (cond (in_play p s) s (placed turns p s))
+clock_pro turns p s = cond (in_play p s) (marked_used p s) (placed turns p s)
+
+-- This machine's profile: a reference brings its page in where it is in no frame, and marks it as used in any case.
+abbrev pub clock_pro_used : ℕ → Key → Play → Play
+clock_pro_used turns p s = marked_used p (cond (in_play p s) s (placed turns p s))
 
 abbrev pub opening_play : ℕ → Play
 opening_play m = record { clock = opening_state m; used = λ q. false }
@@ -64,3 +69,6 @@ opening_play m = record { clock = opening_state m; used = λ q. false }
 -- five questions a frame are enough to make room
 unfoldable pub clock_pro_misses : ℕ → List Key → ℕ
 clock_pro_misses m string = misses in_play (clock_pro (5 * m)) (opening_play m) string
+
+unfoldable pub clock_pro_used_misses : ℕ → List Key → ℕ
+clock_pro_used_misses m string = misses in_play (clock_pro_used (5 * m)) (opening_play m) string

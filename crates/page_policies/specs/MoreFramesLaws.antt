@@ -1,5 +1,5 @@
 -- With more frames the optimum never misses more: what it does with fewer frames is a way to serve the string with more. A proof.
-use Rattle.std.specs.Prelude.{◌≡◌, ℕ, ◌≤◌, List, [], ◌∷◌}
+use Rattle.std.specs.Prelude.{ℕ, ◌≤◌, List, [], ◌∷◌}
 use Rattle.std.proofs.Common.{arith}
 use Rattle.clock_policy.specs.declared.key.Key.{Key}
 use Rattle.page_policies.specs.Demand.{MayLeave, Plays}

@@ -39,12 +39,12 @@ optimum_played frames string some = optimal_plays frames some [] string (omega a
 
 -- the first pages
 
-taken_few : (m : ℕ) (s : List Key) → length (take m s) ≤ m
+pub taken_few : (m : ℕ) (s : List Key) → length (take m s) ≤ m
 taken_few zero s = omega arith
 taken_few (suc m) [] = omega arith
 taken_few (suc m) (q ∷ qs) = let later : length (take m qs) ≤ m = taken_few m qs in omega (arith, later)
 
-taken_number : (test : Key → Bool) (m : ℕ) (s : List Key) → number test (take m s) ≤ number test s
+pub taken_number : (test : Key → Bool) (m : ℕ) (s : List Key) → number test (take m s) ≤ number test s
 taken_number test zero s = omega arith
 taken_number test (suc m) [] = omega arith
 taken_number test (suc m) (q ∷ qs) = let later : number test (take m qs) ≤ number test qs = taken_number test m qs in omega (arith, later)

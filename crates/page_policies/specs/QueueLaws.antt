@@ -32,7 +32,7 @@ pub record Found (p : Key) (es : List (Key × Unit {0})) : Type 0 where
   pub is : lookup_entry (is_page p) es ≡ Some entry
   pub page : entry.0 ≡ p
 
-found : (p : Key) (es : List (Key × Unit {0})) → is_some (lookup (is_page p) es) ≡ true → Found p es
+pub found : (p : Key) (es : List (Key × Unit {0})) → is_some (lookup (is_page p) es) ≡ true → Found p es
 found p [] h = cc
 found p (e ∷ es) h =
     elim (is_page p e.0) as (λ t. is_page p e.0 ≡ t → is_some (cond t (Some e.1) (lookup (is_page p) es)) ≡ true → Found p (e ∷ es)) [
@@ -46,7 +46,7 @@ shorter p [] h = cc
 shorter p (q ∷ qs) h =
     elim (is_page p q) as (λ t. cond t true (holds p qs) ≡ true → length (p ∷ cond t qs (q ∷ without p qs)) ≡ length (q ∷ qs)) [ true ↦ λ g. refl | false ↦ λ g. ap suc (shorter p qs g) ] h
 
-absent : (p : Key) (s : List Key) → holds p s ≡ false → without p s ≡ s
+pub absent : (p : Key) (s : List Key) → holds p s ≡ false → without p s ≡ s
 absent p [] h = refl
 absent p (q ∷ qs) h =
     elim (is_page p q) as (λ t. cond t true (holds p qs) ≡ false → cond t qs (q ∷ without p qs) ≡ q ∷ qs) [ true ↦ λ g. cc | false ↦ λ g. ap (λ (l : List Key). q ∷ l) (absent p qs g) ] h
@@ -58,12 +58,12 @@ promoted_keys p es h =
     ∙ ap (λ (k : Key). k ∷ keys_of (remove_entry (is_page p) es)) at.page
     ∙ ap (λ (l : List Key). p ∷ l) (keys_removed p es)
 
-keys_taken : (n : ℕ) (es : List (Key × Unit {0})) → keys_of (take n es) ≡ take n (keys_of es)
+pub keys_taken : (n : ℕ) (es : List (Key × Unit {0})) → keys_of (take n es) ≡ take n (keys_of es)
 keys_taken zero es = refl
 keys_taken (suc n) [] = refl
 keys_taken (suc n) (e ∷ es) = ap (λ (l : List Key). e.0 ∷ l) (keys_taken n es)
 
-none_found : (p : Key) (es : List (Key × Unit {0})) → is_some (lookup (is_page p) es) ≡ false → lookup_entry (is_page p) es ≡ None
+pub none_found : (p : Key) (es : List (Key × Unit {0})) → is_some (lookup (is_page p) es) ≡ false → lookup_entry (is_page p) es ≡ None
 none_found p [] h = refl
 none_found p (e ∷ es) h =
     elim (is_page p e.0) as (λ t. is_some (cond t (Some e.1) (lookup (is_page p) es)) ≡ false → cond t (Some e) (lookup_entry (is_page p) es) ≡ None) [ true ↦ λ g. cc | false ↦ λ g. none_found p es g ] h

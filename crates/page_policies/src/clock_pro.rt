@@ -14,7 +14,7 @@ use clock_policy::{Bit, Clock, EntryKind, Key, Kind, Refusal};
 use std::alloc::{AllocError, Global};
 use std::collections::HashSet;
 
-/// CLOCK-Pro, by whatever represents its list.
+/// CLOCK-Pro as published, by whatever represents its list: a page comes in with its mark clear.
 #[derive(Drop)]
 pub struct ClockPro<C: Clock> {
     clock: C,
@@ -31,7 +31,7 @@ fn bit_of(used: bool) -> Bit
 }
 
 /// Whether the list knows the page as one that is in a frame.
-fn is_resident_kind(kind: Option<EntryKind>) -> bool
+pub(crate) fn is_resident_kind(kind: Option<EntryKind>) -> bool
     ensures { result ≡ is_resident_kind kind }
 {
     match kind {
@@ -69,7 +69,7 @@ fn enter<C: Clock>(clock: &mut C, page: Key) -> Result<bool, AllocError>
 }
 
 /// While each frame has its page, the list's question is answered, so many times at most; then the page comes in.
-fn place<C: Clock>(
+pub(crate) fn place<C: Clock>(
     clock: &mut C,
     used: &mut HashSet<Key>,
     turns: usize,
@@ -89,7 +89,7 @@ fn place<C: Clock>(
 }
 
 /// The page is marked as used.
-fn mark_used(used: &mut HashSet<Key>, page: Key) -> Result<(), AllocError>
+pub(crate) fn mark_used(used: &mut HashSet<Key>, page: Key) -> Result<(), AllocError>
     ensures { OnOk result ((q : Key) → contains is_page used.new q ≡ cond (is_page page q) true
         (contains is_page used.old q)) }
 {
@@ -124,7 +124,6 @@ impl<C: Clock> Policy for ClockPro<C> {
             return Ok(Outcome::Hit);
         }
         place(&mut self.clock, &mut self.used, self.turns, page)?;
-        mark_used(&mut self.used, page)?;
         Ok(Outcome::Miss)
     }
 }

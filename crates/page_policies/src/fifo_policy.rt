@@ -28,7 +28,7 @@ impl Policy for Fifo {
     #[tactic(auto, unfolding(crate::specs::Queues::fifo_misses))]
     fn new(alloc: Global, frames: Frames) -> Result<Self, AllocError> {
         let room = NonZeroUsize::new(frames.number()).unwrap_or(NonZeroUsize::MIN);
-        let pages = LruCache::new(alloc, room)?;
+        let pages = LruCache::sparse(alloc, room)?;
         Ok(Fifo { pages })
     }
 

@@ -25,7 +25,8 @@ pub trait Policy: Drop {
     /// How many references of a string would miss from here on.
     ghost to_miss: { Self → List Key → ℕ };
 
-    /// The policy with all its frames empty.
+    /// The policy with all its frames empty. CLOCK-Pro's list serves 4 to 4096 frames, and with others there is none, as where there is
+    /// no memory.
     fn new(alloc: Global, frames: Frames) -> Result<Self, AllocError>
         ensures { IfOk result (λ policy. (string : List Key) →
             to_miss policy string ≡ misses frames.number string) };

@@ -1,0 +1,36 @@
+-- Pages in an order, told of a cache's entries.
+use Rattle.std.specs.Prelude.{◌≡◌, ℕ, zero, suc, ◌-◌, ◌<◌, ◌≤◌, ◌^◌, true, false, List, [], ◌∷◌, length, take, slice_get, option_map, Option, is_some, refl}
+use Rattle.std.specs.Option.{option_map_or}
+use Rattle.std.specs.Map.{keys_of, lookup, remove_entry}
+use Rattle.std.proofs.Common.{arith, sym, ap, ◌∙◌}
+use Rattle.std.proofs.lemmas.List.{take_all}
+use Rattle.std.proofs.lemmas.Map.Entries.{length-keys_of}
+use Rattle.clock_policy.specs.declared.key.Key.{Key}
+use Rattle.lru.specs.LruCache.{LruCache, lru_cache, put_entries}
+use Rattle.page_policies.specs.Strings.{is_page}
+use Rattle.page_policies.specs.Ordered.{to_front, last_of, but_last}
+use Rattle.page_policies.specs.QueueLaws.{Found, found, none_found, holds_found, keys_removed, keys_taken, absent}
+
+pub front_keys : (c d : LruCache Key (Unit {0})) (p : Key) → d ≡ lru_cache (put_entries is_page c p tt) c.cap → c.cap ≡ 2 ^ 64 - 1 → length c.entries < 2 ^ 63 → keys_of d.entries ≡ to_front p (keys_of c.entries)
+front_keys c d p is all few = ap (λ (m : LruCache Key (Unit {0})). keys_of m.entries) is ∙ elim (is_some (lookup (is_page p) c.entries)) as (λ b. is_some (lookup (is_page p) c.entries) ≡ b → keys_of (put_entries is_page c p tt) ≡ to_front p (keys_of c.entries)) [
+  | true ↦ λ h. let at : Found p c.entries = found p c.entries h in
+      ap (λ (o : Option (Key × Unit {0})). keys_of (option_map_or (λ e. (e.0, tt) ∷ remove_entry (is_page p) c.entries) o ((p, tt) ∷ take (c.cap - 1) c.entries))) at.is
+      ∙ ap (λ (k : Key). k ∷ keys_of (remove_entry (is_page p) c.entries)) at.page
+      ∙ ap (λ (l : List Key). p ∷ l) (keys_removed p c.entries)
+  | false ↦ λ h.
+      let some : length c.entries ≤ c.cap - 1 = omega (arith, all, few) in
+      ap (λ (o : Option (Key × Unit {0})). keys_of (option_map_or (λ e. (e.0, tt) ∷ remove_entry (is_page p) c.entries) o ((p, tt) ∷ take (c.cap - 1) c.entries))) (none_found p c.entries h)
+      ∙ ap (λ (l : List (Key × Unit {0})). p ∷ keys_of l) (take_all (c.cap - 1) c.entries some)
+      ∙ ap (λ (l : List Key). p ∷ l) (sym (absent p (keys_of c.entries) (holds_found p c.entries ∙ h)))
+] refl
+
+keys_get : (n : ℕ) (es : List (Key × Unit {0})) → option_map (λ (e : Key × Unit {0}). e.0) (slice_get es n) ≡ slice_get (keys_of es) n
+keys_get n [] = refl
+keys_get zero (e ∷ es) = refl
+keys_get (suc n) (e ∷ es) = keys_get n es
+
+pub last_key : (es : List (Key × Unit {0})) → option_map (λ (e : Key × Unit {0}). e.0) (slice_get es (length es - 1)) ≡ last_of (keys_of es)
+last_key es = keys_get (length es - 1) es ∙ ap (λ (n : ℕ). slice_get (keys_of es) (n - 1)) (sym (length-keys_of es))
+
+pub others_keys : (es : List (Key × Unit {0})) → keys_of (take (length es - 1) es) ≡ but_last (keys_of es)
+others_keys es = keys_taken (length es - 1) es ∙ ap (λ (n : ℕ). take (n - 1) (keys_of es)) (sym (length-keys_of es))

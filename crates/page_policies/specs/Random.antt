@@ -1,0 +1,47 @@
+-- Random replacement, by a generator whose seed is fixed, so that each run is the same: Pcg32 of Melissa E. O'Neill, "PCG: A Family of
+-- Simple Fast Space-Efficient Statistically Good Algorithms for Random Number Generation", 2014, with the seeds 42 and 54 of her
+-- examples. A word of 32 bits modulo the number of pages names the one that leaves.
+use Rattle.std.specs.Prelude.{ℕ, ◌%◌, Bool, cond, nat_lt, List, [], ◌∷◌, ◌++◌, length, slice_get, swap_remove, Option, Some, None}
+use Rattle.rand_pcg.specs.Lcg.{Lcg, started, increment_of}
+use Rattle.rand_pcg.specs.Pcg.{multiplier_64, pcg32}
+use Rattle.clock_policy.specs.declared.key.Key.{Key}
+use Rattle.page_policies.specs.Strings.{holds, misses}
+
+-- the pages in frames, and the generator
+pub record RandomState : Type 0 where
+  pub pages : List Key
+  pub generator : Lcg
+
+-- the page in this place leaves, and the last one takes its place
+abbrev pub left_at : Option Key → ℕ → List Key → List Key
+left_at None place pages = pages
+left_at (Some q) place pages = swap_remove pages place q
+
+abbrev pub place_of : ℕ → ℕ → ℕ
+place_of word count = word % count
+
+-- a page that is drawn leaves
+abbrev pub drawn : RandomState → RandomState
+drawn s = record {
+  pages = left_at (slice_get s.pages (place_of (pcg32 s.generator).0 (length s.pages))) (place_of (pcg32 s.generator).0 (length s.pages)) s.pages;
+  generator = (pcg32 s.generator).1;
+}
+
+-- room for one page
+abbrev pub room_drawn : ℕ → RandomState → RandomState
+room_drawn m s = cond (nat_lt (length s.pages) m) s (drawn s)
+
+abbrev pub joined : Key → RandomState → RandomState
+joined p s = record { pages = s.pages ++ p ∷ []; generator = s.generator }
+
+abbrev pub in_random : Key → RandomState → Bool
+in_random p s = holds p s.pages
+
+abbrev pub random : ℕ → Key → RandomState → RandomState
+random m p s = cond (in_random p s) s (joined p (room_drawn m s))
+
+abbrev pub seeded : Lcg
+seeded = started 64 multiplier_64 42 (increment_of 64 54)
+
+unfoldable pub random_misses : ℕ → List Key → ℕ
+random_misses m string = misses in_random (random m) (record { pages = []; generator = seeded }) string

@@ -1,7 +1,7 @@
 pub mod CopyValue
+pub mod Keeping
 pub mod PageValue
 pub mod Reading
-pub mod Kept
 pub mod Moves
 pub mod View
 pub mod StateLending

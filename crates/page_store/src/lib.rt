@@ -17,4 +17,4 @@ pub use job::{SaveJob, SavedJob};
 pub use page::StoredPage;
 pub use page_copy::PageCopy;
 pub use refusal::{FillFault, LeaveRefusal, NotLeaving, ReadFault};
-pub use state::{Keeping, PageState};
+pub use state::PageState;

@@ -7,7 +7,7 @@ use Rattle.paged_memory.specs.Counting.{frame_passes}
 use Rattle.paged_memory.specs.Moving.{IsGiven, IsLeft, EmptiesCaches}
 use Rattle.paged_memory.specs.Moving as moving
 use Rattle.paged_memory.specs.Paged.{PagedValue}
-use Rattle.paged_memory.specs.Whole.{savings_among, slots_within}
+use Rattle.paged_memory.specs.Whole.{outs_within, slots_within}
 use Rattle.pager_core.specs.Pager.{PagerState}
 use Rattle.space_core.specs.StandsFor.{SpaceValue}
 use Rattle.machine_sides.specs.Sides.{PagerSideValue, ProcessSideValue, MovesMemory}
@@ -33,9 +33,9 @@ module _ {S : Type 0} where
   Pools slot None old new = new ≡ record old { free = old.free ++ as_list slot }
   Pools slot (Some back) old new = (slot ≡ Some back) × ((length old.free ≡ old.size) × (new ≡ old))
 
-  -- whether a page of a process is being saved
+  -- whether bytes of a page of a process are out with a job: it is being saved, or a copy of it is out
   unfoldable pub is_saving_any : PagedValue S → Bool
-  is_saving_any memory = not (savings_among memory (λ _. true) == 0)
+  is_saving_any memory = not (outs_within memory == 0)
 
   -- why a process gives nothing back: the first reason that holds
   unfoldable pub purge_bars : ProcessSideValue S → Option PurgeRefusal

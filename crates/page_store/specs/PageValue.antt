@@ -3,7 +3,7 @@ use Rattle.std.specs.Prelude.{◌≡◌, ℕ, Bool, true, false, ◌||◌, List,
 use Rattle.sha2.specs.Sha256.{sha256}
 use Rattle.page_memory.specs.Pages.{Page}
 use Rattle.frame_pool.specs.FrameValue.{FrameValue}
-use Rattle.page_store.specs.Keeping.{Keeping, NoSlot, Saved, Unbacked, Cleaning, CopyOut, kept, copy_in, is_unbacked}
+use Rattle.page_store.specs.Keeping.{Keeping, NoSlot, Saved, Unbacked, Cleaning, CopyOut, kept, copy_in, is_unbacked, is_copy_out}
 use Rattle.page_store.specs.CopyValue.{CopyValue}
 use Rattle.page_store.specs.declared.state.PageState.{PageState}
 use Rattle.page_store.specs.declared.state.PageState.TheVariants as stage
@@ -103,6 +103,15 @@ backing_at held origin (Leaving frame slot mark) = backed held origin slot
 backing_at held origin (Saving frame mark) = origin
 backing_at held origin (Away copy) = held copy.slot
 backing_at held origin Purged = []
+
+-- whether bytes of a page are out with a job: while it is being saved, and while a copy of it is out
+abbrev pub is_out : {S : Type 0} → Place S → Bool
+is_out Fresh = false
+is_out (Resident frame slot) = is_copy_out slot
+is_out (Leaving frame slot mark) = is_copy_out slot
+is_out (Saving frame mark) = true
+is_out (Away copy) = false
+is_out Purged = false
 
 -- whether a page counts as changed: by the dirty bit of its table entry while it is resident, by the mark that it took
 -- along while it leaves, and always while it is saved or nothing backs it

@@ -1,6 +1,6 @@
-ghost use Rattle.std.specs.Prelude.{◌≡◌, ◌≢◌, ◌+◌, ◌≤◌, ◌↔◌, length, ℕ, List, Ok, Err, Some, None, OnOk, OnErr, IfOk, IfErr, IsErr, IsTrue, false, OnSome, IfNone, option_copied, option_map};
+ghost use Rattle.std.specs.Prelude.{◌≡◌, ◌≢◌, ◌+◌, ◌≤◌, ◌↔◌, length, ℕ, List, Ok, Err, Some, None, OnOk, OnErr, IfOk, IfErr, IsErr, IsTrue, false, OnSome, IfNone, option_copied, option_map, is_some};
 ghost use Rattle.page_store.specs.Moves.{left, brought_back, given_back, collected, collect_leaving, with_spare, job_of, IfSaving, copy_of, RefusesSave, Filled, RefusesFill, RefusesRead, IfAway};
-ghost use Rattle.page_store.specs.PageValue.{Leaving, Saving, Away, Purged, Backed, BackedAt, shown, changed as counts_as_changed, Known, content, page_state_of, frame_of, writable, failures_at, kept_digest, Matches};
+ghost use Rattle.page_store.specs.PageValue.{Leaving, Saving, Away, Purged, Backed, BackedAt, shown, changed as counts_as_changed, Known, content, page_state_of, frame_of, writable, failures_at, kept_digest, Matches, is_out};
 ghost use Rattle.page_store.specs.Reading.{some_from};
 ghost use Rattle.page_store.specs.View.{keeping_of, place_in_state};
 
@@ -108,6 +108,28 @@ impl<L: Ledger, S: SwapSlot> StoredPage<L, S> {
             State::Resident(_, slot) => dirty || slot.is_unbacked(),
             State::Leaving(_, slot, mark) => *mark || slot.is_unbacked(),
             State::ResidentOut(_) | State::LeavingOut(..) | State::Saving(..) => true,
+            State::Fresh | State::Away(_) | State::Purged => false,
+        }
+    }
+
+    /// Whether it has a frame or a slot to give back.
+    pub fn has_to_give(&self) -> bool
+        ensures { result ≡ is_some (given_back self.now.place) }
+    {
+        match &self.state {
+            State::Resident(..) | State::Leaving(..) | State::Away(_) => true,
+            State::ResidentOut(_) | State::LeavingOut(..) | State::Saving(..) => false,
+            State::Fresh | State::Purged => false,
+        }
+    }
+
+    /// Whether bytes of it are out with a job: it is being saved, or a copy of it is out.
+    pub fn is_out(&self) -> bool
+        ensures { result ≡ is_out self.now.place }
+    {
+        match &self.state {
+            State::ResidentOut(_) | State::LeavingOut(..) | State::Saving(..) => true,
+            State::Resident(..) | State::Leaving(..) => false,
             State::Fresh | State::Away(_) | State::Purged => false,
         }
     }

@@ -11,7 +11,7 @@ use Rattle.sv32_table.specs.EntryAt.{entry_at}
 use Rattle.tlb_core.specs.declared.translation.Translation.{Translation}
 use Rattle.tlb_core.specs.Cache.{Hits, translation_of, is_of_page}
 use Rattle.tlb_core.specs.CacheLaws.{All-entry_of, page-entry_of}
-use Rattle.paged_memory.specs.Seen.{frame_seen, frame_standing, rights_seen, is_dirty}
+use Rattle.paged_memory.specs.Seen.{frame_seen, frame_standing, rights_seen, takes_stores}
 use Rattle.paged_memory.specs.Soundness.{IsSound}
 use Rattle.paged_memory.specs.Access.{Reaches, HasPage, MarksUse, cache_of, is_doomed}
 use Rattle.paged_memory.specs.Paged.{standing_of, seen_of, seen_at, Holds}
@@ -22,7 +22,7 @@ writable_framed : {S : Type 0} (place : Place S) (frame : ℕ) → frame_standin
 writable_framed Fresh frame is = cc
 writable_framed (Resident f slot) frame is = refl
 writable_framed (Leaving f slot mark) frame is = refl
-writable_framed (Saving f) frame is = cc
+writable_framed (Saving f mark) frame is = cc
 writable_framed (Away slot) frame is = cc
 writable_framed Purged frame is = cc
 
@@ -67,7 +67,7 @@ module _ {S : Type 0} {held : S → List ℕ} {honest : Type 0} {pages : List (�
         value = there.1;
         allowed = ap (may access) rights_same ∙ hits.allowed;
         framed = writable_framed page.place hits.entry.frame frame_is;
-        changed = λ is. ap (λ s. is_dirty s (entry_at tables number)) (sym seen_is) ∙ sound_here.changed (hits.dirty is);
+        changed = λ is. ap (λ s. takes_stores s (entry_at tables number)) (sym seen_is) ∙ sound_here.changed (hits.dirty is);
       }
 
   pub has_hit : HasPage pages (cache_of caches hart) number

@@ -5,7 +5,7 @@ use Rattle.std.proofs.lemmas.List.Elements.{All-map, All-weaker}
 use Rattle.sv32_table.specs.Entry.{Entry}
 use Rattle.tlb_core.specs.declared.translation.Translation.{Translation}
 use Rattle.tlb_core.specs.Cache.{doomed_entry, doomed}
-use Rattle.paged_memory.specs.Seen.{Seen, frame_seen, rights_seen, is_dirty, is_used}
+use Rattle.paged_memory.specs.Seen.{Seen, frame_seen, rights_seen, takes_stores, is_used}
 use Rattle.paged_memory.specs.Soundness.{IsMapped, IsSound, Agree}
 
 -- pages and entries are what they were, but for one page's
@@ -26,7 +26,7 @@ Unheld page caches = All (λ cache. All (λ t. t.page ≢ page) cache) caches
 pub record Stays (seen seen' : Option Seen) (e e' : Entry) : Type 0 where
   pub frame : frame_seen seen' ≡ frame_seen seen
   pub rights : rights_seen seen' ≡ rights_seen seen
-  pub changed : is_dirty seen e ≡ true → is_dirty seen' e' ≡ true
+  pub changed : takes_stores seen e ≡ true → takes_stores seen' e' ≡ true
 
 or_true : (b : Bool) → (b || true) ≡ true
 or_true true = refl

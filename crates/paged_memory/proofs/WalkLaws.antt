@@ -12,7 +12,7 @@ use Rattle.page_memory.specs.declared.words.Access.TheVariants.{Fetch, Load, Sto
 use Rattle.page_memory.specs.declared.rights.Rights.{Rights}
 use Rattle.page_memory.specs.Rights.{may}
 use Rattle.page_memory.specs.Entries.{place_of, value_at}
-use Rattle.page_store.specs.declared.state.Keeping.{Keeping}
+use Rattle.page_store.specs.Keeping.{Keeping, is_loose}
 use Rattle.page_store.specs.PageValue.{PageValue, Resident, Backed}
 use Rattle.sv32_table.specs.Entry.{Entry, page_entry}
 use Rattle.sv32_table.specs.EntryAt.{entry_at, ChangesEntry, SameTables, walked_entry, dirty_of}
@@ -20,7 +20,7 @@ use Rattle.sv32_table.specs.EntryLaws.{is_store, walked_entry-page_entry, dirty_
 use Rattle.tlb_core.specs.declared.translation.Translation.{Translation}
 use Rattle.tlb_core.specs.Cache.{Hits, filled, translation_of, is_of_page}
 use Rattle.tlb_core.specs.CacheLaws.{All-filled, All-none, hits_filled, none-All}
-use Rattle.paged_memory.specs.Seen.{Seen, frame_seen, rights_seen, is_dirty, is_used}
+use Rattle.paged_memory.specs.Seen.{Seen, frame_seen, rights_seen, is_dirty, takes_stores, is_used}
 use Rattle.paged_memory.specs.Soundness.{IsSound}
 use Rattle.paged_memory.specs.Calls.{IsResident}
 use Rattle.paged_memory.specs.Access.{cache_of, is_resident, is_doomed, HasPage, Reaches, Locates, KeepsTranslations}
@@ -36,6 +36,10 @@ backed_raised held origin frame slot false dirty was = was
 or_more : (more dirty : Bool) → dirty ≡ true → (more || dirty) ≡ true
 or_more true dirty is = refl
 or_more false dirty is = is
+
+or_more_or : (more dirty loose : Bool) → (dirty || loose) ≡ true → ((more || dirty) || loose) ≡ true
+or_more_or true dirty loose is = refl
+or_more_or false dirty loose is = is
 
 -- no element passes the test
 none_passes : {A : Type 0} (p : A → Bool) (xs : List A) → list_any p xs ≡ false → All (λ x. p x ≡ false) xs
@@ -105,12 +109,17 @@ module _ {S : Type 0} {held : S → List ℕ} {honest : Type 0} {pages : List (�
         ap (λ s. is_dirty s (entry_at tables' number)) (seen_resident number small holds resident) ∙ dirty_now
         ∙ or_more (is_store access) old_entry.dirty (sym (ap (λ s. is_dirty s old_entry) (seen_resident number small holds resident)) ∙ was)
 
+    pub takes_on : takes_stores (seen_at pages number) old_entry ≡ true → takes_stores (seen_at pages number) (entry_at tables' number) ≡ true
+    takes_on was =
+        ap (λ s. takes_stores s (entry_at tables' number)) (seen_resident number small holds resident) ∙ ap (λ d. d || is_loose resident.slot) dirty_now
+        ∙ or_more_or (is_store access) old_entry.dirty (is_loose resident.slot) (sym (ap (λ s. takes_stores s old_entry) (seen_resident number small holds resident)) ∙ was)
+
     -- its use is marked
     pub used_now : is_used (seen_at pages number) (entry_at tables' number) ≡ true
     used_now = ap (λ s. is_used s (entry_at tables' number)) (seen_resident number small holds resident) ∙ accessed_now
 
     pub holds_walked : Holds held honest pages tables' caches
-    holds_walked = Holds-held change caches holds (record { frame = refl; rights = refl; changed = changed_on }) (λ _. used_now)
+    holds_walked = Holds-held change caches holds (record { frame = refl; rights = refl; changed = takes_on }) (λ _. used_now)
 
     -- the translation that the walk gives
     abbrev pub translation : ℕ → Translation
@@ -125,7 +134,7 @@ module _ {S : Type 0} {held : S → List ℕ} {honest : Type 0} {pages : List (�
           small = small;
           frame = ap frame_seen (seen_resident number small holds resident);
           rights = ap rights_seen (seen_resident number small holds resident);
-          changed = λ dirty. ap (λ s. is_dirty s (entry_at tables' number)) (seen_resident number small holds resident) ∙ dirty_now ∙ sym told_dirty ∙ dirty;
+          changed = λ dirty. ap (λ s. takes_stores s (entry_at tables' number)) (seen_resident number small holds resident) ∙ ap (λ d. d || is_loose resident.slot) (dirty_now ∙ sym told_dirty ∙ dirty);
           used = λ _. used_now;
         }
 
@@ -225,7 +234,7 @@ walk_done {S} {held} {honest} {pages} {tables} {caches} tables' caches' number h
         value = sym (ap (option_and_then (λ k. value_at k pages)) at.at) ∙ at.resident.found;
         allowed = at.allowed;
         framed = refl;
-        changed = λ is. dirty_now tables' number small holds at.resident access at.allowed entries same ∙ true_more (is_store access) (entry_at tables number).dirty (store_told access is);
+        changed = λ is. ap (λ d. d || is_loose at.resident.slot) (dirty_now tables' number small holds at.resident access at.allowed entries same ∙ true_more (is_store access) (entry_at tables number).dirty (store_told access is));
       };
       hits = subst (λ cs. Hits (cache_of cs hart) access number place) (sym caches_are)
           (subst (λ c. Hits c access number place) (sym (cache_now tables' number small holds at.resident access at.allowed entries same place hart within))

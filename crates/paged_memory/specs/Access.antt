@@ -18,12 +18,12 @@ use Rattle.page_store.specs.Lending.{with_bytes}
 use Rattle.sv32_table.specs.EntryAt.{entry_at, ChangesEntry, walked_entry}
 use Rattle.tlb_core.specs.declared.translation.Translation.{Translation}
 use Rattle.tlb_core.specs.Cache.{translation_of, is_of_page, Hits}
-use Rattle.paged_memory.specs.Seen.{Seen, Standing, Resident, Leaving, Elsewhere, is_used, is_dirty}
+use Rattle.paged_memory.specs.Seen.{Seen, Standing, Resident, Leaving, Elsewhere, is_used, is_dirty, takes_stores}
 use Rattle.paged_memory.specs.Paged.{seen_of, page_at, seen_at}
 
 abbrev pub is_resident_standing : Standing → Bool
-is_resident_standing (Resident frame) = true
-is_resident_standing (Leaving frame mark) = false
+is_resident_standing (Resident frame loose) = true
+is_resident_standing (Leaving frame mark loose) = false
 is_resident_standing Elsewhere = false
 
 abbrev pub is_resident : Option Seen → Bool
@@ -36,14 +36,14 @@ cache_of caches hart = slice_index_or caches hart []
 
 module _ {S : Type 0} where
   -- a page that an access may use at its place: it has the right, and its frame may be read and written; for a store it
-  -- is marked as dirty
+  -- takes stores
   pub record Reaches (pages : List (ℕ × PageValue S)) (tables : List (List ℕ)) (access : Access) (number place : ℕ) : Type 0 where
     pub page : PageValue S
     pub at : place_of number pages ≡ Some place
     pub value : value_at place pages ≡ Some page
     pub allowed : may access page.origin.rights ≡ true
     pub framed : is_some (writable page.place) ≡ true
-    pub changed : access ≡ Store → is_dirty (Some (seen_of page)) (entry_at tables number) ≡ true
+    pub changed : access ≡ Store → takes_stores (Some (seen_of page)) (entry_at tables number) ≡ true
 
   -- the pages that a hart can use without that one is brought in: those that are resident, and those that its cache holds
   abbrev pub HasPage : List (ℕ × PageValue S) → List Translation → ℕ → Type 0
@@ -115,7 +115,7 @@ abbrev pub resident_frame : {S : Type 0} → Place S → Option ℕ
 resident_frame place.Fresh = None
 resident_frame (place.Resident frame slot) = Some frame.number
 resident_frame (place.Leaving frame slot mark) = None
-resident_frame (place.Saving frame) = None
+resident_frame (place.Saving frame mark) = None
 resident_frame (place.Away slot) = None
 resident_frame place.Purged = None
 

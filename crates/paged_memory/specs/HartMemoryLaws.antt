@@ -19,7 +19,7 @@ module _ {S : Type 0} where
   standing_bare Fresh = refl
   standing_bare (Resident frame slot) = refl
   standing_bare (Leaving frame slot mark) = refl
-  standing_bare (Saving frame) = refl
+  standing_bare (Saving frame mark) = refl
   standing_bare (Away slot) = refl
   standing_bare Purged = refl
 
@@ -32,7 +32,7 @@ module _ {S : Type 0} where
   zero_place Fresh is = refl
   zero_place (Resident frame slot) is = cc
   zero_place (Leaving frame slot mark) is = cc
-  zero_place (Saving frame) is = cc
+  zero_place (Saving frame mark) is = cc
   zero_place (Away slot) is = cc
   zero_place Purged is = cc
 

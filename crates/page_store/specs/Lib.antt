@@ -1,3 +1,4 @@
+pub mod Seal
 pub mod CopyValue
 pub mod Keeping
 pub mod PageValue

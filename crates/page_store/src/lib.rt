@@ -10,6 +10,7 @@ mod page;
 mod page_copy;
 mod reading;
 mod refusal;
+mod seal;
 mod state;
 
 pub use answer::{Collected, SaveRefusal};

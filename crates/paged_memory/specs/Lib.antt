@@ -14,6 +14,7 @@ pub mod HartMemory
 pub mod HartMemoryLaws
 pub mod SeenLaws
 pub mod Filling
+pub mod Cleaning
 pub mod Peeking
 pub mod GivingBack
 pub mod Coherence

@@ -6,7 +6,7 @@ use Rattle.page_memory.specs.declared.words.Access.TheVariants.{Load, Store}
 use Rattle.page_memory.specs.Rights.{may}
 use Rattle.sv32_table.specs.Entry.{Entry}
 use Rattle.tlb_core.specs.declared.translation.Translation.{Translation}
-use Rattle.tlb_core.specs.Cache.{translation_of}
+use Rattle.tlb_core.specs.Cache.{translation_of, holds_mark}
 use Rattle.paged_memory.specs.Seen.{Seen, entry_seen, frame_seen, rights_seen, takes_stores, is_used}
 
 -- a page has the table entry of its frame and rights while it is resident, and none else; and a page that may be written
@@ -29,6 +29,10 @@ pub record IsSound (page : Option Seen) (e : Entry) (t : Translation) : Type 0 w
 pub record Agree (pages : ℕ → Option Seen) (entries : ℕ → Entry) (caches : List (List Translation)) : Type 0 where
   pub mapped : (page : ℕ) → page < 2 ^ 20 → IsMapped (pages page) (entries page)
   pub cached : All (λ cache. All (λ t. IsSound (pages t.page) (entries t.page) t) cache) caches
+
+-- whether a cache holds a translation of the page with the dirty mark
+abbrev pub is_marked : ℕ → List (List Translation) → Bool
+is_marked page caches = list_any (λ cache. holds_mark page cache) caches
 
 -- whether a cache holds a translation of the page
 abbrev pub is_held : ℕ → List (List Translation) → Bool

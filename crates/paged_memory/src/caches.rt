@@ -1,7 +1,7 @@
 ghost use Rattle.std.specs.Prelude.{◌≡◌, ◌<◌, ◌≤◌, ◌%◌, [], ◌∷◌, ◌++◌, None, map, length, is_some, IfSome, option_copied, slice_get, slice_index_or, slice_set};
 ghost use Rattle.page_memory.specs.Words.{page_number, bytes_in};
-ghost use Rattle.tlb_core.specs.Cache.{Hits, doomed, undoomed, filled, translation_of};
-ghost use Rattle.paged_memory.specs.Soundness.{is_held};
+ghost use Rattle.tlb_core.specs.Cache.{Hits, doomed, undoomed, filled, holds_mark, translation_of};
+ghost use Rattle.paged_memory.specs.Soundness.{is_held, is_marked};
 ghost use Rattle.paged_memory.specs.declared.caches.Miss.{Miss};
 
 use arrayvec::ArrayVec;
@@ -128,6 +128,17 @@ impl Caches {
             |cache: &Tlb| -> bool
                 ensures { result ≡ is_some (translation_of page cache.now) }
             { cache.holds(page) },
+        )
+    }
+
+    /// Whether a cache holds a translation of a page with the dirty mark.
+    pub fn is_marked(&self, page: u32) -> bool
+        ensures { result ≡ is_marked page self.now }
+    {
+        self.harts.as_slice().iter().any(
+            |cache: &Tlb| -> bool
+                ensures { result ≡ holds_mark page cache.now }
+            { cache.holds_dirty(page) },
         )
     }
 

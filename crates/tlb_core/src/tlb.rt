@@ -111,6 +111,8 @@ impl Tlb {
     pub fn holds_dirty(&self, page: u32) -> bool
         ensures mark { result ≡ holds_mark page self.now }
     {
+        // For the proof alone: a page has at most one entry.
+        let _ = &self.entries;
         match self.look(page) {
             Some(entry) => entry.dirty,
             None => false,

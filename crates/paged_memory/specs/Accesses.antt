@@ -14,16 +14,17 @@ module _ {S : Type 0} where
       Answers (HasPage old.pages (cache_of old.caches hart)) (MarksUse old.pages new.tables (cache_of old.caches hart) access) (LacksPage old.pages) address expected result
 
   -- of an access to a page, whatever it does there: pages stay but for the bytes in their frames; the page is never absent to
-  -- a hart whose cache shows it for the access; of the tables a walk changes the page's entry, or nothing changes, as where
-  -- the access is refused
+  -- a hart whose cache shows it for the access; of the tables a walk changes the page's entry, and fills its translation with D as
+  -- it is then, or nothing changes, as where the access is refused
   pub record Accesses {A : Type 0} (hart : ℕ) (access : Access) (page : ℕ) (result : Result A BusError) (old new : PagedValue S) : Type 0 where
     pub small : page < 2 ^ 20
     pub process : new.process ≡ old.process
     pub bare : KeepsBare old.pages new.pages
     pub held : ServesHeld (cache_of old.caches hart) access page result
-    pub kept : KeepsTranslations old.pages hart old.tables new.tables old.caches new.caches
+    pub kept : KeepsTranslations old.pages hart page old.tables new.tables old.caches new.caches
     pub entries : MayWalk access page old.tables new.tables
     pub unmarked : OnErr result (new.tables ≡ old.tables)
+    pub unfilled : OnErr result (new.caches ≡ old.caches)
 
   -- of one that reads: all pages and reservations stay
   pub record Reads {A : Type 0} (hart : ℕ) (access : Access) (page : ℕ) (result : Result A BusError) (old new : PagedValue S) : Type 0 where

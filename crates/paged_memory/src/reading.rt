@@ -82,9 +82,11 @@ pub(crate) fn read<'a, L: Ledger, S: SwapSlot>(
     ensures refused { IfErr result (BusRefuses (LacksPage pages.now) address
         (usable (flat_pages S.content pages.now) access address)) }
     ensures held { ServesHeld (cache_of caches.old hart) access (page_number address) result }
-    ensures kept { KeepsTranslations pages.now hart tables.old tables.new caches.old caches.new }
+    ensures kept { KeepsTranslations pages.now hart (page_number address) tables.old tables.new caches.old
+        caches.new }
     ensures entries { MayWalk access (page_number address) tables.old tables.new }
     ensures unmarked { OnErr result (tables.new ≡ tables.old) }
+    ensures unfilled { OnErr result (caches.new ≡ caches.old) }
     ensures has { OnOk result (HasPage pages.now (cache_of caches.old hart) (page_number address)) }
     ensures marked { OnOk result (MarksUse pages.now tables.new (cache_of caches.old hart) access
         (page_number address)) }
@@ -115,9 +117,11 @@ pub(crate) fn fetch_anew<L: Ledger, S: SwapSlot>(
         (loaded_by result) }
     ensures held { ServesHeld (cache_of caches.old hart) Access.Fetch (page_number address)
         (loaded_by result) }
-    ensures kept { KeepsTranslations pages.now hart tables.old tables.new caches.old caches.new }
+    ensures kept { KeepsTranslations pages.now hart (page_number address) tables.old tables.new caches.old
+        caches.new }
     ensures entries { MayWalk Access.Fetch (page_number address) tables.old tables.new }
     ensures unmarked { OnErr (loaded_by result) (tables.new ≡ tables.old) }
+    ensures unfilled { OnErr (loaded_by result) (caches.new ≡ caches.old) }
 {
     if address % 4 != 0 {
         return LoadReply::Misaligned;
@@ -151,9 +155,11 @@ pub(crate) fn load_anew<L: Ledger, S: SwapSlot>(
         (loaded_by result) }
     ensures held { ServesHeld (cache_of caches.old hart) Access.Load (page_number address)
         (loaded_by result) }
-    ensures kept { KeepsTranslations pages.now hart tables.old tables.new caches.old caches.new }
+    ensures kept { KeepsTranslations pages.now hart (page_number address) tables.old tables.new caches.old
+        caches.new }
     ensures entries { MayWalk Access.Load (page_number address) tables.old tables.new }
     ensures unmarked { OnErr (loaded_by result) (tables.new ≡ tables.old) }
+    ensures unfilled { OnErr (loaded_by result) (caches.new ≡ caches.old) }
 {
     if address % width.bytes() != 0 {
         return LoadReply::Misaligned;
@@ -183,9 +189,11 @@ pub(crate) fn load_to_replace<L: Ledger, S: SwapSlot>(
         (LacksPage pages.now) address (answer_by (number_at 4 address)
         (aligned_page (flat_pages S.content pages.now) Access.Store 4 address)) result }
     ensures held { ServesHeld (cache_of caches.old hart) Access.Store (page_number address) result }
-    ensures kept { KeepsTranslations pages.now hart tables.old tables.new caches.old caches.new }
+    ensures kept { KeepsTranslations pages.now hart (page_number address) tables.old tables.new caches.old
+        caches.new }
     ensures entries { MayWalk Access.Store (page_number address) tables.old tables.new }
     ensures unmarked { OnErr result (tables.new ≡ tables.old) }
+    ensures unfilled { OnErr result (caches.new ≡ caches.old) }
 {
     if address % 4 != 0 {
         return Err(BusError::Fault(MemoryFault::Misaligned));

@@ -101,9 +101,11 @@ pub(crate) fn store<L: Ledger, S: SwapSlot>(
     ensures refused { OnErr result (pages.new ≡ pages.old) }
     ensures bare { KeepsBare pages.old pages.new }
     ensures held { ServesHeld (cache_of caches.old hart) Access.Store (page_number address) result }
-    ensures kept { KeepsTranslations pages.old hart tables.old tables.new caches.old caches.new }
+    ensures kept { KeepsTranslations pages.old hart (page_number address) tables.old tables.new caches.old
+        caches.new }
     ensures entries { MayWalk Access.Store (page_number address) tables.old tables.new }
     ensures unmarked { OnErr result (tables.new ≡ tables.old) }
+    ensures unfilled { OnErr result (caches.new ≡ caches.old) }
 {
     match at_hand(pages, tables, caches, hart, Access::Store, width, address) {
         Some(place) => {
@@ -141,9 +143,11 @@ fn store_anew<L: Ledger, S: SwapSlot>(
     ensures bare { KeepsBare pages.old pages.new }
     ensures held { ServesHeld (cache_of caches.old hart) Access.Store (page_number address)
         (stored_by result) }
-    ensures kept { KeepsTranslations pages.old hart tables.old tables.new caches.old caches.new }
+    ensures kept { KeepsTranslations pages.old hart (page_number address) tables.old tables.new caches.old
+        caches.new }
     ensures entries { MayWalk Access.Store (page_number address) tables.old tables.new }
     ensures unmarked { OnErr (stored_by result) (tables.new ≡ tables.old) }
+    ensures unfilled { OnErr (stored_by result) (caches.new ≡ caches.old) }
 {
     if address % width.bytes() != 0 {
         return StoreReply::Misaligned;
@@ -179,9 +183,11 @@ pub(crate) fn copy_in<L: Ledger, S: SwapSlot>(
     ensures refused { OnErr result (pages.new ≡ pages.old) }
     ensures bare { KeepsBare pages.old pages.new }
     ensures held { ServesHeld (cache_of caches.old hart) Access.Store (page_number address) result }
-    ensures kept { KeepsTranslations pages.old hart tables.old tables.new caches.old caches.new }
+    ensures kept { KeepsTranslations pages.old hart (page_number address) tables.old tables.new caches.old
+        caches.new }
     ensures entries { MayWalk Access.Store (page_number address) tables.old tables.new }
     ensures unmarked { OnErr result (tables.new ≡ tables.old) }
+    ensures unfilled { OnErr result (caches.new ≡ caches.old) }
 {
     match reach(pages, tables, caches, hart, Access::Store, address) {
         Ok(place) => {
@@ -211,9 +217,11 @@ pub(crate) fn amo<L: Ledger, S: SwapSlot>(
     ensures refused { OnErr result (pages.new ≡ pages.old) }
     ensures bare { KeepsBare pages.old pages.new }
     ensures held { ServesHeld (cache_of caches.old hart) Access.Store (page_number address) result }
-    ensures kept { KeepsTranslations pages.old hart tables.old tables.new caches.old caches.new }
+    ensures kept { KeepsTranslations pages.old hart (page_number address) tables.old tables.new caches.old
+        caches.new }
     ensures entries { MayWalk Access.Store (page_number address) tables.old tables.new }
     ensures unmarked { OnErr result (tables.new ≡ tables.old) }
+    ensures unfilled { OnErr result (caches.new ≡ caches.old) }
 {
     match at_hand(
         pages,
@@ -250,9 +258,11 @@ fn amo_anew<L: Ledger, S: SwapSlot>(
     ensures refused { OnErr result (pages.new ≡ pages.old) }
     ensures bare { KeepsBare pages.old pages.new }
     ensures held { ServesHeld (cache_of caches.old hart) Access.Store (page_number address) result }
-    ensures kept { KeepsTranslations pages.old hart tables.old tables.new caches.old caches.new }
+    ensures kept { KeepsTranslations pages.old hart (page_number address) tables.old tables.new caches.old
+        caches.new }
     ensures entries { MayWalk Access.Store (page_number address) tables.old tables.new }
     ensures unmarked { OnErr result (tables.new ≡ tables.old) }
+    ensures unfilled { OnErr result (caches.new ≡ caches.old) }
 {
     if address % 4 != 0 {
         return Err(BusError::Fault(MemoryFault::Misaligned));

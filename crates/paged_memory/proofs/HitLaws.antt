@@ -3,6 +3,7 @@ use Rattle.std.specs.Prelude.{◌≡◌, ℕ, ◌<◌, Bool, true, false, ◌||�
 use Rattle.std.proofs.Common.{sym, ap, ◌∙◌, subst, inl, inr}
 use Rattle.std.proofs.lemmas.List.Elements.{All-get_or}
 use Rattle.page_memory.specs.declared.words.Access.{Access}
+use Rattle.page_memory.specs.declared.words.Access.TheVariants.{Store}
 use Rattle.page_memory.specs.Rights.{may}
 use Rattle.page_memory.specs.Entries.{place_of}
 use Rattle.page_memory.specs.EntriesLaws.{has_value}
@@ -13,7 +14,7 @@ use Rattle.tlb_core.specs.Cache.{Hits, translation_of, is_of_page}
 use Rattle.tlb_core.specs.CacheLaws.{All-entry_of, page-entry_of}
 use Rattle.paged_memory.specs.Seen.{frame_seen, frame_standing, rights_seen, takes_stores}
 use Rattle.paged_memory.specs.Soundness.{IsSound}
-use Rattle.paged_memory.specs.Access.{Reaches, HasPage, MarksUse, cache_of}
+use Rattle.paged_memory.specs.Access.{Reaches, HasPage, MarksUse, TakesStores, cache_of}
 use Rattle.paged_memory.specs.Paged.{standing_of, seen_of, seen_at, Holds}
 use Rattle.paged_memory.proofs.PagedLaws.{page_at-place}
 
@@ -70,3 +71,8 @@ module _ {S : Type 0} {held : S → List ℕ} {honest : Type 0} {pages : List (�
       by_mark : (b : Bool) → hits.entry.doomed ≡ b → MarksUse pages tables (cache_of caches hart) access number
       by_mark true is = inr (record { place = place; hits = hits; doomed = is })
       by_mark false is = inl (sound_here.used is)
+
+-- a page that a store may use takes stores
+pub reaches_takes : {S : Type 0} (pages : List (ℕ × PageValue S)) (tables : List (List ℕ)) (access : Access) (number place : ℕ) → Reaches pages tables access number place → access ≡ Store → TakesStores pages tables number
+reaches_takes pages tables access number place reaches is =
+    ap (λ s. takes_stores s (entry_at tables number)) (ap (option_map seen_of) (page_at-place pages number place reaches.page reaches.at reaches.value)) ∙ reaches.changed is

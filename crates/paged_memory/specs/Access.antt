@@ -45,6 +45,10 @@ module _ {S : Type 0} where
     pub framed : is_some (writable page.place) ≡ true
     pub changed : access ≡ Store → takes_stores (Some (seen_of page)) (entry_at tables number) ≡ true
 
+  -- a page takes stores: it is marked as dirty, or it counts as changed whatever its mark is, with no copy of it out
+  abbrev pub TakesStores : List (ℕ × PageValue S) → List (List ℕ) → ℕ → Type 0
+  TakesStores pages tables page = takes_stores (seen_at pages page) (entry_at tables page) ≡ true
+
   -- the pages that a hart can use without that one is brought in: those that are resident, and those that its cache holds
   abbrev pub HasPage : List (ℕ × PageValue S) → List Translation → ℕ → Type 0
   HasPage pages cache page = (is_resident (seen_at pages page) ≡ true) ⊎ (is_some (translation_of page cache) ≡ true)

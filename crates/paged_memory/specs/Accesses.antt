@@ -1,10 +1,10 @@
 -- What an access of a hart does to a process's memory as a whole, by its answer.
-use Rattle.std.specs.Prelude.{◌≡◌, ℕ, ◌^◌, ◌<◌, Result, OnErr}
+use Rattle.std.specs.Prelude.{◌≡◌, ℕ, ◌^◌, ◌<◌, Result, OnOk, OnErr}
 use Rattle.page_memory.specs.declared.fault.MemoryFault.{MemoryFault}
 use Rattle.page_memory.specs.declared.words.Access.{Access}
 use Rattle.rv_exec.specs.declared.bus.BusError.{BusError}
 use Rattle.rv_exec.specs.Answers.{Answers}
-use Rattle.paged_memory.specs.Access.{HasPage, LacksPage, MarksUse, KeepsBare, KeepsTranslations, MayWalk, ServesHeld, cache_of}
+use Rattle.paged_memory.specs.Access.{HasPage, LacksPage, MarksUse, KeepsBare, KeepsTranslations, MayWalk, ServesHeld, TakesStores, cache_of}
 use Rattle.paged_memory.specs.Paged.{PagedValue}
 
 module _ {S : Type 0} where
@@ -38,8 +38,10 @@ module _ {S : Type 0} where
     pub pages : new.pages ≡ old.pages
     pub reserved : OnErr result (new.reserved ≡ old.reserved)
 
-  -- of one that writes: where it is refused, all pages and reservations stay
+  -- of one that writes: where it is answered, the page takes stores, whatever the bytes are; where it is refused, all pages and
+  -- reservations stay
   pub record Writes {A : Type 0} (hart : ℕ) (access : Access) (page : ℕ) (result : Result A BusError) (old new : PagedValue S) : Type 0 where
     pub accesses : Accesses hart access page result old new
+    pub takes : OnOk result (TakesStores old.pages new.tables page)
     pub pages : OnErr result (new.pages ≡ old.pages)
     pub reserved : OnErr result (new.reserved ≡ old.reserved)

@@ -6,7 +6,7 @@ ghost use Rattle.page_store.specs.PageValue.{content, writable};
 ghost use Rattle.rv_exec.specs.Answers.{Answers, BusRefuses};
 ghost use Rattle.paged_memory.specs.Paged.{Holds, flat_pages};
 ghost use Rattle.paged_memory.specs.Replies.{loaded_by};
-ghost use Rattle.paged_memory.specs.Access.{HasPage, LacksPage, MarksUse, KeepsTranslations, MayWalk, UsesBytes, cache_of, ServesHeld};
+ghost use Rattle.paged_memory.specs.Access.{HasPage, LacksPage, MarksUse, KeepsTranslations, MayWalk, TakesStores, UsesBytes, cache_of, ServesHeld};
 
 use crate::access::{at_hand, reach};
 use crate::caches::Caches;
@@ -65,6 +65,7 @@ pub(crate) fn read_ready<'a, L: Ledger, S: SwapSlot>(
 
 /// The bytes of a page that a hart reads.
 #[inline]
+#[tactic(auto, using(crate::proofs::HitLaws::reaches_takes))]
 pub(crate) fn read<'a, L: Ledger, S: SwapSlot>(
     pages: &'a PageMap<StoredPage<L, S>>,
     tables: &mut PageTables,
@@ -87,6 +88,8 @@ pub(crate) fn read<'a, L: Ledger, S: SwapSlot>(
     ensures entries { MayWalk access (page_number address) tables.old tables.new }
     ensures unmarked { OnErr result (tables.new ≡ tables.old) }
     ensures unfilled { OnErr result (caches.new ≡ caches.old) }
+    ensures takes { access ≡ Access.Store →
+        OnOk result (TakesStores pages.now tables.new (page_number address)) }
     ensures has { OnOk result (HasPage pages.now (cache_of caches.old hart) (page_number address)) }
     ensures marked { OnOk result (MarksUse pages.now tables.new (cache_of caches.old hart) access
         (page_number address)) }
@@ -194,6 +197,7 @@ pub(crate) fn load_to_replace<L: Ledger, S: SwapSlot>(
     ensures entries { MayWalk Access.Store (page_number address) tables.old tables.new }
     ensures unmarked { OnErr result (tables.new ≡ tables.old) }
     ensures unfilled { OnErr result (caches.new ≡ caches.old) }
+    ensures takes { OnOk result (TakesStores pages.now tables.new (page_number address)) }
 {
     if address % 4 != 0 {
         return Err(BusError::Fault(MemoryFault::Misaligned));

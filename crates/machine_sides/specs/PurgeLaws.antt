@@ -180,6 +180,7 @@ module _ {S : Type 0} where
         pool_is = gives.pool_is;
         framed = λ test. let a = gives.framed test in let none = given_frames process.space space gives.space quiet test in omega (arith, a, none);
         slotted = let a = gives.slotted in let none = given_slots process.space space gives.space quiet in omega (arith, a, none);
+        named = gives.named;
         space = gives.space;
         purged = refl;
       }

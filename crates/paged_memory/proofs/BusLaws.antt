@@ -41,7 +41,7 @@ module _ {S : Type 0} (hart : ℕ) (access : Access) {A : Type 0} (address : ℕ
       answers accesses.entries accesses.unmarked
 
   pub bus_keeps : Accesses hart access (page_number address) result old new → KeepsAccess hart old new
-  bus_keeps accesses = access_written hart old new accesses.process accesses.bare accesses.kept
+  bus_keeps accesses = access_written hart (page_number address) old new accesses.process accesses.bare accesses.kept
 
   -- the memory that it stands for stays over one that reads, and where another is refused
   same_parts : (held : S → List ℕ) → new.pages ≡ old.pages → new.reserved ≡ old.reserved → memory_of held new ≡ memory_of held old

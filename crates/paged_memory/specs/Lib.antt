@@ -10,6 +10,8 @@ pub mod Growth
 pub mod Counting
 pub mod CountingLaws
 pub mod FewerLaws
+pub mod OwnCache
+pub mod OwnCacheLaws
 pub mod HartMemory
 pub mod HartMemoryLaws
 pub mod SeenLaws
@@ -43,4 +45,5 @@ pub mod ComeLaws
 pub mod StillLaws
 pub mod PeekLaws
 pub mod GivenLaws
+pub mod SlotsLaws
 pub mod LooksLaws

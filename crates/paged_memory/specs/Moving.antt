@@ -1,5 +1,5 @@
 -- What each call on a process's pages does to its memory as a whole, by name: whatever stands on it says so by these.
-use Rattle.std.specs.Prelude.{◌≡◌, ℕ, ◌^◌, ◌<◌, Bool, true, false, ◌||◌, is_some, map, List, [], Option, Some, None, option_map, option_and_then, if◌then◌else◌, IfSome}
+use Rattle.std.specs.Prelude.{◌≡◌, ℕ, zero, suc, ◌^◌, ◌<◌, ◌≤◌, Bool, true, false, ◌||◌, is_some, map, List, [], ◌∷◌, ◌++◌, Option, Some, None, option_map, option_and_then, if◌then◌else◌, IfSome}
 use Rattle.frame_pool.specs.FrameValue.{FrameValue}
 use Rattle.page_memory.specs.Words.{page_number, page_offset}
 use Rattle.page_store.specs.JobValue.{JobValue, SavedValue}
@@ -282,6 +282,28 @@ module _ {S : Type 0} where
   abbrev pub PageGiven : PagedValue S → PagedValue S → ℕ → Type 0
   PageGiven old new number = page_at new.pages number ≡ option_map page_given (page_at old.pages number)
 
+  -- the slot that a page gives back, if it has one to give
+  abbrev pub given_slot : Option (PageValue S) → Option S
+  given_slot None = None
+  given_slot (Some page) = option_and_then (λ given. given.1) (given_back page.place)
+
+  abbrev pub with_slot : List S → Option S → List S
+  with_slot slots None = slots
+  with_slot slots (Some slot) = slots ++ slot ∷ []
+
+  -- the slots that the pages below a number give back, by rising number
+  unfoldable pub slots_below : PagedValue S → ℕ → List S
+  slots_below memory zero = []
+  slots_below memory (suc number) = with_slot (slots_below memory number) (given_slot (page_at memory.pages number))
+
+  -- pages gave these slots back so far, all of those that the pages below a number had; each page from there on is as it was
+  pub record GivesBelow (slots : List S) (old new : PagedValue S) : Type 0 where
+    pub below : ℕ
+    pub within : below ≤ 2 ^ 20
+    pub named : slots ≡ slots_below old below
+    pub nothing : HasNothingBelow below new
+    pub beyond : (number : ℕ) → below ≤ number → SamePage old new number
+
   -- no cache holds a translation
   abbrev pub EmptiesCaches : PagedValue S → PagedValue S → Type 0
   EmptiesCaches old new = new.caches ≡ map (λ _. []) old.caches
@@ -297,9 +319,11 @@ module _ {S : Type 0} where
     pub page : SamePage old new number
     pub entry : entry_at new.tables number ≡ entry_at old.tables number
 
-  -- every page that had something has given it back, and no cache holds a translation
+  -- every page that had something has given it back, and no cache holds a translation; which pages have a table stays, and what is reserved
   pub record GivesAll (old new : PagedValue S) : Type 0 where
     pub process : new.process ≡ old.process
     pub pages : (number : ℕ) → number < 2 ^ 20 → PageGiven old new number
     pub entries : (number : ℕ) → number < 2 ^ 20 → entry_at new.tables number ≡ (if has_to_give_in old number then blank else entry_at old.tables number)
     pub caches : EmptiesCaches old new
+    pub tabled : SameTablesIn old new
+    pub reserved : new.reserved ≡ old.reserved

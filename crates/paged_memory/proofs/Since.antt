@@ -16,8 +16,8 @@ use Rattle.paged_memory.specs.Paged.{PagedValue, page_at, seen_at, seen_of}
 use Rattle.paged_memory.specs.Seen.{is_used}
 
 -- what is seen of a page does not rest on its frame's bytes
-pub seen_written : {S : Type 0} (old new : List (ℕ × PageValue S)) → KeepsBare old new → (page : ℕ) → seen_at new page ≡ seen_at old page
-seen_written old new kept page = sym (seen_bare (page_at new page)) ∙ ap (option_map seen_of) (kept.bare page) ∙ seen_bare (page_at old page)
+pub seen_written : {S : Type 0} {number : ℕ} (old new : List (ℕ × PageValue S)) → KeepsBare number old new → (page : ℕ) → seen_at new page ≡ seen_at old page
+seen_written {S} {number} old new kept page = sym (seen_bare (page_at new page)) ∙ ap (option_map seen_of) (kept.bare page) ∙ seen_bare (page_at old page)
 
 module _ {S : Type 0} (hart : ℕ) (opening : List Translation) (access : Access) (old new : PagedValue S) (turn : InTurn hart opening old) (seen : (page : ℕ) → seen_at new.pages page ≡ seen_at old.pages page) where
   marks : (page : ℕ) → page < 2 ^ 20 → MarksUse old.pages new.tables (cache_of old.caches hart) access page → MarksSince new opening page

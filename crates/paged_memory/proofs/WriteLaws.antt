@@ -94,11 +94,12 @@ module _ {S : Type 0} where
     seen_same = ap (λ s. record { rights = reached.page.origin.rights; standing = s }) (standing_rewritten reached.page.place bytes)
         -- all but the bytes in the frame stays
 
-    pub bare_stays : KeepsBare pages pages_now
+    pub bare_stays : KeepsBare number pages pages_now
     bare_stays =
         record {
           bare = λ q. ap (option_map (λ p. with_bytes p [])) (changes.pages q) ∙ choose q (q == number) refl;
           places = λ q. place_of-with_value pages place q written;
+          others = λ q apart. changes.pages q ∙ ap (λ b. cond b (Some written) (page_at pages q)) (ne_eqb q number apart);
         }
       where
         choose : (q : ℕ) (b : Bool) → (q == number) ≡ b → option_map (λ p. with_bytes p []) (cond b (Some written) (page_at pages q)) ≡ bare_at pages q

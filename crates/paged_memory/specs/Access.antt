@@ -95,10 +95,11 @@ UsesBytes (Err fault) bytes = ⊥
 abbrev pub bare_at : {S : Type 0} → List (ℕ × PageValue S) → ℕ → Option (PageValue S)
 bare_at pages number = option_map (λ page. with_bytes page []) (page_at pages number)
 
--- pages stay where they are, but for the bytes in their frames
-pub record KeepsBare {S : Type 0} (old new : List (ℕ × PageValue S)) : Type 0 where
+-- pages stay where they are, and one alone changes, and that but for the bytes in its frame
+pub record KeepsBare {S : Type 0} (number : ℕ) (old new : List (ℕ × PageValue S)) : Type 0 where
   pub bare : (page : ℕ) → bare_at new page ≡ bare_at old page
   pub places : (page : ℕ) → place_of page new ≡ place_of page old
+  pub others : (page : ℕ) → page ≢ number → page_at new page ≡ page_at old page
 
 -- what stays over a hart's access to a page, beside what the memory holds: all other caches; no table is added, and no page's A
 -- or D falls; the hart's cache gets translations of resident pages alone, and none that is to be dropped; and that, if any, which

@@ -19,7 +19,7 @@ module _ {S : Type 0} where
   pub record Accesses {A : Type 0} (hart : ℕ) (access : Access) (page : ℕ) (result : Result A BusError) (old new : PagedValue S) : Type 0 where
     pub small : page < 2 ^ 20
     pub process : new.process ≡ old.process
-    pub bare : KeepsBare old.pages new.pages
+    pub bare : KeepsBare page old.pages new.pages
     pub held : ServesHeld (cache_of old.caches hart) access page result
     pub kept : KeepsTranslations old.pages hart page old.tables new.tables old.caches new.caches
     pub entries : MayWalk access page old.tables new.tables

@@ -1,6 +1,6 @@
 -- A resident page is cleaned while it is used: its cleaning begins, a copy of it goes out, and the copy comes back.
-use Rattle.std.specs.Prelude.{◌≡◌, ℕ, ◌^◌, ◌<◌, ◌&&◌, Bool, map, List, Option, Some, None, Ok, Err, IsFalse}
-use Rattle.page_store.specs.Cleaning.{begun, copied_clean, IfCopyOut, EndsCleaning}
+use Rattle.std.specs.Prelude.{◌≡◌, ℕ, ◌^◌, ◌<◌, ◌&&◌, Bool, map, List, Option, Some, None, Ok, Err}
+use Rattle.page_store.specs.Cleaning.{begun, copied_clean, EndsCleaning}
 use Rattle.page_store.specs.JobValue.{SavedValue}
 use Rattle.page_store.specs.PageValue.{PageValue, changed}
 use Rattle.page_store.specs.declared.answer.CleanCopy.{CleanCopy}
@@ -12,6 +12,7 @@ use Rattle.page_store.specs.declared.refusal.CleanRefusal.TheVariants.{NotReside
 use Rattle.sv32_table.specs.EntryAt.{entry_at, ChangesEntry, SameTables, dirty_of, undirtied_entry}
 use Rattle.tlb_core.specs.Cache.{doomed}
 use Rattle.paged_memory.specs.Calls.{ChangesBy}
+use Rattle.paged_memory.specs.Copies.{StandsAt}
 use Rattle.paged_memory.specs.Counting.{page_passes, is_resident_place}
 use Rattle.paged_memory.specs.Paged.{PagedValue, page_at}
 use Rattle.paged_memory.specs.Soundness.{is_marked}
@@ -63,8 +64,7 @@ module _ {S : Type 0} where
 module _ {S : Type 0} where
   -- it is the copy of a page of these that is out, and no store tells why it differs from the page
   abbrev pub IsCopyAt : SavedValue S → Bool → Option (PageValue S) → Type 0
-  IsCopyAt job dirty (Some page) = IfCopyOut dirty page.place (λ frame stored. IsFalse stored → frame.bytes ≡ job.copy)
-  IsCopyAt job dirty None = ⊥
+  IsCopyAt job dirty page = StandsAt job.copy dirty page
 
   abbrev pub IsCopyOf : ℕ → SavedValue S → Bool → List (ℕ × PageValue S) → Type 0
   IsCopyOf process job dirty pages = (job.process ≡ process) × ((job.vpn < 2 ^ 20) × IsCopyAt job dirty (page_at pages job.vpn))

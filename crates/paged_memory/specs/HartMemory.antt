@@ -9,6 +9,7 @@ use Rattle.paged_memory.specs.Seen.{is_used, is_dirty}
 use Rattle.paged_memory.specs.Paged.{PagedValue, page_at, seen_at}
 use Rattle.page_memory.specs.declared.words.Access.{Access}
 use Rattle.paged_memory.specs.Access.{HasPage, ServedDoomed, bare_at, cache_of}
+use Rattle.paged_memory.specs.Copies.{KeepsCopies}
 use Rattle.paged_memory.specs.OwnCache.{GoesOn, KeepsDoomed}
 use Rattle.paged_memory.specs.Growth.{fresh_zero_page}
 
@@ -19,7 +20,8 @@ pub record KeepsPages {S : Type 0} (old new : List (ℕ × PageValue S)) : Type 
   pub fresh : (page : ℕ) (value : PageValue S) → page_at old page ≡ None → page_at new page ≡ Some value → value ≡ fresh_zero_page
 
 -- a hart's accesses: no table is added, and no page's A or D falls; no other hart's cache changes; the hart's own gets
--- translations of resident pages alone, and none that is to be dropped; and the hart goes on with those that it has
+-- translations of resident pages alone, and none that is to be dropped; the hart goes on with those that it has; and copies of
+-- pages stand that stood
 pub record KeepsAccess {S : Type 0} (hart : ℕ) (old new : PagedValue S) : Type 0 where
   pub process : new.process ≡ old.process
   pub pages : KeepsPages old.pages new.pages
@@ -30,6 +32,7 @@ pub record KeepsAccess {S : Type 0} (hart : ℕ) (old new : PagedValue S) : Type
   pub held : (page : ℕ) → is_some (translation_of page (cache_of new.caches hart)) ≡ true → HasPage old.pages (cache_of old.caches hart) page
   pub tabled : SameTables old.tables new.tables
   pub goes : GoesOn old.tables new.tables (cache_of old.caches hart) (cache_of new.caches hart)
+  pub copies : KeepsCopies old new
 
 -- some access went through a translation of the page in this cache that is to be dropped
 pub record ServedBefore (cache : List Translation) (page : ℕ) : Type 0 where

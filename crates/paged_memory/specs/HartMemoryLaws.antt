@@ -124,6 +124,7 @@ module _ {S : Type 0} where
     held = λ page is. inr is;
     tabled = λ page small. refl;
     goes = goes_itself memory.tables (slice_index_or memory.caches hart []);
+    copies = copies_itself memory;
   }
 
   pub lacked : (old new : List (ℕ × PageValue S)) (page : ℕ) → KeepsPages old new → LacksPage new page → LacksPage old page
@@ -147,6 +148,7 @@ module _ {S : Type 0} where
     held = λ page is. had hart page old between first (second.held page is);
     tabled = λ page small. second.tabled page small ∙ first.tabled page small;
     goes = goes_on old.tables between.tables new.tables (slice_index_or old.caches hart []) (slice_index_or between.caches hart []) (slice_index_or new.caches hart []) first.goes second.goes;
+    copies = copies_on old between new first.copies second.copies;
   }
 
   pub marked : (hart page : ℕ) (opening : List Translation) (old new : PagedValue S) → KeepsAccess hart old new → MarksSince old opening page → MarksSince new opening page
@@ -155,7 +157,7 @@ module _ {S : Type 0} where
 
   -- ---- one access
 
-  written_pages : (old new : List (ℕ × PageValue S)) → KeepsBare old new → KeepsPages old new
+  written_pages : {number : ℕ} (old new : List (ℕ × PageValue S)) → KeepsBare number old new → KeepsPages old new
   written_pages old new kept = record {
     places = λ page place at. kept.places page ∙ at;
     bare = λ page there. kept.bare page;
@@ -163,9 +165,9 @@ module _ {S : Type 0} where
   }
 
   -- one that may write to a page
-  pub access_written : (hart number : ℕ) (old new : PagedValue S) → new.process ≡ old.process → KeepsBare old.pages new.pages
-      → KeepsTranslations old.pages hart number old.tables new.tables old.caches new.caches → KeepsAccess hart old new
-  access_written hart number old new process bare kept =
+  pub access_written : (hart number : ℕ) (old new : PagedValue S) → new.process ≡ old.process → KeepsBare number old.pages new.pages
+      → KeepsTranslations old.pages hart number old.tables new.tables old.caches new.caches → (new.pages ≡ old.pages) ⊎ TakesStores old.pages new.tables number → KeepsAccess hart old new
+  access_written hart number old new process bare kept told =
       let pages = written_pages old.pages new.pages bare in
       record {
         process = process;
@@ -177,14 +179,26 @@ module _ {S : Type 0} where
         held = kept.held;
         tabled = kept.tabled;
         goes = goes_filled number old.tables new.tables (slice_index_or old.caches hart []) (slice_index_or new.caches hart []) kept.fills;
+        copies = copies_kept old new (λ page there. bare.bare page)
+            (λ page small is. ap (λ s. is_dirty s (entry_at new.tables page)) (seen_all page) ∙ kept.changed page small is)
+            (λ page small there. by_told told page);
       }
     where
+      -- each page is what it was, or takes stores
+      by_told : (new.pages ≡ old.pages) ⊎ TakesStores old.pages new.tables number → (page : ℕ) → (page_at new.pages page ≡ page_at old.pages page) ⊎ (takes_stores (seen_at new.pages page) (entry_at new.tables page) ≡ true)
+      by_told (inl same) page = inl (ap (λ pages. page_at pages page) same)
+      by_told (inr takes) page =
+          elim (eqb_tells page number) [
+            | inl at ↦ inr (ap (λ s. takes_stores s (entry_at new.tables page)) (seen_all page) ∙ ap (λ n. takes_stores (seen_at old.pages n) (entry_at new.tables n)) at.1 ∙ takes)
+            | inr apart ↦ inl (bare.others page apart.1)
+          ]
+
       seen_all : (page : ℕ) → seen_at new.pages page ≡ seen_at old.pages page
       seen_all page = sym (seen_bare (page_at new.pages page)) ∙ ap (option_map seen_of) (bare.bare page) ∙ seen_bare (page_at old.pages page)
 
   -- pages that were mapped
-  pub access_grown : (hart : ℕ) (old new : PagedValue S) → new.process ≡ old.process → KeepsPages old.pages new.pages → new.tables ≡ old.tables → new.caches ≡ old.caches → KeepsAccess hart old new
-  access_grown hart old new process pages tables caches = record {
+  pub access_grown : (hart : ℕ) (old new : PagedValue S) → new.process ≡ old.process → KeepsPages old.pages new.pages → ((page : ℕ) → is_some (page_at old.pages page) ≡ true → page_at new.pages page ≡ page_at old.pages page) → new.tables ≡ old.tables → new.caches ≡ old.caches → KeepsAccess hart old new
+  access_grown hart old new process pages stays tables caches = record {
     process = process;
     pages = pages;
     harts = ap length caches;
@@ -197,6 +211,10 @@ module _ {S : Type 0} where
     tabled = λ page small. ap (λ t. has_table t page) tables;
     goes = subst (λ t. GoesOn old.tables t (slice_index_or old.caches hart []) (slice_index_or new.caches hart [])) (sym tables)
         (subst (λ c. GoesOn old.tables old.tables (slice_index_or old.caches hart []) (slice_index_or c hart [])) (sym caches) (goes_itself old.tables (slice_index_or old.caches hart [])));
+    copies = copies_kept old new (λ page there. pages.bare page there)
+        (λ page small is. ap (λ t. is_dirty (seen_at new.pages page) (entry_at t page)) tables
+        ∙ by_seen (λ s s'. is_dirty s (entry_at old.tables page) ≡ true → is_dirty s' (entry_at old.tables page) ≡ true) old.pages new.pages pages page (λ s same. same) (λ no. cc) is)
+        (λ page small there. inl (stays page there));
   }
 
   -- a hart's turn goes on over its access

@@ -17,6 +17,8 @@ pub mod HartMemoryLaws
 pub mod SeenLaws
 pub mod Filling
 pub mod Cleaning
+pub mod Copies
+pub mod CopiesLaws
 pub mod Peeking
 pub mod GivingBack
 pub mod Coherence

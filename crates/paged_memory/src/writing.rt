@@ -100,7 +100,7 @@ pub(crate) fn store<L: Ledger, S: SwapSlot>(
     ensures answer { let after = with_answer (λ _. flat_pages S.content pages.new) result in
         Answers (HasPage pages.old (cache_of caches.old hart)) (MarksUse pages.old tables.new (cache_of caches.old hart) Access.Store) (LacksPage pages.old) address (stored (flat_pages S.content pages.old) width address word) after }
     ensures refused { OnErr result (pages.new ≡ pages.old) }
-    ensures bare { KeepsBare pages.old pages.new }
+    ensures bare { KeepsBare (page_number address) pages.old pages.new }
     ensures held { ServesHeld (cache_of caches.old hart) Access.Store (page_number address) result }
     ensures kept { KeepsTranslations pages.old hart (page_number address) tables.old tables.new caches.old
         caches.new }
@@ -143,7 +143,7 @@ fn store_anew<L: Ledger, S: SwapSlot>(
         (stored_by result) in
         Answers (HasPage pages.old (cache_of caches.old hart)) (MarksUse pages.old tables.new (cache_of caches.old hart) Access.Store) (LacksPage pages.old) address (stored (flat_pages S.content pages.old) width address word) after }
     ensures refused { OnErr (stored_by result) (pages.new ≡ pages.old) }
-    ensures bare { KeepsBare pages.old pages.new }
+    ensures bare { KeepsBare (page_number address) pages.old pages.new }
     ensures held { ServesHeld (cache_of caches.old hart) Access.Store (page_number address)
         (stored_by result) }
     ensures kept { KeepsTranslations pages.old hart (page_number address) tables.old tables.new caches.old
@@ -186,7 +186,7 @@ pub(crate) fn copy_in<L: Ledger, S: SwapSlot>(
     ensures answer { let after = with_answer (λ _. flat_pages S.content pages.new) result in
         Answers (HasPage pages.old (cache_of caches.old hart)) (MarksUse pages.old tables.new (cache_of caches.old hart) Access.Store) (LacksPage pages.old) address (copied_in (flat_pages S.content pages.old) address from.now) after }
     ensures refused { OnErr result (pages.new ≡ pages.old) }
-    ensures bare { KeepsBare pages.old pages.new }
+    ensures bare { KeepsBare (page_number address) pages.old pages.new }
     ensures held { ServesHeld (cache_of caches.old hart) Access.Store (page_number address) result }
     ensures kept { KeepsTranslations pages.old hart (page_number address) tables.old tables.new caches.old
         caches.new }
@@ -222,7 +222,7 @@ pub(crate) fn amo<L: Ledger, S: SwapSlot>(
         let after = with_answer (λ old. (old, flat_pages S.content pages.new)) result in
         Answers (HasPage pages.old (cache_of caches.old hart)) (MarksUse pages.old tables.new (cache_of caches.old hart) Access.Store) (LacksPage pages.old) address (replaced (flat_pages S.content pages.old) update address) after }
     ensures refused { OnErr result (pages.new ≡ pages.old) }
-    ensures bare { KeepsBare pages.old pages.new }
+    ensures bare { KeepsBare (page_number address) pages.old pages.new }
     ensures held { ServesHeld (cache_of caches.old hart) Access.Store (page_number address) result }
     ensures kept { KeepsTranslations pages.old hart (page_number address) tables.old tables.new caches.old
         caches.new }
@@ -265,7 +265,7 @@ fn amo_anew<L: Ledger, S: SwapSlot>(
         let after = with_answer (λ old. (old, flat_pages S.content pages.new)) result in
         Answers (HasPage pages.old (cache_of caches.old hart)) (MarksUse pages.old tables.new (cache_of caches.old hart) Access.Store) (LacksPage pages.old) address (replaced (flat_pages S.content pages.old) update address) after }
     ensures refused { OnErr result (pages.new ≡ pages.old) }
-    ensures bare { KeepsBare pages.old pages.new }
+    ensures bare { KeepsBare (page_number address) pages.old pages.new }
     ensures held { ServesHeld (cache_of caches.old hart) Access.Store (page_number address) result }
     ensures kept { KeepsTranslations pages.old hart (page_number address) tables.old tables.new caches.old
         caches.new }

@@ -4,6 +4,7 @@ pub mod Keeping
 pub mod PageValue
 pub mod Reading
 pub mod Moves
+pub mod Cleaning
 pub mod View
 pub mod StateLending
 pub mod Lending

@@ -10,7 +10,7 @@ use Rattle.page_store.specs.declared.refusal.FillFault.{FillFault}
 use Rattle.page_store.specs.declared.refusal.FillFault.TheVariants as fault
 use Rattle.page_store.specs.CopyValue.{CopyValue}
 use Rattle.page_store.specs.PageValue.{PageValue, Place, Fresh, Resident, Leaving, Saving, Away, Purged, Matches, failures_at}
-use Rattle.page_store.specs.Keeping.{Keeping, NoSlot, Saved, Unbacked, Cleaning, CopyOut, kept, settled}
+use Rattle.page_store.specs.Keeping.{Keeping, NoSlot, Saved, Unbacked, Cleaning, CopyOut, settled}
 use Rattle.page_store.specs.declared.answer.Collected.{Collected}
 use Rattle.page_store.specs.declared.answer.Collected.TheVariants as answer
 use Rattle.page_store.specs.declared.answer.SaveRefusal.{SaveRefusal}

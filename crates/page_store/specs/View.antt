@@ -4,6 +4,8 @@ use Rattle.page_store.specs.declared.state.Origin.{Origin}
 use Rattle.page_store.specs.declared.state.Origin.TheVariants.{Image, Zeros}
 use Rattle.page_store.specs.declared.state.Absent.{Absent}
 use Rattle.page_store.specs.declared.state.Absent.TheVariants as absent
+use Rattle.page_store.specs.declared.cleaning.Out.{Out}
+use Rattle.page_store.specs.declared.cleaning.Out.TheVariants as out
 use Rattle.page_store.specs.declared.state.State.{State}
 use Rattle.page_store.specs.declared.state.State.TheVariants as state
 use Rattle.page_store.specs.declared.state.Keeping.{Keeping as CodeKeeping}
@@ -35,3 +37,7 @@ place_in_state state.Purged = Purged
 abbrev pub place_absent : {S : Type 0} → Absent S → Place S
 place_absent absent.Fresh = Fresh
 place_absent (absent.Away copy) = Away copy
+
+abbrev pub place_out : {L : Type 0} {S : Type 0} → Out L → Place S
+place_out (out.Resident frame) = Resident frame CopyOut
+place_out (out.Leaving frame mark) = Leaving frame CopyOut mark

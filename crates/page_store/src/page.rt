@@ -20,8 +20,8 @@ use swap_slots::SwapSlot;
 /// One page of a process.
 #[derive(Drop)]
 pub struct StoredPage<L: Ledger, S: SwapSlot> {
-    origin: Origin,
-    state: State<L, S>,
+    pub(crate) origin: Origin,
+    pub(crate) state: State<L, S>,
 }
 
 impl<L: Ledger, S: SwapSlot> Model for StoredPage<L, S> {

@@ -85,13 +85,7 @@ module _ {S : Type 0} (old new : PagedValue S) where
       → KeepsCopies old new
   copies_kept bare rises told vpn bytes small stands = by_page (page_at old.pages vpn) (page_at new.pages vpn) refl refl stands
     where
-      abbrev e : Entry
-      e = entry_at old.tables vpn
-
-      abbrev e' : Entry
-      e' = entry_at new.tables vpn
-
-      by_page : (o o' : Option (PageValue S)) → page_at old.pages vpn ≡ o → page_at new.pages vpn ≡ o' → StandsAt bytes e.dirty o → StandsAt bytes e'.dirty o'
+      by_page : (o o' : Option (PageValue S)) → page_at old.pages vpn ≡ o → page_at new.pages vpn ≡ o' → StandsAt bytes (entry_at old.tables vpn).dirty o → StandsAt bytes (entry_at new.tables vpn).dirty o'
       by_page None o' at at' h = absurd h
       by_page (Some page) None at at' h =
           let clash : None ≡ Some (with_bytes page []) = sym (ap (option_map (λ p. with_bytes p [])) at') ∙ bare vpn (ap is_some at) ∙ ap (option_map (λ p. with_bytes p [])) at in
@@ -100,14 +94,14 @@ module _ {S : Type 0} (old new : PagedValue S) where
           let same : Some (with_bytes page' []) ≡ Some (with_bytes page []) = sym (ap (option_map (λ p. with_bytes p [])) at') ∙ bare vpn (ap is_some at) ∙ ap (option_map (λ p. with_bytes p [])) at in
           let seen_then : seen_at old.pages vpn ≡ Some (seen_of page) = ap (option_map seen_of) at in
           let seen_now : seen_at new.pages vpn ≡ Some (seen_of page') = ap (option_map seen_of) at' in
-          stands_there bytes e e' page.place page'.place
+          stands_there bytes (entry_at old.tables vpn) (entry_at new.tables vpn) page.place page'.place
           (ap (λ (p : PageValue S). p.place) (same_Some _ _ same))
-          (λ was. sym (ap (λ s. is_dirty s e') seen_now) ∙ rises vpn small (ap (λ s. is_dirty s e) seen_then ∙ was))
+          (λ was. sym (ap (λ s. is_dirty s (entry_at new.tables vpn)) seen_now) ∙ rises vpn small (ap (λ s. is_dirty s (entry_at old.tables vpn)) seen_then ∙ was))
           (by_told page page' at at' seen_now (told vpn small (ap is_some at)))
           h
         where
           by_told : (page page' : PageValue S) → page_at old.pages vpn ≡ Some page → page_at new.pages vpn ≡ Some page' → seen_at new.pages vpn ≡ Some (seen_of page')
-              → (page_at new.pages vpn ≡ page_at old.pages vpn) ⊎ (takes_stores (seen_at new.pages vpn) e' ≡ true)
-              → (page'.place ≡ page.place) ⊎ ((dirty_standing (standing_of page'.place) e' || is_loose_standing (standing_of page'.place)) ≡ true)
+              → (page_at new.pages vpn ≡ page_at old.pages vpn) ⊎ (takes_stores (seen_at new.pages vpn) (entry_at new.tables vpn) ≡ true)
+              → (page'.place ≡ page.place) ⊎ ((dirty_standing (standing_of page'.place) (entry_at new.tables vpn) || is_loose_standing (standing_of page'.place)) ≡ true)
           by_told page page' at at' seen_now (inl stays) = inl (ap (λ (p : PageValue S). p.place) (same_Some _ _ (sym at' ∙ stays ∙ at)))
-          by_told page page' at at' seen_now (inr takes) = inr (sym (ap (λ s. takes_stores s e') seen_now) ∙ takes)
+          by_told page page' at at' seen_now (inr takes) = inr (sym (ap (λ s. takes_stores s (entry_at new.tables vpn)) seen_now) ∙ takes)

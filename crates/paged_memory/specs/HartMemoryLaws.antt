@@ -1,15 +1,17 @@
 -- What a hart's accesses keep, over several of them.
 use Rattle.std.specs.Prelude.{◌≡◌, ℕ, ◌⊎◌, true, false, is_some, option_map, Option, Some, None, List, [], length, slice_index_or, refl}
 use Rattle.std.proofs.Common.{sym, ap, ◌∙◌, subst, arith, inl, inr}
+use Rattle.std.proofs.lemmas.Bool.Decides.{eqb_tells}
 use Rattle.std.proofs.lemmas.Option.{none-some, same_Some}
 use Rattle.page_store.specs.PageValue.{PageValue, Place, Fresh, Resident, Leaving, Saving, Away, Purged}
 use Rattle.page_store.specs.Lending.{with_bytes, rewritten}
 use Rattle.sv32_table.specs.EntryAt.{entry_at, has_table}
 use Rattle.tlb_core.specs.declared.translation.Translation.{Translation}
 use Rattle.tlb_core.specs.Cache.{translation_of}
-use Rattle.paged_memory.specs.Seen.{Seen, is_used, is_dirty}
+use Rattle.paged_memory.specs.Seen.{Seen, is_used, is_dirty, takes_stores}
 use Rattle.paged_memory.specs.Paged.{PagedValue, standing_of, seen_of, page_at, seen_at}
-use Rattle.paged_memory.specs.Access.{HasPage, LacksPage, KeepsBare, KeepsTranslations, is_resident}
+use Rattle.paged_memory.specs.Access.{HasPage, LacksPage, KeepsBare, KeepsTranslations, TakesStores, is_resident}
+use Rattle.paged_memory.specs.CopiesLaws.{copies_itself, copies_on, copies_kept}
 use Rattle.paged_memory.specs.OwnCache.{GoesOn, KeepsDoomed}
 use Rattle.paged_memory.specs.OwnCacheLaws.{goes_itself, goes_on, goes_filled}
 use Rattle.paged_memory.specs.Growth.{fresh_zero_page}

@@ -44,6 +44,12 @@ impl SwapSlot for LateSlot {
 
     ghost honest = { ⊤ };
 
+    fn is_known_honest() -> bool
+        ensures known { result ≡ false }
+    {
+        false
+    }
+
     fn save(&mut self, page: &[u8; 4096]) -> Result<(), SlotFault> {
         if self.fails() {
             return Err(SlotFault);

@@ -1,4 +1,4 @@
-ghost use Rattle.std.specs.Prelude.{◌≡◌, ◌-◌, ◌+◌, ◌^◌, ◌<◌, ◌≤◌, ⊤, min, IfOk, IsOk, IsErr, OnOk, OnErr};
+ghost use Rattle.std.specs.Prelude.{◌≡◌, ◌-◌, ◌+◌, ◌^◌, ◌<◌, ◌≤◌, ⊤, min, IfOk, IsOk, IsErr, OnOk, OnErr, false};
 ghost use Rattle.swap_slots.specs.Slot.{Rose};
 
 use std::alloc::{AllocError, Global};
@@ -26,6 +26,12 @@ impl SwapSlot for NoLoads {
     ghost failures = { λ slot. slot.failures };
 
     ghost honest = { ⊤ };
+
+    fn is_known_honest() -> bool
+        ensures known { result ≡ false }
+    {
+        false
+    }
 
     fn save(&mut self, page: &[u8; 4096]) -> Result<(), SlotFault> {
         self.slot.save(page)

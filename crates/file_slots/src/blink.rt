@@ -1,4 +1,4 @@
-ghost use Rattle.std.specs.Prelude.{◌≡◌, ◌-◌, ◌+◌, ◌^◌, ◌≤◌, ◌↔◌, ⊤, min, IfOk, IsErr, OnOk, OnErr};
+ghost use Rattle.std.specs.Prelude.{◌≡◌, ◌-◌, ◌+◌, ◌^◌, ◌≤◌, ◌↔◌, ⊤, min, IfOk, IsErr, OnOk, OnErr, false};
 ghost use Rattle.swap_slots.specs.Slot.{Rose, zero_content};
 
 use std::alloc::{AllocError, Global};
@@ -62,6 +62,12 @@ impl SwapSlot for BlinkSlot {
     ghost failures = { λ slot. slot.failures };
 
     ghost honest = { ⊤ };
+
+    fn is_known_honest() -> bool
+        ensures known { result ≡ false }
+    {
+        false
+    }
 
     fn save(&mut self, page: &[u8; 4096]) -> Result<(), SlotFault>
         ensures fails { IsErr result ↔ (self.old.failing ≡ 1) }

@@ -1,4 +1,4 @@
-ghost use Rattle.std.specs.Prelude.{◌≡◌, ◌+◌, ◌-◌, ◌^◌, ◌≤◌, ◌↔◌, [], min, Ok, Err, IfOk, IsErr, OnOk, OnErr};
+ghost use Rattle.std.specs.Prelude.{◌≡◌, ◌+◌, ◌-◌, ◌^◌, ◌≤◌, ◌↔◌, [], min, Ok, Err, IfOk, IsErr, OnOk, OnErr, false};
 ghost use Rattle.std.specs.Io.KnownBytes.{Appends, Consumes};
 ghost use Rattle.file_slots.specs.FromStart.{FromStart};
 ghost use Rattle.swap_slots.specs.Slot.{Rose};
@@ -72,6 +72,12 @@ impl<F: Read + Write + Seek + Drop> SwapSlot for FileSlot<F> {
     ghost failures = { λ slot. slot.failures };
 
     ghost honest = { ⊥ };
+
+    fn is_known_honest() -> bool
+        ensures known { result ≡ false }
+    {
+        false
+    }
 
     fn save(&mut self, page: &[u8; 4096]) -> Result<(), SlotFault>
         ensures written { OnOk result (FromStart F.stream_position (λ start end.

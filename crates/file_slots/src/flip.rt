@@ -1,4 +1,4 @@
-ghost use Rattle.std.specs.Prelude.{◌≡◌, ◌-◌, ◌≤◌, ◌==◌, if◌then◌else◌, IfOk, IsOk, OnOk, OnErr};
+ghost use Rattle.std.specs.Prelude.{◌≡◌, ◌-◌, ◌≤◌, ◌==◌, if◌then◌else◌, IfOk, IsOk, OnOk, OnErr, false};
 ghost use Rattle.file_slots.specs.Flipped.{flipped};
 ghost use Rattle.swap_slots.specs.Slot.{Rose, zero_content};
 
@@ -41,6 +41,12 @@ impl SwapSlot for FlipSlot {
     ghost failures = { λ _. 0 };
 
     ghost honest = { ⊥ };
+
+    fn is_known_honest() -> bool
+        ensures known { result ≡ false }
+    {
+        false
+    }
 
     fn save(&mut self, page: &[u8; 4096]) -> Result<(), SlotFault>
         ensures succeeds { IsOk result }

@@ -64,7 +64,7 @@ impl<L: Ledger> BareFrame<L> {
 
     /// Lends the bytes of the page to be written.
     #[inline]
-    pub(crate) fn bytes_mut(&mut self) -> &mut [u8; 4096]
+    pub fn bytes_mut(&mut self) -> &mut [u8; 4096]
         ensures* writes_back { sem 𝓛 (LendsBareBytes L.row L.Ledger self.entry result) }
         ensures bytes { result.now ≡ self.old.bytes }
     {

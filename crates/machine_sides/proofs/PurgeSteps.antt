@@ -6,9 +6,10 @@ use Rattle.frame_pool.specs.FrameValue.{FrameValue}
 use Rattle.swap_slots.specs.PoolValue.{PoolValue}
 use Rattle.paged_memory.specs.Counting.{frame_passes}
 use Rattle.paged_memory.specs.GivenLaws.{has_given, none_given, then_given, all_pages, all_entries}
-use Rattle.paged_memory.specs.Moving.{GivesIn, HasNothingBelow, EmptiesCaches, SameCaches}
+use Rattle.paged_memory.specs.Moving.{GivesBelow, GivesIn, HasNothingBelow, EmptiesCaches, SameCaches, SameTablesIn, slots_below, with_slot}
 use Rattle.paged_memory.specs.NoticesLaws.{empties_as}
 use Rattle.paged_memory.specs.Paged.{PagedValue}
+use Rattle.paged_memory.specs.SlotsLaws.{none_gives_below, one_gives_below, all_gives_below}
 use Rattle.paged_memory.specs.Whole.{harts_in}
 use Rattle.pager_core.specs.Pager.{PagerState}
 use Rattle.space_core.specs.Caches.{if_ended, emptied}
@@ -68,17 +69,24 @@ module _ {S : Type 0} where
     pub more : List S
     pub is : pool' ≡ record pool { free = pool.free ++ more }
     pub counts : length more + cond (is_some slot) 1 0 ≡ length slots + cond (is_some given) 1 0
+    pub named : with_slot more slot ≡ with_slot slots given
+
+  append_given : (slots : List S) (given : Option S) → slots ++ as_list given ≡ with_slot slots given
+  append_given slots None = append-nil slots
+  append_given slots (Some slot) = refl
 
   pools_more : (pool between pool' : PoolValue S) (slots : List S) (given slot : Option S) → between ≡ record pool { free = pool.free ++ slots } → Pools given slot between pool' → PoolsMore pool pool' slots given slot
   pools_more pool between pool' slots given None was pools = record {
     more = slots ++ as_list given;
     is = pools ∙ ap (λ (p : PoolValue S). record p { free = p.free ++ as_list given }) was ∙ ap (λ l. record pool { free = l }) (append_assoc pool.free slots (as_list given));
     counts = omega (arith, length-append slots (as_list given), length-as_list given);
+    named = append_given slots given;
   }
   pools_more pool between pool' slots given (Some back) was pools = record {
     more = slots;
     is = pools.1.1 ∙ was;
     counts = ap (λ o. length slots + cond (is_some o) 1 0) (sym pools.0);
+    named = ap (with_slot slots) (sym pools.0);
   }
 
   -- no page has given anything back
@@ -91,6 +99,9 @@ module _ {S : Type 0} where
     pool_is = ap (λ l. record pool { free = l }) (sym (append-nil pool.free));
     framed = λ test. omega arith;
     slotted = omega arith;
+    named = none_gives_below space.memory;
+    tabled = λ page small. refl;
+    reserved = refl;
     stays = refl;
     process = refl;
     each = λ number small. none_given space.memory number;
@@ -99,11 +110,11 @@ module _ {S : Type 0} where
   -- one page more gives back
   pub one_more_gave : (given : Option FrameValue × Option S) (frame : Option FrameValue) (slot : Option S) (pager between pager' : PagerState) (pool amid pool' : PoolValue S) (old mid new : SpaceValue S)
       → GivesSome None None pager between pool amid old mid
-      → GivesIn given mid.memory new.memory → new ≡ record mid { memory = new.memory } → new.memory.process ≡ mid.memory.process
+      → GivesIn given mid.memory new.memory → new ≡ record mid { memory = new.memory } → new.memory.process ≡ mid.memory.process → SameTablesIn mid.memory new.memory × (new.memory.reserved ≡ mid.memory.reserved)
       → FreesAnyFrame given.0 frame between pager' → Pools given.1 slot amid pool'
       → GivesSome frame slot pager pager' pool pool' old new
   unfolding frames_in
-  one_more_gave given frame slot pager between pager' pool amid pool' old mid new gave one stays process frees pools =
+  one_more_gave given frame slot pager between pager' pool amid pool' old mid new gave one stays process rest frees pools =
       let f = frees_more pager between pager' gave.frames given.0 frame gave.pager_is frees in
       let p = pools_more pool amid pool' gave.slots given.1 slot gave.pool_is pools in
       let told = has_given given mid.memory new.memory one in
@@ -122,6 +133,9 @@ module _ {S : Type 0} where
             let b = p.counts in
             let c = told.slots in
             omega (arith, a, b, c);
+        named = subst (λ l. GivesBelow l old.memory new.memory) (sym p.named) (one_gives_below gave.slots given old.memory mid.memory new.memory gave.named one);
+        tabled = λ page small. rest.0 page small ∙ gave.tabled page small;
+        reserved = rest.1 ∙ gave.reserved;
         stays = stays ∙ ap (λ (s : SpaceValue S). record s { memory = new.memory }) gave.stays;
         process = process ∙ gave.process;
         each = λ number small. then_given old.memory mid.memory new.memory number (gave.each number small) (told.each number small);
@@ -149,12 +163,15 @@ module _ {S : Type 0} where
     pool_is = gave.pool_is;
     framed = λ test. let a = gave.framed test in omega (arith, a);
     slotted = let a = gave.slotted in omega (arith, a);
+    named = all_gives_below gave.slots old.memory mid.memory gave.named none;
     space = record {
       moves = record {
         process = gave.process;
         pages = all_pages old.memory mid.memory none gave.each;
         entries = all_entries old.memory mid.memory none gave.each;
         caches = empties_as old.memory mid.memory (emptied mid.memory) harts refl;
+        tabled = gave.tabled;
+        reserved = gave.reserved;
       };
       stays = ap (λ (s : SpaceValue S). record s { memory = emptied mid.memory }) gave.stays;
     };
@@ -174,13 +191,13 @@ module _ {S : Type 0} where
   -- what a page gave does not come where it is to
   pub stopped : (given : Option FrameValue × Option S) (frame : Option FrameValue) (slot : Option S) (pager between pager' : PagerState) (pool amid pool' : PoolValue S) (old mid new : SpaceValue S)
       → GivesSome None None pager between pool amid old mid
-      → GivesIn given mid.memory new.memory → new ≡ record mid { memory = new.memory } → new.memory.process ≡ mid.memory.process
+      → GivesIn given mid.memory new.memory → new ≡ record mid { memory = new.memory } → new.memory.process ≡ mid.memory.process → SameTablesIn mid.memory new.memory × (new.memory.reserved ≡ mid.memory.reserved)
       → FreesAnyFrame given.0 frame between pager' → Pools given.1 slot amid pool'
       → EmptiesCaches old.memory new.memory → is_some frame || is_some slot ≡ true
       → StopsGiving frame slot pager pager' pool pool' old new
-  stopped given frame slot pager between pager' pool amid pool' old mid new gave one stays process frees pools caches some = record {
+  stopped given frame slot pager between pager' pool amid pool' old mid new gave one stays process rest frees pools caches some = record {
     some = some;
-    gave = one_more_gave given frame slot pager between pager' pool amid pool' old mid new gave one stays process frees pools;
+    gave = one_more_gave given frame slot pager between pager' pool amid pool' old mid new gave one stays process rest frees pools;
     frame_full = frame_stays given.0 frame between pager' frees;
     slot_full = slot_stays given.1 slot amid pool' pools;
     caches = caches;
@@ -193,9 +210,9 @@ module _ {S : Type 0} where
   -- what a page gave has come where it is to
   pub went_on : (given : Option FrameValue × Option S) (frame : Option FrameValue) (slot : Option S) (pager between pager' : PagerState) (pool amid pool' : PoolValue S) (old mid new : SpaceValue S)
       → GivesSome None None pager between pool amid old mid
-      → GivesIn given mid.memory new.memory → new ≡ record mid { memory = new.memory } → new.memory.process ≡ mid.memory.process
+      → GivesIn given mid.memory new.memory → new ≡ record mid { memory = new.memory } → new.memory.process ≡ mid.memory.process → SameTablesIn mid.memory new.memory × (new.memory.reserved ≡ mid.memory.reserved)
       → FreesAnyFrame given.0 frame between pager' → Pools given.1 slot amid pool' → is_some frame ≡ false → is_some slot ≡ false
       → GivesSome None None pager pager' pool pool' old new
-  went_on given frame slot pager between pager' pool amid pool' old mid new gave one stays process frees pools no_frame no_slot =
-      one_more_gave given None None pager between pager' pool amid pool' old mid new gave one stays process
+  went_on given frame slot pager between pager' pool amid pool' old mid new gave one stays process rest frees pools no_frame no_slot =
+      one_more_gave given None None pager between pager' pool amid pool' old mid new gave one stays process rest
       (subst (λ o. FreesAnyFrame given.0 o between pager') (is_none_of frame no_frame) frees) (subst (λ o. Pools given.1 o amid pool') (is_none_of slot no_slot) pools)

@@ -6,7 +6,7 @@ use Rattle.page_store.specs.JobValue.{JobValue}
 use Rattle.page_store.specs.declared.answer.Collected.{Collected}
 use Rattle.page_store.specs.declared.answer.Collected.TheVariants as answer
 use Rattle.pager_core.specs.Pager.{tallied}
-use Rattle.paged_memory.specs.Moving.{IsCachedStill, WantsSlot, GoesToBacking, GoesToBeSaved, slot_in}
+use Rattle.paged_memory.specs.Moving.{IsHeldStill, WantsSlot, GoesToBacking, GoesToBeSaved, slot_in}
 use Rattle.paged_memory.specs.Stages.{is_leaving_stage}
 use Rattle.space_core.specs.StandsFor.{SpaceValue}
 use Rattle.swap_slots.specs.PoolValue.{PoolValue}
@@ -26,11 +26,11 @@ module _ {S : Type 0} where
   abbrev pub is_leaving_at : SpaceValue S → ℕ → Bool
   is_leaving_at space vpn = is_leaving_stage (stage_at space vpn)
 
-  -- a cache holds a translation of it still
-  abbrev pub IsHeldByCache : ℕ → SpaceValue S → Type 0
-  IsHeldByCache vpn space = IsCachedStill vpn space.memory
+  -- a cache holds a translation of it still, or a copy of it is out
+  abbrev pub IsHeldYet : ℕ → SpaceValue S → Type 0
+  IsHeldYet vpn space = IsHeldStill vpn space.memory
 
-  -- no cache does; it counts as changed and has no slot, and none is free
+  -- neither is so; it counts as changed and has no slot, and none is free
   pub record LacksSlot (vpn : ℕ) (space : SpaceValue S) (slots : PoolValue S) : Type 0 where
     pub wants : WantsSlot vpn space.memory
     pub empty : slots.free ≡ []
@@ -55,7 +55,7 @@ module _ {S : Type 0} where
     -- what a look at a page comes to, before the pager has a part in it
     abbrev pub Finds : Collected L S → Type 0
     Finds answer.NotLeaving = (is_leaving_at old.space vpn ≡ false) × ((new ≡ old) × (slots' ≡ slots))
-    Finds answer.NotYet = IsHeldByCache vpn old.space × ((new ≡ old) × (slots' ≡ slots))
+    Finds answer.NotYet = IsHeldYet vpn old.space × ((new ≡ old) × (slots' ≡ slots))
     Finds (answer.Clean frame) = Drops vpn frame old new × (slots' ≡ slots)
     Finds (answer.Dirty job) = StartsSaving vpn job old new slots slots'
     Finds answer.NoSlot = LacksSlot vpn old.space slots × ((new ≡ old) × (slots' ≡ slots))
@@ -67,9 +67,9 @@ module _ {S : Type 0} where
       pub process_stays : new ≡ old
       pub slots_stay : slots' ≡ slots
 
-    -- a cache holds a translation of the page, which stays
+    -- a cache holds a translation of the page, or a copy of it is out: it stays
     pub record IsNotYet : Type 0 where
-      pub held : IsHeldByCache vpn old.space
+      pub held : IsHeldYet vpn old.space
       pub stays : StaysAll
 
     -- the page goes to its backing, and its frame is free

@@ -9,11 +9,12 @@ use Rattle.machine_sides.specs.Admitting.{AdmissionValue}
 use Rattle.machine_sides.specs.Sides.{MovesMemory}
 
 module _ {S : Type 0} (held : S → List ℕ) (honest : Type 0) where
-  -- what the process keeps, whether its page came in or not
+  -- what the process keeps, whether its page came in or not: its caches, the words that its harts have reserved, and what its memory shows
   pub record KeepsRest (old new : SpaceValue S) : Type 0 where
     pub stays : new ≡ record old { memory = new.memory }
     pub process : new.memory.process ≡ old.memory.process
     pub caches : SameCaches old.memory new.memory
+    pub reserved : new.memory.reserved ≡ old.memory.reserved
     pub memory : honest → memory_of held new.memory ≡ memory_of held old.memory
 
   -- the page is in the frame of its admission, mapped with its rights, as used and not changed

@@ -15,7 +15,7 @@ use Rattle.paged_memory.specs.GivenLaws.{HoldsNothing, bare_all, all_savings, al
 use Rattle.paged_memory.specs.Moving.{SavesSome, SavesNone}
 use Rattle.paged_memory.specs.Paged.{PagedValue}
 use Rattle.paged_memory.specs.SaveLaws.{some_save, none_save, none_saved}
-use Rattle.paged_memory.specs.Whole.{savings_among, slots_within}
+use Rattle.paged_memory.specs.Whole.{outs_within, slots_within}
 use Rattle.pager_core.specs.Pager.{PagerState, with_list}
 use Rattle.space_core.specs.StandsFor.{SpaceValue}
 use Rattle.swap_slots.specs.PoolValue.{PoolValue}
@@ -71,12 +71,12 @@ some_ended None h = cc
 some_ended (Some end) h = refl
 
 module _ {S : Type 0} where
-  -- ---- whether a page is being saved
+  -- ---- whether bytes of a page are out
 
   pub is_saving_some : (memory : PagedValue S) → SavesSome memory → is_saving_any memory ≡ true
   unfolding is_saving_any
   is_saving_some memory saves =
-      elim (eqb_tells (savings_among memory (λ _. true)) 0) [
+      elim (eqb_tells (outs_within memory) 0) [
         | inl same ↦ let some = some_save memory saves in let none = same.1 in absurd (omega (arith, some, none))
         | inr apart ↦ ap not apart.0
       ]
@@ -85,10 +85,10 @@ module _ {S : Type 0} where
   unfolding is_saving_any
   is_saving_none memory none = ap (λ n. not (n == 0)) (none_save memory none)
 
-  none_counted : (memory : PagedValue S) → is_saving_any memory ≡ false → savings_among memory (λ _. true) ≡ 0
+  none_counted : (memory : PagedValue S) → is_saving_any memory ≡ false → outs_within memory ≡ 0
   unfolding is_saving_any
   none_counted memory quiet =
-      elim (eqb_tells (savings_among memory (λ _. true)) 0) [
+      elim (eqb_tells (outs_within memory) 0) [
         | inl same ↦ same.1
         | inr apart ↦ let e = ap not apart.0 in let q = quiet in cc
       ]
@@ -180,6 +180,7 @@ module _ {S : Type 0} where
         pool_is = gives.pool_is;
         framed = λ test. let a = gives.framed test in let none = given_frames process.space space gives.space quiet test in omega (arith, a, none);
         slotted = let a = gives.slotted in let none = given_slots process.space space gives.space quiet in omega (arith, a, none);
+        named = gives.named;
         space = gives.space;
         purged = refl;
       }

@@ -4,10 +4,10 @@ use Rattle.clock_policy.specs.ClockPro.{purged}
 use Rattle.frame_pool.specs.FrameValue.{FrameValue}
 use Rattle.swap_slots.specs.PoolValue.{PoolValue}
 use Rattle.paged_memory.specs.Counting.{frame_passes}
-use Rattle.paged_memory.specs.Moving.{IsGiven, IsLeft, EmptiesCaches}
+use Rattle.paged_memory.specs.Moving.{GivesBelow, IsGiven, IsLeft, EmptiesCaches, SameTablesIn, slots_below, with_slot}
 use Rattle.paged_memory.specs.Moving as moving
 use Rattle.paged_memory.specs.Paged.{PagedValue}
-use Rattle.paged_memory.specs.Whole.{savings_among, slots_within}
+use Rattle.paged_memory.specs.Whole.{outs_within, slots_within}
 use Rattle.pager_core.specs.Pager.{PagerState}
 use Rattle.space_core.specs.StandsFor.{SpaceValue}
 use Rattle.machine_sides.specs.Sides.{PagerSideValue, ProcessSideValue, MovesMemory}
@@ -33,9 +33,9 @@ module _ {S : Type 0} where
   Pools slot None old new = new ≡ record old { free = old.free ++ as_list slot }
   Pools slot (Some back) old new = (slot ≡ Some back) × ((length old.free ≡ old.size) × (new ≡ old))
 
-  -- whether a page of a process is being saved
+  -- whether bytes of a page of a process are out with a job: it is being saved, or a copy of it is out
   unfoldable pub is_saving_any : PagedValue S → Bool
-  is_saving_any memory = not (savings_among memory (λ _. true) == 0)
+  is_saving_any memory = not (outs_within memory == 0)
 
   -- why a process gives nothing back: the first reason that holds
   unfoldable pub purge_bars : ProcessSideValue S → Option PurgeRefusal
@@ -44,8 +44,9 @@ module _ {S : Type 0} where
       then (if is_saving_any process.space.memory then Some SavingStill else (if process.purged then Some AlreadyPurged else None))
       else Some NotEnded
 
-  -- Some pages gave back what they had: the frames are free, behind those that were, and the slots are in the pool behind those that were. A frame and a
-  -- slot that were handed back are of these pages too.
+  -- Some pages gave back what they had: the frames are free, behind those that were, and the slots are in the pool behind those that were: they are all that
+  -- the pages below a number had to give, by rising number. A frame and a slot that were handed back are of these pages too. No table goes, and what is
+  -- reserved stays.
   pub record GivesSome (frame : Option FrameValue) (slot : Option S) (pager pager' : PagerState) (pool pool' : PoolValue S) (old new : SpaceValue S) : Type 0 where
     pub frames : List FrameValue
     pub slots : List S
@@ -53,6 +54,9 @@ module _ {S : Type 0} where
     pub pool_is : pool' ≡ record pool { free = pool.free ++ slots }
     pub framed : (test : ℕ → Bool) → frames_where test frames + (cond (frame_passes test frame) 1 0 + frames_in new test) ≡ frames_in old test
     pub slotted : length slots + (cond (is_some slot) 1 0 + slots_within new.memory) ≡ slots_within old.memory
+    pub named : GivesBelow (with_slot slots slot) old.memory new.memory
+    pub tabled : SameTablesIn old.memory new.memory
+    pub reserved : new.memory.reserved ≡ old.memory.reserved
     pub stays : new ≡ record old { memory = new.memory }
     pub process : new.memory.process ≡ old.memory.process
     pub each : (number : ℕ) → number < 2 ^ 20 → IsGiven old.memory new.memory number ⊎ IsLeft old.memory new.memory number
@@ -69,7 +73,7 @@ module _ {S : Type 0} where
     pub slot_full : is_some slot ≡ true → length pool'.free ≡ pool'.size
     pub caches : EmptiesCaches old.memory new.memory
 
-  -- the pages' frames are free, and their slots in the pool
+  -- the pages' frames are free, and their slots in the pool, by rising number of their pages
   pub record GivesToPools (pager pager' : PagerState) (pool pool' : PoolValue S) (old new : SpaceValue S) : Type 0 where
     pub frames : List FrameValue
     pub slots : List S
@@ -77,6 +81,7 @@ module _ {S : Type 0} where
     pub pool_is : pool' ≡ record pool { free = pool.free ++ slots }
     pub framed : (test : ℕ → Bool) → frames_where test frames + frames_in new test ≡ frames_in old test
     pub slotted : length slots + slots_within new.memory ≡ slots_within old.memory
+    pub named : slots ≡ slots_below old.memory (2 ^ 20)
     pub space : GivesAll old new
 
   -- all pages are asked for what they have
@@ -84,7 +89,7 @@ module _ {S : Type 0} where
   GivesAllBack None pager pager' pool pool' old new = GivesToPools pager pager' pool pool' old new
   GivesAllBack (Some left) pager pager' pool pool' old new = StopsGiving left.0 left.1 pager pager' pool pool' old new
 
-  -- the process has given everything back, and the list has none of its pages
+  -- the process has given everything back, its slots by rising number of their pages, and the list has none of its pages
   pub record PurgesAll (pager pager' : PagerSideValue) (process process' : ProcessSideValue S) (pool pool' : PoolValue S) : Type 0 where
     pub allowed : purge_bars process ≡ None
     pub frames : List FrameValue
@@ -93,6 +98,7 @@ module _ {S : Type 0} where
     pub pool_is : pool' ≡ record pool { free = pool.free ++ slots }
     pub framed : (test : ℕ → Bool) → frames_where test frames ≡ frames_in process.space test
     pub slotted : length slots ≡ slots_within process.space.memory
+    pub named : slots ≡ slots_below process.space.memory (2 ^ 20)
     pub space : GivesAll process.space process'.space
     pub purged : process'.purged ≡ true
 

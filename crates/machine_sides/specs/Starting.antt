@@ -2,13 +2,14 @@
 use Rattle.std.specs.Prelude.{◌≡◌, ℕ, false, []}
 use Rattle.elf_image.specs.Start.{Start}
 use Rattle.flat_machine.specs.Process.{opening, opening_pages}
+use Rattle.page_memory.specs.Reservations.{none_reserved}
 use Rattle.paged_memory.specs.Fresh.{HasFresh, HasNoEntry, HasOneCache}
 use Rattle.space_core.specs.RunningValue.{beside}
 use Rattle.machine_sides.specs.Sides.{ProcessSideValue}
 
 module _ {S : Type 0} where
   -- the process of a number before its first instruction: the pages of its image and of its stack are mapped, none was brought in, and
-  -- none given back
+  -- none given back; and its harts have reserved no word
   pub record Begins (number : ℕ) (start : Start) (process : ProcessSideValue S) : Type 0 where
     pub image : process.space.image ≡ start.image
     pub input : process.space.input ≡ start.input
@@ -18,4 +19,5 @@ module _ {S : Type 0} where
     pub pages : HasFresh (opening_pages start.image.pages) process.space.memory
     pub tables : HasNoEntry process.space.memory
     pub caches : HasOneCache process.space.memory
+    pub reserved : process.space.memory.reserved ≡ none_reserved
     pub purged : process.purged ≡ false

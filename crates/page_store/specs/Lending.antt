@@ -11,7 +11,7 @@ abbrev pub rewritten : {S : Type 0} → List ℕ → Place S → Place S
 rewritten bytes Fresh = Fresh
 rewritten bytes (Resident frame slot) = Resident (record frame { bytes = bytes }) slot
 rewritten bytes (Leaving frame slot mark) = Leaving (record frame { bytes = bytes }) slot mark
-rewritten bytes (Saving frame) = Saving frame
+rewritten bytes (Saving frame mark) = Saving frame mark
 rewritten bytes (Away copy) = Away copy
 rewritten bytes Purged = Purged
 

@@ -1,8 +1,10 @@
+pub mod Seal
 pub mod CopyValue
+pub mod Keeping
 pub mod PageValue
 pub mod Reading
-pub mod Kept
 pub mod Moves
+pub mod Cleaning
 pub mod View
 pub mod StateLending
 pub mod Lending

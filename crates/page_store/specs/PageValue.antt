@@ -3,20 +3,18 @@ use Rattle.std.specs.Prelude.{◌≡◌, ℕ, Bool, true, false, ◌||◌, List,
 use Rattle.sha2.specs.Sha256.{sha256}
 use Rattle.page_memory.specs.Pages.{Page}
 use Rattle.frame_pool.specs.FrameValue.{FrameValue}
-use Rattle.page_store.specs.declared.state.Keeping.{Keeping}
-use Rattle.page_store.specs.declared.state.Keeping.TheVariants.{NoSlot, Unsaved, Saved}
-use Rattle.page_store.specs.Kept.{kept}
+use Rattle.page_store.specs.Keeping.{Keeping, NoSlot, Saved, Unbacked, Cleaning, CopyOut, kept, copy_in, is_unbacked, is_copy_out}
 use Rattle.page_store.specs.CopyValue.{CopyValue}
 use Rattle.page_store.specs.declared.state.PageState.{PageState}
 use Rattle.page_store.specs.declared.state.PageState.TheVariants as stage
 
--- where a page is, with its frame, its slot and, while it leaves, the mark whether it counts as changed; while it is
--- being saved its slot is with its job
+-- where a page is, with its frame, what it keeps and, while it leaves and while it is being saved, the dirty bit that its entry had when it began
+-- to leave; while it is being saved its slot is with its job
 pub data Place (S : Type 0) : Type 0 where
   Fresh : Place S
   Resident : FrameValue → Keeping S → Place S
   Leaving : FrameValue → Keeping S → Bool → Place S
-  Saving : FrameValue → Place S
+  Saving : FrameValue → Bool → Place S
   Away : CopyValue S → Place S
   Purged : Place S
 
@@ -29,7 +27,7 @@ abbrev pub page_state_of : {S : Type 0} → Place S → PageState
 page_state_of Fresh = stage.Fresh
 page_state_of (Resident frame slot) = stage.Resident
 page_state_of (Leaving frame slot mark) = stage.Leaving
-page_state_of (Saving frame) = stage.Saving
+page_state_of (Saving frame mark) = stage.Saving
 page_state_of (Away copy) = stage.Away
 page_state_of Purged = stage.Purged
 
@@ -38,7 +36,7 @@ abbrev pub frame_of : {S : Type 0} → Place S → Option FrameValue
 frame_of Fresh = None
 frame_of (Resident frame slot) = Some frame
 frame_of (Leaving frame slot mark) = Some frame
-frame_of (Saving frame) = Some frame
+frame_of (Saving frame mark) = Some frame
 frame_of (Away copy) = None
 frame_of Purged = None
 
@@ -47,7 +45,7 @@ abbrev pub writable : {S : Type 0} → Place S → Option FrameValue
 writable Fresh = None
 writable (Resident frame slot) = Some frame
 writable (Leaving frame slot mark) = Some frame
-writable (Saving frame) = None
+writable (Saving frame mark) = None
 writable (Away copy) = None
 writable Purged = None
 
@@ -56,15 +54,9 @@ abbrev pub slot_of : {S : Type 0} → Place S → Keeping S
 slot_of Fresh = NoSlot
 slot_of (Resident frame slot) = slot
 slot_of (Leaving frame slot mark) = slot
-slot_of (Saving frame) = NoSlot
+slot_of (Saving frame mark) = NoSlot
 slot_of (Away copy) = Saved copy
 slot_of Purged = NoSlot
-
--- the page in a slot, where one was saved there
-abbrev pub copy_in : {S : Type 0} → Keeping S → Option (CopyValue S)
-copy_in NoSlot = None
-copy_in (Unsaved slot) = None
-copy_in (Saved copy) = Some copy
 
 -- how many failures of its device the slot that a page has at hand tells of
 abbrev pub failures_at : {S : Type 0} → (S → ℕ) → Place S → Option ℕ
@@ -79,7 +71,7 @@ abbrev pub Matches : {S : Type 0} → Place S → List ℕ → Type 0
 Matches Fresh bytes = Unit {0}
 Matches (Resident frame slot) bytes = Unit {0}
 Matches (Leaving frame slot mark) bytes = Unit {0}
-Matches (Saving frame) bytes = Unit {0}
+Matches (Saving frame mark) bytes = Unit {0}
 Matches (Away copy) bytes = sha256 bytes ≡ copy.digest
 Matches Purged bytes = Unit {0}
 
@@ -88,7 +80,7 @@ abbrev pub shown : {S : Type 0} → (S → List ℕ) → List ℕ → Place S �
 shown held origin Fresh = origin
 shown held origin (Resident frame slot) = frame.bytes
 shown held origin (Leaving frame slot mark) = frame.bytes
-shown held origin (Saving frame) = frame.bytes
+shown held origin (Saving frame mark) = frame.bytes
 shown held origin (Away copy) = held copy.slot
 shown held origin Purged = []
 
@@ -98,31 +90,36 @@ content held page = shown held page.origin.bytes page.place
 -- what a slot backs a page with: the bytes in it if they were saved, else those that the page began with
 abbrev pub backed : {S : Type 0} → (S → List ℕ) → List ℕ → Keeping S → List ℕ
 backed held origin NoSlot = origin
-backed held origin (Unsaved slot) = origin
 backed held origin (Saved copy) = held copy.slot
+backed held origin (Unbacked slot) = origin
+backed held origin (Cleaning slot) = origin
+backed held origin CopyOut = origin
 
 -- the backing of a page: the bytes that it would show if it lost its frame now
 abbrev pub backing_at : {S : Type 0} → (S → List ℕ) → List ℕ → Place S → List ℕ
 backing_at held origin Fresh = origin
 backing_at held origin (Resident frame slot) = backed held origin slot
 backing_at held origin (Leaving frame slot mark) = backed held origin slot
-backing_at held origin (Saving frame) = origin
+backing_at held origin (Saving frame mark) = origin
 backing_at held origin (Away copy) = held copy.slot
 backing_at held origin Purged = []
 
--- a slot that holds nothing for its page yet
-abbrev pub is_unsaved : {S : Type 0} → Keeping S → Bool
-is_unsaved NoSlot = false
-is_unsaved (Unsaved slot) = true
-is_unsaved (Saved copy) = false
+-- whether bytes of a page are out with a job: while it is being saved, and while a copy of it is out
+abbrev pub is_out : {S : Type 0} → Place S → Bool
+is_out Fresh = false
+is_out (Resident frame slot) = is_copy_out slot
+is_out (Leaving frame slot mark) = is_copy_out slot
+is_out (Saving frame mark) = true
+is_out (Away copy) = false
+is_out Purged = false
 
 -- whether a page counts as changed: by the dirty bit of its table entry while it is resident, by the mark that it took
--- along while it leaves, and always while it is saved or has a slot that holds nothing for it yet
+-- along while it leaves, and always while it is saved or nothing backs it
 abbrev pub changed : {S : Type 0} → Bool → Place S → Bool
 changed dirty Fresh = false
-changed dirty (Resident frame slot) = dirty || is_unsaved slot
-changed dirty (Leaving frame slot mark) = mark || is_unsaved slot
-changed dirty (Saving frame) = true
+changed dirty (Resident frame slot) = dirty || is_unbacked slot
+changed dirty (Leaving frame slot mark) = mark || is_unbacked slot
+changed dirty (Saving frame mark) = true
 changed dirty (Away copy) = false
 changed dirty Purged = false
 
@@ -131,7 +128,7 @@ abbrev pub Known : {S : Type 0} → Type 0 → Place S → Type 0
 Known honest Fresh = Unit {0}
 Known honest (Resident frame slot) = Unit {0}
 Known honest (Leaving frame slot mark) = Unit {0}
-Known honest (Saving frame) = Unit {0}
+Known honest (Saving frame mark) = Unit {0}
 Known honest (Away copy) = honest
 Known honest Purged = Unit {0}
 

@@ -1,3 +1,4 @@
+use crate::clean_job::{CleanJob, CleanedJob};
 use crate::job::{SaveJob, SavedJob};
 use frame_pool::Frame;
 use std::sync::ledger::Ledger;
@@ -27,4 +28,32 @@ pub enum SaveRefusal<S: SwapSlot> {
     Mismatch,
     /// The device failed.
     Device,
+}
+
+/// What comes of a copy that is to be made of a page while it is being cleaned, in the order in which it is tested.
+#[derive(Drop)]
+pub enum CleanCopy<S: SwapSlot> {
+    /// The page is not being cleaned, or its copy is out.
+    NotCleaning,
+    /// A store was made since the cleaning began, which has ended.
+    Stored,
+    /// A cache holds a translation to its frame with the dirty mark still.
+    NotYet,
+    /// There is no slot for it, and the cleaning has ended.
+    NoSlot,
+    /// Its copy is to be written.
+    Copied(CleanJob<S>),
+}
+
+/// What comes of a copy that comes back, in the order in which it is tested.
+#[derive(Drop)]
+pub enum Cleaned<S: SwapSlot> {
+    /// No copy of this page is out, or no store tells why it differs from the page. The job comes back.
+    WrongPage(CleanedJob<S>),
+    /// A store followed the copy.
+    Stored,
+    /// The device failed.
+    Device,
+    /// The copy backs the page, which is unchanged.
+    Clean,
 }

@@ -1,9 +1,9 @@
 ghost use Rattle.std.specs.Prelude.{◌≡◌, ◌≤◌, ◌↔◌, IsTrue, IsFalse, IfOk, IfErr, OnOk};
-ghost use Rattle.sha2.specs.Sha256.{sha256};
 ghost use Rattle.swap_slots.specs.Slot.{Rose};
 ghost use Rattle.page_store.specs.Moves.{copy_of};
 
-use crate::page_copy::{PageCopy, digest_of};
+use crate::page_copy::PageCopy;
+use crate::seal::digest_for;
 use clock_policy::Key;
 use std::marker::Model;
 use swap_slots::SwapSlot;
@@ -62,7 +62,7 @@ impl<S: SwapSlot> SaveJob<S> {
         }
     }
 
-    /// Writes the copy to the slot, and takes its digest. Takes no memory, and waits for nothing but the device.
+    /// Writes the copy to the slot, and takes its digest where slots are not known to be honest. Takes no memory, and waits for nothing but the device.
     pub fn run(self) -> SavedJob<S>
         ensures process { result.process ≡ self.process }
         ensures vpn { result.vpn ≡ self.vpn }
@@ -79,7 +79,7 @@ impl<S: SwapSlot> SaveJob<S> {
             copy,
             mut slot,
         } = self;
-        let digest = digest_of(&copy);
+        let digest = digest_for::<S>(&copy);
         let passed = slot.save(&copy).is_ok();
         SavedJob {
             process,
@@ -98,7 +98,8 @@ pub struct SavedJob<S: SwapSlot> {
     process: u32,
     vpn: u32,
     copy: Box<[u8; 4096]>,
-    digest: [u8; 32],
+    /// Of the copy; none where slots of this kind are known to be honest.
+    digest: Option<[u8; 32]>,
     slot: S,
     passed: bool,
 }
@@ -107,12 +108,13 @@ impl<S: SwapSlot> Model for SavedJob<S> {
     ghost use Rattle.std.specs.Prelude.{◌≡◌, IsTrue};
     ghost use Rattle.sha2.specs.Sha256.{sha256};
     ghost use Rattle.page_store.specs.JobValue.{SavedValue};
+    ghost use Rattle.page_store.specs.Seal.{IsTaken};
 
     ghost Value = { SavedValue S };
 
     ghost view = { λ j. record { process = j.process; vpn = j.vpn; copy = j.copy.value; slot = j.slot; passed = j.passed } };
 
-    ghost invariant = { λ j. (j.digest ≡ sha256 j.copy.value) × (S.honest → IsTrue j.passed → S.content j.slot ≡ j.copy.value) };
+    ghost invariant = { λ j. IsTaken S.honest (sha256 j.copy.value) j.digest × (S.honest → IsTrue j.passed → S.content j.slot ≡ j.copy.value) };
 }
 
 impl<S: SwapSlot> SavedJob<S> {
@@ -148,6 +150,7 @@ impl<S: SwapSlot> SavedJob<S> {
     }
 
     /// The page in its slot, where the device passed it, else the slot; and the room of the copy.
+    #[tactic(auto, using(crate::proofs::Seals::seals_saved, crate::proofs::Seals::saved_digest))]
     pub(crate) fn into_copy(self) -> (Result<PageCopy<S>, S>, Box<[u8; 4096]>)
         ensures passed { IfOk result.0 (λ copy. (copy ≡ copy_of self) × IsTrue self.passed) }
         ensures failed { IfErr result.0 (λ slot. (slot ≡ self.slot) × IsFalse self.passed) }

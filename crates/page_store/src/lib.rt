@@ -5,16 +5,20 @@
 #![tactic(auto)]
 
 mod answer;
+mod clean_job;
+mod cleaning;
 mod job;
 mod page;
 mod page_copy;
 mod reading;
 mod refusal;
+mod seal;
 mod state;
 
-pub use answer::{Collected, SaveRefusal};
+pub use answer::{CleanCopy, Cleaned, Collected, SaveRefusal};
+pub use clean_job::{CleanJob, CleanedJob};
 pub use job::{SaveJob, SavedJob};
 pub use page::StoredPage;
 pub use page_copy::PageCopy;
-pub use refusal::{FillFault, LeaveRefusal, NotLeaving, ReadFault};
-pub use state::{Keeping, PageState};
+pub use refusal::{CleanRefusal, FillFault, LeaveRefusal, NotLeaving, ReadFault};
+pub use state::PageState;

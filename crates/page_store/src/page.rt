@@ -1,14 +1,14 @@
-ghost use Rattle.std.specs.Prelude.{◌≡◌, ◌≢◌, ◌+◌, ◌≤◌, ◌↔◌, length, ℕ, List, Ok, Err, Some, None, OnOk, OnErr, IfOk, IfErr, IsErr, IsTrue, false, OnSome, IfNone, option_copied, option_map};
-ghost use Rattle.page_store.specs.Moves.{left, brought_back, given_back, collected, collect_leaving, job_of, copy_of, RefusesSave, Filled, RefusesFill, RefusesRead, IfAway};
-ghost use Rattle.page_store.specs.PageValue.{Leaving, Saving, Away, Purged, Backed, BackedAt, shown, changed as counts_as_changed, Known, content, page_state_of, frame_of, writable, failures_at, kept_digest, Matches};
+ghost use Rattle.std.specs.Prelude.{◌≡◌, ◌≢◌, ◌+◌, ◌≤◌, ◌↔◌, length, ℕ, List, Ok, Err, Some, None, OnOk, OnErr, IfOk, IfErr, IsErr, IsTrue, false, OnSome, IfNone, option_copied, option_map, is_some};
+ghost use Rattle.page_store.specs.Moves.{left, brought_back, given_back, collected, collect_leaving, with_spare, job_of, IfSaving, copy_of, RefusesSave, Filled, RefusesFill, RefusesRead, IfAway};
+ghost use Rattle.page_store.specs.PageValue.{Leaving, Saving, Away, Purged, Backed, BackedAt, shown, changed as counts_as_changed, Known, content, page_state_of, frame_of, writable, failures_at, kept_digest, Matches, is_out};
 ghost use Rattle.page_store.specs.Reading.{some_from};
-ghost use Rattle.page_store.specs.View.{place_in_state};
+ghost use Rattle.page_store.specs.View.{keeping_of, place_in_state};
 
 use crate::answer::{Collected, SaveRefusal};
 use crate::job::{SaveJob, SavedJob};
 use crate::reading::read_bytes;
 use crate::refusal::{FillFault, LeaveRefusal, NotLeaving, ReadFault};
-use crate::state::{Keeping, Origin, PageState, State};
+use crate::state::{Absent, Keeping, Origin, PageState, State};
 use frame_pool::{BareFrame, Frame};
 use page_memory::Rights;
 use shared_origins::SharedPage;
@@ -20,8 +20,8 @@ use swap_slots::SwapSlot;
 /// One page of a process.
 #[derive(Drop)]
 pub struct StoredPage<L: Ledger, S: SwapSlot> {
-    origin: Origin,
-    state: State<L, S>,
+    pub(crate) origin: Origin,
+    pub(crate) state: State<L, S>,
 }
 
 impl<L: Ledger, S: SwapSlot> Model for StoredPage<L, S> {
@@ -77,8 +77,8 @@ impl<L: Ledger, S: SwapSlot> StoredPage<L, S> {
     {
         match self.state {
             State::Fresh => PageState::Fresh,
-            State::Resident(..) => PageState::Resident,
-            State::Leaving(..) => PageState::Leaving,
+            State::Resident(..) | State::ResidentOut(_) => PageState::Resident,
+            State::Leaving(..) | State::LeavingOut(..) => PageState::Leaving,
             State::Saving(..) => PageState::Saving,
             State::Away(..) => PageState::Away,
             State::Purged => PageState::Purged,
@@ -93,7 +93,9 @@ impl<L: Ledger, S: SwapSlot> StoredPage<L, S> {
         match &self.state {
             State::Resident(frame, _) => Some(frame.bare()),
             State::Leaving(frame, _, _) => Some(frame.bare()),
-            State::Saving(frame) => Some(frame),
+            State::ResidentOut(frame) => Some(frame),
+            State::LeavingOut(frame, _) => Some(frame),
+            State::Saving(frame, _) => Some(frame),
             _ => None,
         }
     }
@@ -103,9 +105,31 @@ impl<L: Ledger, S: SwapSlot> StoredPage<L, S> {
         ensures { result ≡ counts_as_changed dirty self.now.place }
     {
         match &self.state {
-            State::Resident(_, slot) => dirty || slot.is_unsaved(),
-            State::Leaving(_, slot, mark) => *mark || slot.is_unsaved(),
-            State::Saving(_) => true,
+            State::Resident(_, slot) => dirty || slot.is_unbacked(),
+            State::Leaving(_, slot, mark) => *mark || slot.is_unbacked(),
+            State::ResidentOut(_) | State::LeavingOut(..) | State::Saving(..) => true,
+            State::Fresh | State::Away(_) | State::Purged => false,
+        }
+    }
+
+    /// Whether it has a frame or a slot to give back.
+    pub fn has_to_give(&self) -> bool
+        ensures { result ≡ is_some (given_back self.now.place) }
+    {
+        match &self.state {
+            State::Resident(..) | State::Leaving(..) | State::Away(_) => true,
+            State::ResidentOut(_) | State::LeavingOut(..) | State::Saving(..) => false,
+            State::Fresh | State::Purged => false,
+        }
+    }
+
+    /// Whether bytes of it are out with a job: it is being saved, or a copy of it is out.
+    pub fn is_out(&self) -> bool
+        ensures { result ≡ is_out self.now.place }
+    {
+        match &self.state {
+            State::ResidentOut(_) | State::LeavingOut(..) | State::Saving(..) => true,
+            State::Resident(..) | State::Leaving(..) => false,
             State::Fresh | State::Away(_) | State::Purged => false,
         }
     }
@@ -136,13 +160,13 @@ impl<L: Ledger, S: SwapSlot> StoredPage<L, S> {
             OnOk result (Backed S.content false self.new) }
         ensures origin { self.new.origin ≡ self.old.origin }
     {
-        match mem::replace(&mut self.state, State::Purged) {
-            State::Fresh => {
+        match mem::replace(&mut self.state, State::Purged).into_absent() {
+            Ok(Absent::Fresh) => {
                 self.origin.write_to(&mut frame);
                 self.state = State::Resident(frame, Keeping::NoSlot);
                 Ok(())
             }
-            State::Away(mut copy) => {
+            Ok(Absent::Away(mut copy)) => {
                 if let Err(fault) = copy.load_whole(frame.bytes_mut()) {
                     self.state = State::Away(copy);
                     return Err((frame, fault));
@@ -150,58 +174,59 @@ impl<L: Ledger, S: SwapSlot> StoredPage<L, S> {
                 self.state = State::Resident(frame, Keeping::Saved(copy));
                 Ok(())
             }
-            other => {
+            Err(other) => {
                 self.state = other;
                 Err((frame, FillFault::NotAbsent))
             }
         }
     }
 
-    /// Begins to leave its frame, with the mark whether it counts as changed.
-    pub fn leave(&mut self, changed: bool) -> Result<(), LeaveRefusal>
-        ensures ok { OnOk result (left changed self.old.place ≡ Ok self.new.place) }
-        ensures refused { IfErr result (λ refusal. left changed self.old.place ≡ Err refusal) }
+    /// Begins to leave its frame, with the dirty bit of its page-table entry. A cleaning that has no copy ends.
+    pub fn leave(&mut self, dirty: bool) -> Result<(), LeaveRefusal>
+        ensures ok { OnOk result (left dirty self.old.place ≡ Ok self.new.place) }
+        ensures refused { IfErr result (λ refusal. left dirty self.old.place ≡ Err refusal) }
         ensures err { OnErr result (self.new ≡ self.old) }
         ensures content { content S.content self.new ≡ content S.content self.old }
-        ensures backed { OnOk result (Backed S.content changed self.old →
-            Backed S.content changed self.new) }
+        ensures backed { OnOk result (Backed S.content dirty self.old →
+            Backed S.content dirty self.new) }
         ensures origin { self.new.origin ≡ self.old.origin }
     {
         match mem::replace(&mut self.state, State::Purged) {
             State::Resident(frame, slot) => {
-                self.state = State::Leaving(frame, slot, changed);
+                self.state = State::Leaving(frame, slot.settled(), dirty);
                 Ok(())
             }
-            State::Leaving(frame, slot, mark) => {
-                self.state = State::Leaving(frame, slot, mark);
-                Err(LeaveRefusal::AlreadyLeaving)
-            }
-            State::Saving(frame) => {
-                self.state = State::Saving(frame);
-                Err(LeaveRefusal::AlreadyLeaving)
+            State::ResidentOut(frame) => {
+                self.state = State::LeavingOut(frame, dirty);
+                Ok(())
             }
             other => {
+                let refusal = other.leave_refusal();
                 self.state = other;
-                Err(LeaveRefusal::NotResident)
+                Err(refusal)
             }
         }
     }
 
-    /// Ends to leave, with the mark whether it counts as changed.
+    /// Ends to leave, with the dirty bit that its entry had when it began to.
     pub fn bring_back(&mut self) -> Result<bool, NotLeaving>
-        ensures ok { IfOk result (λ changed. brought_back self.old.place ≡
-            Some (self.new.place, changed)) }
+        ensures ok { IfOk result (λ dirty. brought_back self.old.place ≡
+            Some (self.new.place, dirty)) }
         ensures refused { IsErr result ↔ (brought_back self.old.place ≡ None) }
         ensures err { OnErr result (self.new ≡ self.old) }
         ensures content { content S.content self.new ≡ content S.content self.old }
-        ensures backed { IfOk result (λ changed. Backed S.content false self.old →
-            Backed S.content changed self.new) }
+        ensures backed { IfOk result (λ dirty. Backed S.content false self.old →
+            Backed S.content dirty self.new) }
         ensures origin { self.new.origin ≡ self.old.origin }
     {
         match mem::replace(&mut self.state, State::Purged) {
-            State::Leaving(frame, slot, changed) => {
+            State::Leaving(frame, slot, dirty) => {
                 self.state = State::Resident(frame, slot);
-                Ok(changed)
+                Ok(dirty)
+            }
+            State::LeavingOut(frame, dirty) => {
+                self.state = State::ResidentOut(frame);
+                Ok(dirty)
             }
             other => {
                 self.state = other;
@@ -211,7 +236,7 @@ impl<L: Ledger, S: SwapSlot> StoredPage<L, S> {
     }
 
     /// Looks whether a page that is leaving can let its frame go, where `cached` says whether caches hold translations
-    /// to it. A changed page without a slot takes the spare one.
+    /// to it: not yet while they do, or a copy of it is out. A changed page without a slot takes the spare one.
     pub fn collect(
         &mut self,
         process: u32,
@@ -226,16 +251,20 @@ impl<L: Ledger, S: SwapSlot> StoredPage<L, S> {
         ensures origin { self.new.origin ≡ self.old.origin }
     {
         match mem::replace(&mut self.state, State::Purged) {
-            State::Leaving(frame, slot, changed) => {
+            State::Leaving(frame, slot, dirty) => {
                 let (state, answer) = collect_leaving(
                     process,
                     vpn,
-                    (frame, slot, changed),
+                    (frame, slot, dirty),
                     cached,
                     spare,
                 );
                 self.state = state;
                 answer
+            }
+            State::LeavingOut(frame, dirty) => {
+                self.state = State::LeavingOut(frame, dirty);
+                Collected::NotYet
             }
             other => {
                 self.state = other;
@@ -274,36 +303,35 @@ impl<L: Ledger, S: SwapSlot> StoredPage<L, S> {
 
     /// Ends the save of the page, where the frame holds what was saved.
     pub fn saved(&mut self, job: SavedJob<S>) -> Result<Frame<L>, SaveRefusal<S>>
-        ensures freed { IfOk result (λ frame. (self.old.place ≡ Saving frame) ×
+        ensures freed { IfOk result (λ frame. IfSaving self.old.place (λ saved _. saved ≡ frame) ×
             (self.new.place ≡ Away (copy_of job)) × (frame.bytes ≡ job.copy) × IsTrue job.passed) }
         ensures refused { IfErr result (RefusesSave job self.old.place self.new.place) }
         ensures content { S.honest → content S.content self.new ≡ content S.content self.old }
         ensures origin { self.new.origin ≡ self.old.origin }
     {
-        match mem::replace(&mut self.state, State::Purged) {
-            State::Saving(frame) => {
-                if !job.is_copy(frame.bytes()) {
-                    let (slot, room) = job.into_slot();
-                    let frame = Frame::with_room(frame, room);
-                    self.state = State::Leaving(frame, Keeping::Unsaved(slot), true);
-                    return Err(SaveRefusal::Mismatch);
-                }
-                let (copied, room) = job.into_copy();
-                let frame = Frame::with_room(frame, room);
-                match copied {
-                    Ok(copy) => {
-                        self.state = State::Away(copy);
-                        Ok(frame)
-                    }
-                    Err(slot) => {
-                        self.state = State::Leaving(frame, Keeping::Unsaved(slot), true);
-                        Err(SaveRefusal::Device)
-                    }
-                }
-            }
-            other => {
+        let (frame, dirty) = match mem::replace(&mut self.state, State::Purged).into_saving() {
+            Ok(saving) => saving,
+            Err(other) => {
                 self.state = other;
-                Err(SaveRefusal::WrongPage(job))
+                return Err(SaveRefusal::WrongPage(job));
+            }
+        };
+        if !job.is_copy(frame.bytes()) {
+            let (slot, room) = job.into_slot();
+            let frame = Frame::with_room(frame, room);
+            self.state = State::Leaving(frame, Keeping::Unbacked(Some(slot)), dirty);
+            return Err(SaveRefusal::Mismatch);
+        }
+        let (copied, room) = job.into_copy();
+        let frame = Frame::with_room(frame, room);
+        match copied {
+            Ok(copy) => {
+                self.state = State::Away(copy);
+                Ok(frame)
+            }
+            Err(slot) => {
+                self.state = State::Leaving(frame, Keeping::Unbacked(Some(slot)), dirty);
+                Err(SaveRefusal::Device)
             }
         }
     }
@@ -314,7 +342,7 @@ impl<L: Ledger, S: SwapSlot> StoredPage<L, S> {
         job: SavedJob<S>,
         room: &mut Box<[u8; 4096]>,
     ) -> Result<Frame<L>, SaveRefusal<S>>
-        ensures freed { IfOk result (λ frame. (self.old.place ≡ Saving frame) ×
+        ensures freed { IfOk result (λ frame. IfSaving self.old.place (λ saved _. saved ≡ frame) ×
             (self.new.place ≡ Away (copy_of job)) × (frame.bytes ≡ job.copy) × IsTrue job.passed) }
         ensures refused { IfErr result (RefusesSave job self.old.place self.new.place) }
         ensures content { S.honest → content S.content self.new ≡ content S.content self.old }
@@ -371,14 +399,16 @@ impl<L: Ledger, S: SwapSlot> StoredPage<L, S> {
             State::Fresh => self.origin.read(offset, bytes),
             State::Resident(frame, _) => read_bytes(frame.bytes(), offset, bytes),
             State::Leaving(frame, _, _) => read_bytes(frame.bytes(), offset, bytes),
-            State::Saving(frame) => read_bytes(frame.bytes(), offset, bytes),
+            State::ResidentOut(frame) => read_bytes(frame.bytes(), offset, bytes),
+            State::LeavingOut(frame, _) => read_bytes(frame.bytes(), offset, bytes),
+            State::Saving(frame, _) => read_bytes(frame.bytes(), offset, bytes),
             State::Away(_) => unreachable!(),
             State::Purged => return Err(ReadFault::Purged),
         }
         Ok(())
     }
 
-    /// Gives up the frame and the slot, for good. A page that has neither, or is being saved, is left.
+    /// Gives up the frame and the slot, for good. A page that has neither, is being saved, or of which a copy is out, is left.
     pub fn give_back(&mut self) -> Option<(Option<Frame<L>>, Option<S>)>
         ensures given { result ≡ given_back self.old.place }
         ensures purged { OnSome result (self.new.place ≡ Purged) }
@@ -406,36 +436,54 @@ fn collect_leaving<L: Ledger, S: SwapSlot>(
     spare: &mut Option<S>,
 ) -> (State<L, S>, Collected<L, S>)
     ensures answer { (place_in_state result.0, (spare.new, result.1)) ≡
-        collect_leaving process vpn page.0 page.1 page.2 cached spare.old }
+        collect_leaving process vpn page.0 (keeping_of page.1) page.2 cached spare.old }
     ensures shown { (origin : List ℕ) → BackedAt S.content origin false
-        (Leaving page.0 page.1 page.2) → shown S.content origin (place_in_state result.0) ≡
-        page.0.bytes }
+        (Leaving page.0 (keeping_of page.1) page.2) → shown S.content origin
+        (place_in_state result.0) ≡ page.0.bytes }
 {
-    let (frame, slot, changed) = page;
+    let (frame, slot, dirty) = page;
     if cached {
-        return (State::Leaving(frame, slot, changed), Collected::NotYet);
+        return (State::Leaving(frame, slot, dirty), Collected::NotYet);
     }
     match slot {
         Keeping::NoSlot => {
-            if !changed {
+            if !dirty {
                 return (State::Fresh, Collected::Clean(frame));
             }
-            match spare.take() {
-                Some(slot) => start_saving(process, vpn, frame, slot),
-                None => (
-                    State::Leaving(frame, Keeping::NoSlot, true),
-                    Collected::NoSlot,
-                ),
-            }
+            save_in_spare(process, vpn, (frame, Keeping::NoSlot, true), spare)
         }
-        Keeping::Unsaved(slot) => start_saving(process, vpn, frame, slot),
         Keeping::Saved(copy) => {
-            if changed {
-                start_saving(process, vpn, frame, copy.into_slot())
+            if dirty {
+                start_saving(process, vpn, frame, true, copy.into_slot())
             } else {
                 (State::Away(copy), Collected::Clean(frame))
             }
         }
+        Keeping::Unbacked(Some(slot)) => start_saving(process, vpn, frame, dirty, slot),
+        Keeping::Cleaning(Some(slot)) => start_saving(process, vpn, frame, dirty, slot),
+        Keeping::Unbacked(None) => {
+            save_in_spare(process, vpn, (frame, Keeping::Unbacked(None), dirty), spare)
+        }
+        Keeping::Cleaning(None) => {
+            save_in_spare(process, vpn, (frame, Keeping::Cleaning(None), dirty), spare)
+        }
+    }
+}
+
+/// A changed page that has no slot goes to be saved in the spare one, or stays as it is.
+fn save_in_spare<L: Ledger, S: SwapSlot>(
+    process: u32,
+    vpn: u32,
+    page: (Frame<L>, Keeping<S>, bool),
+    spare: &mut Option<S>,
+) -> (State<L, S>, Collected<L, S>)
+    ensures answer { (place_in_state result.0, (spare.new, result.1)) ≡
+        with_spare process vpn page.0 (keeping_of page.1) page.2 spare.old }
+{
+    let (frame, slot, dirty) = page;
+    match spare.take() {
+        Some(slot) => start_saving(process, vpn, frame, dirty, slot),
+        None => (State::Leaving(frame, slot, dirty), Collected::NoSlot),
     }
 }
 
@@ -444,12 +492,13 @@ fn start_saving<L: Ledger, S: SwapSlot>(
     process: u32,
     vpn: u32,
     frame: Frame<L>,
+    dirty: bool,
     slot: S,
 ) -> (State<L, S>, Collected<L, S>)
-    ensures page { place_in_state result.0 ≡ Saving frame }
+    ensures page { place_in_state result.0 ≡ Saving frame dirty }
     ensures job { result.1 ≡ Collected.Dirty (job_of process vpn frame slot) }
 {
     let (frame, copy) = frame.copied();
     let job = SaveJob::new(process, vpn, copy, slot);
-    (State::Saving(frame), Collected::Dirty(job))
+    (State::Saving(frame, dirty), Collected::Dirty(job))
 }

@@ -2,9 +2,10 @@ ghost use Rattle.std.specs.Prelude.{◌≡◌, IfErr, OnOk, OnErr};
 ghost use Rattle.sha2.specs.Sha256.{sha256};
 ghost use Rattle.swap_slots.specs.Slot.{Rose};
 ghost use Rattle.page_store.specs.CopyValue.{RefusesLoad};
+ghost use Rattle.page_store.specs.Seal.{IsSealed, sealed_digest};
 
 use crate::refusal::FillFault;
-use sha2::{Digest, Sha256};
+use crate::seal::has_digest;
 use std::marker::Model;
 use swap_slots::{SlotFault, SwapSlot};
 
@@ -12,31 +13,35 @@ use swap_slots::{SlotFault, SwapSlot};
 #[derive(Drop)]
 pub struct PageCopy<S: SwapSlot> {
     slot: S,
-    digest: [u8; 32],
+    /// None is taken where slots of this kind are known to be honest: it is then the digest of what the slot holds.
+    digest: Option<[u8; 32]>,
 }
 
 impl<S: SwapSlot> Model for PageCopy<S> {
-    ghost use Rattle.std.specs.Prelude.{◌≡◌};
-    ghost use Rattle.sha2.specs.Sha256.{sha256};
     ghost use Rattle.page_store.specs.CopyValue.{CopyValue};
+    ghost use Rattle.page_store.specs.Seal.{IsSealed, sealed_digest};
 
     ghost Value = { CopyValue S };
 
-    ghost view = { λ c. record { slot = c.slot; digest = c.digest } };
+    ghost view = { λ c. record { slot = c.slot; digest = sealed_digest (S.content c.slot) c.digest } };
 
-    ghost invariant = { λ c. S.honest → sha256 (S.content c.slot) ≡ c.digest };
+    ghost invariant = { λ c. IsSealed S.honest (S.content c.slot) c.digest };
 }
 
 impl<S: SwapSlot> PageCopy<S> {
-    /// The page in this slot, which has this digest if the slot is honest.
-    pub(crate) fn new(slot: S, digest: [u8; 32]) -> Self
-        requires { S.honest → sha256 (S.content slot) ≡ digest }
-        ensures { result ≡ record { slot = slot; digest = digest } }
+    /// The page in this slot, which has this digest if the slot is honest; none where it is known to be.
+    pub(crate) fn new(slot: S, digest: Option<[u8; 32]>) -> Self
+        requires { IsSealed S.honest (S.content slot) digest }
+        ensures { result ≡ record {
+          slot = slot;
+          digest = sealed_digest (S.content slot) digest;
+        } }
     {
         PageCopy { slot, digest }
     }
 
     /// Loads the page, whatever its digest is.
+    #[tactic(auto, using(crate::proofs::Seals::digest_stays, crate::proofs::Seals::still_sealed))]
     pub(crate) fn load(&mut self, page: &mut [u8; 4096]) -> Result<(), SlotFault>
         ensures loaded { S.honest → OnOk result (page.new ≡ S.content self.old.slot) }
         ensures kept { S.honest → S.content self.new.slot ≡ S.content self.old.slot }
@@ -47,7 +52,8 @@ impl<S: SwapSlot> PageCopy<S> {
         self.slot.load(page)
     }
 
-    /// Loads the page, and compares its digest with the one that was kept.
+    /// Loads the page, and compares its digest with the one that was kept, if one was taken.
+    #[tactic(auto, using(crate::proofs::Seals::digest_stays, crate::proofs::Seals::still_sealed, crate::proofs::Seals::comes_whole, crate::proofs::Seals::comes_damaged))]
     pub(crate) fn load_whole(&mut self, page: &mut [u8; 4096]) -> Result<(), FillFault>
         ensures whole { OnOk result (sha256 page.new ≡ self.old.digest) }
         ensures refused { IfErr result (RefusesLoad S.honest S.failures self.old self.new
@@ -60,7 +66,7 @@ impl<S: SwapSlot> PageCopy<S> {
         if self.slot.load(page).is_err() {
             return Err(FillFault::Device);
         }
-        if digest_of(page) != self.digest {
+        if !has_digest(page, &self.digest) {
             return Err(FillFault::Damaged);
         }
         Ok(())
@@ -73,11 +79,4 @@ impl<S: SwapSlot> PageCopy<S> {
         let PageCopy { slot, digest: _ } = self;
         slot
     }
-}
-
-/// The SHA-256 digest of a page.
-pub(crate) fn digest_of(page: &[u8; 4096]) -> [u8; 32]
-    ensures { result ≡ sha256 page.now }
-{
-    Sha256::digest(page.as_slice())
 }

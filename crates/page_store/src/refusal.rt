@@ -21,6 +21,18 @@ pub enum LeaveRefusal {
     NotResident,
 }
 
+/// Why a page does not begin to be cleaned, in the order in which the reasons are tested.
+#[derive(Clone, Copy, PartialEq, Eq, Debug, Error)]
+pub enum CleanRefusal {
+    #[error("the page is not resident")]
+    NotResident,
+    #[error("the page is not changed")]
+    NotChanged,
+    /// Or a copy of it is out.
+    #[error("the page is being cleaned already")]
+    AlreadyCleaning,
+}
+
 /// The page is not leaving, so there is nothing to bring back.
 #[derive(Clone, Copy, PartialEq, Eq, Debug, Error)]
 #[error("the page is not leaving")]

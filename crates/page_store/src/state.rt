@@ -3,6 +3,7 @@ ghost use Rattle.frame_pool.specs.FrameValue.{zero_bytes};
 
 use crate::page_copy::PageCopy;
 use crate::reading::{read_bytes, read_zeros};
+use crate::refusal::LeaveRefusal;
 use frame_pool::{BareFrame, Frame};
 use page_memory::Rights;
 use shared_origins::SharedPage;
@@ -26,41 +27,53 @@ pub enum PageState {
     Purged,
 }
 
-/// The slot that a page with a frame keeps.
+/// The slot that a page with a frame keeps, and what the page is backed by, unless a copy of it is out.
 #[derive(Drop)]
-pub enum Keeping<S: SwapSlot> {
-    /// It has none.
+pub(crate) enum Keeping<S: SwapSlot> {
+    /// It has no slot, and is backed by what it began with.
     NoSlot,
-    /// It has one that holds nothing for it: its last save failed, or was in vain.
-    Unsaved(S),
-    /// It has one that holds the bytes which were last saved.
+    /// It has a slot that holds the bytes which were last saved: they back it.
     Saved(PageCopy<S>),
+    /// Nothing backs it: its last save failed or was in vain, or its cleaning ended so. With its slot, if it has one.
+    Unbacked(Option<S>),
+    /// The same, while it is being cleaned.
+    Cleaning(Option<S>),
 }
 
 impl<S: SwapSlot> Keeping<S> {
     ghost use Rattle.std.specs.Prelude.{◌≡◌};
-    ghost use Rattle.page_store.specs.Kept.{kept};
-    ghost use Rattle.page_store.specs.PageValue.{is_unsaved};
+    ghost use Rattle.page_store.specs.Keeping.{is_unbacked, kept, settled};
+    ghost use Rattle.page_store.specs.View.{keeping_of};
 
     /// The slot, if it has one.
     pub(crate) fn into_slot(self) -> Option<S>
-        ensures { result ≡ kept self }
+        ensures { result ≡ kept (keeping_of self) }
     {
         match self {
             Keeping::NoSlot => None,
-            Keeping::Unsaved(slot) => Some(slot),
             Keeping::Saved(copy) => Some(copy.into_slot()),
+            Keeping::Unbacked(slot) => slot,
+            Keeping::Cleaning(slot) => slot,
         }
     }
 
-    /// Whether it holds nothing for its page yet.
-    pub(crate) fn is_unsaved(&self) -> bool
-        ensures { result ≡ is_unsaved self.now }
+    /// Whether nothing backs its page.
+    pub(crate) fn is_unbacked(&self) -> bool
+        ensures { result ≡ is_unbacked (keeping_of self.now) }
     {
         match self {
-            Keeping::NoSlot => false,
-            Keeping::Unsaved(_) => true,
-            Keeping::Saved(_) => false,
+            Keeping::NoSlot | Keeping::Saved(_) => false,
+            Keeping::Unbacked(_) | Keeping::Cleaning(_) => true,
+        }
+    }
+
+    /// What its page keeps when it begins to leave: a cleaning ends.
+    pub(crate) fn settled(self) -> Self
+        ensures { keeping_of result ≡ settled (keeping_of self) }
+    {
+        match self {
+            Keeping::Cleaning(slot) => Keeping::Unbacked(slot),
+            other => other,
         }
     }
 }
@@ -128,22 +141,74 @@ fn write_page(to: &mut [u8; 4096], from: &[u8])
 /// Where a page is, with its frame and its slot.
 #[derive(Drop)]
 pub(crate) enum State<L: Ledger, S: SwapSlot> {
-    // The first three have a frame: one comparison tells it, at each access to a page's bytes.
+    // The first five have a frame: one comparison tells it, at each access to a page's bytes.
     Resident(Frame<L>, Keeping<S>),
-    /// With the mark whether it counts as changed.
+    /// With the dirty bit that its entry had when it began to leave.
     Leaving(Frame<L>, Keeping<S>, bool),
-    /// Its frame's room is out with the copy.
-    Saving(BareFrame<L>),
+    /// A copy of the page is out, with its slot and the room of its frame.
+    ResidentOut(BareFrame<L>),
+    /// The same of a page that is leaving.
+    LeavingOut(BareFrame<L>, bool),
+    /// Its frame's room is out with the copy. With the same mark.
+    Saving(BareFrame<L>, bool),
     Fresh,
     Away(PageCopy<S>),
     Purged,
 }
 
+/// What a page has that is in no frame and was not given back.
+#[derive(Drop)]
+pub(crate) enum Absent<S: SwapSlot> {
+    Fresh,
+    Away(PageCopy<S>),
+}
+
 impl<L: Ledger, S: SwapSlot> State<L, S> {
-    ghost use Rattle.std.specs.Prelude.{◌≡◌};
+    ghost use Rattle.std.specs.Prelude.{◌≡◌, Bool, Err, IfErr, IfOk, OnErr};
     ghost use Rattle.std.specs.Borrow.{sem};
     ghost use Rattle.std.specs.Option.{option_copied_mut};
+    ghost use Rattle.page_store.specs.Moves.{IfAbsent, IfSaving, left};
+    ghost use Rattle.page_store.specs.PageValue.{Saving};
+    ghost use Rattle.page_store.specs.View.{place_absent, place_in_state};
     ghost use Rattle.page_store.specs.StateLending.{lent_frame, LendsState};
+
+    /// What a page that is absent has, or else the page as it was.
+    pub(crate) fn into_absent(self) -> Result<Absent<S>, Self>
+        ensures absent { IfOk result (λ absent. place_in_state self ≡ place_absent absent) }
+        ensures other { IfErr result (λ other. (other ≡ self) ×
+            (¬ IfAbsent (place_in_state self) (Unit {0}) (λ _. Unit {0}))) }
+    {
+        match self {
+            State::Fresh => Ok(Absent::Fresh),
+            State::Away(copy) => Ok(Absent::Away(copy)),
+            other => Err(other),
+        }
+    }
+
+    /// What a page that is being saved has, with its mark, or else the page as it was.
+    pub(crate) fn into_saving(self) -> Result<(BareFrame<L>, bool), Self>
+        ensures saving { IfOk result (λ saving. place_in_state self ≡ Saving saving.0 saving.1) }
+        ensures other { IfErr result (λ other. (other ≡ self) ×
+            (¬ IfSaving (place_in_state self) (λ _ _. Unit {0}))) }
+    {
+        match self {
+            State::Saving(frame, dirty) => Ok((frame, dirty)),
+            other => Err(other),
+        }
+    }
+
+    /// Why a page that is not resident does not begin to leave.
+    pub(crate) fn leave_refusal(&self) -> LeaveRefusal
+        ensures { (mark : Bool) → OnErr (left mark (place_in_state self.now)) (
+            left mark (place_in_state self.now) ≡ Err result) }
+    {
+        match self {
+            State::Leaving(..) | State::LeavingOut(..) | State::Saving(..) => {
+                LeaveRefusal::AlreadyLeaving
+            }
+            _ => LeaveRefusal::NotResident,
+        }
+    }
 
     /// Lends the bytes of the page's frame to be written, where the page has one and is not being saved.
     #[inline]
@@ -154,6 +219,8 @@ impl<L: Ledger, S: SwapSlot> State<L, S> {
         match self {
             State::Resident(frame, _) => Some(frame.bytes_mut()),
             State::Leaving(frame, _, _) => Some(frame.bytes_mut()),
+            State::ResidentOut(frame) => Some(frame.bytes_mut()),
+            State::LeavingOut(frame, _) => Some(frame.bytes_mut()),
             _ => None,
         }
     }

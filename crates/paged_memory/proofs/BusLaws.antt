@@ -1,6 +1,6 @@
 -- What an access of a hart does to its process's memory is what a bus does.
-use Rattle.std.specs.Prelude.{◌≡◌, ℕ, List, Result, Ok, Err, OnErr}
-use Rattle.std.proofs.Common.{ap, ◌∙◌}
+use Rattle.std.specs.Prelude.{◌≡◌, ℕ, List, Result, Ok, Err, OnErr, OnOk, ◌⊎◌}
+use Rattle.std.proofs.Common.{ap, ◌∙◌, inl, inr}
 use Rattle.page_memory.specs.declared.fault.MemoryFault.{MemoryFault}
 use Rattle.page_memory.specs.declared.words.Access.{Access}
 use Rattle.page_memory.specs.Words.{page_number}
@@ -9,7 +9,7 @@ use Rattle.rv_exec.specs.Answers.{Answers, with_answer}
 use Rattle.rv_exec.specs.Bounds.{Bounds}
 use Rattle.rv_exec.specs.Uses.{page_of_access}
 use Rattle.tlb_core.specs.declared.translation.Translation.{Translation}
-use Rattle.paged_memory.specs.Access.{HasPage, LacksPage, MarksUse, cache_of}
+use Rattle.paged_memory.specs.Access.{HasPage, LacksPage, MarksUse, TakesStores, cache_of}
 use Rattle.paged_memory.specs.Accesses.{AnswersAccess, Accesses, Reads, Reserves, Writes}
 use Rattle.paged_memory.specs.HartMemory.{InTurn, KeepsAccess, MarksSince, MarksWithin}
 use Rattle.paged_memory.specs.HartMemoryLaws.{access_written}
@@ -40,8 +40,15 @@ module _ {S : Type 0} (hart : ℕ) (access : Access) {A : Type 0} (address : ℕ
       bounds_access_with access (HasPage old.pages (cache_of old.caches hart)) (MarksUse old.pages new.tables (cache_of old.caches hart) access) (LacksPage old.pages) address old.tables new.tables expected f result
       answers accesses.entries accesses.unmarked
 
-  pub bus_keeps : Accesses hart access (page_number address) result old new → KeepsAccess hart old new
-  bus_keeps accesses = access_written hart old new accesses.process accesses.bare accesses.kept
+  pub bus_keeps : Accesses hart access (page_number address) result old new → new.pages ≡ old.pages → KeepsAccess hart old new
+  bus_keeps accesses pages = access_written hart (page_number address) old new accesses.process accesses.bare accesses.kept (inl pages)
+
+  told_by : {B : Type 0} (r : Result B BusError) → OnErr r (new.pages ≡ old.pages) → OnOk r (TakesStores old.pages new.tables (page_number address)) → (new.pages ≡ old.pages) ⊎ TakesStores old.pages new.tables (page_number address)
+  told_by (Ok answer) pages takes = inr takes
+  told_by (Err refusal) pages takes = inl pages
+
+  pub bus_keeps_written : Writes hart access (page_number address) result old new → KeepsAccess hart old new
+  bus_keeps_written writes = access_written hart (page_number address) old new writes.accesses.process writes.accesses.bare writes.accesses.kept (told_by result writes.pages writes.takes)
 
   -- the memory that it stands for stays over one that reads, and where another is refused
   same_parts : (held : S → List ℕ) → new.pages ≡ old.pages → new.reserved ≡ old.reserved → memory_of held new ≡ memory_of held old

@@ -1,12 +1,12 @@
 -- What each call on a process's pages keeps.
-use Rattle.std.specs.Prelude.{◌≡◌, ℕ, ◌^◌, ◌<◌, Bool, true, false, Option, Some, None, option_map, List, [], map, refl}
+use Rattle.std.specs.Prelude.{◌≡◌, ℕ, ◌^◌, ◌<◌, Bool, true, false, ◌||◌, Option, Some, None, option_map, List, [], map, refl}
 use Rattle.std.proofs.Common.{sym, ap, ◌∙◌, subst}
 use Rattle.std.proofs.lemmas.List.Elements.{All-nil}
 use Rattle.frame_pool.specs.FrameValue.{FrameValue}
 use Rattle.page_memory.specs.declared.rights.Rights.{Rights}
 use Rattle.page_memory.specs.declared.words.Access.TheVariants.{Load, Store}
 use Rattle.page_memory.specs.Rights.{may}
-use Rattle.page_store.specs.declared.state.Keeping.{Keeping}
+use Rattle.page_store.specs.Keeping.{Keeping, is_loose}
 use Rattle.page_store.specs.PageValue.{PageValue, Place, Fresh, Resident, Leaving, Saving, Away, Purged, Backed}
 use Rattle.sv32_table.specs.Entry.{Entry, page_entry, blank}
 use Rattle.sv32_table.specs.EntryAt.{entry_at, ChangesEntry, SameTables, unaccessed_entry, accessed_of}
@@ -15,7 +15,7 @@ use Rattle.tlb_core.specs.declared.translation.Translation.{Translation}
 use Rattle.tlb_core.specs.Cache.{doomed}
 use Rattle.page_memory.specs.Pages.{Page}
 use Rattle.paged_memory.specs.Seen as seen
-use Rattle.paged_memory.specs.Seen.{Seen, entry_seen, entry_standing, rights_seen, is_dirty, is_used}
+use Rattle.paged_memory.specs.Seen.{Seen, entry_seen, entry_standing, rights_seen, takes_stores, is_used}
 use Rattle.paged_memory.specs.Soundness.{IsMapped}
 use Rattle.paged_memory.specs.Calls.{accessed_at, accessed_standing, IsResident}
 use Rattle.paged_memory.specs.Paged.{standing_of, seen_of, page_at, seen_at, Holds}
@@ -31,8 +31,8 @@ unfolding accessed_of
 entry_tells (Some page) e is = by_standing page.rights page.standing is
   where
     by_standing : (rights : Rights) (standing : seen.Standing) → e ≡ entry_standing rights standing e.accessed e.dirty → accessed_of e ≡ accessed_standing standing e
-    by_standing rights (seen.Resident frame) is = ap accessed_of is ∙ accessed_of-page_entry frame rights e.accessed e.dirty
-    by_standing rights (seen.Leaving frame mark) is = ap accessed_of is
+    by_standing rights (seen.Resident frame loose) is = ap accessed_of is ∙ accessed_of-page_entry frame rights e.accessed e.dirty
+    by_standing rights (seen.Leaving frame mark loose) is = ap accessed_of is
     by_standing rights seen.Elsewhere is = ap accessed_of is
 entry_tells None e is = ap accessed_of is
 
@@ -59,7 +59,7 @@ module _ {S : Type 0} where
       by_place origin Fresh found is = cc
       by_place origin (Resident frame slot) found is = record { origin = origin; frame = frame; slot = slot; found = found }
       by_place origin (Leaving frame slot mark) found is = cc
-      by_place origin (Saving frame) found is = cc
+      by_place origin (Saving frame mark) found is = cc
       by_place origin (Away slot) found is = cc
       by_place origin Purged found is = cc
 
@@ -89,7 +89,7 @@ module _ {S : Type 0} where
 
   module _ {held : S → List ℕ} {honest : Type 0} {pages : List (ℕ × PageValue S)} {tables : List (List ℕ)} {caches : List (List Translation)} (number : ℕ) (small : number < 2 ^ 20) (holds : Holds held honest pages tables caches) (resident : IsResident pages number) where
     -- what is seen of it
-    pub seen_resident : seen_at pages number ≡ Some (record { rights = resident.origin.rights; standing = seen.Resident resident.frame.number })
+    pub seen_resident : seen_at pages number ≡ Some (record { rights = resident.origin.rights; standing = seen.Resident resident.frame.number (is_loose resident.slot) })
     seen_resident = ap (option_map seen_of) resident.found
 
     -- it has the entry of its frame and its rights
@@ -130,7 +130,8 @@ module _ {S : Type 0} where
               backed = λ is_honest. subst (λ d. Backed held d page) (sym dirty_same) (holds.backed is_honest number page small resident.found);
             }
 
-        still : is_dirty (seen_at pages number) e ≡ true → is_dirty (seen_at pages number) (entry_at tables' number) ≡ true
+        still : takes_stores (seen_at pages number) e ≡ true → takes_stores (seen_at pages number) (entry_at tables' number) ≡ true
         still was =
             let there : entry_at tables' number ≡ unaccessed_entry e = entry_at_changed tables tables' (unaccessed_entry e) number small entries in
-            ap (λ s. is_dirty s (entry_at tables' number)) seen_resident ∙ ap (λ (u : Entry). u.dirty) there ∙ dirty_same ∙ sym (ap (λ s. is_dirty s e) seen_resident) ∙ was
+            ap (λ s. takes_stores s (entry_at tables' number)) seen_resident ∙ ap (λ (u : Entry). u.dirty || is_loose resident.slot) there ∙ ap (λ d. d || is_loose resident.slot) dirty_same
+            ∙ sym (ap (λ s. takes_stores s e) seen_resident) ∙ was

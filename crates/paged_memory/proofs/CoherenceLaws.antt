@@ -33,8 +33,8 @@ used_resident None e resident = cc
 used_resident (Some seen) e resident = by_standing seen.standing resident
   where
     by_standing : (standing : Standing) → is_resident_standing standing ≡ true → used_standing standing e ≡ e.accessed
-    by_standing (Resident frame) resident = refl
-    by_standing (Leaving frame mark) resident = cc
+    by_standing (Resident frame loose) resident = refl
+    by_standing (Leaving frame mark loose) resident = cc
     by_standing Elsewhere resident = cc
 
 -- a translation that is not to be dropped is of a page whose use is marked
@@ -53,10 +53,10 @@ leads (Some seen) accessed dirty address access readable = by_standing seen.righ
     by_right false leaf to is = refl
 
     by_standing : (rights : Rights) (standing : Standing) → (may Store rights ≡ true → may Load rights ≡ true) → result_map_both (λ (leaf : Leaf). leaf.physical) (λ (fault : WalkFault). fault) (walk_entry (entry_standing rights standing accessed dirty) address access) ≡ led_standing access address rights standing
-    by_standing rights (Resident frame) lawful =
+    by_standing rights (Resident frame loose) lawful =
         ap (result_map_both (λ (leaf : Leaf). leaf.physical) (λ (fault : WalkFault). fault)) (walk_entry-page_entry address access frame rights accessed dirty lawful)
         ∙ by_right (may access rights) (record { pte = record { 0 = word_of (page_entry frame rights true (is_store access || dirty)) }; physical = frame * 0x1000 + address % 0x1000 }) (frame * 0x1000 + address % 0x1000) refl
-    by_standing rights (Leaving frame mark) lawful = ap (result_map_both (λ (leaf : Leaf). leaf.physical) (λ (fault : WalkFault). fault)) (walk_entry-blank address access)
+    by_standing rights (Leaving frame mark loose) lawful = ap (result_map_both (λ (leaf : Leaf). leaf.physical) (λ (fault : WalkFault). fault)) (walk_entry-blank address access)
     by_standing rights Elsewhere lawful = ap (result_map_both (λ (leaf : Leaf). leaf.physical) (λ (fault : WalkFault). fault)) (walk_entry-blank address access)
 
 module _ {S : Type 0} {held : S → List ℕ} {honest : Type 0} {pages : List (ℕ × PageValue S)} {tables : List (List ℕ)} {caches : List (List Translation)} (holds : Holds held honest pages tables caches) where

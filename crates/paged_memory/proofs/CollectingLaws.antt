@@ -3,10 +3,9 @@ use Rattle.std.specs.Prelude.{◌≡◌, ℕ, ◌^◌, ◌<◌, Bool, true, fals
 use Rattle.std.proofs.Common.{sym, ap, ◌∙◌, subst, inl, inr}
 use Rattle.frame_pool.specs.FrameValue.{FrameValue}
 use Rattle.page_memory.specs.Pages.{Page}
-use Rattle.page_store.specs.declared.state.Keeping.{Keeping}
-use Rattle.page_store.specs.declared.state.Keeping.TheVariants.{NoSlot, Unsaved, Saved}
+use Rattle.page_store.specs.Keeping.{Keeping, NoSlot, Saved, Unbacked, Cleaning, CopyOut}
 use Rattle.page_store.specs.declared.answer.Collected.{Collected}
-use Rattle.page_store.specs.Moves.{CollectedPage, collected, let_go, with_spare}
+use Rattle.page_store.specs.Moves.{CollectedPage, collected, let_go, with_spare, save_unbacked}
 use Rattle.page_store.specs.PageValue.{PageValue, Place, Fresh, Resident, Leaving, Saving, Away, Purged, frame_of, shown, Backed, BackedAt}
 use Rattle.sv32_table.specs.Entry.{Entry}
 use Rattle.tlb_core.specs.declared.translation.Translation.{Translation}
@@ -32,16 +31,22 @@ module _ {L S : Type 0} (process vpn : ℕ) where
   abbrev pub Looked : Bool → Place S → CollectedPage L S → Type 0
   Looked cached place after = (after.0 ≡ place) ⊎ LetGo cached place after
 
-  gone_spared : (frame : FrameValue) (spare : Option S) → Looked false (Leaving frame NoSlot true) (with_spare process vpn frame true spare)
-  gone_spared frame None = inl refl
-  gone_spared frame (Some slot) = inr (record { uncached = refl; goes = refl; blank_then = λ r a d. refl; blank_now = λ r a d. refl; framed = λ h. refl; shows = λ held origin b. refl; backed = λ held origin h. cc })
+  gone_spared : (frame : FrameValue) (slot : Keeping S) (mark : Bool) (spare : Option S) → Looked false (Leaving frame slot mark) (with_spare process vpn frame slot mark spare)
+  gone_spared frame slot mark None = inl refl
+  gone_spared frame slot mark (Some taken) = inr (record { uncached = refl; goes = refl; blank_then = λ r a d. refl; blank_now = λ r a d. refl; framed = λ h. refl; shows = λ held origin b. refl; backed = λ held origin h. cc })
+
+  gone_unbacked : (frame : FrameValue) (slot : Keeping S) (own : Option S) (mark : Bool) (spare : Option S) → Looked false (Leaving frame slot mark) (save_unbacked process vpn frame slot own mark spare)
+  gone_unbacked frame slot None mark spare = gone_spared frame slot mark spare
+  gone_unbacked frame slot (Some taken) mark spare = inr (record { uncached = refl; goes = refl; blank_then = λ r a d. refl; blank_now = λ r a d. refl; framed = λ h. refl; shows = λ held origin b. refl; backed = λ held origin h. cc })
 
   gone : (frame : FrameValue) (slot : Keeping S) (mark : Bool) (spare : Option S) → Looked false (Leaving frame slot mark) (let_go process vpn frame slot mark spare)
   gone frame NoSlot false spare = inr (record { uncached = refl; goes = refl; blank_then = λ r a d. refl; blank_now = λ r a d. refl; framed = λ h. refl; shows = λ held origin b. sym (b refl); backed = λ held origin h. refl })
-  gone frame NoSlot true spare = gone_spared frame spare
-  gone frame (Unsaved slot) mark spare = inr (record { uncached = refl; goes = refl; blank_then = λ r a d. refl; blank_now = λ r a d. refl; framed = λ h. refl; shows = λ held origin b. refl; backed = λ held origin h. cc })
+  gone frame NoSlot true spare = gone_spared frame NoSlot true spare
   gone frame (Saved slot) false spare = inr (record { uncached = refl; goes = refl; blank_then = λ r a d. refl; blank_now = λ r a d. refl; framed = λ h. refl; shows = λ held origin b. sym (b refl); backed = λ held origin h. refl })
   gone frame (Saved slot) true spare = inr (record { uncached = refl; goes = refl; blank_then = λ r a d. refl; blank_now = λ r a d. refl; framed = λ h. refl; shows = λ held origin b. refl; backed = λ held origin h. cc })
+  gone frame (Unbacked own) mark spare = gone_unbacked frame (Unbacked own) own mark spare
+  gone frame (Cleaning own) mark spare = gone_unbacked frame (Cleaning own) own mark spare
+  gone frame CopyOut mark spare = inl refl
 
   -- it stays, or no cache holds it and it is let go
   pub looked : (place : Place S) (cached : Bool) (spare : Option S) → Looked cached place (collected process vpn cached place spare)
@@ -49,7 +54,7 @@ module _ {L S : Type 0} (process vpn : ℕ) where
   looked (Resident frame slot) cached spare = inl refl
   looked (Leaving frame slot mark) true spare = inl refl
   looked (Leaving frame slot mark) false spare = gone frame slot mark spare
-  looked (Saving frame) cached spare = inl refl
+  looked (Saving frame mark) cached spare = inl refl
   looked (Away slot) cached spare = inl refl
   looked Purged cached spare = inl refl
 

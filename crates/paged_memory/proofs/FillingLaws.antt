@@ -3,8 +3,8 @@ use Rattle.std.specs.Prelude.{◌≡◌, ℕ, ◌^◌, ◌<◌, ◌==◌, ◌/�
 use Rattle.std.proofs.Common.{sym, ap, ◌∙◌, subst, eq-eqb, true≢false}
 use Rattle.frame_pool.specs.FrameValue.{FrameValue}
 use Rattle.page_memory.specs.Entries.{place_of, value_at, with_value}
-use Rattle.page_store.specs.declared.state.Keeping.{Keeping}
-use Rattle.page_store.specs.declared.state.Keeping.TheVariants.{NoSlot}
+use Rattle.page_store.specs.Keeping.{Keeping}
+use Rattle.page_store.specs.Keeping.{NoSlot}
 use Rattle.page_memory.specs.Pages.{Page}
 use Rattle.page_store.specs.CopyValue.{CopyValue}
 use Rattle.page_store.specs.PageValue.{BackedAt, PageValue, Place, Fresh, Resident, Leaving, Saving, Away, Purged, frame_of, content, Backed}
@@ -51,7 +51,7 @@ module _ {S : Type 0} where
   absent_elsewhere Fresh fresh away how = refl
   absent_elsewhere (Resident frame slot) fresh away how = absurd how
   absent_elsewhere (Leaving frame slot mark) fresh away how = absurd how
-  absent_elsewhere (Saving frame) fresh away how = refl
+  absent_elsewhere (Saving frame mark) fresh away how = refl
   absent_elsewhere (Away slot) fresh away how = refl
   absent_elsewhere Purged fresh away how = refl
 
@@ -62,7 +62,7 @@ module _ {S : Type 0} where
       by_place Fresh at how = absurd how
       by_place (Resident filled slot) at how = record { filled = filled; slot = slot; was = absent_elsewhere page.place _ _ how.1; is = at; number = how.0 }
       by_place (Leaving filled slot mark) at how = absurd how
-      by_place (Saving filled) at how = absurd how
+      by_place (Saving filled mark) at how = absurd how
       by_place (Away slot) at how = absurd how
       by_place Purged at how = absurd how
 
@@ -105,7 +105,7 @@ module _ {S : Type 0} (held : S → List ℕ) (honest : Type 0) where
       away Fresh is how = absurd how
       away (Resident frame slot) is how = absurd how
       away (Leaving frame slot mark) is how = absurd how
-      away (Saving frame) is how = absurd how
+      away (Saving frame mark) is how = absurd how
       away (Away slot) is how = record { stands = ap standing_of is; unframed = ap (λ p. is_some (frame_of p)) is; backed = subst (λ p. BackedAt held page'.origin.bytes false p) (sym is) (λ _. refl) }
       away Purged is how = absurd how
 
@@ -113,7 +113,7 @@ module _ {S : Type 0} (held : S → List ℕ) (honest : Type 0) where
       by_place Fresh how = fresh how
       by_place (Resident frame slot) how = absurd how
       by_place (Leaving frame slot mark) how = absurd how
-      by_place (Saving frame) how = absurd how
+      by_place (Saving frame mark) how = absurd how
       by_place (Away slot) how = away page'.place refl how
       by_place Purged how = absurd how
 

@@ -27,8 +27,8 @@ unmapped_seen None accessed dirty = unmapped_entry-blank
 unmapped_seen (Some seen) accessed dirty = by_standing seen.rights seen.standing
   where
     by_standing : (rights : Rights) (standing : Standing) → unmapped_entry (entry_standing rights standing accessed dirty) ≡ blank
-    by_standing rights (Resident frame) = unmapped_entry-page_entry frame rights accessed dirty
-    by_standing rights (Leaving frame mark) = unmapped_entry-blank
+    by_standing rights (Resident frame loose) = unmapped_entry-page_entry frame rights accessed dirty
+    by_standing rights (Leaving frame mark loose) = unmapped_entry-blank
     by_standing rights Elsewhere = unmapped_entry-blank
 
 -- empty caches hold no page

@@ -138,6 +138,32 @@ module _ {S : Type 0} where
   kept_grown (Ok u) old new first count ok err = subst (λ p. KeepsPages old.pages p) (sym ok) (kept_zeroed old.pages first count)
   kept_grown (Err e) old new first count ok err = subst (λ (m : PagedValue S). KeepsPages old.pages m.pages) (sym err) (pages_itself old.pages)
 
+-- a page that was there is what it was
+module _ {S : Type 0} where
+  stays_one : (pages : List (ℕ × PageValue S)) (number q : ℕ) → is_some (page_at pages q) ≡ true → page_at (added number fresh_zero_page pages) q ≡ page_at pages q
+  unfolding added
+  stays_one pages number q there = by_place (place_of number pages) refl
+    where
+      other : (b : Bool) → (q == number) ≡ b → page_at pages number ≡ None → cond b (Some fresh_zero_page) (page_at pages q) ≡ page_at pages q
+      other true is none = let clash : true ≡ false = sym there ∙ ap is_some (ap (page_at pages) (eqb-true q number is) ∙ none) in cc
+      other false is none = refl
+
+      by_place : (o : Option ℕ) → place_of number pages ≡ o → page_at (added_unless o number fresh_zero_page pages) q ≡ page_at pages q
+      by_place (Some place) at = refl
+      by_place None at = (appended pages number fresh_zero_page at).pages q ∙ other (q == number) refl (page_at-nowhere pages number at)
+
+  stays_zeroed : (pages : List (ℕ × PageValue S)) (first count q : ℕ) → is_some (page_at pages q) ≡ true → page_at (with_added first count fresh_zero_page pages) q ≡ page_at pages q
+  unfolding with_added
+  stays_zeroed pages first zero q there = refl
+  stays_zeroed pages first (suc count) q there =
+      let before = stays_zeroed pages first count q there in
+      stays_one (with_added first count fresh_zero_page pages) (first + count) q (ap is_some before ∙ there) ∙ before
+
+  pub stays_grown : {U E : Type 0} (result : Result U E) (old new : PagedValue S) (first count : ℕ) → OnOk result (new.pages ≡ with_added first count fresh_zero_page old.pages) → OnErr result (new ≡ old)
+      → (q : ℕ) → is_some (page_at old.pages q) ≡ true → page_at new.pages q ≡ page_at old.pages q
+  stays_grown (Ok u) old new first count ok err q there = ap (λ pages. page_at pages q) ok ∙ stays_zeroed old.pages first count q there
+  stays_grown (Err e) old new first count ok err q there = ap (λ (m : PagedValue S). page_at m.pages q) err
+
 -- the same by what the growth answered
 pub holds_grown : {S U E : Type 0} {held : S → List ℕ} {honest : Type 0} {tables : List (List ℕ)} {caches : List (List Translation)} (result : Result U E) (old new : List (ℕ × PageValue S)) (first count : ℕ) → first + count ≤ 2 ^ 20 → OnOk result (new ≡ with_added first count fresh_zero_page old) → OnErr result (new ≡ old) → Holds held honest old tables caches → Holds held honest new tables caches
 holds_grown (Ok u) old new first count within ok err holds = rw ok (holds_zeroed old first count within holds)

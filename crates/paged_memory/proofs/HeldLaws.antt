@@ -18,7 +18,7 @@ module _ {S : Type 0} where
       by_place Fresh = refl
       by_place (Resident frame slot) = refl
       by_place (Leaving frame slot mark) = refl
-      by_place (Saving frame) = refl
+      by_place (Saving frame mark) = refl
       by_place (Away slot) = refl
       by_place Purged = refl
 
@@ -30,7 +30,7 @@ module _ {S : Type 0} where
       by_place Fresh = refl
       by_place (Resident frame slot) = refl
       by_place (Leaving frame slot mark) = refl
-      by_place (Saving frame) = refl
+      by_place (Saving frame mark) = refl
       by_place (Away slot) = refl
       by_place Purged = refl
 

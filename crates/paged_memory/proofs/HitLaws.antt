@@ -3,6 +3,7 @@ use Rattle.std.specs.Prelude.{◌≡◌, ℕ, ◌<◌, Bool, true, false, ◌||�
 use Rattle.std.proofs.Common.{sym, ap, ◌∙◌, subst, inl, inr}
 use Rattle.std.proofs.lemmas.List.Elements.{All-get_or}
 use Rattle.page_memory.specs.declared.words.Access.{Access}
+use Rattle.page_memory.specs.declared.words.Access.TheVariants.{Store}
 use Rattle.page_memory.specs.Rights.{may}
 use Rattle.page_memory.specs.Entries.{place_of}
 use Rattle.page_memory.specs.EntriesLaws.{has_value}
@@ -11,9 +12,9 @@ use Rattle.sv32_table.specs.EntryAt.{entry_at}
 use Rattle.tlb_core.specs.declared.translation.Translation.{Translation}
 use Rattle.tlb_core.specs.Cache.{Hits, translation_of, is_of_page}
 use Rattle.tlb_core.specs.CacheLaws.{All-entry_of, page-entry_of}
-use Rattle.paged_memory.specs.Seen.{frame_seen, frame_standing, rights_seen, is_dirty}
+use Rattle.paged_memory.specs.Seen.{frame_seen, frame_standing, rights_seen, takes_stores}
 use Rattle.paged_memory.specs.Soundness.{IsSound}
-use Rattle.paged_memory.specs.Access.{Reaches, HasPage, MarksUse, cache_of, is_doomed}
+use Rattle.paged_memory.specs.Access.{Reaches, HasPage, MarksUse, TakesStores, cache_of}
 use Rattle.paged_memory.specs.Paged.{standing_of, seen_of, seen_at, Holds}
 use Rattle.paged_memory.proofs.PagedLaws.{page_at-place}
 
@@ -22,18 +23,9 @@ writable_framed : {S : Type 0} (place : Place S) (frame : ℕ) → frame_standin
 writable_framed Fresh frame is = cc
 writable_framed (Resident f slot) frame is = refl
 writable_framed (Leaving f slot mark) frame is = refl
-writable_framed (Saving f) frame is = cc
+writable_framed (Saving f mark) frame is = cc
 writable_framed (Away slot) frame is = cc
 writable_framed Purged frame is = cc
-
--- an entry that is found and is to be dropped shows that the page has one
-pub doomed_found : (page : ℕ) (cache : List Translation) (t : Translation) → translation_of page cache ≡ Some t → t.doomed ≡ true → is_doomed page cache ≡ true
-doomed_found page [] t found doomed = cc
-doomed_found page (x ∷ xs) t found doomed = by_first (is_of_page page x) refl found (doomed_found page xs t)
-  where
-    by_first : (b : Bool) → is_of_page page x ≡ b → cond b (Some x) (find (is_of_page page) xs) ≡ Some t → (translation_of page xs ≡ Some t → t.doomed ≡ true → is_doomed page xs ≡ true) → (is_of_page page x && x.doomed || is_doomed page xs) ≡ true
-    by_first true is found later = let same : x ≡ t = cc in ap (λ b. b && x.doomed || is_doomed page xs) is ∙ ap (λ (y : Translation). y.doomed || is_doomed page xs) same ∙ ap (λ b. b || is_doomed page xs) doomed
-    by_first false is found later = ap (λ b. b && x.doomed || is_doomed page xs) is ∙ later found doomed
 
 module _ {S : Type 0} {held : S → List ℕ} {honest : Type 0} {pages : List (ℕ × PageValue S)} {tables : List (List ℕ)} {caches : List (List Translation)} (number hart place : ℕ) (access : Access) (holds : Holds held honest pages tables caches) (within : hart < length caches) (hits : Hits (cache_of caches hart) access number place) where
   sound : IsSound (seen_at pages hits.entry.page) (entry_at tables hits.entry.page) hits.entry
@@ -67,7 +59,7 @@ module _ {S : Type 0} {held : S → List ℕ} {honest : Type 0} {pages : List (�
         value = there.1;
         allowed = ap (may access) rights_same ∙ hits.allowed;
         framed = writable_framed page.place hits.entry.frame frame_is;
-        changed = λ is. ap (λ s. is_dirty s (entry_at tables number)) (sym seen_is) ∙ sound_here.changed (hits.dirty is);
+        changed = λ is. ap (λ s. takes_stores s (entry_at tables number)) (sym seen_is) ∙ sound_here.changed (hits.dirty is);
       }
 
   pub has_hit : HasPage pages (cache_of caches hart) number
@@ -79,3 +71,8 @@ module _ {S : Type 0} {held : S → List ℕ} {honest : Type 0} {pages : List (�
       by_mark : (b : Bool) → hits.entry.doomed ≡ b → MarksUse pages tables (cache_of caches hart) access number
       by_mark true is = inr (record { place = place; hits = hits; doomed = is })
       by_mark false is = inl (sound_here.used is)
+
+-- a page that a store may use takes stores
+pub reaches_takes : {S : Type 0} (pages : List (ℕ × PageValue S)) (tables : List (List ℕ)) (access : Access) (number place : ℕ) → Reaches pages tables access number place → access ≡ Store → TakesStores pages tables number
+reaches_takes pages tables access number place reaches is =
+    ap (λ s. takes_stores s (entry_at tables number)) (ap (option_map seen_of) (page_at-place pages number place reaches.page reaches.at reaches.value)) ∙ reaches.changed is

@@ -1,8 +1,8 @@
 -- A resident page begins to leave its frame.
-use Rattle.std.specs.Prelude.{◌≡◌, ℕ, ◌^◌, ◌<◌, ◌==◌, Bool, false, if◌then◌else◌, Some, option_map, Result, Ok, Err, OnOk, IfErr, List, map, refl, ◌⊎◌}
+use Rattle.std.specs.Prelude.{◌≡◌, ℕ, ◌^◌, ◌<◌, ◌==◌, Bool, false, ◌||◌, if◌then◌else◌, Some, option_map, Result, Ok, Err, OnOk, IfErr, List, map, refl, ◌⊎◌}
 use Rattle.std.proofs.Common.{sym, ap, ◌∙◌, subst, inl, inr}
 use Rattle.frame_pool.specs.FrameValue.{FrameValue}
-use Rattle.page_store.specs.declared.state.Keeping.{Keeping}
+use Rattle.page_store.specs.Keeping.{Keeping, is_loose, settled}
 use Rattle.page_store.specs.declared.state.PageState.TheVariants as stage
 use Rattle.page_store.specs.declared.refusal.LeaveRefusal.{LeaveRefusal}
 use Rattle.page_store.specs.PageValue.{PageValue, Place, Fresh, Resident, Leaving, Saving, Away, Purged, page_state_of, Backed}
@@ -12,9 +12,10 @@ use Rattle.sv32_table.specs.EntryAt.{entry_at, ChangesEntry, SameTables, unmappe
 use Rattle.sv32_table.specs.EntryLaws.{unmapped_entry-page_entry, dirty_of-page_entry}
 use Rattle.tlb_core.specs.declared.translation.Translation.{Translation}
 use Rattle.tlb_core.specs.Cache.{doomed}
-use Rattle.paged_memory.specs.Seen.{frame_seen, rights_seen, is_dirty}
+use Rattle.paged_memory.specs.Seen.{frame_seen, rights_seen, takes_stores}
 use Rattle.paged_memory.specs.Calls.{IsResident, ChangesBy, Leaves}
 use Rattle.paged_memory.specs.Paged.{seen_of, page_at, seen_at, flat_page, flat_pages, Holds, ChangesPage}
+use Rattle.paged_memory.specs.SeenLaws.{unbacked_settled, loose_settled, backing_settled}
 use Rattle.paged_memory.proofs.SoundnessLaws.{Stays}
 use Rattle.paged_memory.proofs.PagedLaws.{Change, choice_here, Holds-doomed, memory_stays}
 use Rattle.paged_memory.proofs.CallLaws.{entry_resident, seen_resident}
@@ -28,14 +29,14 @@ module _ {S : Type 0} where
       told (Ok u) ok err = inl ok
       told (Err refusal) ok err = inr (refusal, err)
 
-      by_place : (place : Place S) → page_state_of place ≡ stage.Resident → (left mark place ≡ Ok page'.place) ⊎ ((refusal : LeaveRefusal) × (left mark place ≡ Err refusal)) → IfResident place (λ frame slot. page' ≡ record page { place = Leaving frame slot mark })
+      by_place : (place : Place S) → page_state_of place ≡ stage.Resident → (left mark place ≡ Ok page'.place) ⊎ ((refusal : LeaveRefusal) × (left mark place ≡ Err refusal)) → IfResident place (λ frame slot. page' ≡ record page { place = Leaving frame (settled slot) mark })
       by_place Fresh is told = cc
       by_place (Resident frame slot) is (inl ok) =
-          let place : Leaving frame slot mark ≡ page'.place = cc in
+          let place : Leaving frame (settled slot) mark ≡ page'.place = cc in
           ap (λ o. record page { origin = o; place = page'.place }) origin ∙ ap (λ p. record page { place = p }) (sym place)
       by_place (Resident frame slot) is (inr err) = let clash = err.1 in cc
       by_place (Leaving frame slot old) is told = cc
-      by_place (Saving frame) is told = cc
+      by_place (Saving frame mark) is told = cc
       by_place (Away slot) is told = cc
       by_place Purged is told = cc
 
@@ -44,20 +45,20 @@ module _ {S : Type 0} where
     pub frame : FrameValue
     pub slot : Keeping S
     pub was : page ≡ record { origin = page.origin; place = Resident frame slot }
-    pub is : page' ≡ record { origin = page.origin; place = Leaving frame slot mark }
+    pub is : page' ≡ record { origin = page.origin; place = Leaving frame (settled slot) mark }
 
   pub left_from : (mark : Bool) (page page' : PageValue S) → Leaves mark page page' → Left mark page page'
   left_from mark page page' how = by_place page.place refl how
     where
-      by_place : (place : Place S) → page.place ≡ place → IfResident place (λ frame slot. page' ≡ record page { place = Leaving frame slot mark }) → Left mark page page'
+      by_place : (place : Place S) → page.place ≡ place → IfResident place (λ frame slot. page' ≡ record page { place = Leaving frame (settled slot) mark }) → Left mark page page'
       by_place Fresh at how = absurd how
       by_place (Resident frame slot) at how = record { frame = frame; slot = slot; was = ap (λ p. record page { place = p }) at; is = how }
       by_place (Leaving frame slot old) at how = absurd how
-      by_place (Saving frame) at how = absurd how
+      by_place (Saving frame mark) at how = absurd how
       by_place (Away slot) at how = absurd how
       by_place Purged at how = absurd how
 
-  module _ {held : S → List ℕ} {honest : Type 0} {pages pages' : List (ℕ × PageValue S)} {tables : List (List ℕ)} {caches : List (List Translation)} (tables' : List (List ℕ)) (number : ℕ) (small : number < 2 ^ 20) (holds : Holds held honest pages tables caches) (resident : IsResident pages number) (changes : ChangesPage pages pages' number (record { origin = resident.origin; place = Leaving resident.frame resident.slot (dirty_of (entry_at tables number)) })) (entries : ChangesEntry tables tables' number (unmapped_entry (entry_at tables number))) (same : SameTables tables tables') where
+  module _ {held : S → List ℕ} {honest : Type 0} {pages pages' : List (ℕ × PageValue S)} {tables : List (List ℕ)} {caches : List (List Translation)} (tables' : List (List ℕ)) (number : ℕ) (small : number < 2 ^ 20) (holds : Holds held honest pages tables caches) (resident : IsResident pages number) (changes : ChangesPage pages pages' number (record { origin = resident.origin; place = Leaving resident.frame (settled resident.slot) (dirty_of (entry_at tables number)) })) (entries : ChangesEntry tables tables' number (unmapped_entry (entry_at tables number))) (same : SameTables tables tables') where
     abbrev old_entry : Entry
     old_entry = entry_at tables number
 
@@ -75,13 +76,14 @@ module _ {S : Type 0} where
     page = record { origin = resident.origin; place = Resident resident.frame resident.slot }
 
     abbrev page_now : PageValue S
-    page_now = record { origin = resident.origin; place = Leaving resident.frame resident.slot (dirty_of old_entry) }
+    page_now = record { origin = resident.origin; place = Leaving resident.frame (settled resident.slot) (dirty_of old_entry) }
 
     seen_then : seen_at pages' number ≡ Some (seen_of page_now)
     seen_then = ap (option_map seen_of) (changes.pages number ∙ choice_here number (Some page_now) (page_at pages number))
 
     backed_now : Backed held old_entry.dirty page → Backed held false page_now
-    backed_now was = rw dirty_is was
+    backed_now was =
+        rw dirty_is (λ unchanged. was (ap (λ b. old_entry.dirty || b) (sym (unbacked_settled resident.slot)) ∙ unchanged) ∙ sym (backing_settled held resident.origin.bytes resident.slot))
 
     change : Change held honest pages pages' tables tables' number page_now blank
     change =
@@ -100,7 +102,9 @@ module _ {S : Type 0} where
         record {
           frame = ap frame_seen seen_then ∙ sym (ap frame_seen (seen_resident number small holds resident));
           rights = ap rights_seen seen_then ∙ sym (ap rights_seen (seen_resident number small holds resident));
-          changed = λ was. ap (λ s. is_dirty s (entry_at tables' number)) seen_then ∙ dirty_is ∙ sym (ap (λ s. is_dirty s old_entry) (seen_resident number small holds resident)) ∙ was;
+          changed = λ was.
+              ap (λ s. takes_stores s (entry_at tables' number)) seen_then ∙ ap (λ d. d || is_loose (settled resident.slot)) dirty_is
+              ∙ ap (λ l. old_entry.dirty || l) (loose_settled resident.slot) ∙ sym (ap (λ s. takes_stores s old_entry) (seen_resident number small holds resident)) ∙ was;
         }
 
     -- and everything goes together still, once its translations are doomed
@@ -115,7 +119,7 @@ module _ {S : Type 0} where
     abbrev pub resident_told : IsResident pages number
     resident_told = record { origin = told.page.origin; frame = left_now.frame; slot = left_now.slot; found = told.found ∙ ap Some left_now.was }
 
-    pub changes_told : ChangesPage pages pages' number (record { origin = resident_told.origin; place = Leaving resident_told.frame resident_told.slot mark })
+    pub changes_told : ChangesPage pages pages' number (record { origin = resident_told.origin; place = Leaving resident_told.frame (settled resident_told.slot) mark })
     changes_told = subst (λ p. ChangesPage pages pages' number p) left_now.is told.changes
 
     -- and what the memory holds stays

@@ -29,8 +29,8 @@ module _ {S : Type 0} {held : S → List ℕ} {honest : Type 0} {pages : List (�
   pub holds_lent : Holds held honest (with_value pages place now) tables caches
   holds_lent = subst (λ p. Holds held honest (with_value pages place p) tables caches) (sym now_is) (holds_written number place small holds reached bytes)
 
-  pub bare_lent : KeepsBare pages (with_value pages place now)
-  bare_lent = subst (λ p. KeepsBare pages (with_value pages place p)) (sym now_is) (bare_stays number place small holds reached bytes)
+  pub bare_lent : KeepsBare number pages (with_value pages place now)
+  bare_lent = subst (λ p. KeepsBare number pages (with_value pages place p)) (sym now_is) (bare_stays number place small holds reached bytes)
 
 module _ {S : Type 0} (held : S → List ℕ) (pages : List (ℕ × PageValue S)) (tables : List (List ℕ)) (address place : ℕ) where
   -- and the memory

@@ -14,6 +14,7 @@ pub mod WriteLaws
 pub mod LentLaws
 pub mod HitLaws
 pub mod MovesLaws
+pub mod CleaningLaws
 pub mod CollectingLaws
 pub mod SavingLaws
 pub mod ReturningLaws

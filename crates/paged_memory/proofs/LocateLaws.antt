@@ -34,7 +34,7 @@ module _ {S : Type 0} (pages : List (ℕ × PageValue S)) (access : Access) (num
         by_place origin Fresh none = refl
         by_place origin (Resident frame slot) none = cc
         by_place origin (Leaving frame slot mark) none = refl
-        by_place origin (Saving frame) none = refl
+        by_place origin (Saving frame mark) none = refl
         by_place origin (Away slot) none = refl
         by_place origin Purged none = refl
 
@@ -48,6 +48,6 @@ module _ {S : Type 0} (pages : List (ℕ × PageValue S)) (access : Access) (num
             let same : f.number ≡ frame = cc in
             record { resident = record { origin = origin; frame = f; slot = slot; found = found }; at = at; frame_is = same; rights_is = rights_is; allowed = allowed }
         by_place origin (Leaving f slot mark) found rights_is allowed is = cc
-        by_place origin (Saving f) found rights_is allowed is = cc
+        by_place origin (Saving f mark) found rights_is allowed is = cc
         by_place origin (Away slot) found rights_is allowed is = cc
         by_place origin Purged found rights_is allowed is = cc

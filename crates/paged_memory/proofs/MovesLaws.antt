@@ -7,7 +7,7 @@ use Rattle.page_store.specs.PageValue.{PageValue, frame_of, Backed}
 use Rattle.sv32_table.specs.Entry.{Entry, blank}
 use Rattle.sv32_table.specs.EntryAt.{entry_at}
 use Rattle.tlb_core.specs.declared.translation.Translation.{Translation}
-use Rattle.paged_memory.specs.Seen.{Standing, Elsewhere, entry_seen, entry_standing, frame_seen, rights_seen, is_dirty, is_used}
+use Rattle.paged_memory.specs.Seen.{Standing, Elsewhere, entry_seen, entry_standing, frame_seen, rights_seen, takes_stores, is_used}
 use Rattle.paged_memory.specs.Soundness.{IsMapped}
 use Rattle.paged_memory.specs.Paged.{standing_of, seen_of, page_at, seen_at, Holds, ChangesPage}
 use Rattle.paged_memory.proofs.SoundnessLaws.{Unheld, unheld_elsewhere}
@@ -54,7 +54,7 @@ module _ {S : Type 0} {held : S → List ℕ} {honest : Type 0} {pages : List (�
   -- a page that stays as it was
   pub holds_same : (pages' : List (ℕ × PageValue S)) (page : PageValue S) → page_at pages number ≡ Some page → ChangesPage pages pages' number page → Holds held honest pages' tables caches
   holds_same pages' page found changes =
-      Holds-held same caches holds (record { frame = ap frame_seen seen_same; rights = ap rights_seen seen_same; changed = λ was. subst (λ s. is_dirty s (entry_at tables number) ≡ true) (sym seen_same) was }) (λ was. subst (λ s. is_used s (entry_at tables number) ≡ true) (sym seen_same) was)
+      Holds-held same caches holds (record { frame = ap frame_seen seen_same; rights = ap rights_seen seen_same; changed = λ was. subst (λ s. takes_stores s (entry_at tables number) ≡ true) (sym seen_same) was }) (λ was. subst (λ s. is_used s (entry_at tables number) ≡ true) (sym seen_same) was)
     where
       seen_same : seen_at pages' number ≡ seen_at pages number
       seen_same = ap (option_map seen_of) (changes.pages number ∙ choice_here number (Some page) (page_at pages number) ∙ sym found)

@@ -13,9 +13,9 @@ use Rattle.sv32_table.specs.Entry.{Entry}
 use Rattle.sv32_table.specs.EntryAt.{entry_at, has_table, ChangesEntry}
 use Rattle.tlb_core.specs.declared.translation.Translation.{Translation}
 use Rattle.tlb_core.specs.Cache.{doomed, doomed_entry}
-use Rattle.paged_memory.specs.Seen.{is_used}
+use Rattle.paged_memory.specs.Seen.{frame_seen, rights_seen, is_used}
 use Rattle.paged_memory.specs.Soundness.{IsMapped}
-use Rattle.paged_memory.proofs.SoundnessLaws.{ChangesAt, Unheld, Stays, changed_unheld, changed_held, changed_doomed}
+use Rattle.paged_memory.proofs.SoundnessLaws.{ChangesAt, Unheld, Unmarked, Stays, changed_unheld, changed_held, changed_unmarked, changed_doomed}
 use Rattle.paged_memory.specs.Calls.{ChangesBy}
 use Rattle.paged_memory.specs.Paged.{seen_of, page_at, seen_at, flat_page, flat_pages, ArePlaced, Holds, ChangesPage}
 
@@ -153,6 +153,16 @@ module _ {S : Type 0} {held : S → List ℕ} {honest : Type 0} {pages pages' : 
   Holds-held caches holds stays used =
       record {
         agree = changed_held _ changes_there mapped_here caches holds.agree stays used;
+        tabled = tabled_still holds.tabled;
+        placed = placed_still caches holds.placed;
+        backed = backed_still holds.backed;
+      }
+
+  -- a page changes and keeps its frame, and none of its translations has the dirty mark
+  pub Holds-unmarked : (caches : List (List Translation)) → Holds held honest pages tables caches → Unmarked number caches → frame_seen (seen_at pages' number) ≡ frame_seen (seen_at pages number) → rights_seen (seen_at pages' number) ≡ rights_seen (seen_at pages number) → (is_used (seen_at pages number) (entry_at tables number) ≡ true → is_used (seen_at pages' number) (entry_at tables' number) ≡ true) → Holds held honest pages' tables' caches
+  Holds-unmarked caches holds unmarked frame rights used =
+      record {
+        agree = changed_unmarked _ changes_there mapped_here caches holds.agree unmarked frame rights used;
         tabled = tabled_still holds.tabled;
         placed = placed_still caches holds.placed;
         backed = backed_still holds.backed;

@@ -37,12 +37,12 @@ module _ {S : Type 0} (held : S → List ℕ) (honest : Type 0) where
     away_still Fresh state away new at = absurd away
     away_still (Resident frame slot) state away new at = absurd away
     away_still (Leaving frame slot mark) state away new at = absurd away
-    away_still (Saving frame) state away new at = absurd away
+    away_still (Saving frame mark) state away new at = absurd away
     away_still Purged state away new at = absurd away
     away_still (Away slot) state away Fresh at = let clash = ap page_state_of at in cc
     away_still (Away slot) state away (Resident frame kept) at = let clash = ap page_state_of at in cc
     away_still (Away slot) state away (Leaving frame kept mark) at = let clash = ap page_state_of at in cc
-    away_still (Away slot) state away (Saving frame) at = let clash = ap page_state_of at in cc
+    away_still (Away slot) state away (Saving frame mark) at = let clash = ap page_state_of at in cc
     away_still (Away slot) state away (Away after) at = tt
     away_still (Away slot) state away Purged at = let clash = ap page_state_of at in cc
 
@@ -54,7 +54,7 @@ module _ {S : Type 0} (held : S → List ℕ) (honest : Type 0) where
         by_place Fresh here = pages_same (at_hand (λ away. subst (λ p. IfAway p (λ _. Unit {0})) here away))
         by_place (Resident frame slot) here = pages_same (at_hand (λ away. subst (λ p. IfAway p (λ _. Unit {0})) here away))
         by_place (Leaving frame slot mark) here = pages_same (at_hand (λ away. subst (λ p. IfAway p (λ _. Unit {0})) here away))
-        by_place (Saving frame) here = pages_same (at_hand (λ away. subst (λ p. IfAway p (λ _. Unit {0})) here away))
+        by_place (Saving frame mark) here = pages_same (at_hand (λ away. subst (λ p. IfAway p (λ _. Unit {0})) here away))
         by_place Purged here = pages_same (at_hand (λ away. subst (λ p. IfAway p (λ _. Unit {0})) here away))
         by_place (Away slot) here =
             changed_by pages number place page page' at is
@@ -74,7 +74,7 @@ module _ {S : Type 0} (held : S → List ℕ) (honest : Type 0) where
         weaker failures' Fresh how = absurd how
         weaker failures' (Resident frame slot) how = absurd how
         weaker failures' (Leaving frame slot mark) how = absurd how
-        weaker failures' (Saving frame) how = absurd how
+        weaker failures' (Saving frame mark) how = absurd how
         weaker failures' (Away slot) how = tt
         weaker failures' Purged how = absurd how
 
@@ -82,7 +82,7 @@ module _ {S : Type 0} (held : S → List ℕ) (honest : Type 0) where
         stays Fresh how = absurd how
         stays (Resident frame slot) how = absurd how
         stays (Leaving frame slot mark) how = absurd how
-        stays (Saving frame) how = absurd how
+        stays (Saving frame mark) how = absurd how
         stays (Away copy) how = weaker (failures copy.slot) page'.place how
         stays Purged how = absurd how
 
@@ -90,7 +90,7 @@ module _ {S : Type 0} (held : S → List ℕ) (honest : Type 0) where
         known Fresh how is_honest = absurd how
         known (Resident frame slot) how is_honest = absurd how
         known (Leaving frame slot mark) how is_honest = absurd how
-        known (Saving frame) how is_honest = absurd how
+        known (Saving frame mark) how is_honest = absurd how
         known (Away slot) how is_honest = is_honest
         known Purged how is_honest = absurd how
 
@@ -104,7 +104,7 @@ module _ {S : Type 0} (held : S → List ℕ) (honest : Type 0) where
       by_place Fresh left = same left
       by_place (Resident frame slot) left = same left
       by_place (Leaving frame slot mark) left = same left
-      by_place (Saving frame) left = same left
+      by_place (Saving frame mark) left = same left
       by_place (Away slot) left = moved left
       by_place Purged left = same left
 
@@ -120,7 +120,7 @@ module _ {S : Type 0} (held : S → List ℕ) (honest : Type 0) where
   all_known Fresh is_honest = tt
   all_known (Resident frame slot) is_honest = tt
   all_known (Leaving frame slot mark) is_honest = tt
-  all_known (Saving frame) is_honest = tt
+  all_known (Saving frame mark) is_honest = tt
   all_known (Away slot) is_honest = is_honest
   all_known Purged is_honest = tt
 

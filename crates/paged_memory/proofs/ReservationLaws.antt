@@ -60,8 +60,8 @@ module _ (lacks : ℕ → Type 0) (memory : Memory) (address : ℕ) (refusal : B
       conditional_refused hart word (refused_by lacks address (memory_with memory.pages address (little_bytes 4 word)) refusal found (refused_from lacks address (number_at 4 address) refusal found is))
 
 -- pages that nothing was written to
-pub bare_itself : {S : Type 0} (pages : List (ℕ × PageValue S)) → KeepsBare pages pages
-bare_itself pages = record { bare = λ page. refl; places = λ page. refl }
+pub bare_itself : {S : Type 0} {number : ℕ} (pages : List (ℕ × PageValue S)) → KeepsBare number pages pages
+bare_itself pages = record { bare = λ page. refl; places = λ page. refl; others = λ page apart. refl }
 
 -- pages that stand for the same
 pub alike : (old new : Pages) (memory : Memory) → new ≡ old → ◌≡◌ {A = Memory} (record memory { pages = new }) (record memory { pages = old })

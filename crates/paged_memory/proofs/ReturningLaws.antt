@@ -1,18 +1,19 @@
 -- A page that is leaving is mapped again.
-use Rattle.std.specs.Prelude.{◌≡◌, ℕ, ◌^◌, ◌<◌, ◌↔◌, Bool, true, false, Some, None, option_map, Result, Ok, Err, IfOk, IsErr, List, refl}
+use Rattle.std.specs.Prelude.{◌≡◌, ℕ, ◌^◌, ◌<◌, ◌↔◌, Bool, true, false, ◌||◌, Some, None, option_map, Result, Ok, Err, IfOk, IsErr, List, refl}
 use Rattle.std.specs.Result.{result_unwrap_or}
 use Rattle.std.proofs.Common.{sym, ap, ◌∙◌, subst}
 use Rattle.std.proofs.lemmas.Option.{same_Some}
 use Rattle.page_memory.specs.Entries.{place_of, value_at}
 use Rattle.page_memory.specs.declared.rights.Rights.{Rights}
 use Rattle.page_store.specs.declared.refusal.NotLeaving.{NotLeaving}
+use Rattle.page_store.specs.Keeping.{is_loose}
 use Rattle.page_store.specs.Moves.{brought_back}
 use Rattle.page_store.specs.PageValue.{PageValue, Place, Fresh, Resident, Leaving, Saving, Away, Purged, Backed}
 use Rattle.sv32_table.specs.Entry.{Entry, page_entry}
 use Rattle.sv32_table.specs.EntryAt.{entry_at, has_table, ChangesEntry, SameTables}
 use Rattle.sv32_table.specs.EntryLaws.{dirty-page_entry}
 use Rattle.tlb_core.specs.declared.translation.Translation.{Translation}
-use Rattle.paged_memory.specs.Seen.{frame_seen, rights_seen, is_dirty, is_used}
+use Rattle.paged_memory.specs.Seen.{frame_seen, rights_seen, takes_stores, is_used}
 use Rattle.paged_memory.specs.Leaving.{is_leaving, is_leaving_place, Returns, ReturnsAs}
 use Rattle.paged_memory.specs.Calls.{ChangesBy}
 use Rattle.paged_memory.specs.Paged.{seen_of, page_at, seen_at, flat_page, flat_pages, Holds, ChangesPage}
@@ -39,7 +40,7 @@ module _ {S : Type 0} where
             is = ap (λ o. record { origin = o; place = page'.place }) origin ∙ ap (λ p. record { origin = page.origin; place = p }) place;
           }
       by_place (Leaving frame slot mark) at is (Err refusal) ok refused = let none = refused.0 refl in cc
-      by_place (Saving frame) at is result ok refused = cc
+      by_place (Saving frame mark) at is result ok refused = cc
       by_place (Away slot) at is result ok refused = cc
       by_place Purged at is result ok refused = cc
 
@@ -105,7 +106,9 @@ module _ {S : Type 0} where
           record {
             frame = ap frame_seen seen_now ∙ sym (ap frame_seen seen_then);
             rights = ap rights_seen seen_now ∙ sym (ap rights_seen seen_then);
-            changed = λ was. ap (λ s. is_dirty s (entry_at tables' number)) seen_now ∙ ap (λ (e : Entry). e.dirty) (entry_at_changed tables tables' entry number small entries) ∙ dirty_is ∙ sym (ap (λ s. is_dirty s (entry_at tables number)) seen_then) ∙ was;
+            changed = λ was.
+                ap (λ s. takes_stores s (entry_at tables' number)) seen_now ∙ ap (λ (e : Entry). e.dirty || is_loose back.slot) (entry_at_changed tables tables' entry number small entries)
+                ∙ ap (λ d. d || is_loose back.slot) dirty_is ∙ sym (ap (λ s. takes_stores s (entry_at tables number)) seen_then) ∙ was;
           }
 
       -- everything goes together still: the translations of it that caches hold are to be dropped

@@ -1,11 +1,11 @@
 -- A save that comes back.
-use Rattle.std.specs.Prelude.{◌≡◌, ℕ, ◌^◌, ◌<◌, true, false, Some, None, Result, Ok, Err, IfOk, IfErr, IsTrue, is_some, List, refl}
-use Rattle.std.proofs.Common.{sym, ap, ◌∙◌, subst}
+use Rattle.std.specs.Prelude.{◌≡◌, ℕ, ◌^◌, ◌<◌, Bool, true, false, ◌||◌, Some, None, Result, Ok, Err, IfOk, IfErr, IsTrue, is_some, List, refl}
+use Rattle.std.proofs.Common.{sym, ap, ◌∙◌, subst, true≢false}
 use Rattle.frame_pool.specs.FrameValue.{FrameValue}
 use Rattle.page_memory.specs.Pages.{Page}
 use Rattle.page_memory.specs.Entries.{place_of, value_at, with_value}
 use Rattle.page_store.specs.JobValue.{SavedValue}
-use Rattle.page_store.specs.declared.state.Keeping.TheVariants.{Unsaved}
+use Rattle.page_store.specs.Keeping.{Unbacked}
 use Rattle.page_store.specs.declared.answer.SaveRefusal.{SaveRefusal}
 use Rattle.page_store.specs.declared.answer.SaveRefusal.TheVariants.{WrongPage, Mismatch, Device}
 use Rattle.page_store.specs.Moves.{IfSaving, RefusesSave, copy_of}
@@ -18,7 +18,25 @@ use Rattle.paged_memory.specs.Paged.{PagedValue, standing_of, flat_pages, Holds}
 use Rattle.paged_memory.proofs.PagedLaws.{page_at-place, page_at-nowhere, changes_at_place, changed_by, memory_stays}
 use Rattle.paged_memory.proofs.MovesLaws.{IsBlank, unheld_page, holds_moved, with_same}
 
+always : (b : Bool) → (b || true) ≡ true
+always true = refl
+always false = refl
+
 module _ {S : Type 0} where
+  record WasSaving (place : Place S) (P : FrameValue → Bool → Type 0) : Type 1 where
+    pub frame : FrameValue
+    pub mark : Bool
+    pub was : place ≡ Saving frame mark
+    pub told : P frame mark
+
+  was_saving : (place : Place S) (P : FrameValue → Bool → Type 0) → IfSaving place P → WasSaving place P
+  was_saving Fresh P h = absurd h
+  was_saving (Resident frame slot) P h = absurd h
+  was_saving (Leaving frame slot mark) P h = absurd h
+  was_saving (Saving frame mark) P h = record { frame = frame; mark = mark; was = refl; told = h }
+  was_saving (Away slot) P h = absurd h
+  was_saving Purged P h = absurd h
+
   -- no page is mapped where the save says
   pub out_nowhere : (process : ℕ) (job : SavedValue S) (pages : List (ℕ × PageValue S)) → place_of job.vpn pages ≡ None → IsOut process job pages → ⊥
   out_nowhere process job pages none out = subst IsSaving (page_at-nowhere pages job.vpn none) out.1.1
@@ -29,7 +47,7 @@ module _ {S : Type 0} where
 
     -- what a page's answer to a save says of all pages
     pub freed_there : (result : Result FrameValue (SaveRefusal S)) → job.process ≡ process → job.vpn < 2 ^ 20
-        → IfOk result (λ frame. (page.place ≡ Saving frame) × (page'.place ≡ Away (copy_of job)) × (frame.bytes ≡ job.copy) × IsTrue job.passed)
+        → IfOk result (λ frame. IfSaving page.place (λ saved _. saved ≡ frame) × (page'.place ≡ Away (copy_of job)) × (frame.bytes ≡ job.copy) × IsTrue job.passed)
         → IfOk result (λ frame. ChangesSaved process job (Frees job frame) pages (with_value pages place page'))
     freed_there (Err refusal) its small freed = freed
     freed_there (Ok frame) its small freed = (
@@ -37,13 +55,17 @@ module _ {S : Type 0} where
       (
         small,
         changed_by pages job.vpn place page page' at value (record {
-          was = freed.0;
+          mark = saving.mark;
+          was = saving.was ∙ ap (λ f. Saving f saving.mark) saving.told;
           is = ap (λ o. record { origin = o; place = page'.place }) origin ∙ ap (λ p. record { origin = page.origin; place = p }) freed.1;
           same = freed.2;
           passed = freed.3;
         }),
       ),
     )
+      where
+        saving : WasSaving page.place (λ saved _. saved ≡ frame)
+        saving = was_saving page.place (λ saved _. saved ≡ frame) freed.0
 
     pub refused_there : (result : Result FrameValue (SaveRefusal S)) → job.process ≡ process → job.vpn < 2 ^ 20
         → IfErr result (RefusesSave job page.place page'.place)
@@ -65,23 +87,10 @@ module _ {S : Type 0} where
         (ap (λ (o : Page). record { rights = o.rights; bytes = content held page' }) origin ∙ ap (λ b. record { rights = page.origin.rights; bytes = b }) shows)
         (changes_at_place pages job.vpn place page' at)
 
-  record WasSaving (place : Place S) (P : FrameValue → Type 0) : Type 1 where
-    pub frame : FrameValue
-    pub was : place ≡ Saving frame
-    pub told : P frame
-
-  was_saving : (place : Place S) (P : FrameValue → Type 0) → IfSaving place P → WasSaving place P
-  was_saving Fresh P h = absurd h
-  was_saving (Resident frame slot) P h = absurd h
-  was_saving (Leaving frame slot mark) P h = absurd h
-  was_saving (Saving frame) P h = record { frame = frame; was = refl; told = h }
-  was_saving (Away slot) P h = absurd h
-  was_saving Purged P h = absurd h
-
   module _ {held : S → List ℕ} {honest : Type 0} {pages pages' : List (ℕ × PageValue S)} {tables : List (List ℕ)} {caches : List (List Translation)} (holds : Holds held honest pages tables caches) (process : ℕ) (job : SavedValue S) where
     -- a page that was being saved becomes one with no entry, which its backing equals or which counts as changed
-    moves : {by : PageValue S → PageValue S → Type 0} (number : ℕ) → number < 2 ^ 20 → (told : ChangesBy by pages pages' number) (frame : FrameValue) (place : Place S) → told.page.place ≡ Saving frame → told.page'.place ≡ place → told.page'.origin ≡ told.page.origin → IsBlank (standing_of place) → BackedAt held told.page'.origin.bytes false place → Holds held honest pages' tables caches
-    moves number small told frame place was is origin blank backed =
+    moves : {by : PageValue S → PageValue S → Type 0} (number : ℕ) → number < 2 ^ 20 → (told : ChangesBy by pages pages' number) (frame : FrameValue) (mark : Bool) (place : Place S) → told.page.place ≡ Saving frame mark → told.page'.place ≡ place → told.page'.origin ≡ told.page.origin → IsBlank (standing_of place) → BackedAt held told.page'.origin.bytes false place → Holds held honest pages' tables caches
+    moves number small told frame mark place was is origin blank backed =
         holds_moved number small holds pages' told.page told.page' told.found told.changes origin
         (subst (λ p. IsBlank (standing_of p)) (sym was) (λ r a d. refl))
         (subst (λ p. IsBlank (standing_of p)) (sym is) blank)
@@ -92,16 +101,16 @@ module _ {S : Type 0} where
     pub holds_saved : (result : Result FrameValue (SaveRefusal S)) → IfOk result (λ frame. ChangesSaved process job (Frees job frame) pages pages') → IfErr result (RefusesSaved process job pages pages') → Holds held honest pages' tables caches
     holds_saved (Ok frame) ok err =
         let told = ok.1.1 in
-        moves job.vpn ok.1.0 told frame (Away (copy_of job)) told.how.was (ap (λ (p : PageValue S). p.place) told.how.is) (ap (λ (p : PageValue S). p.origin) told.how.is) (λ r a d. refl) (λ h. refl)
+        moves job.vpn ok.1.0 told frame told.how.mark (Away (copy_of job)) told.how.was (ap (λ (p : PageValue S). p.place) told.how.is) (ap (λ (p : PageValue S). p.origin) told.how.is) (λ r a d. refl) (λ h. refl)
     holds_saved (Err (WrongPage back)) ok err = subst (λ p. Holds held honest p tables caches) (sym err.1.0) holds
     holds_saved (Err Mismatch) ok err =
         let told = err.1.1 in
         let out = was_saving told.page.place _ told.how.1 in
-        moves job.vpn err.1.0 told out.frame (Leaving out.frame (Unsaved job.slot) true) out.was out.told.1 told.how.0 (λ r a d. refl) (λ h. cc)
+        moves job.vpn err.1.0 told out.frame out.mark (Leaving out.frame (Unbacked (Some job.slot)) out.mark) out.was out.told.1 told.how.0 (λ r a d. refl) (λ h. absurd (true≢false (sym (always out.mark) ∙ h)))
     holds_saved (Err Device) ok err =
         let told = err.1.1 in
         let out = was_saving told.page.place _ told.how.1 in
-        moves job.vpn err.1.0 told out.frame (Leaving out.frame (Unsaved job.slot) true) out.was out.told.2 told.how.0 (λ r a d. refl) (λ h. cc)
+        moves job.vpn err.1.0 told out.frame out.mark (Leaving out.frame (Unbacked (Some job.slot)) out.mark) out.was out.told.2 told.how.0 (λ r a d. refl) (λ h. absurd (true≢false (sym (always out.mark) ∙ h)))
 
 -- what is told of its parts is the relation of the whole memory
 pub saved_away : {S E : Type 0} (old new : PagedValue S) (job : SavedValue S) (result : Result FrameValue E) → OnlyPages old new

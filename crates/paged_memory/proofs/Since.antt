@@ -11,19 +11,18 @@ use Rattle.sv32_table.specs.EntryAt.{entry_at}
 use Rattle.tlb_core.specs.declared.translation.Translation.{Translation}
 use Rattle.paged_memory.specs.Access.{KeepsBare, MarksUse, cache_of}
 use Rattle.paged_memory.specs.HartMemory.{InTurn, MarksSince}
-use Rattle.paged_memory.specs.HartMemoryLaws.{seen_bare}
+use Rattle.paged_memory.specs.HartMemoryLaws.{seen_bare, served_before}
 use Rattle.paged_memory.specs.Paged.{PagedValue, page_at, seen_at, seen_of}
 use Rattle.paged_memory.specs.Seen.{is_used}
-use Rattle.paged_memory.proofs.HitLaws.{doomed_found}
 
 -- what is seen of a page does not rest on its frame's bytes
-pub seen_written : {S : Type 0} (old new : List (ℕ × PageValue S)) → KeepsBare old new → (page : ℕ) → seen_at new page ≡ seen_at old page
-seen_written old new kept page = sym (seen_bare (page_at new page)) ∙ ap (option_map seen_of) (kept.bare page) ∙ seen_bare (page_at old page)
+pub seen_written : {S : Type 0} {number : ℕ} (old new : List (ℕ × PageValue S)) → KeepsBare number old new → (page : ℕ) → seen_at new page ≡ seen_at old page
+seen_written {S} {number} old new kept page = sym (seen_bare (page_at new page)) ∙ ap (option_map seen_of) (kept.bare page) ∙ seen_bare (page_at old page)
 
 module _ {S : Type 0} (hart : ℕ) (opening : List Translation) (access : Access) (old new : PagedValue S) (turn : InTurn hart opening old) (seen : (page : ℕ) → seen_at new.pages page ≡ seen_at old.pages page) where
   marks : (page : ℕ) → page < 2 ^ 20 → MarksUse old.pages new.tables (cache_of old.caches hart) access page → MarksSince new opening page
   marks page small (inl used) = (small, inl (ap (λ s. is_used s (entry_at new.tables page)) (seen page) ∙ used))
-  marks page small (inr served) = (small, inr (turn.doomed page (doomed_found page (cache_of old.caches hart) served.hits.entry served.hits.found served.doomed)))
+  marks page small (inr served) = (small, inr (served_before page (cache_of old.caches hart) opening turn.doomed (record { access = access; served = served })))
 
   pub answers_since : {A : Type 0} (has lacks : ℕ → Type 0) (address : ℕ) (expected : Result A MemoryFault) (result : Result A BusError) → page_number address < 2 ^ 20
       → Answers has (MarksUse old.pages new.tables (cache_of old.caches hart) access) lacks address expected result → Answers has (MarksSince new opening) lacks address expected result

@@ -5,7 +5,7 @@ use Rattle.std.proofs.lemmas.List.Elements.{All-map, All-weaker}
 use Rattle.sv32_table.specs.Entry.{Entry}
 use Rattle.tlb_core.specs.declared.translation.Translation.{Translation}
 use Rattle.tlb_core.specs.Cache.{doomed_entry, doomed}
-use Rattle.paged_memory.specs.Seen.{Seen, frame_seen, rights_seen, is_dirty, is_used}
+use Rattle.paged_memory.specs.Seen.{Seen, frame_seen, rights_seen, takes_stores, is_used}
 use Rattle.paged_memory.specs.Soundness.{IsMapped, IsSound, Agree}
 
 -- pages and entries are what they were, but for one page's
@@ -26,7 +26,7 @@ Unheld page caches = All (λ cache. All (λ t. t.page ≢ page) cache) caches
 pub record Stays (seen seen' : Option Seen) (e e' : Entry) : Type 0 where
   pub frame : frame_seen seen' ≡ frame_seen seen
   pub rights : rights_seen seen' ≡ rights_seen seen
-  pub changed : is_dirty seen e ≡ true → is_dirty seen' e' ≡ true
+  pub changed : takes_stores seen e ≡ true → takes_stores seen' e' ≡ true
 
 or_true : (b : Bool) → (b || true) ≡ true
 or_true true = refl
@@ -54,6 +54,21 @@ module _ {seen seen' : Option Seen} {e e' : Entry} (stays : Stays seen seen' e e
             let is : (t.page == page) ≡ true = eq-eqb t.page page at in
             absurd (true≢false (sym (ap (λ b. t.doomed || b) is ∙ or_true t.doomed) ∙ undoomed));
       }
+
+-- no cache holds a translation of the page with the dirty mark
+abbrev pub Unmarked : ℕ → List (List Translation) → Type 0
+Unmarked page caches = All (λ cache. All (λ t. t.page ≡ page → t.dirty ≡ false) cache) caches
+
+-- one without the dirty mark is sound whether stores may reach the page or not
+sound_unmarked : {seen seen' : Option Seen} {e e' : Entry} (t : Translation) → frame_seen seen' ≡ frame_seen seen → rights_seen seen' ≡ rights_seen seen → (is_used seen e ≡ true → is_used seen' e' ≡ true) → t.dirty ≡ false → IsSound seen e t → IsSound seen' e' t
+sound_unmarked t frame rights used unmarked sound =
+    record {
+      small = sound.small;
+      frame = frame ∙ sound.frame;
+      rights = rights ∙ sound.rights;
+      changed = λ dirty. absurd (true≢false (sym dirty ∙ unmarked));
+      used = λ undoomed. used (sound.used undoomed);
+    }
 
 -- of a page that it is not of, a doomed translation is as before
 doomed_other : (page : ℕ) (t : Translation) → (t.page == page) ≡ false → doomed_entry page t ≡ t
@@ -100,6 +115,21 @@ module _ {pages pages' : ℕ → Option Seen} {entries entries' : ℕ → Entry}
       still t sound =
           elim (t.page == page) as (λ b. (t.page == page) ≡ b → IsSound (pages' t.page) (entries' t.page) t) [
             | true ↦ λ e. let at : t.page ≡ page = eqb-true t.page page e in sound_there t at (sound_still stays t used (sound_here t at sound))
+            | false ↦ λ e. sound_other t e sound
+          ] refl
+
+  -- a page keeps its frame, and none of its translations has the dirty mark
+  pub changed_unmarked : (caches : List (List Translation)) → Agree pages entries caches → Unmarked page caches → frame_seen (pages' page) ≡ frame_seen (pages page) → rights_seen (pages' page) ≡ rights_seen (pages page) → (is_used (pages page) (entries page) ≡ true → is_used (pages' page) (entries' page) ≡ true) → Agree pages' entries' caches
+  changed_unmarked caches agree unmarked frame rights used =
+      record {
+        mapped = mapped_still agree.mapped;
+        cached = λ k d in_caches j c in_cache. still _ (unmarked k d in_caches j c in_cache) (agree.cached k d in_caches j c in_cache);
+      }
+    where
+      still : (t : Translation) → (t.page ≡ page → t.dirty ≡ false) → IsSound (pages t.page) (entries t.page) t → IsSound (pages' t.page) (entries' t.page) t
+      still t clear sound =
+          elim (t.page == page) as (λ b. (t.page == page) ≡ b → IsSound (pages' t.page) (entries' t.page) t) [
+            | true ↦ λ e. let at : t.page ≡ page = eqb-true t.page page e in sound_there t at (sound_unmarked t frame rights used (clear at) (sound_here t at sound))
             | false ↦ λ e. sound_other t e sound
           ] refl
 

@@ -1,9 +1,7 @@
 -- A hart walks the tables for a resident page, and caches the translation.
 use Rattle.std.specs.Prelude.{◌≡◌, ◌≢◌, ℕ, ◌^◌, ◌<◌, ◌==◌, Bool, true, false, ◌||◌, ◌&&◌, cond, Option, Some, None, option_and_then, is_some, List, [], ◌∷◌, All, length, slice_set, slice_index_or, refl}
 use Rattle.std.proofs.Common.{sym, ap, ◌∙◌, subst, inl, inr, eqb-true, eq-eqb, true≢false}
-use Rattle.std.specs.List.{list_any}
 use Rattle.std.proofs.lemmas.List.{get_or-set_same, get_or-set_other, length-set}
-use Rattle.std.proofs.lemmas.List.Folds.{list_any_none}
 use Rattle.std.proofs.lemmas.List.Elements.{All-nil, All-cons, All-get_or, All-set}
 use Rattle.frame_pool.specs.FrameValue.{FrameValue}
 use Rattle.page_memory.specs.Pages.{Page}
@@ -12,18 +10,20 @@ use Rattle.page_memory.specs.declared.words.Access.TheVariants.{Fetch, Load, Sto
 use Rattle.page_memory.specs.declared.rights.Rights.{Rights}
 use Rattle.page_memory.specs.Rights.{may}
 use Rattle.page_memory.specs.Entries.{place_of, value_at}
-use Rattle.page_store.specs.declared.state.Keeping.{Keeping}
+use Rattle.page_store.specs.Keeping.{Keeping, is_loose}
 use Rattle.page_store.specs.PageValue.{PageValue, Resident, Backed}
 use Rattle.sv32_table.specs.Entry.{Entry, page_entry}
 use Rattle.sv32_table.specs.EntryAt.{entry_at, ChangesEntry, SameTables, walked_entry, dirty_of}
 use Rattle.sv32_table.specs.EntryLaws.{is_store, walked_entry-page_entry, dirty_of-page_entry, dirty-page_entry, accessed-page_entry}
 use Rattle.tlb_core.specs.declared.translation.Translation.{Translation}
-use Rattle.tlb_core.specs.Cache.{Hits, filled, translation_of, is_of_page}
+use Rattle.tlb_core.specs.Cache.{Hits, OnePerPage, filled, translation_of}
 use Rattle.tlb_core.specs.CacheLaws.{All-filled, All-none, hits_filled, none-All}
-use Rattle.paged_memory.specs.Seen.{Seen, frame_seen, rights_seen, is_dirty, is_used}
+use Rattle.paged_memory.specs.Seen.{Seen, frame_seen, rights_seen, is_dirty, takes_stores, is_used}
 use Rattle.paged_memory.specs.Soundness.{IsSound}
 use Rattle.paged_memory.specs.Calls.{IsResident}
-use Rattle.paged_memory.specs.Access.{cache_of, is_resident, is_doomed, HasPage, Reaches, Locates, KeepsTranslations}
+use Rattle.paged_memory.specs.Access.{cache_of, is_resident, HasPage, Reaches, Locates, KeepsTranslations}
+use Rattle.paged_memory.specs.OwnCache.{MayFill}
+use Rattle.paged_memory.specs.OwnCacheLaws.{goes_filled}
 use Rattle.paged_memory.specs.Paged.{page_at, seen_at, Holds}
 use Rattle.paged_memory.proofs.PagedLaws.{Change, choice_other, changes_no_page, Holds-held}
 use Rattle.paged_memory.proofs.CallLaws.{entry_at_changed, entry_resident, seen_resident, readable_resident, mapped_resident}
@@ -33,18 +33,20 @@ backed_raised : {S : Type 0} (held : S → List ℕ) (origin : Page) (frame : Fr
 backed_raised held origin frame slot true dirty was = λ unchanged. cc
 backed_raised held origin frame slot false dirty was = was
 
+other_test : (q number : ℕ) → q ≢ number → (q == number) ≡ false
+other_test q number other = by_test (q == number) refl
+  where
+    by_test : (b : Bool) → (q == number) ≡ b → b ≡ false
+    by_test true is = absurd (other (eqb-true q number is))
+    by_test false is = refl
+
 or_more : (more dirty : Bool) → dirty ≡ true → (more || dirty) ≡ true
 or_more true dirty is = refl
 or_more false dirty is = is
 
--- no element passes the test
-none_passes : {A : Type 0} (p : A → Bool) (xs : List A) → list_any p xs ≡ false → All (λ x. p x ≡ false) xs
-none_passes p [] none = All-nil _
-none_passes {A} p (x ∷ xs) none = first (p x) refl none (none_passes p xs)
-  where
-    first : (b : Bool) → p x ≡ b → (b || list_any p xs) ≡ false → (list_any p xs ≡ false → All (λ x. p x ≡ false) xs) → All (λ x. p x ≡ false) (x ∷ xs)
-    first true is none later = cc
-    first false is none later = All-cons (λ x. p x ≡ false) x xs is (later none)
+or_more_or : (more dirty loose : Bool) → (dirty || loose) ≡ true → ((more || dirty) || loose) ≡ true
+or_more_or true dirty loose is = refl
+or_more_or false dirty loose is = is
 
 module _ {S : Type 0} {held : S → List ℕ} {honest : Type 0} {pages : List (ℕ × PageValue S)} where
   -- a translation is put into a hart's cache
@@ -105,12 +107,17 @@ module _ {S : Type 0} {held : S → List ℕ} {honest : Type 0} {pages : List (�
         ap (λ s. is_dirty s (entry_at tables' number)) (seen_resident number small holds resident) ∙ dirty_now
         ∙ or_more (is_store access) old_entry.dirty (sym (ap (λ s. is_dirty s old_entry) (seen_resident number small holds resident)) ∙ was)
 
+    pub takes_on : takes_stores (seen_at pages number) old_entry ≡ true → takes_stores (seen_at pages number) (entry_at tables' number) ≡ true
+    takes_on was =
+        ap (λ s. takes_stores s (entry_at tables' number)) (seen_resident number small holds resident) ∙ ap (λ d. d || is_loose resident.slot) dirty_now
+        ∙ or_more_or (is_store access) old_entry.dirty (is_loose resident.slot) (sym (ap (λ s. takes_stores s old_entry) (seen_resident number small holds resident)) ∙ was)
+
     -- its use is marked
     pub used_now : is_used (seen_at pages number) (entry_at tables' number) ≡ true
     used_now = ap (λ s. is_used s (entry_at tables' number)) (seen_resident number small holds resident) ∙ accessed_now
 
     pub holds_walked : Holds held honest pages tables' caches
-    holds_walked = Holds-held change caches holds (record { frame = refl; rights = refl; changed = changed_on }) (λ _. used_now)
+    holds_walked = Holds-held change caches holds (record { frame = refl; rights = refl; changed = takes_on }) (λ _. used_now)
 
     -- the translation that the walk gives
     abbrev pub translation : ℕ → Translation
@@ -125,7 +132,7 @@ module _ {S : Type 0} {held : S → List ℕ} {honest : Type 0} {pages : List (�
           small = small;
           frame = ap frame_seen (seen_resident number small holds resident);
           rights = ap rights_seen (seen_resident number small holds resident);
-          changed = λ dirty. ap (λ s. is_dirty s (entry_at tables' number)) (seen_resident number small holds resident) ∙ dirty_now ∙ sym told_dirty ∙ dirty;
+          changed = λ dirty. ap (λ s. takes_stores s (entry_at tables' number)) (seen_resident number small holds resident) ∙ ap (λ d. d || is_loose resident.slot) (dirty_now ∙ sym told_dirty ∙ dirty);
           used = λ _. used_now;
         }
 
@@ -162,44 +169,50 @@ module _ {S : Type 0} {held : S → List ℕ} {honest : Type 0} {pages : List (�
               let gone = none-All q _ (All-filled (λ t. t.page ≢ q) (translation place) (cache_of caches hart) apart (All-none q (cache_of caches hart) was)) in
               absurd (true≢false (sym now ∙ ap is_some gone))
 
-      -- no translation is to be dropped that was not
-      doomed_before : (q : ℕ) → is_doomed q (cache_of cached hart) ≡ true → is_doomed q (cache_of caches hart) ≡ true
-      doomed_before q now = by_cache (is_doomed q (cache_of caches hart)) refl
-        where
-          asked : Translation → Bool
-          asked t = is_of_page q t && t.doomed
+      -- the walk fills the page's translation, and changes no other page's entry
+      fills_walked : OnePerPage (cache_of caches hart) → MayFill number tables tables' (cache_of caches hart) (cache_of cached hart)
+      fills_walked apart = inr (record {
+        entry = translation place;
+        page_is = refl;
+        live = refl;
+        dirty = refl;
+        rest = λ q in_range other. entries q in_range ∙ choice_other q number (walked_entry (entry_at tables number) access) (entry_at tables q) (other_test q number other);
+        apart = apart;
+        is = cache_now;
+      })
 
-          fresh : (b : Bool) → (b && false) ≡ false
-          fresh true = refl
-          fresh false = refl
-
-          by_cache : (b : Bool) → is_doomed q (cache_of caches hart) ≡ b → b ≡ true
-          by_cache true was = refl
-          by_cache false was =
-              let none = list_any_none (λ t. is_of_page q t && t.doomed) _ (All-filled (λ t. (is_of_page q t && t.doomed) ≡ false) (translation place) (cache_of caches hart) (fresh (is_of_page q (translation place))) (none_passes (λ t. is_of_page q t && t.doomed) (cache_of caches hart) was)) in
-              absurd (true≢false (sym (ap (is_doomed q) (sym cache_now) ∙ now) ∙ none))
-
-      pub keeps_walked : KeepsTranslations pages hart tables tables' caches cached
-      keeps_walked =
+      pub keeps_walked : OnePerPage (cache_of caches hart) → KeepsTranslations pages hart number tables tables' caches cached
+      keeps_walked apart =
           record {
             harts = length-set caches hart (filled (translation place) (slice_index_or caches hart []));
             others = λ h apart. get_or-set_other caches hart h (filled (translation place) (slice_index_or caches hart [])) [] apart;
             used = rises is_used (λ _. used_now);
             changed = rises is_dirty changed_on;
             held = held_before;
-            doomed = doomed_before;
+            doomed = (goes_filled number tables tables' (cache_of caches hart) (cache_of cached hart) (fills_walked apart)).doomed;
+            tabled = same;
+            fills = fills_walked apart;
           }
 
 -- a hart whose access changes nothing
-pub keeps_nothing : {S : Type 0} (pages : List (ℕ × PageValue S)) (hart : ℕ) (tables : List (List ℕ)) (caches : List (List Translation)) → KeepsTranslations pages hart tables tables caches caches
-keeps_nothing pages hart tables caches = record { harts = refl; others = λ h apart. refl; used = λ q small is. is; changed = λ q small is. is; held = λ q is. inr is; doomed = λ q is. is }
+pub keeps_nothing : {S : Type 0} (pages : List (ℕ × PageValue S)) (hart number : ℕ) (tables : List (List ℕ)) (caches : List (List Translation)) → KeepsTranslations pages hart number tables tables caches caches
+keeps_nothing pages hart number tables caches = record {
+  harts = refl;
+  others = λ h apart. refl;
+  used = λ q small is. is;
+  changed = λ q small is. is;
+  held = λ q is. inr is;
+  doomed = λ q t found is. found;
+  tabled = λ q small. refl;
+  fills = inl (refl, refl);
+}
 
 -- what a walk comes to
 pub record Walked {S : Type 0} (held : S → List ℕ) (honest : Type 0) (pages : List (ℕ × PageValue S)) (tables tables' : List (List ℕ)) (caches caches' : List (List Translation)) (hart : ℕ) (access : Access) (number place : ℕ) : Type 0 where
   pub holds : Holds held honest pages tables' caches'
   pub reaches : Reaches pages tables' access number place
   pub hits : Hits (cache_of caches' hart) access number place
-  pub kept : KeepsTranslations pages hart tables tables' caches caches'
+  pub kept : KeepsTranslations pages hart number tables tables' caches caches'
   pub used : is_used (seen_at pages number) (entry_at tables' number) ≡ true
 
 store_told : (access : Access) → access ≡ Store → is_store access ≡ true
@@ -212,11 +225,11 @@ true_more true dirty is = refl
 true_more false dirty is = cc
 
 pub walk_done : {S : Type 0} {held : S → List ℕ} {honest : Type 0} {pages : List (ℕ × PageValue S)} {tables : List (List ℕ)} {caches : List (List Translation)} (tables' : List (List ℕ)) (caches' : List (List Translation)) (number hart place frame : ℕ) (rights : Rights) (dirty : Bool) (access : Access) → number < 2 ^ 20 → hart < length caches → Holds held honest pages tables caches → Locates pages access number place frame rights
-    → ChangesEntry tables tables' number (walked_entry (entry_at tables number) access) → SameTables tables tables' → dirty ≡ dirty_of (entry_at tables' number)
+    → ChangesEntry tables tables' number (walked_entry (entry_at tables number) access) → SameTables tables tables' → dirty ≡ dirty_of (entry_at tables' number) → OnePerPage (cache_of caches hart)
     → caches' ≡ slice_set caches hart (filled (record { page = number; place = place; frame = frame; rights = rights; dirty = dirty; doomed = false }) (slice_index_or caches hart []))
     → Walked held honest pages tables tables' caches caches' hart access number place
 unfolding page_at
-walk_done {S} {held} {honest} {pages} {tables} {caches} tables' caches' number hart place frame rights dirty access small within holds at entries same told filled_is =
+walk_done {S} {held} {honest} {pages} {tables} {caches} tables' caches' number hart place frame rights dirty access small within holds at entries same told apart filled_is =
     record {
       holds = subst (λ cs. Holds held honest pages tables' cs) (sym caches_are) (holds_cached tables' number small holds at.resident access at.allowed entries same place hart within at.at);
       reaches = record {
@@ -225,13 +238,13 @@ walk_done {S} {held} {honest} {pages} {tables} {caches} tables' caches' number h
         value = sym (ap (option_and_then (λ k. value_at k pages)) at.at) ∙ at.resident.found;
         allowed = at.allowed;
         framed = refl;
-        changed = λ is. dirty_now tables' number small holds at.resident access at.allowed entries same ∙ true_more (is_store access) (entry_at tables number).dirty (store_told access is);
+        changed = λ is. ap (λ d. d || is_loose at.resident.slot) (dirty_now tables' number small holds at.resident access at.allowed entries same ∙ true_more (is_store access) (entry_at tables number).dirty (store_told access is));
       };
       hits = subst (λ cs. Hits (cache_of cs hart) access number place) (sym caches_are)
           (subst (λ c. Hits c access number place) (sym (cache_now tables' number small holds at.resident access at.allowed entries same place hart within))
           (hits_filled access (translation tables' number small holds at.resident access at.allowed entries same place) (cache_of caches hart) at.allowed
           (λ is. told_dirty tables' number small holds at.resident access at.allowed entries same ∙ true_more (is_store access) (entry_at tables number).dirty (store_told access is))));
-      kept = subst (λ cs. KeepsTranslations pages hart tables tables' caches cs) (sym caches_are) (keeps_walked tables' number small holds at.resident access at.allowed entries same place hart within);
+      kept = subst (λ cs. KeepsTranslations pages hart number tables tables' caches cs) (sym caches_are) (keeps_walked tables' number small holds at.resident access at.allowed entries same place hart within apart);
       used = used_now tables' number small holds at.resident access at.allowed entries same;
     }
   where

@@ -15,17 +15,17 @@ use Rattle.page_memory.specs.declared.words.Access.TheVariants.{Store}
 use Rattle.page_memory.specs.Entries.{with_value}
 use Rattle.page_memory.specs.EntriesLaws.{place_of-with_value}
 use Rattle.page_memory.specs.StandsForLaws.{stored-changed, copied-changed}
-use Rattle.page_store.specs.PageValue.{PageValue, Place, Fresh, Resident, Leaving, Saving, Away, Purged, content, shown, writable, frame_of, slot_of, Backed, changed, is_unsaved}
+use Rattle.page_store.specs.PageValue.{PageValue, Place, Fresh, Resident, Leaving, Saving, Away, Purged, content, shown, writable, frame_of, Backed, changed}
 use Rattle.page_store.specs.Lending.{rewritten, with_bytes}
 use Rattle.sv32_table.specs.Entry.{Entry}
 use Rattle.sv32_table.specs.EntryAt.{entry_at}
 use Rattle.tlb_core.specs.declared.translation.Translation.{Translation}
-use Rattle.paged_memory.specs.Seen.{frame_seen, rights_seen, is_dirty, is_used}
+use Rattle.paged_memory.specs.Seen.{frame_seen, rights_seen, takes_stores, is_used}
 use Rattle.paged_memory.specs.Soundness.{IsMapped}
 use Rattle.paged_memory.specs.Access.{Reaches, KeepsBare, bare_at}
 use Rattle.paged_memory.specs.Paged.{standing_of, seen_of, page_at, seen_at, flat_page, flat_pages, Holds, ChangesPage}
 use Rattle.paged_memory.specs.HartMemoryLaws.{seen_bare}
-use Rattle.paged_memory.specs.SeenLaws.{changed_as}
+use Rattle.paged_memory.specs.SeenLaws.{stores_changed}
 use Rattle.paged_memory.proofs.ReadLaws.{usable_reached}
 use Rattle.paged_memory.proofs.PagedLaws.{Change, get-page_at, page_at-place, changes_at_place, changes_no_entry, Holds-held}
 
@@ -35,7 +35,7 @@ module _ {S : Type 0} where
   standing_rewritten Fresh bytes = refl
   standing_rewritten (Resident frame slot) bytes = refl
   standing_rewritten (Leaving frame slot mark) bytes = refl
-  standing_rewritten (Saving frame) bytes = refl
+  standing_rewritten (Saving frame mark) bytes = refl
   standing_rewritten (Away slot) bytes = refl
   standing_rewritten Purged bytes = refl
 
@@ -43,7 +43,7 @@ module _ {S : Type 0} where
   bare_rewritten Fresh bytes = refl
   bare_rewritten (Resident frame slot) bytes = refl
   bare_rewritten (Leaving frame slot mark) bytes = refl
-  bare_rewritten (Saving frame) bytes = refl
+  bare_rewritten (Saving frame mark) bytes = refl
   bare_rewritten (Away slot) bytes = refl
   bare_rewritten Purged bytes = refl
 
@@ -51,7 +51,7 @@ module _ {S : Type 0} where
   framed_rewritten Fresh bytes = refl
   framed_rewritten (Resident frame slot) bytes = refl
   framed_rewritten (Leaving frame slot mark) bytes = refl
-  framed_rewritten (Saving frame) bytes = refl
+  framed_rewritten (Saving frame mark) bytes = refl
   framed_rewritten (Away slot) bytes = refl
   framed_rewritten Purged bytes = refl
 
@@ -59,7 +59,7 @@ module _ {S : Type 0} where
   shown_rewritten held origin Fresh bytes is = cc
   shown_rewritten held origin (Resident frame slot) bytes is = refl
   shown_rewritten held origin (Leaving frame slot mark) bytes is = refl
-  shown_rewritten held origin (Saving frame) bytes is = cc
+  shown_rewritten held origin (Saving frame mark) bytes is = cc
   shown_rewritten held origin (Away slot) bytes is = cc
   shown_rewritten held origin Purged bytes is = cc
 
@@ -67,15 +67,14 @@ module _ {S : Type 0} where
   changed_rewritten dirty Fresh bytes = refl
   changed_rewritten dirty (Resident frame slot) bytes = refl
   changed_rewritten dirty (Leaving frame slot mark) bytes = refl
-  changed_rewritten dirty (Saving frame) bytes = refl
+  changed_rewritten dirty (Saving frame mark) bytes = refl
   changed_rewritten dirty (Away slot) bytes = refl
   changed_rewritten dirty Purged bytes = refl
 
-  -- a page that is marked as dirty may be written
-  backed_rewritten : (held : S → List ℕ) (page : PageValue S) (e : Entry) (bytes : List ℕ) → is_some (writable page.place) ≡ true → is_dirty (Some (seen_of page)) e ≡ true → Backed held e.dirty (with_bytes page bytes)
-  backed_rewritten held page e bytes is dirty unchanged =
-      let clash : true ≡ false =
-      sym (ap (λ b. b || is_unsaved (slot_of page.place)) dirty) ∙ sym (changed_as page e is) ∙ sym (changed_rewritten e.dirty page.place bytes) ∙ unchanged in
+  -- a page that takes stores may be written
+  backed_rewritten : (held : S → List ℕ) (page : PageValue S) (e : Entry) (bytes : List ℕ) → is_some (writable page.place) ≡ true → takes_stores (Some (seen_of page)) e ≡ true → Backed held e.dirty (with_bytes page bytes)
+  backed_rewritten held page e bytes is takes unchanged =
+      let clash : true ≡ false = sym (stores_changed page e takes) ∙ sym (changed_rewritten e.dirty page.place bytes) ∙ unchanged in
       cc
 
   module _ {held : S → List ℕ} {honest : Type 0} {pages : List (ℕ × PageValue S)} {tables : List (List ℕ)} {caches : List (List Translation)} (number place : ℕ) (small : number < 2 ^ 20) (holds : Holds held honest pages tables caches) (reached : Reaches pages tables Store number place) (bytes : List ℕ) where
@@ -95,11 +94,12 @@ module _ {S : Type 0} where
     seen_same = ap (λ s. record { rights = reached.page.origin.rights; standing = s }) (standing_rewritten reached.page.place bytes)
         -- all but the bytes in the frame stays
 
-    pub bare_stays : KeepsBare pages pages_now
+    pub bare_stays : KeepsBare number pages pages_now
     bare_stays =
         record {
           bare = λ q. ap (option_map (λ p. with_bytes p [])) (changes.pages q) ∙ choose q (q == number) refl;
           places = λ q. place_of-with_value pages place q written;
+          others = λ q apart. changes.pages q ∙ ap (λ b. cond b (Some written) (page_at pages q)) (ne_eqb q number apart);
         }
       where
         choose : (q : ℕ) (b : Bool) → (q == number) ≡ b → option_map (λ p. with_bytes p []) (cond b (Some written) (page_at pages q)) ≡ bare_at pages q
@@ -126,7 +126,7 @@ module _ {S : Type 0} where
     pub holds_written : Holds held honest pages_now tables caches
     holds_written =
         Holds-held change caches holds
-        (record { frame = ap frame_seen (seen_stays number); rights = ap rights_seen (seen_stays number); changed = λ was. ap (λ s. is_dirty s (entry_at tables number)) (seen_stays number) ∙ was })
+        (record { frame = ap frame_seen (seen_stays number); rights = ap rights_seen (seen_stays number); changed = λ was. ap (λ s. takes_stores s (entry_at tables number)) (seen_stays number) ∙ was })
         (λ was. ap (λ s. is_used s (entry_at tables number)) (seen_stays number) ∙ was)
 
   -- the memory that is left by a store, and by a copy

@@ -1,10 +1,10 @@
 -- What an access of a hart does to a process's memory as a whole, by its answer.
-use Rattle.std.specs.Prelude.{◌≡◌, ℕ, ◌^◌, ◌<◌, Result, OnErr}
+use Rattle.std.specs.Prelude.{◌≡◌, ℕ, ◌^◌, ◌<◌, Result, OnOk, OnErr}
 use Rattle.page_memory.specs.declared.fault.MemoryFault.{MemoryFault}
 use Rattle.page_memory.specs.declared.words.Access.{Access}
 use Rattle.rv_exec.specs.declared.bus.BusError.{BusError}
 use Rattle.rv_exec.specs.Answers.{Answers}
-use Rattle.paged_memory.specs.Access.{HasPage, LacksPage, MarksUse, KeepsBare, KeepsTranslations, MayWalk, ServesHeld, cache_of}
+use Rattle.paged_memory.specs.Access.{HasPage, LacksPage, MarksUse, KeepsBare, KeepsTranslations, MayWalk, ServesHeld, TakesStores, cache_of}
 use Rattle.paged_memory.specs.Paged.{PagedValue}
 
 module _ {S : Type 0} where
@@ -14,16 +14,17 @@ module _ {S : Type 0} where
       Answers (HasPage old.pages (cache_of old.caches hart)) (MarksUse old.pages new.tables (cache_of old.caches hart) access) (LacksPage old.pages) address expected result
 
   -- of an access to a page, whatever it does there: pages stay but for the bytes in their frames; the page is never absent to
-  -- a hart whose cache shows it for the access; of the tables a walk changes the page's entry, or nothing changes, as where
-  -- the access is refused
+  -- a hart whose cache shows it for the access; of the tables a walk changes the page's entry, and fills its translation with D as
+  -- it is then, or nothing changes, as where the access is refused
   pub record Accesses {A : Type 0} (hart : ℕ) (access : Access) (page : ℕ) (result : Result A BusError) (old new : PagedValue S) : Type 0 where
     pub small : page < 2 ^ 20
     pub process : new.process ≡ old.process
-    pub bare : KeepsBare old.pages new.pages
+    pub bare : KeepsBare page old.pages new.pages
     pub held : ServesHeld (cache_of old.caches hart) access page result
-    pub kept : KeepsTranslations old.pages hart old.tables new.tables old.caches new.caches
+    pub kept : KeepsTranslations old.pages hart page old.tables new.tables old.caches new.caches
     pub entries : MayWalk access page old.tables new.tables
     pub unmarked : OnErr result (new.tables ≡ old.tables)
+    pub unfilled : OnErr result (new.caches ≡ old.caches)
 
   -- of one that reads: all pages and reservations stay
   pub record Reads {A : Type 0} (hart : ℕ) (access : Access) (page : ℕ) (result : Result A BusError) (old new : PagedValue S) : Type 0 where
@@ -37,8 +38,10 @@ module _ {S : Type 0} where
     pub pages : new.pages ≡ old.pages
     pub reserved : OnErr result (new.reserved ≡ old.reserved)
 
-  -- of one that writes: where it is refused, all pages and reservations stay
+  -- of one that writes: where it is answered, the page takes stores, whatever the bytes are; where it is refused, all pages and
+  -- reservations stay
   pub record Writes {A : Type 0} (hart : ℕ) (access : Access) (page : ℕ) (result : Result A BusError) (old new : PagedValue S) : Type 0 where
     pub accesses : Accesses hart access page result old new
+    pub takes : OnOk result (TakesStores old.pages new.tables page)
     pub pages : OnErr result (new.pages ≡ old.pages)
     pub reserved : OnErr result (new.reserved ≡ old.reserved)

@@ -107,7 +107,7 @@ module _ {S : Type 0} where
   same_resident Fresh = refl
   same_resident (Resident frame slot) = refl
   same_resident (Leaving frame slot mark) = refl
-  same_resident (Saving frame) = refl
+  same_resident (Saving frame mark) = refl
   same_resident (Away slot) = refl
   same_resident Purged = refl
 
@@ -115,7 +115,7 @@ module _ {S : Type 0} where
   same_saving Fresh = refl
   same_saving (Resident frame slot) = refl
   same_saving (Leaving frame slot mark) = refl
-  same_saving (Saving frame) = refl
+  same_saving (Saving frame mark) = refl
   same_saving (Away slot) = refl
   same_saving Purged = refl
 
@@ -123,7 +123,7 @@ module _ {S : Type 0} where
   same_number test Fresh = refl
   same_number test (Resident frame slot) = refl
   same_number test (Leaving frame slot mark) = refl
-  same_number test (Saving frame) = refl
+  same_number test (Saving frame mark) = refl
   same_number test (Away slot) = refl
   same_number test Purged = refl
 
@@ -131,7 +131,7 @@ module _ {S : Type 0} where
   same_kept Fresh = refl
   same_kept (Resident frame slot) = refl
   same_kept (Leaving frame slot mark) = refl
-  same_kept (Saving frame) = refl
+  same_kept (Saving frame mark) = refl
   same_kept (Away slot) = refl
   same_kept Purged = refl
 
@@ -142,12 +142,12 @@ module _ {S : Type 0} where
       whole place = ap (λ o. record { origin = o; place = page'.place }) (ap (λ (p : PageValue S). p.origin) same) ∙ ap (λ p. record { origin = page.origin; place = p }) place
 
       by_places : (place place' : Place S) → page.place ≡ place → page'.place ≡ place' → is_saving_place place ≡ true → rewritten [] page'.place ≡ rewritten [] page.place → page' ≡ page
-      by_places (Saving frame) (Saving frame') at at' is placed = whole (at' ∙ sym (ap (rewritten []) at') ∙ placed ∙ ap (rewritten []) at ∙ sym at)
-      by_places (Saving frame) Fresh at at' is placed = let e : ◌≡◌ {A = Place S} Fresh (Saving frame) = sym (ap (rewritten []) at') ∙ placed ∙ ap (rewritten []) at in cc
-      by_places (Saving frame) (Resident f k) at at' is placed = let e : ◌≡◌ {A = Place S} (rewritten [] (Resident f k)) (Saving frame) = sym (ap (rewritten []) at') ∙ placed ∙ ap (rewritten []) at in cc
-      by_places (Saving frame) (Leaving f k m) at at' is placed = let e : ◌≡◌ {A = Place S} (rewritten [] (Leaving f k m)) (Saving frame) = sym (ap (rewritten []) at') ∙ placed ∙ ap (rewritten []) at in cc
-      by_places (Saving frame) (Away c) at at' is placed = let e : ◌≡◌ {A = Place S} (Away c) (Saving frame) = sym (ap (rewritten []) at') ∙ placed ∙ ap (rewritten []) at in cc
-      by_places (Saving frame) Purged at at' is placed = let e : ◌≡◌ {A = Place S} Purged (Saving frame) = sym (ap (rewritten []) at') ∙ placed ∙ ap (rewritten []) at in cc
+      by_places (Saving frame mark) (Saving frame' mark') at at' is placed = whole (at' ∙ sym (ap (rewritten []) at') ∙ placed ∙ ap (rewritten []) at ∙ sym at)
+      by_places (Saving frame mark) Fresh at at' is placed = let e : ◌≡◌ {A = Place S} Fresh (Saving frame mark) = sym (ap (rewritten []) at') ∙ placed ∙ ap (rewritten []) at in cc
+      by_places (Saving frame mark) (Resident f k) at at' is placed = let e : ◌≡◌ {A = Place S} (rewritten [] (Resident f k)) (Saving frame mark) = sym (ap (rewritten []) at') ∙ placed ∙ ap (rewritten []) at in cc
+      by_places (Saving frame mark) (Leaving f k m) at at' is placed = let e : ◌≡◌ {A = Place S} (rewritten [] (Leaving f k m)) (Saving frame mark) = sym (ap (rewritten []) at') ∙ placed ∙ ap (rewritten []) at in cc
+      by_places (Saving frame mark) (Away c) at at' is placed = let e : ◌≡◌ {A = Place S} (Away c) (Saving frame mark) = sym (ap (rewritten []) at') ∙ placed ∙ ap (rewritten []) at in cc
+      by_places (Saving frame mark) Purged at at' is placed = let e : ◌≡◌ {A = Place S} Purged (Saving frame mark) = sym (ap (rewritten []) at') ∙ placed ∙ ap (rewritten []) at in cc
       by_places Fresh place' at at' is placed = cc
       by_places (Resident f k) place' at at' is placed = cc
       by_places (Leaving f k m) place' at at' is placed = cc

@@ -44,7 +44,7 @@ module _ {S : Type 0} where
   frame_stage Fresh = refl
   frame_stage (Resident frame slot) = refl
   frame_stage (Leaving frame slot mark) = refl
-  frame_stage (Saving frame) = refl
+  frame_stage (Saving frame mark) = refl
   frame_stage (Away slot) = refl
   frame_stage Purged = refl
 
@@ -145,7 +145,7 @@ module _ {S : Type 0} where
   resident_framed Fresh h = cc
   resident_framed (Resident frame slot) h = refl
   resident_framed (Leaving frame slot mark) h = cc
-  resident_framed (Saving frame) h = cc
+  resident_framed (Saving frame mark) h = cc
   resident_framed (Away slot) h = cc
   resident_framed Purged h = cc
 
@@ -153,7 +153,7 @@ module _ {S : Type 0} where
   saving_framed Fresh h = cc
   saving_framed (Resident frame slot) h = cc
   saving_framed (Leaving frame slot mark) h = cc
-  saving_framed (Saving frame) h = refl
+  saving_framed (Saving frame mark) h = refl
   saving_framed (Away slot) h = cc
   saving_framed Purged h = cc
 

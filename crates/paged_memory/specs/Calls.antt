@@ -2,7 +2,7 @@
 use Rattle.std.specs.Prelude.{◌≡◌, ℕ, Bool, List, Option, Some, None, Err}
 use Rattle.frame_pool.specs.FrameValue.{FrameValue}
 use Rattle.page_memory.specs.Pages.{Page}
-use Rattle.page_store.specs.declared.state.Keeping.{Keeping}
+use Rattle.page_store.specs.Keeping.{Keeping, settled}
 use Rattle.page_store.specs.PageValue.{PageValue}
 use Rattle.page_store.specs.PageValue as place
 use Rattle.sv32_table.specs.Entry.{Entry}
@@ -14,8 +14,8 @@ use Rattle.paged_memory.specs.Paged.{page_at, ChangesPage}
 
 -- whether a page's A is set, if it is resident
 abbrev pub accessed_standing : Standing → Entry → Option Bool
-accessed_standing (Resident frame) e = Some e.accessed
-accessed_standing (Leaving frame mark) e = None
+accessed_standing (Resident frame loose) e = Some e.accessed
+accessed_standing (Leaving frame mark loose) e = None
 accessed_standing Elsewhere e = None
 
 abbrev pub accessed_at : Option Seen → Entry → Option Bool
@@ -38,9 +38,9 @@ module _ {S : Type 0} where
     pub changes : ChangesPage old new number page'
     pub how : by page page'
 
-  -- a resident page begins to leave its frame, with the mark whether it counts as changed
+  -- a resident page begins to leave its frame, with the dirty bit of its entry; a cleaning that has no copy ends
   abbrev pub Leaves : Bool → PageValue S → PageValue S → Type 0
-  Leaves mark page page' = IfResident page.place (λ frame slot. page' ≡ record page { place = place.Leaving frame slot mark })
+  Leaves mark page page' = IfResident page.place (λ frame slot. page' ≡ record page { place = place.Leaving frame (settled slot) mark })
 
   -- why a page does not
   abbrev pub RefusesLeave : Option (PageValue S) → LeaveRefusal → Type 0

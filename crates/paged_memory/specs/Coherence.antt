@@ -18,8 +18,8 @@ use Rattle.paged_memory.specs.Paged.{seen_at}
 -- where a walk is to lead for an address: into the frame of a resident page that has the right, at the same offset; for every
 -- other page it is a page fault
 abbrev pub led_standing : Access → ℕ → Rights → Standing → Result ℕ WalkFault
-led_standing access address rights (Resident frame) = if may access rights then Ok (frame * 0x1000 + address % 0x1000) else Err PageFault
-led_standing access address rights (Leaving frame mark) = Err PageFault
+led_standing access address rights (Resident frame loose) = if may access rights then Ok (frame * 0x1000 + address % 0x1000) else Err PageFault
+led_standing access address rights (Leaving frame mark loose) = Err PageFault
 led_standing access address rights Elsewhere = Err PageFault
 
 abbrev pub led : Access → ℕ → Option Seen → Result ℕ WalkFault

@@ -4,8 +4,8 @@ use Rattle.frame_pool.specs.FrameValue.{FrameValue}
 use Rattle.page_memory.specs.Words.{page_number}
 use Rattle.page_store.specs.Moves.{IfAbsent, IfAway, IfResident, IfSaved}
 use Rattle.page_store.specs.PageValue.{PageValue, Place, Fresh, Resident, Leaving, Saving, Away, Purged, frame_of, slot_of, page_state_of}
-use Rattle.page_store.specs.declared.state.Keeping.{Keeping}
-use Rattle.page_store.specs.declared.state.Keeping.TheVariants.{NoSlot, Unsaved, Saved}
+use Rattle.page_store.specs.Keeping.{Keeping}
+use Rattle.page_store.specs.Keeping.{NoSlot, Saved, Unbacked, Cleaning, CopyOut}
 use Rattle.page_store.specs.declared.state.PageState.{PageState}
 use Rattle.page_store.specs.declared.state.PageState.TheVariants as stage
 use Rattle.paged_memory.specs.AlikeLaws.{SavingsStay, CountsAlike, same_pages}
@@ -70,7 +70,7 @@ module _ {S : Type 0} where
   }
   arrived frame origin (Resident f s) (Resident filled slot) how = absurd how.1
   arrived frame origin (Leaving f s m) (Resident filled slot) how = absurd how.1
-  arrived frame origin (Saving f) (Resident filled slot) how = absurd how.1
+  arrived frame origin (Saving f mark) (Resident filled slot) how = absurd how.1
   arrived frame origin (Away s) (Resident filled slot) how = record {
     was = refl;
     is = refl;
@@ -85,11 +85,13 @@ module _ {S : Type 0} where
     where
       still : (slot : Keeping S) → IfSaved slot (λ _. Unit {0}) → is_kept slot ≡ true
       still NoSlot h = absurd h
-      still (Unsaved s) h = absurd h
       still (Saved s) h = refl
+      still (Unbacked s) h = absurd h
+      still (Cleaning s) h = absurd h
+      still CopyOut h = absurd h
   arrived frame origin Purged (Resident filled slot) how = absurd how.1
   arrived frame origin old (Leaving f s m) how = absurd how
-  arrived frame origin old (Saving f) how = absurd how
+  arrived frame origin old (Saving f mark) how = absurd how
   arrived frame origin old (Away s) how = absurd how
   arrived frame origin old Purged how = absurd how
 
@@ -155,11 +157,11 @@ module _ {S : Type 0} where
     }
     still_absent (Resident f s) new how = absurd how
     still_absent (Leaving f s m) new how = absurd how
-    still_absent (Saving f) new how = absurd how
+    still_absent (Saving f mark) new how = absurd how
     still_absent (Away s) Fresh how = absurd how
     still_absent (Away s) (Resident f k) how = absurd how
     still_absent (Away s) (Leaving f k m) how = absurd how
-    still_absent (Away s) (Saving f) how = absurd how
+    still_absent (Away s) (Saving f mark) how = absurd how
     still_absent (Away s) (Away t) how = record { resident = refl; saving = refl; unsaved = refl; there = refl; frame = refl; slot = refl }
     still_absent (Away s) Purged how = absurd how
     still_absent Purged new how = absurd how
@@ -205,7 +207,7 @@ module _ {S : Type 0} where
           by_place Fresh left = same_pages old new process left
           by_place (Resident frame kept) left = same_pages old new process left
           by_place (Leaving frame kept mark) left = same_pages old new process left
-          by_place (Saving frame) left = same_pages old new process left
+          by_place (Saving frame mark) left = same_pages old new process left
           by_place (Away slot) left = absent_alike left
           by_place Purged left = same_pages old new process left
 

@@ -1,9 +1,8 @@
 -- How many of a process's pages pass a test, such as being resident, or holding one of some frames.
-use Rattle.std.specs.Prelude.{ℕ, zero, suc, ◌+◌, ◌^◌, Bool, true, false, ◌&&◌, cond, Option, Some, None, List}
+use Rattle.std.specs.Prelude.{ℕ, zero, suc, ◌+◌, ◌^◌, Bool, true, false, ◌&&◌, cond, Option, Some, None, is_some, List}
 use Rattle.frame_pool.specs.FrameValue.{FrameValue}
-use Rattle.page_store.specs.declared.state.Keeping.{Keeping}
-use Rattle.page_store.specs.declared.state.Keeping.TheVariants.{NoSlot, Unsaved, Saved}
-use Rattle.page_store.specs.PageValue.{PageValue, Place, page_state_of, frame_of, slot_of}
+use Rattle.page_store.specs.Keeping.{Keeping, NoSlot, Saved, Unbacked, Cleaning, CopyOut}
+use Rattle.page_store.specs.PageValue.{PageValue, Place, page_state_of, frame_of, slot_of, is_out}
 use Rattle.paged_memory.specs.Paged.{page_at}
 use Rattle.paged_memory.specs.Stages.{is_resident_stage, is_saving_stage}
 
@@ -34,8 +33,10 @@ module _ {S : Type 0} where
 
   abbrev pub is_kept : Keeping S → Bool
   is_kept NoSlot = false
-  is_kept (Unsaved slot) = true
-  is_kept (Saved slot) = true
+  is_kept (Saved copy) = true
+  is_kept (Unbacked slot) = is_some slot
+  is_kept (Cleaning slot) = is_some slot
+  is_kept CopyOut = false
 
   -- the resident pages whose numbers pass
   abbrev pub residents_of : List (ℕ × PageValue S) → (ℕ → Bool) → ℕ
@@ -44,6 +45,10 @@ module _ {S : Type 0} where
   -- the pages that are being saved, whose numbers pass
   abbrev pub savings_of : List (ℕ × PageValue S) → (ℕ → Bool) → ℕ
   savings_of pages test = pages_where (λ number page. is_saving_place page.place && test number) pages
+
+  -- the pages of which bytes are out with a job
+  abbrev pub outs_of : List (ℕ × PageValue S) → ℕ
+  outs_of pages = pages_where (λ number page. is_out page.place) pages
 
   -- the pages that hold a frame whose number passes
   abbrev pub frames_of : List (ℕ × PageValue S) → (ℕ → Bool) → ℕ

@@ -1,5 +1,5 @@
 -- What becomes of the number of pages that pass a test where one page changes.
-use Rattle.std.proofs.Common.{◌≡◌, ℕ, zero, suc, ◌+◌, ◌^◌, ◌<◌, ◌==◌, Bool, true, false, cond, Some, List, arith, refl, ap, ◌∙◌, inl, inr}
+use Rattle.std.proofs.Common.{◌≡◌, ℕ, zero, suc, ◌+◌, ◌^◌, ◌<◌, ◌≤◌, ◌==◌, Bool, true, false, cond, Some, List, arith, refl, sym, ap, ◌∙◌, inl, inr}
 use Rattle.std.specs.Prelude.{◌⊎◌}
 use Rattle.std.proofs.lemmas.Bool.Decides.{eqb_tells}
 use Rattle.page_store.specs.PageValue.{PageValue}
@@ -35,6 +35,30 @@ module _ {S : Type 0} (test : ℕ → PageValue S → Bool) where
   pub none_where_pass : (pages : List (ℕ × PageValue S)) → ((number : ℕ) → number < 2 ^ 20 → passes_at pages number ≡ false) → pages_where test pages ≡ 0
   unfolding pages_where
   none_where_pass pages none = none_below pages (2 ^ 20) none
+
+  some_below : (pages : List (ℕ × PageValue S)) (bound number : ℕ) → number < bound → passes_at pages number ≡ true → 1 ≤ pages_below test pages bound
+  unfolding pages_below
+  some_below pages zero number below is = absurd (omega (arith, below))
+  some_below pages (suc bound) number below is = by_number (eqb_tells number bound) (λ less. some_below pages bound number less is)
+    where
+      by_number : (((number == bound) ≡ true) × (number ≡ bound)) ⊎ (((number == bound) ≡ false) × ((number ≡ bound) → ⊥)) → (number < bound → 1 ≤ pages_below test pages bound) → 1 ≤ pages_below test pages (suc bound)
+      by_number (inl at) more =
+          let here : cond {A = ℕ} (passes_at pages bound) 1 0 ≡ 1 = ap (λ b. cond b 1 0) (ap (passes_at pages) (sym at.1) ∙ is) in
+          omega (arith, here)
+      by_number (inr apart) more = let rest = more (let ne = apart.1 in omega (arith, ne, below)) in omega (arith, rest)
+
+  -- where one passes there is one
+  pub some_where_pass : (pages : List (ℕ × PageValue S)) (number : ℕ) → number < 2 ^ 20 → passes_at pages number ≡ true → 1 ≤ pages_where test pages
+  unfolding pages_where
+  some_where_pass pages number small is = some_below pages (2 ^ 20) number small is
+
+  -- and where there is none, none passes
+  pub no_where_pass : (pages : List (ℕ × PageValue S)) → pages_where test pages ≡ 0 → (number : ℕ) → number < 2 ^ 20 → passes_at pages number ≡ false
+  no_where_pass pages none number small = by_test (passes_at pages number) refl
+    where
+      by_test : (b : Bool) → passes_at pages number ≡ b → passes_at pages number ≡ false
+      by_test true is = let one = some_where_pass pages number small is in absurd (omega (arith, one, none))
+      by_test false is = is
 
   module _ (old new : List (ℕ × PageValue S)) (v : ℕ) (page page' : PageValue S) (found : page_at old v ≡ Some page) (changes : ChangesPage old new v page') where
     other_passes : (number : ℕ) → (number == v) ≡ false → passes_at new number ≡ passes_at old number

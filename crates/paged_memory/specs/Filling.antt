@@ -2,10 +2,10 @@
 use Rattle.std.specs.Prelude.{◌≡◌, ℕ, Bool, false, IsFalse, Option, Some, None, List}
 use Rattle.frame_pool.specs.FrameValue.{FrameValue}
 use Rattle.swap_slots.specs.Slot.{Rose}
-use Rattle.page_store.specs.PageValue.{PageValue, Place, Fresh, Away, content, is_unsaved, Backed, failures_at, kept_digest, Matches}
+use Rattle.page_store.specs.PageValue.{PageValue, Place, Fresh, Away, content, Backed, failures_at, kept_digest, Matches}
 use Rattle.page_store.specs.Moves.{Filled, IfAbsent, IfAway, IfResident}
-use Rattle.page_store.specs.declared.state.Keeping.{Keeping}
-use Rattle.page_store.specs.declared.state.Keeping.TheVariants.{NoSlot, Unsaved, Saved}
+use Rattle.page_store.specs.Keeping.{is_unbacked, Keeping}
+use Rattle.page_store.specs.Keeping.{NoSlot, Saved, Unbacked, Cleaning, CopyOut}
 use Rattle.page_store.specs.declared.refusal.FillFault.{FillFault}
 use Rattle.page_store.specs.declared.refusal.FillFault.TheVariants as fill
 use Rattle.sv32_table.specs.EntryAt.{has_table}
@@ -28,13 +28,15 @@ module _ {S : Type 0} where
 
   -- a resident page that has not changed since it was brought in, as its slot tells
   abbrev pub IsUnchanged : PageValue S → Type 0
-  IsUnchanged page = IfResident page.place (λ frame slot. IsFalse (is_unsaved slot))
+  IsUnchanged page = IfResident page.place (λ frame slot. IsFalse (is_unbacked slot))
 
   -- where a page is that gives up its frame unchanged
   abbrev pub dropped : Keeping S → Option (Place S)
   dropped NoSlot = Some Fresh
-  dropped (Unsaved slot) = None
   dropped (Saved copy) = Some (Away copy)
+  dropped (Unbacked slot) = None
+  dropped (Cleaning slot) = None
+  dropped CopyOut = None
 
   module _ (held : S → List ℕ) (honest : Type 0) where
     -- a page in the frame that it was brought into, from its slot with the digest that was kept: where slots are honest it shows what it showed, and what

@@ -2,12 +2,11 @@
 use Rattle.std.proofs.Common.{◌≡◌, ℕ, ◌+◌, ◌^◌, ◌<◌, ◌==◌, Bool, true, false, ◌&&◌, cond, Option, Some, None, option_map, is_some, inl, inr, refl, sym, ap, ◌∙◌, arith}
 use Rattle.std.specs.Prelude.{◌⊎◌, if◌then◌else◌}
 use Rattle.std.proofs.lemmas.Bool.Decides.{eqb_tells}
+use Rattle.std.proofs.lemmas.Option.{same_Some}
 use Rattle.frame_pool.specs.FrameValue.{FrameValue}
-use Rattle.page_store.specs.Kept.{kept}
-use Rattle.page_store.specs.Moves.{given_back}
-use Rattle.page_store.specs.PageValue.{PageValue, Place, Fresh, Resident, Leaving, Saving, Away, Purged, frame_of, slot_of, page_state_of}
-use Rattle.page_store.specs.declared.state.Keeping.{Keeping}
-use Rattle.page_store.specs.declared.state.Keeping.TheVariants.{NoSlot, Unsaved, Saved}
+use Rattle.page_store.specs.Moves.{given_back, given_framed}
+use Rattle.page_store.specs.PageValue.{PageValue, Place, Fresh, Resident, Leaving, Saving, Away, Purged, frame_of, slot_of, page_state_of, is_out}
+use Rattle.page_store.specs.Keeping.{Keeping, NoSlot, Saved, Unbacked, Cleaning, CopyOut}
 use Rattle.sv32_table.specs.Entry.{blank}
 use Rattle.sv32_table.specs.EntryAt.{entry_at}
 use Rattle.paged_memory.specs.AlikeLaws.{SavingsStay, same_stay}
@@ -15,10 +14,10 @@ use Rattle.paged_memory.specs.Counting.{page_passes, pages_where, is_resident_pl
 use Rattle.paged_memory.specs.CountingLaws.{pages_changed, none_where_pass, same_where_pass}
 use Rattle.paged_memory.specs.GivingBack.{GivesBack, GivesNothing}
 use Rattle.paged_memory.specs.MoveLaws.{moved_stay, moved_savings, moved_frames, moved_slots}
-use Rattle.paged_memory.specs.Moving.{has_to_give, has_to_give_in, place_given, page_given, PageGiven, IsGiven, IsLeft, GivesIn, GivesAll, HasNothingBelow}
+use Rattle.paged_memory.specs.Moving.{has_to_give, has_to_give_in, unless_out, place_given, page_given, PageGiven, IsGiven, IsLeft, GivesIn, GivesAll, HasNothingBelow}
 use Rattle.paged_memory.specs.Paged.{PagedValue, page_at}
 use Rattle.paged_memory.specs.Stages.{is_saving_stage}
-use Rattle.paged_memory.specs.Whole.{stage_in, residents_among, savings_among, frames_among, slots_within}
+use Rattle.paged_memory.specs.Whole.{stage_in, is_out_in, residents_among, savings_among, frames_among, slots_within}
 
 module _ {S : Type 0} where
   -- how many pages have something to give back
@@ -41,26 +40,30 @@ module _ {S : Type 0} where
     pub unsaved : is_saving_place place ≡ false
     pub given_up : place_given place ≡ Purged
 
-  kept_is : (slot : Keeping S) → is_kept slot ≡ is_some (kept slot)
-  kept_is NoSlot = refl
-  kept_is (Unsaved slot) = refl
-  kept_is (Saved slot) = refl
+  -- what is given with a frame
+  record GivesFramed (given : Option FrameValue × Option S) (frame : FrameValue) (slot : Keeping S) : Type 0 where
+    pub frame_is : Some frame ≡ given.0
+    pub slot_is : is_kept slot ≡ is_some given.1
+    pub given_up : (place : Place S) → unless_out slot place ≡ Purged
+
+  gives_framed : (given : Option FrameValue × Option S) (frame : FrameValue) (slot : Keeping S) → given_framed frame slot ≡ Some given → GivesFramed given frame slot
+  gives_framed given frame NoSlot h =
+      let e = same_Some _ _ h in record { frame_is = ap (λ (g : Option FrameValue × Option S). g.0) e; slot_is = ap (λ (g : Option FrameValue × Option S). is_some g.1) e; given_up = λ place. refl }
+  gives_framed given frame (Saved copy) h =
+      let e = same_Some _ _ h in record { frame_is = ap (λ (g : Option FrameValue × Option S). g.0) e; slot_is = ap (λ (g : Option FrameValue × Option S). is_some g.1) e; given_up = λ place. refl }
+  gives_framed given frame (Unbacked own) h =
+      let e = same_Some _ _ h in record { frame_is = ap (λ (g : Option FrameValue × Option S). g.0) e; slot_is = ap (λ (g : Option FrameValue × Option S). is_some g.1) e; given_up = λ place. refl }
+  gives_framed given frame (Cleaning own) h =
+      let e = same_Some _ _ h in record { frame_is = ap (λ (g : Option FrameValue × Option S). g.0) e; slot_is = ap (λ (g : Option FrameValue × Option S). is_some g.1) e; given_up = λ place. refl }
+  gives_framed given frame CopyOut h = cc
 
   gives_at : (given : Option FrameValue × Option S) (place : Place S) → given_back place ≡ Some given → GivesAt given place
   gives_at given Fresh h = cc
-  gives_at given (Resident frame slot) h = record {
-    frame = let e : (Some frame, kept slot) ≡ given = cc in ap (λ (g : Option FrameValue × Option S). g.0) e;
-    slot = let e : (Some frame, kept slot) ≡ given = cc in kept_is slot ∙ ap (λ (g : Option FrameValue × Option S). is_some g.1) e;
-    unsaved = refl;
-    given_up = refl;
-  }
-  gives_at given (Leaving frame slot mark) h = record {
-    frame = let e : (Some frame, kept slot) ≡ given = cc in ap (λ (g : Option FrameValue × Option S). g.0) e;
-    slot = let e : (Some frame, kept slot) ≡ given = cc in kept_is slot ∙ ap (λ (g : Option FrameValue × Option S). is_some g.1) e;
-    unsaved = refl;
-    given_up = refl;
-  }
-  gives_at given (Saving frame) h = cc
+  gives_at given (Resident frame slot) h =
+      let gives = gives_framed given frame slot h in record { frame = gives.frame_is; slot = gives.slot_is; unsaved = refl; given_up = gives.given_up (Resident frame slot) }
+  gives_at given (Leaving frame slot mark) h =
+      let gives = gives_framed given frame slot h in record { frame = gives.frame_is; slot = gives.slot_is; unsaved = refl; given_up = gives.given_up (Leaving frame slot mark) }
+  gives_at given (Saving frame mark) h = cc
   gives_at given (Away copy) h = record {
     frame = let e : ◌≡◌ {A = Option FrameValue × Option S} (None, Some copy.slot) given = cc in ap (λ (g : Option FrameValue × Option S). g.0) e;
     slot = let e : ◌≡◌ {A = Option FrameValue × Option S} (None, Some copy.slot) given = cc in ap (λ (g : Option FrameValue × Option S). is_some g.1) e;
@@ -129,9 +132,17 @@ module _ {S : Type 0} where
 
   twice_place : (place : Place S) → place_given (place_given place) ≡ place_given place
   twice_place Fresh = refl
-  twice_place (Resident frame slot) = refl
-  twice_place (Leaving frame slot mark) = refl
-  twice_place (Saving frame) = refl
+  twice_place (Resident frame NoSlot) = refl
+  twice_place (Resident frame (Saved copy)) = refl
+  twice_place (Resident frame (Unbacked held)) = refl
+  twice_place (Resident frame (Cleaning held)) = refl
+  twice_place (Resident frame CopyOut) = refl
+  twice_place (Leaving frame NoSlot mark) = refl
+  twice_place (Leaving frame (Saved copy) mark) = refl
+  twice_place (Leaving frame (Unbacked held) mark) = refl
+  twice_place (Leaving frame (Cleaning held) mark) = refl
+  twice_place (Leaving frame CopyOut mark) = refl
+  twice_place (Saving frame mark) = refl
   twice_place (Away slot) = refl
   twice_place Purged = refl
 
@@ -162,9 +173,17 @@ module _ {S : Type 0} where
     where
       by_place : (place : Place S) → is_some (given_back place) ≡ false → option_map page_given (Some (at_place page place)) ≡ Some (at_place page place)
       by_place Fresh h = refl
-      by_place (Resident frame slot) h = cc
-      by_place (Leaving frame slot mark) h = cc
-      by_place (Saving frame) h = refl
+      by_place (Resident frame NoSlot) h = cc
+      by_place (Resident frame (Saved copy)) h = cc
+      by_place (Resident frame (Unbacked held)) h = cc
+      by_place (Resident frame (Cleaning held)) h = cc
+      by_place (Resident frame CopyOut) h = refl
+      by_place (Leaving frame NoSlot mark) h = cc
+      by_place (Leaving frame (Saved copy) mark) h = cc
+      by_place (Leaving frame (Unbacked held) mark) h = cc
+      by_place (Leaving frame (Cleaning held) mark) h = cc
+      by_place (Leaving frame CopyOut mark) h = refl
+      by_place (Saving frame mark) h = refl
       by_place (Away slot) h = cc
       by_place Purged h = refl
 
@@ -192,32 +211,40 @@ module _ {S : Type 0} where
 
   -- ---- all pages
 
-  -- a page that gave everything back, and was not being saved, holds nothing
+  -- a page that gave everything back, and of which nothing was out, holds nothing
   record Bare (o : Option (PageValue S)) : Type 0 where
     pub resident : (test : Bool) → page_passes (λ page. is_resident_place page.place && test) (option_map page_given o) ≡ false
     pub frame : (test : ℕ → Bool) → page_passes (λ page. frame_passes test (frame_of page.place)) (option_map page_given o) ≡ false
     pub slot : page_passes (λ page. is_kept (slot_of page.place)) (option_map page_given o) ≡ false
 
-  bare : (o : Option (PageValue S)) → is_saving_stage (option_map (λ (page : PageValue S). page_state_of page.place) o) ≡ false → Bare o
+  bare : (o : Option (PageValue S)) → page_passes (λ (page : PageValue S). is_out page.place) o ≡ false → Bare o
   bare None h = record { resident = λ test. refl; frame = λ test. refl; slot = refl }
   bare (Some page) h = by_place page.place h
     where
-      by_place : (place : Place S) → is_saving_stage (Some (page_state_of place)) ≡ false → Bare (Some (at_place page place))
+      by_place : (place : Place S) → is_out place ≡ false → Bare (Some (at_place page place))
       by_place Fresh h = record { resident = λ test. refl; frame = λ test. refl; slot = refl }
-      by_place (Resident frame slot) h = record { resident = λ test. refl; frame = λ test. refl; slot = refl }
-      by_place (Leaving frame slot mark) h = record { resident = λ test. refl; frame = λ test. refl; slot = refl }
-      by_place (Saving frame) h = cc
+      by_place (Resident frame NoSlot) h = record { resident = λ test. refl; frame = λ test. refl; slot = refl }
+      by_place (Resident frame (Saved copy)) h = record { resident = λ test. refl; frame = λ test. refl; slot = refl }
+      by_place (Resident frame (Unbacked held)) h = record { resident = λ test. refl; frame = λ test. refl; slot = refl }
+      by_place (Resident frame (Cleaning held)) h = record { resident = λ test. refl; frame = λ test. refl; slot = refl }
+      by_place (Resident frame CopyOut) h = cc
+      by_place (Leaving frame NoSlot mark) h = record { resident = λ test. refl; frame = λ test. refl; slot = refl }
+      by_place (Leaving frame (Saved copy) mark) h = record { resident = λ test. refl; frame = λ test. refl; slot = refl }
+      by_place (Leaving frame (Unbacked held) mark) h = record { resident = λ test. refl; frame = λ test. refl; slot = refl }
+      by_place (Leaving frame (Cleaning held) mark) h = record { resident = λ test. refl; frame = λ test. refl; slot = refl }
+      by_place (Leaving frame CopyOut mark) h = cc
+      by_place (Saving frame mark) h = cc
       by_place (Away slot) h = record { resident = λ test. refl; frame = λ test. refl; slot = refl }
       by_place Purged h = record { resident = λ test. refl; frame = λ test. refl; slot = refl }
 
-  -- where no page is being saved, none holds anything
+  -- where nothing of any page is out, none holds anything
   pub record HoldsNothing (memory : PagedValue S) : Type 0 where
     pub residents : (test : ℕ → Bool) → residents_among memory test ≡ 0
     pub frames : (test : ℕ → Bool) → frames_among memory test ≡ 0
     pub slots : slots_within memory ≡ 0
 
   module _ (old new : PagedValue S) (gives : GivesAll old new) where
-    pub bare_all : ((number : ℕ) → number < 2 ^ 20 → is_saving_stage (stage_in old number) ≡ false) → HoldsNothing new
+    pub bare_all : ((number : ℕ) → number < 2 ^ 20 → is_out_in old number ≡ false) → HoldsNothing new
     bare_all quiet = record {
       residents = λ test.
           none_where_pass (λ number page. is_resident_place page.place && test number) new.pages
@@ -237,9 +264,17 @@ module _ {S : Type 0} where
       where
         by_place : (place : Place S) → is_saving_place (place_given place) ≡ is_saving_place place
         by_place Fresh = refl
-        by_place (Resident frame slot) = refl
-        by_place (Leaving frame slot mark) = refl
-        by_place (Saving frame) = refl
+        by_place (Resident frame NoSlot) = refl
+        by_place (Resident frame (Saved copy)) = refl
+        by_place (Resident frame (Unbacked held)) = refl
+        by_place (Resident frame (Cleaning held)) = refl
+        by_place (Resident frame CopyOut) = refl
+        by_place (Leaving frame NoSlot mark) = refl
+        by_place (Leaving frame (Saved copy) mark) = refl
+        by_place (Leaving frame (Unbacked held) mark) = refl
+        by_place (Leaving frame (Cleaning held) mark) = refl
+        by_place (Leaving frame CopyOut mark) = refl
+        by_place (Saving frame mark) = refl
         by_place (Away slot) = refl
         by_place Purged = refl
 
@@ -256,7 +291,7 @@ module _ {S : Type 0} where
         by_place Fresh h = cc
         by_place (Resident frame slot) h = cc
         by_place (Leaving frame slot mark) h = cc
-        by_place (Saving frame) h = refl
+        by_place (Saving frame mark) h = refl
         by_place (Away slot) h = cc
         by_place Purged h = cc
 

@@ -1,12 +1,12 @@
 -- The pages of an ended process give back their frames and slots.
-use Rattle.std.specs.Prelude.{◌≡◌, ℕ, ◌+◌, ◌^◌, ◌<◌, ◌≤◌, Option, Some, None, List}
+use Rattle.std.specs.Prelude.{◌≡◌, ℕ, ◌+◌, ◌^◌, ◌<◌, ◌≤◌, true, Option, Some, None, List}
 use Rattle.frame_pool.specs.FrameValue.{FrameValue}
-use Rattle.page_store.specs.PageValue.{PageValue, Purged}
+use Rattle.page_store.specs.PageValue.{PageValue, Purged, is_out}
 use Rattle.page_store.specs.Moves.{given_back}
 use Rattle.sv32_table.specs.Entry.{blank}
 use Rattle.sv32_table.specs.EntryAt.{ChangesEntry}
 use Rattle.paged_memory.specs.Calls.{ChangesBy}
-use Rattle.paged_memory.specs.Leaving.{IsSaving}
+use Rattle.paged_memory.specs.Counting.{page_passes}
 use Rattle.paged_memory.specs.Paged.{page_at}
 
 module _ {S : Type 0} where
@@ -14,7 +14,7 @@ module _ {S : Type 0} where
   abbrev pub GivesBack : Option FrameValue × Option S → PageValue S → PageValue S → Type 0
   GivesBack given old new = (given_back old.place ≡ Some given) × (new ≡ record old { place = Purged })
 
-  -- there is nothing that a page gives back: it is not mapped, has neither frame nor slot, or is being saved
+  -- there is nothing that a page gives back: it is not mapped, has neither frame nor slot, is being saved, or a copy of it is out
   abbrev pub GivesNothing : Option (PageValue S) → Type 0
   GivesNothing (Some page) = given_back page.place ≡ None
   GivesNothing None = Unit {0}
@@ -34,8 +34,8 @@ module _ {S : Type 0} where
     pub looked : from ≤ number
     pub something : ¬ GivesNothing (page_at pages number)
 
-  -- some page is being saved
+  -- bytes of some page are out with a job: it is being saved, or a copy of it is out
   pub record SavesOne (pages : List (ℕ × PageValue S)) : Type 0 where
     pub number : ℕ
     pub small : number < 2 ^ 20
-    pub saving : IsSaving (page_at pages number)
+    pub out : page_passes (λ page. is_out page.place) (page_at pages number) ≡ true

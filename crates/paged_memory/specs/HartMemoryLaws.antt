@@ -1,17 +1,38 @@
 -- What a hart's accesses keep, over several of them.
 use Rattle.std.specs.Prelude.{◌≡◌, ℕ, ◌⊎◌, true, false, is_some, option_map, Option, Some, None, List, [], length, slice_index_or, refl}
-use Rattle.std.proofs.Common.{sym, ap, ◌∙◌, subst, inl, inr}
+use Rattle.std.proofs.Common.{sym, ap, ◌∙◌, subst, arith, inl, inr}
+use Rattle.std.proofs.lemmas.Bool.Decides.{eqb_tells}
 use Rattle.std.proofs.lemmas.Option.{none-some, same_Some}
 use Rattle.page_store.specs.PageValue.{PageValue, Place, Fresh, Resident, Leaving, Saving, Away, Purged}
 use Rattle.page_store.specs.Lending.{with_bytes, rewritten}
-use Rattle.sv32_table.specs.EntryAt.{entry_at}
+use Rattle.sv32_table.specs.EntryAt.{entry_at, has_table}
 use Rattle.tlb_core.specs.declared.translation.Translation.{Translation}
 use Rattle.tlb_core.specs.Cache.{translation_of}
-use Rattle.paged_memory.specs.Seen.{Seen, is_used, is_dirty}
+use Rattle.paged_memory.specs.Seen.{Seen, is_used, is_dirty, takes_stores}
 use Rattle.paged_memory.specs.Paged.{PagedValue, standing_of, seen_of, page_at, seen_at}
-use Rattle.paged_memory.specs.Access.{HasPage, LacksPage, KeepsBare, KeepsTranslations, is_resident, is_doomed}
+use Rattle.paged_memory.specs.Access.{HasPage, LacksPage, KeepsBare, KeepsTranslations, TakesStores, is_resident}
+use Rattle.paged_memory.specs.CopiesLaws.{copies_itself, copies_on, copies_kept}
+use Rattle.paged_memory.specs.OwnCache.{GoesOn, KeepsDoomed}
+use Rattle.paged_memory.specs.OwnCacheLaws.{goes_itself, goes_on, goes_filled}
 use Rattle.paged_memory.specs.Growth.{fresh_zero_page}
-use Rattle.paged_memory.specs.HartMemory.{KeepsPages, KeepsAccess, MarksSince}
+use Rattle.paged_memory.specs.HartMemory.{InTurn, KeepsPages, KeepsAccess, MarksSince, ServedBefore}
+
+-- what went through a translation that is to be dropped went through the one that was there before
+pub served_before : (page : ℕ) (cache opening : List Translation) → KeepsDoomed opening cache → ServedBefore cache page → ServedBefore opening page
+served_before page cache opening kept before = record {
+  access = before.access;
+  served = record {
+    place = before.served.place;
+    hits = record {
+      entry = before.served.hits.entry;
+      found = kept page before.served.hits.entry before.served.hits.found before.served.doomed;
+      at = before.served.hits.at;
+      allowed = before.served.hits.allowed;
+      dirty = before.served.hits.dirty;
+    };
+    doomed = before.served.doomed;
+  };
+}
 
 module _ {S : Type 0} where
   -- what translation sees of a page does not rest on its frame's bytes
@@ -19,7 +40,7 @@ module _ {S : Type 0} where
   standing_bare Fresh = refl
   standing_bare (Resident frame slot) = refl
   standing_bare (Leaving frame slot mark) = refl
-  standing_bare (Saving frame) = refl
+  standing_bare (Saving frame mark) = refl
   standing_bare (Away slot) = refl
   standing_bare Purged = refl
 
@@ -32,7 +53,7 @@ module _ {S : Type 0} where
   zero_place Fresh is = refl
   zero_place (Resident frame slot) is = cc
   zero_place (Leaving frame slot mark) is = cc
-  zero_place (Saving frame) is = cc
+  zero_place (Saving frame mark) is = cc
   zero_place (Away slot) is = cc
   zero_place Purged is = cc
 
@@ -103,7 +124,9 @@ module _ {S : Type 0} where
     used = λ page small is. is;
     changed = λ page small is. is;
     held = λ page is. inr is;
-    doomed = λ page is. is;
+    tabled = λ page small. refl;
+    goes = goes_itself memory.tables (slice_index_or memory.caches hart []);
+    copies = copies_itself memory;
   }
 
   pub lacked : (old new : List (ℕ × PageValue S)) (page : ℕ) → KeepsPages old new → LacksPage new page → LacksPage old page
@@ -125,7 +148,9 @@ module _ {S : Type 0} where
     used = λ page small is. second.used page small (first.used page small is);
     changed = λ page small is. second.changed page small (first.changed page small is);
     held = λ page is. had hart page old between first (second.held page is);
-    doomed = λ page is. first.doomed page (second.doomed page is);
+    tabled = λ page small. second.tabled page small ∙ first.tabled page small;
+    goes = goes_on old.tables between.tables new.tables (slice_index_or old.caches hart []) (slice_index_or between.caches hart []) (slice_index_or new.caches hart []) first.goes second.goes;
+    copies = copies_on old between new first.copies second.copies;
   }
 
   pub marked : (hart page : ℕ) (opening : List Translation) (old new : PagedValue S) → KeepsAccess hart old new → MarksSince old opening page → MarksSince new opening page
@@ -134,7 +159,7 @@ module _ {S : Type 0} where
 
   -- ---- one access
 
-  written_pages : (old new : List (ℕ × PageValue S)) → KeepsBare old new → KeepsPages old new
+  written_pages : {number : ℕ} (old new : List (ℕ × PageValue S)) → KeepsBare number old new → KeepsPages old new
   written_pages old new kept = record {
     places = λ page place at. kept.places page ∙ at;
     bare = λ page there. kept.bare page;
@@ -142,9 +167,9 @@ module _ {S : Type 0} where
   }
 
   -- one that may write to a page
-  pub access_written : (hart : ℕ) (old new : PagedValue S) → new.process ≡ old.process → KeepsBare old.pages new.pages
-      → KeepsTranslations old.pages hart old.tables new.tables old.caches new.caches → KeepsAccess hart old new
-  access_written hart old new process bare kept =
+  pub access_written : (hart number : ℕ) (old new : PagedValue S) → new.process ≡ old.process → KeepsBare number old.pages new.pages
+      → KeepsTranslations old.pages hart number old.tables new.tables old.caches new.caches → (new.pages ≡ old.pages) ⊎ TakesStores old.pages new.tables number → KeepsAccess hart old new
+  access_written hart number old new process bare kept told =
       let pages = written_pages old.pages new.pages bare in
       record {
         process = process;
@@ -154,15 +179,28 @@ module _ {S : Type 0} where
         used = λ page small is. ap (λ s. is_used s (entry_at new.tables page)) (seen_all page) ∙ kept.used page small is;
         changed = λ page small is. ap (λ s. is_dirty s (entry_at new.tables page)) (seen_all page) ∙ kept.changed page small is;
         held = kept.held;
-        doomed = kept.doomed;
+        tabled = kept.tabled;
+        goes = goes_filled number old.tables new.tables (slice_index_or old.caches hart []) (slice_index_or new.caches hart []) kept.fills;
+        copies = copies_kept old new (λ page there. bare.bare page)
+            (λ page small is. ap (λ s. is_dirty s (entry_at new.tables page)) (seen_all page) ∙ kept.changed page small is)
+            (λ page small there. by_told told page);
       }
     where
+      -- each page is what it was, or takes stores
+      by_told : (new.pages ≡ old.pages) ⊎ TakesStores old.pages new.tables number → (page : ℕ) → (page_at new.pages page ≡ page_at old.pages page) ⊎ (takes_stores (seen_at new.pages page) (entry_at new.tables page) ≡ true)
+      by_told (inl same) page = inl (ap (λ pages. page_at pages page) same)
+      by_told (inr takes) page =
+          elim (eqb_tells page number) [
+            | inl at ↦ inr (ap (λ s. takes_stores s (entry_at new.tables page)) (seen_all page) ∙ ap (λ n. takes_stores (seen_at old.pages n) (entry_at new.tables n)) at.1 ∙ takes)
+            | inr apart ↦ inl (bare.others page apart.1)
+          ]
+
       seen_all : (page : ℕ) → seen_at new.pages page ≡ seen_at old.pages page
       seen_all page = sym (seen_bare (page_at new.pages page)) ∙ ap (option_map seen_of) (bare.bare page) ∙ seen_bare (page_at old.pages page)
 
   -- pages that were mapped
-  pub access_grown : (hart : ℕ) (old new : PagedValue S) → new.process ≡ old.process → KeepsPages old.pages new.pages → new.tables ≡ old.tables → new.caches ≡ old.caches → KeepsAccess hart old new
-  access_grown hart old new process pages tables caches = record {
+  pub access_grown : (hart : ℕ) (old new : PagedValue S) → new.process ≡ old.process → KeepsPages old.pages new.pages → ((page : ℕ) → is_some (page_at old.pages page) ≡ true → page_at new.pages page ≡ page_at old.pages page) → new.tables ≡ old.tables → new.caches ≡ old.caches → KeepsAccess hart old new
+  access_grown hart old new process pages stays tables caches = record {
     process = process;
     pages = pages;
     harts = ap length caches;
@@ -172,5 +210,18 @@ module _ {S : Type 0} where
     changed = λ page small is. ap (λ t. is_dirty (seen_at new.pages page) (entry_at t page)) tables
         ∙ by_seen (λ s s'. is_dirty s (entry_at old.tables page) ≡ true → is_dirty s' (entry_at old.tables page) ≡ true) old.pages new.pages pages page (λ s same. same) (λ no. cc) is;
     held = λ page is. inr (subst (λ c. is_some (translation_of page (slice_index_or c hart [])) ≡ true) caches is);
-    doomed = λ page is. subst (λ c. is_doomed page (slice_index_or c hart []) ≡ true) caches is;
+    tabled = λ page small. ap (λ t. has_table t page) tables;
+    goes = subst (λ t. GoesOn old.tables t (slice_index_or old.caches hart []) (slice_index_or new.caches hart [])) (sym tables)
+        (subst (λ c. GoesOn old.tables old.tables (slice_index_or old.caches hart []) (slice_index_or c hart [])) (sym caches) (goes_itself old.tables (slice_index_or old.caches hart [])));
+    copies = copies_kept old new (λ page there. pages.bare page there)
+        (λ page small is. ap (λ t. is_dirty (seen_at new.pages page) (entry_at t page)) tables
+        ∙ by_seen (λ s s'. is_dirty s (entry_at old.tables page) ≡ true → is_dirty s' (entry_at old.tables page) ≡ true) old.pages new.pages pages page (λ s same. same) (λ no. cc) is)
+        (λ page small there. inl (stays page there));
+  }
+
+  -- a hart's turn goes on over its access
+  pub still_in_turn : (hart number : ℕ) (opening : List Translation) (old new : PagedValue S) → InTurn hart opening old → KeepsTranslations old.pages hart number old.tables new.tables old.caches new.caches → InTurn hart opening new
+  still_in_turn hart number opening old new turn kept = record {
+    started = (let was = turn.started in let same = kept.harts in omega (arith, was, same));
+    doomed = λ page t found is. turn.doomed page t (kept.doomed page t found is) is;
   }

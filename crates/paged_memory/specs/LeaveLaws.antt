@@ -4,15 +4,17 @@ use Rattle.frame_pool.specs.FrameValue.{FrameValue}
 use Rattle.page_store.specs.Moves.{IfResident}
 use Rattle.page_store.specs.PageValue.{PageValue, Place, Fresh, Resident, Leaving, Saving, Away, Purged, page_state_of}
 use Rattle.page_store.specs.declared.refusal.LeaveRefusal.{LeaveRefusal}
-use Rattle.page_store.specs.declared.state.Keeping.{Keeping}
+use Rattle.page_store.specs.Keeping.{Keeping, NoSlot, Saved, Unbacked, Cleaning, CopyOut, settled}
 use Rattle.page_store.specs.declared.state.PageState.TheVariants as stage
 use Rattle.sv32_table.specs.EntryAt.{entry_at, dirty_of}
 use Rattle.paged_memory.specs.AlikeLaws.{SavingsStay, CountsAlike, same_pages}
+use Rattle.paged_memory.specs.Counting.{is_kept}
 use Rattle.paged_memory.specs.Calls.{Leaves, RefusesLeave, accessed_at}
 use Rattle.paged_memory.specs.Leaving.{Returns}
 use Rattle.paged_memory.specs.MoveLaws.{KeepsOthers, moved_keeps, stage_before, stage_after, frame_before, frame_after, slot_before, slot_after, moved_stay, moved_residents, moved_savings, moved_frames, moved_slots}
 use Rattle.paged_memory.specs.Moving.{ForgetsUse, BeginsToLeave, DoesNotLeave, MapsAgain, SamePage, slot_in}
 use Rattle.paged_memory.specs.Paged.{PagedValue, page_at, seen_of}
+use Rattle.paged_memory.specs.SeenLaws.{kept_settled}
 use Rattle.paged_memory.specs.Stages.{is_resident_stage}
 use Rattle.paged_memory.specs.Whole.{stage_in, frame_in, accessed_in, residents_among, savings_among, frames_among, slots_within}
 
@@ -34,7 +36,7 @@ module _ {S : Type 0} where
       by_place page Fresh = refl
       by_place page (Resident frame slot) = refl
       by_place page (Leaving frame slot mark) = refl
-      by_place page (Saving frame) = refl
+      by_place page (Saving frame mark) = refl
       by_place page (Away slot) = refl
       by_place page Purged = refl
 
@@ -52,7 +54,7 @@ module _ {S : Type 0} where
       by_place page Fresh is h = cc
       by_place page (Resident frame slot) is h = let g = h true in cc
       by_place page (Leaving frame slot mark) is h = cc
-      by_place page (Saving frame) is h = cc
+      by_place page (Saving frame mark) is h = cc
       by_place page (Away slot) is h = cc
       by_place page Purged is h = cc
 
@@ -73,20 +75,27 @@ module _ {S : Type 0} where
     pub slots : slots_within new ≡ slots_within old
     pub stay : SavingsStay old new
 
+  slotted_settled : (slot : Keeping S) → is_kept (settled slot) ≡ is_kept slot
+  slotted_settled NoSlot = refl
+  slotted_settled (Saved copy) = refl
+  slotted_settled (Unbacked own) = refl
+  slotted_settled (Cleaning own) = refl
+  slotted_settled CopyOut = refl
+
   record Left (mark : Bool) (page page' : PageValue S) : Type 0 where
     pub frame : FrameValue
     pub slot : Keeping S
     pub was : page.place ≡ Resident frame slot
-    pub is : page' ≡ record page { place = Leaving frame slot mark }
+    pub is : page' ≡ record page { place = Leaving frame (settled slot) mark }
 
   left_page : (mark : Bool) (page page' : PageValue S) → Leaves mark page page' → Left mark page page'
   left_page mark page page' how = by_place page.place refl how
     where
-      by_place : (place : Place S) → page.place ≡ place → IfResident place (λ frame slot. page' ≡ record page { place = Leaving frame slot mark }) → Left mark page page'
+      by_place : (place : Place S) → page.place ≡ place → IfResident place (λ frame slot. page' ≡ record page { place = Leaving frame (settled slot) mark }) → Left mark page page'
       by_place Fresh at how = absurd how
       by_place (Resident frame slot) at how = record { frame = frame; slot = slot; was = at; is = how }
       by_place (Leaving frame slot m) at how = absurd how
-      by_place (Saving frame) at how = absurd how
+      by_place (Saving frame mark) at how = absurd how
       by_place (Away slot) at how = absurd how
       by_place Purged at how = absurd how
 
@@ -97,7 +106,7 @@ module _ {S : Type 0} where
     left : Left mark leaves.page.page leaves.page.page'
     left = left_page mark leaves.page.page leaves.page.page' leaves.page.how
 
-    left_to : leaves.page.page'.place ≡ Leaving left.frame left.slot mark
+    left_to : leaves.page.page'.place ≡ Leaving left.frame (settled left.slot) mark
     left_to = ap (λ (p : PageValue S). p.place) left.is
 
     pub begun : HasBegun vpn old new
@@ -106,11 +115,14 @@ module _ {S : Type 0} where
       was = stage_before (Leaves mark) old new vpn leaves.page _ _ left.was left_to;
       is = stage_after (Leaves mark) old new vpn leaves.page _ _ left.was left_to;
       frame = frame_after (Leaves mark) old new vpn leaves.page _ _ left.was left_to ∙ sym (frame_before (Leaves mark) old new vpn leaves.page _ _ left.was left_to);
-      slot = slot_after (Leaves mark) old new vpn leaves.page _ _ left.was left_to ∙ sym (slot_before (Leaves mark) old new vpn leaves.page _ _ left.was left_to);
+      slot = slot_after (Leaves mark) old new vpn leaves.page _ _ left.was left_to ∙ kept_settled left.slot ∙ sym (slot_before (Leaves mark) old new vpn leaves.page _ _ left.was left_to);
       residents = λ test. let moved : residents_among new test + cond (test vpn) 1 0 ≡ residents_among old test + 0 = moved_residents (Leaves mark) old new vpn leaves.page _ _ left.was left_to small test in omega (arith, moved);
       savings = λ test. let moved : savings_among new test + 0 ≡ savings_among old test + 0 = moved_savings (Leaves mark) old new vpn leaves.page _ _ left.was left_to small test in omega (arith, moved);
       frames = λ test. let moved : frames_among new test + cond (test left.frame.number) 1 0 ≡ frames_among old test + cond (test left.frame.number) 1 0 = moved_frames (Leaves mark) old new vpn leaves.page _ _ left.was left_to small test in omega (arith, moved);
-      slots = let moved = moved_slots (Leaves mark) old new vpn leaves.page _ _ left.was left_to small in omega (arith, moved);
+      slots =
+          let as_many : cond {A = ℕ} (is_kept (settled left.slot)) 1 0 ≡ cond (is_kept left.slot) 1 0 = ap (λ b. cond {A = ℕ} b 1 0) (slotted_settled left.slot) in
+          let moved : slots_within new + cond (is_kept left.slot) 1 0 ≡ slots_within old + cond (is_kept (settled left.slot)) 1 0 = moved_slots (Leaves mark) old new vpn leaves.page _ _ left.was left_to small in
+          omega (arith, as_many, moved);
       stay = moved_stay (Leaves mark) old new vpn leaves.page _ _ left.was left_to refl;
     }
 

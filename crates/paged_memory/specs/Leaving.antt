@@ -3,7 +3,7 @@ use Rattle.std.specs.Prelude.{◌≡◌, ℕ, ◌^◌, ◌<◌, Bool, true, fals
 use Rattle.frame_pool.specs.FrameValue.{FrameValue}
 use Rattle.page_memory.specs.declared.rights.Rights.{Rights}
 use Rattle.page_store.specs.JobValue.{SavedValue}
-use Rattle.page_store.specs.declared.state.Keeping.{Keeping}
+use Rattle.page_store.specs.Keeping.{Keeping}
 use Rattle.page_store.specs.declared.answer.Collected.{Collected}
 use Rattle.page_store.specs.declared.answer.Collected.TheVariants.{NotLeaving, NotYet, Clean, Dirty, NoSlot}
 use Rattle.page_store.specs.declared.answer.SaveRefusal.{SaveRefusal}
@@ -38,7 +38,7 @@ module _ {L : Type 0} {S : Type 0} (process vpn : ℕ) (cached : Bool) (spare sp
 
 module _ {S : Type 0} where
   abbrev pub IsSaving : Option (PageValue S) → Type 0
-  IsSaving (Some page) = IfSaving page.place (λ _. Unit {0})
+  IsSaving (Some page) = IfSaving page.place (λ _ _. Unit {0})
   IsSaving None = ⊥
 
   -- a save that comes back is of a page of this process, which is being saved
@@ -51,7 +51,8 @@ module _ {S : Type 0} where
 
   -- a page that was saved goes to its slot, and lets this frame go, which holds what was saved
   pub record Frees (job : SavedValue S) (frame : FrameValue) (page page' : PageValue S) : Type 0 where
-    pub was : page.place ≡ Saving frame
+    pub mark : Bool
+    pub was : page.place ≡ Saving frame mark
     pub is : page' ≡ record page { place = Away (copy_of job) }
     pub same : frame.bytes ≡ job.copy
     pub passed : IsTrue job.passed
@@ -84,7 +85,7 @@ module _ {S : Type 0} where
     pub ppn_is : returns.frame.number ≡ ppn
     pub rights_is : page.origin.rights ≡ rights
 
-  -- it is mapped as it was, with A clear, and D set where it counts as changed
+  -- it is mapped as it was, with A clear, and D as it was when it began to leave
   pub record BringsBack (old new : List (ℕ × PageValue S)) (tables tables' : List (List ℕ)) (number : ℕ) : Type 0 where
     pub mark : Bool
     pub page : ChangesBy (Returns mark) old new number

@@ -10,10 +10,15 @@ pub mod Growth
 pub mod Counting
 pub mod CountingLaws
 pub mod FewerLaws
+pub mod OwnCache
+pub mod OwnCacheLaws
 pub mod HartMemory
 pub mod HartMemoryLaws
 pub mod SeenLaws
 pub mod Filling
+pub mod Cleaning
+pub mod Copies
+pub mod CopiesLaws
 pub mod Peeking
 pub mod GivingBack
 pub mod Coherence
@@ -42,4 +47,5 @@ pub mod ComeLaws
 pub mod StillLaws
 pub mod PeekLaws
 pub mod GivenLaws
+pub mod SlotsLaws
 pub mod LooksLaws

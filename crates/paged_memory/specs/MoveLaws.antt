@@ -1,7 +1,7 @@
 -- What one page's move from one place to another does to a memory: to the counts, to where the page is, and to the other pages.
 use Rattle.std.proofs.Common.{◌≡◌, ℕ, ◌+◌, ◌^◌, ◌<◌, Bool, true, false, ◌&&◌, cond, Some, option_map, option_and_then, inl, inr, refl, sym, ap, ◌∙◌, arith}
 use Rattle.std.proofs.lemmas.Bool.Decides.{eqb_tells}
-use Rattle.page_store.specs.Kept.{kept}
+use Rattle.page_store.specs.Keeping.{kept}
 use Rattle.page_store.specs.PageValue.{PageValue, Place, frame_of, slot_of, page_state_of}
 use Rattle.paged_memory.specs.AlikeLaws.{SavingsStay, same_stay, same_rights}
 use Rattle.paged_memory.specs.Calls.{ChangesBy}

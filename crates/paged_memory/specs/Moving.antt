@@ -1,26 +1,25 @@
 -- What each call on a process's pages does to its memory as a whole, by name: whatever stands on it says so by these.
-use Rattle.std.specs.Prelude.{◌≡◌, ℕ, ◌^◌, ◌<◌, Bool, true, false, is_some, map, List, [], Option, Some, None, option_map, option_and_then, if◌then◌else◌, IfSome}
+use Rattle.std.specs.Prelude.{◌≡◌, ℕ, zero, suc, ◌^◌, ◌<◌, ◌≤◌, Bool, true, false, ◌||◌, is_some, map, List, [], ◌∷◌, ◌++◌, Option, Some, None, option_map, option_and_then, if◌then◌else◌, IfSome}
 use Rattle.frame_pool.specs.FrameValue.{FrameValue}
 use Rattle.page_memory.specs.Words.{page_number, page_offset}
 use Rattle.page_store.specs.JobValue.{JobValue, SavedValue}
-use Rattle.page_store.specs.Kept.{kept}
+use Rattle.page_store.specs.Keeping.{kept}
 use Rattle.page_store.specs.Moves.{given_back}
 use Rattle.page_store.specs.PageValue.{PageValue, Place, Fresh, Resident, Leaving, Saving, Away, Purged, changed, slot_of}
 use Rattle.page_store.specs.declared.answer.Collected.{Collected}
 use Rattle.page_store.specs.declared.answer.SaveRefusal.{SaveRefusal}
 use Rattle.page_store.specs.declared.refusal.LeaveRefusal.{LeaveRefusal}
-use Rattle.page_store.specs.declared.state.Keeping.{Keeping}
-use Rattle.page_store.specs.declared.state.Keeping.TheVariants as keeping
+use Rattle.page_store.specs.Keeping.{Keeping, NoSlot, Saved, Unbacked, Cleaning, CopyOut, is_copy_out}
 use Rattle.sv32_table.specs.Entry.{blank, page_entry}
 use Rattle.sv32_table.specs.EntryAt.{entry_at, ChangesEntry, SameTables, AddsTable, unaccessed_entry, dirty_of}
 use Rattle.tlb_core.specs.Cache.{doomed}
 use Rattle.paged_memory.specs.Calls.{ChangesBy, Leaves, RefusesLeave}
 use Rattle.paged_memory.specs.Filling.{BroughtIn, RefusesPageIn}
 use Rattle.paged_memory.specs.GivingBack.{GivesNothing, GivesOne, LiesBehind, SavesOne}
-use Rattle.paged_memory.specs.Leaving.{CollectsAt, ChangesSaved, Frees, RefusesSaved, IsOut, IsSaving, BringsBack}
+use Rattle.paged_memory.specs.Leaving.{CollectsAt, ChangesSaved, Frees, RefusesSaved, IsOut, BringsBack}
 use Rattle.paged_memory.specs.Paged.{PagedValue, page_at, memory_of}
 use Rattle.paged_memory.specs.Peeking.{ShowsBytes, LeavesPage, RefusesPeek}
-use Rattle.paged_memory.specs.Whole.{is_cached}
+use Rattle.paged_memory.specs.Whole.{is_cached, is_out_in}
 use Rattle.paged_memory.specs.declared.filling.PageInFault.{PageInFault}
 use Rattle.paged_memory.specs.declared.peeking.PeekFault.{PeekFault}
 
@@ -95,24 +94,31 @@ module _ {S : Type 0} where
     pub found : page_at memory.pages vpn ≡ Some page
     pub leaving : page.place ≡ Leaving frame slot mark
 
-  -- a cache holds a translation of it still
-  pub record IsCachedStill (vpn : ℕ) (memory : PagedValue S) : Type 0 where
+  -- it can't let its frame go yet: a cache holds a translation of it still, or a copy of it is out
+  pub record IsHeldStill (vpn : ℕ) (memory : PagedValue S) : Type 0 where
     pub page : IsLeavingPage vpn memory
-    pub held : is_cached memory vpn ≡ true
+    pub held : (is_cached memory vpn || is_copy_out page.slot) ≡ true
 
-  -- no cache does; it counts as changed and has no slot
+  -- neither is so; it counts as changed and has no slot
   pub record WantsSlot (vpn : ℕ) (memory : PagedValue S) : Type 0 where
     pub page : IsLeavingPage vpn memory
     pub held : is_cached memory vpn ≡ false
+    pub alone : is_copy_out page.slot ≡ false
     pub changed : counts_changed page.page ≡ true
-    pub slotless : page.slot ≡ keeping.NoSlot
+    pub slotless : kept page.slot ≡ None
 
-  -- where an unchanged page goes that lets its frame go: to its slot, or to what it began with; one whose slot holds nothing for it counts as changed, and
+  -- where an unchanged page goes that lets its frame go: to its slot, or to what it began with; one that nothing backs counts as changed, and
   -- goes nowhere
+  abbrev pub emptied_to : Option S → Place S
+  emptied_to None = Fresh
+  emptied_to (Some slot) = Away (record { slot = slot; digest = [] })
+
   abbrev pub dropped_to : Keeping S → Place S
-  dropped_to keeping.NoSlot = Fresh
-  dropped_to (keeping.Unsaved slot) = Away (record { slot = slot; digest = [] })
-  dropped_to (keeping.Saved copy) = Away copy
+  dropped_to NoSlot = Fresh
+  dropped_to (Saved copy) = Away copy
+  dropped_to (Unbacked slot) = emptied_to slot
+  dropped_to (Cleaning slot) = emptied_to slot
+  dropped_to CopyOut = Fresh
 
   pub record LetsGo (frame : FrameValue) (page page' : PageValue S) : Type 0 where
     pub slot : Keeping S
@@ -134,7 +140,7 @@ module _ {S : Type 0} where
     pub mark : Bool
     pub was : page.place ≡ Leaving frame slot mark
     pub changed : counts_changed page ≡ true
-    pub is : page' ≡ record page { place = Saving frame }
+    pub is : page' ≡ record page { place = Saving frame mark }
     pub copy : job.copy ≡ frame.bytes
 
   -- a changed page that no cache holds is copied into a job, and is being saved
@@ -158,11 +164,13 @@ module _ {S : Type 0} where
     pub page : ChangesSaved old.process job (Frees job frame) old.pages new.pages
     pub stays : new ≡ record old { pages = new.pages }
 
-  -- the page of a save that failed leaves again in its frame, with the slot of the save, and counts as changed; the frame shows the failure
+  -- the page of a save that failed leaves again in its frame, with the dirty bit that it had and the slot of the save, which does not back it; the frame
+  -- shows the failure
   pub record IsUnsaved (shows : FrameValue → Type 0) (job : SavedValue S) (page page' : PageValue S) : Type 0 where
     pub frame : FrameValue
-    pub was : page.place ≡ Saving frame
-    pub is : page' ≡ record page { place = Leaving frame (keeping.Unsaved job.slot) true }
+    pub mark : Bool
+    pub was : page.place ≡ Saving frame mark
+    pub is : page' ≡ record page { place = Leaving frame (Unbacked (Some job.slot)) mark }
     pub failed : shows frame
 
   pub record LeavesAgain (shows : FrameValue → Type 0) (job : SavedValue S) (old new : PagedValue S) : Type 0 where
@@ -177,12 +185,12 @@ module _ {S : Type 0} where
   abbrev pub IsOutOf : SavedValue S → PagedValue S → Type 0
   IsOutOf job memory = IsOut memory.process job memory.pages
 
-  -- some page is being saved, or none is
+  -- bytes of some page are out with a job, or of none
   abbrev pub SavesSome : PagedValue S → Type 0
   SavesSome memory = SavesOne memory.pages
 
   abbrev pub SavesNone : PagedValue S → Type 0
-  SavesNone memory = (q : ℕ) → q < 2 ^ 20 → ¬ IsSaving (page_at memory.pages q)
+  SavesNone memory = (q : ℕ) → q < 2 ^ 20 → is_out_in memory q ≡ false
 
   -- a page that is leaving is mapped again, in its frame
   pub record MapsAgain (vpn : ℕ) (old new : PagedValue S) : Type 0 where
@@ -245,11 +253,18 @@ module _ {S : Type 0} where
   has_to_give (Some page) = is_some (given_back page.place)
 
   -- a page that has is given up for good, and any other stays where it is
+  abbrev pub unless_out : Keeping S → Place S → Place S
+  unless_out NoSlot place = Purged
+  unless_out (Saved copy) place = Purged
+  unless_out (Unbacked slot) place = Purged
+  unless_out (Cleaning slot) place = Purged
+  unless_out CopyOut place = place
+
   abbrev pub place_given : Place S → Place S
   place_given Fresh = Fresh
-  place_given (Resident frame slot) = Purged
-  place_given (Leaving frame slot mark) = Purged
-  place_given (Saving frame) = Saving frame
+  place_given (Resident frame slot) = unless_out slot (Resident frame slot)
+  place_given (Leaving frame slot mark) = unless_out slot (Leaving frame slot mark)
+  place_given (Saving frame mark) = Saving frame mark
   place_given (Away slot) = Purged
   place_given Purged = Purged
 
@@ -267,6 +282,28 @@ module _ {S : Type 0} where
   abbrev pub PageGiven : PagedValue S → PagedValue S → ℕ → Type 0
   PageGiven old new number = page_at new.pages number ≡ option_map page_given (page_at old.pages number)
 
+  -- the slot that a page gives back, if it has one to give
+  abbrev pub given_slot : Option (PageValue S) → Option S
+  given_slot None = None
+  given_slot (Some page) = option_and_then (λ given. given.1) (given_back page.place)
+
+  abbrev pub with_slot : List S → Option S → List S
+  with_slot slots None = slots
+  with_slot slots (Some slot) = slots ++ slot ∷ []
+
+  -- the slots that the pages below a number give back, by rising number
+  unfoldable pub slots_below : PagedValue S → ℕ → List S
+  slots_below memory zero = []
+  slots_below memory (suc number) = with_slot (slots_below memory number) (given_slot (page_at memory.pages number))
+
+  -- pages gave these slots back so far, all of those that the pages below a number had; each page from there on is as it was
+  pub record GivesBelow (slots : List S) (old new : PagedValue S) : Type 0 where
+    pub below : ℕ
+    pub within : below ≤ 2 ^ 20
+    pub named : slots ≡ slots_below old below
+    pub nothing : HasNothingBelow below new
+    pub beyond : (number : ℕ) → below ≤ number → SamePage old new number
+
   -- no cache holds a translation
   abbrev pub EmptiesCaches : PagedValue S → PagedValue S → Type 0
   EmptiesCaches old new = new.caches ≡ map (λ _. []) old.caches
@@ -282,9 +319,11 @@ module _ {S : Type 0} where
     pub page : SamePage old new number
     pub entry : entry_at new.tables number ≡ entry_at old.tables number
 
-  -- every page that had something has given it back, and no cache holds a translation
+  -- every page that had something has given it back, and no cache holds a translation; which pages have a table stays, and what is reserved
   pub record GivesAll (old new : PagedValue S) : Type 0 where
     pub process : new.process ≡ old.process
     pub pages : (number : ℕ) → number < 2 ^ 20 → PageGiven old new number
     pub entries : (number : ℕ) → number < 2 ^ 20 → entry_at new.tables number ≡ (if has_to_give_in old number then blank else entry_at old.tables number)
     pub caches : EmptiesCaches old new
+    pub tabled : SameTablesIn old new
+    pub reserved : new.reserved ≡ old.reserved

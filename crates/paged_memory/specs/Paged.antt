@@ -4,6 +4,7 @@ use Rattle.page_memory.specs.Pages.{Page, Pages}
 use Rattle.page_memory.specs.Reservations.{Reservations}
 use Rattle.page_memory.specs.Memory.{Memory}
 use Rattle.page_memory.specs.Entries.{place_of, value_at, map_by, ChangesPage as Changes}
+use Rattle.page_store.specs.Keeping.{is_loose}
 use Rattle.page_store.specs.PageValue.{PageValue, Place, Fresh, Resident, Leaving, Saving, Away, Purged, content, frame_of, Backed}
 use Rattle.sv32_table.specs.EntryAt.{entry_at, has_table}
 use Rattle.tlb_core.specs.declared.translation.Translation.{Translation}
@@ -24,9 +25,9 @@ module _ {S : Type 0} where
   -- what translation sees of a page
   abbrev pub standing_of : Place S → Standing
   standing_of Fresh = seen.Elsewhere
-  standing_of (Resident frame slot) = seen.Resident frame.number
-  standing_of (Leaving frame slot mark) = seen.Leaving frame.number mark
-  standing_of (Saving frame) = seen.Elsewhere
+  standing_of (Resident frame slot) = seen.Resident frame.number (is_loose slot)
+  standing_of (Leaving frame slot mark) = seen.Leaving frame.number mark (is_loose slot)
+  standing_of (Saving frame mark) = seen.Elsewhere
   standing_of (Away slot) = seen.Elsewhere
   standing_of Purged = seen.Elsewhere
 

@@ -56,7 +56,7 @@ module _ {S : Type 0} where
         by_place place.Fresh left = none_read old new left
         by_place (place.Resident frame slot) left = none_read old new left
         by_place (place.Leaving frame slot mark) left = none_read old new left
-        by_place (place.Saving frame) left = none_read old new left
+        by_place (place.Saving frame mark) left = none_read old new left
         by_place (place.Away slot) left = one_read old new vpn left
         by_place place.Purged left = none_read old new left
 
@@ -82,7 +82,7 @@ module _ {S : Type 0} where
         after place.Fresh failed = absurd failed
         after (place.Resident frame slot) failed = absurd failed
         after (place.Leaving frame slot mark) failed = absurd failed
-        after (place.Saving frame) failed = absurd failed
+        after (place.Saving frame mark) failed = absurd failed
         after (place.Away slot) failed = never_rose failed
         after place.Purged failed = absurd failed
 
@@ -90,7 +90,7 @@ module _ {S : Type 0} where
         by place.Fresh q failed = absurd failed
         by (place.Resident frame slot) q failed = absurd failed
         by (place.Leaving frame slot mark) q failed = absurd failed
-        by (place.Saving frame) q failed = absurd failed
+        by (place.Saving frame mark) q failed = absurd failed
         by (place.Away slot) q failed = after q failed
         by place.Purged q failed = absurd failed
 

@@ -26,7 +26,7 @@ module _ {S : Type 0} (held : S → List ℕ) (honest : Type 0) where
   LeavesPlace old new number Fresh = new ≡ old
   LeavesPlace old new number (Resident frame slot) = new ≡ old
   LeavesPlace old new number (Leaving frame slot mark) = new ≡ old
-  LeavesPlace old new number (Saving frame) = new ≡ old
+  LeavesPlace old new number (Saving frame mark) = new ≡ old
   LeavesPlace old new number (Away slot) = ChangesBy (StaysAbsent held honest) old new number
   LeavesPlace old new number Purged = new ≡ old
 

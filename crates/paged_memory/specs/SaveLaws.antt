@@ -3,55 +3,76 @@ use Rattle.std.proofs.Common.{◌≡◌, ℕ, ◌+◌, ◌^◌, ◌<◌, ◌≤�
 use Rattle.std.specs.Prelude.{IsTrue}
 use Rattle.frame_pool.specs.FrameValue.{FrameValue}
 use Rattle.page_store.specs.JobValue.{JobValue, SavedValue}
-use Rattle.page_store.specs.Kept.{kept}
+use Rattle.page_store.specs.Keeping.{kept}
 use Rattle.page_store.specs.Moves.{copy_of, IfSaving}
-use Rattle.page_store.specs.PageValue.{PageValue, Place, Fresh, Resident, Leaving, Saving, Away, Purged, frame_of, slot_of, page_state_of}
-use Rattle.page_store.specs.declared.state.Keeping.{Keeping}
-use Rattle.page_store.specs.declared.state.Keeping.TheVariants.{NoSlot, Unsaved, Saved}
+use Rattle.page_store.specs.PageValue.{PageValue, Place, Fresh, Resident, Leaving, Saving, Away, Purged, frame_of, slot_of, page_state_of, is_out}
+use Rattle.page_store.specs.Keeping.{Keeping}
+use Rattle.page_store.specs.Keeping.{NoSlot, Saved, Unbacked, Cleaning, CopyOut}
 use Rattle.page_store.specs.declared.state.PageState.TheVariants as stage
 use Rattle.paged_memory.specs.AlikeLaws.{SavingsStay}
-use Rattle.paged_memory.specs.AmongLaws.{some_saving}
 use Rattle.paged_memory.specs.Counting.{page_passes, is_resident_place, is_saving_place, frame_passes, is_kept}
-use Rattle.paged_memory.specs.CountingLaws.{none_where_pass}
+use Rattle.paged_memory.specs.CountingLaws.{none_where_pass, some_where_pass, no_where_pass}
 use Rattle.paged_memory.specs.Leaving.{Frees, IsSaving}
 use Rattle.paged_memory.specs.MoveLaws.{KeepsOthers, moved_keeps, stage_before, stage_after, frame_before, frame_after, slot_before, moved_stay, moved_residents, moved_savings, moved_frames, moved_slots}
 use Rattle.paged_memory.specs.Moving.{dropped_to, LetsGo, GoesToBacking, IsCopied, GoesToBeSaved, SavedAway, IsUnsaved, LeavesAgain, slot_in, IsOutOf, SavesSome, SavesNone}
 use Rattle.paged_memory.specs.Paged.{PagedValue, page_at}
 use Rattle.paged_memory.specs.Stages.{is_absent_stage, is_saving_stage}
-use Rattle.paged_memory.specs.Whole.{stage_in, frame_in, residents_among, savings_among, frames_among, slots_within}
+use Rattle.paged_memory.specs.Whole.{stage_in, frame_in, is_out_in, outs_within, residents_among, savings_among, frames_among, slots_within}
 
 module _ {S : Type 0} where
   -- ---- where a page goes that lets its frame go
 
   absent : (slot : Keeping S) → is_absent_stage (Some (page_state_of (dropped_to slot))) ≡ true
   absent NoSlot = refl
-  absent (Unsaved slot) = refl
   absent (Saved slot) = refl
+  absent (Unbacked None) = refl
+  absent (Unbacked (Some slot)) = refl
+  absent (Cleaning None) = refl
+  absent (Cleaning (Some slot)) = refl
+  absent CopyOut = refl
 
   unresident : (slot : Keeping S) → is_resident_place (dropped_to slot) ≡ false
   unresident NoSlot = refl
-  unresident (Unsaved slot) = refl
   unresident (Saved slot) = refl
+  unresident (Unbacked None) = refl
+  unresident (Unbacked (Some slot)) = refl
+  unresident (Cleaning None) = refl
+  unresident (Cleaning (Some slot)) = refl
+  unresident CopyOut = refl
 
   unsaving : (slot : Keeping S) → is_saving_place (dropped_to slot) ≡ false
   unsaving NoSlot = refl
-  unsaving (Unsaved slot) = refl
   unsaving (Saved slot) = refl
+  unsaving (Unbacked None) = refl
+  unsaving (Unbacked (Some slot)) = refl
+  unsaving (Cleaning None) = refl
+  unsaving (Cleaning (Some slot)) = refl
+  unsaving CopyOut = refl
 
   frameless : (slot : Keeping S) → frame_of (dropped_to slot) ≡ None
   frameless NoSlot = refl
-  frameless (Unsaved slot) = refl
   frameless (Saved slot) = refl
+  frameless (Unbacked None) = refl
+  frameless (Unbacked (Some slot)) = refl
+  frameless (Cleaning None) = refl
+  frameless (Cleaning (Some slot)) = refl
+  frameless CopyOut = refl
 
   as_kept : (slot : Keeping S) → is_kept (slot_of (dropped_to slot)) ≡ is_kept slot
   as_kept NoSlot = refl
-  as_kept (Unsaved slot) = refl
   as_kept (Saved slot) = refl
+  as_kept (Unbacked None) = refl
+  as_kept (Unbacked (Some slot)) = refl
+  as_kept (Cleaning None) = refl
+  as_kept (Cleaning (Some slot)) = refl
+  as_kept CopyOut = refl
 
   kept_is : (slot : Keeping S) → is_kept slot ≡ is_some (kept slot)
   kept_is NoSlot = refl
-  kept_is (Unsaved slot) = refl
   kept_is (Saved slot) = refl
+  kept_is (Unbacked slot) = refl
+  kept_is (Cleaning slot) = refl
+  kept_is CopyOut = refl
 
   -- it is absent, and has let this frame go
   pub record HasGone (vpn : ℕ) (frame : FrameValue) (old new : PagedValue S) : Type 0 where
@@ -120,7 +141,7 @@ module _ {S : Type 0} where
     abbrev copied_frame : FrameValue
     copied_frame = goes.page.how.frame
 
-    copied_to : goes.page.page'.place ≡ Saving copied_frame
+    copied_to : goes.page.page'.place ≡ Saving copied_frame goes.page.how.mark
     copied_to = ap (λ (p : PageValue S). p.place) goes.page.how.is
 
     pub being_saved : IsBeingSaved vpn job old new
@@ -201,7 +222,7 @@ module _ {S : Type 0} where
     abbrev failed_frame : FrameValue
     failed_frame = leaves.page.1.1.how.frame
 
-    again_to : leaves.page.1.1.page'.place ≡ Leaving failed_frame (Unsaved job.slot) true
+    again_to : leaves.page.1.1.page'.place ≡ Leaving failed_frame (Unbacked (Some job.slot)) leaves.page.1.1.how.mark
     again_to = ap (λ (p : PageValue S). p.place) leaves.page.1.1.how.is
 
     pub leaving_again : IsLeavingAgain shows job old new
@@ -227,53 +248,25 @@ module _ {S : Type 0} where
   saving_is None h = cc
   saving_is (Some page) h = by_place page.place h
     where
-      by_place : (place : Place S) → is_saving_stage (Some (page_state_of place)) ≡ true → IfSaving place (λ _. Unit {0})
+      by_place : (place : Place S) → is_saving_stage (Some (page_state_of place)) ≡ true → IfSaving place (λ _ _. Unit {0})
       by_place Fresh h = cc
       by_place (Resident frame slot) h = cc
       by_place (Leaving frame slot mark) h = cc
-      by_place (Saving frame) h = tt
+      by_place (Saving frame mark) h = tt
       by_place (Away slot) h = cc
       by_place Purged h = cc
-
-  is_saving : (o : Option (PageValue S)) → IsSaving o → is_saving_stage (option_map (λ (page : PageValue S). page_state_of page.place) o) ≡ true
-  is_saving None h = absurd h
-  is_saving (Some page) h = by_place page.place h
-    where
-      by_place : (place : Place S) → IfSaving place (λ _. Unit {0}) → is_saving_stage (Some (page_state_of place)) ≡ true
-      by_place Fresh h = absurd h
-      by_place (Resident frame slot) h = absurd h
-      by_place (Leaving frame slot mark) h = absurd h
-      by_place (Saving frame) h = refl
-      by_place (Away slot) h = absurd h
-      by_place Purged h = absurd h
 
   pub out_of : (job : SavedValue S) (memory : PagedValue S) → job.process ≡ memory.process → job.vpn < 2 ^ 20 → is_saving_stage (stage_in memory job.vpn) ≡ true → IsOutOf job memory
   out_of job memory process small is = (process, (small, saving_is (page_at memory.pages job.vpn) is))
 
-  -- some page is being saved, and so one at least is counted
-  pub some_save : (memory : PagedValue S) → SavesSome memory → 1 ≤ savings_among memory (λ _. true)
-  some_save memory saves = some_saving memory (λ _. true) saves.number saves.small (is_saving (page_at memory.pages saves.number) saves.saving) refl
+  -- bytes of some page are out, and so one at least is counted
+  pub some_save : (memory : PagedValue S) → SavesSome memory → 1 ≤ outs_within memory
+  some_save memory saves = some_where_pass (λ number page. is_out page.place) memory.pages saves.number saves.small saves.out
 
-  no_page : (o : Option (PageValue S)) → (IsSaving o → ⊥) → page_passes (λ page. is_saving_place page.place && true) o ≡ false
-  no_page None h = refl
-  no_page (Some page) h = by_place page.place h
-    where
-      by_place : (place : Place S) → (IfSaving place (λ _. Unit {0}) → ⊥) → is_saving_place place && true ≡ false
-      by_place Fresh h = refl
-      by_place (Resident frame slot) h = refl
-      by_place (Leaving frame slot mark) h = refl
-      by_place (Saving frame) h = absurd (h tt)
-      by_place (Away slot) h = refl
-      by_place Purged h = refl
-
-  -- none is, and so none is counted
-  pub none_save : (memory : PagedValue S) → SavesNone memory → savings_among memory (λ _. true) ≡ 0
-  none_save memory none = none_where_pass (λ number page. is_saving_place page.place && true) memory.pages (λ number small. no_page (page_at memory.pages number) (none number small))
+  -- none are, and so none is counted
+  pub none_save : (memory : PagedValue S) → SavesNone memory → outs_within memory ≡ 0
+  none_save memory none = none_where_pass (λ number page. is_out page.place) memory.pages none
 
   -- where none is counted, each page tells so
-  pub none_saved : (memory : PagedValue S) → savings_among memory (λ _. true) ≡ 0 → (number : ℕ) → number < 2 ^ 20 → is_saving_stage (stage_in memory number) ≡ false
-  none_saved memory none number small = by_test (is_saving_stage (stage_in memory number)) refl
-    where
-      by_test : (b : Bool) → is_saving_stage (stage_in memory number) ≡ b → is_saving_stage (stage_in memory number) ≡ false
-      by_test true is = let one = some_saving memory (λ _. true) number small is refl in absurd (omega (arith, one, none))
-      by_test false is = is
+  pub none_saved : (memory : PagedValue S) → outs_within memory ≡ 0 → (number : ℕ) → number < 2 ^ 20 → is_out_in memory number ≡ false
+  none_saved memory none number small = no_where_pass (λ number page. is_out page.place) memory.pages none number small

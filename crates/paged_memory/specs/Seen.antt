@@ -1,13 +1,14 @@
 -- What translation sees of a page: its rights, and which frame it holds.
-use Rattle.std.specs.Prelude.{ℕ, Bool, false, Option, Some, None}
+use Rattle.std.specs.Prelude.{ℕ, Bool, false, ◌||◌, Option, Some, None}
 use Rattle.page_memory.specs.declared.rights.Rights.{Rights}
 use Rattle.sv32_table.specs.Entry.{Entry, blank, page_entry}
 
--- a page that is resident in the frame of this number; one that is unmapped and holds that frame still, with the mark
--- whether it counts as changed; and one that no translation may lead to
+-- a page that is resident in the frame of this number; one that is unmapped and holds that frame still, with the dirty bit that its entry
+-- had; and one that no translation may lead to. The last of the first two says whether nothing backs the page and no copy of it is out, so
+-- that stores may reach it whatever its dirty bit is.
 pub data Standing : Type 0 where
-  Resident : ℕ → Standing
-  Leaving : ℕ → Bool → Standing
+  Resident : ℕ → Bool → Standing
+  Leaving : ℕ → Bool → Bool → Standing
   Elsewhere : Standing
 
 pub record Seen : Type 0 where
@@ -16,8 +17,8 @@ pub record Seen : Type 0 where
 
 -- the table entry that a page has, by its A and D
 abbrev pub entry_standing : Rights → Standing → Bool → Bool → Entry
-entry_standing rights (Resident frame) accessed dirty = page_entry frame rights accessed dirty
-entry_standing rights (Leaving frame mark) accessed dirty = blank
+entry_standing rights (Resident frame loose) accessed dirty = page_entry frame rights accessed dirty
+entry_standing rights (Leaving frame mark loose) accessed dirty = blank
 entry_standing rights Elsewhere accessed dirty = blank
 
 abbrev pub entry_seen : Option Seen → Bool → Bool → Entry
@@ -26,8 +27,8 @@ entry_seen None accessed dirty = blank
 
 -- the frame that a page holds
 abbrev pub frame_standing : Standing → Option ℕ
-frame_standing (Resident frame) = Some frame
-frame_standing (Leaving frame mark) = Some frame
+frame_standing (Resident frame loose) = Some frame
+frame_standing (Leaving frame mark loose) = Some frame
 frame_standing Elsewhere = None
 
 abbrev pub frame_seen : Option Seen → Option ℕ
@@ -40,18 +41,31 @@ rights_seen None = None
 
 -- whether a page is marked as dirty: its D is set while it is resident, or the mark that it took along while it leaves; elsewhere it has neither
 abbrev pub dirty_standing : Standing → Entry → Bool
-dirty_standing (Resident frame) e = e.dirty
-dirty_standing (Leaving frame mark) e = mark
+dirty_standing (Resident frame loose) e = e.dirty
+dirty_standing (Leaving frame mark loose) e = mark
 dirty_standing Elsewhere e = false
 
 abbrev pub is_dirty : Option Seen → Entry → Bool
 is_dirty (Some seen) e = dirty_standing seen.standing e
 is_dirty None e = false
 
+-- whether stores may reach a page: its dirty bit or its mark tells of them, or they need not be told of
+abbrev pub is_loose_standing : Standing → Bool
+is_loose_standing (Resident frame loose) = loose
+is_loose_standing (Leaving frame mark loose) = loose
+is_loose_standing Elsewhere = false
+
+abbrev pub loose_seen : Option Seen → Bool
+loose_seen (Some seen) = is_loose_standing seen.standing
+loose_seen None = false
+
+abbrev pub takes_stores : Option Seen → Entry → Bool
+takes_stores page e = is_dirty page e || loose_seen page
+
 -- whether a page's use is marked: it is resident, and its A is set
 abbrev pub used_standing : Standing → Entry → Bool
-used_standing (Resident frame) e = e.accessed
-used_standing (Leaving frame mark) e = false
+used_standing (Resident frame loose) e = e.accessed
+used_standing (Leaving frame mark loose) e = false
 used_standing Elsewhere e = false
 
 abbrev pub is_used : Option Seen → Entry → Bool

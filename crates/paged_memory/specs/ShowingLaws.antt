@@ -19,7 +19,7 @@ use Rattle.page_store.specs.declared.answer.Collected.{Collected}
 use Rattle.page_store.specs.declared.answer.SaveRefusal.{SaveRefusal}
 use Rattle.page_store.specs.declared.answer.SaveRefusal.TheVariants.{WrongPage, Mismatch, Device}
 use Rattle.page_store.specs.declared.refusal.LeaveRefusal.{LeaveRefusal}
-use Rattle.page_store.specs.declared.state.Keeping.{Keeping}
+use Rattle.page_store.specs.Keeping.{Keeping}
 use Rattle.paged_memory.specs.Calls.{ChangesBy}
 use Rattle.paged_memory.specs.Filling.{RefusesPageIn}
 use Rattle.paged_memory.specs.GivingBack.{GivesOne}
@@ -113,7 +113,7 @@ module _ {S : Type 0} where
       known place.Fresh = tt
       known (place.Resident frame slot) = tt
       known (place.Leaving frame slot mark) = tt
-      known (place.Saving frame) = tt
+      known (place.Saving frame mark) = tt
       known (place.Away slot) = is_honest
       known place.Purged = tt
 
@@ -121,7 +121,7 @@ module _ {S : Type 0} where
       whole place.Fresh apart = refl
       whole (place.Resident frame slot) apart = refl
       whole (place.Leaving frame slot mark) apart = refl
-      whole (place.Saving frame) apart = refl
+      whole (place.Saving frame mark) apart = refl
       whole (place.Away slot) apart = refl
       whole place.Purged apart = absurd (apart refl)
 
@@ -167,7 +167,7 @@ module _ {S : Type 0} where
   resident_whole place.Fresh P h = refl
   resident_whole (place.Resident frame slot) P h = refl
   resident_whole (place.Leaving frame slot mark) P h = refl
-  resident_whole (place.Saving frame) P h = refl
+  resident_whole (place.Saving frame mark) P h = refl
   resident_whole (place.Away slot) P h = refl
   resident_whole place.Purged P h = absurd h
 
@@ -181,7 +181,7 @@ module _ {S : Type 0} where
     collected_whole process vpn place.Fresh cached spare whole = refl
     collected_whole process vpn (place.Resident frame slot) cached spare whole = refl
     collected_whole process vpn (place.Leaving frame slot mark) cached spare whole = refl
-    collected_whole process vpn (place.Saving frame) cached spare whole = refl
+    collected_whole process vpn (place.Saving frame mark) cached spare whole = refl
     collected_whole process vpn (place.Away slot) cached spare whole = refl
     collected_whole process vpn place.Purged cached spare whole = whole
 
@@ -195,11 +195,11 @@ module _ {S : Type 0} where
     collected_given_up vpn spare spare' answer old new told = collected_at old.process vpn (is_held vpn old.caches) spare spare' answer old.pages new.pages (page_at old.pages vpn) told
 
   -- its save comes back
-  saving_whole : (p : Place S) (P : FrameValue → Type 0) → IfSaving p P → is_purged_place p ≡ false
+  saving_whole : (p : Place S) (P : FrameValue → Bool → Type 0) → IfSaving p P → is_purged_place p ≡ false
   saving_whole place.Fresh P h = refl
   saving_whole (place.Resident frame slot) P h = refl
   saving_whole (place.Leaving frame slot mark) P h = refl
-  saving_whole (place.Saving frame) P h = refl
+  saving_whole (place.Saving frame mark) P h = refl
   saving_whole (place.Away slot) P h = refl
   saving_whole place.Purged P h = absurd h
 
@@ -220,7 +220,7 @@ module _ {S : Type 0} where
   absent_whole place.Fresh fresh away h = refl
   absent_whole (place.Resident frame slot) fresh away h = refl
   absent_whole (place.Leaving frame slot mark) fresh away h = refl
-  absent_whole (place.Saving frame) fresh away h = refl
+  absent_whole (place.Saving frame mark) fresh away h = refl
   absent_whole (place.Away slot) fresh away h = refl
   absent_whole place.Purged fresh away h = absurd h
 
@@ -233,7 +233,7 @@ module _ {S : Type 0} where
         filled_whole place.Fresh was how = absurd how
         filled_whole (place.Resident filled slot) was how = absent_whole was _ _ how.1
         filled_whole (place.Leaving filled slot mark) was how = absurd how
-        filled_whole (place.Saving filled) was how = absurd how
+        filled_whole (place.Saving filled mark) was how = absurd how
         filled_whole (place.Away slot) was how = absurd how
         filled_whole place.Purged was how = absurd how
     paged_in_given_up failures frame vpn old new (Err back) ok refused = by_fault back.1 refused
@@ -252,7 +252,7 @@ module _ {S : Type 0} where
         by_place place.Fresh left = same_purged old new left
         by_place (place.Resident frame slot) left = same_purged old new left
         by_place (place.Leaving frame slot mark) left = same_purged old new left
-        by_place (place.Saving frame) left = same_purged old new left
+        by_place (place.Saving frame mark) left = same_purged old new left
         by_place (place.Away slot) left = one_purged old new vpn left (λ _. absent_whole left.page.place _ _ left.how.place)
         by_place place.Purged left = same_purged old new left
 
@@ -264,7 +264,7 @@ module _ {S : Type 0} where
   purged_bare place.Fresh = refl
   purged_bare (place.Resident frame slot) = refl
   purged_bare (place.Leaving frame slot mark) = refl
-  purged_bare (place.Saving frame) = refl
+  purged_bare (place.Saving frame mark) = refl
   purged_bare (place.Away slot) = refl
   purged_bare place.Purged = refl
 

@@ -70,7 +70,7 @@ module _ {S : Type 0} where
   place_accessed page Fresh e at h = cc
   place_accessed page (Resident frame slot) e at h = ap (λ p. is_some (accessed_at (Some (record { rights = page.origin.rights; standing = standing_of p })) e)) at
   place_accessed page (Leaving frame slot mark) e at h = cc
-  place_accessed page (Saving frame) e at h = cc
+  place_accessed page (Saving frame mark) e at h = cc
   place_accessed page (Away slot) e at h = cc
   place_accessed page Purged e at h = cc
 

@@ -18,11 +18,11 @@ module _ {S : Type 0} where
   still_where Fresh new how = ap page_state_of how
   still_where (Resident f s) new how = absurd how
   still_where (Leaving f s m) new how = absurd how
-  still_where (Saving f) new how = absurd how
+  still_where (Saving f mark) new how = absurd how
   still_where (Away s) Fresh how = absurd how
   still_where (Away s) (Resident f k) how = absurd how
   still_where (Away s) (Leaving f k m) how = absurd how
-  still_where (Away s) (Saving f) how = absurd how
+  still_where (Away s) (Saving f mark) how = absurd how
   still_where (Away s) (Away t) how = refl
   still_where (Away s) Purged how = absurd how
   still_where Purged new how = absurd how
@@ -35,7 +35,7 @@ module _ {S : Type 0} where
       by_place Fresh h = tt
       by_place (Resident frame slot) h = cc
       by_place (Leaving frame slot mark) h = cc
-      by_place (Saving frame) h = cc
+      by_place (Saving frame mark) h = cc
       by_place (Away slot) h = tt
       by_place Purged h = cc
 

@@ -2,8 +2,9 @@
 use Rattle.std.specs.Prelude.{◌≡◌, ℕ, Bool, is_some, List, []}
 use Rattle.tlb_core.specs.declared.translation.Translation.{Translation}
 use Rattle.tlb_core.specs.Cache.{translation_of}
-use Rattle.paged_memory.specs.Access.{HasPage, LacksPage, cache_of, is_doomed}
+use Rattle.paged_memory.specs.Access.{HasPage, LacksPage, cache_of}
 use Rattle.paged_memory.specs.HartMemory.{KeepsPages, MarksWithin}
+use Rattle.paged_memory.specs.OwnCache.{GoesOn}
 use Rattle.paged_memory.specs.Paged.{PagedValue}
 
 module _ {S : Type 0} where
@@ -11,12 +12,14 @@ module _ {S : Type 0} where
   abbrev pub cache_in : PagedValue S → ℕ → List Translation
   cache_in memory hart = cache_of memory.caches hart
 
-  -- whether it holds a translation of a page, and one that is to be dropped
+  -- whether it holds a translation of a page
   abbrev pub holds_in : PagedValue S → ℕ → ℕ → Bool
   holds_in memory hart page = is_some (translation_of page (cache_in memory hart))
 
-  abbrev pub is_doomed_in : PagedValue S → ℕ → ℕ → Bool
-  is_doomed_in memory hart page = is_doomed page (cache_in memory hart)
+  -- a hart goes on with its translations: each that is to be dropped was there already, none went but to make room or for a newer
+  -- one of its page, and what walks filled since carries D
+  abbrev pub GoesOnIn : ℕ → PagedValue S → PagedValue S → Type 0
+  GoesOnIn hart old new = GoesOn old.tables new.tables (cache_in old hart) (cache_in new hart)
 
   -- a hart's cache is what it was; it holds nothing
   abbrev pub SameCache : ℕ → PagedValue S → PagedValue S → Type 0

@@ -1,16 +1,18 @@
 -- Laws of what accesses, slices and notices say of a process's memory as a whole.
 use Rattle.std.specs.Prelude.{◌≡◌, ℕ, zero, suc, Bool, true, List, [], ◌∷◌, ◌++◌, is_some, length, map, slice_set, refl}
-use Rattle.std.proofs.Common.{◌∙◌, ap, subst}
+use Rattle.std.proofs.Common.{◌∙◌, ap, subst, sym}
 use Rattle.tlb_core.specs.declared.translation.Translation.{Translation}
 use Rattle.tlb_core.specs.Cache.{translation_of}
-use Rattle.paged_memory.specs.Access.{cache_of, is_doomed, is_resident}
+use Rattle.paged_memory.specs.Access.{cache_of, is_resident}
 use Rattle.paged_memory.specs.Fresh.{AddsHart}
 use Rattle.paged_memory.specs.HartMemory.{KeepsAccess, MarksWithin}
 use Rattle.paged_memory.specs.HartMemoryLaws.{pages_itself, pages_on, lacked, had_resident, had}
 use Rattle.paged_memory.specs.Moving.{SameCaches, SameEntries, OnlyCaches, OnlyPages}
 use Rattle.paged_memory.specs.Notices.{cleared, emptied}
 use Rattle.paged_memory.specs.Paged.{PagedValue, memory_of, seen_at}
-use Rattle.paged_memory.specs.Using.{HasIn, LacksIn, MarkedIn, KeepsIn, SameCache, HoldsNone, cache_in, holds_in, is_doomed_in}
+use Rattle.paged_memory.specs.OwnCache.{GoesOn}
+use Rattle.paged_memory.specs.OwnCacheLaws.{goes_itself, goes_on}
+use Rattle.paged_memory.specs.Using.{HasIn, LacksIn, MarkedIn, KeepsIn, SameCache, HoldsNone, GoesOnIn, cache_in, holds_in}
 use Rattle.paged_memory.specs.Whole.{harts_in}
 
 -- an empty cache for one more hart shows as none did
@@ -68,8 +70,16 @@ module _ {S : Type 0} where
   pub same_held : (hart page : ℕ) (old new : PagedValue S) → SameCache hart old new → holds_in new hart page ≡ holds_in old hart page
   same_held hart page old new same = ap (λ cache. is_some (translation_of page cache)) same
 
-  pub same_doomed : (hart page : ℕ) (old new : PagedValue S) → SameCache hart old new → is_doomed_in new hart page ≡ is_doomed_in old hart page
-  same_doomed hart page old new same = ap (is_doomed page) same
+  -- a hart goes on with what it has, over accesses of its own, and where tables and its cache are what they were
+  pub goes_itself_in : (hart : ℕ) (memory : PagedValue S) → GoesOnIn hart memory memory
+  goes_itself_in hart memory = goes_itself memory.tables (cache_in memory hart)
+
+  pub goes_on_in : (hart : ℕ) (old between new : PagedValue S) → GoesOnIn hart old between → GoesOnIn hart between new → GoesOnIn hart old new
+  goes_on_in hart old between new first second = goes_on old.tables between.tables new.tables (cache_in old hart) (cache_in between hart) (cache_in new hart) first second
+
+  pub goes_same : (hart : ℕ) (old between new : PagedValue S) → GoesOnIn hart old between → SameEntries between new → SameCache hart between new → GoesOnIn hart old new
+  goes_same hart old between new goes entries same =
+      subst (λ tables. GoesOn old.tables tables (cache_in old hart) (cache_in new hart)) (sym entries) (subst (λ cache. GoesOn old.tables between.tables (cache_in old hart) cache) (sym same) goes)
 
   -- ---- nothing but the caches changed
 

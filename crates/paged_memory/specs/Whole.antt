@@ -4,11 +4,11 @@ use Rattle.frame_pool.specs.FrameValue.{FrameValue}
 use Rattle.page_memory.specs.Pages.{Page}
 use Rattle.page_memory.specs.declared.rights.Rights.{Rights}
 use Rattle.page_store.specs.declared.state.PageState.{PageState}
-use Rattle.page_store.specs.PageValue.{page_state_of, frame_of}
+use Rattle.page_store.specs.PageValue.{page_state_of, frame_of, is_out}
 use Rattle.sv32_table.specs.Entry.{Entry}
 use Rattle.sv32_table.specs.EntryAt.{entry_at}
 use Rattle.paged_memory.specs.Calls.{accessed_at}
-use Rattle.paged_memory.specs.Counting.{residents_of, savings_of, frames_of, slots_of}
+use Rattle.paged_memory.specs.Counting.{page_passes, residents_of, savings_of, outs_of, frames_of, slots_of}
 use Rattle.paged_memory.specs.Paged.{PagedValue, page_at, seen_at, flat_page}
 use Rattle.paged_memory.specs.Seen.{is_used, is_dirty}
 use Rattle.paged_memory.specs.Soundness.{is_held}
@@ -52,6 +52,14 @@ module _ {S : Type 0} where
   -- how many harts have a cache
   abbrev pub harts_in : PagedValue S → ℕ
   harts_in memory = length memory.caches
+
+  -- whether bytes of it are out with a job: it is being saved, or a copy of it is out
+  abbrev pub is_out_in : PagedValue S → ℕ → Bool
+  is_out_in memory vpn = page_passes (λ page. is_out page.place) (page_at memory.pages vpn)
+
+  -- how many such pages there are
+  abbrev pub outs_within : PagedValue S → ℕ
+  outs_within memory = outs_of memory.pages
 
   -- how many pages are resident, or are being saved, of those whose numbers pass; hold a frame whose number passes; have a slot at hand
   abbrev pub residents_among : PagedValue S → (ℕ → Bool) → ℕ

@@ -143,9 +143,11 @@ fn walk<L: Ledger, S: SwapSlot>(
     ensures reaches { IfOk result (λ place. Reaches pages.now tables.new access page place) }
     ensures hits { IfOk result (λ place. Hits (cache_of caches.new hart) access page place) }
     ensures refused { IfErr result (RefusesAccess pages.now access page) }
-    ensures kept { KeepsTranslations pages.now hart tables.old tables.new caches.old caches.new }
+    ensures kept { KeepsTranslations pages.now hart page tables.old tables.new caches.old
+        caches.new }
     ensures entries { MayWalk access page tables.old tables.new }
     ensures unmarked { OnErr result (tables.new ≡ tables.old) }
+    ensures unfilled { OnErr result (caches.new ≡ caches.old) }
     ensures has { OnOk result (HasPage pages.now (cache_of caches.old hart) page) }
     ensures used { OnOk result (is_used (seen_at pages.now page) (entry_at tables.new page) ≡
         true) }
@@ -190,9 +192,11 @@ fn hit_or_walk<L: Ledger, S: SwapSlot>(
         (page_number address) place) }
     ensures refused { IfErr result (RefusesAccess pages.now access (page_number address)) }
     ensures held { ServesHeld (cache_of caches.old hart) access (page_number address) result }
-    ensures kept { KeepsTranslations pages.now hart tables.old tables.new caches.old caches.new }
+    ensures kept { KeepsTranslations pages.now hart (page_number address) tables.old tables.new caches.old
+        caches.new }
     ensures entries { MayWalk access (page_number address) tables.old tables.new }
     ensures unmarked { OnErr result (tables.new ≡ tables.old) }
+    ensures unfilled { OnErr result (caches.new ≡ caches.old) }
     ensures has { OnOk result (HasPage pages.now (cache_of caches.old hart) (page_number address)) }
     ensures marked { OnOk result (MarksUse pages.now tables.new (cache_of caches.old hart) access
         (page_number address)) }
@@ -220,9 +224,11 @@ pub(crate) fn reach<L: Ledger, S: SwapSlot>(
         (page_number address) place) }
     ensures refused { IfErr result (RefusesAccess pages.now access (page_number address)) }
     ensures held { ServesHeld (cache_of caches.old hart) access (page_number address) result }
-    ensures kept { KeepsTranslations pages.now hart tables.old tables.new caches.old caches.new }
+    ensures kept { KeepsTranslations pages.now hart (page_number address) tables.old tables.new caches.old
+        caches.new }
     ensures entries { MayWalk access (page_number address) tables.old tables.new }
     ensures unmarked { OnErr result (tables.new ≡ tables.old) }
+    ensures unfilled { OnErr result (caches.new ≡ caches.old) }
     ensures has { OnOk result (HasPage pages.now (cache_of caches.old hart) (page_number address)) }
     ensures marked { OnOk result (MarksUse pages.now tables.new (cache_of caches.old hart) access
         (page_number address)) }

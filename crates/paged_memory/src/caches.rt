@@ -1,7 +1,7 @@
 ghost use Rattle.std.specs.Prelude.{◌≡◌, ◌<◌, ◌≤◌, ◌%◌, [], ◌∷◌, ◌++◌, None, map, length, is_some, IfSome, option_copied, slice_get, slice_index_or, slice_set};
 ghost use Rattle.page_memory.specs.Words.{page_number, bytes_in};
-ghost use Rattle.tlb_core.specs.Cache.{Hits, doomed, undoomed, filled, translation_of};
-ghost use Rattle.paged_memory.specs.Soundness.{is_held};
+ghost use Rattle.tlb_core.specs.Cache.{Hits, OnePerPage, doomed, undoomed, filled, holds_mark, translation_of};
+ghost use Rattle.paged_memory.specs.Soundness.{is_held, is_marked};
 ghost use Rattle.paged_memory.specs.declared.caches.Miss.{Miss};
 
 use arrayvec::ArrayVec;
@@ -111,9 +111,12 @@ impl Caches {
         requires hart { hart < length self.old }
         requires unknown { miss ≡ Miss.Unknown →
             translation_of entry.page (slice_index_or self.old hart []) ≡ None }
-        ensures { self.new ≡ slice_set self.old hart (filled entry (slice_index_or self.old hart
-            [])) }
+        ensures filled { self.new ≡ slice_set self.old hart (filled entry
+            (slice_index_or self.old hart [])) }
+        ensures apart { OnePerPage (slice_index_or self.old hart []) }
     {
+        // For the proof alone: a read tells that each page has one translation at most.
+        let _ = self.harts.as_slice()[hart].entries();
         match miss {
             Miss::Unknown => self.harts.as_mut_slice()[hart].add(entry),
             Miss::Unfit => self.harts.as_mut_slice()[hart].fill(entry),
@@ -128,6 +131,17 @@ impl Caches {
             |cache: &Tlb| -> bool
                 ensures { result ≡ is_some (translation_of page cache.now) }
             { cache.holds(page) },
+        )
+    }
+
+    /// Whether a cache holds a translation of a page with the dirty mark.
+    pub fn is_marked(&self, page: u32) -> bool
+        ensures { result ≡ is_marked page self.now }
+    {
+        self.harts.as_slice().iter().any(
+            |cache: &Tlb| -> bool
+                ensures { result ≡ holds_mark page cache.now }
+            { cache.holds_dirty(page) },
         )
     }
 

@@ -8,11 +8,10 @@ ghost use Rattle.paged_memory.specs.GivingBack.{GivesBack, GivesNothing};
 ghost use Rattle.paged_memory.specs.Moving.{GivesIn, HasNothingBelow, LiesBehindIn, SameCaches, SameTablesIn};
 
 use crate::caches::Caches;
-use crate::eviction::state_in;
 use crate::memory::PagedMemory;
 use frame_pool::Frame;
 use page_memory::PageMap;
-use page_store::{PageState, StoredPage};
+use page_store::StoredPage;
 use std::sync::ledger::Ledger;
 use sv32_table::PageTables;
 use swap_slots::SwapSlot;
@@ -64,16 +63,17 @@ fn first_with_something<L: Ledger, S: SwapSlot>(
     None
 }
 
-/// Whether a page has a frame or a slot, and is not being saved.
+/// Whether a page has a frame or a slot to give back.
+#[tactic(auto, unfolding(crate::specs::Paged::page_at))]
 fn has_something<L: Ledger, S: SwapSlot>(pages: &PageMap<StoredPage<L, S>>, vpn: u32) -> bool
     requires { vpn < 2 ^ 20 }
     ensures something { OnTrue result (¬ GivesNothing (page_at pages.now vpn)) }
     ensures nothing { OnFalse result (GivesNothing (page_at pages.now vpn)) }
 {
-    matches!(
-        state_in(pages, vpn),
-        Some(PageState::Resident) | Some(PageState::Leaving) | Some(PageState::Away)
-    )
+    match pages.place(vpn) {
+        Some(place) => pages.at(place).has_to_give(),
+        None => false,
+    }
 }
 
 /// Takes a page's frame and slot, and unmaps it.

@@ -4,6 +4,7 @@
 mod access;
 mod bringing_back;
 mod caches;
+mod cleaning;
 mod coherence;
 mod collecting;
 mod counting;

@@ -6,7 +6,7 @@ ghost use Rattle.page_store.specs.PageValue.{content, writable};
 ghost use Rattle.rv_exec.specs.Answers.{Answers, BusRefuses};
 ghost use Rattle.paged_memory.specs.Paged.{Holds, flat_pages};
 ghost use Rattle.paged_memory.specs.Replies.{loaded_by};
-ghost use Rattle.paged_memory.specs.Access.{HasPage, LacksPage, MarksUse, KeepsTranslations, MayWalk, UsesBytes, cache_of, ServesHeld};
+ghost use Rattle.paged_memory.specs.Access.{HasPage, LacksPage, MarksUse, KeepsTranslations, MayWalk, TakesStores, UsesBytes, cache_of, ServesHeld};
 
 use crate::access::{at_hand, reach};
 use crate::caches::Caches;
@@ -65,6 +65,7 @@ pub(crate) fn read_ready<'a, L: Ledger, S: SwapSlot>(
 
 /// The bytes of a page that a hart reads.
 #[inline]
+#[tactic(auto, using(crate::proofs::HitLaws::reaches_takes))]
 pub(crate) fn read<'a, L: Ledger, S: SwapSlot>(
     pages: &'a PageMap<StoredPage<L, S>>,
     tables: &mut PageTables,
@@ -82,9 +83,13 @@ pub(crate) fn read<'a, L: Ledger, S: SwapSlot>(
     ensures refused { IfErr result (BusRefuses (LacksPage pages.now) address
         (usable (flat_pages S.content pages.now) access address)) }
     ensures held { ServesHeld (cache_of caches.old hart) access (page_number address) result }
-    ensures kept { KeepsTranslations pages.now hart tables.old tables.new caches.old caches.new }
+    ensures kept { KeepsTranslations pages.now hart (page_number address) tables.old tables.new caches.old
+        caches.new }
     ensures entries { MayWalk access (page_number address) tables.old tables.new }
     ensures unmarked { OnErr result (tables.new ≡ tables.old) }
+    ensures unfilled { OnErr result (caches.new ≡ caches.old) }
+    ensures takes { access ≡ Access.Store →
+        OnOk result (TakesStores pages.now tables.new (page_number address)) }
     ensures has { OnOk result (HasPage pages.now (cache_of caches.old hart) (page_number address)) }
     ensures marked { OnOk result (MarksUse pages.now tables.new (cache_of caches.old hart) access
         (page_number address)) }
@@ -115,9 +120,11 @@ pub(crate) fn fetch_anew<L: Ledger, S: SwapSlot>(
         (loaded_by result) }
     ensures held { ServesHeld (cache_of caches.old hart) Access.Fetch (page_number address)
         (loaded_by result) }
-    ensures kept { KeepsTranslations pages.now hart tables.old tables.new caches.old caches.new }
+    ensures kept { KeepsTranslations pages.now hart (page_number address) tables.old tables.new caches.old
+        caches.new }
     ensures entries { MayWalk Access.Fetch (page_number address) tables.old tables.new }
     ensures unmarked { OnErr (loaded_by result) (tables.new ≡ tables.old) }
+    ensures unfilled { OnErr (loaded_by result) (caches.new ≡ caches.old) }
 {
     if address % 4 != 0 {
         return LoadReply::Misaligned;
@@ -151,9 +158,11 @@ pub(crate) fn load_anew<L: Ledger, S: SwapSlot>(
         (loaded_by result) }
     ensures held { ServesHeld (cache_of caches.old hart) Access.Load (page_number address)
         (loaded_by result) }
-    ensures kept { KeepsTranslations pages.now hart tables.old tables.new caches.old caches.new }
+    ensures kept { KeepsTranslations pages.now hart (page_number address) tables.old tables.new caches.old
+        caches.new }
     ensures entries { MayWalk Access.Load (page_number address) tables.old tables.new }
     ensures unmarked { OnErr (loaded_by result) (tables.new ≡ tables.old) }
+    ensures unfilled { OnErr (loaded_by result) (caches.new ≡ caches.old) }
 {
     if address % width.bytes() != 0 {
         return LoadReply::Misaligned;
@@ -183,9 +192,12 @@ pub(crate) fn load_to_replace<L: Ledger, S: SwapSlot>(
         (LacksPage pages.now) address (answer_by (number_at 4 address)
         (aligned_page (flat_pages S.content pages.now) Access.Store 4 address)) result }
     ensures held { ServesHeld (cache_of caches.old hart) Access.Store (page_number address) result }
-    ensures kept { KeepsTranslations pages.now hart tables.old tables.new caches.old caches.new }
+    ensures kept { KeepsTranslations pages.now hart (page_number address) tables.old tables.new caches.old
+        caches.new }
     ensures entries { MayWalk Access.Store (page_number address) tables.old tables.new }
     ensures unmarked { OnErr result (tables.new ≡ tables.old) }
+    ensures unfilled { OnErr result (caches.new ≡ caches.old) }
+    ensures takes { OnOk result (TakesStores pages.now tables.new (page_number address)) }
 {
     if address % 4 != 0 {
         return Err(BusError::Fault(MemoryFault::Misaligned));

@@ -1,4 +1,4 @@
-ghost use Rattle.std.specs.Prelude.{◌≡◌, ◌+◌, ◌≤◌, ◌<◌, ◌%◌, length, is_some, Some, Ok, OnErr, true, ℕ, drop};
+ghost use Rattle.std.specs.Prelude.{◌≡◌, ◌+◌, ◌≤◌, ◌<◌, ◌%◌, length, is_some, Some, Ok, OnOk, OnErr, true, ℕ, drop};
 ghost use Rattle.page_memory.specs.Words.{page_number, page_offset, bytes_in};
 ghost use Rattle.page_memory.specs.Pages.{overwritten, stored, replaced, copied_in};
 ghost use Rattle.byteorder.specs.Endian.{little_bytes, little_number};
@@ -9,7 +9,7 @@ ghost use Rattle.rv_exec.specs.Answers.{Answers, with_answer};
 ghost use Rattle.page_memory.specs.declared.words.Access.{Access};
 ghost use Rattle.paged_memory.specs.Paged.{Holds, flat_pages};
 ghost use Rattle.paged_memory.specs.Replies.{stored_by};
-ghost use Rattle.paged_memory.specs.Access.{HasPage, LacksPage, MarksUse, KeepsTranslations, MayWalk, KeepsBare, cache_of, ServesHeld};
+ghost use Rattle.paged_memory.specs.Access.{HasPage, LacksPage, MarksUse, KeepsTranslations, MayWalk, KeepsBare, TakesStores, cache_of, ServesHeld};
 
 use crate::access::{at_hand, reach};
 use crate::caches::Caches;
@@ -84,6 +84,7 @@ fn replace_word_in<L: Ledger, S: SwapSlot>(
 
 /// Stores the low bytes of a word.
 #[inline]
+#[tactic(auto, using(crate::proofs::HitLaws::reaches_takes))]
 pub(crate) fn store<L: Ledger, S: SwapSlot>(
     pages: &mut PageMap<StoredPage<L, S>>,
     tables: &mut PageTables,
@@ -99,11 +100,14 @@ pub(crate) fn store<L: Ledger, S: SwapSlot>(
     ensures answer { let after = with_answer (λ _. flat_pages S.content pages.new) result in
         Answers (HasPage pages.old (cache_of caches.old hart)) (MarksUse pages.old tables.new (cache_of caches.old hart) Access.Store) (LacksPage pages.old) address (stored (flat_pages S.content pages.old) width address word) after }
     ensures refused { OnErr result (pages.new ≡ pages.old) }
-    ensures bare { KeepsBare pages.old pages.new }
+    ensures bare { KeepsBare (page_number address) pages.old pages.new }
     ensures held { ServesHeld (cache_of caches.old hart) Access.Store (page_number address) result }
-    ensures kept { KeepsTranslations pages.old hart tables.old tables.new caches.old caches.new }
+    ensures kept { KeepsTranslations pages.old hart (page_number address) tables.old tables.new caches.old
+        caches.new }
     ensures entries { MayWalk Access.Store (page_number address) tables.old tables.new }
     ensures unmarked { OnErr result (tables.new ≡ tables.old) }
+    ensures unfilled { OnErr result (caches.new ≡ caches.old) }
+    ensures takes { OnOk result (TakesStores pages.old tables.new (page_number address)) }
 {
     match at_hand(pages, tables, caches, hart, Access::Store, width, address) {
         Some(place) => {
@@ -122,6 +126,7 @@ pub(crate) fn store<L: Ledger, S: SwapSlot>(
 /// The same in a page that is not ready, which it makes ready.
 #[cold]
 #[inline(never)]
+#[tactic(auto, using(crate::proofs::HitLaws::reaches_takes))]
 fn store_anew<L: Ledger, S: SwapSlot>(
     pages: &mut PageMap<StoredPage<L, S>>,
     tables: &mut PageTables,
@@ -138,12 +143,15 @@ fn store_anew<L: Ledger, S: SwapSlot>(
         (stored_by result) in
         Answers (HasPage pages.old (cache_of caches.old hart)) (MarksUse pages.old tables.new (cache_of caches.old hart) Access.Store) (LacksPage pages.old) address (stored (flat_pages S.content pages.old) width address word) after }
     ensures refused { OnErr (stored_by result) (pages.new ≡ pages.old) }
-    ensures bare { KeepsBare pages.old pages.new }
+    ensures bare { KeepsBare (page_number address) pages.old pages.new }
     ensures held { ServesHeld (cache_of caches.old hart) Access.Store (page_number address)
         (stored_by result) }
-    ensures kept { KeepsTranslations pages.old hart tables.old tables.new caches.old caches.new }
+    ensures kept { KeepsTranslations pages.old hart (page_number address) tables.old tables.new caches.old
+        caches.new }
     ensures entries { MayWalk Access.Store (page_number address) tables.old tables.new }
     ensures unmarked { OnErr (stored_by result) (tables.new ≡ tables.old) }
+    ensures unfilled { OnErr (stored_by result) (caches.new ≡ caches.old) }
+    ensures takes { OnOk (stored_by result) (TakesStores pages.old tables.new (page_number address)) }
 {
     if address % width.bytes() != 0 {
         return StoreReply::Misaligned;
@@ -162,6 +170,7 @@ fn store_anew<L: Ledger, S: SwapSlot>(
 }
 
 /// Copies a slice into one page.
+#[tactic(auto, using(crate::proofs::HitLaws::reaches_takes))]
 pub(crate) fn copy_in<L: Ledger, S: SwapSlot>(
     pages: &mut PageMap<StoredPage<L, S>>,
     tables: &mut PageTables,
@@ -177,11 +186,14 @@ pub(crate) fn copy_in<L: Ledger, S: SwapSlot>(
     ensures answer { let after = with_answer (λ _. flat_pages S.content pages.new) result in
         Answers (HasPage pages.old (cache_of caches.old hart)) (MarksUse pages.old tables.new (cache_of caches.old hart) Access.Store) (LacksPage pages.old) address (copied_in (flat_pages S.content pages.old) address from.now) after }
     ensures refused { OnErr result (pages.new ≡ pages.old) }
-    ensures bare { KeepsBare pages.old pages.new }
+    ensures bare { KeepsBare (page_number address) pages.old pages.new }
     ensures held { ServesHeld (cache_of caches.old hart) Access.Store (page_number address) result }
-    ensures kept { KeepsTranslations pages.old hart tables.old tables.new caches.old caches.new }
+    ensures kept { KeepsTranslations pages.old hart (page_number address) tables.old tables.new caches.old
+        caches.new }
     ensures entries { MayWalk Access.Store (page_number address) tables.old tables.new }
     ensures unmarked { OnErr result (tables.new ≡ tables.old) }
+    ensures unfilled { OnErr result (caches.new ≡ caches.old) }
+    ensures takes { OnOk result (TakesStores pages.old tables.new (page_number address)) }
 {
     match reach(pages, tables, caches, hart, Access::Store, address) {
         Ok(place) => {
@@ -193,6 +205,7 @@ pub(crate) fn copy_in<L: Ledger, S: SwapSlot>(
 }
 
 /// Replaces the word at an address by an operation's result, in one step, and answers the old word.
+#[tactic(auto, using(crate::proofs::HitLaws::reaches_takes))]
 pub(crate) fn amo<L: Ledger, S: SwapSlot>(
     pages: &mut PageMap<StoredPage<L, S>>,
     tables: &mut PageTables,
@@ -209,11 +222,14 @@ pub(crate) fn amo<L: Ledger, S: SwapSlot>(
         let after = with_answer (λ old. (old, flat_pages S.content pages.new)) result in
         Answers (HasPage pages.old (cache_of caches.old hart)) (MarksUse pages.old tables.new (cache_of caches.old hart) Access.Store) (LacksPage pages.old) address (replaced (flat_pages S.content pages.old) update address) after }
     ensures refused { OnErr result (pages.new ≡ pages.old) }
-    ensures bare { KeepsBare pages.old pages.new }
+    ensures bare { KeepsBare (page_number address) pages.old pages.new }
     ensures held { ServesHeld (cache_of caches.old hart) Access.Store (page_number address) result }
-    ensures kept { KeepsTranslations pages.old hart tables.old tables.new caches.old caches.new }
+    ensures kept { KeepsTranslations pages.old hart (page_number address) tables.old tables.new caches.old
+        caches.new }
     ensures entries { MayWalk Access.Store (page_number address) tables.old tables.new }
     ensures unmarked { OnErr result (tables.new ≡ tables.old) }
+    ensures unfilled { OnErr result (caches.new ≡ caches.old) }
+    ensures takes { OnOk result (TakesStores pages.old tables.new (page_number address)) }
 {
     match at_hand(
         pages,
@@ -232,6 +248,7 @@ pub(crate) fn amo<L: Ledger, S: SwapSlot>(
 /// The same in a page that is not ready, which it makes ready.
 #[cold]
 #[inline(never)]
+#[tactic(auto, using(crate::proofs::HitLaws::reaches_takes))]
 fn amo_anew<L: Ledger, S: SwapSlot>(
     pages: &mut PageMap<StoredPage<L, S>>,
     tables: &mut PageTables,
@@ -248,11 +265,14 @@ fn amo_anew<L: Ledger, S: SwapSlot>(
         let after = with_answer (λ old. (old, flat_pages S.content pages.new)) result in
         Answers (HasPage pages.old (cache_of caches.old hart)) (MarksUse pages.old tables.new (cache_of caches.old hart) Access.Store) (LacksPage pages.old) address (replaced (flat_pages S.content pages.old) update address) after }
     ensures refused { OnErr result (pages.new ≡ pages.old) }
-    ensures bare { KeepsBare pages.old pages.new }
+    ensures bare { KeepsBare (page_number address) pages.old pages.new }
     ensures held { ServesHeld (cache_of caches.old hart) Access.Store (page_number address) result }
-    ensures kept { KeepsTranslations pages.old hart tables.old tables.new caches.old caches.new }
+    ensures kept { KeepsTranslations pages.old hart (page_number address) tables.old tables.new caches.old
+        caches.new }
     ensures entries { MayWalk Access.Store (page_number address) tables.old tables.new }
     ensures unmarked { OnErr result (tables.new ≡ tables.old) }
+    ensures unfilled { OnErr result (caches.new ≡ caches.old) }
+    ensures takes { OnOk result (TakesStores pages.old tables.new (page_number address)) }
 {
     if address % 4 != 0 {
         return Err(BusError::Fault(MemoryFault::Misaligned));

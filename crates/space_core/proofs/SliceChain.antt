@@ -24,7 +24,8 @@ use Rattle.space_core.specs.StepByStep.{SlicesOne, StepsOn, StepsEach, SlicesEac
 use Rattle.space_core.proofs.Bounding.{bound_none, bound_then, bound_as}
 use Rattle.space_core.proofs.SliceMoves.{each_none, each_append, used_on}
 use Rattle.paged_memory.specs.Using.{cache_in, HasIn, LacksIn, MarkedIn}
-use Rattle.paged_memory.specs.UsingLaws.{kept_itself, kept_on, lacked_in, resident_in}
+use Rattle.paged_memory.specs.HartMemoryLaws.{served_before}
+use Rattle.paged_memory.specs.UsingLaws.{goes_itself_in, goes_on_in, kept_itself, kept_on, lacked_in, resident_in}
 
 -- ---- so many, and then more
 
@@ -142,7 +143,7 @@ module _ {S : Type 0} (held : S → List ℕ) (honest : Type 0) (hart : ℕ) whe
     others_then old.memory between.memory new.memory kept.caches left.0,
     record {
       held = λ page is. had_then old between kept page (left.1.held page is);
-      doomed = λ page is. kept.caches.1.doomed page (left.1.doomed page is);
+      goes = goes_on_in hart old.memory between.memory new.memory kept.caches.1.goes left.1.goes;
     },
   )
   caches_then Ended old between new kept left = left
@@ -159,6 +160,7 @@ module _ {S : Type 0} (held : S → List ℕ) (honest : Type 0) (hart : ℕ) whe
     input = second.input ∙ first.input;
     process = second.process ∙ first.process;
     pages = kept_on old.memory between.memory new.memory first.pages second.pages;
+    tabled = λ page small. second.tabled page small ∙ first.tabled page small;
     used = λ page small is. second.used page small (first.used page small is);
     changed = λ page small is. second.changed page small (first.changed page small is);
     harts = second.harts;
@@ -194,10 +196,11 @@ module _ {S : Type 0} (held : S → List ℕ) (honest : Type 0) (hart : ℕ) whe
       input = refl;
       process = refl;
       pages = kept_itself space.memory;
+      tabled = λ page small. refl;
       used = λ page small was. was;
       changed = λ page small was. was;
       harts = is.cached;
-      caches = ((λ h other. refl), record { held = λ page was. inr was; doomed = λ page was. was });
+      caches = ((λ h other. refl), record { held = λ page was. inr was; goes = goes_itself_in hart space.memory });
     };
     stands = is.stands;
     coheres = coheres;
@@ -239,7 +242,7 @@ module _ {S : Type 0} (held : S → List ℕ) (honest : Type 0) (hart : ℕ) whe
 
       marks_back : (page : ℕ) → MarksSince new.memory (cache_in between.memory hart) page → MarksSince new.memory (cache_in old.memory hart) page
       marks_back page (small, inl used) = (small, inl used)
-      marks_back page (small, inr doomed) = (small, inr (all.kept.caches.1.doomed page doomed))
+      marks_back page (small, inr served) = (small, inr (served_before page (cache_in between.memory hart) (cache_in old.memory hart) all.kept.caches.1.goes.doomed served))
 
   all_on : (n : ℕ) (old new : SpaceValue S) → Together 0 0 Budget old old → StepsOn held honest hart n old new → Together n n Budget old new
   unfolding StepsOn

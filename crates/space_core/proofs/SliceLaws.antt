@@ -12,7 +12,8 @@ use Rattle.space_core.specs.declared.progress.SliceStop.{SliceStop}
 use Rattle.space_core.specs.declared.progress.SliceStop.TheVariants.{Budget, Absent, Yield, HartDone, Ended, NoHart, ScheduleFull, NoMemory}
 use Rattle.space_core.specs.Slicing.{OthersStay, SettlesCaches, LeavesCaches}
 use Rattle.paged_memory.specs.Using.{HoldsNone, SameCache}
-use Rattle.paged_memory.specs.UsingLaws.{same_held, same_doomed}
+use Rattle.paged_memory.specs.Moving.{SameEntries}
+use Rattle.paged_memory.specs.UsingLaws.{goes_same, same_held}
 
 -- ---- no hart that was started goes
 
@@ -50,21 +51,21 @@ module _ {S : Type 0} where
   settled_others : (hart : ℕ) (old between new : PagedValue S) → KeepsAccess hart old between → OthersStay hart between new × HoldsNone hart new → OthersStay hart old new × HoldsNone hart new
   settled_others hart old between new kept (others, own) = (λ h other. others h other ∙ kept.others h other, own)
 
-  pub settled : (stop : SliceStop) (hart : ℕ) (old between new : PagedValue S) → KeepsAccess hart old between → SettlesCaches stop hart between new → LeavesCaches stop hart old new
-  settled Budget hart old between new kept same = (
+  pub settled : (stop : SliceStop) (hart : ℕ) (old between new : PagedValue S) → KeepsAccess hart old between → SameEntries between new → SettlesCaches stop hart between new → LeavesCaches stop hart old new
+  settled Budget hart old between new kept entries same = (
     λ h other. same h ∙ kept.others h other,
     record {
       held = λ page is. kept.held page (sym (same_held hart page between new (same hart)) ∙ is);
-      doomed = λ page is. kept.doomed page (sym (same_doomed hart page between new (same hart)) ∙ is);
+      goes = goes_same hart old between new kept.goes entries (same hart);
     },
   )
-  settled Ended hart old between new kept emptied = emptied
-  settled (Absent page) hart old between new kept s = settled_others hart old between new kept s
-  settled Yield hart old between new kept s = settled_others hart old between new kept s
-  settled HartDone hart old between new kept s = settled_others hart old between new kept s
-  settled NoHart hart old between new kept s = settled_others hart old between new kept s
-  settled ScheduleFull hart old between new kept s = settled_others hart old between new kept s
-  settled NoMemory hart old between new kept s = settled_others hart old between new kept s
+  settled Ended hart old between new kept entries emptied = emptied
+  settled (Absent page) hart old between new kept entries s = settled_others hart old between new kept s
+  settled Yield hart old between new kept entries s = settled_others hart old between new kept s
+  settled HartDone hart old between new kept entries s = settled_others hart old between new kept s
+  settled NoHart hart old between new kept entries s = settled_others hart old between new kept s
+  settled ScheduleFull hart old between new kept entries s = settled_others hart old between new kept s
+  settled NoMemory hart old between new kept entries s = settled_others hart old between new kept s
 
   -- the same caches were there before more harts had one
   more_others : (hart : ℕ) (old between new : PagedValue S) → ((h : ℕ) → SameCache h old between) → OthersStay hart between new × HoldsNone hart new → OthersStay hart old new × HoldsNone hart new

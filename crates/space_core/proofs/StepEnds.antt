@@ -19,7 +19,7 @@ use Rattle.flat_machine.specs.declared.end.End.{End}
 use Rattle.flat_machine.specs.Process.{Process, IsWhole, may_step}
 use Rattle.flat_machine.specs.RunLaws.{flat_run_none, one_more_step}
 use Rattle.paged_memory.specs.HartMemory.{KeepsAccess, MarksSince}
-use Rattle.paged_memory.specs.HartMemoryLaws.{access_on}
+use Rattle.paged_memory.specs.HartMemoryLaws.{access_on, served_before}
 use Rattle.paged_memory.specs.Paged.{PagedValue, memory_of}
 use Rattle.paged_memory.specs.Using.{cache_in, HasIn, LacksIn, MarkedIn}
 use Rattle.paged_memory.specs.UsingLaws.{lacked_in, had_in}
@@ -62,7 +62,7 @@ module _ {S : Type 0} (held : S → List ℕ) (honest : Type 0) (hart : ℕ) whe
       IsStep (HasIn before hart) (MarksSince after (cache_in before hart)) (LacksIn before) (MarkedIn before) (MarkedIn after) hart r old.environment (memory_of held before) result regs env (memory_of held after)
 
   marks_back : (before between after : PagedValue S) → KeepsAccess hart before between → (page : ℕ) → MarksSince after (cache_in between hart) page → MarksSince after (cache_in before hart) page
-  marks_back before between after kept page marks = (marks.0, elim marks.1 [ inl used ↦ inl used | inr doomed ↦ inr (kept.doomed page doomed) ])
+  marks_back before between after kept page marks = (marks.0, elim marks.1 [ inl used ↦ inl used | inr served ↦ inr (served_before page (cache_in between hart) (cache_in before hart) kept.goes.doomed served) ])
 
   marks_on : (before between after : PagedValue S) → KeepsAccess hart between after → (page : ℕ) → MarksSince between (cache_in before hart) page → MarksSince after (cache_in before hart) page
   marks_on before between after kept page marks = (marks.0, elim marks.1 [ inl used ↦ inl (kept.used page marks.0 used) | inr doomed ↦ inr doomed ])

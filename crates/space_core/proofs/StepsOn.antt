@@ -18,7 +18,7 @@ use Rattle.flat_machine.specs.TurnsLaws.{one_more}
 use Rattle.paged_memory.specs.Coheres.{Coheres}
 use Rattle.paged_memory.specs.HartMemory.{MarksSince}
 use Rattle.paged_memory.specs.HartMemoryLaws.{access_itself}
-use Rattle.paged_memory.specs.Moving.{OnlyCaches}
+use Rattle.paged_memory.specs.Moving.{OnlyCaches, SameTablesIn}
 use Rattle.paged_memory.specs.Paged.{PagedValue, memory_of}
 use Rattle.paged_memory.specs.ShowingLaws.{used_given_up}
 use Rattle.paged_memory.specs.Using.{cache_in, HasIn, LacksIn, MarkedIn, KeepsIn}
@@ -214,10 +214,11 @@ module _ {S : Type 0} (held : S → List ℕ) (honest : Type 0) (hart : ℕ) whe
           input = refl;
           process = ap (λ (m : PagedValue S). m.process) only ∙ ends.kept.process;
           pages = pages;
+          tabled = subst (λ (m : PagedValue S). SameTablesIn old.memory m) (sym only) ends.kept.tabled;
           used = λ page small is. subst (λ (m : PagedValue S). is_used_in m page ≡ true) (sym only) (ends.kept.used page small is);
           changed = λ page small is. subst (λ (m : PagedValue S). is_dirty_in m page ≡ true) (sym only) (ends.kept.changed page small is);
           harts = cached;
-          caches = settled why hart old.memory after new ends.kept settles;
+          caches = settled why hart old.memory after new ends.kept (caches_marks after new only) settles;
         };
         stands = λ h. stands_sliced held old (with_parts old running schedule new) hart ran refl refl ran_is recorded (used_given_up old.memory new pages) (stands h);
         coheres = coheres;

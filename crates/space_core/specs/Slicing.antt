@@ -6,7 +6,8 @@ use Rattle.space_core.specs.declared.progress.SliceStop.{SliceStop}
 use Rattle.space_core.specs.declared.progress.SliceStop.TheVariants.{Budget, Absent, Yield, HartDone, Ended, NoHart, ScheduleFull, NoMemory}
 use Rattle.space_core.specs.RunningValue.{with_memory}
 use Rattle.space_core.specs.StandsFor.{SpaceValue}
-use Rattle.paged_memory.specs.Using.{HasIn, HoldsNone, KeepsIn, SameCache, holds_in, is_doomed_in}
+use Rattle.paged_memory.specs.Moving.{SameTablesIn}
+use Rattle.paged_memory.specs.Using.{GoesOnIn, HasIn, HoldsNone, KeepsIn, SameCache, holds_in}
 use Rattle.paged_memory.specs.Whole.{is_used_in, is_dirty_in, harts_in}
 
 -- the flat process with what its pages show, where slots hold this
@@ -17,10 +18,11 @@ shown_process held space = with_memory space.running (memory_of held space.memor
 abbrev pub OthersStay : {S : Type 0} → ℕ → PagedValue S → PagedValue S → Type 0
 OthersStay hart old new = (h : ℕ) → h ≢ hart → SameCache h old new
 
--- a hart that goes on has translations of pages alone that it had or that are resident, and none more that is to be dropped
+-- a hart that goes on has translations of pages alone that it had or that are resident; none more is to be dropped, and none went
+-- but to make room or for a newer one of its page, which carries the page's D
 pub record GoesOnWith {S : Type 0} (hart : ℕ) (old new : PagedValue S) : Type 0 where
   pub held : (page : ℕ) → holds_in new hart page ≡ true → HasIn old hart page
-  pub doomed : (page : ℕ) → is_doomed_in new hart page ≡ true → is_doomed_in old hart page ≡ true
+  pub goes : GoesOnIn hart old new
 
 -- what is left of the caches where a hart stops so: nothing of any where the process ended, nothing of the hart's own where
 -- it does not go on, and all else
@@ -46,12 +48,13 @@ LeavesCaches ScheduleFull hart old new = SettlesCaches ScheduleFull hart old new
 LeavesCaches NoMemory hart old new = SettlesCaches NoMemory hart old new
 
 -- what a slice keeps: the image and the input; the pages, but for the bytes in their frames and pages of zeros that were
--- mapped; no page's A or D falls; and each hart has its cache
+-- mapped; which pages have a table; no page's A or D falls; and each hart has its cache
 pub record KeepsSpace {S : Type 0} (hart : ℕ) (stop : SliceStop) (old new : SpaceValue S) : Type 0 where
   pub image : new.image ≡ old.image
   pub input : new.input ≡ old.input
   pub process : new.memory.process ≡ old.memory.process
   pub pages : KeepsIn old.memory new.memory
+  pub tabled : SameTablesIn old.memory new.memory
   pub used : (page : ℕ) → page < 2 ^ 20 → is_used_in old.memory page ≡ true → is_used_in new.memory page ≡ true
   pub changed : (page : ℕ) → page < 2 ^ 20 → is_dirty_in old.memory page ≡ true → is_dirty_in new.memory page ≡ true
   pub harts : harts_in new.memory ≡ length new.running.harts

@@ -15,7 +15,7 @@ use Rattle.sv32_table.specs.declared.walk.Leaf.{Leaf as Translation}
 use Rattle.page_memory.specs.declared.rights.Rights.{Rights}
 use Rattle.sv32_table.specs.Entry.{Entry, allows, entry_of, word_of, shape_of, touched, blank, leaf_entry, page_entry}
 use Rattle.sv32_table.specs.Tables.{IsSized, root_page, word_in, table_for, zero_table, pointed_by, mapped, marked, found, walked}
-use Rattle.sv32_table.specs.EntryAt.{is_leaf, entry_in, entry_at, pointed, IsTree, walk_entry, walked_entry, unmapped_entry, unaccessed_entry, valid_word, accessed_of, dirty_of, ChangesEntry, has_table, SameTables, AddsTable}
+use Rattle.sv32_table.specs.EntryAt.{is_leaf, entry_in, entry_at, pointed, IsTree, walk_entry, walked_entry, unmapped_entry, unaccessed_entry, undirtied_entry, valid_word, accessed_of, dirty_mark_of, dirty_of, ChangesEntry, has_table, SameTables, AddsTable}
 use Rattle.sv32_table.specs.EntryWordLaws.{entry_of-word_of, software_small}
 use Rattle.sv32_table.specs.Leading.{walk_leads, LeadsByEntry}
 use Rattle.sv32_table.specs.TranslationProcess.{Success, Words, FollowsProcess, IsTranslation, physical_words, translate}
@@ -111,7 +111,7 @@ same_after_remap old new vpn word tree fits there is q inside =
         or_true (is_some (table_for old q)) true (ap is_some same ∙ there)
     by_region false here = or_false (is_some (table_for old q))
 
--- `unmap` and `test_and_clear_accessed`
+-- `unmap`, `test_and_clear_accessed` and `clear_dirty`
 pub tree_after_mark : (old new : List (List ℕ)) (vpn : ℕ) (change : Entry → ℕ) → IsTree old → vpn < 2 ^ 20 → new ≡ marked old vpn change → IsTree new
 tree_after_mark old new vpn change tree fits is = rw is (IsTree-marked old vpn change tree fits)
 
@@ -138,6 +138,16 @@ entries_after_clear old new vpn tree fits is =
     let change : Entry → ℕ = λ e. word_of (record e { accessed = false }) in
     rw is (subst (λ (x : Entry). ChangesEntry old (marked old vpn change) vpn (cond e.valid x e)) back (entry_at-marked old vpn change tree fits))
 
+pub entries_after_clean : (old new : List (List ℕ)) (vpn : ℕ) → IsTree old → vpn < 2 ^ 20 → new ≡ marked old vpn (λ e. word_of (record e { dirty = false }))
+    → ChangesEntry old new vpn (undirtied_entry (entry_at old vpn))
+unfolding undirtied_entry
+entries_after_clean old new vpn tree fits is =
+    let e = entry_at old vpn in
+    let clear : Entry = record e { dirty = false } in
+    let back : entry_of (word_of clear) ≡ clear = entry_of-word_of clear (entry_at_small old vpn) in
+    let change : Entry → ℕ = λ e. word_of (record e { dirty = false }) in
+    rw is (subst (λ (x : Entry). ChangesEntry old (marked old vpn change) vpn (cond e.valid x e)) back (entry_at-marked old vpn change tree fits))
+
 pub found_entry : (tables : List (List ℕ)) (vpn : ℕ) → found tables vpn ≡ valid_word (entry_at tables vpn)
 found_entry tables vpn = found-entry_at tables vpn
 
@@ -152,6 +162,19 @@ accessed_found tables vpn =
 
     by_valid : (b : Bool) → option_map (λ (pte : Pte). (entry_of pte.0).accessed) (cond b (Some (record { 0 = word_of e })) None) ≡ cond b (Some e.accessed) None
     by_valid true = ap (λ (x : Entry). Some x.accessed) (entry_of-word_of e (entry_at_small tables vpn))
+    by_valid false = refl
+
+pub dirty_mark_found : (tables : List (List ℕ)) (vpn : ℕ)
+    → option_map (λ (pte : Pte). (entry_of pte.0).dirty) (found tables vpn) ≡ dirty_mark_of (entry_at tables vpn)
+unfolding dirty_mark_of valid_word
+dirty_mark_found tables vpn =
+    ap (option_map (λ (pte : Pte). (entry_of pte.0).dirty)) (found-entry_at tables vpn) ∙ by_valid e.valid
+  where
+    e : Entry
+    e = entry_at tables vpn
+
+    by_valid : (b : Bool) → option_map (λ (pte : Pte). (entry_of pte.0).dirty) (cond b (Some (record { 0 = word_of e })) None) ≡ cond b (Some e.dirty) None
+    by_valid true = ap (λ (x : Entry). Some x.dirty) (entry_of-word_of e (entry_at_small tables vpn))
     by_valid false = refl
 
 -- `walk`

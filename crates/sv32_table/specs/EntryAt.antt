@@ -52,12 +52,15 @@ walk_entry e address access =
 unfoldable pub walked_entry : Entry → Access → Entry
 walked_entry e access = if is_leaf (shape_of e) && allows access e then touched access e else e
 
--- the entry with V cleared from the word, and the entry with A cleared, where it has V
+-- the entry with V cleared from the word, and the entry with A cleared, and with D cleared, where it has V
 unfoldable pub unmapped_entry : Entry → Entry
 unmapped_entry e = if e.valid then blank else e
 
 unfoldable pub unaccessed_entry : Entry → Entry
 unaccessed_entry e = if e.valid then record e { accessed = false } else e
+
+unfoldable pub undirtied_entry : Entry → Entry
+undirtied_entry e = if e.valid then record e { dirty = false } else e
 
 -- the word of an entry with V, if it has V
 unfoldable pub valid_word : Entry → Option Pte
@@ -70,6 +73,10 @@ ChangesEntry old new vpn e = (q : ℕ) → q < 2 ^ 20 → entry_at new q ≡ (if
 -- whether the entry has A, if it has V
 unfoldable pub accessed_of : Entry → Option Bool
 accessed_of e = if e.valid then Some e.accessed else None
+
+-- whether the entry has D, if it has V
+unfoldable pub dirty_mark_of : Entry → Option Bool
+dirty_mark_of e = if e.valid then Some e.dirty else None
 
 -- whether the entry has D, and V
 unfoldable pub dirty_of : Entry → Bool

@@ -7,7 +7,7 @@ use Rattle.page_memory.specs.declared.rights.Rights.{Rights}
 use Rattle.page_memory.specs.Rights.{has, may}
 use Rattle.sv32_table.specs.declared.fault.WalkFault.TheVariants.{PageFault}
 use Rattle.sv32_table.specs.Entry.{Entry, entry_of, word_of, shape_of, allows, touched, blank, leaf_entry, page_entry}
-use Rattle.sv32_table.specs.EntryAt.{is_leaf, walk_entry, walked_entry, unmapped_entry, unaccessed_entry, accessed_of, dirty_of}
+use Rattle.sv32_table.specs.EntryAt.{is_leaf, walk_entry, walked_entry, unmapped_entry, unaccessed_entry, undirtied_entry, accessed_of, dirty_mark_of, dirty_of}
 use Rattle.sv32_table.specs.EntryWordLaws.{entry_of-word_of}
 
 abbrev pub is_store : Access → Bool
@@ -30,7 +30,7 @@ leaf_with_dirty ppn rights accessed word is =
     ap (λ w. word_of (record (entry_of w) { dirty = true })) is
     ∙ ap (λ (x : Entry). word_of (record x { dirty = true })) (entry_of-word_of (leaf_entry ppn rights accessed) (lit< tt))
 
--- as `unmap` and `test_and_clear_accessed` leave it, and what they answer
+-- as `unmap`, `test_and_clear_accessed` and `clear_dirty` leave it, and what they answer
 pub unmapped_entry-page_entry : (ppn : ℕ) (rights : Rights) (accessed dirty : Bool) → unmapped_entry (page_entry ppn rights accessed dirty) ≡ blank
 unfolding unmapped_entry page_entry leaf_entry
 unmapped_entry-page_entry ppn rights accessed dirty = refl
@@ -40,9 +40,18 @@ pub unaccessed_entry-page_entry : (ppn : ℕ) (rights : Rights) (accessed dirty 
 unfolding unaccessed_entry page_entry leaf_entry
 unaccessed_entry-page_entry ppn rights accessed dirty = refl
 
+pub undirtied_entry-page_entry : (ppn : ℕ) (rights : Rights) (accessed dirty : Bool)
+    → undirtied_entry (page_entry ppn rights accessed dirty) ≡ page_entry ppn rights accessed false
+unfolding undirtied_entry page_entry leaf_entry
+undirtied_entry-page_entry ppn rights accessed dirty = refl
+
 pub accessed_of-page_entry : (ppn : ℕ) (rights : Rights) (accessed dirty : Bool) → accessed_of (page_entry ppn rights accessed dirty) ≡ Some accessed
 unfolding accessed_of page_entry leaf_entry
 accessed_of-page_entry ppn rights accessed dirty = refl
+
+pub dirty_mark_of-page_entry : (ppn : ℕ) (rights : Rights) (accessed dirty : Bool) → dirty_mark_of (page_entry ppn rights accessed dirty) ≡ Some dirty
+unfolding dirty_mark_of page_entry leaf_entry
+dirty_mark_of-page_entry ppn rights accessed dirty = refl
 
 pub dirty_of-page_entry : (ppn : ℕ) (rights : Rights) (accessed dirty : Bool) → dirty_of (page_entry ppn rights accessed dirty) ≡ dirty
 unfolding dirty_of page_entry leaf_entry

@@ -137,6 +137,13 @@ word_of_not_accessed word set =
     let was : weigh (flag word 64) 64 ≡ 64 = ap (λ b. weigh b 64) set in
     omega arith
 
+pub word_of_not_dirty : (word : ℕ) → (entry_of word).dirty ≡ true → word - 128 ≡ word_of (record (entry_of word) { dirty = false })
+unfolding word_of entry_of
+word_of_not_dirty word set =
+    let whole = word_of-entry_of word in
+    let was : weigh (flag word 128) 128 ≡ 128 = ap (λ b. weigh b 128) set in
+    omega arith
+
 -- each flag is the test of its mask
 pub valid_flag : (word : ℕ) → (bit_and word 1 == 1) ≡ (entry_of word).valid
 unfolding entry_of
@@ -186,6 +193,20 @@ unfolding word_of entry_of
 same_accessed word clear =
     let whole = word_of-entry_of word in
     let was : weigh (flag word 64) 64 ≡ 0 = ap (λ b. weigh b 64) clear in
+    omega arith
+
+pub dirty_room : (word : ℕ) → (entry_of word).dirty ≡ true → 128 ≤ word
+unfolding entry_of
+dirty_room word set =
+    let was : weigh (flag word 128) 128 ≡ 128 = ap (λ b. weigh b 128) set in
+    let part = weigh-flag word 128 in
+    omega arith
+
+pub same_dirty : (word : ℕ) → (entry_of word).dirty ≡ false → word ≡ word_of (record (entry_of word) { dirty = false })
+unfolding word_of entry_of
+same_dirty word clear =
+    let whole = word_of-entry_of word in
+    let was : weigh (flag word 128) 128 ≡ 0 = ap (λ b. weigh b 128) clear in
     omega arith
 
 -- a store sets A and then D

@@ -1,6 +1,6 @@
 ghost use Rattle.std.specs.Prelude.{◌≡◌, ◌<◌, ◌/◌, ◌^◌, List, ℕ, true, false, IfNone, IfOk, IsErr, OnOk, OnErr};
 ghost use Rattle.sv32_table.specs.Entry.{blank, entry_of, leaf_entry, page_entry};
-ghost use Rattle.sv32_table.specs.EntryAt.{entry_at, ChangesEntry, walk_entry, walked_entry, valid_word, unmapped_entry, accessed_of, dirty_of, unaccessed_entry, has_table, SameTables, AddsTable};
+ghost use Rattle.sv32_table.specs.EntryAt.{entry_at, ChangesEntry, walk_entry, walked_entry, valid_word, unmapped_entry, accessed_of, dirty_of, dirty_mark_of, unaccessed_entry, undirtied_entry, has_table, SameTables, AddsTable};
 ghost use Rattle.sv32_table.specs.Leading.{LeadsByEntry};
 ghost use Rattle.sv32_table.specs.TranslationProcess.{IsTranslation};
 
@@ -131,6 +131,19 @@ impl PageTables {
         ensures gone { IfNone result (self.new ≡ self.old) }
     {
         self.tables.test_and_clear_accessed(vpn)
+    }
+
+    /// Clears D in a page's entry and answers what it was, or `None` where the page has none with V. It takes no memory.
+    #[tactic(auto, using(crate::proofs::TreeCalls::dirty_mark_found, crate::proofs::TreeCalls::tables_after_mark, crate::proofs::TreeCalls::entries_after_clean))]
+    pub fn clear_dirty(&mut self, vpn: u32) -> Option<bool>
+        requires { vpn < 2 ^ 20 }
+        ensures answer { result ≡ dirty_mark_of (entry_at self.old vpn) }
+        ensures entries { ChangesEntry self.old self.new vpn (undirtied_entry
+            (entry_at self.old vpn)) }
+        ensures tables { SameTables self.old self.new }
+        ensures gone { IfNone result (self.new ≡ self.old) }
+    {
+        self.tables.clear_dirty(vpn)
     }
 
     /// A page's entry, or `None` where it has none with V.

@@ -239,6 +239,18 @@ impl Pte {
             self
         }
     }
+
+    /// The entry with D clear.
+    #[tactic(auto, using(crate::specs::EntryWordLaws::word_of_not_dirty, crate::specs::EntryWordLaws::same_dirty, crate::specs::EntryWordLaws::dirty_room))]
+    pub(crate) fn without_dirty(self) -> Pte
+        ensures { result.0 ≡ word_of (record (entry_of self.0) { dirty = false }) }
+    {
+        if self.is_dirty() {
+            Pte(self.0 - Pte::DIRTY.0)
+        } else {
+            self
+        }
+    }
 }
 
 /// What a flag adds to its entry's word.

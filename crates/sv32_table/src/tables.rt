@@ -143,6 +143,26 @@ impl Tables {
         Some(pte.is_accessed())
     }
 
+    /// Clears D in a page's word and answers what it was, or `None` where the page has no word with V. It takes no memory.
+    #[tactic(auto, unfolding(crate::specs::Tables::marked, crate::specs::Tables::marked_from, crate::specs::Tables::found, crate::specs::Tables::found_from, crate::specs::Tables::word_if_valid))]
+    pub fn clear_dirty(&mut self, vpn: u32) -> Option<bool>
+        requires { vpn < 2 ^ 20 }
+        ensures answer { result ≡ option_map (λ pte. (entry_of pte.0).dirty)
+            (found self.old vpn) }
+        ensures words { self.new ≡ marked self.old vpn (λ e.
+            word_of (record e { dirty = false })) }
+        ensures gone { IfNone result (self.new ≡ self.old) }
+    {
+        let table = self.table_for(vpn)?;
+        let index = (vpn % 1024) as usize;
+        let pte = Pte(self.word(table, index));
+        if !pte.is_valid() {
+            return None;
+        }
+        self.write(table, index, pte.without_dirty().0);
+        Some(pte.is_dirty())
+    }
+
     /// A page's word, or `None` where it has none with V.
     #[tactic(auto, unfolding(crate::specs::Tables::found, crate::specs::Tables::found_from, crate::specs::Tables::word_if_valid))]
     pub fn lookup(&self, vpn: u32) -> Option<Pte>

@@ -1,4 +1,4 @@
-ghost use Rattle.std.specs.Prelude.{◌≡◌, ◌-◌, ◌+◌, ◌^◌, ◌<◌, ◌≤◌, ◌↔◌, ⊤, min, IfOk, IsOk, OnOk, OnErr};
+ghost use Rattle.std.specs.Prelude.{◌≡◌, ◌-◌, ◌+◌, ◌^◌, ◌<◌, ◌≤◌, ◌↔◌, ⊤, min, IfOk, IsOk, OnOk, OnErr, true};
 ghost use Rattle.swap_slots.specs.Slot.{Rose, zero_content};
 
 use crate::memory::MemorySlot;
@@ -61,6 +61,12 @@ impl SwapSlot for FuseSlot {
     ghost failures = { λ slot. slot.failures };
 
     ghost honest = { ⊤ };
+
+    fn is_known_honest() -> bool
+        ensures known { result ≡ true }
+    {
+        true
+    }
 
     fn save(&mut self, page: &[u8; 4096]) -> Result<(), SlotFault>
         ensures succeeds { IsOk result ↔ (0 < self.old.left) }

@@ -1,4 +1,4 @@
-ghost use Rattle.std.specs.Prelude.{◌≡◌, ◌≤◌, ⊤, IfOk, IsOk, OnOk, OnErr};
+ghost use Rattle.std.specs.Prelude.{◌≡◌, ◌≤◌, ⊤, IfOk, IsOk, OnOk, OnErr, true};
 ghost use Rattle.swap_slots.specs.Slot.{Rose, zero_content};
 
 use crate::slot::{SlotFault, SwapSlot};
@@ -37,6 +37,12 @@ impl SwapSlot for MemorySlot {
     ghost failures = { λ _. 0 };
 
     ghost honest = { ⊤ };
+
+    fn is_known_honest() -> bool
+        ensures known { result ≡ true }
+    {
+        true
+    }
 
     fn save(&mut self, page: &[u8; 4096]) -> Result<(), SlotFault>
         ensures succeeds { IsOk result }

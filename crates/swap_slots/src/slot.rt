@@ -1,4 +1,4 @@
-ghost use Rattle.std.specs.Prelude.{◌≡◌, ◌≤◌, ℕ, List, OnOk, OnErr};
+ghost use Rattle.std.specs.Prelude.{◌≡◌, ◌≤◌, ℕ, List, IsTrue, OnOk, OnErr};
 ghost use Rattle.swap_slots.specs.Slot.{Rose};
 
 use thiserror::Error;
@@ -18,6 +18,11 @@ pub trait SwapSlot: Drop {
 
     /// Whether slots of this kind keep what was saved. A kind that can't tell, as one over a file, takes `⊥`.
     ghost honest: { Type 0 };
+
+    /// Whether slots of this kind are known to be honest: what stands above then takes no digest of what it saves and loads.
+    /// A kind that answers `false` may be honest all the same.
+    fn is_known_honest() -> bool
+        ensures known { IsTrue result → honest };
 
     /// Saves a page. A save that fails leaves open what the slot holds.
     fn save(&mut self, page: &[u8; 4096]) -> Result<(), SlotFault>

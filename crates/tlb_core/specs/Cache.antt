@@ -1,5 +1,6 @@
 -- A translation cache: the entries of pages, at most 16, at most one for each page, the oldest first.
-use Rattle.std.specs.Prelude.{◌≡◌, ◌≢◌, ℕ, Bool, true, ◌==◌, ◌||◌, not, nat_lt, if◌then◌else◌, Option, Some, None, List, [], ◌∷◌, ◌++◌, length, drop, map, filter, find, position, slice_set, AllPairs}
+use Rattle.std.specs.Prelude.{◌≡◌, ◌≢◌, ℕ, Bool, true, false, ◌==◌, ◌||◌, ◌&&◌, not, nat_lt, if◌then◌else◌, Option, Some, None, List, [], ◌∷◌, ◌++◌, length, drop, map, filter, find, position, slice_set, AllPairs}
+use Rattle.std.specs.List.{list_any}
 use Rattle.page_memory.specs.declared.words.Access.{Access}
 use Rattle.page_memory.specs.declared.words.Access.TheVariants.{Store}
 use Rattle.page_memory.specs.Rights.{may}
@@ -16,6 +17,15 @@ is_of_page page e = e.page == page
 -- the entry of a page
 abbrev pub translation_of : ℕ → List Translation → Option Translation
 translation_of page cache = find (is_of_page page) cache
+
+-- whether an entry has the dirty mark, if there is one
+abbrev pub has_mark : Option Translation → Bool
+has_mark None = false
+has_mark (Some e) = e.dirty
+
+-- whether a page has an entry with the dirty mark
+abbrev pub holds_mark : ℕ → List Translation → Bool
+holds_mark page cache = list_any (λ e. is_of_page page e && e.dirty) cache
 
 -- a cache shows the place of a page for an access: it has a translation with the right, and for a store with D
 pub record Hits (cache : List Translation) (access : Access) (page place : ℕ) : Type 0 where

@@ -1,5 +1,5 @@
 -- Laws of translation caches for the crates above: what each call does to all entries, and to the entry of a page.
-use Rattle.std.specs.Prelude.{◌≡◌, ◌≢◌, ℕ, ◌+◌, ◌<◌, Bool, true, false, not, nat_lt, Option, Some, None, List, [], ◌∷◌, ◌++◌, length, drop, map, find, position, slice_set, All, refl, ◌⊎◌}
+use Rattle.std.specs.Prelude.{◌≡◌, ◌≢◌, ℕ, ◌+◌, ◌<◌, Bool, true, false, ◌||◌, ◌&&◌, not, nat_lt, Option, Some, None, List, [], ◌∷◌, ◌++◌, length, drop, map, find, position, slice_set, All, refl, ◌⊎◌}
 use Rattle.std.proofs.Common.{sym, ◌∙◌, ap, arith, cond, get_or, inl, inr, option_map, suc, zero}
 use Rattle.std.specs.List.{position_or_len}
 use Rattle.std.proofs.lemmas.List.Elements.{All-head, All-tail, All-nil, All-cons, All-set, All-push, All-drop, All-filter}
@@ -10,7 +10,7 @@ use Rattle.page_memory.specs.declared.words.Access.{Access}
 use Rattle.page_memory.specs.declared.words.Access.TheVariants.{Store}
 use Rattle.page_memory.specs.Rights.{may}
 use Rattle.tlb_core.specs.declared.translation.Translation.{Translation}
-use Rattle.tlb_core.specs.Cache.{Hits, OnePerPage, is_of_page, translation_of, with_room, filled, filled_at, doomed_entry, doomed, undoomed}
+use Rattle.tlb_core.specs.Cache.{Hits, OnePerPage, is_of_page, translation_of, has_mark, holds_mark, with_room, filled, filled_at, doomed_entry, doomed, undoomed}
 
 -- the first entry is the page's, or the page's stands behind it
 first_or_later : (page : ℕ) (x e : Translation) (o : Option Translation) → cond (is_of_page page x) (Some x) o ≡ Some e
@@ -58,6 +58,31 @@ none-All page (x ∷ xs) all =
     let apart : x.page ≢ page = All-head (λ (e : Translation). e.page ≢ page) x xs all in
     let test : is_of_page page x ≡ false = grind (arith, nat_tests) in
     rw test (none-All page xs (All-tail (λ (e : Translation). e.page ≢ page) x xs all))
+
+-- where no entry is a page's, none has its dirty mark
+pub unmarked-All : (page : ℕ) (cache : List Translation) → All (λ e. e.page ≢ page) cache → holds_mark page cache ≡ false
+unmarked-All page [] all = refl
+unmarked-All page (x ∷ xs) all =
+    let apart : x.page ≢ page = All-head (λ (e : Translation). e.page ≢ page) x xs all in
+    let test : is_of_page page x ≡ false = grind (arith, nat_tests) in
+    rw test (unmarked-All page xs (All-tail (λ (e : Translation). e.page ≢ page) x xs all))
+
+-- where a page has at most one entry, that one tells of the mark
+pub marked_as : (page : ℕ) (cache : List Translation) → OnePerPage cache → holds_mark page cache ≡ has_mark (translation_of page cache)
+marked_as page [] one = refl
+marked_as page (x ∷ xs) one =
+    by_test (is_of_page page x) refl (marked_as page xs (record { apart = λ i j d below inside. one.apart (suc i) (suc j) d (omega arith) (omega arith) }))
+  where
+    or_false : (b : Bool) → (b || false) ≡ b
+    or_false true = refl
+    or_false false = refl
+
+    by_test : (b : Bool) → is_of_page page x ≡ b → holds_mark page xs ≡ has_mark (translation_of page xs) → (is_of_page page x && x.dirty || holds_mark page xs) ≡ has_mark (cond (is_of_page page x) (Some x) (translation_of page xs))
+    by_test true test later =
+        let of : x.page ≡ page = grind (arith, nat_tests) in
+        let none : holds_mark page xs ≡ false = unmarked-All page xs (λ k d within same. one.apart 0 (suc k) d (omega arith) (omega arith) (of ∙ sym same)) in
+        rw (test, none) (or_false x.dirty)
+    by_test false test later = rw test later
 
 none_without_place : (p : Translation → Bool) (xs : List Translation) → nat_lt (position_or_len p xs) (length xs) ≡ false → find p xs ≡ None
 none_without_place p xs test = find_at p xs ∙ slice_get_past xs (position_or_len p xs) (grind (arith, nat_tests))

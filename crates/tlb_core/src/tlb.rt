@@ -2,7 +2,7 @@ ghost use Rattle.std.specs.Prelude.{◌≡◌, ◌<◌, ◌≤◌, ◌%◌, ℕ,
 ghost use Rattle.std.specs.List.{list_any};
 ghost use Rattle.page_memory.specs.Words.{page_number, bytes_in};
 ghost use Rattle.tlb_core.specs.Ready.{IsReady};
-ghost use Rattle.tlb_core.specs.Cache.{OnePerPage, Hits, translation_of, is_of_page, filled, doomed, undoomed, with_room};
+ghost use Rattle.tlb_core.specs.Cache.{OnePerPage, Hits, translation_of, holds_mark, is_of_page, filled, doomed, undoomed, with_room};
 
 use crate::crowds::{Crowds, crowds_of};
 use crate::entries::Entries;
@@ -105,6 +105,18 @@ impl Tlb {
         ensures { result ≡ is_some (translation_of page self.now) }
     {
         self.look(page).is_some()
+    }
+
+    /// Whether there is an entry of a page with the dirty mark: a store through it needs no walk.
+    pub fn holds_dirty(&self, page: u32) -> bool
+        ensures mark { result ≡ holds_mark page self.now }
+    {
+        // For the proof alone: a page has at most one entry.
+        let _ = &self.entries;
+        match self.look(page) {
+            Some(entry) => entry.dirty,
+            None => false,
+        }
     }
 
     #[cold]

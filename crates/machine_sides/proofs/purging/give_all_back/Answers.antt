@@ -12,7 +12,7 @@ loop-given-init g c = record { gave = none_gave c.args.pager.now c.args.slots.no
 pub returns-then-is_some : goal.returns-then-is_some
 returns-then-is_some g c =
     stopped c.in-Some.given c.free_frame-frame.result c.pool_slot-slot.result c.args.pager.now c.loop-given.pager c.free_frame-frame.new.pager c.args.slots.now c.loop-given.slots c.pool_slot-slot.new.slots
-    c.args.space.now c.loop-given.space c.take_from.new.self c.loop-given.invariant.gave c.in-Some.ensures.given c.take_from.ensures.stays c.take_from.ensures.process c.free_frame-frame.ensures c.pool_slot-slot.ensures
+    c.args.space.now c.loop-given.space c.take_from.new.self c.loop-given.invariant.gave c.in-Some.ensures.given c.take_from.ensures.stays c.take_from.ensures.process (c.take_from.ensures.tabled, c.take_from.ensures.reserved) c.free_frame-frame.ensures c.pool_slot-slot.ensures
     (caches_now c.args.space.now c.loop-given.space c.take_from.new.self c.in-Some.ensures.ended c.loop-given.invariant.harts c.take_from.ensures.caches)
     (elim c.then-is_some.branch [
       | then-is_some-via-then-is_some w ↦ first_some c.free_frame-frame.result (is_some c.pool_slot-slot.result) (sym c.is_some.ensures ∙ w.if-is_some.true)
@@ -29,7 +29,7 @@ loop-given-preserved g c =
     let emptied = caches_now c.args.space.now c.loop-given.space c.take_from.new.self c.in-Some.ensures.ended c.loop-given.invariant.harts c.take_from.ensures.caches in
     record {
       gave = went_on c.in-Some.given c.free_frame-frame.result c.pool_slot-slot.result c.args.pager.now c.loop-given.pager c.free_frame-frame.new.pager c.args.slots.now c.loop-given.slots c.pool_slot-slot.new.slots
-          c.args.space.now c.loop-given.space c.take_from.new.self c.loop-given.invariant.gave c.in-Some.ensures.given c.take_from.ensures.stays c.take_from.ensures.process c.free_frame-frame.ensures c.pool_slot-slot.ensures
+          c.args.space.now c.loop-given.space c.take_from.new.self c.loop-given.invariant.gave c.in-Some.ensures.given c.take_from.ensures.stays c.take_from.ensures.process (c.take_from.ensures.tabled, c.take_from.ensures.reserved) c.free_frame-frame.ensures c.pool_slot-slot.ensures
           (sym c.is_some.ensures ∙ c.if-is_some.false) (sym c.is_some-else-is_some.ensures ∙ c.if-is_some-2.false);
       given = c.in-Some.ensures.next;
       harts = empties_harts c.args.space.now.memory c.take_from.new.self.memory emptied;

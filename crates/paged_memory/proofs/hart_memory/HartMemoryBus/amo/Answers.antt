@@ -29,7 +29,8 @@ pub returns-in-Err-clause-writes : goal.returns-in-Err-clause-writes
 returns-in-Err-clause-writes g c =
     let after : PagedValue _ = record { process = c.memory.inside.process; pages = c.amo.new.pages; tables = c.amo.new.tables; caches = c.amo.new.caches; reserved = c.memory.inside.reservations } in
     subst (λ (m : PagedValue _). Writes {A = ℕ} c.args.self.now.hart Store (page_number c.args.address) (Err c.in-Err.refusal) m after) c.memory.view_is (record {
-      accesses = record { small = (let fits = c.ranges.address.fits in omega arith); process = refl; bare = c.in-Err.ensures.bare; held = c.in-Err.ensures.held; kept = c.in-Err.ensures.kept; entries = c.in-Err.ensures.entries; unmarked = c.in-Err.ensures.unmarked };
+      accesses = record { small = (let fits = c.ranges.address.fits in omega arith); process = refl; bare = c.in-Err.ensures.bare; held = c.in-Err.ensures.held; kept = c.in-Err.ensures.kept; entries = c.in-Err.ensures.entries; unmarked = c.in-Err.ensures.unmarked; unfilled = c.in-Err.ensures.unfilled };
+      takes = tt;
       pages = c.in-Err.ensures.refused;
       reserved = refl;
     })

@@ -29,7 +29,8 @@ pub returns-in-Err-clause-writes : goal.returns-in-Err-clause-writes
 returns-in-Err-clause-writes g c =
     let after : PagedValue _ = record { process = c.memory.inside.process; pages = c.store.new.pages; tables = c.store.new.tables; caches = c.store.new.caches; reserved = c.memory.inside.reservations } in
     subst (λ (m : PagedValue _). Writes {A = Bool} c.args.self.now.hart Store (page_number c.args.address) (Err c.in-Err.refusal) m after) c.memory.view_is (record {
-      accesses = record { small = (let fits = c.ranges.address.fits in omega arith); process = refl; bare = c.in-Err.ensures.bare; held = c.in-Err.ensures.held; kept = c.in-Err.ensures.kept; entries = c.in-Err.ensures.entries; unmarked = c.in-Err.ensures.unmarked };
+      accesses = record { small = (let fits = c.ranges.address.fits in omega arith); process = refl; bare = c.in-Err.ensures.bare; held = c.in-Err.ensures.held; kept = c.in-Err.ensures.kept; entries = c.in-Err.ensures.entries; unmarked = c.in-Err.ensures.unmarked; unfilled = c.in-Err.ensures.unfilled };
+      takes = tt;
       pages = c.in-Err.ensures.refused;
       reserved = refl;
     })
@@ -53,7 +54,8 @@ pub returns-in-Err-load_to_replace-clause-writes : goal.returns-in-Err-load_to_r
 returns-in-Err-load_to_replace-clause-writes g c =
     let after : PagedValue _ = record { process = c.memory.inside.process; pages = c.memory.inside.pages; tables = c.load_to_replace.new.tables; caches = c.load_to_replace.new.caches; reserved = c.memory.inside.reservations } in
     subst (λ (m : PagedValue _). Writes {A = Bool} c.args.self.now.hart Store (page_number c.args.address) (Err c.in-Err-load_to_replace.refusal) m after) c.memory.view_is (record {
-      accesses = record { small = (let fits = c.ranges.address.fits in omega arith); process = refl; bare = bare_itself c.memory.inside.pages; held = c.in-Err-load_to_replace.ensures.held; kept = c.in-Err-load_to_replace.ensures.kept; entries = c.in-Err-load_to_replace.ensures.entries; unmarked = c.in-Err-load_to_replace.ensures.unmarked };
+      accesses = record { small = (let fits = c.ranges.address.fits in omega arith); process = refl; bare = bare_itself c.memory.inside.pages; held = c.in-Err-load_to_replace.ensures.held; kept = c.in-Err-load_to_replace.ensures.kept; entries = c.in-Err-load_to_replace.ensures.entries; unmarked = c.in-Err-load_to_replace.ensures.unmarked; unfilled = c.in-Err-load_to_replace.ensures.unfilled };
+      takes = tt;
       pages = refl;
       reserved = refl;
     })

@@ -1,5 +1,6 @@
-use Rattle.std.proofs.Common.{arith, subst}
-use Rattle.paged_memory.specs.Leaving.{IsSaving}
+use Rattle.std.proofs.Common.{◌≡◌, false, refl, arith, subst}
+use Rattle.page_store.specs.PageValue.{is_out}
+use Rattle.paged_memory.specs.Counting.{page_passes}
 use Rattle.paged_memory.specs.Moving.{SavesNone}
 use Rattle.paged_memory.specs.Paged.{PagedValue}
 use Rattle.paged_memory.proofs.GivingBackLaws.{every_page}
@@ -8,4 +9,4 @@ use Rattle.paged_memory.proofs.memory.PagedMemory.is_saving.Goals as goal
 pub returns-clause-none : goal.returns-clause-none
 returns-clause-none g c =
     subst (λ (v : PagedValue _). SavesNone v) c.self.view_is
-    (λ q small. every_page (λ _ o. ¬ IsSaving o) c.self.inside.pages (λ _ none. none) (λ k within. c.loop-place.invariant k (omega (arith, within, c.loop-place-test.false, c.len-place-end.ensures))) q)
+    (λ q small. every_page (λ _ o. page_passes (λ page. is_out page.place) o ≡ false) c.self.inside.pages (λ _. refl) (λ k within. c.loop-place.invariant k (omega (arith, within, c.loop-place-test.false, c.len-place-end.ensures))) q)

@@ -1,6 +1,6 @@
 //! The inner loop of a hart: its instructions one after another, on its process's memory.
 
-ghost use Rattle.std.specs.Prelude.{◌≡◌, ◌≤◌, ◌<◌, true, length};
+ghost use Rattle.std.specs.Prelude.{◌≡◌, ◌≤◌, ◌<◌, ◌-◌, true, length};
 ghost use Rattle.rv_exec.specs.Registers.{with_pc};
 ghost use Rattle.flat_machine.specs.Process.{may_step};
 ghost use Rattle.paged_memory.specs.Paged.{memory_of};
@@ -15,6 +15,15 @@ use rv_exec::{Cause, Outcome, Regs, execute_at};
 use std::marker::Brand;
 use std::sync::ledger::Ledger;
 use swap_slots::SwapSlot;
+
+/// Where a hart's instructions stopped.
+#[derive(Clone, Copy)]
+struct Halt {
+    /// How many of those that were allowed are left: the loop counts these.
+    left: u32,
+    /// What the next one came to, where some are left: it is still to be ended.
+    last: Outcome,
+}
 
 /// How far a hart came by its instructions.
 #[derive(Clone, Copy)]
@@ -51,17 +60,17 @@ fn run_each<L: Ledger, S: SwapSlot>(
     memory: &mut PagedMemory<L, S>,
     hart: u32,
     most: u32,
-) -> Course
+) -> Halt
     requires started { hart < harts_in memory.old }
-    ensures within { result.done ≤ most }
-    ensures ran { RunsUntil S.content S.honest hart most result.done result.last regs.old
+    ensures within { result.left ≤ most }
+    ensures ran { RunsUntil S.content S.honest hart most (most - result.left) result.last regs.old
         memory.old regs.new memory.new }
     ensures harts { harts_in memory.new ≡ harts_in memory.old }
 {
     let mut pc = regs.pc();
-    let course = run_at_hand(&mut pc, regs, memory, hart, most);
+    let halt = run_at_hand(&mut pc, regs, memory, hart, most);
     regs.set_pc(pc);
-    course
+    halt
 }
 
 /// The same where pc is at hand.
@@ -72,10 +81,10 @@ fn run_at_hand<L: Ledger, S: SwapSlot>(
     memory: &mut PagedMemory<L, S>,
     hart: u32,
     most: u32,
-) -> Course
+) -> Halt
     requires started { hart < harts_in memory.old }
-    ensures within { result.done ≤ most }
-    ensures ran { RunsUntil S.content S.honest hart most result.done result.last
+    ensures within { result.left ≤ most }
+    ensures ran { RunsUntil S.content S.honest hart most (most - result.left) result.last
         (with_pc regs.old pc.old) memory.old (with_pc regs.new pc.new) memory.new }
     ensures harts { harts_in memory.new ≡ harts_in memory.old }
 {
@@ -83,51 +92,51 @@ fn run_at_hand<L: Ledger, S: SwapSlot>(
     while left != 0 {
         match run_one::<L, S, Brand>(pc, regs, memory, hart) {
             Outcome::Done => left -= 1,
-            Outcome::Ecall => return at_call(most - left),
-            Outcome::Trap(cause, value) => return at_trap(most - left, cause, value),
-            Outcome::Absent(page) => return at_absent(most - left, page),
+            Outcome::Ecall => return at_call(left),
+            Outcome::Trap(cause, value) => return at_trap(left, cause, value),
+            Outcome::Absent(page) => return at_absent(left, page),
         }
     }
-    Course {
-        done: most,
+    Halt {
+        left: 0,
         last: Outcome::Done,
     }
 }
 
-/// How far a hart came whose next instruction calls.
+/// Where a hart stopped whose next instruction calls.
 ///
 /// It and the two below are made out of the loop's way, of what an outcome is made of.
 #[cold]
 #[inline(never)]
-fn at_call(done: u32) -> Course
-    ensures { result ≡ record { done = done; last = Outcome.Ecall } }
+fn at_call(left: u32) -> Halt
+    ensures { result ≡ record { left = left; last = Outcome.Ecall } }
 {
-    Course {
-        done,
+    Halt {
+        left,
         last: Outcome::Ecall,
     }
 }
 
-/// How far a hart came whose next instruction traps.
+/// Where a hart stopped whose next instruction traps.
 #[cold]
 #[inline(never)]
-fn at_trap(done: u32, cause: Cause, value: u32) -> Course
-    ensures { result ≡ record { done = done; last = Outcome.Trap cause value } }
+fn at_trap(left: u32, cause: Cause, value: u32) -> Halt
+    ensures { result ≡ record { left = left; last = Outcome.Trap cause value } }
 {
-    Course {
-        done,
+    Halt {
+        left,
         last: Outcome::Trap(cause, value),
     }
 }
 
-/// How far a hart came whose next instruction uses an absent page.
+/// Where a hart stopped whose next instruction uses an absent page.
 #[cold]
 #[inline(never)]
-fn at_absent(done: u32, page: u32) -> Course
-    ensures { result ≡ record { done = done; last = Outcome.Absent page } }
+fn at_absent(left: u32, page: u32) -> Halt
+    ensures { result ≡ record { left = left; last = Outcome.Absent page } }
 {
-    Course {
-        done,
+    Halt {
+        left,
         last: Outcome::Absent(page),
     }
 }
@@ -150,6 +159,10 @@ impl Running {
         ensures harts { harts_in memory.new ≡ harts_in memory.old }
     {
         let regs = &mut self.harts[hart as usize];
-        run_each(regs, memory, hart, most)
+        let halt = run_each(regs, memory, hart, most);
+        Course {
+            done: most - halt.left,
+            last: halt.last,
+        }
     }
 }

@@ -8,7 +8,7 @@ use elf_image::Image;
 use flat_machine::FlatProcess;
 use guest_strings::GuestString;
 use machine_core::Core;
-use page_policies::{ClockPro, Frames, misses};
+use page_policies::{ClockProUsed, Frames, misses};
 use rv_asm::assemble;
 use serial_driver::run_serial;
 use std::alloc::Global;
@@ -98,7 +98,7 @@ fn misses_of(alloc: Global, frames: Frames, source: &str) -> Result<usize, Fail>
             None => break,
         }
     }
-    Ok(misses::<ClockPro<ClockRing>>(alloc, frames, string.as_slice())?)
+    Ok(misses::<ClockProUsed<ClockRing>>(alloc, frames, string.as_slice())?)
 }
 
 /// How many pages a machine brings in, by slices of so many instructions.

@@ -1,5 +1,5 @@
 -- What guests miss under each policy.
-use Rattle.std.specs.Prelude.{◌≡◌, ℕ, List, Option, Some, None, map}
+use Rattle.std.specs.Prelude.{◌≡◌, ℕ, ◌-◌, Bool, true, false, List, length, Option, Some, None, map}
 use Rattle.clock_policy.specs.declared.key.Key.{Key}
 use Rattle.flat_machine.specs.Process.{Process}
 use Rattle.guest_strings.specs.declared.reference.Reference.{Reference}
@@ -7,10 +7,16 @@ use Rattle.guest_strings.specs.Slices.{guest_string}
 use Rattle.page_policies.specs.declared.frames.Frames.{Frames}
 use Rattle.page_policies.specs.Queues.{fifo_misses, lru_misses}
 use Rattle.page_policies.specs.SecondChance.{clock_misses}
-use Rattle.page_policies.specs.ClockProPlay.{clock_pro_misses}
+use Rattle.page_policies.specs.ClockProPlay.{clock_pro_misses, clock_pro_used_misses}
+use Rattle.page_policies.specs.TwoQueues.{two_queues_misses}
+use Rattle.page_policies.specs.Arc.{arc_misses}
+use Rattle.page_policies.specs.Sieve.{sieve_misses}
+use Rattle.page_policies.specs.S3Fifo.{s3_fifo_misses}
+use Rattle.page_policies.specs.Random.{random_misses}
 use Rattle.page_policies.specs.Optimal.{optimal_misses}
 use Rattle.miss_counts.specs.FrameNumbers.{usual_numbers, page_count}
 use Rattle.miss_counts.specs.declared.counts.Counts.{Counts}
+use Rattle.miss_counts.specs.declared.policy_set.PolicySet.{PolicySet}
 
 abbrev pub pages_of : List Reference → List Key
 pages_of references = map (λ reference. reference.page) references
@@ -19,24 +25,60 @@ pages_of references = map (λ reference. reference.page) references
 abbrev pub guest_pages : ℕ → ℕ → List Process → List Key
 guest_pages slice limit processes = pages_of (guest_string slice limit processes)
 
--- what each policy misses of a string with so many frames, and what the optimum does
-abbrev pub counted : List Key → Frames → Counts
-counted string frames = record {
+-- a count where it is asked for
+abbrev pub asked : Bool → ℕ → Option ℕ
+asked true n = Some n
+asked false n = None
+
+-- what each policy that is asked for misses of a string with so many frames, and what the optimum does
+abbrev pub counted : PolicySet → List Key → Frames → Counts
+counted wanted string frames = record {
   frames = frames;
-  fifo = fifo_misses frames.number string;
-  clock = clock_misses frames.number string;
-  lru = lru_misses frames.number string;
-  clock_pro = clock_pro_misses frames.number string;
-  optimum = Some (optimal_misses frames.number string);
+  references = length string;
+  fifo = asked wanted.fifo (fifo_misses frames.number string);
+  clock = asked wanted.clock (clock_misses frames.number string);
+  lru = asked wanted.lru (lru_misses frames.number string);
+  clock_pro_used = asked wanted.clock_pro_used (clock_pro_used_misses frames.number string);
+  clock_pro = asked wanted.clock_pro (clock_pro_misses frames.number string);
+  two_queues = asked wanted.two_queues (two_queues_misses frames.number string);
+  arc = asked wanted.arc (arc_misses frames.number string);
+  sieve = asked wanted.sieve (sieve_misses frames.number string);
+  s3_fifo = asked wanted.s3_fifo (s3_fifo_misses frames.number string);
+  random = asked wanted.random (random_misses frames.number string);
+  optimum = asked wanted.optimum (optimal_misses frames.number string);
 }
 
 -- rows of such counts for the usual numbers of frames, up to the string's pages
-pub record IsUsualTable (string : List Key) (rows : List Counts) : Type 0 where
+pub record IsUsualTable (wanted : PolicySet) (string : List Key) (rows : List Counts) : Type 0 where
   pub frames : List Frames
   pub usual : map (λ f. f.number) frames ≡ usual_numbers (page_count string)
-  pub counted_each : rows ≡ map (counted string) frames
+  pub counted_each : rows ≡ map (counted wanted string) frames
 
 -- rows of such counts for the numbers of frames that are asked for, or for the usual ones
-abbrev pub IsTable : List Key → Option (List Frames) → List Counts → Type 0
-IsTable string None rows = IsUsualTable string rows
-IsTable string (Some frames) rows = rows ≡ map (counted string) frames
+abbrev pub IsTable : PolicySet → List Key → Option (List Frames) → List Counts → Type 0
+IsTable wanted string None rows = IsUsualTable wanted string rows
+IsTable wanted string (Some frames) rows = rows ≡ map (counted wanted string) frames
+
+-- what is left of a count without those that came before
+abbrev pub left : Option ℕ → Option ℕ → Option ℕ
+left None before = None
+left (Some n) None = Some n
+left (Some n) (Some k) = Some (n - k)
+
+-- what was counted since
+abbrev pub since : Counts → Counts → Counts
+since all before = record {
+  frames = all.frames;
+  references = all.references - before.references;
+  fifo = left all.fifo before.fifo;
+  clock = left all.clock before.clock;
+  lru = left all.lru before.lru;
+  clock_pro_used = left all.clock_pro_used before.clock_pro_used;
+  clock_pro = left all.clock_pro before.clock_pro;
+  two_queues = left all.two_queues before.two_queues;
+  arc = left all.arc before.arc;
+  sieve = left all.sieve before.sieve;
+  s3_fifo = left all.s3_fifo before.s3_fifo;
+  random = left all.random before.random;
+  optimum = left all.optimum before.optimum;
+}

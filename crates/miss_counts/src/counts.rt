@@ -3,38 +3,106 @@
 ghost use Rattle.std.specs.Prelude.{◌≡◌, IfOk, map};
 ghost use Rattle.page_policies.specs.NextUses.{next_uses};
 ghost use Rattle.page_policies.specs.Optimal.{optimal_misses};
-ghost use Rattle.miss_counts.specs.Counted.{counted};
+ghost use Rattle.miss_counts.specs.Counted.{counted, asked, since, left};
 
+use crate::policy_set::PolicySet;
 use crate::progress::{Progress, Stage};
 use clock_policy::Key;
 use clock_ring::ClockRing;
-use page_policies::{ClockPro, Fifo, Frames, Lru, Optimum, SecondChance, misses};
+use page_policies::{
+    Arc, ClockPro, ClockProUsed, Fifo, Frames, Lru, Optimum, Policy, Random, S3Fifo, SecondChance,
+    Sieve, TwoQueues, misses,
+};
 use std::alloc::{AllocError, Global};
 
-/// Misses with so many frames.
+/// Misses with so many frames, of the policies that were asked for.
 #[derive(Clone, Copy, Debug, PartialEq, Eq)]
 pub struct Counts {
     pub frames: Frames,
-    pub fifo: u64,
-    pub clock: u64,
-    pub lru: u64,
-    pub clock_pro: u64,
-    /// None where the string was not known as a whole.
+    /// How many references were counted.
+    pub references: u64,
+    pub fifo: Option<u64>,
+    pub clock: Option<u64>,
+    pub lru: Option<u64>,
+    pub clock_pro_used: Option<u64>,
+    pub clock_pro: Option<u64>,
+    pub two_queues: Option<u64>,
+    pub arc: Option<u64>,
+    pub sieve: Option<u64>,
+    pub s3_fifo: Option<u64>,
+    pub random: Option<u64>,
+    /// None also where the string was not known as a whole.
     pub optimum: Option<u64>,
 }
 
-/// What a string misses under the optimum, which is given the string as it needs it.
-fn floor_of(
+impl Counts {
+    /// What was counted since those.
+    pub fn since(self, before: Counts) -> Counts
+        ensures { result ≡ since self before }
+    {
+        Counts {
+            frames: self.frames,
+            references: self.references.saturating_sub(before.references),
+            fifo: left(self.fifo, before.fifo),
+            clock: left(self.clock, before.clock),
+            lru: left(self.lru, before.lru),
+            clock_pro_used: left(self.clock_pro_used, before.clock_pro_used),
+            clock_pro: left(self.clock_pro, before.clock_pro),
+            two_queues: left(self.two_queues, before.two_queues),
+            arc: left(self.arc, before.arc),
+            sieve: left(self.sieve, before.sieve),
+            s3_fifo: left(self.s3_fifo, before.s3_fifo),
+            random: left(self.random, before.random),
+            optimum: left(self.optimum, before.optimum),
+        }
+    }
+}
+
+/// What was counted since, where it was.
+fn left(after: Option<u64>, before: Option<u64>) -> Option<u64>
+    ensures { result ≡ left after before }
+{
+    let after = after?;
+    match before {
+        Some(before) => Some(after.saturating_sub(before)),
+        None => Some(after),
+    }
+}
+
+/// What a string misses under a policy, where that is asked for.
+fn misses_if<P: Policy>(
+    alloc: Global,
+    frames: Frames,
+    string: &[Key],
+    is_wanted: bool,
+) -> Result<Option<u64>, AllocError>
+    ensures { IfOk result (λ count. count ≡ asked is_wanted (P.misses frames.number string.now)) }
+{
+    if !is_wanted {
+        return Ok(None);
+    }
+    let count = misses::<P>(alloc, frames, string)?;
+    Ok(Some(count as u64))
+}
+
+/// What a string misses under the optimum, which is given the string as it needs it, where that is asked for.
+fn floor_if(
     alloc: Global,
     frames: Frames,
     string: &[Key],
     optimum: &Optimum,
-) -> Result<usize, AllocError>
+    is_wanted: bool,
+) -> Result<Option<u64>, AllocError>
     requires { optimum.now ≡ next_uses string.now }
-    ensures { IfOk result (λ count. count ≡ optimal_misses frames.number string.now) }
+    ensures { IfOk result (λ count. count ≡ asked is_wanted (optimal_misses frames.number
+        string.now)) }
 {
     let _ = string;
-    optimum.misses(alloc, frames)
+    if !is_wanted {
+        return Ok(None);
+    }
+    let count = optimum.misses(alloc, frames)?;
+    Ok(Some(count as u64))
 }
 
 /// What a string, which is also given as the optimum needs it, misses with so many frames.
@@ -43,38 +111,58 @@ fn counts_of(
     frames: Frames,
     string: &[Key],
     optimum: &Optimum,
+    wanted: PolicySet,
 ) -> Result<Counts, AllocError>
     requires { optimum.now ≡ next_uses string.now }
-    ensures { IfOk result (λ counts. counts ≡ counted string.now frames) }
+    ensures { IfOk result (λ counts. counts ≡ counted wanted string.now frames) }
 {
-    let fifo = misses::<Fifo>(alloc, frames, string)?;
-    let clock = misses::<SecondChance>(alloc, frames, string)?;
-    let lru = misses::<Lru>(alloc, frames, string)?;
-    let clock_pro = misses::<ClockPro<ClockRing>>(alloc, frames, string)?;
-    let floor = floor_of(alloc, frames, string, optimum)?;
+    let fifo = misses_if::<Fifo>(alloc, frames, string, wanted.fifo)?;
+    let clock = misses_if::<SecondChance>(alloc, frames, string, wanted.clock)?;
+    let lru = misses_if::<Lru>(alloc, frames, string, wanted.lru)?;
+    let clock_pro_used = misses_if::<ClockProUsed<ClockRing>>(
+        alloc,
+        frames,
+        string,
+        wanted.clock_pro_used,
+    )?;
+    let clock_pro = misses_if::<ClockPro<ClockRing>>(alloc, frames, string, wanted.clock_pro)?;
+    let two_queues = misses_if::<TwoQueues>(alloc, frames, string, wanted.two_queues)?;
+    let arc = misses_if::<Arc>(alloc, frames, string, wanted.arc)?;
+    let sieve = misses_if::<Sieve>(alloc, frames, string, wanted.sieve)?;
+    let s3_fifo = misses_if::<S3Fifo>(alloc, frames, string, wanted.s3_fifo)?;
+    let random = misses_if::<Random>(alloc, frames, string, wanted.random)?;
+    let optimum = floor_if(alloc, frames, string, optimum, wanted.optimum)?;
     Ok(Counts {
         frames,
-        fifo: fifo as u64,
-        clock: clock as u64,
-        lru: lru as u64,
-        clock_pro: clock_pro as u64,
-        optimum: Some(floor as u64),
+        references: string.len() as u64,
+        fifo,
+        clock,
+        lru,
+        clock_pro_used,
+        clock_pro,
+        two_queues,
+        arc,
+        sieve,
+        s3_fifo,
+        random,
+        optimum,
     })
 }
 
-/// What a string misses with each of these numbers of frames.
+/// What a string misses with each of these numbers of frames, under the policies that are asked for.
 pub fn rows_of<P: Progress>(
     alloc: Global,
     frames: &[Frames],
     string: &[Key],
+    wanted: PolicySet,
     progress: &mut P,
 ) -> Result<Vec<Counts>, AllocError>
-    ensures { IfOk result (λ rows. rows.items ≡ map (counted string.now) frames.now) }
+    ensures { IfOk result (λ rows. rows.items ≡ map (counted wanted string.now) frames.now) }
 {
     let optimum = Optimum::new(alloc, string)?;
     let mut rows = Vec::new(alloc);
     'frames: for number in frames {
-        rows.push(counts_of(alloc, *number, string, &optimum)?)?;
+        rows.push(counts_of(alloc, *number, string, &optimum, wanted)?)?;
         progress.tell(Stage::Rows(rows.len(), frames.len()));
     }
     Ok(rows)

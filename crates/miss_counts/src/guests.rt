@@ -10,6 +10,7 @@ ghost use Rattle.miss_counts.specs.FrameNumbers.{page_count};
 
 use crate::counts::{Counts, rows_of};
 use crate::frame_numbers::usual_frames;
+use crate::policy_set::PolicySet;
 use crate::progress::{Progress, Stage};
 use clock_policy::Key;
 use flat_machine::FlatProcess;
@@ -43,29 +44,37 @@ pub fn guest_rows<P: Progress>(
     slice: u32,
     limit: u64,
     frames: Option<Vec<Frames>>,
+    wanted: PolicySet,
     progress: &mut P,
 ) -> Result<Vec<Counts>, AllocError>
     requires { length processes.items ≤ MOST_PROCESSES }
-    ensures { IfOk result (λ rows. IsTable (guest_pages slice limit processes.items)
+    ensures { IfOk result (λ rows. IsTable wanted (guest_pages slice limit processes.items)
         (option_map (λ f. f.items) frames) rows.items) }
 {
     let string = pages_of(alloc, GuestString::new(processes, slice, limit), progress)?;
     let Some(frames) = frames else {
-        return usual_rows(alloc, string.as_slice(), progress);
+        return usual_rows(alloc, string.as_slice(), wanted, progress);
     };
-    rows_of(alloc, frames.as_slice(), string.as_slice(), progress)
+    rows_of(
+        alloc,
+        frames.as_slice(),
+        string.as_slice(),
+        wanted,
+        progress,
+    )
 }
 
 /// What a string misses with the usual numbers of frames.
 fn usual_rows<P: Progress>(
     alloc: Global,
     string: &[Key],
+    wanted: PolicySet,
     progress: &mut P,
 ) -> Result<Vec<Counts>, AllocError>
-    ensures { IfOk result (λ rows. IsUsualTable string.now rows.items) }
+    ensures { IfOk result (λ rows. IsUsualTable wanted string.now rows.items) }
 {
     let usual = usual_frames(alloc, count_pages(alloc, string)?)?;
-    rows_of(alloc, usual.as_slice(), string, progress)
+    rows_of(alloc, usual.as_slice(), string, wanted, progress)
 }
 
 /// How many pages a string refers to.

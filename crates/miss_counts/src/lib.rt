@@ -1,15 +1,20 @@
 //! How many references of a string of pages, or of guests, miss under each replacement policy.
 #![tactic(auto)]
 
+mod clock_pro_players;
 mod counts;
 mod frame_numbers;
 mod guests;
+mod older_players;
 mod player;
+mod policy_set;
 mod progress;
 mod row;
+mod younger_players;
 
 pub use counts::{Counts, rows_of};
 pub use frame_numbers::usual_frames;
 pub use guests::{guest_rows, pages_of};
+pub use policy_set::PolicySet;
 pub use progress::{Progress, Quiet, Stage};
 pub use row::Row;

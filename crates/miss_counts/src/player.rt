@@ -1,7 +1,8 @@
 //! A policy that plays a string piece by piece.
 
-ghost use Rattle.std.specs.Prelude.{◌≡◌, ◌+◌, ◌<◌, ◌≤◌, ◌^◌, ◌++◌, List, IfOk, OnOk, length};
+ghost use Rattle.std.specs.Prelude.{◌≡◌, ◌+◌, ◌<◌, ◌≤◌, ◌^◌, ◌++◌, List, IfOk, OnOk, length, option_map};
 ghost use Rattle.clock_policy.specs.declared.key.Key.{Key};
+ghost use Rattle.miss_counts.specs.Playing.{Opens, GoesOn};
 
 use clock_policy::Key;
 use page_policies::{Frames, Outcome, Policy};
@@ -40,6 +41,46 @@ impl<P: Policy> Player<P> {
         ensures { result ≡ self.now.misses }
     {
         self.misses
+    }
+}
+
+/// A policy that begins to count, where it is asked for.
+pub(crate) fn player_if<P: Policy>(
+    alloc: Global,
+    frames: Frames,
+    is_wanted: bool,
+) -> Result<Option<Player<P>>, AllocError>
+    ensures { IfOk result (λ player. Opens is_wanted
+        (λ p string. p.misses + P.to_miss p.policy string) (P.misses frames.number) player) }
+{
+    if !is_wanted {
+        return Ok(None);
+    }
+    let player = Player::new(alloc, frames)?;
+    Ok(Some(player))
+}
+
+/// Some pages are used, where the policy is one that counts.
+pub(crate) fn play_if<P: Policy>(
+    player: &mut Option<Player<P>>,
+    pages: &[Key],
+) -> Result<(), AllocError>
+    ensures { OnOk result (GoesOn (λ p. p.misses)
+        (λ p string. p.misses + P.to_miss p.policy string) pages.now player.old player.new) }
+{
+    match player {
+        Some(player) => player.play(pages),
+        None => Ok(()),
+    }
+}
+
+/// How many references have missed, where the policy is one that counts.
+pub(crate) fn misses_so_far<P: Policy>(player: &Option<Player<P>>) -> Option<u64>
+    ensures { result ≡ option_map (λ p. p.misses) player.now }
+{
+    match player {
+        Some(player) => Some(player.misses()),
+        None => None,
     }
 }
 

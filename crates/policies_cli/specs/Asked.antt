@@ -21,8 +21,8 @@ module _ (gives : List ℕ → List ℕ → Type 0) where
     pub begin : processes ≡ map opened starts
 
   -- Each row has the misses of the guests' string, by slices of so many instructions as were asked for, to the limit that was asked
-  -- for, for the numbers of frames that were asked for, or for the usual ones.
+  -- for, of the policies that were asked for, for the numbers of frames that were asked for, or for the usual ones.
   pub record CountsAsAsked (request : MissesRequest) (rows : List Counts) : Type 0 where
     pub processes : List Process
     pub guests : AreGuests request.guest processes
-    pub table : IsTable (guest_pages request.guest.slice request.guest.limit processes) (option_map (λ f. f.items) request.frames) rows
+    pub table : IsTable request.wanted (guest_pages request.guest.slice request.guest.limit processes) (option_map (λ f. f.items) request.frames) rows

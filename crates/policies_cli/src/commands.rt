@@ -23,6 +23,7 @@ fn trace<'a>(alloc: Global) -> Result<Command<'a>, AllocError> {
 fn replay<'a>(alloc: Global) -> Result<Command<'a>, AllocError> {
     table(alloc, Command::new(alloc, "replay"))?
         .arg(option(alloc, "format"))?
+        .arg(option(alloc, "skip"))?
         .arg(flag(alloc, "optimum"))?
         .arg(Arg::new(alloc, "trace").required(true))
 }
@@ -31,6 +32,8 @@ fn replay<'a>(alloc: Global) -> Result<Command<'a>, AllocError> {
 fn table<'a>(alloc: Global, command: Command<'a>) -> Result<Command<'a>, AllocError> {
     command
         .arg(option(alloc, "frames"))?
+        .arg(option(alloc, "policies"))?
+        .arg(flag(alloc, "ratio"))?
         .arg(flag(alloc, "csv"))?
         .arg(flag(alloc, "progress"))
 }

@@ -36,26 +36,53 @@ pub(crate) fn write_csv<W: Write>(time: u64, page: Key, out: &mut W) -> io::Resu
     writeln!(out, "{time},{id},1")
 }
 
-/// The page of such a line: its id is its second field, and what else stands there is not looked at.
-pub(crate) fn page_of_csv(line: &[u8]) -> Option<Key> {
-    let comma = line.iter().position(|byte| *byte == b',')?;
-    let rest = &line[comma + 1..];
-    let end = rest
-        .iter()
-        .position(|byte| *byte == b',')
-        .unwrap_or(rest.len());
-    Some(page_of_id(id_in(&rest[..end])?))
+/// What a column of ids may be called.
+const ID_NAMES: [&str; 5] = ["id", "obj_id", "object_id", "key", "page"];
+
+/// Which column of a line of names has the ids, counted from 0.
+pub(crate) fn column_of_ids(names: &[u8]) -> Option<usize> {
+    names
+        .split(|byte| *byte == b',')
+        .position(|name| is_id_name(name))
 }
 
-/// The number that decimal digits write, where it is below 2^64.
-fn id_in(digits: &[u8]) -> Option<u64> {
+fn is_id_name(name: &[u8]) -> bool {
+    let name = name.trim_ascii();
+    for known in ID_NAMES {
+        if name == known.as_bytes() {
+            return true;
+        }
+    }
+    false
+}
+
+/// The page of such a line: its id is in this column, and what else stands there is not looked at.
+pub(crate) fn page_of_csv(line: &[u8], column: usize) -> Option<Key> {
+    let field = line.split(|byte| *byte == b',').nth(column)?;
+    page_of_number(field.trim_ascii())
+}
+
+/// The page that an id stands for.
+pub(crate) fn page_of_number(number: &[u8]) -> Option<Key> {
+    Some(page_of_id(id_in(number)?))
+}
+
+/// The number that decimal digits write, or after `0x` hexadecimal ones, where it is below 2^64.
+fn id_in(number: &[u8]) -> Option<u64> {
+    match number.strip_prefix(b"0x".as_slice()) {
+        Some(digits) => id_to(digits, 16),
+        None => id_to(number, 10),
+    }
+}
+
+fn id_to(digits: &[u8], radix: u32) -> Option<u64> {
     if digits.is_empty() {
         return None;
     }
     let mut id = 0u64;
     for byte in digits {
-        let digit = char::from(*byte).to_digit(10)?;
-        id = id.checked_mul(10)?.checked_add(u64::from(digit))?;
+        let digit = char::from(*byte).to_digit(radix)?;
+        id = id.checked_mul(u64::from(radix))?.checked_add(u64::from(digit))?;
     }
     Some(id)
 }

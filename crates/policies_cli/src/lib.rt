@@ -3,8 +3,10 @@
 
 mod commands;
 mod formats;
+mod frame_lists;
 mod guests;
 mod misses_command;
+mod policy_names;
 mod program;
 mod reference_line;
 mod replay_command;
@@ -14,5 +16,6 @@ mod table;
 mod teller;
 mod trace_command;
 mod trace_file;
+mod wrong;
 
 pub use program::run_policies;

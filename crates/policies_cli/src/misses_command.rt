@@ -7,6 +7,7 @@ use crate::guests::read_guests;
 use crate::request::MissesRequest;
 use crate::table::write_table;
 use crate::teller::Teller;
+use crate::wrong::Wrong;
 use image_files::{Fault, Folder};
 use miss_counts::{Counts, Progress, guest_rows};
 use std::io::Write;
@@ -18,13 +19,13 @@ pub(crate) fn run_misses<'a, R: Files + AllocGlobal, W: Write, E: Write>(
     request: MissesRequest<'a>,
     out: &mut W,
     err: &mut E,
-) -> Result<(), Fault<'a>> {
+) -> Result<(), Wrong<'a>> {
     let printing = request.printing;
     let mut teller = Teller::new(err, printing.is_told);
     let counted = count_misses(rt, request, &mut teller);
     teller.erase();
     let rows = counted?;
-    write_table(rows.as_slice(), printing.is_csv, out)?;
+    write_table(rows.as_slice(), printing, out)?;
     Ok(())
 }
 
@@ -44,6 +45,7 @@ pub fn count_misses<'a, R: Folder + AllocGlobal, P: Progress>(
         slice,
         limit,
         request.frames,
+        request.wanted,
         progress,
     )?;
     Ok(rows)

@@ -5,6 +5,7 @@ use crate::replay_command::run_replay;
 use crate::request::Request;
 use crate::requests::read_request;
 use crate::trace_command::run_trace;
+use crate::wrong::Wrong;
 use command_shell::finish;
 use image_files::Fault;
 use std::convert::AsStr;
@@ -19,7 +20,28 @@ pub fn run_policies<R: Files + AllocGlobal, S: AsStr, O: Write, E: Write>(
     err: &mut E,
 ) -> u8 {
     let done = run_words(rt, words, out, err);
-    finish("policies", done.map(|()| 0), out, err)
+    match done {
+        Ok(()) => finish("policies", Ok(0), out, err),
+        Err(Wrong::Fault(fault)) => finish("policies", Err(fault), out, err),
+        Err(Wrong::Words(error)) if !error.use_stderr() => show_help(&error, out, err),
+        Err(wrong) => tell(&wrong, out, err),
+    }
+}
+
+/// Help that was asked for.
+fn show_help<O: Write, E: Write>(help: &clap::Error, out: &mut O, err: &mut E) -> u8 {
+    match write!(out, "{help}") {
+        Ok(()) => finish("policies", Ok(0), out, err),
+        Err(_) => finish("policies", Err(Fault::CannotWrite), out, err),
+    }
+}
+
+/// What is wrong with what the program was given.
+fn tell<O: Write, E: Write>(wrong: &Wrong<'_>, out: &mut O, err: &mut E) -> u8 {
+    let _ = out.flush();
+    let _ = writeln!(err, "policies: {wrong}");
+    let _ = err.flush();
+    2
 }
 
 fn run_words<'a, R: Files + AllocGlobal, S: AsStr, O: Write, E: Write>(
@@ -27,10 +49,10 @@ fn run_words<'a, R: Files + AllocGlobal, S: AsStr, O: Write, E: Write>(
     words: &'a [S],
     out: &mut O,
     err: &mut E,
-) -> Result<(), Fault<'a>> {
+) -> Result<(), Wrong<'a>> {
     match read_request(rt.alloc(), words)? {
         Request::Misses(request) => run_misses(rt, request, out, err),
-        Request::Trace(request) => run_trace(rt, &request, out),
+        Request::Trace(request) => Ok(run_trace(rt, &request, out)?),
         Request::Replay(request) => run_replay(rt, &request, out, err),
     }
 }

@@ -1,12 +1,13 @@
 //! Lines of a trace.
 
+use crate::formats::page_of_number;
 use clock_policy::Key;
 use guest_strings::Reference;
 use std::io;
 use std::io::Write;
 use text_lines::{next_word, number};
 
-/// The page of a line: `P/V`, the numbers of a process and of a page, and where the page was written a `w` behind it.
+/// The page of a line: `P/V`, the numbers of a process and of a page, or an id alone; and where the page was written a `w` behind it.
 pub(crate) fn page_of(line: &[u8]) -> Option<Key> {
     let (page, rest) = next_word(line)?;
     if let Some((mark, others)) = next_word(rest) {
@@ -14,7 +15,9 @@ pub(crate) fn page_of(line: &[u8]) -> Option<Key> {
             return None;
         }
     }
-    let bar = page.iter().position(|byte| *byte == b'/')?;
+    let Some(bar) = page.iter().position(|byte| *byte == b'/') else {
+        return page_of_number(page);
+    };
     let process = number(&page[..bar], u32::MAX)?;
     let vpn = number(&page[bar + 1..], u32::MAX)?;
     Some(Key { process, vpn })

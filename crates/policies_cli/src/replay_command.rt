@@ -4,9 +4,9 @@ use crate::request::ReplayRequest;
 use crate::table::write_table;
 use crate::teller::Teller;
 use crate::trace_file::TraceFile;
-use clock_policy::Key;
+use crate::wrong::Wrong;
 use image_files::Fault;
-use miss_counts::{Counts, Progress, Row, Stage, rows_of};
+use miss_counts::{Counts, PolicySet, Progress, Row, Stage, rows_of};
 use page_policies::Frames;
 use std::alloc::Global;
 use std::fs;
@@ -25,12 +25,12 @@ pub(crate) fn run_replay<'a, R: Files + AllocGlobal, W: Write, E: Write>(
     request: &ReplayRequest<'a>,
     out: &mut W,
     err: &mut E,
-) -> Result<(), Fault<'a>> {
+) -> Result<(), Wrong<'a>> {
     let mut teller = Teller::new(err, request.printing.is_told);
     let counted = count_trace(rt, request, &mut teller);
     teller.erase();
     let rows = counted?;
-    write_table(rows.as_slice(), request.printing.is_csv, out)?;
+    write_table(rows.as_slice(), request.printing, out)?;
     Ok(())
 }
 
@@ -38,20 +38,19 @@ fn count_trace<'a, R: Files + AllocGlobal, P: Progress>(
     rt: &R,
     request: &ReplayRequest<'a>,
     progress: &mut P,
-) -> Result<Vec<Counts>, Fault<'a>> {
+) -> Result<Vec<Counts>, Wrong<'a>> {
     let alloc = rt.alloc();
     let Ok(file) = fs::open(rt, request.trace) else {
-        return Err(Fault::CannotRead(request.trace));
+        return Err(Wrong::Fault(Fault::CannotRead(request.trace)));
     };
     let Ok(file) = BufReader::with_capacity(alloc, BYTES, file) else {
-        return Err(Fault::NoMemory);
+        return Err(Wrong::Fault(Fault::NoMemory));
     };
     let mut trace = TraceFile::new(alloc, request.trace, request.format, file);
-    let frames = request.frames.as_slice();
-    if request.wants_optimum {
-        count_whole(alloc, &mut trace, frames, progress)
+    if request.wanted.optimum {
+        count_whole(alloc, &mut trace, request, progress)
     } else {
-        count_as_it_comes(alloc, &mut trace, frames, progress)
+        count_as_it_comes(alloc, &mut trace, request, progress)
     }
 }
 
@@ -59,9 +58,9 @@ fn count_trace<'a, R: Files + AllocGlobal, P: Progress>(
 fn count_whole<'a, B: BufRead + Drop, P: Progress>(
     alloc: Global,
     trace: &mut TraceFile<'a, B>,
-    frames: &[Frames],
+    request: &ReplayRequest<'a>,
     progress: &mut P,
-) -> Result<Vec<Counts>, Fault<'a>> {
+) -> Result<Vec<Counts>, Wrong<'a>> {
     let mut string = Vec::new(alloc);
     let mut block = Vec::new(alloc);
     for _ in 0..u64::MAX {
@@ -70,25 +69,56 @@ fn count_whole<'a, B: BufRead + Drop, P: Progress>(
             break;
         }
         if string.extend_from_slice(block.as_slice()).is_err() {
-            return Err(Fault::NoMemory);
+            return Err(Wrong::Fault(Fault::NoMemory));
         }
         progress.tell(Stage::References(string.len() as u64));
     }
-    Ok(rows_of(alloc, frames, string.as_slice(), progress)?)
+    if string.is_empty() {
+        return Err(Wrong::Empty(request.trace));
+    }
+    Ok(rows_of(
+        alloc,
+        request.frames.as_slice(),
+        string.as_slice(),
+        request.wanted,
+        progress,
+    )?)
 }
 
-/// Keeps what the policies keep, and a block of references.
+/// Keeps what the policies keep, and a block of references. What the first references miss that are skipped is not told.
 fn count_as_it_comes<'a, B: BufRead + Drop, P: Progress>(
     alloc: Global,
     trace: &mut TraceFile<'a, B>,
-    frames: &[Frames],
+    request: &ReplayRequest<'a>,
     progress: &mut P,
-) -> Result<Vec<Counts>, Fault<'a>> {
-    let mut rows = new_rows(alloc, frames)?;
+) -> Result<Vec<Counts>, Wrong<'a>> {
+    let mut rows = new_rows(alloc, request.frames.as_slice(), request.wanted)?;
+    play(alloc, trace, &mut rows, request.skip, progress)?;
+    let skipped = counts_of(alloc, rows.as_slice())?;
+    let played = play(alloc, trace, &mut rows, u64::MAX, progress)?;
+    if played == 0 {
+        return Err(Wrong::Empty(request.trace));
+    }
+    let mut counts = counts_of(alloc, rows.as_slice())?;
+    for (counts, skipped) in counts.iter_mut().zip(skipped.iter()) {
+        *counts = counts.since(*skipped);
+    }
+    Ok(counts)
+}
+
+/// Plays the next references, so many at most, and answers how many there were.
+fn play<'a, B: BufRead + Drop, P: Progress>(
+    alloc: Global,
+    trace: &mut TraceFile<'a, B>,
+    rows: &mut Vec<Row>,
+    most: u64,
+    progress: &mut P,
+) -> Result<u64, Wrong<'a>> {
     let mut block = Vec::new(alloc);
     let mut count = 0u64;
     for _ in 0..u64::MAX {
-        trace.fill(&mut block, BLOCK)?;
+        let left = most.saturating_sub(count).min(BLOCK as u64);
+        trace.fill(&mut block, left as usize)?;
         if block.is_empty() {
             break;
         }
@@ -98,24 +128,28 @@ fn count_as_it_comes<'a, B: BufRead + Drop, P: Progress>(
         count = count.saturating_add(block.len() as u64);
         progress.tell(Stage::References(count));
     }
-    counts_of(alloc, rows.as_slice())
+    Ok(count)
 }
 
-fn new_rows<'a>(alloc: Global, frames: &[Frames]) -> Result<Vec<Row>, Fault<'a>> {
+fn new_rows<'a>(
+    alloc: Global,
+    frames: &[Frames],
+    wanted: PolicySet,
+) -> Result<Vec<Row>, Wrong<'a>> {
     let mut rows = Vec::new(alloc);
     for frames in frames {
-        if rows.push(Row::new(alloc, *frames)?).is_err() {
-            return Err(Fault::NoMemory);
+        if rows.push(Row::new(alloc, *frames, wanted)?).is_err() {
+            return Err(Wrong::Fault(Fault::NoMemory));
         }
     }
     Ok(rows)
 }
 
-fn counts_of<'a>(alloc: Global, rows: &[Row]) -> Result<Vec<Counts>, Fault<'a>> {
+fn counts_of<'a>(alloc: Global, rows: &[Row]) -> Result<Vec<Counts>, Wrong<'a>> {
     let mut counts = Vec::new(alloc);
     for row in rows {
         if counts.push(row.counts()).is_err() {
-            return Err(Fault::NoMemory);
+            return Err(Wrong::Fault(Fault::NoMemory));
         }
     }
     Ok(counts)

@@ -1,5 +1,6 @@
 //! What is asked for.
 
+use miss_counts::PolicySet;
 use page_policies::Frames;
 
 /// What is asked for on the command line.
@@ -26,6 +27,8 @@ pub struct GuestRequest<'a> {
 #[derive(Clone, Copy, Debug, PartialEq, Eq)]
 pub struct Printing {
     pub is_csv: bool,
+    /// Whether misses are told as a part of the references.
+    pub is_ratio: bool,
     /// Whether it is told on standard error how far the count is.
     pub is_told: bool,
 }
@@ -36,6 +39,7 @@ pub struct MissesRequest<'a> {
     pub guest: GuestRequest<'a>,
     /// None: as many rows as the guests have pages for.
     pub frames: Option<Vec<Frames>>,
+    pub wanted: PolicySet,
     pub printing: Printing,
 }
 
@@ -51,8 +55,10 @@ pub struct TraceRequest<'a> {
 pub struct ReplayRequest<'a> {
     pub frames: Vec<Frames>,
     pub format: Format,
-    /// Whether the optimum is counted too, for which the whole string is kept.
-    pub wants_optimum: bool,
+    /// Where the optimum is among them the whole string is kept.
+    pub wanted: PolicySet,
+    /// How many references come before those whose misses are told.
+    pub skip: u64,
     pub printing: Printing,
     pub trace: &'a str,
 }

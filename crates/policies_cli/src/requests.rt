@@ -1,30 +1,44 @@
 //! From words to a request.
 
 use crate::commands::policies;
+use crate::frame_lists::{ListFault, frames_in};
+use crate::policy_names::{NAMES, USUAL, policies_in};
 use crate::request::{
     Format, GuestRequest, MissesRequest, Printing, ReplayRequest, Request, TraceRequest,
 };
+use crate::wrong::Wrong;
 use clap::ArgMatches;
 use clap::error::ErrorKind;
 use image_files::Fault;
-use machine_limits::MOST_FRAMES;
-use miss_counts::usual_frames;
+use machine_limits::{FEWEST_FRAMES, MOST_FRAMES};
+use miss_counts::{PolicySet, usual_frames};
 use page_policies::Frames;
 use std::alloc::Global;
 use std::convert::AsStr;
 use text_lines::numeral;
 
+/// The most frames that a trace is replayed with.
+const MOST_REPLAY_FRAMES: u32 = 16_777_216;
+
+/// What a list of frames may be for guests.
+const GUEST_FRAMES: &str =
+    "numbers from 4 to 4096 or ranges of them, as 4-64 or 4-64x2, parted by commas";
+
+/// What a list of frames may be for a trace.
+const REPLAY_FRAMES: &str =
+    "numbers from 1 to 16777216 or ranges of them, as 4-64 or 4-64x2, parted by commas";
+
 /// The request that the words behind the program's name make.
 pub(crate) fn read_request<'a, S: AsStr>(
     alloc: Global,
     words: &'a [S],
-) -> Result<Request<'a>, Fault<'a>> {
+) -> Result<Request<'a>, Wrong<'a>> {
     let matches = match policies(alloc)?.try_get_matches_from(words) {
         Ok(matches) => matches,
         Err(error) => {
             return Err(match error.kind() {
-                ErrorKind::OutOfMemory => Fault::NoMemory,
-                _ => Fault::BadUsage,
+                ErrorKind::OutOfMemory => Wrong::Fault(Fault::NoMemory),
+                _ => Wrong::Words(error),
             });
         }
     };
@@ -32,22 +46,28 @@ pub(crate) fn read_request<'a, S: AsStr>(
         Some(("misses", matches)) => Ok(Request::Misses(misses_request(alloc, matches)?)),
         Some(("trace", matches)) => Ok(Request::Trace(trace_request(alloc, matches)?)),
         Some(("replay", matches)) => Ok(Request::Replay(replay_request(alloc, matches)?)),
-        _ => Err(Fault::BadUsage),
+        _ => Err(Wrong::Fault(Fault::BadUsage)),
     }
 }
 
 fn misses_request<'a>(
     alloc: Global,
     matches: &ArgMatches<'a>,
-) -> Result<MissesRequest<'a>, Fault<'a>> {
+) -> Result<MissesRequest<'a>, Wrong<'a>> {
     let guest = guest_request(alloc, matches)?;
+    let usual = PolicySet {
+        optimum: true,
+        ..USUAL
+    };
+    let wanted = wanted_policies(matches, usual)?;
     let frames = match matches.get_str("frames") {
-        Some(list) => Some(frames_of(alloc, list)?),
+        Some(list) => Some(guest_frames(alloc, list)?),
         None => None,
     };
     Ok(MissesRequest {
         guest,
         frames,
+        wanted,
         printing: printing(matches),
     })
 }
@@ -55,7 +75,7 @@ fn misses_request<'a>(
 fn trace_request<'a>(
     alloc: Global,
     matches: &ArgMatches<'a>,
-) -> Result<TraceRequest<'a>, Fault<'a>> {
+) -> Result<TraceRequest<'a>, Wrong<'a>> {
     let guest = guest_request(alloc, matches)?;
     let format = format(matches)?;
     Ok(TraceRequest { guest, format })
@@ -64,36 +84,91 @@ fn trace_request<'a>(
 fn replay_request<'a>(
     alloc: Global,
     matches: &ArgMatches<'a>,
-) -> Result<ReplayRequest<'a>, Fault<'a>> {
+) -> Result<ReplayRequest<'a>, Wrong<'a>> {
+    let named = wanted_policies(matches, USUAL)?;
+    let wanted = PolicySet {
+        optimum: named.optimum || is_given(matches, "optimum"),
+        ..named
+    };
     let frames = match matches.get_str("frames") {
-        Some(list) => frames_of(alloc, list)?,
+        Some(list) => replay_frames(alloc, list)?,
         None => usual_frames(alloc, MOST_FRAMES as usize)?,
     };
+    refuse_frames(frames.as_slice(), wanted)?;
+    let skip = u64::from(number_from(matches, "skip", 0, 0, u32::MAX, SKIPPED)?);
+    if skip > 0 && wanted.optimum {
+        return Err(Wrong::Together(
+            "skip",
+            "optimum",
+            "what the optimum misses is told of a whole string alone",
+        ));
+    }
     let format = format(matches)?;
     let Some(trace) = matches.get_str("trace") else {
-        return Err(Fault::BadUsage);
+        return Err(Wrong::Fault(Fault::BadUsage));
     };
     Ok(ReplayRequest {
         frames,
         format,
-        wants_optimum: is_given(matches, "optimum"),
+        wanted,
+        skip,
         printing: printing(matches),
         trace,
     })
 }
 
-fn format<'a>(matches: &ArgMatches<'a>) -> Result<Format, Fault<'a>> {
+/// What `--skip` may be.
+const SKIPPED: &str = "a number of references, from 0 to 4294967295";
+
+/// What `--slice` may be.
+const SLICES: &str = "a number of instructions, from 1 to 100000";
+
+/// What `--limit` may be.
+const LIMITS: &str = "a number of instructions, from 1 to 1000000000";
+
+/// What `--format` may be.
+const FORMATS: &str = "text, csv or oraclegeneral";
+
+/// The policies that are named, or else those that are counted where none is.
+fn wanted_policies<'a>(
+    matches: &ArgMatches<'a>,
+    usual: PolicySet,
+) -> Result<PolicySet, Wrong<'a>> {
+    let Some(list) = matches.get_str("policies") else {
+        return Ok(usual);
+    };
+    match policies_in(list) {
+        Ok(set) => Ok(set),
+        Err(word) => Err(Wrong::Value("policies", word, NAMES)),
+    }
+}
+
+/// CLOCK-Pro's list serves no other numbers of frames than a machine has.
+fn refuse_frames<'a>(frames: &[Frames], wanted: PolicySet) -> Result<(), Wrong<'a>> {
+    if !wanted.clock_pro && !wanted.clock_pro_used {
+        return Ok(());
+    }
+    for frames in frames {
+        if !frames.are_a_machines() {
+            return Err(Wrong::ClockProFrames(frames.number()));
+        }
+    }
+    Ok(())
+}
+
+fn format<'a>(matches: &ArgMatches<'a>) -> Result<Format, Wrong<'a>> {
     match matches.get_str("format") {
         None | Some("text") => Ok(Format::Text),
         Some("csv") => Ok(Format::Csv),
         Some("oraclegeneral") => Ok(Format::OracleGeneral),
-        Some(_) => Err(Fault::BadUsage),
+        Some(other) => Err(Wrong::Value("format", other, FORMATS)),
     }
 }
 
 fn printing(matches: &ArgMatches<'_>) -> Printing {
     Printing {
         is_csv: is_given(matches, "csv"),
+        is_ratio: is_given(matches, "ratio"),
         is_told: is_given(matches, "progress"),
     }
 }
@@ -101,11 +176,11 @@ fn printing(matches: &ArgMatches<'_>) -> Printing {
 fn guest_request<'a>(
     alloc: Global,
     matches: &ArgMatches<'a>,
-) -> Result<GuestRequest<'a>, Fault<'a>> {
-    let slice = number_or(matches, "slice", 1000, 100_000)?;
-    let limit = number_or(matches, "limit", 100_000_000, 1_000_000_000)?;
+) -> Result<GuestRequest<'a>, Wrong<'a>> {
+    let slice = number_from(matches, "slice", 1000, 1, 100_000, SLICES)?;
+    let limit = number_from(matches, "limit", 100_000_000, 1, 1_000_000_000, LIMITS)?;
     let Some(images) = matches.get_strs("image") else {
-        return Err(Fault::BadUsage);
+        return Err(Wrong::Fault(Fault::BadUsage));
     };
     let images = images.to_vec(alloc)?;
     Ok(GuestRequest {
@@ -116,19 +191,21 @@ fn guest_request<'a>(
     })
 }
 
-/// The number of an option, from 1 on, or what it is where the option is not given.
-fn number_or<'a>(
+/// The number of an option, or what it is where the option is not given.
+fn number_from<'a>(
     matches: &ArgMatches<'a>,
-    name: &str,
+    name: &'static str,
     default: u32,
+    least: u32,
     most: u32,
-) -> Result<u32, Fault<'a>> {
+    allowed: &'static str,
+) -> Result<u32, Wrong<'a>> {
     let Some(text) = matches.get_str(name) else {
         return Ok(default);
     };
     match numeral(text.as_bytes(), 10, most) {
-        Some(number) if number >= 1 => Ok(number),
-        _ => Err(Fault::BadUsage),
+        Some(number) if number >= least => Ok(number),
+        _ => Err(Wrong::Value(name, text, allowed)),
     }
 }
 
@@ -136,18 +213,26 @@ fn is_given(matches: &ArgMatches<'_>, name: &str) -> bool {
     matches.get_str(name) == Some("true")
 }
 
-/// The numbers of a list, parted by commas, each of them 4 to 4096.
-fn frames_of<'a>(alloc: Global, list: &str) -> Result<Vec<Frames>, Fault<'a>> {
-    let mut all = Vec::new(alloc);
-    for word in list.split(',') {
-        let Some(frames) = numeral(word.as_bytes(), 10, MOST_FRAMES).and_then(|number| Frames::new(
-            number as usize,
-        )) else {
-            return Err(Fault::BadUsage);
-        };
-        if all.push(frames).is_err() {
-            return Err(Fault::NoMemory);
-        }
+/// The numbers of frames of a machine that a list has.
+fn guest_frames<'a>(alloc: Global, list: &'a str) -> Result<Vec<Frames>, Wrong<'a>> {
+    match frames_in(alloc, list, FEWEST_FRAMES, MOST_FRAMES) {
+        Ok(frames) => Ok(frames),
+        Err(fault) => Err(list_wrong(fault, list, GUEST_FRAMES)),
     }
-    Ok(all)
+}
+
+/// The numbers of frames that a list has.
+fn replay_frames<'a>(alloc: Global, list: &'a str) -> Result<Vec<Frames>, Wrong<'a>> {
+    match frames_in(alloc, list, 1, MOST_REPLAY_FRAMES) {
+        Ok(frames) => Ok(frames),
+        Err(fault) => Err(list_wrong(fault, list, REPLAY_FRAMES)),
+    }
+}
+
+fn list_wrong<'a>(fault: ListFault<'a>, list: &'a str, allowed: &'static str) -> Wrong<'a> {
+    match fault {
+        ListFault::NoMemory => Wrong::Fault(Fault::NoMemory),
+        ListFault::Word(word) => Wrong::Value("frames", word, allowed),
+        ListFault::TooMany => Wrong::Value("frames", list, "4096 numbers at most"),
+    }
 }

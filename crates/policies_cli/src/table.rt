@@ -1,86 +1,201 @@
 //! The table of misses.
 
+use crate::request::Printing;
 use miss_counts::Counts;
 use std::io;
 use std::io::Write;
 
-/// Writes a row for each number of frames. The optimum has a column where it was counted.
-pub(crate) fn write_table<W: Write>(rows: &[Counts], is_csv: bool, out: &mut W) -> io::Result<()> {
-    let has_optimum = match rows.first() {
-        Some(counts) => counts.optimum.is_some(),
-        None => false,
-    };
-    write_head(has_optimum, is_csv, out)?;
+/// How wide a column of counts is.
+const WIDE: usize = 11;
+
+/// How wide a column is that also has how many times the optimum's misses they are.
+const WIDER: usize = 18;
+
+/// A policy's name, and its misses where they were counted.
+type Column = (&'static str, Option<u64>);
+
+fn columns_of(counts: &Counts) -> [Column; 10] {
+    [
+        ("fifo", counts.fifo),
+        ("clock", counts.clock),
+        ("lru", counts.lru),
+        ("clock-pro-used", counts.clock_pro_used),
+        ("clock-pro", counts.clock_pro),
+        ("2q", counts.two_queues),
+        ("arc", counts.arc),
+        ("sieve", counts.sieve),
+        ("s3-fifo", counts.s3_fifo),
+        ("random", counts.random),
+    ]
+}
+
+/// Writes a row for each number of frames. What was counted has a column.
+pub(crate) fn write_table<W: Write>(
+    rows: &[Counts],
+    printing: Printing,
+    out: &mut W,
+) -> io::Result<()> {
+    if let Some(counts) = rows.first() {
+        if printing.is_csv {
+            write_csv_head(counts, out)?;
+        } else {
+            write_head(counts, printing, out)?;
+        }
+    }
     for counts in rows {
-        match counts.optimum {
-            Some(optimum) if is_csv => write_values_and_floor(counts, optimum, out)?,
-            Some(optimum) => write_shares(counts, optimum, out)?,
-            None if is_csv => write_values(counts, out)?,
-            None => write_columns(counts, out)?,
+        if printing.is_csv {
+            write_csv_row(counts, printing, out)?;
+        } else {
+            write_row(counts, printing, out)?;
         }
     }
     Ok(())
 }
 
-fn write_head<W: Write>(has_optimum: bool, is_csv: bool, out: &mut W) -> io::Result<()> {
-    if is_csv && has_optimum {
-        writeln!(out, "frames,fifo,clock,lru,clock-pro,optimum")
-    } else if is_csv {
-        writeln!(out, "frames,fifo,clock,lru,clock-pro")
-    } else if has_optimum {
-        writeln!(
-            out,
-            "frames       fifo             clock               lru         clock-pro           optimum"
-        )
-    } else {
-        writeln!(out, "frames       fifo      clock        lru  clock-pro")
+fn write_csv_head<W: Write>(counts: &Counts, out: &mut W) -> io::Result<()> {
+    write!(out, "frames")?;
+    for (name, misses) in columns_of(counts) {
+        if misses.is_some() {
+            write!(out, ",{name}")?;
+        }
     }
+    if counts.optimum.is_some() {
+        write!(out, ",optimum")?;
+    }
+    writeln!(out)
 }
 
-fn write_values<W: Write>(counts: &Counts, out: &mut W) -> io::Result<()> {
-    let (frames, fifo, clock) = (counts.frames.number(), counts.fifo, counts.clock);
-    let (lru, clock_pro) = (counts.lru, counts.clock_pro);
-    writeln!(out, "{frames},{fifo},{clock},{lru},{clock_pro}")
-}
-
-fn write_values_and_floor<W: Write>(counts: &Counts, optimum: u64, out: &mut W) -> io::Result<()> {
-    let (frames, fifo, clock) = (counts.frames.number(), counts.fifo, counts.clock);
-    let (lru, clock_pro) = (counts.lru, counts.clock_pro);
-    writeln!(out, "{frames},{fifo},{clock},{lru},{clock_pro},{optimum}")
-}
-
-fn write_columns<W: Write>(counts: &Counts, out: &mut W) -> io::Result<()> {
-    let (frames, fifo, clock) = (counts.frames.number(), counts.fifo, counts.clock);
-    let (lru, clock_pro) = (counts.lru, counts.clock_pro);
-    writeln!(
-        out,
-        "{frames:>6} {fifo:>10} {clock:>10} {lru:>10} {clock_pro:>10}"
-    )
-}
-
-/// Beside each policy's misses stands how many times the optimum's they are.
-fn write_shares<W: Write>(counts: &Counts, optimum: u64, out: &mut W) -> io::Result<()> {
+fn write_csv_row<W: Write>(
+    counts: &Counts,
+    printing: Printing,
+    out: &mut W,
+) -> io::Result<()> {
     let frames = counts.frames.number();
-    write!(out, "{frames:>6}")?;
-    write_share(counts.fifo, optimum, out)?;
-    write_share(counts.clock, optimum, out)?;
-    write_share(counts.lru, optimum, out)?;
-    write_share(counts.clock_pro, optimum, out)?;
-    writeln!(out, " {optimum:>10}")
-}
-
-/// Misses, and how many times so many others they are, in hundredths that are rounded to the nearest; of a string of no references
-/// nothing misses, and it is 1.
-fn write_share<W: Write>(misses: u64, optimum: u64, out: &mut W) -> io::Result<()> {
-    let hundredths = hundredths_of(misses, optimum);
-    let (whole, tenth, hundredth) = (hundredths / 100, hundredths / 10 % 10, hundredths % 10);
-    write!(out, " {misses:>10} {whole:>3}.{tenth}{hundredth}")
-}
-
-/// The quotient of two counts in hundredths, rounded to the nearest.
-fn hundredths_of(misses: u64, optimum: u64) -> u64 {
-    if optimum == 0 {
-        return 100;
+    write!(out, "{frames}")?;
+    for (_, misses) in columns_of(counts) {
+        if let Some(misses) = misses {
+            write_csv_value(misses, counts.references, printing, out)?;
+        }
     }
-    misses.saturating_mul(100).saturating_add(optimum / 2) / optimum
+    if let Some(misses) = counts.optimum {
+        write_csv_value(misses, counts.references, printing, out)?;
+    }
+    writeln!(out)
+}
+
+fn write_csv_value<W: Write>(
+    misses: u64,
+    references: u64,
+    printing: Printing,
+    out: &mut W,
+) -> io::Result<()> {
+    if printing.is_ratio {
+        out.write_all(b",")?;
+        write_ratio(misses, references, out)
+    } else {
+        write!(out, ",{misses}")
+    }
+}
+
+/// Whether beside each policy's misses stands how many times the optimum's they are.
+fn has_shares(counts: &Counts, printing: Printing) -> bool {
+    counts.optimum.is_some() && !printing.is_ratio
+}
+
+fn write_head<W: Write>(counts: &Counts, printing: Printing, out: &mut W) -> io::Result<()> {
+    let wide = if has_shares(counts, printing) {
+        WIDER
+    } else {
+        WIDE
+    };
+    write!(out, "frames")?;
+    let mut is_first = true;
+    for (name, misses) in columns_of(counts) {
+        if misses.is_some() {
+            write_name(name, if is_first { WIDE } else { wide }, out)?;
+            is_first = false;
+        }
+    }
+    if counts.optimum.is_some() {
+        write_name("optimum", if is_first { WIDE } else { wide }, out)?;
+    }
+    writeln!(out)
+}
+
+/// A name at the right of its column, one blank at least before it.
+fn write_name<W: Write>(name: &str, wide: usize, out: &mut W) -> io::Result<()> {
+    write_blanks(wide.saturating_sub(name.len()).max(1), out)?;
+    out.write_all(name.as_bytes())
+}
+
+fn write_blanks<W: Write>(count: usize, out: &mut W) -> io::Result<()> {
+    for _ in 0..count {
+        out.write_all(b" ")?;
+    }
+    Ok(())
+}
+
+fn write_row<W: Write>(
+    counts: &Counts,
+    printing: Printing,
+    out: &mut W,
+) -> io::Result<()> {
+    let frames = counts.frames.number();
+    let has_shares = has_shares(counts, printing);
+    write!(out, "{frames:>6}")?;
+    let mut is_first = true;
+    for (name, misses) in columns_of(counts) {
+        if let Some(misses) = misses {
+            if is_first || !has_shares {
+                write_blanks((name.len() + 1).saturating_sub(WIDE), out)?;
+            }
+            is_first = false;
+            write_value(misses, counts.references, printing, out)?;
+            match counts.optimum {
+                Some(optimum) if has_shares => write_share(misses, optimum, out)?,
+                _ => {}
+            }
+        }
+    }
+    if let Some(misses) = counts.optimum {
+        write_value(misses, counts.references, printing, out)?;
+    }
+    writeln!(out)
+}
+
+fn write_value<W: Write>(
+    misses: u64,
+    references: u64,
+    printing: Printing,
+    out: &mut W,
+) -> io::Result<()> {
+    if printing.is_ratio {
+        write_blanks(WIDE - 6, out)?;
+        write_ratio(misses, references, out)
+    } else {
+        write!(out, " {misses:>10}")
+    }
+}
+
+/// How many times so many others misses are, in hundredths that are rounded to the nearest; of a string of no references nothing misses,
+/// and it is 1.
+fn write_share<W: Write>(misses: u64, optimum: u64, out: &mut W) -> io::Result<()> {
+    let hundredths = part_of(misses, optimum, 100, 100);
+    let (whole, tenth, hundredth) = (hundredths / 100, hundredths / 10 % 10, hundredths % 10);
+    write!(out, " {whole:>3}.{tenth}{hundredth}")
+}
+
+/// Which part of the references missed, in parts of ten thousand that are rounded to the nearest; of none, none.
+fn write_ratio<W: Write>(misses: u64, references: u64, out: &mut W) -> io::Result<()> {
+    let parts = part_of(misses, references, 10_000, 0);
+    let (whole, rest) = (parts / 10_000, parts % 10_000);
+    write!(out, "{whole}.{rest:0>4}")
+}
+
+/// The quotient of two counts in so small parts, rounded to the nearest.
+fn part_of(count: u64, of: u64, parts: u64, of_none: u64) -> u64 {
+    if of == 0 {
+        return of_none;
+    }
+    count.saturating_mul(parts).saturating_add(of / 2) / of
 }

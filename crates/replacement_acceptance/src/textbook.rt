@@ -1,9 +1,11 @@
-//! The string on which more frames make FIFO miss more, and its counts at four frames, which textbooks give.
+//! The string on which more frames make FIFO miss more, and its counts at three frames and at four, which textbooks give.
 
 use clock_policy::Key;
+use clock_ring::ClockRing;
 use page_policies::{
-    Fifo, Frames, Lru, Optimum, clock_pro_is_a_play, misses, more_frames_never_miss_more,
-    next_uses, no_policy_misses_less, optimum_is_a_play,
+    Arc, ClockPro, ClockProUsed, Fifo, Frames, Lru, Optimum, Policy, Random, S3Fifo, SecondChance,
+    Sieve, TwoQueues, clock_pro_is_a_play, misses, more_frames_never_miss_more, next_uses,
+    no_policy_misses_less, optimum_is_a_play, younger_policies_are_plays,
 };
 use std::alloc::Global;
 use std::test::Fail;
@@ -19,12 +21,47 @@ fn string(alloc: Global) -> Result<Vec<Key>, Fail> {
 #[test]
 fn policies_miss_as_in_textbooks(rt: HostRuntime) -> Result<(), Fail> {
     let string = string(rt.alloc())?;
+    let three = Frames::new(3).ok_or("no frames")?;
+    assert_eq!(rt; misses::<Fifo>(rt.alloc(), three, string.as_slice())?, 9);
     let frames = Frames::new(4).ok_or("no frames")?;
     let fifo = misses::<Fifo>(rt.alloc(), frames, string.as_slice())?;
     let lru = misses::<Lru>(rt.alloc(), frames, string.as_slice())?;
     let optimum = Optimum::new(rt.alloc(), string.as_slice())?;
     assert_eq!(rt; (fifo, lru), (10, 8));
     assert_eq!(rt; optimum.misses(rt.alloc(), frames)?, 6);
+    Ok(())
+}
+
+/// What a policy misses of the string with three frames and with four.
+fn with_three_and_four<P: Policy>(alloc: Global) -> Result<(usize, usize), Fail> {
+    let string = string(alloc)?;
+    let three = Frames::new(3).ok_or("no frames")?;
+    let four = Frames::new(4).ok_or("no frames")?;
+    let fewer = misses::<P>(alloc, three, string.as_slice())?;
+    let more = misses::<P>(alloc, four, string.as_slice())?;
+    Ok((fewer, more))
+}
+
+/// The counts of `scripts/policies-model`.
+#[test]
+fn younger_policies_miss_as_in_the_model(rt: HostRuntime) -> Result<(), Fail> {
+    assert_eq!(rt; with_three_and_four::<SecondChance>(rt.alloc())?, (9, 10));
+    assert_eq!(rt; with_three_and_four::<TwoQueues>(rt.alloc())?, (10, 9));
+    assert_eq!(rt; with_three_and_four::<Arc>(rt.alloc())?, (10, 7));
+    assert_eq!(rt; with_three_and_four::<Sieve>(rt.alloc())?, (10, 8));
+    assert_eq!(rt; with_three_and_four::<S3Fifo>(rt.alloc())?, (10, 10));
+    assert_eq!(rt; with_three_and_four::<Random>(rt.alloc())?, (10, 6));
+    Ok(())
+}
+
+/// A page comes in with its mark clear, or set.
+#[test]
+fn both_profiles_of_clock_pro_play(rt: HostRuntime) -> Result<(), Fail> {
+    let string = string(rt.alloc())?;
+    let four = Frames::new(4).ok_or("no frames")?;
+    let clear = misses::<ClockPro<ClockRing>>(rt.alloc(), four, string.as_slice())?;
+    let used = misses::<ClockProUsed<ClockRing>>(rt.alloc(), four, string.as_slice())?;
+    assert_eq!(rt; (clear, used), (8, 8));
     Ok(())
 }
 
@@ -39,9 +76,9 @@ fn next_uses_are_distances(rt: HostRuntime) -> Result<(), Fail> {
 }
 
 #[test]
-fn lists_serve_no_other_numbers_of_frames(rt: HostRuntime) {
-    assert!(rt; Frames::new(3).is_none());
-    assert!(rt; Frames::new(4097).is_none());
+fn policies_have_no_other_numbers_of_frames(rt: HostRuntime) {
+    assert!(rt; Frames::new(0).is_none());
+    assert!(rt; Frames::new(16_777_217).is_none());
 }
 
 /// That the laws are there.
@@ -50,5 +87,6 @@ fn laws_hold(_: HostRuntime) {
     more_frames_never_miss_more();
     no_policy_misses_less();
     optimum_is_a_play();
+    younger_policies_are_plays();
     clock_pro_is_a_play();
 }

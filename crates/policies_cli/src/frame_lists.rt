@@ -1,0 +1,92 @@
+//! Lists of numbers of frames.
+
+use page_policies::Frames;
+use std::alloc::{AllocError, Global};
+use text_lines::numeral;
+
+/// How many numbers of frames a list may have.
+const MOST_NUMBERS: usize = 4096;
+
+/// Why a list is none.
+#[derive(Debug, Drop)]
+pub(crate) enum ListFault<'a> {
+    NoMemory,
+    /// A word that is no number of frames, and no range.
+    Word(&'a str),
+    /// More numbers than a list may have.
+    TooMany,
+}
+
+impl From<AllocError> for ListFault<'_> {
+    fn from(_: AllocError) -> Self {
+        ListFault::NoMemory
+    }
+}
+
+/// Numbers of frames from the least to the most that are allowed, and ranges of them, parted by commas. A range is `4-64`, each number of
+/// it, or `4-64x2`, each twice as many as the one before.
+pub(crate) fn frames_in<'a>(
+    alloc: Global,
+    list: &'a str,
+    least: u32,
+    most: u32,
+) -> Result<Vec<Frames>, ListFault<'a>> {
+    let mut all = Vec::new(alloc);
+    for word in list.split(',') {
+        let Some((from, to, times)) = range_of(word, most) else {
+            return Err(ListFault::Word(word));
+        };
+        if from < least || to < from {
+            return Err(ListFault::Word(word));
+        }
+        add_range(&mut all, from, to, times)?;
+    }
+    Ok(all)
+}
+
+/// A word's least number, its greatest, and by what each is multiplied to have the next; 1 where each number is meant.
+fn range_of(word: &str, most: u32) -> Option<(u32, u32, u32)> {
+    let Some((from, rest)) = word.split_once('-') else {
+        let number = numeral(word.as_bytes(), 10, most)?;
+        return Some((number, number, 1));
+    };
+    let from = numeral(from.as_bytes(), 10, most)?;
+    let Some((to, times)) = rest.split_once('x') else {
+        return Some((from, numeral(rest.as_bytes(), 10, most)?, 1));
+    };
+    let to = numeral(to.as_bytes(), 10, most)?;
+    let times = numeral(times.as_bytes(), 10, most)?;
+    if times < 2 {
+        return None;
+    }
+    Some((from, to, times))
+}
+
+fn add_range<'a>(
+    all: &mut Vec<Frames>,
+    from: u32,
+    to: u32,
+    times: u32,
+) -> Result<(), ListFault<'a>> {
+    let mut next = from;
+    for _ in 0..MOST_NUMBERS {
+        let Some(frames) = Frames::new(next as usize) else {
+            return Ok(());
+        };
+        if all.len() >= MOST_NUMBERS {
+            return Err(ListFault::TooMany);
+        }
+        if all.push(frames).is_err() {
+            return Err(ListFault::NoMemory);
+        }
+        next = if times == 1 {
+            next.saturating_add(1)
+        } else {
+            next.saturating_mul(times)
+        };
+        if next > to {
+            return Ok(());
+        }
+    }
+    Err(ListFault::TooMany)
+}

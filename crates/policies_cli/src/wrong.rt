@@ -1,0 +1,51 @@
+//! What is wrong with the words or the trace that the program was given.
+
+use image_files::Fault;
+use std::alloc::AllocError;
+use std::io;
+
+/// Why a command stops. What is of the other programs too is their fault.
+#[derive(Debug, Drop, thiserror::Error)]
+pub(crate) enum Wrong<'a> {
+    #[error("{0}")]
+    Fault(Fault<'a>),
+    /// Words that are no request, as the library that reads them says it. Help that was asked for is no fault.
+    #[error("{0}")]
+    Words(clap::Error),
+    /// An option's value, and what it may be.
+    #[error("--{0} {1}: {2}")]
+    Value(&'static str, &'a str, &'static str),
+    /// Two options that don't go together, and why.
+    #[error("--{0} with --{1}: {2}")]
+    Together(&'static str, &'static str, &'static str),
+    /// A number of frames that one of the policies can't have.
+    #[error("{0} frames: clock-pro and clock-pro-used have 4 to 4096; name others by --policies")]
+    ClockProFrames(usize),
+    #[error("{0}: no references")]
+    Empty(&'a str),
+    #[error("{0}: its first line names no column `id`, `obj_id`, `object_id`, `key` or `page`")]
+    NoColumn(&'a str),
+    /// A line, from 1 on, and what stands there.
+    #[error("line {0}: bad line: {1}")]
+    Line(u64, String),
+    #[error("record {0}: bad record: {1} bytes of 24")]
+    Record(u64, usize),
+}
+
+impl<'a> From<Fault<'a>> for Wrong<'a> {
+    fn from(fault: Fault<'a>) -> Self {
+        Wrong::Fault(fault)
+    }
+}
+
+impl From<AllocError> for Wrong<'_> {
+    fn from(_: AllocError) -> Self {
+        Wrong::Fault(Fault::NoMemory)
+    }
+}
+
+impl From<io::Error> for Wrong<'_> {
+    fn from(error: io::Error) -> Self {
+        Wrong::Fault(Fault::from(error))
+    }
+}

@@ -43,6 +43,7 @@ or_weaker false b c more h = more h
 
 -- an entry of a page tells its D
 dirty_by_seen : (page : Option Seen) (e : Entry) → e ≡ entry_seen page e.accessed e.dirty → dirty_of e ≡ e.dirty
+unfolding dirty_of
 dirty_by_seen None e is = ap dirty_of is ∙ sym (ap (λ (u : Entry). u.dirty) is)
 dirty_by_seen (Some page) e is = by_standing page.rights page.standing is
   where
@@ -54,7 +55,7 @@ dirty_by_seen (Some page) e is = by_standing page.rights page.standing is
 module _ {S : Type 0} where
   -- ---- a page that keeps something else now, and is where it was
 
-  record Alike (place place' : Place S) : Type 0 where
+  pub record Alike (place place' : Place S) : Type 0 where
     pub frame : frame_standing (standing_of place') ≡ frame_standing (standing_of place)
     pub dirty : (e : Entry) → dirty_standing (standing_of place') e ≡ dirty_standing (standing_of place) e
     pub used : (e : Entry) → used_standing (standing_of place') e ≡ used_standing (standing_of place) e
@@ -140,7 +141,7 @@ module _ {S : Type 0} where
   begun_page : (ended dirty : Bool) (page page' : PageValue S) → StartsClean ended dirty page page' → Begun page page'
   begun_page ended dirty page page' starts = by_place page.place refl starts.place
     where
-      told : (frame : FrameValue) (slot : Keeping S) (own : Option S) → page.place ≡ Resident frame slot → Ok (Resident frame (Cleaning own)) ≡ Ok page'.place → Begun page page'
+      told : (frame : FrameValue) (slot : Keeping S) (own : Option S) → page.place ≡ Resident frame slot → ◌≡◌ {A = Result (Place S) CleanRefusal} (Ok (Resident frame (Cleaning own))) (Ok page'.place) → Begun page page'
       told frame slot own at is =
           let place : Resident frame (Cleaning own) ≡ page'.place = cc in
           record {

@@ -73,9 +73,9 @@ doomed_on old between new first second = λ page t found is. first page t (secon
 carried_on : (tables tables' tables'' : List (List ℕ)) (old between new : List Translation) → CarriesDirty tables tables' old between → CarriesDirty tables' tables'' between new → CarriesDirty tables tables'' old new
 carried_on tables tables' tables'' old between new first second = λ page t small found. elim (second page t small found) [
   | inl there ↦ elim (first page t small there.0) [
-      | inl kept ↦ inl (kept.0, there.1 ∙ kept.1)
-      | inr walked ↦ inr (walked.0, walked.1 ∙ sym there.1)
-    ]
+    | inl kept ↦ inl (kept.0, there.1 ∙ kept.1)
+    | inr walked ↦ inr (walked.0, walked.1 ∙ sym there.1)
+  ]
   | inr walked ↦ inr walked
 ]
 

@@ -12,28 +12,30 @@ use Rattle.page_store.specs.declared.answer.CleanCopy.TheVariants as answer
 use Rattle.page_store.specs.declared.answer.Cleaned.{Cleaned}
 use Rattle.page_store.specs.declared.answer.Cleaned.TheVariants as end
 
--- what a resident page keeps once its cleaning began, where its table entry had D or not: nothing backs it from now on
-abbrev pub begun_keeping : {S : Type 0} → Bool → Keeping S → Result (Keeping S) CleanRefusal
-begun_keeping false NoSlot = Err NotChanged
-begun_keeping true NoSlot = Ok (Cleaning None)
-begun_keeping false (Saved copy) = Err NotChanged
-begun_keeping true (Saved copy) = Ok (Cleaning (Some copy.slot))
-begun_keeping dirty (Unbacked slot) = Ok (Cleaning slot)
-begun_keeping dirty (Cleaning slot) = Err AlreadyCleaning
-begun_keeping dirty CopyOut = Err AlreadyCleaning
+-- what a resident page keeps once its cleaning began, where its table entry had D or not: nothing backs it from now on. The first says
+-- whether its process has ended, and with it each cleaning that has no copy.
+abbrev pub begun_keeping : {S : Type 0} → Bool → Bool → Keeping S → Result (Keeping S) CleanRefusal
+begun_keeping ended false NoSlot = Err NotChanged
+begun_keeping ended true NoSlot = Ok (Cleaning None)
+begun_keeping ended false (Saved copy) = Err NotChanged
+begun_keeping ended true (Saved copy) = Ok (Cleaning (Some copy.slot))
+begun_keeping ended dirty (Unbacked slot) = Ok (Cleaning slot)
+begun_keeping true dirty (Cleaning slot) = Ok (Cleaning slot)
+begun_keeping false dirty (Cleaning slot) = Err AlreadyCleaning
+begun_keeping ended dirty CopyOut = Err AlreadyCleaning
 
 abbrev pub resident_with : {S : Type 0} → FrameValue → Result (Keeping S) CleanRefusal → Result (Place S) CleanRefusal
 resident_with frame (Ok slot) = Ok (Resident frame slot)
 resident_with frame (Err refusal) = Err refusal
 
 -- a page whose cleaning begins, or why it does not
-abbrev pub begun : {S : Type 0} → Bool → Place S → Result (Place S) CleanRefusal
-begun dirty Fresh = Err NotResident
-begun dirty (Resident frame slot) = resident_with frame (begun_keeping dirty slot)
-begun dirty (Leaving frame slot mark) = Err NotResident
-begun dirty (Saving frame mark) = Err NotResident
-begun dirty (Away copy) = Err NotResident
-begun dirty Purged = Err NotResident
+abbrev pub begun : {S : Type 0} → Bool → Bool → Place S → Result (Place S) CleanRefusal
+begun ended dirty Fresh = Err NotResident
+begun ended dirty (Resident frame slot) = resident_with frame (begun_keeping ended dirty slot)
+begun ended dirty (Leaving frame slot mark) = Err NotResident
+begun ended dirty (Saving frame mark) = Err NotResident
+begun ended dirty (Away copy) = Err NotResident
+begun ended dirty Purged = Err NotResident
 
 -- whether a page is being cleaned, and no copy of it is out
 abbrev pub is_cleaning : {S : Type 0} → Keeping S → Bool

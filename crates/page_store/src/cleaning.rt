@@ -18,11 +18,11 @@ use std::sync::ledger::Ledger;
 use swap_slots::SwapSlot;
 
 impl<L: Ledger, S: SwapSlot> StoredPage<L, S> {
-    /// Begins to clean the page, where `dirty` says whether its page-table entry has D, which is to be cleared. Nothing backs the
-    /// page until it ends.
-    pub fn begin_clean(&mut self, dirty: bool) -> Result<(), CleanRefusal>
-        ensures ok { OnOk result (begun dirty self.old.place ≡ Ok self.new.place) }
-        ensures refused { IfErr result (λ refusal. begun dirty self.old.place ≡ Err refusal) }
+    /// Begins to clean the page, where `dirty` says whether its page-table entry has D, which is to be cleared, and `ended` whether its
+    /// process has ended, and with it each cleaning that has no copy. Nothing backs the page until the cleaning ends.
+    pub fn begin_clean(&mut self, dirty: bool, ended: bool) -> Result<(), CleanRefusal>
+        ensures ok { OnOk result (begun ended dirty self.old.place ≡ Ok self.new.place) }
+        ensures refused { IfErr result (λ refusal. begun ended dirty self.old.place ≡ Err refusal) }
         ensures err { OnErr result (self.new ≡ self.old) }
         ensures content { content S.content self.new ≡ content S.content self.old }
         ensures backed { OnOk result (Backed S.content false self.new) }
@@ -30,7 +30,7 @@ impl<L: Ledger, S: SwapSlot> StoredPage<L, S> {
     {
         match mem::replace(&mut self.state, State::Purged) {
             State::Resident(frame, slot) => {
-                let (slot, done) = begin_keeping(slot, dirty);
+                let (slot, done) = begin_keeping(slot, dirty, ended);
                 self.state = State::Resident(frame, slot);
                 done
             }
@@ -156,10 +156,12 @@ impl<L: Ledger, S: SwapSlot> State<L, S> {
 fn begin_keeping<S: SwapSlot>(
     slot: Keeping<S>,
     dirty: bool,
+    ended: bool,
 ) -> (Keeping<S>, Result<(), CleanRefusal>)
-    ensures ok { OnOk result.1 (begun_keeping dirty (keeping_of slot) ≡ Ok (keeping_of result.0)) }
+    ensures ok { OnOk result.1 (begun_keeping ended dirty (keeping_of slot) ≡
+        Ok (keeping_of result.0)) }
     ensures refused { IfErr result.1 (λ refusal.
-        begun_keeping dirty (keeping_of slot) ≡ Err refusal) }
+        begun_keeping ended dirty (keeping_of slot) ≡ Err refusal) }
     ensures err { OnErr result.1 (result.0 ≡ slot) }
 {
     match slot {
@@ -178,7 +180,13 @@ fn begin_keeping<S: SwapSlot>(
             }
         }
         Keeping::Unbacked(slot) => (Keeping::Cleaning(slot), Ok(())),
-        Keeping::Cleaning(slot) => (Keeping::Cleaning(slot), Err(CleanRefusal::AlreadyCleaning)),
+        Keeping::Cleaning(slot) => {
+            if ended {
+                (Keeping::Cleaning(slot), Ok(()))
+            } else {
+                (Keeping::Cleaning(slot), Err(CleanRefusal::AlreadyCleaning))
+            }
+        }
     }
 }
 

@@ -43,6 +43,7 @@ or_weaker false b c more h = more h
 
 -- an entry of a page tells its D
 dirty_by_seen : (page : Option Seen) (e : Entry) → e ≡ entry_seen page e.accessed e.dirty → dirty_of e ≡ e.dirty
+unfolding dirty_of
 dirty_by_seen None e is = ap dirty_of is ∙ sym (ap (λ (u : Entry). u.dirty) is)
 dirty_by_seen (Some page) e is = by_standing page.rights page.standing is
   where
@@ -54,7 +55,7 @@ dirty_by_seen (Some page) e is = by_standing page.rights page.standing is
 module _ {S : Type 0} where
   -- ---- a page that keeps something else now, and is where it was
 
-  record Alike (place place' : Place S) : Type 0 where
+  pub record Alike (place place' : Place S) : Type 0 where
     pub frame : frame_standing (standing_of place') ≡ frame_standing (standing_of place)
     pub dirty : (e : Entry) → dirty_standing (standing_of place') e ≡ dirty_standing (standing_of place) e
     pub used : (e : Entry) → used_standing (standing_of place') e ≡ used_standing (standing_of place) e
@@ -137,10 +138,10 @@ module _ {S : Type 0} where
     pub was : page ≡ record { origin = page.origin; place = Resident frame slot }
     pub is : page' ≡ record { origin = page.origin; place = Resident frame (Cleaning own) }
 
-  begun_page : (dirty : Bool) (page page' : PageValue S) → StartsClean dirty page page' → Begun page page'
-  begun_page dirty page page' starts = by_place page.place refl starts.place
+  begun_page : (ended dirty : Bool) (page page' : PageValue S) → StartsClean ended dirty page page' → Begun page page'
+  begun_page ended dirty page page' starts = by_place page.place refl starts.place
     where
-      told : (frame : FrameValue) (slot : Keeping S) (own : Option S) → page.place ≡ Resident frame slot → Ok (Resident frame (Cleaning own)) ≡ Ok page'.place → Begun page page'
+      told : (frame : FrameValue) (slot : Keeping S) (own : Option S) → page.place ≡ Resident frame slot → ◌≡◌ {A = Result (Place S) CleanRefusal} (Ok (Resident frame (Cleaning own))) (Ok page'.place) → Begun page page'
       told frame slot own at is =
           let place : Resident frame (Cleaning own) ≡ page'.place = cc in
           record {
@@ -151,26 +152,27 @@ module _ {S : Type 0} where
             is = ap (λ o. record { origin = o; place = page'.place }) starts.origin ∙ ap (λ p. record { origin = page.origin; place = p }) (sym place);
           }
 
-      by_slot : (frame : FrameValue) (slot : Keeping S) (d : Bool) → page.place ≡ Resident frame slot → resident_with frame (begun_keeping d slot) ≡ Ok page'.place → Begun page page'
-      by_slot frame NoSlot true at is = told frame NoSlot None at is
-      by_slot frame NoSlot false at is = cc
-      by_slot frame (Saved copy) true at is = told frame (Saved copy) (Some copy.slot) at is
-      by_slot frame (Saved copy) false at is = cc
-      by_slot frame (Unbacked own) d at is = told frame (Unbacked own) own at is
-      by_slot frame (Cleaning own) d at is = cc
-      by_slot frame CopyOut d at is = cc
+      begun_slot : (frame : FrameValue) (slot : Keeping S) (over d : Bool) → page.place ≡ Resident frame slot → resident_with frame (begun_keeping over d slot) ≡ Ok page'.place → Begun page page'
+      begun_slot frame NoSlot over true at is = told frame NoSlot None at is
+      begun_slot frame NoSlot over false at is = cc
+      begun_slot frame (Saved copy) over true at is = told frame (Saved copy) (Some copy.slot) at is
+      begun_slot frame (Saved copy) over false at is = cc
+      begun_slot frame (Unbacked own) over d at is = told frame (Unbacked own) own at is
+      begun_slot frame (Cleaning own) true d at is = told frame (Cleaning own) own at is
+      begun_slot frame (Cleaning own) false d at is = cc
+      begun_slot frame CopyOut over d at is = cc
 
-      by_place : (place : Place S) → page.place ≡ place → begun dirty place ≡ Ok page'.place → Begun page page'
+      by_place : (place : Place S) → page.place ≡ place → begun ended dirty place ≡ Ok page'.place → Begun page page'
       by_place Fresh at is = cc
-      by_place (Resident frame slot) at is = by_slot frame slot dirty at is
+      by_place (Resident frame slot) at is = begun_slot frame slot ended dirty at is
       by_place (Leaving frame slot mark) at is = cc
       by_place (Saving frame mark) at is = cc
       by_place (Away copy) at is = cc
       by_place Purged at is = cc
 
-  module _ {held : S → List ℕ} {honest : Type 0} {pages pages' : List (ℕ × PageValue S)} {tables : List (List ℕ)} {caches : List (List Translation)} (tables' : List (List ℕ)) (number : ℕ) (small : number < 2 ^ 20) (holds : Holds held honest pages tables caches) (dirty : Bool) (told : ChangesBy (StartsClean dirty) pages pages' number) (entries : ChangesEntry tables tables' number (undirtied_entry (entry_at tables number))) (same : SameTables tables tables') where
+  module _ {held : S → List ℕ} {honest : Type 0} {pages pages' : List (ℕ × PageValue S)} {tables : List (List ℕ)} {caches : List (List Translation)} (tables' : List (List ℕ)) (number : ℕ) (small : number < 2 ^ 20) (holds : Holds held honest pages tables caches) (ended dirty : Bool) (told : ChangesBy (StartsClean ended dirty) pages pages' number) (entries : ChangesEntry tables tables' number (undirtied_entry (entry_at tables number))) (same : SameTables tables tables') where
     abbrev starts : Begun told.page told.page'
-    starts = begun_page dirty told.page told.page' told.how
+    starts = begun_page ended dirty told.page told.page' told.how
 
     abbrev begun_resident : IsResident pages number
     begun_resident = record { origin = told.page.origin; frame = starts.frame; slot = starts.slot; found = told.found ∙ ap Some starts.was }
@@ -219,13 +221,13 @@ module _ {S : Type 0} where
   refused_begin pages place page page' (Ok u) value same = same
   refused_begin pages place page page' (Err refusal) value same = ap (with_value pages place) same ∙ with_same pages place page value
 
-  pub refused_at : {U : Type 0} (dirty : Bool) (pages : List (ℕ × PageValue S)) (number place : ℕ) (page : PageValue S) (result : Result U CleanRefusal) → place_of number pages ≡ Some place → value_at place pages ≡ Some page → IfErr result (λ refusal. begun dirty page.place ≡ Err refusal) → IfErr result (RefusesClean dirty (page_at pages number))
-  refused_at dirty pages number place page (Ok u) at value told = told
-  refused_at dirty pages number place page (Err refusal) at value told = subst (λ o. RefusesClean dirty o refusal) (sym (page_at-place pages number place page at value)) told
+  pub refused_at : {U : Type 0} (ended dirty : Bool) (pages : List (ℕ × PageValue S)) (number place : ℕ) (page : PageValue S) (result : Result U CleanRefusal) → place_of number pages ≡ Some place → value_at place pages ≡ Some page → IfErr result (λ refusal. begun ended dirty page.place ≡ Err refusal) → IfErr result (RefusesClean ended dirty (page_at pages number))
+  refused_at ended dirty pages number place page (Ok u) at value told = told
+  refused_at ended dirty pages number place page (Err refusal) at value told = subst (λ o. RefusesClean ended dirty o refusal) (sym (page_at-place pages number place page at value)) told
 
-  pub begun_at : {U : Type 0} (dirty : Bool) (pages : List (ℕ × PageValue S)) (number place : ℕ) (page page' : PageValue S) (result : Result U CleanRefusal) → place_of number pages ≡ Some place → value_at place pages ≡ Some page → page'.origin ≡ page.origin → OnOk result (begun dirty page.place ≡ Ok page'.place) → OnOk result (ChangesBy (StartsClean dirty) pages (with_value pages place page') number)
-  begun_at dirty pages number place page page' (Ok u) at value origin told = changed_by pages number place page page' at value (record { origin = origin; place = told })
-  begun_at dirty pages number place page page' (Err refusal) at value origin told = told
+  pub begun_at : {U : Type 0} (ended dirty : Bool) (pages : List (ℕ × PageValue S)) (number place : ℕ) (page page' : PageValue S) (result : Result U CleanRefusal) → place_of number pages ≡ Some place → value_at place pages ≡ Some page → page'.origin ≡ page.origin → OnOk result (begun ended dirty page.place ≡ Ok page'.place) → OnOk result (ChangesBy (StartsClean ended dirty) pages (with_value pages place page') number)
+  begun_at ended dirty pages number place page page' (Ok u) at value origin told = changed_by pages number place page page' at value (record { origin = origin; place = told })
+  begun_at ended dirty pages number place page page' (Err refusal) at value origin told = told
 
   -- ---- a copy goes out
 

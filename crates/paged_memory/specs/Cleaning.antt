@@ -20,27 +20,27 @@ use Rattle.paged_memory.specs.Soundness.{is_marked}
 -- a cleaning begins
 
 module _ {S : Type 0} where
-  -- of a page, where its entry has D or not: nothing else of it changes
-  pub record StartsClean (dirty : Bool) (page page' : PageValue S) : Type 0 where
+  -- of a page, where its process has ended or not, and its entry has D or not: nothing else of it changes
+  pub record StartsClean (ended dirty : Bool) (page page' : PageValue S) : Type 0 where
     pub origin : page'.origin ≡ page.origin
-    pub place : begun dirty page.place ≡ Ok page'.place
+    pub place : begun ended dirty page.place ≡ Ok page'.place
 
   -- why it does not
-  abbrev pub RefusesClean : Bool → Option (PageValue S) → CleanRefusal → Type 0
-  RefusesClean dirty (Some page) refusal = begun dirty page.place ≡ Err refusal
-  RefusesClean dirty None refusal = refusal ≡ NotResident
+  abbrev pub RefusesClean : Bool → Bool → Option (PageValue S) → CleanRefusal → Type 0
+  RefusesClean ended dirty (Some page) refusal = begun ended dirty page.place ≡ Err refusal
+  RefusesClean ended dirty None refusal = refusal ≡ NotResident
 
   -- the dirty bit of a page's entry is cleared, and its translations are to be dropped; from now on nothing backs the page
-  pub record BeginsCleaning (vpn : ℕ) (old new : PagedValue S) : Type 0 where
+  pub record BeginsCleaning (ended : Bool) (vpn : ℕ) (old new : PagedValue S) : Type 0 where
     pub process : new.process ≡ old.process
-    pub page : ChangesBy (StartsClean (dirty_of (entry_at old.tables vpn))) old.pages new.pages vpn
+    pub page : ChangesBy (StartsClean ended (dirty_of (entry_at old.tables vpn))) old.pages new.pages vpn
     pub entry : ChangesEntry old.tables new.tables vpn (undirtied_entry (entry_at old.tables vpn))
     pub tabled : SameTables old.tables new.tables
     pub caches : new.caches ≡ map (doomed vpn) old.caches
     pub reserved : new.reserved ≡ old.reserved
 
-  abbrev pub DoesNotClean : ℕ → CleanRefusal → PagedValue S → Type 0
-  DoesNotClean vpn refusal memory = RefusesClean (dirty_of (entry_at memory.tables vpn)) (page_at memory.pages vpn) refusal
+  abbrev pub DoesNotClean : Bool → ℕ → CleanRefusal → PagedValue S → Type 0
+  DoesNotClean ended vpn refusal memory = RefusesClean ended (dirty_of (entry_at memory.tables vpn)) (page_at memory.pages vpn) refusal
 
 -- a copy goes out
 

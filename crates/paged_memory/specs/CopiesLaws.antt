@@ -29,15 +29,15 @@ set_or : (bit loose : Bool) → loose ≡ false → (bit || loose) ≡ true → 
 set_or true loose tight is = refl
 set_or false loose tight is = let clash : true ≡ false = sym is ∙ tight in cc
 
-module _ {S : Type 0} (bytes : List ℕ) where
-  abbrev Held : FrameValue → Bool → Type 0
-  Held frame stored = IsFalse stored → frame.bytes ≡ bytes
+abbrev HeldAs : List ℕ → FrameValue → Bool → Type 0
+HeldAs bytes frame stored = IsFalse stored → frame.bytes ≡ bytes
 
+module _ {S : Type 0} (bytes : List ℕ) where
   -- what a frame holds of which a copy is out, by the bit that tells of a store before and after: nothing was written, or the bit is set
-  frame_on : (frame frame' : FrameValue) (slot : Keeping S) (before after : Bool) → slot ≡ CopyOut → (before ≡ true → after ≡ true) → (frame' ≡ frame) ⊎ ((after || is_loose slot) ≡ true) → Held frame before → IfOut slot (Held frame' after)
-  frame_on frame frame' slot before after out rises told held = subst (λ (k : Keeping S). IfOut k (Held frame' after)) (sym out) (by_told told)
+  frame_on : (frame frame' : FrameValue) (slot : Keeping S) (before after : Bool) → slot ≡ CopyOut → (before ≡ true → after ≡ true) → (frame' ≡ frame) ⊎ ((after || is_loose slot) ≡ true) → HeldAs bytes frame before → IfOut slot (HeldAs bytes frame' after)
+  frame_on frame frame' slot before after out rises told held = subst (λ (k : Keeping S). IfOut k (HeldAs bytes frame' after)) (sym out) (by_told told)
     where
-      by_told : (frame' ≡ frame) ⊎ ((after || is_loose slot) ≡ true) → Held frame' after
+      by_told : (frame' ≡ frame) ⊎ ((after || is_loose slot) ≡ true) → HeldAs bytes frame' after
       by_told (inl same) = λ clear. ap (λ (f : FrameValue). f.bytes) same ∙ held (was_clear before after rises clear)
       by_told (inr takes) = λ clear. absurd (true≢false (sym (set_or after (is_loose slot) (ap is_loose out) takes) ∙ clear))
 
@@ -49,7 +49,7 @@ module _ {S : Type 0} (bytes : List ℕ) where
   of_frame e' place place' frame frame' was is (inl same) = inl (same_Some _ _ (sym is ∙ ap frame_of same ∙ was))
   of_frame e' place place' frame frame' was is (inr takes) = inr takes
 
-  stands_there : (e e' : Entry) (place place' : Place S) → rewritten [] place' ≡ rewritten [] place → (dirty_standing (standing_of place) e ≡ true → dirty_standing (standing_of place') e' ≡ true) → Told e' place place' → IfCopyOut e.dirty place Held → IfCopyOut e'.dirty place' Held
+  stands_there : (e e' : Entry) (place place' : Place S) → rewritten [] place' ≡ rewritten [] place → (dirty_standing (standing_of place) e ≡ true → dirty_standing (standing_of place') e' ≡ true) → Told e' place place' → IfCopyOut e.dirty place (HeldAs bytes) → IfCopyOut e'.dirty place' (HeldAs bytes)
   stands_there e e' (Resident f CopyOut) (Resident f' k') bare rises told stands =
       frame_on f f' k' e.dirty e'.dirty (ap slot_of bare) rises (of_frame e' (Resident f CopyOut) (Resident f' k') f f' refl refl told) stands
   stands_there e e' (Leaving f CopyOut m) (Leaving f' k' m') bare rises told stands =

@@ -186,6 +186,9 @@ module _ {S : Type 0} where
             (λ page small there. by_told told page);
       }
     where
+      seen_all : (page : ℕ) → seen_at new.pages page ≡ seen_at old.pages page
+      seen_all page = sym (seen_bare (page_at new.pages page)) ∙ ap (option_map seen_of) (bare.bare page) ∙ seen_bare (page_at old.pages page)
+
       -- each page is what it was, or takes stores
       by_told : (new.pages ≡ old.pages) ⊎ TakesStores old.pages new.tables number → (page : ℕ) → (page_at new.pages page ≡ page_at old.pages page) ⊎ (takes_stores (seen_at new.pages page) (entry_at new.tables page) ≡ true)
       by_told (inl same) page = inl (ap (λ pages. page_at pages page) same)
@@ -194,9 +197,6 @@ module _ {S : Type 0} where
             | inl at ↦ inr (ap (λ s. takes_stores s (entry_at new.tables page)) (seen_all page) ∙ ap (λ n. takes_stores (seen_at old.pages n) (entry_at new.tables n)) at.1 ∙ takes)
             | inr apart ↦ inl (bare.others page apart.1)
           ]
-
-      seen_all : (page : ℕ) → seen_at new.pages page ≡ seen_at old.pages page
-      seen_all page = sym (seen_bare (page_at new.pages page)) ∙ ap (option_map seen_of) (bare.bare page) ∙ seen_bare (page_at old.pages page)
 
   -- pages that were mapped
   pub access_grown : (hart : ℕ) (old new : PagedValue S) → new.process ≡ old.process → KeepsPages old.pages new.pages → ((page : ℕ) → is_some (page_at old.pages page) ≡ true → page_at new.pages page ≡ page_at old.pages page) → new.tables ≡ old.tables → new.caches ≡ old.caches → KeepsAccess hart old new

@@ -3,7 +3,9 @@ use Rattle.std.specs.Prelude.{IfNone, OnSome, OnOk, OnErr}
 use Rattle.std.proofs.Common.{◌≡◌, ℕ, Bool, List, [], ◌∷◌, All, length, map, slice_set, Option, Some, None, Result, Ok, Err, ap, ◌∙◌, refl, sym, subst, length-set, arith}
 use Rattle.std.proofs.lemmas.List.{length-map}
 use Rattle.std.proofs.lemmas.List.Elements.{All-nil, All-cons}
+use Rattle.page_store.specs.declared.refusal.CleanRefusal.{CleanRefusal}
 use Rattle.page_store.specs.declared.refusal.LeaveRefusal.{LeaveRefusal}
+use Rattle.paged_memory.specs.Cleaning.{BeginsCleaning}
 use Rattle.tlb_core.specs.Cache.{doomed}
 use Rattle.tlb_core.specs.declared.translation.Translation.{Translation}
 use Rattle.paged_memory.specs.Moving.{BeginsToLeave, EmptiesCaches, ForgetsUse, HasNothingBelow, OnlyCaches}
@@ -49,6 +51,10 @@ module _ {S : Type 0} where
   pub left_harts : (r : Result Unit LeaveRefusal) (vpn : ℕ) (old new : PagedValue S) → OnErr r (new ≡ old) → OnOk r (BeginsToLeave vpn old new) → harts_in new ≡ harts_in old
   left_harts (Err refusal) vpn old new same marked = ap (λ (m : PagedValue S). length m.caches) same
   left_harts (Ok done) vpn old new same marked = ap length marked.caches ∙ length-map old.caches (doomed vpn)
+
+  pub begun_harts : (ended : Bool) (r : Result Unit CleanRefusal) (vpn : ℕ) (old new : PagedValue S) → OnErr r (new ≡ old) → OnOk r (BeginsCleaning ended vpn old new) → harts_in new ≡ harts_in old
+  begun_harts ended (Err refusal) vpn old new same marked = ap (λ (m : PagedValue S). length m.caches) same
+  begun_harts ended (Ok done) vpn old new same marked = ap length marked.caches ∙ length-map old.caches (doomed vpn)
 
   -- ---- no cache holds a translation
 

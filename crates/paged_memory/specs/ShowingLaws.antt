@@ -19,6 +19,13 @@ use Rattle.page_store.specs.declared.answer.Collected.{Collected}
 use Rattle.page_store.specs.declared.answer.SaveRefusal.{SaveRefusal}
 use Rattle.page_store.specs.declared.answer.SaveRefusal.TheVariants.{WrongPage, Mismatch, Device}
 use Rattle.page_store.specs.declared.refusal.LeaveRefusal.{LeaveRefusal}
+use Rattle.page_store.specs.Cleaning.{begun, CopiedPage, copied_clean, IfCopyOut}
+use Rattle.page_store.specs.declared.answer.CleanCopy.{CleanCopy}
+use Rattle.page_store.specs.declared.answer.Cleaned.{Cleaned}
+use Rattle.page_store.specs.declared.answer.Cleaned.TheVariants as end
+use Rattle.page_store.specs.declared.refusal.CleanRefusal.{CleanRefusal}
+use Rattle.sv32_table.specs.EntryAt.{entry_at, dirty_of}
+use Rattle.paged_memory.specs.Cleaning.{BeginsCleaning, CopiesAt, CopiesPage, EndsCleaningIn}
 use Rattle.page_store.specs.Keeping.{Keeping}
 use Rattle.paged_memory.specs.Calls.{ChangesBy}
 use Rattle.paged_memory.specs.Filling.{RefusesPageIn}
@@ -29,7 +36,7 @@ use Rattle.paged_memory.specs.Notices.{emptied}
 use Rattle.paged_memory.specs.Paged.{PagedValue, page_at, flat_page, flat_pages, memory_in, memory_of}
 use Rattle.paged_memory.specs.Peeking.{bytes_of, ShowsBytes, LeavesPage, LeavesPlace}
 use Rattle.paged_memory.specs.Showing.{rights_of, paged_rights, is_purged, is_purged_place, is_given_up, KeepsGivenUp, ShowsFlat}
-use Rattle.paged_memory.specs.Soundness.{is_held}
+use Rattle.paged_memory.specs.Soundness.{is_held, is_marked}
 use Rattle.paged_memory.specs.Using.{KeepsIn}
 use Rattle.paged_memory.specs.Whole.{rights_in, shown_in}
 use Rattle.paged_memory.specs.declared.filling.PageInFault.{PageInFault}
@@ -193,6 +200,51 @@ module _ {S : Type 0} where
 
     pub collected_given_up : (vpn : ℕ) (spare spare' : Option S) (answer : Collected L S) (old new : PagedValue S) → LooksAt vpn spare spare' answer old new → KeepsGivenUp old new
     collected_given_up vpn spare spare' answer old new told = collected_at old.process vpn (is_held vpn old.caches) spare spare' answer old.pages new.pages (page_at old.pages vpn) told
+
+  -- a page is cleaned
+  begun_whole : (ended dirty : Bool) (p p' : Place S) → begun ended dirty p ≡ Ok p' → is_purged_place p ≡ false
+  begun_whole ended dirty place.Fresh p' is = refl
+  begun_whole ended dirty (place.Resident frame slot) p' is = refl
+  begun_whole ended dirty (place.Leaving frame slot mark) p' is = refl
+  begun_whole ended dirty (place.Saving frame mark) p' is = refl
+  begun_whole ended dirty (place.Away slot) p' is = refl
+  begun_whole ended dirty place.Purged p' is = cc
+
+  pub begun_given_up : (ended : Bool) (r : Result Unit CleanRefusal) (old new : PagedValue S) (vpn : ℕ) → OnErr r (new ≡ old) → OnOk r (BeginsCleaning ended vpn old new) → KeepsGivenUp old new
+  begun_given_up ended (Err refusal) old new vpn same by = same_given_up old new (ap (λ (m : PagedValue S). m.pages) same)
+  begun_given_up ended (Ok done) old new vpn same by = one_purged old.pages new.pages vpn by.page (λ whole. begun_whole ended _ by.page.page.place by.page.page'.place by.page.how.place)
+
+  copied_whole : (process vpn : ℕ) (dirty marked : Bool) (p : Place S) (spare : Option S) → is_purged_place (copied_clean process vpn dirty marked p spare).0 ≡ false → is_purged_place p ≡ false
+  copied_whole process vpn dirty marked place.Fresh spare whole = refl
+  copied_whole process vpn dirty marked (place.Resident frame slot) spare whole = refl
+  copied_whole process vpn dirty marked (place.Leaving frame slot mark) spare whole = refl
+  copied_whole process vpn dirty marked (place.Saving frame mark) spare whole = refl
+  copied_whole process vpn dirty marked (place.Away slot) spare whole = refl
+  copied_whole process vpn dirty marked place.Purged spare whole = whole
+
+  copied_at : (process vpn : ℕ) (dirty marked : Bool) (spare spare' : Option S) (answer : CleanCopy S) (old new : List (ℕ × PageValue S)) (o : Option (PageValue S)) → CopiesAt process vpn dirty marked spare spare' answer old new o
+      → (number : ℕ) → is_purged (page_at new number) ≡ false → is_purged (page_at old number) ≡ false
+  copied_at process vpn dirty marked spare spare' answer old new None told = same_purged old new told.1.1
+  copied_at process vpn dirty marked spare spare' answer old new (Some page) told =
+      one_purged old new vpn told (λ whole. copied_whole process vpn dirty marked told.page.place spare (ap (λ (after : CopiedPage S). is_purged_place after.0) (sym told.how.1) ∙ whole))
+
+  pub copied_given_up : (vpn : ℕ) (spare spare' : Option S) (answer : CleanCopy S) (old new : PagedValue S) → CopiesPage vpn spare spare' answer old new → KeepsGivenUp old new
+  copied_given_up vpn spare spare' answer old new told =
+      copied_at old.process vpn (dirty_of (entry_at old.tables vpn)) (is_marked vpn old.caches) spare spare' answer old.pages new.pages (page_at old.pages vpn) told
+
+  out_whole : (dirty : Bool) (p : Place S) (P : FrameValue → Bool → Type 0) → IfCopyOut dirty p P → is_purged_place p ≡ false
+  out_whole dirty place.Fresh P h = refl
+  out_whole dirty (place.Resident frame slot) P h = refl
+  out_whole dirty (place.Leaving frame slot mark) P h = refl
+  out_whole dirty (place.Saving frame mark) P h = refl
+  out_whole dirty (place.Away slot) P h = refl
+  out_whole dirty place.Purged P h = absurd h
+
+  pub ended_given_up : (job : SavedValue S) (answer : Cleaned S) (old new : PagedValue S) → EndsCleaningIn job answer old new → KeepsGivenUp old new
+  ended_given_up job (end.WrongPage back) old new told = same_given_up old new told.1.0
+  ended_given_up job end.Stored old new told = one_purged old.pages new.pages job.vpn told.1.1 (λ whole. out_whole _ told.1.1.page.place _ told.1.1.how.1.0)
+  ended_given_up job end.Device old new told = one_purged old.pages new.pages job.vpn told.1.1 (λ whole. out_whole _ told.1.1.page.place _ told.1.1.how.1.0)
+  ended_given_up job end.Clean old new told = one_purged old.pages new.pages job.vpn told.1.1 (λ whole. out_whole _ told.1.1.page.place _ told.1.1.how.1.0)
 
   -- its save comes back
   saving_whole : (p : Place S) (P : FrameValue → Bool → Type 0) → IfSaving p P → is_purged_place p ≡ false

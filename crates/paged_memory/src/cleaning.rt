@@ -15,17 +15,18 @@ use swap_slots::SwapSlot;
 
 impl<L: Ledger, S: SwapSlot> PagedMemory<L, S> {
     /// Begins to clean a changed resident page: its dirty bit is cleared, and its translations are marked as ones to be
-    /// dropped, so that the next store sets the bit again. Until the cleaning ends nothing backs the page. Takes no memory.
-    pub fn begin_clean(&mut self, vpn: u32) -> Result<(), CleanRefusal>
+    /// dropped, so that the next store sets the bit again. Until the cleaning ends nothing backs the page. A cleaning that has no
+    /// copy is over where the process has ended. Takes no memory.
+    pub fn begin_clean(&mut self, vpn: u32, ended: bool) -> Result<(), CleanRefusal>
         requires { vpn < 2 ^ 20 }
-        ensures ok { OnOk result (BeginsCleaning vpn self.old self.new) }
-        ensures refused { IfErr result (λ refusal. DoesNotClean vpn refusal self.old) }
+        ensures ok { OnOk result (BeginsCleaning ended vpn self.old self.new) }
+        ensures refused { IfErr result (λ refusal. DoesNotClean ended vpn refusal self.old) }
         ensures err { OnErr result (self.new ≡ self.old) }
         ensures process { self.new.process ≡ self.old.process }
         ensures memory { memory_of S.content self.new ≡ memory_of S.content self.old }
     {
         let dirty = self.tables.is_dirty(vpn);
-        begin_page(&mut self.pages, vpn, dirty)?;
+        begin_page(&mut self.pages, vpn, dirty, ended)?;
         let _ = self.tables.clear_dirty(vpn);
         self.caches.doom(vpn);
         Ok(())
@@ -80,16 +81,17 @@ fn begin_page<L: Ledger, S: SwapSlot>(
     pages: &mut PageMap<StoredPage<L, S>>,
     vpn: u32,
     dirty: bool,
+    ended: bool,
 ) -> Result<(), CleanRefusal>
     requires { vpn < 2 ^ 20 }
-    ensures ok { OnOk result (ChangesBy (StartsClean dirty) pages.old pages.new vpn) }
-    ensures refused { IfErr result (RefusesClean dirty (page_at pages.old vpn)) }
+    ensures ok { OnOk result (ChangesBy (StartsClean ended dirty) pages.old pages.new vpn) }
+    ensures refused { IfErr result (RefusesClean ended dirty (page_at pages.old vpn)) }
     ensures err { OnErr result (pages.new ≡ pages.old) }
 {
     let Some(place) = pages.place(vpn) else {
         return Err(CleanRefusal::NotResident);
     };
-    pages.at_mut(place).begin_clean(dirty)
+    pages.at_mut(place).begin_clean(dirty, ended)
 }
 
 /// A copy of a page, where `stored` says whether its entry has D, and whether a cache has its dirty mark.

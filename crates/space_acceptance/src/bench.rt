@@ -5,7 +5,7 @@ ghost use Rattle.std.specs.Prelude.{◌≡◌, ◌<◌, ◌^◌};
 use elf_image::Image;
 use flat_machine::FlatProcess;
 use frame_pool::{Frame, FramePool};
-use page_store::{Collected, PageState, SaveJob};
+use page_store::{CleanCopy, CleanJob, CleanRefusal, Cleaned, Collected, PageState, SaveJob};
 use paged_memory::{PageInFault, PeekFault};
 use rv_asm::assemble;
 use rv_exec::Regs;
@@ -30,6 +30,14 @@ pub(crate) enum Call {
     Save,
     BringBack(u32),
     TestAndClear(u32),
+    BeginClean(u32),
+    /// With a spare slot, if there is one left.
+    CopyClean(u32),
+    /// The copy of a page that is being cleaned, which went out last, comes back.
+    EndClean,
+    /// Whether its page-table entry has D, if it is mapped.
+    Dirty(u32),
+    NextChanged(u32),
     TakeOne,
     Peek(u32),
     Register { hart: u32, register: u8 },
@@ -56,6 +64,14 @@ pub(crate) enum Answer {
     Turns(usize, u32),
     /// The page was not brought in, and the frame is free again.
     StaysOut(PageInFault),
+    DoesNotClean(CleanRefusal),
+    NotCleaning,
+    Stored,
+    NoSlot,
+    Copied,
+    Device,
+    Cleaned,
+    Bit(Option<bool>),
 }
 
 #[derive(Drop)]
@@ -64,6 +80,7 @@ pub(crate) struct Bench<L: Ledger, S: SwapSlot> {
     frames: FramePool<L>,
     spares: Vec<S>,
     jobs: Vec<SaveJob<S>>,
+    copies: Vec<CleanJob<S>>,
     room: Box<[u8; 4096]>,
 }
 
@@ -80,6 +97,7 @@ impl<L: Ledger, S: SwapSlot> Bench<L, S> {
             frames: FramePool::new(alloc, 4, blank)?,
             spares,
             jobs: Vec::new(alloc),
+            copies: Vec::new(alloc),
             room: Box::new(alloc, [0; 4096])?,
         })
     }
@@ -90,6 +108,8 @@ impl<L: Ledger, S: SwapSlot> Bench<L, S> {
             Call::Slice { hart, budget } => Answer::Ran(self.space.slice(hart, budget)),
             Call::TakeNotices(hart) => self.take_notices(hart),
             Call::Save => self.save(),
+            Call::EndClean => self.end_clean(),
+            Call::NextChanged(from) => Answer::Word(self.space.next_changed(from)),
             Call::TakeOne => self.take_one(),
             Call::Peek(address) => self.peek(address),
             Call::Register { hart, register } => Answer::Word(self.register(hart, register)),
@@ -99,7 +119,10 @@ impl<L: Ledger, S: SwapSlot> Bench<L, S> {
             | Call::BeginEvict(vpn)
             | Call::Collect(vpn)
             | Call::BringBack(vpn)
-            | Call::TestAndClear(vpn) => {
+            | Call::TestAndClear(vpn)
+            | Call::BeginClean(vpn)
+            | Call::CopyClean(vpn)
+            | Call::Dirty(vpn) => {
                 if vpn < 1 << 20 {
                     self.call_page(call, vpn)
                 } else {
@@ -119,6 +142,9 @@ impl<L: Ledger, S: SwapSlot> Bench<L, S> {
             Call::Collect(_) => self.collect(vpn),
             Call::BringBack(_) => done(self.space.bring_back(vpn).is_ok()),
             Call::TestAndClear(_) => done(self.space.test_and_clear(vpn).is_some()),
+            Call::BeginClean(_) => self.begin_clean(vpn),
+            Call::CopyClean(_) => self.copy_clean(vpn),
+            Call::Dirty(_) => Answer::Bit(self.dirty(vpn)),
             _ => Answer::Nothing,
         }
     }
@@ -179,6 +205,59 @@ impl<L: Ledger, S: SwapSlot> Bench<L, S> {
             Ok(frame) => self.give(frame, Answer::Done),
             Err(_) => Answer::Refused,
         }
+    }
+
+    fn begin_clean(&mut self, vpn: u32) -> Answer
+        requires { vpn < 2 ^ 20 }
+    {
+        match self.space.begin_clean(vpn) {
+            Ok(()) => Answer::Done,
+            Err(refusal) => Answer::DoesNotClean(refusal),
+        }
+    }
+
+    fn copy_clean(&mut self, vpn: u32) -> Answer
+        requires { vpn < 2 ^ 20 }
+    {
+        let mut spare = self.spares.pop();
+        let copied = self.space.copy_clean(vpn, &mut spare);
+        if let Some(slot) = spare {
+            if self.spares.push(slot).is_err() {
+                return Answer::Nothing;
+            }
+        }
+        self.keep_copy(copied)
+    }
+
+    fn keep_copy(&mut self, copied: CleanCopy<S>) -> Answer {
+        match copied {
+            CleanCopy::NotCleaning => Answer::NotCleaning,
+            CleanCopy::Stored => Answer::Stored,
+            CleanCopy::NotYet => Answer::NotYet,
+            CleanCopy::NoSlot => Answer::NoSlot,
+            CleanCopy::Copied(job) => match self.copies.push(job) {
+                Ok(()) => Answer::Copied,
+                Err(_) => Answer::Nothing,
+            },
+        }
+    }
+
+    fn end_clean(&mut self) -> Answer {
+        let Some(job) = self.copies.pop() else {
+            return Answer::Nothing;
+        };
+        match self.space.cleaned(job.run()) {
+            Cleaned::WrongPage(_) => Answer::Refused,
+            Cleaned::Stored => Answer::Stored,
+            Cleaned::Device => Answer::Device,
+            Cleaned::Clean => Answer::Cleaned,
+        }
+    }
+
+    fn dirty(&self, vpn: u32) -> Option<bool>
+        requires { vpn < 2 ^ 20 }
+    {
+        Some(self.space.status(vpn)?.dirty)
     }
 
     fn give(&mut self, frame: Frame<L>, answer: Answer) -> Answer {

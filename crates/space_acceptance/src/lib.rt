@@ -4,6 +4,8 @@
 #[cfg(test)]
 mod bench;
 #[cfg(test)]
+mod cleaning;
+#[cfg(test)]
 mod failing;
 #[cfg(test)]
 mod full;

@@ -11,6 +11,7 @@ mod running;
 mod same_image;
 mod settling;
 mod space;
+mod space_cleaning;
 mod space_coherence;
 mod space_harts;
 mod space_memory;

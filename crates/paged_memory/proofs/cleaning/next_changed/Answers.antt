@@ -1,4 +1,4 @@
-use Rattle.std.proofs.Common.{◌^◌, arith}
+use Rattle.std.proofs.Common.{◌^◌, arith, sym}
 use Rattle.paged_memory.proofs.CleaningLaws.{none_between, none_behind}
 use Rattle.paged_memory.proofs.cleaning.next_changed.Goals as goal
 
@@ -7,7 +7,7 @@ returns-then-is_changed_resident-clause-least g c = none_between c.args.pages.no
 
 pub loop-vpn-preserved : goal.loop-vpn-preserved
 loop-vpn-preserved g c = record {
-  before = none_behind c.args.pages.now c.args.tables.now c.args.from c.loop-vpn.next c.in-Some.vpn c.loop-vpn.invariant.before c.in-Some.ensures.before c.if-is_changed_resident.ensures;
+  before = none_behind c.args.pages.now c.args.tables.now c.args.from c.loop-vpn.next c.in-Some.vpn c.loop-vpn.invariant.before c.in-Some.ensures.before (sym c.if-is_changed_resident.ensures);
   looked = let so_far = c.loop-vpn.invariant.looked in let on = c.in-Some.ensures.within.0 in omega (arith, so_far, on);
 }
 

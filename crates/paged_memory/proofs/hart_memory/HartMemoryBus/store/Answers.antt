@@ -6,6 +6,8 @@ use Rattle.page_memory.specs.Reservations.{left_by}
 use Rattle.page_memory.specs.Words.{page_number}
 use Rattle.paged_memory.specs.Access.{LacksPage}
 use Rattle.paged_memory.specs.Accesses.{AnswersAccess, Writes}
+use Rattle.paged_memory.specs.HartMemory.{InTurn}
+use Rattle.paged_memory.specs.HartMemoryLaws.{still_in_turn}
 use Rattle.paged_memory.specs.Paged.{PagedValue, memory_in, memory_of}
 use Rattle.paged_memory.proofs.ReservationLaws.{store_refused}
 use Rattle.paged_memory.proofs.hart_memory.HartMemoryBus.store.Goals as goal
@@ -34,3 +36,12 @@ returns-in-Err-clause-writes g c =
       pages = c.in-Err.ensures.refused;
       reserved = refl;
     })
+
+pub invariant_of-self : goal.invariant_of-self
+invariant_of-self g c =
+    let before : PagedValue _ = record { process = c.memory.inside.process; pages = c.memory.inside.pages; tables = c.memory.inside.tables; caches = c.memory.inside.caches; reserved = c.memory.inside.reservations } in
+    let after : PagedValue _ = record { process = c.memory.inside.process; pages = c.store.new.pages; tables = c.store.new.tables; caches = c.store.new.caches; reserved = c.end.new.self } in
+    record {
+      in_turn = still_in_turn c.args.self.now.hart (page_number c.args.address) g.O.Opening.opening before after
+          (subst (λ (m : PagedValue _). InTurn c.args.self.now.hart g.O.Opening.opening m) (sym c.memory.view_is) c.args.self.now.in_turn) c.store.ensures.kept;
+    }

@@ -82,7 +82,9 @@ fn id_to(digits: &[u8], radix: u32) -> Option<u64> {
     let mut id = 0u64;
     for byte in digits {
         let digit = char::from(*byte).to_digit(radix)?;
-        id = id.checked_mul(u64::from(radix))?.checked_add(u64::from(digit))?;
+        id = id
+            .checked_mul(u64::from(radix))?
+            .checked_add(u64::from(digit))?;
     }
     Some(id)
 }

@@ -130,10 +130,7 @@ const LIMITS: &str = "a number of instructions, from 1 to 1000000000";
 const FORMATS: &str = "text, csv or oraclegeneral";
 
 /// The policies that are named, or else those that are counted where none is.
-fn wanted_policies<'a>(
-    matches: &ArgMatches<'a>,
-    usual: PolicySet,
-) -> Result<PolicySet, Wrong<'a>> {
+fn wanted_policies<'a>(matches: &ArgMatches<'a>, usual: PolicySet) -> Result<PolicySet, Wrong<'a>> {
     let Some(list) = matches.get_str("policies") else {
         return Ok(usual);
     };

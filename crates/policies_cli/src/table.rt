@@ -65,11 +65,7 @@ fn write_csv_head<W: Write>(counts: &Counts, out: &mut W) -> io::Result<()> {
     writeln!(out)
 }
 
-fn write_csv_row<W: Write>(
-    counts: &Counts,
-    printing: Printing,
-    out: &mut W,
-) -> io::Result<()> {
+fn write_csv_row<W: Write>(counts: &Counts, printing: Printing, out: &mut W) -> io::Result<()> {
     let frames = counts.frames.number();
     write!(out, "{frames}")?;
     for (_, misses) in columns_of(counts) {
@@ -135,11 +131,7 @@ fn write_blanks<W: Write>(count: usize, out: &mut W) -> io::Result<()> {
     Ok(())
 }
 
-fn write_row<W: Write>(
-    counts: &Counts,
-    printing: Printing,
-    out: &mut W,
-) -> io::Result<()> {
+fn write_row<W: Write>(counts: &Counts, printing: Printing, out: &mut W) -> io::Result<()> {
     let frames = counts.frames.number();
     let has_shares = has_shares(counts, printing);
     write!(out, "{frames:>6}")?;

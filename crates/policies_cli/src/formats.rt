@@ -1,6 +1,8 @@
 //! Strings of references as libCacheSim reads them. An object is a page: its id is the process's number times 2^20, and the page's
 //! number; its size is 1, so that the size of a cache is its number of frames. Times count references from 1.
 
+ghost use Rattle.std.specs.Prelude.{◌≤◌};
+
 use byteorder::{ByteOrder, LittleEndian, WriteBytesExt};
 use clock_policy::Key;
 use image_files::Fault;
@@ -75,7 +77,10 @@ fn id_in(number: &[u8]) -> Option<u64> {
     }
 }
 
-fn id_to(digits: &[u8], radix: u32) -> Option<u64> {
+fn id_to(digits: &[u8], radix: u32) -> Option<u64>
+    requires least { 2 ≤ radix }
+    requires most { radix ≤ 36 }
+{
     if digits.is_empty() {
         return None;
     }

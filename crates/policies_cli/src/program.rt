@@ -19,12 +19,24 @@ pub fn run_policies<R: Files + AllocGlobal, S: AsStr, O: Write, E: Write>(
     out: &mut O,
     err: &mut E,
 ) -> u8 {
-    let done = run_words(rt, words, out, err);
-    match done {
+    match run_words(rt, words, out, err) {
         Ok(()) => finish("policies", Ok(0), out, err),
-        Err(Wrong::Fault(fault)) => finish("policies", Err(fault), out, err),
-        Err(Wrong::Words(error)) if !error.use_stderr() => show_help(&error, out, err),
-        Err(wrong) => tell(&wrong, out, err),
+        Err(wrong) => end_wrongly(wrong, out, err),
+    }
+}
+
+/// Ends a run that was not done, or that was asked for help alone.
+fn end_wrongly<O: Write, E: Write>(wrong: Wrong<'_>, out: &mut O, err: &mut E) -> u8 {
+    match wrong {
+        Wrong::Fault(fault) => finish("policies", Err(fault), out, err),
+        Wrong::Words(error) => {
+            if error.use_stderr() {
+                tell(&Wrong::Words(error), out, err)
+            } else {
+                show_help(&error, out, err)
+            }
+        }
+        other => tell(&other, out, err),
     }
 }
 

@@ -139,7 +139,7 @@ fn write_row<W: Write>(counts: &Counts, printing: Printing, out: &mut W) -> io::
     for (name, misses) in columns_of(counts) {
         if let Some(misses) = misses {
             if is_first || !has_shares {
-                write_blanks((name.len() + 1).saturating_sub(WIDE), out)?;
+                write_blanks(name.len().saturating_sub(WIDE - 1), out)?;
             }
             is_first = false;
             write_value(misses, counts.references, printing, out)?;

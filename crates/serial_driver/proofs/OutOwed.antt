@@ -7,7 +7,7 @@ use Rattle.clock_policy.specs.declared.key.Key.{Key}
 use Rattle.flat_machine.specs.declared.end.KillCause.{KillCause}
 use Rattle.flat_machine.specs.declared.end.KillCause.TheVariants as cause
 use Rattle.page_store.specs.JobValue.{JobValue}
-use Rattle.paged_memory.specs.SaveLaws.{none_saved}
+use Rattle.paged_memory.specs.AmongLaws.{some_saving}
 use Rattle.space_core.specs.StandsFor.{SpaceValue}
 use Rattle.paged_memory.specs.Stages.{is_saving_stage}
 use Rattle.paged_memory.specs.Whole.{stage_in}
@@ -127,7 +127,11 @@ module _ {S : Type 0} where
 
   nothing_saved : (space : SpaceValue S) → savings_in space (λ _. true) ≡ 0 → (q : ℕ) → q < 2 ^ 20 → is_saving_stage (stage_in space.memory q) ≡ false
   unfolding savings_in
-  nothing_saved space none q small = none_saved space.memory none q small
+  nothing_saved space none q small = by_test (is_saving_stage (stage_in space.memory q)) refl
+    where
+      by_test : (b : Bool) → is_saving_stage (stage_in space.memory q) ≡ b → is_saving_stage (stage_in space.memory q) ≡ false
+      by_test true is = let one = some_saving space.memory (λ _. true) q small is refl in absurd (omega (arith, one, none))
+      by_test false is = is
 
   no_jobs : (jobs : List (JobValue S)) → jobs ≡ [] → jobs_where (λ _. true) jobs ≡ 0
   unfolding jobs_where total

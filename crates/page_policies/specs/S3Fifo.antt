@@ -1,5 +1,5 @@
 -- S3-FIFO: Juncheng Yang, Yazhuo Zhang, Ziyue Qiu, Yao Yue and K. V. Rashmi, "FIFO Queues are All You Need for Cache Eviction",
--- SOSP 2023, algorithm 1. Lines of its pseudo-code stand beside the equations, with the paper's names: S and M are the small and the
+-- SOSP 2023, algorithm 1. Lines of its pseudo-code stand beside the equations, with its authors' names: S and M are the small and the
 -- main queue, G the ghosts, and S has 10% of the frames. Read so: M is full where it has more pages than S leaves it frames, of which
 -- S has one at least; and there are as many ghosts as M has frames, at most.
 use Rattle.std.specs.Prelude.{ℕ, zero, suc, ◌+◌, ◌-◌, ◌*◌, ◌/◌, Bool, true, cond, nat_lt, nat_le, min, max, List, [], length, Option, Some, None}

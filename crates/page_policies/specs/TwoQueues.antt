@@ -1,5 +1,5 @@
 -- 2Q, its full version: Theodore Johnson and Dennis Shasha, "2Q: A Low Overhead High Performance Buffer Management Replacement
--- Algorithm", VLDB 1994. Lines of its pseudo-code stand beside the equations, with the paper's names: A1in and A1out are queues, the
+-- Algorithm", VLDB 1994. Lines of its pseudo-code stand beside the equations, with its authors' names: A1in and A1out are queues, the
 -- first of pages in frames and the second of pages that left, and Am is the stack of the pages that came back.
 use Rattle.std.specs.Prelude.{ℕ, ◌+◌, ◌/◌, Bool, true, cond, nat_lt, List, [], length, Option, Some, None}
 use Rattle.clock_policy.specs.declared.key.Key.{Key}

@@ -2,7 +2,7 @@
 use Rattle.std.specs.Prelude.{◌≡◌, ℕ, ◌^◌, ◌<◌, ◌==◌, Bool, false, ◌||◌, if◌then◌else◌, Some, option_map, Result, Ok, Err, OnOk, IfErr, List, map, refl, ◌⊎◌}
 use Rattle.std.proofs.Common.{sym, ap, ◌∙◌, subst, inl, inr}
 use Rattle.frame_pool.specs.FrameValue.{FrameValue}
-use Rattle.page_store.specs.Keeping.{Keeping, is_loose, settled}
+use Rattle.page_store.specs.Keeping.{Keeping, NoSlot, Saved, Unbacked, Cleaning, CopyOut, is_loose, settled}
 use Rattle.page_store.specs.declared.state.PageState.TheVariants as stage
 use Rattle.page_store.specs.declared.refusal.LeaveRefusal.{LeaveRefusal}
 use Rattle.page_store.specs.PageValue.{PageValue, Place, Fresh, Resident, Leaving, Saving, Away, Purged, page_state_of, Backed}
@@ -14,7 +14,9 @@ use Rattle.tlb_core.specs.declared.translation.Translation.{Translation}
 use Rattle.tlb_core.specs.Cache.{doomed}
 use Rattle.paged_memory.specs.Seen.{frame_seen, rights_seen, takes_stores}
 use Rattle.paged_memory.specs.Calls.{IsResident, ChangesBy, Leaves}
-use Rattle.paged_memory.specs.Paged.{seen_of, page_at, seen_at, flat_page, flat_pages, Holds, ChangesPage}
+use Rattle.paged_memory.specs.Copies.{LeavesCopies, if_out}
+use Rattle.paged_memory.specs.CopiesMoveLaws.{other_bits, moved_copies}
+use Rattle.paged_memory.specs.Paged.{PagedValue, seen_of, page_at, seen_at, flat_page, flat_pages, Holds, ChangesPage}
 use Rattle.paged_memory.specs.SeenLaws.{unbacked_settled, loose_settled, backing_settled}
 use Rattle.paged_memory.proofs.SoundnessLaws.{Stays}
 use Rattle.paged_memory.proofs.PagedLaws.{Change, choice_here, Holds-doomed, memory_stays}
@@ -125,3 +127,23 @@ module _ {S : Type 0} where
     -- and what the memory holds stays
     pub memory_told : (held : S → List ℕ) → flat_pages held pages' ≡ flat_pages held pages
     memory_told held = memory_stays held pages pages' number told.page told.page' told.found (ap (flat_page held) left_now.is ∙ sym (ap (flat_page held) left_now.was)) told.changes
+
+-- the same copies are out, each with the bit that tells of a store since
+module _ {S : Type 0} {held : S → List ℕ} {honest : Type 0} (old new : PagedValue S) (number : ℕ) (small : number < 2 ^ 20) (holds : Holds held honest old.pages old.tables old.caches) where
+  kept_told : {A : Type 0} (slot : Keeping S) (told : A) → if_out (settled slot) told ≡ if_out slot told
+  kept_told NoSlot told = refl
+  kept_told (Saved copy) told = refl
+  kept_told (Unbacked own) told = refl
+  kept_told (Cleaning own) told = refl
+  kept_told CopyOut told = refl
+
+  pub leaving_copies : ChangesBy (Leaves (dirty_of (entry_at old.tables number))) old.pages new.pages number → ChangesEntry old.tables new.tables number (unmapped_entry (entry_at old.tables number)) → LeavesCopies old new
+  leaving_copies told entries =
+      let mark = dirty_of (entry_at old.tables number) in
+      let left = left_from mark told.page told.page' told.how in
+      let resident : IsResident old.pages number = record { origin = told.page.origin; frame = left.frame; slot = left.slot; found = told.found ∙ ap Some left.was } in
+      let old_entry = entry_at old.tables number in
+      let bit : mark ≡ old_entry.dirty = ap dirty_of (entry_resident number small holds resident) ∙ dirty_of-page_entry left.frame.number told.page.origin.rights old_entry.accessed old_entry.dirty in
+      moved_copies (Leaves mark) old new number told (other_bits number _ old.tables new.tables entries) (Resident left.frame left.slot) (Leaving left.frame (settled left.slot) mark)
+      (ap (λ (p : PageValue S). p.place) left.was) (ap (λ (p : PageValue S). p.place) left.is)
+      (ap (λ b. if_out (settled left.slot) (b, left.frame.bytes)) bit ∙ kept_told left.slot (old_entry.dirty, left.frame.bytes))

@@ -3,6 +3,9 @@ use Rattle.std.proofs.Common.{◌≡◌, ℕ, ◌^◌, ◌<◌, Bool, true, fals
 use Rattle.std.specs.Prelude.{if◌then◌else◌}
 use Rattle.page_store.specs.Lending.{with_bytes, rewritten}
 use Rattle.page_store.specs.PageValue.{PageValue, Place, Fresh, Resident, Leaving, Saving, Away, Purged, frame_of, slot_of, page_state_of}
+use Rattle.page_store.specs.Keeping.{is_copy_out}
+use Rattle.paged_memory.specs.Copies.{KeepsCopies, LeavesCopies, is_copied_in}
+use Rattle.paged_memory.specs.CopiesToldLaws.{leaves_tables}
 use Rattle.paged_memory.specs.Counting.{page_passes, pages_where, is_resident_place, is_saving_place, frame_passes, is_kept, residents_of, savings_of, frames_of, slots_of}
 use Rattle.paged_memory.specs.CountingLaws.{same_where_pass}
 use Rattle.paged_memory.specs.Growth.{fresh_zero_page}
@@ -21,7 +24,7 @@ module _ {S : Type 0} where
   abbrev pub SavingsStay : PagedValue S → PagedValue S → Type 0
   SavingsStay old new = (number : ℕ) → number < 2 ^ 20 → is_saving_stage (stage_in old number) ≡ true → (stage_in new number ≡ stage_in old number) × (frame_in new number ≡ frame_in old number)
 
-  -- as many pages are resident, are being saved, hold a frame and have a slot
+  -- as many pages are resident, are being saved, hold a frame and have a slot, and the same copies are out
   pub record CountsAlike (old new : PagedValue S) : Type 0 where
     pub process : new.process ≡ old.process
     pub residents : (test : ℕ → Bool) → residents_among new test ≡ residents_among old test
@@ -29,6 +32,7 @@ module _ {S : Type 0} where
     pub frames : (test : ℕ → Bool) → frames_among new test ≡ frames_among old test
     pub slots : slots_within new ≡ slots_within old
     pub stay : SavingsStay old new
+    pub copies : LeavesCopies old new
 
   -- ---- a page that is as it was
 
@@ -54,19 +58,23 @@ module _ {S : Type 0} where
 
   -- ---- the same pages
 
-  pub same_pages : (old new : PagedValue S) → new.process ≡ old.process → new.pages ≡ old.pages → CountsAlike old new
-  same_pages old new process pages = record {
+  pub same_pages : (old new : PagedValue S) → new.process ≡ old.process → new.pages ≡ old.pages → LeavesCopies old new → CountsAlike old new
+  same_pages old new process pages copies = record {
     process = process;
     residents = λ test. ap (λ p. residents_of p test) pages;
     savings = λ test. ap (λ p. savings_of p test) pages;
     frames = λ test. ap (λ p. frames_of p test) pages;
     slots = ap slots_of pages;
     stay = same_stay old new (λ number small is. ap (λ p. page_at p number) pages);
+    copies = copies;
   }
+
+  pub same_tables : (old new : PagedValue S) → new.process ≡ old.process → new.pages ≡ old.pages → new.tables ≡ old.tables → CountsAlike old new
+  same_tables old new process pages tables = same_pages old new process pages (leaves_tables old new pages tables)
 
   -- nothing changed
   pub same_memory : (old new : PagedValue S) → new ≡ old → CountsAlike old new
-  same_memory old new same = same_pages old new (ap (λ (m : PagedValue S). m.process) same) (ap (λ (m : PagedValue S). m.pages) same)
+  same_memory old new same = same_tables old new (ap (λ (m : PagedValue S). m.process) same) (ap (λ (m : PagedValue S). m.pages) same) (ap (λ (m : PagedValue S). m.tables) same)
 
   noticed_pages : (b : Bool) (memory : PagedValue S) (caches : List (List Translation)) → (if b then record memory { caches = caches } else memory).pages ≡ memory.pages
   noticed_pages true memory caches = refl
@@ -76,19 +84,23 @@ module _ {S : Type 0} where
   noticed_process true memory caches = refl
   noticed_process false memory caches = refl
 
+  noticed_tables : (b : Bool) (memory : PagedValue S) (caches : List (List Translation)) → (if b then record memory { caches = caches } else memory).tables ≡ memory.tables
+  noticed_tables true memory caches = refl
+  noticed_tables false memory caches = refl
+
   pub noticed_alike : (hart : ℕ) (memory : PagedValue S) → CountsAlike memory (noticed hart memory)
   noticed_alike hart memory =
       let caches : List (List Translation) = slice_set memory.caches hart (undoomed (cache_in memory hart)) in
-      same_pages memory (noticed hart memory) (noticed_process (nat_lt hart (length memory.caches)) memory caches) (noticed_pages (nat_lt hart (length memory.caches)) memory caches)
+      same_tables memory (noticed hart memory) (noticed_process (nat_lt hart (length memory.caches)) memory caches) (noticed_pages (nat_lt hart (length memory.caches)) memory caches) (noticed_tables (nat_lt hart (length memory.caches)) memory caches)
 
   pub emptied_alike : (memory : PagedValue S) → CountsAlike memory (emptied memory)
-  emptied_alike memory = same_pages memory (emptied memory) refl refl
+  emptied_alike memory = same_tables memory (emptied memory) refl refl refl
 
   -- ---- pages that are where they were but for the bytes in their frames, and pages of zeros that are new
 
   module _ (test : ℕ → PageValue S → Bool) (blind : (number : ℕ) (page : PageValue S) → test number (with_bytes page []) ≡ test number page) (bare : (number : ℕ) → test number fresh_zero_page ≡ false) (old new : List (ℕ × PageValue S)) (keeps : KeepsPages old new) where
-    kept_where : pages_where test new ≡ pages_where test old
-    kept_where = same_where_pass test old new (λ number small. passes number (page_at old number) (page_at new number) refl refl)
+    passes_alike : (number : ℕ) → page_passes (test number) (page_at new number) ≡ page_passes (test number) (page_at old number)
+    passes_alike number = passes number (page_at old number) (page_at new number) refl refl
       where
         stripped : (number : ℕ) (o : Option (PageValue S)) → page_passes (test number) (option_map (λ page. with_bytes page []) o) ≡ page_passes (test number) o
         stripped number None = refl
@@ -102,6 +114,9 @@ module _ {S : Type 0} where
         passes number None None was is = ap (page_passes (test number)) is ∙ sym (ap (page_passes (test number)) was)
         passes number None (Some page) was is =
             ap (page_passes (test number)) is ∙ ap (test number) (keeps.fresh number page was is) ∙ bare number ∙ sym (ap (page_passes (test number)) was)
+
+    kept_where : pages_where test new ≡ pages_where test old
+    kept_where = same_where_pass test old new (λ number small. passes_alike number)
 
   same_resident : (place : Place S) → is_resident_place (rewritten [] place) ≡ is_resident_place place
   same_resident Fresh = refl
@@ -166,14 +181,26 @@ module _ {S : Type 0} where
           let w : with_bytes page' [] ≡ with_bytes page [] = cc in
           now ∙ ap {B = Option (PageValue S)} (λ p. Some p) (saved_still page page' is w) ∙ sym was
 
-  pub kept_alike : (old new : PagedValue S) → new.process ≡ old.process → KeepsPages old.pages new.pages → CountsAlike old new
-  kept_alike old new process keeps = record {
+  same_out : (place : Place S) → is_copy_out (slot_of (rewritten [] place)) ≡ is_copy_out (slot_of place)
+  same_out Fresh = refl
+  same_out (Resident frame slot) = refl
+  same_out (Leaving frame slot mark) = refl
+  same_out (Saving frame mark) = refl
+  same_out (Away slot) = refl
+  same_out Purged = refl
+
+  kept_copied : (old new : PagedValue S) → KeepsPages old.pages new.pages → (number : ℕ) → is_copied_in new number ≡ is_copied_in old number
+  kept_copied old new keeps number = passes_alike (λ number page. is_copy_out (slot_of page.place)) (λ number page. same_out page.place) (λ number. refl) old.pages new.pages keeps number
+
+  pub kept_alike : (old new : PagedValue S) → new.process ≡ old.process → KeepsPages old.pages new.pages → KeepsCopies old new → CountsAlike old new
+  kept_alike old new process keeps stand = record {
     process = process;
     residents = λ test. kept_where (λ number page. is_resident_place page.place && test number) (λ number page. ap (λ b. b && test number) (same_resident page.place)) (λ number. refl) old.pages new.pages keeps;
     savings = λ test. kept_where (λ number page. is_saving_place page.place && test number) (λ number page. ap (λ b. b && test number) (same_saving page.place)) (λ number. refl) old.pages new.pages keeps;
     frames = λ test. kept_where (λ number page. frame_passes test (frame_of page.place)) (λ number page. same_number test page.place) (λ number. refl) old.pages new.pages keeps;
     slots = kept_where (λ number page. is_kept (slot_of page.place)) (λ number page. same_kept page.place) (λ number. refl) old.pages new.pages keeps;
     stay = same_stay old new (λ number small is. kept_same old new keeps number is);
+    copies = record { stand = stand; out = λ number small. kept_copied old new keeps number };
   }
 
   -- pages that are as they were are counted as before, where only they are asked for

@@ -1,5 +1,6 @@
 -- What it does to a memory that an absent page comes into a frame, that it does not, and that a page is looked at.
-use Rattle.std.proofs.Common.{◌≡◌, ℕ, ◌+◌, ◌^◌, ◌<◌, Bool, true, false, ◌&&◌, cond, List, Option, Some, None, option_map, refl, ap, ◌∙◌, arith}
+use Rattle.std.proofs.Common.{◌≡◌, ℕ, ◌+◌, ◌^◌, ◌<◌, Bool, true, false, ◌&&◌, cond, List, Option, Some, None, option_map, refl, sym, ap, ◌∙◌, arith, subst}
+use Rattle.std.specs.Prelude.{IfSome}
 use Rattle.frame_pool.specs.FrameValue.{FrameValue}
 use Rattle.page_memory.specs.Words.{page_number}
 use Rattle.page_store.specs.Moves.{IfAbsent, IfAway, IfResident, IfSaved}
@@ -8,7 +9,11 @@ use Rattle.page_store.specs.Keeping.{Keeping}
 use Rattle.page_store.specs.Keeping.{NoSlot, Saved, Unbacked, Cleaning, CopyOut}
 use Rattle.page_store.specs.declared.state.PageState.{PageState}
 use Rattle.page_store.specs.declared.state.PageState.TheVariants as stage
-use Rattle.paged_memory.specs.AlikeLaws.{SavingsStay, CountsAlike, same_pages}
+use Rattle.sv32_table.specs.Entry.{page_entry}
+use Rattle.sv32_table.specs.EntryAt.{entry_at, ChangesEntry}
+use Rattle.paged_memory.specs.AlikeLaws.{SavingsStay, CountsAlike, same_tables}
+use Rattle.paged_memory.specs.Copies.{LeavesCopies, if_out, told_of_place}
+use Rattle.paged_memory.specs.CopiesMoveLaws.{same_bits, other_bits, moved_copies}
 use Rattle.paged_memory.specs.Calls.{ChangesBy}
 use Rattle.paged_memory.specs.Counting.{is_resident_place, is_saving_place, frame_passes, is_kept}
 use Rattle.paged_memory.specs.Filling.{BroughtIn, StaysAbsent}
@@ -40,6 +45,7 @@ module _ {S : Type 0} where
     pub frames : (test : ℕ → Bool) → frames_among new test ≡ frames_among old test + cond (test frame.number) 1 0
     pub slots : slots_within new ≡ slots_within old
     pub stay : SavingsStay old new
+    pub copies : LeavesCopies old new
 
   -- an absent page that is in a frame now, with the slot that it had
   record Arrived (frame : FrameValue) (old new : Place S) : Type 0 where
@@ -52,6 +58,7 @@ module _ {S : Type 0} where
     pub had : frame_of old ≡ None
     pub has : option_map (λ (f : FrameValue). f.number) (frame_of new) ≡ Some frame.number
     pub kept : is_kept (slot_of new) ≡ is_kept (slot_of old)
+    pub untold : (before after : Bool) → told_of_place after new ≡ told_of_place before old
 
   arrived : (frame : FrameValue) (origin : List ℕ) (old new : Place S)
       → IfResident new (λ filled slot. (filled.number ≡ frame.number) × IfAbsent old ((filled.bytes ≡ origin) × (slot ≡ NoSlot)) (λ _. IfSaved slot (λ _. Unit {0})))
@@ -67,6 +74,7 @@ module _ {S : Type 0} where
     had = refl;
     has = ap {B = Option ℕ} (λ n. Some n) how.0;
     kept = ap is_kept how.1.1;
+    untold = λ before after. ap (λ k. if_out k (after, filled.bytes)) how.1.1;
   }
   arrived frame origin (Resident f s) (Resident filled slot) how = absurd how.1
   arrived frame origin (Leaving f s m) (Resident filled slot) how = absurd how.1
@@ -81,8 +89,16 @@ module _ {S : Type 0} where
     had = refl;
     has = ap {B = Option ℕ} (λ n. Some n) how.0;
     kept = still slot how.1;
+    untold = λ before after. none slot (after, filled.bytes) how.1;
   }
     where
+      none : (slot : Keeping S) (told : Bool × List ℕ) → IfSaved slot (λ _. Unit {0}) → if_out slot told ≡ None
+      none NoSlot told h = absurd h
+      none (Saved s) told h = refl
+      none (Unbacked s) told h = absurd h
+      none (Cleaning s) told h = absurd h
+      none CopyOut told h = absurd h
+
       still : (slot : Keeping S) → IfSaved slot (λ _. Unit {0}) → is_kept slot ≡ true
       still NoSlot h = absurd h
       still (Saved s) h = refl
@@ -105,6 +121,9 @@ module _ {S : Type 0} where
 
       came : Arrived frame from to
       came = arrived frame comes.page.page.origin.bytes from to comes.page.how.filled
+
+      entered : ChangesEntry old.tables new.tables vpn (page_entry frame.number comes.page.page.origin.rights true false)
+      entered = subst (λ o. IfSome o (λ (page : PageValue S). ChangesEntry old.tables new.tables vpn (page_entry frame.number page.origin.rights true false))) comes.page.found comes.entry
 
       pub come : HasCome frame vpn old new
       come = record {
@@ -133,6 +152,9 @@ module _ {S : Type 0} where
             let moved = moved_slots (BroughtIn held honest frame) old new vpn comes.page from to refl refl comes.small in
             omega (arith, same, moved);
         stay = moved_stay (BroughtIn held honest frame) old new vpn comes.page from to refl refl came.was_saved;
+        copies =
+            moved_copies (BroughtIn held honest frame) old new vpn comes.page (other_bits vpn _ old.tables new.tables entered) from to refl refl
+            (came.untold (entry_at old.tables vpn).dirty (entry_at new.tables vpn).dirty);
       }
 
     -- ---- no page comes in, or a page is looked at
@@ -145,6 +167,7 @@ module _ {S : Type 0} where
       pub there : page_state_of new ≡ page_state_of old
       pub frame : frame_of new ≡ frame_of old
       pub slot : is_kept (slot_of new) ≡ is_kept (slot_of old)
+      pub untold : (dirty : Bool) → told_of_place dirty new ≡ told_of_place dirty old
 
     still_absent : (old new : Place S) → IfAbsent old (new ≡ Fresh) (λ _. IfAway new (λ _. Unit {0})) → StillAbsent old new
     still_absent Fresh new how = record {
@@ -154,6 +177,7 @@ module _ {S : Type 0} where
       there = ap page_state_of how;
       frame = ap frame_of how;
       slot = ap (λ (p : Place S). is_kept (slot_of p)) how;
+      untold = λ dirty. ap (told_of_place dirty) how;
     }
     still_absent (Resident f s) new how = absurd how
     still_absent (Leaving f s m) new how = absurd how
@@ -162,11 +186,11 @@ module _ {S : Type 0} where
     still_absent (Away s) (Resident f k) how = absurd how
     still_absent (Away s) (Leaving f k m) how = absurd how
     still_absent (Away s) (Saving f mark) how = absurd how
-    still_absent (Away s) (Away t) how = record { resident = refl; saving = refl; unsaved = refl; there = refl; frame = refl; slot = refl }
+    still_absent (Away s) (Away t) how = record { resident = refl; saving = refl; unsaved = refl; there = refl; frame = refl; slot = refl; untold = λ dirty. refl }
     still_absent (Away s) Purged how = absurd how
     still_absent Purged new how = absurd how
 
-    module _ (old new : PagedValue S) (process : new.process ≡ old.process) (vpn : ℕ) (small : vpn < 2 ^ 20) where
+    module _ (old new : PagedValue S) (process : new.process ≡ old.process) (tables : new.tables ≡ old.tables) (vpn : ℕ) (small : vpn < 2 ^ 20) where
       module _ (stays : ChangesBy (StaysAbsent held honest) old.pages new.pages vpn) where
         still : StillAbsent stays.page.place stays.page'.place
         still = still_absent stays.page.place stays.page'.place stays.how.place
@@ -191,26 +215,29 @@ module _ {S : Type 0} where
               let moved = moved_slots (StaysAbsent held honest) old new vpn stays _ _ refl refl small in
               omega (arith, same, moved);
           stay = moved_stay (StaysAbsent held honest) old new vpn stays _ _ refl refl still.unsaved;
+          copies =
+              moved_copies (StaysAbsent held honest) old new vpn stays (same_bits vpn old.tables new.tables tables) _ _ refl refl
+              (still.untold (entry_at new.tables vpn).dirty ∙ ap (λ t. told_of_place (entry_at t vpn).dirty stays.page.place) tables);
         }
 
       pub refused_alike : (failures : S → ℕ) (frame back : FrameValue) (fault : PageInFault) → RefusesIn held honest failures frame vpn back fault old new → CountsAlike old new
-      refused_alike failures frame back NotAbsent how = same_pages old new process how.1.0
+      refused_alike failures frame back NotAbsent how = same_tables old new process how.1.0 tables
       refused_alike failures frame back Device how = absent_alike (record { page = how.0.page; page' = how.0.page'; found = how.0.found; changes = how.0.changes; how = how.0.how.stays })
       refused_alike failures frame back Damaged how = absent_alike (record { page = how.0.page; page' = how.0.page'; found = how.0.found; changes = how.0.changes; how = how.0.how.stays })
       refused_alike failures frame back NoMemory how = absent_alike (record { page = how.1.0.page; page' = how.1.0.page'; found = how.1.0.found; changes = how.1.0.changes; how = how.1.0.how.stays })
 
       left_alike : (o : Option (PageValue S)) → LeavesPage held honest old.pages new.pages vpn o → CountsAlike old new
-      left_alike None left = same_pages old new process left
+      left_alike None left = same_tables old new process left tables
       left_alike (Some page) left = by_place page.place left
         where
           by_place : (place : Place S) → LeavesPlace held honest old.pages new.pages vpn place → CountsAlike old new
-          by_place Fresh left = same_pages old new process left
-          by_place (Resident frame kept) left = same_pages old new process left
-          by_place (Leaving frame kept mark) left = same_pages old new process left
-          by_place (Saving frame mark) left = same_pages old new process left
+          by_place Fresh left = same_tables old new process left tables
+          by_place (Resident frame kept) left = same_tables old new process left tables
+          by_place (Leaving frame kept mark) left = same_tables old new process left tables
+          by_place (Saving frame mark) left = same_tables old new process left tables
           by_place (Away slot) left = absent_alike left
-          by_place Purged left = same_pages old new process left
+          by_place Purged left = same_tables old new process left tables
 
     -- a page that is looked at
-    pub looked_alike : (address : ℕ) (old new : PagedValue S) → address < 2 ^ 32 → new.process ≡ old.process → LeavesLookedAt held honest address old new → CountsAlike old new
-    looked_alike address old new small process left = left_alike old new process (page_number address) (omega (arith, small)) (page_at old.pages (page_number address)) left
+    pub looked_alike : (address : ℕ) (old new : PagedValue S) → address < 2 ^ 32 → new.process ≡ old.process → new.tables ≡ old.tables → LeavesLookedAt held honest address old new → CountsAlike old new
+    looked_alike address old new small process tables left = left_alike old new process tables (page_number address) (omega (arith, small)) (page_at old.pages (page_number address)) left

@@ -1,8 +1,10 @@
 -- That a copy of a page which is out stands for it, as long as no dirty bit tells of a store since it was made.
-use Rattle.std.specs.Prelude.{◌≡◌, ℕ, ◌^◌, ◌<◌, Bool, List, Option, Some, None, IsFalse}
+use Rattle.std.specs.Prelude.{◌≡◌, ℕ, ◌^◌, ◌<◌, Bool, ◌&&◌, List, Option, Some, None, IsFalse}
 use Rattle.page_store.specs.Cleaning.{IfCopyOut}
-use Rattle.page_store.specs.PageValue.{PageValue}
+use Rattle.page_store.specs.Keeping.{Keeping, NoSlot, Saved, Unbacked, Cleaning, CopyOut, is_copy_out}
+use Rattle.page_store.specs.PageValue.{PageValue, Place, Fresh, Resident, Leaving, Saving, Away, Purged, slot_of}
 use Rattle.sv32_table.specs.EntryAt.{entry_at}
+use Rattle.paged_memory.specs.Counting.{page_passes, pages_where}
 use Rattle.paged_memory.specs.Paged.{PagedValue, page_at}
 
 module _ {S : Type 0} where
@@ -18,3 +20,59 @@ module _ {S : Type 0} where
   -- every copy that stood stands
   abbrev pub KeepsCopies : PagedValue S → PagedValue S → Type 0
   KeepsCopies old new = (vpn : ℕ) (bytes : List ℕ) → vpn < 2 ^ 20 → CopyStands vpn bytes old → CopyStands vpn bytes new
+
+  -- whether a copy of the page of a number is out
+  abbrev pub is_copied_in : PagedValue S → ℕ → Bool
+  is_copied_in memory vpn = page_passes (λ page. is_copy_out (slot_of page.place)) (page_at memory.pages vpn)
+
+  -- how many pages have a copy out, of those whose numbers pass
+  abbrev pub copies_among : PagedValue S → (ℕ → Bool) → ℕ
+  copies_among memory test = pages_where (λ number page. is_copy_out (slot_of page.place) && test number) memory.pages
+
+  -- the same copies are out, and each that stood stands
+  pub record LeavesCopies (old new : PagedValue S) : Type 0 where
+    pub stand : KeepsCopies old new
+    pub out : (vpn : ℕ) → vpn < 2 ^ 20 → is_copied_in new vpn ≡ is_copied_in old vpn
+
+  -- of every other page the same copies are out, and each that stood stands
+  pub record OtherCopies (vpn : ℕ) (old new : PagedValue S) : Type 0 where
+    pub stand : (q : ℕ) (bytes : List ℕ) → q < 2 ^ 20 → (q ≡ vpn → ⊥) → CopyStands q bytes old → CopyStands q bytes new
+    pub out : (q : ℕ) → q < 2 ^ 20 → (q ≡ vpn → ⊥) → is_copied_in new q ≡ is_copied_in old q
+
+  -- a copy of the page of a number goes out with these bytes, and stands for it
+  pub record CopyGoesOut (vpn : ℕ) (bytes : List ℕ) (old new : PagedValue S) : Type 0 where
+    pub before : is_copied_in old vpn ≡ false
+    pub out : is_copied_in new vpn ≡ true
+    pub stands : CopyStands vpn bytes new
+    pub others : OtherCopies vpn old new
+
+  -- the copy of the page of a number that was out is out no more
+  pub record CopyComesBack (vpn : ℕ) (old new : PagedValue S) : Type 0 where
+    pub before : is_copied_in old vpn ≡ true
+    pub back : is_copied_in new vpn ≡ false
+    pub others : OtherCopies vpn old new
+
+-- what is told of a copy that is out: the bit that tells of a store since, and what the frame holds
+
+module _ {S : Type 0} where
+  abbrev pub if_out : {A : Type 0} → Keeping S → A → Option A
+  if_out NoSlot told = None
+  if_out (Saved copy) told = None
+  if_out (Unbacked slot) told = None
+  if_out (Cleaning slot) told = None
+  if_out CopyOut told = Some told
+
+  abbrev pub told_of_place : Bool → Place S → Option (Bool × List ℕ)
+  told_of_place dirty Fresh = None
+  told_of_place dirty (Resident frame slot) = if_out slot (dirty, frame.bytes)
+  told_of_place dirty (Leaving frame slot mark) = if_out slot (mark, frame.bytes)
+  told_of_place dirty (Saving frame mark) = None
+  told_of_place dirty (Away copy) = None
+  told_of_place dirty Purged = None
+
+  abbrev pub told_of_page : Bool → Option (PageValue S) → Option (Bool × List ℕ)
+  told_of_page dirty (Some page) = told_of_place dirty page.place
+  told_of_page dirty None = None
+
+  abbrev pub told_in : PagedValue S → ℕ → Option (Bool × List ℕ)
+  told_in memory vpn = told_of_page (entry_at memory.tables vpn).dirty (page_at memory.pages vpn)

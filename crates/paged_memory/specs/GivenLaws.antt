@@ -7,9 +7,12 @@ use Rattle.frame_pool.specs.FrameValue.{FrameValue}
 use Rattle.page_store.specs.Moves.{given_back, given_framed}
 use Rattle.page_store.specs.PageValue.{PageValue, Place, Fresh, Resident, Leaving, Saving, Away, Purged, frame_of, slot_of, page_state_of, is_out}
 use Rattle.page_store.specs.Keeping.{Keeping, NoSlot, Saved, Unbacked, Cleaning, CopyOut}
-use Rattle.sv32_table.specs.Entry.{blank}
+use Rattle.sv32_table.specs.Entry.{Entry, blank}
 use Rattle.sv32_table.specs.EntryAt.{entry_at}
 use Rattle.paged_memory.specs.AlikeLaws.{SavingsStay, same_stay}
+use Rattle.paged_memory.specs.Copies.{LeavesCopies, if_out, told_of_place, told_of_page}
+use Rattle.paged_memory.specs.CopiesMoveLaws.{other_bits, moved_copies}
+use Rattle.paged_memory.specs.CopiesToldLaws.{leaves_told}
 use Rattle.paged_memory.specs.Counting.{page_passes, pages_where, is_resident_place, is_saving_place, frame_passes, is_kept}
 use Rattle.paged_memory.specs.CountingLaws.{pages_changed, none_where_pass, same_where_pass}
 use Rattle.paged_memory.specs.GivingBack.{GivesBack, GivesNothing}
@@ -30,6 +33,7 @@ module _ {S : Type 0} where
     pub slots : slots_within new + cond (is_some given.1) 1 0 ≡ slots_within old
     pub savings : (test : ℕ → Bool) → savings_among new test ≡ savings_among old test
     pub stay : SavingsStay old new
+    pub copies : LeavesCopies old new
     pub fewer : giving_within new + 1 ≡ giving_within old
     pub each : (number : ℕ) → number < 2 ^ 20 → IsGiven old new number ⊎ IsLeft old new number
 
@@ -39,36 +43,39 @@ module _ {S : Type 0} where
     pub slot : is_kept (slot_of place) ≡ is_some given.1
     pub unsaved : is_saving_place place ≡ false
     pub given_up : place_given place ≡ Purged
+    pub untold : (dirty : Bool) → told_of_place dirty place ≡ None
 
   -- what is given with a frame
   record GivesFramed (given : Option FrameValue × Option S) (frame : FrameValue) (slot : Keeping S) : Type 0 where
     pub frame_is : Some frame ≡ given.0
     pub slot_is : is_kept slot ≡ is_some given.1
     pub given_up : (place : Place S) → unless_out slot place ≡ Purged
+    pub untold : (told : Bool × List ℕ) → if_out slot told ≡ None
 
   gives_framed : (given : Option FrameValue × Option S) (frame : FrameValue) (slot : Keeping S) → given_framed frame slot ≡ Some given → GivesFramed given frame slot
   gives_framed given frame NoSlot h =
-      let e = same_Some _ _ h in record { frame_is = ap (λ (g : Option FrameValue × Option S). g.0) e; slot_is = ap (λ (g : Option FrameValue × Option S). is_some g.1) e; given_up = λ place. refl }
+      let e = same_Some _ _ h in record { frame_is = ap (λ (g : Option FrameValue × Option S). g.0) e; slot_is = ap (λ (g : Option FrameValue × Option S). is_some g.1) e; given_up = λ place. refl; untold = λ told. refl }
   gives_framed given frame (Saved copy) h =
-      let e = same_Some _ _ h in record { frame_is = ap (λ (g : Option FrameValue × Option S). g.0) e; slot_is = ap (λ (g : Option FrameValue × Option S). is_some g.1) e; given_up = λ place. refl }
+      let e = same_Some _ _ h in record { frame_is = ap (λ (g : Option FrameValue × Option S). g.0) e; slot_is = ap (λ (g : Option FrameValue × Option S). is_some g.1) e; given_up = λ place. refl; untold = λ told. refl }
   gives_framed given frame (Unbacked own) h =
-      let e = same_Some _ _ h in record { frame_is = ap (λ (g : Option FrameValue × Option S). g.0) e; slot_is = ap (λ (g : Option FrameValue × Option S). is_some g.1) e; given_up = λ place. refl }
+      let e = same_Some _ _ h in record { frame_is = ap (λ (g : Option FrameValue × Option S). g.0) e; slot_is = ap (λ (g : Option FrameValue × Option S). is_some g.1) e; given_up = λ place. refl; untold = λ told. refl }
   gives_framed given frame (Cleaning own) h =
-      let e = same_Some _ _ h in record { frame_is = ap (λ (g : Option FrameValue × Option S). g.0) e; slot_is = ap (λ (g : Option FrameValue × Option S). is_some g.1) e; given_up = λ place. refl }
+      let e = same_Some _ _ h in record { frame_is = ap (λ (g : Option FrameValue × Option S). g.0) e; slot_is = ap (λ (g : Option FrameValue × Option S). is_some g.1) e; given_up = λ place. refl; untold = λ told. refl }
   gives_framed given frame CopyOut h = cc
 
   gives_at : (given : Option FrameValue × Option S) (place : Place S) → given_back place ≡ Some given → GivesAt given place
   gives_at given Fresh h = cc
   gives_at given (Resident frame slot) h =
-      let gives = gives_framed given frame slot h in record { frame = gives.frame_is; slot = gives.slot_is; unsaved = refl; given_up = gives.given_up (Resident frame slot) }
+      let gives = gives_framed given frame slot h in record { frame = gives.frame_is; slot = gives.slot_is; unsaved = refl; given_up = gives.given_up (Resident frame slot); untold = λ dirty. gives.untold (dirty, frame.bytes) }
   gives_at given (Leaving frame slot mark) h =
-      let gives = gives_framed given frame slot h in record { frame = gives.frame_is; slot = gives.slot_is; unsaved = refl; given_up = gives.given_up (Leaving frame slot mark) }
+      let gives = gives_framed given frame slot h in record { frame = gives.frame_is; slot = gives.slot_is; unsaved = refl; given_up = gives.given_up (Leaving frame slot mark); untold = λ dirty. gives.untold (mark, frame.bytes) }
   gives_at given (Saving frame mark) h = cc
   gives_at given (Away copy) h = record {
     frame = let e : ◌≡◌ {A = Option FrameValue × Option S} (None, Some copy.slot) given = cc in ap (λ (g : Option FrameValue × Option S). g.0) e;
     slot = let e : ◌≡◌ {A = Option FrameValue × Option S} (None, Some copy.slot) given = cc in ap (λ (g : Option FrameValue × Option S). is_some g.1) e;
     unsaved = refl;
     given_up = refl;
+    untold = λ dirty. refl;
   }
   gives_at given Purged h = cc
 
@@ -120,6 +127,9 @@ module _ {S : Type 0} where
           let moved : savings_among new test + cond (is_saving_place one.pages.page.place && test one.number) 1 0 ≡ savings_among old test + 0 = moved_savings (GivesBack given) old new one.number one.pages _ Purged refl is_purged one.small test in
           omega (arith, before, moved);
       stay = moved_stay (GivesBack given) old new one.number one.pages _ Purged refl is_purged at.unsaved;
+      copies =
+          moved_copies (GivesBack given) old new one.number one.pages (other_bits one.number blank old.tables new.tables one.entries) _ Purged refl is_purged
+          (sym (at.untold (entry_at old.tables one.number).dirty));
       fewer = fewer_give;
       each = one_given;
     }
@@ -282,6 +292,32 @@ module _ {S : Type 0} where
     all_savings test =
         same_where_pass (λ number page. is_saving_place page.place && test number) old.pages new.pages
         (λ number small. ap (page_passes (λ page. is_saving_place page.place && test number)) (gives.pages number small) ∙ same_saving (test number) (page_at old.pages number))
+
+    -- and the same copies are out
+    given_told : (o : Option (PageValue S)) (e e' : Entry) → e' ≡ (if has_to_give o then blank else e) → told_of_page e'.dirty (option_map page_given o) ≡ told_of_page e.dirty o
+    given_told None e e' is = refl
+    given_told (Some page) e e' is = by_place page.place is
+      where
+        by_place : (place : Place S) → e' ≡ (if is_some (given_back place) then blank else e) → told_of_place e'.dirty (place_given place) ≡ told_of_place e.dirty place
+        by_place Fresh is = refl
+        by_place (Resident frame NoSlot) is = refl
+        by_place (Resident frame (Saved copy)) is = refl
+        by_place (Resident frame (Unbacked held)) is = refl
+        by_place (Resident frame (Cleaning held)) is = refl
+        by_place (Resident frame CopyOut) is = ap {B = Option (Bool × List ℕ)} (λ (entry : Entry). Some (entry.dirty, frame.bytes)) is
+        by_place (Leaving frame NoSlot mark) is = refl
+        by_place (Leaving frame (Saved copy) mark) is = refl
+        by_place (Leaving frame (Unbacked held) mark) is = refl
+        by_place (Leaving frame (Cleaning held) mark) is = refl
+        by_place (Leaving frame CopyOut mark) is = refl
+        by_place (Saving frame mark) is = refl
+        by_place (Away slot) is = refl
+        by_place Purged is = refl
+
+    pub all_copies : LeavesCopies old new
+    all_copies =
+        leaves_told old new
+        (λ number small. ap (told_of_page (entry_at new.tables number).dirty) (gives.pages number small) ∙ given_told (page_at old.pages number) (entry_at old.tables number) (entry_at new.tables number) (gives.entries number small))
 
     saved_page : (o : Option (PageValue S)) → is_saving_stage (option_map (λ (page : PageValue S). page_state_of page.place) o) ≡ true → option_map page_given o ≡ o
     saved_page None h = refl

@@ -1,13 +1,19 @@
 -- What it does to a memory that a resident page's use is read, that it begins to leave its frame, and that it is mapped again.
-use Rattle.std.proofs.Common.{◌≡◌, ℕ, ◌+◌, ◌^◌, ◌<◌, Bool, true, cond, Option, Some, None, option_map, is_some, refl, sym, ap, ◌∙◌, arith}
+use Rattle.std.proofs.Common.{◌≡◌, ℕ, ◌+◌, ◌^◌, ◌<◌, Bool, true, false, cond, Option, Some, None, option_map, is_some, inl, inr, refl, sym, ap, ◌∙◌, arith}
+use Rattle.std.proofs.lemmas.Bool.Decides.{eqb_tells}
 use Rattle.frame_pool.specs.FrameValue.{FrameValue}
 use Rattle.page_store.specs.Moves.{IfResident}
 use Rattle.page_store.specs.PageValue.{PageValue, Place, Fresh, Resident, Leaving, Saving, Away, Purged, page_state_of}
 use Rattle.page_store.specs.declared.refusal.LeaveRefusal.{LeaveRefusal}
 use Rattle.page_store.specs.Keeping.{Keeping, NoSlot, Saved, Unbacked, Cleaning, CopyOut, settled}
 use Rattle.page_store.specs.declared.state.PageState.TheVariants as stage
-use Rattle.sv32_table.specs.EntryAt.{entry_at, dirty_of}
+use Rattle.sv32_table.specs.Entry.{Entry}
+use Rattle.sv32_table.specs.EntryAt.{entry_at, dirty_of, unaccessed_entry}
+use Rattle.sv32_table.specs.EntryLaws.{dirty-page_entry}
 use Rattle.paged_memory.specs.AlikeLaws.{SavingsStay, CountsAlike, same_pages}
+use Rattle.paged_memory.specs.Copies.{LeavesCopies, if_out}
+use Rattle.paged_memory.specs.CopiesMoveLaws.{other_bits, entry_changed, moved_copies}
+use Rattle.paged_memory.specs.CopiesToldLaws.{leaves_bits}
 use Rattle.paged_memory.specs.Counting.{is_kept}
 use Rattle.paged_memory.specs.Calls.{Leaves, RefusesLeave, accessed_at}
 use Rattle.paged_memory.specs.Leaving.{Returns}
@@ -18,11 +24,28 @@ use Rattle.paged_memory.specs.SeenLaws.{kept_settled}
 use Rattle.paged_memory.specs.Stages.{is_resident_stage}
 use Rattle.paged_memory.specs.Whole.{stage_in, frame_in, accessed_in, residents_among, savings_among, frames_among, slots_within}
 
+-- an entry whose A is cleared keeps its D
+unaccessed_dirty : (e : Entry) → (unaccessed_entry e).dirty ≡ e.dirty
+unfolding unaccessed_entry
+unaccessed_dirty e = elim e.valid as (λ b. (if b then record e { accessed = false } else e).dirty ≡ e.dirty) [
+  | true ↦ refl
+  | false ↦ refl
+]
+
 module _ {S : Type 0} where
   -- ---- a page's use is read
 
   pub forgets_alike : (vpn : ℕ) (old new : PagedValue S) → ForgetsUse vpn old new → CountsAlike old new
-  forgets_alike vpn old new forgets = same_pages old new forgets.process forgets.pages
+  forgets_alike vpn old new forgets = same_pages old new forgets.process forgets.pages (leaves_bits old new forgets.pages bits)
+    where
+      bits : (q : ℕ) → q < 2 ^ 20 → (entry_at new.tables q).dirty ≡ (entry_at old.tables q).dirty
+      bits q small =
+          elim (eqb_tells q vpn) [
+            | inl here ↦
+                ap (λ (e : Entry). e.dirty) (forgets.entry q small ∙ ap (λ b. if b then unaccessed_entry (entry_at old.tables vpn) else entry_at old.tables q) here.0)
+                ∙ unaccessed_dirty (entry_at old.tables vpn) ∙ sym (ap (λ n. (entry_at old.tables n).dirty) here.1)
+            | inr other ↦ ap (λ (e : Entry). e.dirty) (forgets.entry q small ∙ ap (λ b. if b then unaccessed_entry (entry_at old.tables vpn) else entry_at old.tables q) other.0)
+          ]
 
   -- each page is as it was
   pub forgets_pages : (vpn : ℕ) (old new : PagedValue S) → ForgetsUse vpn old new → (number : ℕ) → SamePage old new number
@@ -74,6 +97,7 @@ module _ {S : Type 0} where
     pub frames : (test : ℕ → Bool) → frames_among new test ≡ frames_among old test
     pub slots : slots_within new ≡ slots_within old
     pub stay : SavingsStay old new
+    pub copies : LeavesCopies old new
 
   slotted_settled : (slot : Keeping S) → is_kept (settled slot) ≡ is_kept slot
   slotted_settled NoSlot = refl
@@ -124,6 +148,7 @@ module _ {S : Type 0} where
           let moved : slots_within new + cond (is_kept left.slot) 1 0 ≡ slots_within old + cond (is_kept (settled left.slot)) 1 0 = moved_slots (Leaves mark) old new vpn leaves.page _ _ left.was left_to small in
           omega (arith, as_many, moved);
       stay = moved_stay (Leaves mark) old new vpn leaves.page _ _ left.was left_to refl;
+      copies = leaves.copies;
     }
 
   -- ---- a page that is leaving is mapped again
@@ -140,6 +165,7 @@ module _ {S : Type 0} where
     pub frames : (test : ℕ → Bool) → frames_among new test ≡ frames_among old test
     pub slots : slots_within new ≡ slots_within old
     pub stay : SavingsStay old new
+    pub copies : LeavesCopies old new
 
   module _ (vpn : ℕ) (old new : PagedValue S) (maps : MapsAgain vpn old new) where
     abbrev how : Returns maps.page.mark maps.page.page.page maps.page.page.page'
@@ -147,6 +173,11 @@ module _ {S : Type 0} where
 
     back_to : maps.page.page.page'.place ≡ Resident how.frame how.slot
     back_to = ap (λ (p : PageValue S). p.place) how.is
+
+    mapped_bit : (entry_at new.tables vpn).dirty ≡ maps.page.mark
+    mapped_bit =
+        ap (λ (e : Entry). e.dirty) (entry_changed vpn _ old.tables new.tables maps.small maps.page.entry)
+        ∙ dirty-page_entry how.frame.number maps.page.page.page.origin.rights false maps.page.mark
 
     pub returned : HasReturned vpn old new
     returned = record {
@@ -160,4 +191,5 @@ module _ {S : Type 0} where
       frames = λ test. let moved : frames_among new test + cond (test how.frame.number) 1 0 ≡ frames_among old test + cond (test how.frame.number) 1 0 = moved_frames (Returns maps.page.mark) old new vpn maps.page.page _ _ how.was back_to maps.small test in omega (arith, moved);
       slots = let moved = moved_slots (Returns maps.page.mark) old new vpn maps.page.page _ _ how.was back_to maps.small in omega (arith, moved);
       stay = moved_stay (Returns maps.page.mark) old new vpn maps.page.page _ _ how.was back_to refl;
+      copies = moved_copies (Returns maps.page.mark) old new vpn maps.page.page (other_bits vpn _ old.tables new.tables maps.page.entry) _ _ how.was back_to (ap (λ bit. if_out how.slot (bit, how.frame.bytes)) mapped_bit);
     }

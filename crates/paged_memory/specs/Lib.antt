@@ -19,6 +19,7 @@ pub mod Filling
 pub mod Cleaning
 pub mod Copies
 pub mod CopiesLaws
+pub mod CopiesToldLaws
 pub mod Peeking
 pub mod GivingBack
 pub mod Coherence
@@ -41,6 +42,7 @@ pub mod ShowingLaws
 pub mod AmongLaws
 pub mod AlikeLaws
 pub mod MoveLaws
+pub mod CopiesMoveLaws
 pub mod LeaveLaws
 pub mod SaveLaws
 pub mod ComeLaws
@@ -49,3 +51,4 @@ pub mod PeekLaws
 pub mod GivenLaws
 pub mod SlotsLaws
 pub mod LooksLaws
+pub mod CleanLaws

@@ -83,13 +83,13 @@ module _ {S : Type 0} where
         stays = stays;
       }
 
-      saves : (frame : FrameValue) (slot : Keeping S) (mark : Bool) (taken : S) → is_held vpn old.caches ≡ false → page.place ≡ Leaving frame slot mark → (mark || is_unbacked slot) ≡ true → page'.place ≡ Saving frame mark
+      saves : (frame : FrameValue) (slot : Keeping S) (mark : Bool) (taken : S) → is_held vpn old.caches ≡ false → is_copy_out slot ≡ false → page.place ≡ Leaving frame slot mark → (mark || is_unbacked slot) ≡ true → page'.place ≡ Saving frame mark
           → TakesSpare (kept slot) taken spare spare' → ComesTo {L = L} vpn spare spare' old new (answer.Dirty (job_of old.process vpn frame taken))
-      saves frame slot mark taken held at counted is takes = (
+      saves frame slot mark taken held alone at counted is takes = (
         record {
           small = small;
           held = held;
-          page = record { page = page; page' = page'; found = found; changes = changed; how = record { frame = frame; slot = slot; mark = mark; was = at; changed = counts frame slot mark true at counted; is = moved (Saving frame mark) is; copy = refl } };
+          page = record { page = page; page' = page'; found = found; changes = changed; how = record { frame = frame; slot = slot; mark = mark; was = at; changed = counts frame slot mark true at counted; alone = alone; is = moved (Saving frame mark) is; copy = refl } };
           stays = stays;
           process = refl;
           vpn_is = refl;
@@ -108,13 +108,13 @@ module _ {S : Type 0} where
       with : (frame : FrameValue) (slot : Keeping S) (mark : Bool) (given : Option S) → is_held vpn old.caches ≡ false → is_copy_out slot ≡ false → kept slot ≡ None → (mark || is_unbacked slot) ≡ true → After given (Leaving frame slot mark) (with_spare {L = L} old.process vpn frame slot mark given)
       unfolding leaving
       with frame slot mark None held alone none counted at is was left = (record { page = leaving frame slot mark at; held = held; alone = alone; changed = counts frame slot mark true at counted; slotless = none }, was)
-      with frame slot mark (Some spare_slot) held alone none counted at is was left = saves frame slot mark spare_slot held at counted is (subst (λ o. TakesSpare o spare_slot spare spare') (sym none) (was, left))
+      with frame slot mark (Some spare_slot) held alone none counted at is was left = saves frame slot mark spare_slot held alone at counted is (subst (λ o. TakesSpare o spare_slot spare spare') (sym none) (was, left))
 
       -- one that nothing backs
       unbacked : (frame : FrameValue) (slot : Keeping S) (own : Option S) (mark : Bool) (given : Option S) → is_held vpn old.caches ≡ false → is_copy_out slot ≡ false → kept slot ≡ own → is_unbacked slot ≡ true → After given (Leaving frame slot mark) (save_unbacked {L = L} old.process vpn frame slot own mark given)
       unbacked frame slot None mark given held alone own counted at is was left = with frame slot mark given held alone own (ap (λ b. mark || b) counted ∙ always mark) at is was left
       unbacked frame slot (Some taken) mark given held alone own counted at is was left =
-          saves frame slot mark taken held at (ap (λ b. mark || b) counted ∙ always mark) is (subst (λ o. TakesSpare o taken spare spare') (sym own) (refl, left ∙ sym was))
+          saves frame slot mark taken held alone at (ap (λ b. mark || b) counted ∙ always mark) is (subst (λ o. TakesSpare o taken spare spare') (sym own) (refl, left ∙ sym was))
 
       -- and one of which a copy is out
       out : (frame : FrameValue) (mark : Bool) → page.place ≡ Leaving frame CopyOut mark → IsHeldStill vpn old
@@ -128,7 +128,7 @@ module _ {S : Type 0} where
       goes frame (Cleaning slot) mark given held at is was left = unbacked frame (Cleaning slot) slot mark given held refl refl refl at is was left
       goes frame CopyOut mark given held at is was left = (out frame mark at, left ∙ sym was)
       goes frame (Saved copy) false given held at is was left = (drops frame (Saved copy) false held at refl is, left ∙ sym was)
-      goes frame (Saved copy) true given held at is was left = saves frame (Saved copy) true copy.slot held at refl is (refl, left ∙ sym was)
+      goes frame (Saved copy) true given held at is was left = saves frame (Saved copy) true copy.slot held refl at refl is (refl, left ∙ sym was)
 
       looks : (frame : FrameValue) (slot : Keeping S) (mark b : Bool) (given : Option S) → is_held vpn old.caches ≡ b → After given (Leaving frame slot mark) (collect_leaving {L = L} old.process vpn frame slot mark b given)
       unfolding leaving

@@ -14,6 +14,7 @@ use Rattle.sv32_table.specs.Entry.{blank, page_entry}
 use Rattle.sv32_table.specs.EntryAt.{entry_at, ChangesEntry, SameTables, AddsTable, unaccessed_entry, dirty_of}
 use Rattle.tlb_core.specs.Cache.{doomed}
 use Rattle.paged_memory.specs.Calls.{ChangesBy, Leaves, RefusesLeave}
+use Rattle.paged_memory.specs.Copies.{LeavesCopies}
 use Rattle.paged_memory.specs.Filling.{BroughtIn, RefusesPageIn}
 use Rattle.paged_memory.specs.GivingBack.{GivesNothing, GivesOne, LiesBehind, SavesOne}
 use Rattle.paged_memory.specs.Leaving.{CollectsAt, ChangesSaved, Frees, RefusesSaved, IsOut, BringsBack}
@@ -68,6 +69,7 @@ module _ {S : Type 0} where
     pub tabled : SameTables old.tables new.tables
     pub caches : new.caches ≡ map (doomed vpn) old.caches
     pub reserved : new.reserved ≡ old.reserved
+    pub copies : LeavesCopies old new
 
   -- why it does not
   abbrev pub DoesNotLeave : ℕ → LeaveRefusal → PagedValue S → Type 0
@@ -140,6 +142,7 @@ module _ {S : Type 0} where
     pub mark : Bool
     pub was : page.place ≡ Leaving frame slot mark
     pub changed : counts_changed page ≡ true
+    pub alone : is_copy_out slot ≡ false
     pub is : page' ≡ record page { place = Saving frame mark }
     pub copy : job.copy ≡ frame.bytes
 

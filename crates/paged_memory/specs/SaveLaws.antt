@@ -5,11 +5,13 @@ use Rattle.frame_pool.specs.FrameValue.{FrameValue}
 use Rattle.page_store.specs.JobValue.{JobValue, SavedValue}
 use Rattle.page_store.specs.Keeping.{kept}
 use Rattle.page_store.specs.Moves.{copy_of, IfSaving}
-use Rattle.page_store.specs.PageValue.{PageValue, Place, Fresh, Resident, Leaving, Saving, Away, Purged, frame_of, slot_of, page_state_of, is_out}
-use Rattle.page_store.specs.Keeping.{Keeping}
-use Rattle.page_store.specs.Keeping.{NoSlot, Saved, Unbacked, Cleaning, CopyOut}
+use Rattle.page_store.specs.PageValue.{PageValue, Place, Fresh, Resident, Leaving, Saving, Away, Purged, frame_of, slot_of, page_state_of, is_out, changed}
+use Rattle.page_store.specs.Keeping.{Keeping, NoSlot, Saved, Unbacked, Cleaning, CopyOut, is_copy_out}
 use Rattle.page_store.specs.declared.state.PageState.TheVariants as stage
+use Rattle.sv32_table.specs.EntryAt.{entry_at}
 use Rattle.paged_memory.specs.AlikeLaws.{SavingsStay}
+use Rattle.paged_memory.specs.Copies.{LeavesCopies, if_out, told_of_place}
+use Rattle.paged_memory.specs.CopiesMoveLaws.{same_bits, moved_copies}
 use Rattle.paged_memory.specs.Counting.{page_passes, is_resident_place, is_saving_place, frame_passes, is_kept}
 use Rattle.paged_memory.specs.CountingLaws.{none_where_pass, some_where_pass, no_where_pass}
 use Rattle.paged_memory.specs.Leaving.{Frees, IsSaving}
@@ -74,6 +76,32 @@ module _ {S : Type 0} where
   kept_is (Cleaning slot) = refl
   kept_is CopyOut = refl
 
+  -- no copy is out of a page that keeps something else, or nothing
+  untold : {A : Type 0} (told : A) (slot : Keeping S) → is_copy_out slot ≡ false → if_out slot told ≡ None
+  untold told NoSlot h = refl
+  untold told (Saved slot) h = refl
+  untold told (Unbacked slot) h = refl
+  untold told (Cleaning slot) h = refl
+  untold told CopyOut h = cc
+
+  untold_dropped : (dirty : Bool) (slot : Keeping S) → told_of_place dirty (dropped_to slot) ≡ None
+  untold_dropped dirty NoSlot = refl
+  untold_dropped dirty (Saved slot) = refl
+  untold_dropped dirty (Unbacked None) = refl
+  untold_dropped dirty (Unbacked (Some slot)) = refl
+  untold_dropped dirty (Cleaning None) = refl
+  untold_dropped dirty (Cleaning (Some slot)) = refl
+  untold_dropped dirty CopyOut = refl
+
+  -- nor of a page that is leaving and counts as unchanged
+  unchanged_unheld : {frame : FrameValue} (mark : Bool) (slot : Keeping S) → changed false (Leaving frame slot mark) ≡ false → is_copy_out slot ≡ false
+  unchanged_unheld mark NoSlot h = refl
+  unchanged_unheld mark (Saved slot) h = refl
+  unchanged_unheld mark (Unbacked slot) h = refl
+  unchanged_unheld mark (Cleaning slot) h = refl
+  unchanged_unheld true CopyOut h = cc
+  unchanged_unheld false CopyOut h = cc
+
   -- it is absent, and has let this frame go
   pub record HasGone (vpn : ℕ) (frame : FrameValue) (old new : PagedValue S) : Type 0 where
     pub keeps : KeepsOthers vpn old new
@@ -86,6 +114,7 @@ module _ {S : Type 0} where
     pub frames : (test : ℕ → Bool) → frames_among new test + cond (test frame.number) 1 0 ≡ frames_among old test
     pub slots : slots_within new ≡ slots_within old
     pub stay : SavingsStay old new
+    pub copies : LeavesCopies old new
 
   module _ (vpn : ℕ) (frame : FrameValue) (old new : PagedValue S) (goes : GoesToBacking vpn frame old new) where
     abbrev kept_slot : Keeping S
@@ -93,6 +122,9 @@ module _ {S : Type 0} where
 
     gone_to : goes.page.page'.place ≡ dropped_to kept_slot
     gone_to = ap (λ (p : PageValue S). p.place) goes.page.how.is
+
+    unheld : is_copy_out kept_slot ≡ false
+    unheld = unchanged_unheld goes.page.how.mark kept_slot (ap (λ (p : Place S). changed false p) (sym goes.page.how.was) ∙ goes.page.how.unchanged)
 
     pub gone : HasGone vpn frame old new
     gone = record {
@@ -118,6 +150,9 @@ module _ {S : Type 0} where
           let moved : slots_within new + cond (is_kept kept_slot) 1 0 ≡ slots_within old + cond (is_kept (slot_of (dropped_to kept_slot))) 1 0 = moved_slots (LetsGo frame) old new vpn goes.page _ _ goes.page.how.was gone_to goes.small in
           omega (arith, after, moved);
       stay = moved_stay (LetsGo frame) old new vpn goes.page _ _ goes.page.how.was gone_to refl;
+      copies =
+          moved_copies (LetsGo frame) old new vpn goes.page (same_bits vpn old.tables new.tables (ap (λ (m : PagedValue S). m.tables) goes.stays)) _ _ goes.page.how.was gone_to
+          (untold_dropped (entry_at new.tables vpn).dirty kept_slot ∙ sym (untold (goes.page.how.mark, frame.bytes) kept_slot unheld));
     }
 
   -- ---- a page that goes to be saved
@@ -136,6 +171,7 @@ module _ {S : Type 0} where
     pub frames : (test : ℕ → Bool) → frames_among new test ≡ frames_among old test
     pub slots : slots_within new + cond (is_some (slot_in old vpn)) 1 0 ≡ slots_within old
     pub stay : SavingsStay old new
+    pub copies : LeavesCopies old new
 
   module _ (vpn : ℕ) (job : JobValue S) (old new : PagedValue S) (goes : GoesToBeSaved vpn job old new) where
     abbrev copied_frame : FrameValue
@@ -161,6 +197,9 @@ module _ {S : Type 0} where
           let moved : slots_within new + cond (is_kept goes.page.how.slot) 1 0 ≡ slots_within old + 0 = moved_slots (IsCopied job) old new vpn goes.page _ _ goes.page.how.was copied_to goes.small in
           omega (arith, own, moved);
       stay = moved_stay (IsCopied job) old new vpn goes.page _ _ goes.page.how.was copied_to refl;
+      copies =
+          moved_copies (IsCopied job) old new vpn goes.page (same_bits vpn old.tables new.tables (ap (λ (m : PagedValue S). m.tables) goes.stays)) _ _ goes.page.how.was copied_to
+          (sym (untold (goes.page.how.mark, copied_frame.bytes) goes.page.how.slot goes.page.how.alone));
     }
 
   -- ---- a save comes back
@@ -180,6 +219,7 @@ module _ {S : Type 0} where
     pub savings : (test : ℕ → Bool) → savings_among new test + cond (test job.vpn) 1 0 ≡ savings_among old test
     pub frames : (test : ℕ → Bool) → frames_among new test + cond (test frame.number) 1 0 ≡ frames_among old test
     pub slots : slots_within new ≡ slots_within old + 1
+    pub copies : LeavesCopies old new
 
   module _ (job : SavedValue S) (frame : FrameValue) (old new : PagedValue S) (saved : SavedAway job frame old new) where
     away_to : saved.page.1.1.page'.place ≡ Away (copy_of job)
@@ -200,6 +240,7 @@ module _ {S : Type 0} where
       savings = λ test. let moved : savings_among new test + cond (test job.vpn) 1 0 ≡ savings_among old test + 0 = moved_savings (Frees job frame) old new job.vpn saved.page.1.1 _ _ saved.page.1.1.how.was away_to saved.page.1.0 test in omega (arith, moved);
       frames = λ test. let moved : frames_among new test + cond (test frame.number) 1 0 ≡ frames_among old test + 0 = moved_frames (Frees job frame) old new job.vpn saved.page.1.1 _ _ saved.page.1.1.how.was away_to saved.page.1.0 test in omega (arith, moved);
       slots = let moved : slots_within new + 0 ≡ slots_within old + 1 = moved_slots (Frees job frame) old new job.vpn saved.page.1.1 _ _ saved.page.1.1.how.was away_to saved.page.1.0 in omega (arith, moved);
+      copies = moved_copies (Frees job frame) old new job.vpn saved.page.1.1 (same_bits job.vpn old.tables new.tables (ap (λ (m : PagedValue S). m.tables) saved.stays)) _ _ saved.page.1.1.how.was away_to refl;
     }
 
   -- it failed: its page is leaving again, in its frame, which shows the failure, and has the slot of the save
@@ -217,6 +258,7 @@ module _ {S : Type 0} where
     pub savings : (test : ℕ → Bool) → savings_among new test + cond (test job.vpn) 1 0 ≡ savings_among old test
     pub frames : (test : ℕ → Bool) → frames_among new test ≡ frames_among old test
     pub slots : slots_within new ≡ slots_within old + 1
+    pub copies : LeavesCopies old new
 
   module _ (shows : FrameValue → Type 0) (job : SavedValue S) (old new : PagedValue S) (leaves : LeavesAgain shows job old new) where
     abbrev failed_frame : FrameValue
@@ -240,6 +282,7 @@ module _ {S : Type 0} where
       savings = λ test. let moved : savings_among new test + cond (test job.vpn) 1 0 ≡ savings_among old test + 0 = moved_savings (IsUnsaved shows job) old new job.vpn leaves.page.1.1 _ _ leaves.page.1.1.how.was again_to leaves.page.1.0 test in omega (arith, moved);
       frames = λ test. let moved : frames_among new test + cond (test failed_frame.number) 1 0 ≡ frames_among old test + cond (test failed_frame.number) 1 0 = moved_frames (IsUnsaved shows job) old new job.vpn leaves.page.1.1 _ _ leaves.page.1.1.how.was again_to leaves.page.1.0 test in omega (arith, moved);
       slots = let moved : slots_within new + 0 ≡ slots_within old + 1 = moved_slots (IsUnsaved shows job) old new job.vpn leaves.page.1.1 _ _ leaves.page.1.1.how.was again_to leaves.page.1.0 in omega (arith, moved);
+      copies = moved_copies (IsUnsaved shows job) old new job.vpn leaves.page.1.1 (same_bits job.vpn old.tables new.tables (ap (λ (m : PagedValue S). m.tables) leaves.stays)) _ _ leaves.page.1.1.how.was again_to refl;
     }
 
   -- ---- whether a save is out

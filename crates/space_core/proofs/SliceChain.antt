@@ -8,6 +8,7 @@ use Rattle.flat_machine.specs.Process.{Process, is_live, may_step, flat_run}
 use Rattle.flat_machine.specs.RunLaws.{flat_run_none, flat_run_append}
 use Rattle.flat_machine.specs.Schedule.{written_out, room}
 use Rattle.flat_machine.specs.StepLaws.{both, has_no_ending}
+use Rattle.paged_memory.specs.CopiesLaws.{copies_itself, copies_on}
 use Rattle.paged_memory.specs.HartMemory.{MarksSince}
 use Rattle.paged_memory.specs.Paged.{PagedValue}
 use Rattle.space_core.specs.declared.progress.Slice.{Slice}
@@ -163,6 +164,7 @@ module _ {S : Type 0} (held : S → List ℕ) (honest : Type 0) (hart : ℕ) whe
     tabled = λ page small. second.tabled page small ∙ first.tabled page small;
     used = λ page small is. second.used page small (first.used page small is);
     changed = λ page small is. second.changed page small (first.changed page small is);
+    copies = copies_on old.memory between.memory new.memory first.copies second.copies;
     harts = second.harts;
     caches = caches_then why old between new first second.caches;
   }
@@ -199,6 +201,7 @@ module _ {S : Type 0} (held : S → List ℕ) (honest : Type 0) (hart : ℕ) whe
       tabled = λ page small. refl;
       used = λ page small was. was;
       changed = λ page small was. was;
+      copies = copies_itself space.memory;
       harts = is.cached;
       caches = ((λ h other. refl), record { held = λ page was. inr was; goes = goes_itself_in hart space.memory });
     };

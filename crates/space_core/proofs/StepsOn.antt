@@ -16,6 +16,7 @@ use Rattle.flat_machine.specs.Schedule.{written_out, room}
 use Rattle.flat_machine.specs.StepLaws.{started}
 use Rattle.flat_machine.specs.TurnsLaws.{one_more}
 use Rattle.paged_memory.specs.Coheres.{Coheres}
+use Rattle.paged_memory.specs.Copies.{KeepsCopies}
 use Rattle.paged_memory.specs.HartMemory.{MarksSince}
 use Rattle.paged_memory.specs.HartMemoryLaws.{access_itself}
 use Rattle.paged_memory.specs.Moving.{OnlyCaches, SameTablesIn}
@@ -217,6 +218,7 @@ module _ {S : Type 0} (held : S → List ℕ) (honest : Type 0) (hart : ℕ) whe
           tabled = subst (λ (m : PagedValue S). SameTablesIn old.memory m) (sym only) ends.kept.tabled;
           used = λ page small is. subst (λ (m : PagedValue S). is_used_in m page ≡ true) (sym only) (ends.kept.used page small is);
           changed = λ page small is. subst (λ (m : PagedValue S). is_dirty_in m page ≡ true) (sym only) (ends.kept.changed page small is);
+          copies = subst (λ (m : PagedValue S). KeepsCopies old.memory m) (sym only) ends.kept.copies;
           harts = cached;
           caches = settled why hart old.memory after new ends.kept (caches_marks after new only) settles;
         };

@@ -6,6 +6,7 @@ use Rattle.space_core.specs.declared.progress.SliceStop.{SliceStop}
 use Rattle.space_core.specs.declared.progress.SliceStop.TheVariants.{Budget, Absent, Yield, HartDone, Ended, NoHart, ScheduleFull, NoMemory}
 use Rattle.space_core.specs.RunningValue.{with_memory}
 use Rattle.space_core.specs.StandsFor.{SpaceValue}
+use Rattle.paged_memory.specs.Copies.{KeepsCopies}
 use Rattle.paged_memory.specs.Moving.{SameTablesIn}
 use Rattle.paged_memory.specs.Using.{GoesOnIn, HasIn, HoldsNone, KeepsIn, SameCache, holds_in}
 use Rattle.paged_memory.specs.Whole.{is_used_in, is_dirty_in, harts_in}
@@ -48,7 +49,8 @@ LeavesCaches ScheduleFull hart old new = SettlesCaches ScheduleFull hart old new
 LeavesCaches NoMemory hart old new = SettlesCaches NoMemory hart old new
 
 -- what a slice keeps: the image and the input; the pages, but for the bytes in their frames and pages of zeros that were
--- mapped; which pages have a table; no page's A or D falls; and each hart has its cache
+-- mapped; which pages have a table; no page's A or D falls; a copy of a page that is out and stood stands, unless the page's D tells
+-- of a store; and each hart has its cache
 pub record KeepsSpace {S : Type 0} (hart : ℕ) (stop : SliceStop) (old new : SpaceValue S) : Type 0 where
   pub image : new.image ≡ old.image
   pub input : new.input ≡ old.input
@@ -57,5 +59,6 @@ pub record KeepsSpace {S : Type 0} (hart : ℕ) (stop : SliceStop) (old new : Sp
   pub tabled : SameTablesIn old.memory new.memory
   pub used : (page : ℕ) → page < 2 ^ 20 → is_used_in old.memory page ≡ true → is_used_in new.memory page ≡ true
   pub changed : (page : ℕ) → page < 2 ^ 20 → is_dirty_in old.memory page ≡ true → is_dirty_in new.memory page ≡ true
+  pub copies : KeepsCopies old.memory new.memory
   pub harts : harts_in new.memory ≡ length new.running.harts
   pub caches : LeavesCaches stop hart old.memory new.memory

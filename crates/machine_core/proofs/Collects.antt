@@ -237,6 +237,7 @@ module _ {S : Type 0} where
         comes_to = looked_to core core' key.process looks.process looks.process' machine found is_set key.vpn looked answer looks.how own kept is;
         memory = looks.memory;
         processes = is_set;
+        stays = refl;
       }
 
       pub collected_told : (old : CoreValue S) → core ≡ old → CollectsOnce held honest key old core' answer

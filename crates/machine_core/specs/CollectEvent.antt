@@ -43,6 +43,7 @@ module _ {S : Type 0} where
     pub comes_to : CollectsTo key.vpn old new process process' answer
     pub memory : honest → memory_of held process'.space.memory ≡ memory_of held process.space.memory
     pub processes : new.processes ≡ slice_set old.processes key.process process'
+    pub stays : new ≡ record old { pager = new.pager; slots = new.slots; processes = new.processes; jobs = new.jobs }
 
   -- ---- the steps of the event
 

@@ -29,32 +29,12 @@ has_run reply.Ran = true
 has_run reply.Yielded = true
 has_run reply.HartDone = true
 has_run reply.Ended = true
-has_run (reply.Absent page) = false
-has_run reply.ScheduleFull = false
-has_run reply.Noticed = false
-has_run (reply.Asked key used) = false
-has_run (reply.Victim key) = false
-has_run reply.NotYet = false
-has_run reply.Freed = false
-has_run reply.Dirty = false
-has_run reply.NoSlot = false
-has_run reply.Device = false
-has_run reply.Damaged = false
-has_run reply.Mapped = false
-has_run reply.Killed = false
-has_run reply.Purged = false
-has_run (reply.Refused refusal) = false
+has_run _ = false
 
 -- the hart that an event adds to the recorded order of a process: that of a step of this process which ran, and none else
 abbrev pub adds : ℕ → Event → Reply → List ℕ
 adds number (event.Step process hart) answer = if has_run answer && (number == process) then hart ∷ [] else []
-adds number (event.Notice process hart) answer = []
-adds number event.Sweep answer = []
-adds number (event.Collect key) answer = []
-adds number (event.Saved key) answer = []
-adds number (event.PageIn key) answer = []
-adds number (event.Kill process cause) answer = []
-adds number (event.Purge process) answer = []
+adds number _ answer = []
 
 -- the harts of a process's steps that ran, in order
 unfoldable pub order_of : ℕ → List Event → List Reply → List ℕ

@@ -12,7 +12,7 @@ use Rattle.machine_core.specs.MachineRun.{RefusesEvent}
 use Rattle.machine_sides.specs.Sides.{ProcessSideValue}
 use Rattle.machine_core.specs.declared.error.EventRefusal.{EventRefusal}
 use Rattle.machine_core.specs.declared.event.Event.{Event}
-use Rattle.machine_core.specs.declared.event.Event.TheVariants.{Step, Notice, Sweep, Collect, Saved, PageIn, Kill, Purge}
+use Rattle.machine_core.specs.declared.event.Event.TheVariants.{Step}
 use Rattle.machine_core.specs.declared.event.Reply.{Reply}
 use Rattle.machine_core.specs.declared.event.Reply.TheVariants.{Refused}
 use Rattle.machine_core.specs.declared.event.Reply.TheVariants as reply
@@ -20,13 +20,7 @@ use Rattle.space_core.specs.StandsFor.{SpaceValue}
 
 refused_adds : (event : Event) (number : ℕ) (refusal : EventRefusal) → adds number event (Refused refusal) ≡ []
 refused_adds (Step process hart) number refusal = refl
-refused_adds (Notice process hart) number refusal = refl
-refused_adds Sweep number refusal = refl
-refused_adds (Collect key) number refusal = refl
-refused_adds (Saved key) number refusal = refl
-refused_adds (PageIn key) number refusal = refl
-refused_adds (Kill process cause) number refusal = refl
-refused_adds (Purge process) number refusal = refl
+refused_adds _ number refusal = refl
 
 module _ {S : Type 0} where
   -- the image, the input and the recorded order stay

@@ -12,7 +12,7 @@ use Rattle.machine_core.specs.Headline.{adds, has_run, GoesOn, Remains}
 use Rattle.machine_core.specs.Machine.{CoreValue}
 use Rattle.machine_core.specs.declared.error.EventRefusal.{EventRefusal}
 use Rattle.machine_core.specs.declared.event.Event.{Event}
-use Rattle.machine_core.specs.declared.event.Event.TheVariants.{Step, Notice, Sweep, Collect, Saved, PageIn, Kill, Purge}
+use Rattle.machine_core.specs.declared.event.Event.TheVariants.{Step}
 use Rattle.machine_core.specs.declared.event.Reply.{Reply}
 use Rattle.machine_core.specs.declared.event.Reply.TheVariants as reply
 use Rattle.serial_driver.specs.Serving.{Serves}
@@ -40,13 +40,7 @@ none_of old new e = cc
 
 refused_quiet : (event : Event) (number : ℕ) (why : EventRefusal) → adds number event (reply.Refused why) ≡ []
 refused_quiet (Step process hart) number why = refl
-refused_quiet (Notice process hart) number why = refl
-refused_quiet Sweep number why = refl
-refused_quiet (Collect key) number why = refl
-refused_quiet (Saved key) number why = refl
-refused_quiet (PageIn key) number why = refl
-refused_quiet (Kill process cause) number why = refl
-refused_quiet (Purge process) number why = refl
+refused_quiet _ number why = refl
 
 module _ {S : Type 0} where
   goes_then : (first second : List ℕ) (old between new : SpaceValue S) → GoesOn first old between → GoesOn second between new → GoesOn (first ++ second) old new

@@ -57,8 +57,7 @@ impl Named {
 fn key_in_event(event: Event) -> Option<Key> {
     match event {
         Event::Collect(key) | Event::Saved(key) | Event::PageIn(key) => Some(key),
-        Event::Step { .. } | Event::Notice { .. } | Event::Sweep => None,
-        Event::Kill { .. } | Event::Purge { .. } => None,
+        _ => None,
     }
 }
 

@@ -9,7 +9,7 @@ use Rattle.machine_core.specs.OrderLaws.{still_remains}
 use Rattle.machine_core.specs.declared.error.EventRefusal.{EventRefusal}
 use Rattle.machine_core.specs.declared.error.EventRefusal.TheVariants as refusal
 use Rattle.machine_core.specs.declared.event.Event.{Event}
-use Rattle.machine_core.specs.declared.event.Event.TheVariants.{Step, Notice, Sweep, Collect, Saved, PageIn, Kill, Purge}
+use Rattle.machine_core.specs.declared.event.Event.TheVariants.{Step}
 use Rattle.machine_core.specs.declared.event.Reply.{Reply}
 use Rattle.machine_core.specs.declared.event.Reply.TheVariants as reply
 use Rattle.machine_sides.specs.Sides.{ProcessSideValue}
@@ -39,13 +39,7 @@ step_quiet process hart number answer h = rw h refl
 
 paging_quiet : (event : Event) (answer : Reply) (number : ℕ) → is_paging event ≡ true → adds number event answer ≡ []
 paging_quiet (Step process hart) answer number h = cc
-paging_quiet (Notice process hart) answer number h = refl
-paging_quiet Sweep answer number h = refl
-paging_quiet (Collect key) answer number h = refl
-paging_quiet (Saved key) answer number h = refl
-paging_quiet (PageIn key) answer number h = refl
-paging_quiet (Kill process cause) answer number h = cc
-paging_quiet (Purge process) answer number h = cc
+paging_quiet _ answer number h = refl
 
 module _ {S : Type 0} where
   quiet : (number : ℕ) (added : List ℕ) (new : List (ProcessSideValue S)) (side : ProcessSideValue S) → added ≡ [] → Remains number added new side → Remains number [] new side

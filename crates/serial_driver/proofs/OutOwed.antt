@@ -29,6 +29,7 @@ use Rattle.machine_core.specs.SavingOut.{saved_refusal, saving_reason}
 use Rattle.machine_core.specs.TotalLaws.{total_at}
 use Rattle.serial_driver.specs.Limit.{DoesSave, PlaysUpTo, SavesNone}
 use Rattle.serial_driver.specs.Owing.{Duty, Pays, ArePaid, collect_owes, duty_after, duty_with, is_damaged, is_device, is_dirty, is_full, is_going_on, is_out_of_memory, load_owes, most_load_faults, next_owed, no_duty, owed_save, save_owes, step_owes, stop_owes}
+use Rattle.serial_driver.specs.Turning.{EndsProcess, IsInTurn}
 
 -- ---- what is owed but a save
 
@@ -163,49 +164,55 @@ module _ {S : Type 0} (held : S → List ℕ) (honest : Type 0) (failures : S �
   collected_out key old new process process' answer number none (no_memory how jobs told) =
       out_none _ old.jobs new.jobs (no_save_collected key answer (ap is_dirty told)) none jobs
 
-  -- where none is out, one is after a look at a changed page alone
-  quiet : (event : Event) (answer : Reply) (old new : CoreValue S) (duty : Duty) → Applies held honest failures event old new answer → IsFaithful held honest old → old.jobs ≡ []
+  -- where a process is ended or gives back what it has, none is out still
+  quiet_end : (event : Event) (answer : Reply) (old new : CoreValue S) (duty : Duty) → EndsProcess event → Applies held honest failures event old new answer → old.jobs ≡ []
       → AreOut (owed_save (duty_with event answer duty).owed) new.jobs
-  quiet (Step process hart) answer old new duty applies faithful none =
-      elim applies.served [
-        | inl refuses ↦ out_none _ old.jobs new.jobs (no_save_stepped process answer) none (ap (λ (c : CoreValue S). c.jobs) refuses.stays)
-        | inr steps ↦ out_none _ old.jobs new.jobs (no_save_stepped process answer) none (ap (λ (c : CoreValue S). c.jobs) steps.stays)
-      ]
-  quiet (Notice process hart) answer old new duty applies faithful none =
-      elim applies.served [
-        | inl refuses ↦ out_none _ old.jobs new.jobs refl none (ap (λ (c : CoreValue S). c.jobs) refuses.stays)
-        | inr notices ↦ out_none _ old.jobs new.jobs refl none (ap (λ (c : CoreValue S). c.jobs) notices.stays)
-      ]
-  quiet Sweep answer old new duty applies faithful none =
-      elim applies.served [
-        | inl refuses ↦ out_none _ old.jobs new.jobs refl none (ap (λ (c : CoreValue S). c.jobs) refuses.stays)
-        | inr sweeps ↦ out_none _ old.jobs new.jobs refl none (ap (λ (c : CoreValue S). c.jobs) sweeps.stays)
-      ]
-  quiet (Collect key) answer old new duty applies faithful none =
-      elim applies.served [
-        | inl refuses ↦ out_none _ old.jobs new.jobs (no_save_collected key answer (ap is_dirty refuses.reply_is)) none (ap (λ (c : CoreValue S). c.jobs) refuses.stays)
-        | inr collects ↦ collected_out key old new collects.process collects.process' answer (faithful.machine.numbered key.process collects.process collects.found) none collects.comes_to
-      ]
-  quiet (Saved key) answer old new duty applies faithful none =
-      elim applies.served [
-        | inl refuses ↦ out_none _ old.jobs new.jobs (no_save_saved key.process answer) none (ap (λ (c : CoreValue S). c.jobs) refuses.stays)
-        | inr saves ↦ absurd (none_taken saves.makes.job old.jobs new.jobs saves.makes.taken none)
-      ]
-  quiet (PageIn key) answer old new duty applies faithful none =
-      elim applies.served [
-        | inl refuses ↦ out_none _ old.jobs new.jobs (no_save_loaded duty.faults key.process answer) none (ap (λ (c : CoreValue S). c.jobs) refuses.stays)
-        | inr pages ↦ out_none _ old.jobs new.jobs (no_save_loaded duty.faults key.process answer) none (ap (λ (c : CoreValue S). c.jobs) pages.stays)
-      ]
-  quiet (Kill process why) answer old new duty applies faithful none =
+  quiet_end (Kill process why) answer old new duty ends applies none =
       elim applies.served [
         | inl refuses ↦ out_none _ old.jobs new.jobs refl none (ap (λ (c : CoreValue S). c.jobs) refuses.stays)
         | inr kills ↦ out_none _ old.jobs new.jobs refl none (ap (λ (c : CoreValue S). c.jobs) kills.stays)
       ]
-  quiet (Purge process) answer old new duty applies faithful none =
+  quiet_end (Purge process) answer old new duty ends applies none =
       elim applies.served [
         | inl refuses ↦ out_none _ old.jobs new.jobs refl none (ap (λ (c : CoreValue S). c.jobs) refuses.stays)
         | inr purges ↦ out_none _ old.jobs new.jobs refl none (ap (λ (c : CoreValue S). c.jobs) purges.stays)
       ]
+  quiet_end _ answer old new duty ends applies none = absurd ends
+
+  -- where none is out, one is after a look at a changed page alone
+  quiet : (event : Event) (answer : Reply) (old new : CoreValue S) (duty : Duty) → Applies held honest failures event old new answer → IsFaithful held honest old → IsInTurn duty.turn event → old.jobs ≡ []
+      → AreOut (owed_save (duty_with event answer duty).owed) new.jobs
+  quiet (Step process hart) answer old new duty applies faithful in_turn none =
+      elim applies.served [
+        | inl refuses ↦ out_none _ old.jobs new.jobs (no_save_stepped process answer) none (ap (λ (c : CoreValue S). c.jobs) refuses.stays)
+        | inr steps ↦ out_none _ old.jobs new.jobs (no_save_stepped process answer) none (ap (λ (c : CoreValue S). c.jobs) steps.stays)
+      ]
+  quiet (Notice process hart) answer old new duty applies faithful in_turn none =
+      elim applies.served [
+        | inl refuses ↦ out_none _ old.jobs new.jobs refl none (ap (λ (c : CoreValue S). c.jobs) refuses.stays)
+        | inr notices ↦ out_none _ old.jobs new.jobs refl none (ap (λ (c : CoreValue S). c.jobs) notices.stays)
+      ]
+  quiet Sweep answer old new duty applies faithful in_turn none =
+      elim applies.served [
+        | inl refuses ↦ out_none _ old.jobs new.jobs refl none (ap (λ (c : CoreValue S). c.jobs) refuses.stays)
+        | inr sweeps ↦ out_none _ old.jobs new.jobs refl none (ap (λ (c : CoreValue S). c.jobs) sweeps.stays)
+      ]
+  quiet (Collect key) answer old new duty applies faithful in_turn none =
+      elim applies.served [
+        | inl refuses ↦ out_none _ old.jobs new.jobs (no_save_collected key answer (ap is_dirty refuses.reply_is)) none (ap (λ (c : CoreValue S). c.jobs) refuses.stays)
+        | inr collects ↦ collected_out key old new collects.process collects.process' answer (faithful.machine.numbered key.process collects.process collects.found) none collects.comes_to
+      ]
+  quiet (Saved key) answer old new duty applies faithful in_turn none =
+      elim applies.served [
+        | inl refuses ↦ out_none _ old.jobs new.jobs (no_save_saved key.process answer) none (ap (λ (c : CoreValue S). c.jobs) refuses.stays)
+        | inr saves ↦ absurd (none_taken saves.makes.job old.jobs new.jobs saves.makes.taken none)
+      ]
+  quiet (PageIn key) answer old new duty applies faithful in_turn none =
+      elim applies.served [
+        | inl refuses ↦ out_none _ old.jobs new.jobs (no_save_loaded duty.faults key.process answer) none (ap (λ (c : CoreValue S). c.jobs) refuses.stays)
+        | inr pages ↦ out_none _ old.jobs new.jobs (no_save_loaded duty.faults key.process answer) none (ap (λ (c : CoreValue S). c.jobs) pages.stays)
+      ]
+  quiet event answer old new duty applies faithful in_turn none = quiet_end event answer old new duty in_turn applies none
 
   -- the save that is out is done by its event
   done : (key : Key) (answer : Reply) (old new : CoreValue S) → Applies held honest failures (Saved key) old new answer → IsFaithful held honest old → AreOut (Some key) old.jobs → new.jobs ≡ []
@@ -224,22 +231,16 @@ module _ {S : Type 0} (held : S → List ℕ) (honest : Type 0) (failures : S �
       some_none (Some x) why a b = cc
 
   out_after : (event : Event) (answer : Reply) (old new : CoreValue S) (duty : Duty) (spent : Option ℕ) → Applies held honest failures event old new answer → IsFaithful held honest old
-      → AreOut (owed_save duty.owed) old.jobs → Pays (next_owed duty.owed spent) event → AreOut (owed_save (duty_with event answer duty).owed) new.jobs
-  out_after event answer old new duty spent applies faithful out pays = by_owed duty.owed out pays
+      → AreOut (owed_save duty.owed) old.jobs → Pays (next_owed duty.owed spent) event → IsInTurn duty.turn event → AreOut (owed_save (duty_with event answer duty).owed) new.jobs
+  out_after event answer old new duty spent applies faithful out pays in_turn = by_owed duty.owed out pays
     where
       by_owed : (owed : Option Event) → AreOut (owed_save owed) old.jobs → Pays (next_owed owed spent) event → AreOut (owed_save (duty_with event answer duty).owed) new.jobs
-      by_owed None out pays = quiet event answer old new duty applies faithful out
-      by_owed (Some (Step p h)) out pays = quiet event answer old new duty applies faithful out
-      by_owed (Some (Notice p h)) out pays = quiet event answer old new duty applies faithful out
-      by_owed (Some Sweep) out pays = quiet event answer old new duty applies faithful out
-      by_owed (Some (Collect key)) out pays = quiet event answer old new duty applies faithful out
+      by_owed None out pays = quiet event answer old new duty applies faithful in_turn out
       by_owed (Some (Saved key)) out pays =
           let saves = subst (λ e. Applies held honest failures e old new answer) pays applies in
           subst (λ e. AreOut (owed_save (duty_with e answer duty).owed) new.jobs) (sym pays)
           (out_none _ [] new.jobs (no_save_saved key.process answer) refl (done key answer old new saves faithful out))
-      by_owed (Some (PageIn key)) out pays = quiet event answer old new duty applies faithful out
-      by_owed (Some (Kill p why)) out pays = quiet event answer old new duty applies faithful out
-      by_owed (Some (Purge p)) out pays = quiet event answer old new duty applies faithful out
+      by_owed (Some _) out pays = quiet event answer old new duty applies faithful in_turn out
 
   -- ---- a run of events
 
@@ -252,7 +253,7 @@ module _ {S : Type 0} (held : S → List ℕ) (honest : Type 0) (failures : S �
   played_out [] (r ∷ rs) old new most tried duty spent run paid faithful out = absurd run
   played_out (e ∷ es) [] old new most tried duty spent run paid faithful out = absurd run
   played_out (e ∷ es) (r ∷ rs) old new most tried duty spent run paid faithful out =
-      played_out es rs run.0 new most _ (duty_with e r duty) _ run.1.1 paid.2 run.1.0.faithful (out_after e r old run.0 duty spent run.1.0 faithful out paid.0)
+      played_out es rs run.0 new most _ (duty_with e r duty) _ run.1.1 paid.2 run.1.0.faithful (out_after e r old run.0 duty spent run.1.0 faithful out paid.0 paid.1)
 
   saved_out : (unsaved : Option Key) (old new : CoreValue S) → DoesSave held honest failures unsaved old new → IsFaithful held honest old → AreOut unsaved old.jobs → SavesNone new
   saved_out None old new is faithful out = subst (λ (c : CoreValue S). SavesNone c) (sym is) (none_saving old faithful.machine out)

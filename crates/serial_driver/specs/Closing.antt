@@ -3,7 +3,7 @@ use Rattle.std.specs.Prelude.{ℕ, zero, suc, Bool, true, false, is_none, List, 
 use Rattle.flat_machine.specs.declared.end.KillCause.{KillCause}
 use Rattle.flat_machine.specs.declared.end.KillCause.TheVariants as cause
 use Rattle.machine_core.specs.declared.event.Event.{Event}
-use Rattle.machine_core.specs.declared.event.Event.TheVariants.{Step, Notice, Sweep, Collect, Saved, PageIn, Kill, Purge}
+use Rattle.machine_core.specs.declared.event.Event.TheVariants.{Kill, Purge}
 use Rattle.machine_sides.specs.Sides.{ProcessSideValue}
 
 -- whether a process is ended because a limit was reached
@@ -17,14 +17,8 @@ is_limit cause.Limit = true
 
 -- whether an event ends a process so
 abbrev pub is_limit_kill : Event → Bool
-is_limit_kill (Step process hart) = false
-is_limit_kill (Notice process hart) = false
-is_limit_kill Sweep = false
-is_limit_kill (Collect key) = false
-is_limit_kill (Saved key) = false
-is_limit_kill (PageIn key) = false
 is_limit_kill (Kill process cause) = is_limit cause
-is_limit_kill (Purge process) = false
+is_limit_kill _ = false
 
 module _ {S : Type 0} where
   -- whether a process is there and has not ended

@@ -95,6 +95,12 @@ load_owes faults process answer =
 abbrev pub load_faults : Reply → ℕ → ℕ
 load_faults answer faults = if is_device answer then min (faults + 1) most_load_faults else (if is_mapped answer then 0 else faults)
 
+-- A process has given back what it has, and the hart that has the slice is of it, or waits on. By an event that is no part of a run the
+-- duty stays.
+abbrev pub duty_purged : Event → Duty → Duty
+duty_purged (Purge process) duty = record { faults = duty.faults; owed = None; turn = purged_in process duty.turn }
+duty_purged _ duty = duty
+
 -- what is owed after an event with its reply: a process that was ended gives back what it has
 abbrev pub duty_with : Event → Reply → Duty → Duty
 duty_with (Step process hart) answer duty =
@@ -106,7 +112,7 @@ duty_with (Saved key) answer duty = record { faults = duty.faults; owed = save_o
 duty_with (PageIn key) answer duty =
     record { faults = load_faults answer duty.faults; owed = load_owes duty.faults key.process answer; turn = paged_in (is_mapped answer) duty.turn }
 duty_with (Kill process cause) answer duty = record { faults = duty.faults; owed = Some (Purge process); turn = waiting duty.turn }
-duty_with (Purge process) answer duty = record { faults = duty.faults; owed = None; turn = purged_in process duty.turn }
+duty_with event answer duty = duty_purged event duty
 
 -- the same after events one after another
 unfoldable pub duty_after : List Event → List Reply → Duty → Duty

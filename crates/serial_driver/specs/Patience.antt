@@ -1,7 +1,7 @@
 -- How often pages of a process were tried for since it last completed an instruction, and for which process that was once too often.
 use Rattle.std.specs.Prelude.{◌≡◌, ℕ, ◌+◌, ◌<◌, ◌==◌, ◌||◌, min, nat_le, not, Bool, true, false, List, [], ◌∷◌, Option, Some, None, slice_index_or, if◌then◌else◌}
 use Rattle.machine_core.specs.declared.event.Event.{Event}
-use Rattle.machine_core.specs.declared.event.Event.TheVariants.{Step, Notice, Sweep, Collect, Saved, PageIn, Kill, Purge}
+use Rattle.machine_core.specs.declared.event.Event.TheVariants.{Step, Collect, Saved, PageIn}
 use Rattle.machine_core.specs.declared.event.Reply.{Reply}
 use Rattle.machine_core.specs.declared.event.Reply.TheVariants as reply
 use Rattle.machine_core.specs.Headline.{has_run}
@@ -9,25 +9,9 @@ use Rattle.serial_driver.specs.declared.patience.Patience.{Patience}
 
 -- whether a page failed to leave its frame: it found no slot, or the device failed
 abbrev pub has_failed : Reply → Bool
-has_failed reply.Ran = false
-has_failed reply.Yielded = false
-has_failed reply.HartDone = false
-has_failed reply.Ended = false
-has_failed (reply.Absent page) = false
-has_failed reply.ScheduleFull = false
-has_failed reply.Noticed = false
-has_failed (reply.Asked key used) = false
-has_failed (reply.Victim key) = false
-has_failed reply.NotYet = false
-has_failed reply.Freed = false
-has_failed reply.Dirty = false
 has_failed reply.NoSlot = true
 has_failed reply.Device = true
-has_failed reply.Damaged = false
-has_failed reply.Mapped = false
-has_failed reply.Killed = false
-has_failed reply.Purged = false
-has_failed (reply.Refused refusal) = false
+has_failed _ = false
 
 -- whether an event was served, whatever came of it
 abbrev pub is_served : Reply → Bool
@@ -36,14 +20,10 @@ is_served _ = true
 
 -- the process for whose page an event was a try: it was to come in, or it failed to leave
 abbrev pub try_of : Event → Reply → Option ℕ
-try_of (Step process hart) answer = None
-try_of (Notice process hart) answer = None
-try_of Sweep answer = None
 try_of (Collect key) answer = if has_failed answer then Some key.process else None
 try_of (Saved key) answer = if has_failed answer then Some key.process else None
 try_of (PageIn key) answer = if is_served answer then Some key.process else None
-try_of (Kill process cause) answer = None
-try_of (Purge process) answer = None
+try_of _ answer = None
 
 -- the process that completed an instruction
 abbrev pub run_of : Event → Reply → Option ℕ

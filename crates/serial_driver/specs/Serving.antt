@@ -2,7 +2,7 @@
 use Rattle.std.specs.Prelude.{◌≡◌, ◌⊎◌, ℕ, Bool, true, false, List, [], All, Option, Some, None, slice_get}
 use Rattle.machine_core.specs.declared.error.EventRefusal.TheVariants as refusal
 use Rattle.machine_core.specs.declared.event.Event.{Event}
-use Rattle.machine_core.specs.declared.event.Event.TheVariants.{Step, Notice, Sweep, Collect, Saved, PageIn, Kill, Purge}
+use Rattle.machine_core.specs.declared.event.Event.TheVariants.{Step, Notice, Sweep, Collect, Saved, PageIn}
 use Rattle.machine_core.specs.declared.event.Reply.{Reply}
 use Rattle.machine_core.specs.declared.event.Reply.TheVariants.{ScheduleFull, Refused}
 use Rattle.machine_core.specs.Applying.{Runs}
@@ -14,14 +14,12 @@ use Rattle.serial_driver.specs.declared.serving.Served.TheVariants as served
 
 -- whether an event brings pages in, or makes room for them
 abbrev pub is_paging : Event → Bool
-is_paging (Step process hart) = false
 is_paging (Notice process hart) = true
 is_paging Sweep = true
 is_paging (Collect key) = true
 is_paging (Saved key) = true
 is_paging (PageIn key) = true
-is_paging (Kill process cause) = false
-is_paging (Purge process) = false
+is_paging _ = false
 
 -- an event that serves a hart is its step, or brings pages in; so it ends no process, and purges none
 abbrev pub ServesHart : ℕ → ℕ → Event → Type 0

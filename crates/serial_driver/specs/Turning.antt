@@ -80,6 +80,12 @@ MayNotice Runs turn process hart = ⊥
 MayNotice Rests turn process hart = (process ≡ turn.process) × (hart ≡ turn.hart)
 MayNotice Waits turn process hart = ⊤
 
+-- a process may be ended, and may give back what it has, at any time; no other event is a part of a run
+abbrev pub EndsProcess : Event → Type 0
+EndsProcess (Kill process cause) = ⊤
+EndsProcess (Purge process) = ⊤
+EndsProcess _ = ⊥
+
 -- An event comes in turn: a hart runs till nothing is left of its slice, or till it yields, and drops its translations then; victims are
 -- sought while it waits, and a page comes in for its process.
 abbrev pub IsInTurn : Turn → Event → Type 0
@@ -89,5 +95,4 @@ IsInTurn turn Sweep = turn.phase ≡ Waits
 IsInTurn turn (Collect key) = turn.phase ≡ Waits
 IsInTurn turn (Saved key) = turn.phase ≡ Waits
 IsInTurn turn (PageIn key) = (turn.phase ≡ Waits) × (key.process ≡ turn.process)
-IsInTurn turn (Kill process cause) = ⊤
-IsInTurn turn (Purge process) = ⊤
+IsInTurn turn event = EndsProcess event

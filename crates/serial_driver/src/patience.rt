@@ -107,11 +107,7 @@ fn try_of(event: Event, reply: Reply) -> Option<u32>
         Event::Collect(key) => failed_of(key.process, reply),
         Event::Saved(key) => failed_of(key.process, reply),
         Event::PageIn(key) => served_of(key.process, reply),
-        Event::Step { .. } => None,
-        Event::Notice { .. } => None,
-        Event::Sweep => None,
-        Event::Kill { .. } => None,
-        Event::Purge { .. } => None,
+        _ => None,
     }
 }
 
@@ -143,13 +139,7 @@ fn run_of(event: Event, reply: Reply) -> Option<u32>
 {
     match event {
         Event::Step { process, .. } => { if has_run(reply) { Some(process) } else { None } }
-        Event::Notice { .. } => None,
-        Event::Sweep => None,
-        Event::Collect(_) => None,
-        Event::Saved(_) => None,
-        Event::PageIn(_) => None,
-        Event::Kill { .. } => None,
-        Event::Purge { .. } => None,
+        _ => None,
     }
 }
 

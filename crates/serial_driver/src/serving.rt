@@ -148,9 +148,7 @@ fn is_paging(event: Event) -> bool
         Event::Collect(_) => true,
         Event::Saved(_) => true,
         Event::PageIn(_) => true,
-        Event::Step { .. } => false,
-        Event::Kill { .. } => false,
-        Event::Purge { .. } => false,
+        _ => false,
     }
 }
 

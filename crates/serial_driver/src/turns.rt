@@ -4,7 +4,7 @@ ghost use Rattle.std.specs.Prelude.{◌≡◌, ◌<◌, ◌≤◌, ◌+◌, ◌-
 ghost use Rattle.serial_driver.specs.Endings.{HasEnded};
 ghost use Rattle.machine_core.specs.ManySteps.{steps_of, replies_of};
 ghost use Rattle.serial_driver.specs.Nexts.{IsNext, IsOrdinary};
-ghost use Rattle.serial_driver.specs.Owing.{no_duty, most_load_faults, duty_with, duty_after, owed_save, step_owes, step_faults, stop_owes, save_owes, collect_owes, load_owes, load_faults, next_owed, Duty, is_out_of_memory, is_no_memory, is_dirty, is_mapped};
+ghost use Rattle.serial_driver.specs.Owing.{no_duty, most_load_faults, duty_with, duty_after, duty_purged, owed_save, step_owes, step_faults, stop_owes, save_owes, collect_owes, load_owes, load_faults, next_owed, Duty, is_out_of_memory, is_no_memory, is_dirty, is_mapped};
 ghost use Rattle.serial_driver.specs.Turning.{IsInTurn, Runs, Waits, begun, noticed_in, paged_in, purged_in, ran_turn, step_turn, waiting};
 ghost use Rattle.serial_driver.specs.TurnsDuty.{cause_of, duty_of, phase_of, stage_owes, turn_of};
 ghost use Rattle.flat_machine.specs.declared.end.KillCause.TheVariants as cause;
@@ -157,7 +157,7 @@ impl Turns {
             Event::Saved(key) => self.after_save(key.process, reply),
             Event::PageIn(key) => self.after_page_in(key.process, reply),
             Event::Kill { process, .. } => self.purge(process),
-            Event::Purge { process } => self.after_purge(process),
+            _ => self.after_last(event),
         }
     }
 
@@ -449,6 +449,16 @@ impl Turns {
         } }
     {
         self.stage = Stage::Kill { process, failure };
+    }
+
+    /// A process is gone. Any other event is no part of a run.
+    fn after_last(&mut self, event: Event)
+        ensures { duty_of self.new ≡ duty_purged event (duty_of self.old) }
+    {
+        match event {
+            Event::Purge { process } => self.after_purge(process),
+            _ => {}
+        }
     }
 
     /// A process is gone: the hart that has the slice is of it, or waits on.

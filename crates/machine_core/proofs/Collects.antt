@@ -9,6 +9,7 @@ use Rattle.clock_policy.specs.declared.refusal.Refusal.TheVariants as list
 use Rattle.clock_policy.specs.AdmitLaws.{one_key}
 use Rattle.clock_policy.specs.Lawful.{Lawful}
 use Rattle.page_store.specs.JobValue.{JobValue}
+use Rattle.paged_memory.specs.CopiesToldLaws.{leaves_itself}
 use Rattle.paged_memory.specs.Stages.{is_leaving_stage, is_saving_stage}
 use Rattle.paged_memory.specs.StagesLaws.{leaving_framed, leaving_not_resident, leaving_not_saving}
 use Rattle.paged_memory.specs.Whole.{stage_in, frame_in}
@@ -22,7 +23,7 @@ use Rattle.machine_sides.specs.Collecting.{is_leaving_at, Looks, IsDropped, IsCo
 use Rattle.machine_core.specs.CollectEvent.{leaving_reason, collect_refusal, CollectsTo, not_yet, freed, dirty, no_slot, no_memory, CollectsOnce, LooksAt, IsOwn, jobs_after, looked_reply}
 use Rattle.machine_sides.specs.CollectLaws.{dropped_together, dropped_rest, copied_together, copied_savings, copied_slots, copied_now}
 use Rattle.machine_sides.specs.LookLaws.{same_sides}
-use Rattle.machine_core.specs.Machine.{CoreValue, IsMachine, IsSaveOut, jobs_where, total}
+use Rattle.machine_core.specs.Machine.{CoreValue, IsMachine, IsSaveOut, IsCopyOut, jobs_where, total}
 use Rattle.machine_core.specs.MachineRun.{of_process}
 use Rattle.machine_sides.specs.ReturnLaws.{returned_rest, listed_frames, back_together}
 use Rattle.machine_sides.specs.Sides.{PagerSideValue, ProcessSideValue}
@@ -31,7 +32,7 @@ use Rattle.machine_sides.specs.TogetherLaws.{LeavesRest}
 use Rattle.machine_sides.specs.Together.{Together, key_of}
 use Rattle.machine_core.proofs.Cores.{lent_back}
 use Rattle.machine_core.proofs.Counted.{HoldsFrame, frame_missing, job_fits, takes_back}
-use Rattle.machine_core.proofs.Kept.{Moves, moved_machine, out_stays}
+use Rattle.machine_core.proofs.Kept.{Moves, moved_machine, out_stays, copies_stay, copies_even}
 use Rattle.machine_core.specs.TotalLaws.{get_set_same}
 
 -- a refusal that can be no other is want of memory
@@ -62,8 +63,8 @@ module _ {S : Type 0} where
 
   module _ (core core' : CoreValue S) (p : ℕ) (q q' : ProcessSideValue S) (machine : IsMachine core) (found : slice_get core.processes p ≡ Some q) (processes : core'.processes ≡ slice_set core.processes p q') where
     -- where neither slots nor saves change
-    quiet_moves : Together core.pager.pager core'.pager.pager q.space q'.space → Lawful core'.pager.pager.list → core'.pager.pager.list.frames ≡ core'.pager.pager.size → LeavesRest q.space q'.space → core'.slots ≡ core.slots → core'.jobs ≡ core.jobs → Moves core core' p q q'
-    quiet_moves together lawful frames rest slots jobs = record {
+    quiet_moves : Together core.pager.pager core'.pager.pager q.space q'.space → Lawful core'.pager.pager.list → core'.pager.pager.list.frames ≡ core'.pager.pager.size → LeavesRest q.space q'.space → core'.slots ≡ core.slots → core'.jobs ≡ core.jobs → core'.copies ≡ core.copies → Moves core core' p q q'
+    quiet_moves together lawful frames rest slots jobs copies = record {
       found = found;
       processes = processes;
       together = together;
@@ -76,14 +77,20 @@ module _ {S : Type 0} where
       slotted =
           let free : length core'.slots.free ≡ length core.slots.free = ap (λ (s : PoolValue S). length s.free) slots in
           let same : length core'.jobs ≡ length core.jobs = ap length jobs in
+          let as_many : length core'.copies ≡ length core.copies = ap length copies in
           let a = rest.slots in
-          omega (arith, free, same, a);
+          omega (arith, free, same, as_many, a);
       slots = ap (λ (s : PoolValue S). s.size) slots;
       out = subst (λ l. All (IsSaveOut l) core'.jobs) (sym processes) (subst (All (IsSaveOut (slice_set core.processes p q'))) (sym jobs) (out_stays core.processes p q q' core.jobs found rest.stay machine.out));
+      copied = λ test.
+          let same : jobs_where test core'.copies ≡ jobs_where test core.copies = ap (jobs_where test) copies in
+          let a = copies_even q q' core.copies together.process rest.copies test in
+          omega (arith, same, a);
+      copies_out = subst (λ l. All (IsCopyOut l) core'.copies) (sym processes) (subst (All (IsCopyOut (slice_set core.processes p q'))) (sym copies) (copies_stay core.processes p q q' core.copies found rest.copies.stand machine.copies_out));
     }
 
     same_rest : q' ≡ q → LeavesRest q.space q'.space
-    same_rest same = subst (λ (r : ProcessSideValue S). LeavesRest q.space r.space) (sym same) (record { savings = λ test. refl; slots = refl; stay = λ number small is. (refl, refl) })
+    same_rest same = subst (λ (r : ProcessSideValue S). LeavesRest q.space r.space) (sym same) (record { savings = λ test. refl; slots = refl; stay = λ number small is. (refl, refl); copies = leaves_itself q.space.memory })
 
     lawful_still : core'.pager ≡ core.pager → Lawful core'.pager.pager.list
     lawful_still pager = subst (λ (s : PagerSideValue). Lawful s.pager.list) (sym pager) machine.lawful
@@ -91,27 +98,27 @@ module _ {S : Type 0} where
     frames_still : core'.pager ≡ core.pager → core'.pager.pager.list.frames ≡ core'.pager.pager.size
     frames_still pager = subst (λ (s : PagerSideValue). s.pager.list.frames ≡ s.pager.size) (sym pager) machine.frames
 
-    stays_moves : core'.pager ≡ core.pager → q' ≡ q → core'.slots ≡ core.slots → core'.jobs ≡ core.jobs → Moves core core' p q q'
-    stays_moves pager same slots jobs = quiet_moves (same_sides core.pager core'.pager q q' pager same) (lawful_still pager) (frames_still pager) (same_rest same) slots jobs
+    stays_moves : core'.pager ≡ core.pager → q' ≡ q → core'.slots ≡ core.slots → core'.jobs ≡ core.jobs → core'.copies ≡ core.copies → Moves core core' p q q'
+    stays_moves pager same slots jobs copies = quiet_moves (same_sides core.pager core'.pager q q' pager same) (lawful_still pager) (frames_still pager) (same_rest same) slots jobs copies
 
     module _ (vpn : ℕ) where
-      dropped_moves : IsDropped vpn core.pager core'.pager q q' core.slots core'.slots → core'.jobs ≡ core.jobs → Moves core core' p q q'
-      dropped_moves dropped jobs =
+      dropped_moves : IsDropped vpn core.pager core'.pager q q' core.slots core'.slots → core'.jobs ≡ core.jobs → core'.copies ≡ core.copies → Moves core core' p q q'
+      dropped_moves dropped jobs copies =
           let together = dropped_together vpn core.pager core'.pager q q' core.slots core'.slots dropped in
           quiet_moves together
           (subst (λ (s : PagerSideValue). Lawful s.pager.list) (sym dropped.frees.is) machine.lawful)
           (subst (λ (s : PagerSideValue). s.pager.list.frames ≡ s.pager.size) (sym dropped.frees.is) machine.frames)
-          (dropped_rest vpn dropped.frame q q' dropped.drops) dropped.slots_stay jobs
+          (dropped_rest vpn dropped.frame q q' dropped.drops) dropped.slots_stay jobs copies
 
-      returned_moves : LacksAndReturns vpn core.pager core'.pager q q' core.slots core'.slots → core'.jobs ≡ core.jobs → Moves core core' p q q'
-      returned_moves back jobs =
+      returned_moves : LacksAndReturns vpn core.pager core'.pager q q' core.slots core'.slots → core'.jobs ≡ core.jobs → core'.copies ≡ core.copies → Moves core core' p q q'
+      returned_moves back jobs copies =
           let together = back_together vpn core.pager core'.pager q q' back.returns in
           quiet_moves together back.returns.listed.lawful
           (listed_frames (key_of q.space.memory.process vpn) core.pager core'.pager back.returns.listed ∙ machine.frames ∙ sym together.size)
-          (returned_rest vpn q q' back.returns.mapped) back.slots_stay jobs
+          (returned_rest vpn q q' back.returns.mapped) back.slots_stay jobs copies
 
-      copied_moves : (job : JobValue S) → IsCopied vpn core.pager core'.pager q q' core.slots core'.slots job → core'.jobs ≡ core.jobs ++ job ∷ [] → Moves core core' p q q'
-      copied_moves job copied jobs =
+      copied_moves : (job : JobValue S) → IsCopied vpn core.pager core'.pager q q' core.slots core'.slots job → core'.jobs ≡ core.jobs ++ job ∷ [] → core'.copies ≡ core.copies → Moves core core' p q q'
+      copied_moves job copied jobs copies =
           let saving = copied.saving in
           let at = copied_now vpn job q q' core.slots core'.slots saving in
           let number : job.process ≡ p = saving.moves.process ∙ machine.numbered p q found in
@@ -138,21 +145,27 @@ module _ {S : Type 0} where
                 omega (arith, more, key, one);
             slotted =
                 let more : length core'.jobs ≡ length core.jobs + 1 = ap length jobs ∙ length-append core.jobs (job ∷ []) in
+                let as_many : length core'.copies ≡ length core.copies = ap length copies in
                 let one = copied_slots vpn job q q' core.slots core'.slots saving in
-                omega (arith, more, one);
+                omega (arith, more, as_many, one);
             slots = saving.size;
             out = subst (All (IsSaveOut core'.processes)) (sym jobs) (All-append (IsSaveOut core'.processes) core.jobs (job ∷ []) others (All-cons (IsSaveOut core'.processes) job [] out (All-nil _)));
+            copied = λ test.
+                let same : jobs_where test core'.copies ≡ jobs_where test core.copies = ap (jobs_where test) copies in
+                let a = copies_even q q' core.copies at.keeps.process at.copies test in
+                omega (arith, same, a);
+            copies_out = subst (λ l. All (IsCopyOut l) core'.copies) (sym processes) (subst (All (IsCopyOut (slice_set core.processes p q'))) (sym copies) (copies_stay core.processes p q q' core.copies found at.copies.stand machine.copies_out));
           }
 
       -- the machine stays one, whatever its own look comes to
-      pub looked_moves : {L : Type 0} (looked : Looked L S) → Looks vpn core.pager core'.pager q q' core.slots core'.slots looked → IsOwn looked → core'.jobs ≡ jobs_after looked core.jobs → Moves core core' p q q'
-      looked_moves NotLeaving how own jobs = absurd own
-      looked_moves NotYet how own jobs = stays_moves how.stays.pager_stays how.stays.process_stays how.stays.slots_stay jobs
-      looked_moves Freed how own jobs = dropped_moves how jobs
-      looked_moves (Dirty job) how own jobs = copied_moves job how jobs
-      looked_moves NoSlot how own jobs = returned_moves how jobs
-      looked_moves (NotRestored reason) how own jobs = stays_moves how.leaves.unlisted.stays how.leaves.stays how.slots_stay jobs
-      looked_moves (HandedBack frame) how own jobs = absurd own
+      pub looked_moves : {L : Type 0} (looked : Looked L S) → Looks vpn core.pager core'.pager q q' core.slots core'.slots looked → IsOwn looked → core'.jobs ≡ jobs_after looked core.jobs → core'.copies ≡ core.copies → Moves core core' p q q'
+      looked_moves NotLeaving how own jobs copies = absurd own
+      looked_moves NotYet how own jobs copies = stays_moves how.stays.pager_stays how.stays.process_stays how.stays.slots_stay jobs copies
+      looked_moves Freed how own jobs copies = dropped_moves how jobs copies
+      looked_moves (Dirty job) how own jobs copies = copied_moves job how jobs copies
+      looked_moves NoSlot how own jobs copies = returned_moves how jobs copies
+      looked_moves (NotRestored reason) how own jobs copies = stays_moves how.leaves.unlisted.stays how.leaves.stays how.slots_stay jobs copies
+      looked_moves (HandedBack frame) how own jobs copies = absurd own
 
       -- and what it comes to
       pub looked_to : {L : Type 0} (looked : Looked L S) (answer : Reply) → Looks vpn core.pager core'.pager q q' core.slots core'.slots looked → IsOwn looked → core'.jobs ≡ jobs_after looked core.jobs → answer ≡ looked_reply looked → CollectsTo vpn core core' q q' answer
@@ -192,11 +205,11 @@ module _ {S : Type 0} where
       by_answer true h = refl
       by_answer false h = cc
 
-  module _ (held : S → List ℕ) (honest : Type 0) (L : Type 0) (pager pager' : PagerSideValue) (slots slots' : PoolValue S) (jobs : List (JobValue S)) (items lent new : List (ProcessSideValue S)) (n : ℕ) (key : Key) (looked : Looked L S)
-      (machine : IsMachine (record { pager = pager; slots = slots; processes = items; jobs = jobs })) (allowed : collect_refusal key items ≡ None)
+  module _ (held : S → List ℕ) (honest : Type 0) (L : Type 0) (pager pager' : PagerSideValue) (slots slots' : PoolValue S) (jobs copies : List (JobValue S)) (items lent new : List (ProcessSideValue S)) (n : ℕ) (key : Key) (looked : Looked L S)
+      (machine : IsMachine (record { pager = pager; slots = slots; processes = items; jobs = jobs; copies = copies })) (allowed : collect_refusal key items ≡ None)
       (long : n ≡ length items) (same : lent ≡ items) (looks : LooksAt held honest key.process key.vpn pager pager' slots slots' lent new looked) where
     abbrev core : CoreValue S
-    core = record { pager = pager; slots = slots; processes = items; jobs = jobs }
+    core = record { pager = pager; slots = slots; processes = items; jobs = jobs; copies = copies }
 
     found : slice_get items key.process ≡ Some looks.process
     found = ap (λ l. slice_get l key.process) (sym same) ∙ looks.found
@@ -217,10 +230,10 @@ module _ {S : Type 0} where
 
     module _ (jobs' : List (JobValue S)) (answer : Reply) (kept : jobs' ≡ jobs_after looked jobs) (is : answer ≡ looked_reply looked) where
       abbrev core' : CoreValue S
-      core' = record { pager = pager'; slots = slots'; processes = take n (new ++ drop (length new) items); jobs = jobs' }
+      core' = record { pager = pager'; slots = slots'; processes = take n (new ++ drop (length new) items); jobs = jobs'; copies = copies }
 
       moves : Moves core core' key.process looks.process looks.process'
-      moves = looked_moves core core' key.process looks.process looks.process' machine found is_set key.vpn looked looks.how own kept
+      moves = looked_moves core core' key.process looks.process looks.process' machine found is_set key.vpn looked looks.how own kept refl
 
       pub collected_back : IsMachine core'
       collected_back = moved_machine core core' key.process looks.process looks.process' machine moves

@@ -35,7 +35,7 @@ use Rattle.machine_sides.specs.SweepLaws.{answers_together, answers_rest}
 use Rattle.machine_sides.specs.TogetherLaws.{alike_residents, alike_frames, alike_rest}
 use Rattle.machine_core.specs.declared.error.EventRefusal.{EventRefusal}
 use Rattle.machine_core.proofs.Finding.{Asked, HasResident, asked_process, bit_there}
-use Rattle.machine_core.proofs.Kept.{moved_machine, out_stays}
+use Rattle.machine_core.proofs.Kept.{moved_machine, out_stays, copies_stay, copies_even}
 
 -- a process that an event is not refused for is there
 pub is_there : {S : Type 0} (reason : ProcessSideValue S → Option EventRefusal) (processes : List (ProcessSideValue S)) (p : ℕ) → None ≡ of_process reason (slice_get processes p) → p < length processes
@@ -68,22 +68,24 @@ module _ {S : Type 0} where
         slotted = let a = alike.slots in omega (arith, a);
         slots = refl;
         out = out_stays core.processes p q q' core.jobs found alike.stay machine.out;
+        copied = copies_even q q' core.copies alike.process alike.copies;
+        copies_out = copies_stay core.processes p q q' core.copies found alike.copies.stand machine.copies_out;
       })
 
   -- the processes that were lent as a slice, of which one changed
   pub lent_machine : (by : ProcessSideValue S → ProcessSideValue S → Type 0) (alike : (q q' : ProcessSideValue S) → by q q' → CountsAlike q.space.memory q'.space.memory)
-      (pager : PagerSideValue) (slots : PoolValue S) (jobs : List (JobValue S)) (items lent new : List (ProcessSideValue S)) (n p : ℕ)
-      → IsMachine (record { pager = pager; slots = slots; processes = items; jobs = jobs }) → n ≡ length items → lent ≡ items → ChangesOne by p lent new
-      → IsMachine (record { pager = pager; slots = slots; processes = take n (new ++ drop (length new) items); jobs = jobs })
+      (pager : PagerSideValue) (slots : PoolValue S) (jobs copies : List (JobValue S)) (items lent new : List (ProcessSideValue S)) (n p : ℕ)
+      → IsMachine (record { pager = pager; slots = slots; processes = items; jobs = jobs; copies = copies }) → n ≡ length items → lent ≡ items → ChangesOne by p lent new
+      → IsMachine (record { pager = pager; slots = slots; processes = take n (new ++ drop (length new) items); jobs = jobs; copies = copies })
   lent_machine by alike pager slots jobs items lent new n p machine long same one =
-      let core : CoreValue S = record { pager = pager; slots = slots; processes = items; jobs = jobs } in
+      let core : CoreValue S = record { pager = pager; slots = slots; processes = items; jobs = jobs; copies = copies } in
       let found : slice_get items p ≡ Some one.process = ap (λ l. slice_get l p) (sym same) ∙ one.found in
       let is : new ≡ slice_set items p one.process' = one.is ∙ ap (λ l. slice_set l p one.process') same in
       let all : slice_set items p one.process' ≡ take n (new ++ drop (length new) items) = sym is ∙ sym (lent_back items new n long (ap length is ∙ length-set items p one.process')) in
-      subst (λ l. IsMachine (record { pager = pager; slots = slots; processes = l; jobs = jobs })) all (alike_machine core p one.process one.process' machine found (alike one.process one.process' one.how))
+      subst (λ l. IsMachine (record { pager = pager; slots = slots; processes = l; jobs = jobs; copies = copies })) all (alike_machine core p one.process one.process' machine found (alike one.process one.process' one.how))
 
   pub step_alike : (held : S → List ℕ) (honest : Type 0) (hart : ℕ) (why : SliceStop) (q q' : ProcessSideValue S) → StepsOnce held honest hart why q q' → CountsAlike q.space.memory q'.space.memory
-  step_alike held honest hart why q q' how = kept_alike q.space.memory q'.space.memory how.slice.kept.process how.slice.kept.pages
+  step_alike held honest hart why q q' how = kept_alike q.space.memory q'.space.memory how.slice.kept.process how.slice.kept.pages how.slice.kept.copies
 
   pub notice_alike : (hart : ℕ) (q q' : ProcessSideValue S) → TakesNotices hart q q' → CountsAlike q.space.memory q'.space.memory
   notice_alike hart q q' how = subst (λ (r : ProcessSideValue S). CountsAlike q.space.memory r.space.memory) (sym how) (noticed_alike hart q.space.memory)
@@ -113,6 +115,8 @@ module _ {S : Type 0} where
         slotted = let a = rest.slots in omega (arith, a);
         slots = refl;
         out = out_stays core.processes key.process q q' core.jobs found rest.stay machine.out;
+        copied = copies_even q q' core.copies (answers_together core.pager pager' q q' key bit verdict machine.lawful there.small (sym there.of_process) not_gone answers).process rest.copies;
+        copies_out = copies_stay core.processes key.process q q' core.copies found rest.copies.stand machine.copies_out;
       })
 
   -- the sweep that was made for the page of the question
@@ -126,11 +130,11 @@ module _ {S : Type 0} where
       let same : k ≡ key = let e = how.1.question in cc in
       (how.0, (verdict.Victim k, (subst (λ x. AnswersQuestion core.pager pager' q q' x how.0 (verdict.Victim k)) same how.1, ap (λ x. Victim x) same)))
 
-  module _ (pager pager' : PagerSideValue) (slots : PoolValue S) (jobs : List (JobValue S)) (items lent new : List (ProcessSideValue S)) (n : ℕ) (key : Key) (result : Swept)
-      (machine : IsMachine (record { pager = pager; slots = slots; processes = items; jobs = jobs })) (asks : question_of pager.pager.list ≡ Some key)
+  module _ (pager pager' : PagerSideValue) (slots : PoolValue S) (jobs copies : List (JobValue S)) (items lent new : List (ProcessSideValue S)) (n : ℕ) (key : Key) (result : Swept)
+      (machine : IsMachine (record { pager = pager; slots = slots; processes = items; jobs = jobs; copies = copies })) (asks : question_of pager.pager.list ≡ Some key)
       (long : n ≡ length items) (same : lent ≡ items) (sweeps : SweepsAt pager pager' key.process lent new result) where
     abbrev pub core : CoreValue S
-    core = record { pager = pager; slots = slots; processes = items; jobs = jobs }
+    core = record { pager = pager; slots = slots; processes = items; jobs = jobs; copies = copies }
 
     found : slice_get items key.process ≡ Some sweeps.process
     found = ap (λ l. slice_get l key.process) (sym same) ∙ sweeps.found
@@ -146,12 +150,12 @@ module _ {S : Type 0} where
     there : HasResident sweeps.process.space key
     there = let e : asked.process ≡ sweeps.process = let a = asked.found in let b = found in cc in subst (λ (q : ProcessSideValue S). HasResident q.space key) e asked.resident
 
-    pub swept_back : IsMachine (record { pager = pager'; slots = slots; processes = take n (new ++ drop (length new) items); jobs = jobs })
+    pub swept_back : IsMachine (record { pager = pager'; slots = slots; processes = take n (new ++ drop (length new) items); jobs = jobs; copies = copies })
     swept_back =
         let a = answers_of core pager' key sweeps.process sweeps.process' result asks sweeps.how in
-        subst (λ l. IsMachine (record { pager = pager'; slots = slots; processes = l; jobs = jobs })) is_set (swept_machine core pager' sweeps.process sweeps.process' key a.0 a.1.0 machine found there a.1.1.0)
+        subst (λ l. IsMachine (record { pager = pager'; slots = slots; processes = l; jobs = jobs; copies = copies })) is_set (swept_machine core pager' sweeps.process sweeps.process' key a.0 a.1.0 machine found there a.1.1.0)
 
-    pub swept_once : (reply : Reply) → reply ≡ swept_reply result → SweepsOnce core (record { pager = pager'; slots = slots; processes = take n (new ++ drop (length new) items); jobs = jobs }) reply
+    pub swept_once : (reply : Reply) → reply ≡ swept_reply result → SweepsOnce core (record { pager = pager'; slots = slots; processes = take n (new ++ drop (length new) items); jobs = jobs; copies = copies }) reply
     swept_once reply is =
         let a = answers_of core pager' key sweeps.process sweeps.process' result asks sweeps.how in
         record {
@@ -168,8 +172,8 @@ module _ {S : Type 0} where
           reply_is = is ∙ a.1.1.1;
         }
 
-    pub swept_told : (old : CoreValue S) (reply : Reply) → core ≡ old → reply ≡ swept_reply result → SweepsOnce old (record { pager = pager'; slots = slots; processes = take n (new ++ drop (length new) items); jobs = jobs }) reply
-    swept_told old reply e is = subst (λ o. SweepsOnce o (record { pager = pager'; slots = slots; processes = take n (new ++ drop (length new) items); jobs = jobs }) reply) e (swept_once reply is)
+    pub swept_told : (old : CoreValue S) (reply : Reply) → core ≡ old → reply ≡ swept_reply result → SweepsOnce old (record { pager = pager'; slots = slots; processes = take n (new ++ drop (length new) items); jobs = jobs; copies = copies }) reply
+    swept_told old reply e is = subst (λ o. SweepsOnce o (record { pager = pager'; slots = slots; processes = take n (new ++ drop (length new) items); jobs = jobs; copies = copies }) reply) e (swept_once reply is)
 
     pub swept_size : pager'.pager.size ≡ pager.pager.size
     unfolding pager_answered

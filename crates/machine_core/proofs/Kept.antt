@@ -1,5 +1,5 @@
 -- The machine stays one where one process and what it shares change together.
-use Rattle.std.proofs.Common.{◌≡◌, ℕ, ◌+◌, Bool, true, List, length, Some, slice_get, inl, inr, sym, ap, ◌∙◌, arith}
+use Rattle.std.proofs.Common.{◌≡◌, ℕ, ◌+◌, Bool, true, List, length, Some, slice_get, inl, inr, sym, ap, ◌∙◌, arith, subst}
 use Rattle.std.specs.Prelude.{slice_set, All}
 use Rattle.std.proofs.lemmas.Bool.Decides.{eqb_tells}
 use Rattle.std.proofs.lemmas.List.{length-set}
@@ -7,11 +7,13 @@ use Rattle.clock_policy.specs.declared.key.Key.{Key}
 use Rattle.clock_policy.specs.Lawful.{Lawful}
 use Rattle.page_store.specs.JobValue.{JobValue}
 use Rattle.paged_memory.specs.AlikeLaws.{SavingsStay}
+use Rattle.paged_memory.specs.Copies.{CopyStands, KeepsCopies, LeavesCopies}
 use Rattle.paged_memory.specs.Stages.{is_saving_stage}
 use Rattle.paged_memory.specs.Whole.{stage_in, frame_in, slots_within}
 use Rattle.machine_sides.specs.Sides.{ProcessSideValue}
-use Rattle.machine_sides.specs.Together.{Together, residents_in, savings_in, frames_in}
-use Rattle.machine_core.specs.Machine.{CoreValue, IsMachine, IsSaveOut, total, jobs_where, numbers_below}
+use Rattle.machine_sides.specs.Together.{Together, residents_in, savings_in, copies_in, frames_in}
+use Rattle.machine_core.specs.Machine.{CoreValue, IsMachine, IsSaveOut, IsCopyOut, total, jobs_where, numbers_below}
+use Rattle.machine_sides.specs.TogetherLaws.{copies_same}
 use Rattle.machine_core.specs.TotalLaws.{total_set, got_set, get_set_same, get_set_other, All_map}
 
 module _ {S : Type 0} where
@@ -23,9 +25,11 @@ module _ {S : Type 0} where
     pub lawful : Lawful core'.pager.pager.list
     pub frames : core'.pager.pager.list.frames ≡ core'.pager.pager.size
     pub saved : (test : Key → Bool) → jobs_where test core'.jobs + savings_in process.space test ≡ jobs_where test core.jobs + savings_in process'.space test
-    pub slotted : length core'.slots.free + (slots_within process'.space.memory + length core'.jobs) ≡ length core.slots.free + (slots_within process.space.memory + length core.jobs)
+    pub slotted : length core'.slots.free + (slots_within process'.space.memory + (length core'.jobs + length core'.copies)) ≡ length core.slots.free + (slots_within process.space.memory + (length core.jobs + length core.copies))
     pub slots : core'.slots.size ≡ core.slots.size
     pub out : All (IsSaveOut core'.processes) core'.jobs
+    pub copied : (test : Key → Bool) → jobs_where test core'.copies + copies_in process.space test ≡ jobs_where test core.copies + copies_in process'.space test
+    pub copies_out : All (IsCopyOut core'.processes) core'.copies
 
   pub moved_machine : (core core' : CoreValue S) (p : ℕ) (process process' : ProcessSideValue S) → IsMachine core → Moves core core' p process process' → IsMachine core'
   moved_machine core core' p process process' machine moves = record {
@@ -53,6 +57,12 @@ module _ {S : Type 0} where
         let both = moves.saved test in
         omega (arith, t, saved, both);
     out = moves.out;
+    copied = λ test.
+        let t = totals (λ (q : ProcessSideValue S). copies_in q.space test) in
+        let copied = machine.copied test in
+        let both = moves.copied test in
+        omega (arith, t, copied, both);
+    copies_out = moves.copies_out;
     slotted =
         let t = totals (λ (q : ProcessSideValue S). slots_within q.space.memory) in
         let slotted = machine.slotted in
@@ -102,3 +112,32 @@ module _ {S : Type 0} where
               same = out.same;
             }
           ]
+
+  -- copies that are out stand where what stood stands
+  pub copies_stay : (processes : List (ProcessSideValue S)) (p : ℕ) (process process' : ProcessSideValue S) (copies : List (JobValue S)) → slice_get processes p ≡ Some process
+      → KeepsCopies process.space.memory process'.space.memory → All (IsCopyOut processes) copies → All (IsCopyOut (slice_set processes p process')) copies
+  copies_stay processes p process process' copies found stay all = All_map (IsCopyOut processes) (IsCopyOut (slice_set processes p process')) one copies all
+    where
+      one : (job : JobValue S) → IsCopyOut processes job → IsCopyOut (slice_set processes p process') job
+      one job out =
+          elim (eqb_tells job.process p) [
+            | inl same ↦
+                let there : out.process ≡ process = let a = out.found in let b = found in let c = same.1 in cc in
+                record {
+                  process = process';
+                  small = out.small;
+                  found = ap (slice_get (slice_set processes p process')) same.1 ∙ get_set_same processes p process process' found;
+                  stands = stay job.vpn job.copy out.small (subst (λ (q : ProcessSideValue S). CopyStands job.vpn job.copy q.space.memory) there out.stands);
+                }
+            | inr apart ↦ record {
+              process = out.process;
+              small = out.small;
+              found = get_set_other processes p job.process process' apart.1 ∙ out.found;
+              stands = out.stands;
+            }
+          ]
+
+  -- the same copies are out of a process
+  pub copies_even : (process process' : ProcessSideValue S) (copies : List (JobValue S)) → process'.space.memory.process ≡ process.space.memory.process → LeavesCopies process.space.memory process'.space.memory
+      → (test : Key → Bool) → jobs_where test copies + copies_in process.space test ≡ jobs_where test copies + copies_in process'.space test
+  copies_even process process' copies number leaves test = let a = copies_same process.space process'.space number test leaves in omega (arith, a)

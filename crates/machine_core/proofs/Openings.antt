@@ -15,16 +15,16 @@ use Rattle.flat_machine.specs.Process.{opening_pages}
 use Rattle.frame_pool.specs.FrameValue.{zero_frame}
 use Rattle.page_memory.specs.Pages.{Page}
 use Rattle.page_store.specs.JobValue.{JobValue}
-use Rattle.paged_memory.specs.AmongLaws.{fresh_residents, fresh_savings, fresh_frames, fresh_slots}
+use Rattle.paged_memory.specs.AmongLaws.{fresh_residents, fresh_savings, fresh_copies, fresh_frames, fresh_slots}
 use Rattle.paged_memory.specs.Whole.{slots_within}
 use Rattle.pager_core.specs.Pager.{full_pager}
 use Rattle.swap_slots.specs.PoolValue.{PoolValue}
-use Rattle.machine_core.specs.Machine.{CoreValue, IsMachine, IsSaveOut, total, jobs_where, numbers_below}
+use Rattle.machine_core.specs.Machine.{CoreValue, IsMachine, IsSaveOut, IsCopyOut, total, jobs_where, numbers_below}
 use Rattle.elf_image.specs.Start.{Start}
 use Rattle.machine_sides.specs.Starting.{Begins}
 use Rattle.machine_core.specs.Opening.{BeginsAt, AllBegin, MachineBegins}
 use Rattle.machine_sides.specs.Sides.{PagerSideValue, ProcessSideValue}
-use Rattle.machine_sides.specs.Together.{frames_where, residents_in, savings_in, frames_in, key_of}
+use Rattle.machine_sides.specs.Together.{frames_where, residents_in, savings_in, copies_in, frames_in, key_of}
 
 total_none : {A : Type 0} (f : A → ℕ) (xs : List A) → ((i : ℕ) (x : A) → slice_get xs i ≡ Some x → f x ≡ 0) → total f xs ≡ 0
 unfolding total
@@ -68,6 +68,10 @@ module _ {S : Type 0} where
     no_savings : (test : Key → Bool) → savings_in process.space test ≡ 0
     unfolding savings_in
     no_savings test = fresh_savings mapped process.space.memory begins.pages (λ vpn. test (key_of process.space.memory.process vpn))
+
+    no_copies : (test : Key → Bool) → copies_in process.space test ≡ 0
+    unfolding copies_in
+    no_copies test = fresh_copies mapped process.space.memory begins.pages (λ vpn. test (key_of process.space.memory.process vpn))
 
     no_frames : (test : ℕ → Bool) → frames_in process.space test ≡ 0
     unfolding frames_in
@@ -125,10 +129,10 @@ module _ {S : Type 0} where
       ap one is ∙ ap other size
 
   -- the parts of a machine before its first event
-  pub begun : {X : Type 0} (f : X → Start) (frames : ℕ) (free : List S) (xs : List X) (pager : PagerSideValue) (slots : PoolValue S) (processes : List (ProcessSideValue S)) (jobs : List (JobValue S))
-      → pager ≡ record { pager = full_pager frames; saves = 0; drops = 0 } → slots.free ≡ free → slots.size ≡ length free → AllBegin (map f xs) processes → jobs ≡ []
-      → MachineBegins frames free (map f xs) (record { pager = pager; slots = slots; processes = processes; jobs = jobs })
-  begun f frames free xs pager slots processes jobs full is size all none = record { pager = full; slots = pool_of slots free is size; processes = all; jobs = none }
+  pub begun : {X : Type 0} (f : X → Start) (frames : ℕ) (free : List S) (xs : List X) (pager : PagerSideValue) (slots : PoolValue S) (processes : List (ProcessSideValue S)) (jobs copies : List (JobValue S))
+      → pager ≡ record { pager = full_pager frames; saves = 0; drops = 0 } → slots.free ≡ free → slots.size ≡ length free → AllBegin (map f xs) processes → jobs ≡ [] → copies ≡ []
+      → MachineBegins frames free (map f xs) (record { pager = pager; slots = slots; processes = processes; jobs = jobs; copies = copies })
+  begun f frames free xs pager slots processes jobs copies full is size all none alone = record { pager = full; slots = pool_of slots free is size; processes = all; jobs = none; copies = alone }
 
   pub machine_begins : (frames : ℕ) (free : List S) (starts : List Start) (core : CoreValue S) → 4 ≤ frames → frames ≤ 4096 → length starts ≤ 16 → MachineBegins frames free starts core → IsMachine core
   unfolding opening_state residents frames_where jobs_where total numbers_below
@@ -152,9 +156,14 @@ module _ {S : Type 0} where
         ap (jobs_where test) begins.jobs
         ∙ sym (none_counts starts core.processes begins.processes (λ (process : ProcessSideValue S). savings_in process.space test) (λ number start process b. no_savings number start process b test));
     out = subst (All (IsSaveOut core.processes)) (sym begins.jobs) (All-nil _);
+    copied = λ test.
+        ap (jobs_where test) begins.copies
+        ∙ sym (none_counts starts core.processes begins.processes (λ (process : ProcessSideValue S). copies_in process.space test) (λ number start process b. no_copies number start process b test));
+    copies_out = subst (All (IsCopyOut core.processes)) (sym begins.copies) (All-nil _);
     slotted =
         let none = none_counts starts core.processes begins.processes (λ (process : ProcessSideValue S). slots_within process.space.memory) (λ number start process b. no_slots number start process b) in
         let jobs : length core.jobs ≡ 0 = ap length begins.jobs in
+        let copies : length core.copies ≡ 0 = ap length begins.copies in
         let same : length core.slots.free ≡ core.slots.size = ap (λ (p : PoolValue S). length p.free) begins.slots ∙ sym (ap (λ (p : PoolValue S). p.size) begins.slots) in
-        omega (arith, none, jobs, same);
+        omega (arith, none, jobs, copies, same);
   }

@@ -182,14 +182,14 @@ module _ {S : Type 0} where
         ]
 
   -- the processes were lent as a slice
-  module _ (held : S → List ℕ) (honest : Type 0) (failures : S → ℕ) (pager pager' : PagerSideValue) (slots : PoolValue S) (jobs : List (JobValue S)) (items lent new : List (ProcessSideValue S)) (n : ℕ) (key : Key) (reply : Reply)
-      (machine : IsMachine (record { pager = pager; slots = slots; processes = items; jobs = jobs })) (long : n ≡ length items) (same : lent ≡ items)
+  module _ (held : S → List ℕ) (honest : Type 0) (failures : S → ℕ) (pager pager' : PagerSideValue) (slots : PoolValue S) (jobs copies : List (JobValue S)) (items lent new : List (ProcessSideValue S)) (n : ℕ) (key : Key) (reply : Reply)
+      (machine : IsMachine (record { pager = pager; slots = slots; processes = items; jobs = jobs; copies = copies })) (long : n ≡ length items) (same : lent ≡ items)
       (pages : PagesInAt held honest failures key pager pager' lent new reply) where
     abbrev pub lent_core : CoreValue S
-    lent_core = record { pager = pager; slots = slots; processes = items; jobs = jobs }
+    lent_core = record { pager = pager; slots = slots; processes = items; jobs = jobs; copies = copies }
 
     abbrev pub core_back : CoreValue S
-    core_back = record { pager = pager'; slots = slots; processes = take n (new ++ drop (length new) items); jobs = jobs }
+    core_back = record { pager = pager'; slots = slots; processes = take n (new ++ drop (length new) items); jobs = jobs; copies = copies }
 
     there_at : slice_get items key.process ≡ Some pages.process
     there_at = ap (λ l. slice_get l key.process) (sym same) ∙ pages.found

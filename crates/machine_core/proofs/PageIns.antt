@@ -22,7 +22,7 @@ use Rattle.machine_core.specs.PagingIn.{ComesIn, GoesBack}
 use Rattle.machine_sides.specs.Sides.{PagerSideValue, ProcessSideValue}
 use Rattle.machine_sides.specs.Together.{frames_where, residents_in, savings_in, frames_in, key_of}
 use Rattle.machine_sides.specs.TogetherLaws.{residents_more, savings_same, alike_residents, alike_frames, alike_rest}
-use Rattle.machine_core.proofs.Kept.{Moves, moved_machine, out_stays}
+use Rattle.machine_core.proofs.Kept.{Moves, moved_machine, out_stays, copies_stay, copies_even}
 use Rattle.machine_core.proofs.PageInReasons.{Unbarred, unbarred}
 
 frames-append : (test : ℕ → Bool) (frames : List FrameValue) (frame : FrameValue) → frames_where test (frames ++ frame ∷ []) ≡ frames_where test frames + cond (test frame.number) 1 0
@@ -123,6 +123,8 @@ module _ {S : Type 0} where
         slotted = let s = come_at.slots in omega (arith, s);
         slots = refl;
         out = out_stays core.processes key.process q q' core.jobs found come_at.stay machine.out;
+        copied = copies_even q q' core.copies comes.loads.moves.process come_at.copies;
+        copies_out = copies_stay core.processes key.process q q' core.copies found come_at.copies.stand machine.copies_out;
       }
 
       pub come_machine : IsMachine next
@@ -135,7 +137,7 @@ module _ {S : Type 0} where
       small = (unbarred key core.pager.pager q.space goes.admits.allowed).there.small
 
       goes_alike : CountsAlike q.space.memory q'.space.memory
-      goes_alike = refused_alike held honest q.space.memory q'.space.memory goes.rest.process key.vpn small failures goes.admission.frame goes.back goes.fault goes.why
+      goes_alike = refused_alike held honest q.space.memory q'.space.memory goes.rest.process goes.tables key.vpn small failures goes.admission.frame goes.back goes.fault goes.why
 
       number_same : goes.back.number ≡ goes.admission.frame.number
       number_same = refused_number held honest failures goes.admission.frame key.vpn goes.back q.space.memory q'.space.memory goes.fault goes.why
@@ -178,6 +180,8 @@ module _ {S : Type 0} where
         slotted = let s = goes_alike.slots in omega (arith, s);
         slots = refl;
         out = out_stays core.processes key.process q q' core.jobs found goes_alike.stay machine.out;
+        copied = copies_even q q' core.copies goes_alike.process goes_alike.copies;
+        copies_out = copies_stay core.processes key.process q q' core.copies found goes_alike.copies.stand machine.copies_out;
       }
 
       pub go_machine : IsMachine next

@@ -24,13 +24,13 @@ use Rattle.machine_sides.specs.declared.purging.Purging.TheVariants.{Done, Refus
 use Rattle.machine_core.specs.Machine.{CoreValue, IsMachine, total}
 use Rattle.machine_core.specs.MachineRun.{of_process}
 use Rattle.machine_core.specs.PurgeEvent.{purge_reason, purge_refusal, PurgesAt, PurgesOnce, IsDone}
-use Rattle.machine_sides.specs.PurgeLaws.{given_savings, given_stays, purged_together, purged_pool}
+use Rattle.machine_sides.specs.PurgeLaws.{given_savings, given_stays, given_copies, purged_together, purged_pool}
 use Rattle.machine_sides.specs.Purging.{purge_bars, Purges, PurgesAll, StopsPurging}
 use Rattle.machine_sides.specs.Sides.{PagerSideValue, ProcessSideValue}
 use Rattle.machine_sides.specs.Together.{residents_in, frames_in, key_of}
 use Rattle.machine_core.proofs.Cores.{lent_back}
 use Rattle.machine_core.proofs.Counted.{all_frames, all_numbers}
-use Rattle.machine_core.proofs.Kept.{moved_machine, out_stays}
+use Rattle.machine_core.proofs.Kept.{moved_machine, out_stays, copies_stay, copies_even}
 use Rattle.machine_core.specs.TotalLaws.{total_at}
 
 -- ---- a sum of which one place alone counts
@@ -135,6 +135,8 @@ module _ {S : Type 0} where
         slotted = let a = purged_pool core.pager pager' q q' core.slots pool' all in omega (arith, a);
         slots = ap (λ (s : PoolValue S). s.size) all.pool_is;
         out = out_stays core.processes p q q' core.jobs found (given_stays q.space q'.space all.space) machine.out;
+        copied = copies_even q q' core.copies all.space.moves.process (given_copies q.space q'.space all.space);
+        copies_out = copies_stay core.processes p q q' core.copies found (given_copies q.space q'.space all.space).stand machine.copies_out;
       })
 
   unbarred_at : (processes : List (ProcessSideValue S)) (p : ℕ) (q : ProcessSideValue S) → purge_refusal p processes ≡ None → slice_get processes p ≡ Some q → purge_bars q ≡ None
@@ -144,14 +146,14 @@ module _ {S : Type 0} where
       none None h = refl
       none (Some reason) h = cc
 
-  module _ {L : Type 0} (pager pager' : PagerSideValue) (pool pool' : PoolValue S) (jobs : List (JobValue S)) (items lent new : List (ProcessSideValue S)) (n p : ℕ) (result : Purging L S)
-      (machine : IsMachine (record { pager = pager; slots = pool; processes = items; jobs = jobs })) (allowed : purge_refusal p items ≡ None)
+  module _ {L : Type 0} (pager pager' : PagerSideValue) (pool pool' : PoolValue S) (jobs copies : List (JobValue S)) (items lent new : List (ProcessSideValue S)) (n p : ℕ) (result : Purging L S)
+      (machine : IsMachine (record { pager = pager; slots = pool; processes = items; jobs = jobs; copies = copies })) (allowed : purge_refusal p items ≡ None)
       (long : n ≡ length items) (same : lent ≡ items) (purges : PurgesAt pager pager' p lent new pool pool' result) where
     abbrev core : CoreValue S
-    core = record { pager = pager; slots = pool; processes = items; jobs = jobs }
+    core = record { pager = pager; slots = pool; processes = items; jobs = jobs; copies = copies }
 
     abbrev left : CoreValue S
-    left = record { pager = pager'; slots = pool'; processes = take n (new ++ drop (length new) items); jobs = jobs }
+    left = record { pager = pager'; slots = pool'; processes = take n (new ++ drop (length new) items); jobs = jobs; copies = copies }
 
     found : slice_get items p ≡ Some purges.process
     found = ap (λ l. slice_get l p) (sym same) ∙ purges.found
@@ -168,7 +170,7 @@ module _ {S : Type 0} where
     purge_done = told.0
 
     pub purged_back : IsMachine left
-    purged_back = subst (λ l. IsMachine (record { pager = pager'; slots = pool'; processes = l; jobs = jobs })) is_set (purged_machine core pager' pool' p purges.process purges.process' machine found told.1)
+    purged_back = subst (λ l. IsMachine (record { pager = pager'; slots = pool'; processes = l; jobs = jobs; copies = copies })) is_set (purged_machine core pager' pool' p purges.process purges.process' machine found told.1)
 
     pub purged_size : pager'.pager.size ≡ pager.pager.size
     purged_size = ap (λ (s : PagerSideValue). s.pager.size) told.1.pager_is

@@ -34,7 +34,7 @@ use Rattle.swap_slots.specs.PoolValue.{PoolValue}
 use Rattle.machine_core.proofs.Cores.{lent_back}
 use Rattle.machine_core.proofs.Counted.{HoldsFrame, frame_missing, takes_back}
 use Rattle.machine_core.proofs.Finding.{total_some}
-use Rattle.machine_core.proofs.Kept.{moved_machine}
+use Rattle.machine_core.proofs.Kept.{moved_machine, copies_stay, copies_even}
 use Rattle.machine_core.specs.TotalLaws.{total_set, got_set, get_set_same, get_set_other}
 use Rattle.machine_core.proofs.JobsOut.{same_key, total_permuted}
 use Rattle.machine_core.proofs.SavingPages.{saving_counted}
@@ -230,17 +230,19 @@ module _ {S : Type 0} where
                 omega (arith, long, slots);
             slots = refl;
             out = outs_still jobs' none_left (All-tail (IsSaveOut core.processes) makes.job jobs' outs);
+            copied = copies_even q q' core.copies ends.together.process ends.copies;
+            copies_out = copies_stay core.processes key.process q q' core.copies found ends.copies.stand machine.copies_out;
           })
 
   -- the processes that were lent as a slice, to one of which a save comes back
-  module _ {L : Type 0} (held : S → List ℕ) (honest : Type 0) (failures : S → ℕ) (pager pager' : PagerSideValue) (slots : PoolValue S) (jobs jobs' : List (JobValue S)) (items lent new : List (ProcessSideValue S)) (n : ℕ) (key : Key) (saved : SavedValue S) (outcome : SaveOutcome L S)
-      (machine : IsMachine (record { pager = pager; slots = slots; processes = items; jobs = jobs })) (long : n ≡ length items) (same : lent ≡ items)
+  module _ {L : Type 0} (held : S → List ℕ) (honest : Type 0) (failures : S → ℕ) (pager pager' : PagerSideValue) (slots : PoolValue S) (jobs copies jobs' : List (JobValue S)) (items lent new : List (ProcessSideValue S)) (n : ℕ) (key : Key) (saved : SavedValue S) (outcome : SaveOutcome L S)
+      (machine : IsMachine (record { pager = pager; slots = slots; processes = items; jobs = jobs; copies = copies })) (long : n ≡ length items) (same : lent ≡ items)
       (makes : MakesSave held honest failures key jobs jobs' saved) (at : SavedAt held honest saved pager pager' key.process lent new outcome) where
     abbrev core : CoreValue S
-    core = record { pager = pager; slots = slots; processes = items; jobs = jobs }
+    core = record { pager = pager; slots = slots; processes = items; jobs = jobs; copies = copies }
 
     abbrev after : CoreValue S
-    after = record { pager = pager'; slots = slots; processes = take n (new ++ drop (length new) items); jobs = jobs' }
+    after = record { pager = pager'; slots = slots; processes = take n (new ++ drop (length new) items); jobs = jobs'; copies = copies }
 
     found_lent : slice_get items key.process ≡ Some at.process
     found_lent = ap (λ l. slice_get l key.process) (sym same) ∙ at.found
@@ -265,7 +267,7 @@ module _ {S : Type 0} where
 
       pub saved_back : IsMachine after
       saved_back =
-          subst (λ l. IsMachine (record { pager = pager'; slots = slots; processes = l; jobs = jobs' })) is_set
+          subst (λ l. IsMachine (record { pager = pager'; slots = slots; processes = l; jobs = jobs'; copies = copies })) is_set
           (saved_machine held honest failures core key at.process jobs' saved machine found_lent makes pager' at.process' counts)
 
       pub saved_once : (old : CoreValue S) → core ≡ old → saved_refusal key items ≡ None → SavesOnce held honest failures key old after answer

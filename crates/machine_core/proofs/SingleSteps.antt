@@ -144,31 +144,31 @@ module _ {S : Type 0} (held : S → List ℕ) (honest : Type 0) (failures : S �
             }
 
   -- the processes that were lent as a slice
-  many_back : (pager : PagerSideValue) (slots : PoolValue S) (jobs : List (JobValue S)) (items lent new : List (ProcessSideValue S)) (n count : ℕ) (last : Option SliceStop)
-      → None ≡ hart_refusal p hart items → IsFaithful held honest (record { pager = pager; slots = slots; processes = items; jobs = jobs }) → n ≡ length items → lent ≡ items
+  many_back : (pager : PagerSideValue) (slots : PoolValue S) (jobs copies : List (JobValue S)) (items lent new : List (ProcessSideValue S)) (n count : ℕ) (last : Option SliceStop)
+      → None ≡ hart_refusal p hart items → IsFaithful held honest (record { pager = pager; slots = slots; processes = items; jobs = jobs; copies = copies }) → n ≡ length items → lent ≡ items
       → (one : ChangesOne (SlicesMany held honest hart count last) p lent new)
-      → (Runs held honest failures (steps_of p hart count (option_map step_reply last)) (replies_of count (option_map step_reply last)) (record { pager = pager; slots = slots; processes = items; jobs = jobs })
-      (record { pager = pager; slots = slots; processes = take n (new ++ drop (length new) items); jobs = jobs }))
-      × IsFaithful held honest (record { pager = pager; slots = slots; processes = take n (new ++ drop (length new) items); jobs = jobs })
+      → (Runs held honest failures (steps_of p hart count (option_map step_reply last)) (replies_of count (option_map step_reply last)) (record { pager = pager; slots = slots; processes = items; jobs = jobs; copies = copies })
+      (record { pager = pager; slots = slots; processes = take n (new ++ drop (length new) items); jobs = jobs; copies = copies }))
+      × IsFaithful held honest (record { pager = pager; slots = slots; processes = take n (new ++ drop (length new) items); jobs = jobs; copies = copies })
   many_back pager slots jobs items lent new n count last allowed faithful long same one =
-      let core : CoreValue S = record { pager = pager; slots = slots; processes = items; jobs = jobs } in
+      let core : CoreValue S = record { pager = pager; slots = slots; processes = items; jobs = jobs; copies = copies } in
       let found : slice_get items p ≡ Some one.process = ap (λ l. slice_get l p) (sym same) ∙ one.found in
       let is : new ≡ slice_set items p one.process' = one.is ∙ ap (λ l. slice_set l p one.process') same in
       let all : slice_set items p one.process' ≡ take n (new ++ drop (length new) items) = sym is ∙ sym (lent_back items new n long (ap length is ∙ length-set items p one.process')) in
       let may : hart_reason hart one.process ≡ None = sym (ap (of_process (hart_reason hart)) found) ∙ sym allowed in
       let stepped = many_stepped core one.process found may faithful count last one.process' one.how in (
-        subst (λ l. Runs held honest failures (steps_of p hart count (option_map step_reply last)) (replies_of count (option_map step_reply last)) core (record { pager = pager; slots = slots; processes = l; jobs = jobs })) all stepped.runs,
-        subst (λ l. IsFaithful held honest (record { pager = pager; slots = slots; processes = l; jobs = jobs })) all stepped.faithful,
+        subst (λ l. Runs held honest failures (steps_of p hart count (option_map step_reply last)) (replies_of count (option_map step_reply last)) core (record { pager = pager; slots = slots; processes = l; jobs = jobs; copies = copies })) all stepped.runs,
+        subst (λ l. IsFaithful held honest (record { pager = pager; slots = slots; processes = l; jobs = jobs; copies = copies })) all stepped.faithful,
       )
 
   -- the same of the machine as its caller sees it, and of the reply that it is told
-  pub many_told : (pager : PagerSideValue) (slots : PoolValue S) (jobs : List (JobValue S)) (items lent new : List (ProcessSideValue S)) (n count : ℕ) (last : Option SliceStop) (reply : Option Reply) (old : CoreValue S)
-      → record { pager = pager; slots = slots; processes = items; jobs = jobs } ≡ old → reply ≡ option_map step_reply last
+  pub many_told : (pager : PagerSideValue) (slots : PoolValue S) (jobs copies : List (JobValue S)) (items lent new : List (ProcessSideValue S)) (n count : ℕ) (last : Option SliceStop) (reply : Option Reply) (old : CoreValue S)
+      → record { pager = pager; slots = slots; processes = items; jobs = jobs; copies = copies } ≡ old → reply ≡ option_map step_reply last
       → None ≡ hart_refusal p hart items → IsFaithful held honest old → n ≡ length items → lent ≡ items → ChangesOne (SlicesMany held honest hart count last) p lent new
-      → (Runs held honest failures (steps_of p hart count reply) (replies_of count reply) old (record { pager = pager; slots = slots; processes = take n (new ++ drop (length new) items); jobs = jobs }))
-      × IsFaithful held honest (record { pager = pager; slots = slots; processes = take n (new ++ drop (length new) items); jobs = jobs })
+      → (Runs held honest failures (steps_of p hart count reply) (replies_of count reply) old (record { pager = pager; slots = slots; processes = take n (new ++ drop (length new) items); jobs = jobs; copies = copies }))
+      × IsFaithful held honest (record { pager = pager; slots = slots; processes = take n (new ++ drop (length new) items); jobs = jobs; copies = copies })
   many_told pager slots jobs items lent new n count last reply old seen told allowed faithful long same one =
-      let left : CoreValue S = record { pager = pager; slots = slots; processes = take n (new ++ drop (length new) items); jobs = jobs } in
+      let left : CoreValue S = record { pager = pager; slots = slots; processes = take n (new ++ drop (length new) items); jobs = jobs; copies = copies } in
       let back = many_back pager slots jobs items lent new n count last allowed (subst (IsFaithful held honest) (sym seen) faithful) long same one in (
         subst (λ l. Runs held honest failures (steps_of p hart count l) (replies_of count l) old left) (sym told)
             (subst (λ k. Runs held honest failures (steps_of p hart count (option_map step_reply last)) (replies_of count (option_map step_reply last)) k left) seen back.0),

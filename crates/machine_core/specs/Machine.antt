@@ -1,21 +1,23 @@
--- The whole machine: the pager, the free slots, the processes by their numbers, and the saves that are out.
+-- The whole machine: the pager, the free slots, the processes by their numbers, and the saves and the copies that are out.
 use Rattle.std.specs.Prelude.{◌≡◌, ℕ, zero, suc, ◌+◌, ◌^◌, ◌<◌, ◌≤◌, Bool, true, cond, Some, slice_get, length, List, [], ◌∷◌, All}
 use Rattle.clock_policy.specs.declared.key.Key.{Key}
 use Rattle.clock_policy.specs.Lawful.{Lawful}
 use Rattle.clock_policy.specs.Residents.{residents}
 use Rattle.frame_pool.specs.FrameValue.{FrameValue}
 use Rattle.page_store.specs.JobValue.{JobValue}
+use Rattle.paged_memory.specs.Copies.{CopyStands}
 use Rattle.paged_memory.specs.Stages.{is_saving_stage}
 use Rattle.paged_memory.specs.Whole.{stage_in, frame_in, slots_within}
 use Rattle.swap_slots.specs.PoolValue.{PoolValue}
 use Rattle.machine_sides.specs.Sides.{PagerSideValue, ProcessSideValue}
-use Rattle.machine_sides.specs.Together.{frames_where, residents_in, savings_in, frames_in, key_of}
+use Rattle.machine_sides.specs.Together.{frames_where, residents_in, savings_in, copies_in, frames_in, key_of}
 
 pub record CoreValue (S : Type 0) : Type 0 where
   pub pager : PagerSideValue
   pub slots : PoolValue S
   pub processes : List (ProcessSideValue S)
   pub jobs : List (JobValue S)
+  pub copies : List (JobValue S)
 
 -- the sum of a number over all of a list
 unfoldable pub total : {A : Type 0} → (A → ℕ) → List A → ℕ
@@ -42,8 +44,16 @@ module _ {S : Type 0} where
     pub framed : frame_in process.space.memory job.vpn ≡ Some frame
     pub same : frame.bytes ≡ job.copy
 
+  -- a copy that is out stands for its page: unless the page's dirty bit tells of a store since, its frame holds what was copied
+  pub record IsCopyOut (processes : List (ProcessSideValue S)) (job : JobValue S) : Type 0 where
+    pub process : ProcessSideValue S
+    pub small : job.vpn < 2 ^ 20
+    pub found : slice_get processes job.process ≡ Some process
+    pub stands : CopyStands job.vpn job.copy process.space.memory
+
   -- The list's resident entries are the processes' resident pages; each frame's number stands once, among the free frames or in
-  -- one page; the saves that are out are of the pages that are being saved; and no slot is lost.
+  -- one page; the saves that are out are of the pages that are being saved, and the copies of the pages of which one is out; and no
+  -- slot is lost.
   pub record IsMachine (core : CoreValue S) : Type 0 where
     pub lawful : Lawful core.pager.pager.list
     pub frames : core.pager.pager.list.frames ≡ core.pager.pager.size
@@ -53,4 +63,6 @@ module _ {S : Type 0} where
     pub framed : (test : ℕ → Bool) → frames_where test core.pager.pager.free + total (λ (process : ProcessSideValue S). frames_in process.space test) core.processes ≡ numbers_below core.pager.pager.size test
     pub saved : (test : Key → Bool) → jobs_where test core.jobs ≡ total (λ (process : ProcessSideValue S). savings_in process.space test) core.processes
     pub out : All (IsSaveOut core.processes) core.jobs
-    pub slotted : length core.slots.free + (total (λ (process : ProcessSideValue S). slots_within process.space.memory) core.processes + length core.jobs) ≡ core.slots.size
+    pub copied : (test : Key → Bool) → jobs_where test core.copies ≡ total (λ (process : ProcessSideValue S). copies_in process.space test) core.processes
+    pub copies_out : All (IsCopyOut core.processes) core.copies
+    pub slotted : length core.slots.free + (total (λ (process : ProcessSideValue S). slots_within process.space.memory) core.processes + (length core.jobs + length core.copies)) ≡ core.slots.size

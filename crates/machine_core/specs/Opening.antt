@@ -26,3 +26,4 @@ module _ {S : Type 0} where
     pub slots : core.slots ≡ record { free = free; size = length free }
     pub processes : AllBegin starts core.processes
     pub jobs : core.jobs ≡ []
+    pub copies : core.copies ≡ []

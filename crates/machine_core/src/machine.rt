@@ -8,18 +8,19 @@ use crate::event::Reply;
 use clock_policy::Clock;
 use flat_machine::KillCause;
 use machine_sides::{PagerSide, ProcessSide};
-use page_store::SaveJob;
+use page_store::{CleanJob, SaveJob};
 use std::marker::Model;
 use std::sync::ledger::Ledger;
 use swap_slots::{SlotPool, SwapSlot};
 
-/// All processes, the frames that they share with the replacement list, the slots, and the saves that are out.
+/// All processes, the frames that they share with the replacement list, the slots, and the saves and the copies that are out.
 #[derive(Drop)]
 pub struct Core<L: Ledger, S: SwapSlot, C: Clock> {
     pub(crate) pager: PagerSide<L, C>,
     pub(crate) slots: SlotPool<S>,
     pub(crate) processes: Vec<ProcessSide<L, S>>,
     pub(crate) jobs: Vec<SaveJob<S>>,
+    pub(crate) copies: Vec<CleanJob<S>>,
 }
 
 impl<L: Ledger, S: SwapSlot, C: Clock> Model for Core<L, S, C> {
@@ -28,11 +29,24 @@ impl<L: Ledger, S: SwapSlot, C: Clock> Model for Core<L, S, C> {
 
     ghost Value = { CoreValue S };
 
-    ghost view = { λ c. record { pager = c.pager; slots = c.slots; processes = c.processes.items; jobs = c.jobs.items } };
+    ghost view = { λ c. record {
+      pager = c.pager;
+      slots = c.slots;
+      processes = c.processes.items;
+      jobs = c.jobs.items;
+      copies = c.copies.items;
+    } };
 
     ghost invariant = { λ c. record {
-      machine : IsMachine (record { pager = c.pager; slots = c.slots; processes = c.processes.items; jobs = c.jobs.items });
+      machine : IsMachine (record {
+        pager = c.pager;
+        slots = c.slots;
+        processes = c.processes.items;
+        jobs = c.jobs.items;
+        copies = c.copies.items;
+      });
       roomy : c.pager.pager.size ≤ vec_capacity c.jobs;
+      spacious : c.pager.pager.size ≤ vec_capacity c.copies;
     } };
 }
 

@@ -49,8 +49,11 @@ impl<L: Ledger, S: SwapSlot, C: Clock> Core<L, S, C> {
             return Err(CoreError::NoMemory);
         };
 
-        // At most as many saves are out as there are frames.
+        // At most as many saves are out as there are frames, and as many copies.
         let Ok(jobs) = Vec::with_capacity(alloc, frames as usize) else {
+            return Err(CoreError::NoMemory);
+        };
+        let Ok(copies) = Vec::with_capacity(alloc, frames as usize) else {
             return Err(CoreError::NoMemory);
         };
         Ok(Core {
@@ -58,6 +61,7 @@ impl<L: Ledger, S: SwapSlot, C: Clock> Core<L, S, C> {
             slots: SlotPool::new(slots),
             processes,
             jobs,
+            copies,
         })
     }
 }

@@ -60,7 +60,7 @@ module _ {S : Type 0} where
         same_counts test =
             elim (leb_tells (2 ^ 20) admission.key.vpn) [
               | inl beyond ↦ ap (λ (s : SpaceValue S). residents_in s test) (fails.beyond beyond.1).1.1
-              | inr within ↦ alike_residents old new (refused_alike held honest old.memory new.memory fails.rest.process admission.key.vpn within.1 failures admission.frame back.frame fault (fails.why within.1)) test
+              | inr within ↦ alike_residents old new (refused_alike held honest old.memory new.memory fails.rest.process fails.unmapped admission.key.vpn within.1 failures admission.frame back.frame fault (fails.why within.1)) test
             ]
 
     pub refusals_keep : {A : Type 0} (failures : S → ℕ) (result : Result A (AdmissionValue × PageInFault)) → IfErr result (λ back. DoesNotLoad held honest failures admission back.0 back.1 old new) → OnErr result ((pager : PagerState) → AgreeStill None pager pager old new)

@@ -31,7 +31,7 @@ module _ {S : Type 0} where
     dropped_frames test = frames_fewer old.space new.space frame.number dropped.frames test
 
     pub dropped_rest : LeavesRest old.space new.space
-    dropped_rest = record { savings = λ test. savings_same old.space new.space dropped_process test dropped.savings; slots = dropped.slots; stay = dropped.stay }
+    dropped_rest = record { savings = λ test. savings_same old.space new.space dropped_process test dropped.savings; slots = dropped.slots; stay = dropped.stay; copies = dropped.copies }
 
   -- the frame that the process loses the pager gains
   pub dropped_together : (vpn : ℕ) (pager pager' : PagerSideValue) (old new : ProcessSideValue S) (slots slots' : PoolValue S) → IsDropped vpn pager pager' old new slots slots' → Together pager.pager pager'.pager old.space new.space
@@ -51,7 +51,7 @@ module _ {S : Type 0} where
   -- ---- a page that is to be saved
 
   -- a free slot that is taken is one fewer
-  slot_taken : (own : Option S) (slot : S) (free free' : List S) → TakesSlot own slot free free' → length free' + 1 ≡ length free + cond (is_some own) 1 0
+  pub slot_taken : (own : Option S) (slot : S) (free free' : List S) → TakesSlot own slot free free' → length free' + 1 ≡ length free + cond (is_some own) 1 0
   slot_taken None slot free free' takes = let e : length free ≡ length (free' ++ slot ∷ []) = ap length takes in omega (arith, e, length-append free' (slot ∷ []))
   slot_taken (Some own) slot free free' takes = let e : length free' ≡ length free = ap length takes.1 in omega (arith, e)
 

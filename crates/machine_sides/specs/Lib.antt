@@ -23,3 +23,5 @@ pub mod SweepLaws
 pub mod Sweeping
 pub mod Together
 pub mod TogetherLaws
+pub mod Cleaning
+pub mod CleaningLaws

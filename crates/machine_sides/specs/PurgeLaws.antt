@@ -11,7 +11,8 @@ use Rattle.clock_policy.specs.Residents.{in_frame, is_resident_that, residents}
 use Rattle.flat_machine.specs.declared.end.End.{End}
 use Rattle.frame_pool.specs.FrameValue.{FrameValue}
 use Rattle.paged_memory.specs.AlikeLaws.{SavingsStay}
-use Rattle.paged_memory.specs.GivenLaws.{HoldsNothing, bare_all, all_savings, all_stay}
+use Rattle.paged_memory.specs.Copies.{LeavesCopies}
+use Rattle.paged_memory.specs.GivenLaws.{HoldsNothing, bare_all, all_savings, all_stay, all_copies}
 use Rattle.paged_memory.specs.Moving.{SavesSome, SavesNone}
 use Rattle.paged_memory.specs.Paged.{PagedValue}
 use Rattle.paged_memory.specs.SaveLaws.{some_save, none_save, none_saved}
@@ -117,6 +118,10 @@ module _ {S : Type 0} where
 
     pub given_stays : SavingsStay old.memory new.memory
     given_stays = all_stay old.memory new.memory gives.moves
+
+    -- and the same copies are out
+    pub given_copies : LeavesCopies old.memory new.memory
+    given_copies = all_copies old.memory new.memory gives.moves
 
   -- ---- the whole call
 

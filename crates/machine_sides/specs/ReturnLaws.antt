@@ -38,7 +38,7 @@ module _ {S : Type 0} (vpn : ℕ) (old new : ProcessSideValue S) (maps : MapsAga
 
   -- the rest of the counts stays
   pub returned_rest : LeavesRest old.space new.space
-  returned_rest = record { savings = λ test. savings_same old.space new.space maps.moves.process test told.savings; slots = told.slots; stay = told.stay }
+  returned_rest = record { savings = λ test. savings_same old.space new.space maps.moves.process test told.savings; slots = told.slots; stay = told.stay; copies = told.copies }
 
 module _ {S : Type 0} (vpn : ℕ) (pager pager' : PagerSideValue) (old new : ProcessSideValue S) where
   -- the list gains what the process does

@@ -7,6 +7,8 @@ use Rattle.clock_policy.specs.Residents.{residents}
 use Rattle.frame_pool.specs.FrameValue.{FrameValue}
 use Rattle.page_store.specs.JobValue.{SavedValue}
 use Rattle.paged_memory.specs.LeaveLaws.{returned}
+use Rattle.paged_memory.specs.Copies.{LeavesCopies}
+use Rattle.paged_memory.specs.CopiesToldLaws.{leaves_on}
 use Rattle.paged_memory.specs.Moving.{SamePage}
 use Rattle.paged_memory.specs.SaveLaws.{gone_away, leaving_again}
 use Rattle.paged_memory.specs.Stages.{is_saving_stage}
@@ -33,6 +35,7 @@ module _ {S : Type 0} where
     pub savings : (test : Key → Bool) → savings_in new test + cond (test (key_of old.memory.process vpn)) 1 0 ≡ savings_in old test
     pub slots : slots_within new.memory ≡ slots_within old.memory + 1
     pub stay : (v : ℕ) → (v ≡ vpn → ⊥) → SamePage old.memory new.memory v
+    pub copies : LeavesCopies old.memory new.memory
     pub ended : is_saving_stage (stage_in new.memory vpn) ≡ false
     pub frames : pager'.list.frames ≡ pager.list.frames
     pub lawful : Lawful pager.list → Lawful pager'.list
@@ -59,6 +62,7 @@ module _ {S : Type 0} where
           savings = λ test. savings_fewer process.space process'.space told.keeps.process test job.vpn told.savings;
           slots = told.slots;
           stay = told.keeps.others;
+          copies = told.copies;
           ended = ap is_saving_stage told.is;
           frames = ap (λ l. l.frames) list;
           lawful = λ lawful. subst Lawful (sym list) lawful;
@@ -84,6 +88,7 @@ module _ {S : Type 0} where
           savings = λ test. savings_fewer process.space process'.space told.keeps.process test job.vpn told.savings;
           slots = told.slots;
           stay = told.keeps.others;
+          copies = told.copies;
           ended = ap is_saving_stage told.is;
           frames = ap (λ (p : PagerSideValue). p.pager.list.frames) stays;
           lawful = λ lawful. subst (λ (p : PagerSideValue). Lawful p.pager.list) (sym stays) lawful;
@@ -111,6 +116,7 @@ module _ {S : Type 0} where
           savings = λ test. let a = first.savings test in let b = rest.savings test in omega (arith, a, b);
           slots = let a = first.slots in let b = rest.slots in omega (arith, a, b);
           stay = λ v apart. told.keeps.others v apart ∙ first.stay v apart;
+          copies = leaves_on process.space.memory fails.between.space.memory process'.space.memory first.copies told.copies;
           ended = ap is_saving_stage told.is;
           frames = listed_frames (key_of fails.between.space.memory.process job.vpn) pager pager' fails.returns.listed;
           lawful = λ lawful. fails.returns.listed.lawful;

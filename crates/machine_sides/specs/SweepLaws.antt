@@ -10,6 +10,7 @@ use Rattle.clock_policy.specs.ClockPro.{answered}
 use Rattle.clock_policy.specs.Lawful.{Lawful}
 use Rattle.clock_policy.specs.Residents.{residents, is_gone, takes}
 use Rattle.clock_policy.specs.ResidentLaws.{answered_residents}
+use Rattle.paged_memory.specs.CopiesToldLaws.{leaves_on}
 use Rattle.paged_memory.specs.AlikeLaws.{CountsAlike, same_memory, stay_on}
 use Rattle.paged_memory.specs.LeaveLaws.{forgets_alike, HasBegun, begun}
 use Rattle.pager_core.specs.Pager.{PagerState, pager_answered}
@@ -87,7 +88,7 @@ module _ {S : Type 0} where
   evicted_rest : (vpn : ℕ) (old new : SpaceValue S) → vpn < 2 ^ 20 → Evicts vpn old new → LeavesRest old new
   evicted_rest vpn old new small evicts =
       let told = evicted vpn old new small evicts in
-      record { savings = λ test. savings_same old new told.keeps.process test told.savings; slots = told.slots; stay = told.stay }
+      record { savings = λ test. savings_same old new told.keeps.process test told.savings; slots = told.slots; stay = told.stay; copies = told.copies }
 
   heeded_rest : (verdict : Verdict) (vpn : ℕ) (old new : SpaceValue S) → vpn < 2 ^ 20 → HeedsVerdict verdict vpn old new → LeavesRest old new
   heeded_rest GoOn vpn old new small h = alike_rest old new (same_memory old.memory new.memory (ap (λ (s : SpaceValue S). s.memory) h))
@@ -102,4 +103,5 @@ module _ {S : Type 0} where
         savings = λ test. second.savings test ∙ first.savings test;
         slots = second.slots ∙ first.slots;
         stay = stay_on process.space.memory answers.between.memory process'.space.memory first.stay second.stay;
+        copies = leaves_on process.space.memory answers.between.memory process'.space.memory first.copies second.copies;
       }

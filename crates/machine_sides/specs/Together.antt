@@ -3,6 +3,7 @@ use Rattle.std.specs.Prelude.{◌≡◌, ℕ, ◌+◌, Bool, cond, List, [], ◌
 use Rattle.frame_pool.specs.FrameValue.{FrameValue}
 use Rattle.clock_policy.specs.declared.key.Key.{Key}
 use Rattle.clock_policy.specs.Residents.{residents}
+use Rattle.paged_memory.specs.Copies.{copies_among}
 use Rattle.paged_memory.specs.Whole.{residents_among, frames_among, savings_among}
 use Rattle.pager_core.specs.Pager.{PagerState}
 use Rattle.space_core.specs.StandsFor.{SpaceValue}
@@ -24,6 +25,10 @@ module _ {S : Type 0} where
   -- how many of the pages that are being saved pass by their keys
   unfoldable pub savings_in : SpaceValue S → (Key → Bool) → ℕ
   savings_in space test = savings_among space.memory (λ vpn. test (key_of space.memory.process vpn))
+
+  -- how many of the pages of which a copy is out pass by their keys
+  unfoldable pub copies_in : SpaceValue S → (Key → Bool) → ℕ
+  copies_in space test = copies_among space.memory (λ vpn. test (key_of space.memory.process vpn))
 
   -- how many pages hold a frame whose number passes
   unfoldable pub frames_in : SpaceValue S → (ℕ → Bool) → ℕ

@@ -21,7 +21,7 @@ use Rattle.sv32_table.specs.EntryLaws.{undirtied_entry-page_entry, dirty_of-page
 use Rattle.tlb_core.specs.declared.translation.Translation.{Translation}
 use Rattle.tlb_core.specs.Cache.{doomed}
 use Rattle.paged_memory.specs.Calls.{IsResident, ChangesBy}
-use Rattle.paged_memory.specs.Cleaning.{StartsClean, RefusesClean, Copies, CopiesAt, IsCopyAt, IsCopyOf, EndsSo, EndsAt, EndsCleaningOf, is_changed_resident}
+use Rattle.paged_memory.specs.Cleaning.{settles, StartsClean, RefusesClean, Copies, CopiesAt, IsCopyAt, IsCopyOf, EndsSo, EndsAt, EndsCleaningOf, is_changed_resident}
 use Rattle.paged_memory.specs.Counting.{page_passes, is_resident_place}
 use Rattle.paged_memory.specs.Paged.{standing_of, seen_of, page_at, seen_at, flat_page, flat_pages, Holds, ChangesPage}
 use Rattle.paged_memory.specs.Seen.{Seen, Standing, entry_seen, entry_standing, frame_seen, frame_standing, rights_seen, is_dirty, dirty_standing, is_loose_standing, takes_stores, is_used, used_standing}
@@ -272,6 +272,39 @@ module _ {S : Type 0} where
     recopies (Saving frame mark) dirty marked spare = inl refl
     recopies (Away copy) dirty marked spare = inl refl
     recopies Purged dirty marked spare = inl refl
+
+  -- a page is as it was where its cleaning neither ended nor its copy went out
+  module _ (process vpn : ℕ) where
+    unsettled_spare : (frame : FrameValue) (own spare : Option S) → settles (copy_unmarked process vpn frame own spare).1.1 ≡ false → (copy_unmarked process vpn frame own spare).0 ≡ Resident frame (Cleaning own)
+    unsettled_spare frame None None h = cc
+    unsettled_spare frame None (Some slot) h = cc
+    unsettled_spare frame (Some slot) spare h = cc
+
+    unsettled_marks : (frame : FrameValue) (own : Option S) (dirty marked : Bool) (spare : Option S) → settles (copy_cleaning process vpn frame own dirty marked spare).1.1 ≡ false → (copy_cleaning process vpn frame own dirty marked spare).0 ≡ Resident frame (Cleaning own)
+    unsettled_marks frame own true marked spare h = cc
+    unsettled_marks frame own false true spare h = refl
+    unsettled_marks frame own false false spare h = unsettled_spare frame own spare h
+
+    unsettled_slot : (frame : FrameValue) (slot : Keeping S) (dirty marked : Bool) (spare : Option S) → settles (copy_resident process vpn frame slot dirty marked spare).1.1 ≡ false → (copy_resident process vpn frame slot dirty marked spare).0 ≡ Resident frame slot
+    unsettled_slot frame NoSlot dirty marked spare h = refl
+    unsettled_slot frame (Saved copy) dirty marked spare h = refl
+    unsettled_slot frame (Unbacked own) dirty marked spare h = refl
+    unsettled_slot frame (Cleaning own) dirty marked spare h = unsettled_marks frame own dirty marked spare h
+    unsettled_slot frame CopyOut dirty marked spare h = refl
+
+    unsettled_place : (dirty marked : Bool) (place : Place S) (spare : Option S) → settles (copied_clean process vpn dirty marked place spare).1.1 ≡ false → (copied_clean process vpn dirty marked place spare).0 ≡ place
+    unsettled_place dirty marked Fresh spare h = refl
+    unsettled_place dirty marked (Resident frame slot) spare h = unsettled_slot frame slot dirty marked spare h
+    unsettled_place dirty marked (Leaving frame slot mark) spare h = refl
+    unsettled_place dirty marked (Saving frame mark) spare h = refl
+    unsettled_place dirty marked (Away copy) spare h = refl
+    unsettled_place dirty marked Purged spare h = refl
+
+    pub unsettled_page : (dirty marked : Bool) (spare spare' : Option S) (answer : CleanCopy S) (page page' : PageValue S) → page'.origin ≡ page.origin → (page'.place, (spare', answer)) ≡ copied_clean process vpn dirty marked page.place spare
+        → settles answer ≡ false → page' ≡ page
+    unsettled_page dirty marked spare spare' answer page page' origin how unsettled =
+        let place : page'.place ≡ page.place = ap (λ (t : CopiedPage S). t.0) how ∙ unsettled_place dirty marked page.place spare (ap (λ (t : CopiedPage S). settles t.1.1) (sym how) ∙ unsettled) in
+        ap (λ o. record { origin = o; place = page'.place }) origin ∙ ap (λ p. record { origin = page.origin; place = p }) place
 
   module _ {held : S → List ℕ} {honest : Type 0} {pages : List (ℕ × PageValue S)} {tables : List (List ℕ)} {caches : List (List Translation)} (process number : ℕ) (small : number < 2 ^ 20) (holds : Holds held honest pages tables caches) (dirty : Bool) (spare spare' : Option S) (answer : CleanCopy S) where
     abbrev Copying : PageValue S → PageValue S → Type 0

@@ -5,6 +5,8 @@ use Rattle.page_memory.specs.Entries.{place_of, value_at, values_of}
 use Rattle.page_memory.specs.Pages.{Page}
 use Rattle.page_store.specs.declared.state.PageState.{PageState}
 use Rattle.page_store.specs.PageValue.{PageValue, Place, Fresh, Resident, Leaving, Saving, Away, Purged, frame_of, slot_of, page_state_of}
+use Rattle.page_store.specs.Keeping.{is_copy_out}
+use Rattle.paged_memory.specs.Copies.{copies_among}
 use Rattle.paged_memory.specs.Counting.{page_passes, pages_below, pages_where, is_resident_place, is_saving_place, frame_passes, is_kept}
 use Rattle.paged_memory.specs.CountingLaws.{none_where_pass}
 use Rattle.paged_memory.specs.FewerLaws.{Implies, fewer_where, one_fewer_where, once_where}
@@ -248,6 +250,11 @@ module _ {S : Type 0} where
     fresh_savings test =
         ap (pages_where (λ v (page : PageValue S). is_saving_place page.place && test v)) has
         ∙ none_fresh (λ v page. is_saving_place page.place && test v) pages (λ v page is. ap (λ p. is_saving_place p && test v) is)
+
+    pub fresh_copies : (test : ℕ → Bool) → copies_among memory test ≡ 0
+    fresh_copies test =
+        ap (pages_where (λ v (page : PageValue S). is_copy_out (slot_of page.place) && test v)) has
+        ∙ none_fresh (λ v page. is_copy_out (slot_of page.place) && test v) pages (λ v page is. ap (λ p. is_copy_out (slot_of p) && test v) is)
 
     pub fresh_frames : (test : ℕ → Bool) → frames_among memory test ≡ 0
     fresh_frames test =

@@ -1,10 +1,11 @@
 -- A resident page is cleaned while it is used: its cleaning begins, a copy of it goes out, and the copy comes back.
-use Rattle.std.specs.Prelude.{◌≡◌, ℕ, ◌^◌, ◌<◌, ◌&&◌, Bool, map, List, Option, Some, None, Ok, Err}
-use Rattle.page_store.specs.Cleaning.{begun, copied_clean, EndsCleaning}
+use Rattle.std.specs.Prelude.{◌≡◌, ℕ, ◌^◌, ◌<◌, ◌&&◌, Bool, true, false, map, List, Option, Some, None, Result, Ok, Err}
+use Rattle.page_store.specs.Cleaning.{begun, is_being_cleaned, copied_clean, EndsCleaning}
 use Rattle.page_store.specs.JobValue.{SavedValue}
 use Rattle.page_store.specs.PageValue.{PageValue, changed}
 use Rattle.page_store.specs.declared.answer.CleanCopy.{CleanCopy}
 use Rattle.page_store.specs.declared.answer.CleanCopy.TheVariants.{NotCleaning}
+use Rattle.page_store.specs.declared.answer.CleanCopy.TheVariants as copied
 use Rattle.page_store.specs.declared.answer.Cleaned.{Cleaned}
 use Rattle.page_store.specs.declared.answer.Cleaned.TheVariants.{WrongPage, Stored, Device, Clean}
 use Rattle.page_store.specs.declared.refusal.CleanRefusal.{CleanRefusal}
@@ -12,7 +13,7 @@ use Rattle.page_store.specs.declared.refusal.CleanRefusal.TheVariants.{NotReside
 use Rattle.sv32_table.specs.EntryAt.{entry_at, ChangesEntry, SameTables, dirty_of, undirtied_entry}
 use Rattle.tlb_core.specs.Cache.{doomed}
 use Rattle.paged_memory.specs.Calls.{ChangesBy}
-use Rattle.paged_memory.specs.Copies.{StandsAt}
+use Rattle.paged_memory.specs.Copies.{StandsAt, LeavesCopies, CopyGoesOut, CopyComesBack}
 use Rattle.paged_memory.specs.Counting.{page_passes, is_resident_place}
 use Rattle.paged_memory.specs.Paged.{PagedValue, page_at}
 use Rattle.paged_memory.specs.Soundness.{is_marked}
@@ -42,7 +43,33 @@ module _ {S : Type 0} where
   abbrev pub DoesNotClean : Bool → ℕ → CleanRefusal → PagedValue S → Type 0
   DoesNotClean ended vpn refusal memory = RefusesClean ended (dirty_of (entry_at memory.tables vpn)) (page_at memory.pages vpn) refusal
 
+-- why it does not, if it does not
+
+abbrev pub refused_of : {A E : Type 0} → Result A E → Option E
+refused_of (Ok done) = None
+refused_of (Err why) = Some why
+
+module _ {S : Type 0} where
+  abbrev pub page_refusal : Bool → Bool → Option (PageValue S) → Option CleanRefusal
+  page_refusal ended dirty (Some page) = refused_of (begun ended dirty page.place)
+  page_refusal ended dirty None = Some NotResident
+
+  abbrev pub clean_refusal_in : Bool → PagedValue S → ℕ → Option CleanRefusal
+  clean_refusal_in ended memory vpn = page_refusal ended (dirty_of (entry_at memory.tables vpn)) (page_at memory.pages vpn)
+
+  -- whether the page of a number is being cleaned, and no copy of it is out
+  abbrev pub is_cleaning_in : PagedValue S → ℕ → Bool
+  is_cleaning_in memory vpn = page_passes (λ page. is_being_cleaned page.place) (page_at memory.pages vpn)
+
 -- a copy goes out
+
+-- whether a page is another thing after this answer: its cleaning ended, or its copy went out
+abbrev pub settles : {S : Type 0} → CleanCopy S → Bool
+settles NotCleaning = false
+settles copied.Stored = true
+settles copied.NotYet = false
+settles copied.NoSlot = true
+settles (copied.Copied job) = true
 
 module _ {S : Type 0} (process vpn : ℕ) (dirty marked : Bool) (spare spare' : Option S) (answer : CleanCopy S) where
   -- of a page, where its entry has D or not, and a cache has its dirty mark or not
@@ -58,6 +85,14 @@ module _ {S : Type 0} where
   abbrev pub CopiesPage : ℕ → Option S → Option S → CleanCopy S → PagedValue S → PagedValue S → Type 0
   CopiesPage vpn spare spare' answer old new =
       CopiesAt old.process vpn (dirty_of (entry_at old.tables vpn)) (is_marked vpn old.caches) spare spare' answer old.pages new.pages (page_at old.pages vpn)
+
+  -- and what becomes of the copies that are out
+  abbrev pub CopiesOut : ℕ → CleanCopy S → PagedValue S → PagedValue S → Type 0
+  CopiesOut vpn NotCleaning old new = LeavesCopies old new
+  CopiesOut vpn copied.Stored old new = LeavesCopies old new
+  CopiesOut vpn copied.NotYet old new = LeavesCopies old new
+  CopiesOut vpn copied.NoSlot old new = LeavesCopies old new
+  CopiesOut vpn (copied.Copied job) old new = CopyGoesOut vpn job.copy old new
 
 -- the copy comes back
 
@@ -85,6 +120,13 @@ module _ {S : Type 0} where
 
   abbrev pub EndsCleaningIn : SavedValue S → Cleaned S → PagedValue S → PagedValue S → Type 0
   EndsCleaningIn job answer old new = EndsCleaningOf old.process job (dirty_of (entry_at old.tables job.vpn)) old.pages new.pages answer
+
+  -- and what becomes of the copies that are out
+  abbrev pub CopiesBack : SavedValue S → Cleaned S → PagedValue S → PagedValue S → Type 0
+  CopiesBack job (WrongPage back) old new = LeavesCopies old new
+  CopiesBack job Stored old new = CopyComesBack job.vpn old new
+  CopiesBack job Device old new = CopyComesBack job.vpn old new
+  CopiesBack job Clean old new = CopyComesBack job.vpn old new
 
 -- which page may be cleaned
 

@@ -52,3 +52,5 @@ pub mod GivenLaws
 pub mod SlotsLaws
 pub mod LooksLaws
 pub mod CleanLaws
+pub mod CleanBarLaws
+pub mod CopiesCallLaws

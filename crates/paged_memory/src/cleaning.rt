@@ -2,7 +2,7 @@
 
 ghost use Rattle.std.specs.Prelude.{◌≡◌, ◌≤◌, ◌<◌, ◌^◌, ℕ, true, false, IfErr, IfNone, IfSome, OnErr, OnOk};
 ghost use Rattle.paged_memory.specs.Calls.{ChangesBy};
-ghost use Rattle.paged_memory.specs.Cleaning.{BeginsCleaning, CopiesAt, CopiesPage, DoesNotClean, EndsCleaningIn, RefusesClean, StartsClean, is_changed_in, is_changed_resident};
+ghost use Rattle.paged_memory.specs.Cleaning.{BeginsCleaning, CopiesAt, CopiesPage, DoesNotClean, EndsCleaningIn, RefusesClean, StartsClean, is_changed_in, is_changed_resident, settles};
 ghost use Rattle.paged_memory.specs.Moving.{OnlyPages};
 ghost use Rattle.paged_memory.specs.Paged.{memory_of, page_at};
 
@@ -38,6 +38,7 @@ impl<L: Ledger, S: SwapSlot> PagedMemory<L, S> {
         requires { vpn < 2 ^ 20 }
         ensures answer { CopiesPage vpn spare.old spare.new result self.old self.new }
         ensures stays { OnlyPages self.old self.new }
+        ensures same { settles result ≡ false → self.new ≡ self.old }
         ensures memory { memory_of S.content self.new ≡ memory_of S.content self.old }
     {
         let dirty = self.tables.is_dirty(vpn);
@@ -103,8 +104,9 @@ fn copy_page<L: Ledger, S: SwapSlot>(
     spare: &mut Option<S>,
 ) -> CleanCopy<S>
     requires { vpn < 2 ^ 20 }
-    ensures { CopiesAt process vpn stored.0 stored.1 spare.old spare.new result pages.old pages.new
-        (page_at pages.old vpn) }
+    ensures answer { CopiesAt process vpn stored.0 stored.1 spare.old spare.new result pages.old
+        pages.new (page_at pages.old vpn) }
+    ensures same { settles result ≡ false → pages.new ≡ pages.old }
 {
     let Some(place) = pages.place(vpn) else {
         return CleanCopy::NotCleaning;

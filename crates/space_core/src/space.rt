@@ -1,5 +1,6 @@
 ghost use Rattle.std.specs.Prelude.{◌≡◌, ◌<◌, ◌≤◌, ◌^◌, true, Some, option_copied, slice_get, OnSome, IfNone, OnOk, OnErr, IfErr};
 ghost use Rattle.std.specs.Option.{option_or};
+ghost use Rattle.paged_memory.specs.Copies.{LeavesCopies};
 ghost use Rattle.paged_memory.specs.Moving.{ForgetsUse, BeginsToLeave, DoesNotLeave};
 ghost use Rattle.paged_memory.specs.Paged.{memory_of};
 ghost use Rattle.paged_memory.specs.Whole.{accessed_in, frames_among, residents_among, stage_in};
@@ -65,6 +66,7 @@ impl<L: Ledger, S: SwapSlot> Space<L, S> {
         ensures stays { self.new ≡ record self.old { memory = self.new.memory } }
         ensures process { self.new.memory.process ≡ self.old.memory.process }
         ensures reserved { self.new.memory.reserved ≡ self.old.memory.reserved }
+        ensures copies { LeavesCopies self.old.memory self.new.memory }
     {
         self.memory.test_and_clear_accessed(vpn)
     }
@@ -79,6 +81,7 @@ impl<L: Ledger, S: SwapSlot> Space<L, S> {
         ensures stays { self.new ≡ record self.old { memory = self.new.memory } }
         ensures process { self.new.memory.process ≡ self.old.memory.process }
         ensures memory { memory_of S.content self.new.memory ≡ memory_of S.content self.old.memory }
+        ensures copies { LeavesCopies self.old.memory self.new.memory }
     {
         self.memory.begin_evict(vpn)
     }

@@ -2,7 +2,8 @@
 
 ghost use Rattle.std.specs.Prelude.{◌≡◌, ◌≤◌, ◌<◌, ◌^◌, ℕ, true, false, is_some, IfErr, IfNone, IfSome, OnErr, OnOk, IsNone, IsSome};
 ghost use Rattle.page_store.specs.declared.answer.CleanCopy.{CleanCopy};
-ghost use Rattle.paged_memory.specs.Cleaning.{BeginsCleaning, CopiesPage, DoesNotClean, EndsCleaningIn, is_changed_in};
+ghost use Rattle.paged_memory.specs.Cleaning.{BeginsCleaning, CopiesBack, CopiesOut, CopiesPage, DoesNotClean, EndsCleaningIn, is_changed_in, settles};
+ghost use Rattle.paged_memory.specs.Copies.{LeavesCopies};
 ghost use Rattle.paged_memory.specs.Moving.{with_pages};
 ghost use Rattle.paged_memory.specs.Paged.{memory_of};
 
@@ -25,6 +26,7 @@ impl<L: Ledger, S: SwapSlot> Space<L, S> {
         ensures stays { self.new ≡ record self.old { memory = self.new.memory } }
         ensures process { self.new.memory.process ≡ self.old.memory.process }
         ensures memory { memory_of S.content self.new.memory ≡ memory_of S.content self.old.memory }
+        ensures copies { LeavesCopies self.old.memory self.new.memory }
     {
         let ended = self.recorded.running().end().is_some();
         self.memory.begin_clean(vpn, ended)
@@ -33,6 +35,7 @@ impl<L: Ledger, S: SwapSlot> Space<L, S> {
     /// Copies a page that is being cleaned, unless a store was made since the cleaning began, or a cache lets one be made that
     /// no dirty bit would tell of. A page without a slot takes the spare one. No page of a process that has ended is being
     /// cleaned. Takes no memory.
+    #[tactic(auto, using(paged_memory::specs::CopiesToldLaws::leaves_itself))]
     pub fn copy_clean(&mut self, vpn: u32, spare: &mut Option<S>) -> CleanCopy<S>
         requires { vpn < 2 ^ 20 }
         ensures answer { IsNone self.old.running.ending → CopiesPage vpn spare.old spare.new result
@@ -40,11 +43,13 @@ impl<L: Ledger, S: SwapSlot> Space<L, S> {
         ensures ended { IsSome self.old.running.ending → result ≡ CleanCopy.NotCleaning }
         ensures left { IsSome self.old.running.ending → self.new ≡ self.old }
         ensures spared { IsSome self.old.running.ending → spare.new ≡ spare.old }
+        ensures same { settles result ≡ false → self.new ≡ self.old }
         ensures stays { self.new ≡ record self.old {
           memory = with_pages self.old.memory
               self.new.memory;
         } }
         ensures memory { memory_of S.content self.new.memory ≡ memory_of S.content self.old.memory }
+        ensures copies { CopiesOut vpn result self.old.memory self.new.memory }
     {
         if self.recorded.running().end().is_some() {
             return CleanCopy::NotCleaning;
@@ -61,6 +66,7 @@ impl<L: Ledger, S: SwapSlot> Space<L, S> {
               self.new.memory;
         } }
         ensures memory { memory_of S.content self.new.memory ≡ memory_of S.content self.old.memory }
+        ensures copies { CopiesBack job result self.old.memory self.new.memory }
     {
         self.memory.cleaned(job)
     }

@@ -1,5 +1,6 @@
 ghost use Rattle.std.specs.Prelude.{◌≡◌, ◌<◌, ◌^◌, ◌↔◌, false, IfOk, IfErr, OnOk, OnErr, IsErr};
 ghost use Rattle.paged_memory.specs.Leaving.{lets_go};
+ghost use Rattle.paged_memory.specs.Copies.{LeavesCopies};
 ghost use Rattle.paged_memory.specs.Moving.{IsNotSaved, LooksAt, MapsAgain, SameCaches, SavedAway, with_pages};
 ghost use Rattle.paged_memory.specs.Paged.{memory_of};
 ghost use Rattle.paged_memory.specs.Stages.{is_leaving_stage};
@@ -30,6 +31,7 @@ impl<L: Ledger, S: SwapSlot> Space<L, S> {
         ensures same { lets_go result ≡ false → self.new ≡ self.old }
         ensures memory { S.honest → memory_of S.content self.new.memory ≡
             memory_of S.content self.old.memory }
+        ensures copies { LeavesCopies self.old.memory self.new.memory }
     {
         self.memory.collect(vpn, spare, room)
     }
@@ -51,6 +53,7 @@ impl<L: Ledger, S: SwapSlot> Space<L, S> {
         } }
         ensures memory { S.honest → memory_of S.content self.new.memory ≡
             memory_of S.content self.old.memory }
+        ensures copies { LeavesCopies self.old.memory self.new.memory }
     {
         self.memory.saved(job, room)
     }
@@ -65,6 +68,7 @@ impl<L: Ledger, S: SwapSlot> Space<L, S> {
         ensures process { self.new.memory.process ≡ self.old.memory.process }
         ensures caches { SameCaches self.old.memory self.new.memory }
         ensures memory { memory_of S.content self.new.memory ≡ memory_of S.content self.old.memory }
+        ensures copies { LeavesCopies self.old.memory self.new.memory }
     {
         self.memory.bring_back(vpn)
     }

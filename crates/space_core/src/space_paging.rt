@@ -3,6 +3,7 @@ ghost use Rattle.std.specs.Bool.{OnTrue, OnFalse};
 ghost use Rattle.page_memory.specs.Words.{page_offset};
 ghost use Rattle.flat_machine.specs.Process.{Process, flat_run, opening};
 ghost use Rattle.flat_machine.specs.Schedule.{written_out};
+ghost use Rattle.paged_memory.specs.Copies.{LeavesCopies};
 ghost use Rattle.paged_memory.specs.Moving.{ComesIn, DoesNotShow, GivesIn, HasNothingBelow, LeavesLookedAt, LiesBehindIn, RefusesIn, SameCaches, SameEntries, SameTablesIn, SavesNone, SavesSome, ShowsIn, with_pages};
 ghost use Rattle.paged_memory.specs.Paged.{memory_of};
 ghost use Rattle.paged_memory.specs.Peeking.{bytes_of};
@@ -40,6 +41,7 @@ impl<L: Ledger, S: SwapSlot> Space<L, S> {
         ensures process { self.new.memory.process ≡ self.old.memory.process }
         ensures caches { SameCaches self.old.memory self.new.memory }
         ensures reserved { self.new.memory.reserved ≡ self.old.memory.reserved }
+        ensures copies { LeavesCopies self.old.memory self.new.memory }
     {
         self.memory.page_in(vpn, frame)
     }
@@ -67,6 +69,7 @@ impl<L: Ledger, S: SwapSlot> Space<L, S> {
           memory = with_pages self.old.memory
               self.new.memory;
         } }
+        ensures copies { LeavesCopies self.old.memory self.new.memory }
     {
         self.memory.peek(address, bytes)
     }
@@ -94,6 +97,7 @@ impl<L: Ledger, S: SwapSlot> Space<L, S> {
         ensures caches { SameCaches (if_ended self.old.running.ending self.old.memory)
             self.new.memory }
         ensures reserved { self.new.memory.reserved ≡ self.old.memory.reserved }
+        ensures copies { LeavesCopies self.old.memory self.new.memory }
     {
         match self.take_from(0) {
             Some((given, _)) => Some(given),
@@ -103,6 +107,7 @@ impl<L: Ledger, S: SwapSlot> Space<L, S> {
 
     /// The same where it is known that no page before `from` has anything. With what the page had comes the number from which
     /// on others may have something still, so that whoever takes all looks at each page once.
+    #[tactic(auto, using(paged_memory::specs::CopiesToldLaws::leaves_itself))]
     pub fn take_from(&mut self, from: u32) -> Option<((Option<Frame<L>>, Option<S>), u32)>
         requires { HasNothingBelow from self.old.memory }
         ensures given { IfSome result (λ taken. GivesIn taken.0 self.old.memory self.new.memory) }
@@ -119,6 +124,7 @@ impl<L: Ledger, S: SwapSlot> Space<L, S> {
         ensures caches { SameCaches (if_ended self.old.running.ending self.old.memory)
             self.new.memory }
         ensures reserved { self.new.memory.reserved ≡ self.old.memory.reserved }
+        ensures copies { LeavesCopies self.old.memory self.new.memory }
     {
         self.recorded.running().end()?;
         // An ending has emptied them already.

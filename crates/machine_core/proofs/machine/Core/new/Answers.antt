@@ -13,12 +13,13 @@ invariant_of-result g c =
     record {
       machine = machine_begins c.args.frames c.args.slots.items (map (λ start. start_of start.0 start.1.items) c.args.processes.items) _
           c.if-frames-lt-FEWEST_FRAMES.false c.if-frames-gt-MOST_FRAMES.false (omega (arith, many, c.if-len-gt-MOST_PROCESSES.false, c.len.ensures, c.args.processes.ok.0))
-          (begun (λ start. start_of start.0 start.1.items) c.args.frames c.args.slots.items c.args.processes.items c.in-Ok.pager c.new-2.result c.in-Ok-begin_all.processes.items c.in-Ok-with_capacity.jobs.items
-          c.in-Ok.ensures.made c.new-2.ensures.free (c.new-2.ensures.size ∙ c.args.slots.ok.0) c.in-Ok-begin_all.ensures c.in-Ok-with_capacity.ensures.items);
+          (begun (λ start. start_of start.0 start.1.items) c.args.frames c.args.slots.items c.args.processes.items c.in-Ok.pager c.new-2.result c.in-Ok-begin_all.processes.items c.in-Ok-with_capacity.jobs.items c.in-Ok-with_capacity-2.copies.items
+          c.in-Ok.ensures.made c.new-2.ensures.free (c.new-2.ensures.size ∙ c.args.slots.ok.0) c.in-Ok-begin_all.ensures c.in-Ok-with_capacity.ensures.items c.in-Ok-with_capacity-2.ensures.items);
       roomy = omega (arith, size, c.in-Ok-with_capacity.ensures.capacity);
+      spacious = omega (arith, size, c.in-Ok-with_capacity-2.ensures.capacity);
     }
 
 pub returns-clause-begins : goal.returns-clause-begins
 returns-clause-begins g c =
-    begun (λ start. start_of start.0 start.1.items) c.args.frames c.args.slots.items c.args.processes.items c.in-Ok.pager c.new-2.result c.in-Ok-begin_all.processes.items c.in-Ok-with_capacity.jobs.items
-    c.in-Ok.ensures.made c.new-2.ensures.free (c.new-2.ensures.size ∙ c.args.slots.ok.0) c.in-Ok-begin_all.ensures c.in-Ok-with_capacity.ensures.items
+    begun (λ start. start_of start.0 start.1.items) c.args.frames c.args.slots.items c.args.processes.items c.in-Ok.pager c.new-2.result c.in-Ok-begin_all.processes.items c.in-Ok-with_capacity.jobs.items c.in-Ok-with_capacity-2.copies.items
+    c.in-Ok.ensures.made c.new-2.ensures.free (c.new-2.ensures.size ∙ c.args.slots.ok.0) c.in-Ok-begin_all.ensures c.in-Ok-with_capacity.ensures.items c.in-Ok-with_capacity-2.ensures.items

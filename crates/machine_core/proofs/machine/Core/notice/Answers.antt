@@ -5,7 +5,8 @@ use Rattle.machine_core.proofs.machine.Core.notice.Goals as goal
 
 pub invariant_of-self : goal.invariant_of-self
 invariant_of-self g c = record {
-  machine = lent_machine _ (notice_alike _) c.self.inside.pager c.self.inside.slots c.self.inside.jobs.items c.self.inside.processes.items c.as_mut_slice.result.now c.notice.new.processes c.self.inside.processes.len c.args.process
+  machine = lent_machine _ (notice_alike _) c.self.inside.pager c.self.inside.slots c.self.inside.jobs.items c.self.inside.copies.items c.self.inside.processes.items c.as_mut_slice.result.now c.notice.new.processes c.self.inside.processes.len c.args.process
       c.self.invariant.machine (omega (arith, c.self.inside.processes.ok.0)) c.as_mut_slice.ensures.value c.notice.ensures;
   roomy = c.self.invariant.roomy;
+  spacious = c.self.invariant.spacious;
 }

@@ -5,21 +5,26 @@ use Rattle.machine_core.proofs.machine.Core.page_in.Goals as goal
 
 pub page_in_at-requires-clause-fits : goal.page_in_at-requires-clause-fits
 page_in_at-requires-clause-fits g c =
-    frames_fit (record { pager = c.self.inside.pager; slots = c.self.inside.slots; processes = c.self.inside.processes.items; jobs = c.self.inside.jobs.items }) c.self.invariant.machine
+    frames_fit (record { pager = c.self.inside.pager; slots = c.self.inside.slots; processes = c.self.inside.processes.items; jobs = c.self.inside.jobs.items; copies = c.self.inside.copies.items }) c.self.invariant.machine
 
 pub invariant_of-self : goal.invariant_of-self
 invariant_of-self g c = record {
-  machine = page_in_machine _ _ _ c.self.inside.pager c.page_in_at.new.pager c.self.inside.slots c.self.inside.jobs.items c.self.inside.processes.items c.as_mut_slice.result.now c.page_in_at.new.processes c.self.inside.processes.len c.args.key c.page_in_at.result
+  machine = page_in_machine _ _ _ c.self.inside.pager c.page_in_at.new.pager c.self.inside.slots c.self.inside.jobs.items c.self.inside.copies.items c.self.inside.processes.items c.as_mut_slice.result.now c.page_in_at.new.processes c.self.inside.processes.len c.args.key c.page_in_at.result
       c.self.invariant.machine (omega (arith, c.self.inside.processes.ok.0)) c.as_mut_slice.ensures.value c.page_in_at.ensures;
   roomy =
-      let same = page_in_size _ _ _ c.self.inside.pager c.page_in_at.new.pager c.self.inside.slots c.self.inside.jobs.items c.self.inside.processes.items c.as_mut_slice.result.now c.page_in_at.new.processes c.self.inside.processes.len c.args.key c.page_in_at.result
+      let same = page_in_size _ _ _ c.self.inside.pager c.page_in_at.new.pager c.self.inside.slots c.self.inside.jobs.items c.self.inside.copies.items c.self.inside.processes.items c.as_mut_slice.result.now c.page_in_at.new.processes c.self.inside.processes.len c.args.key c.page_in_at.result
       c.self.invariant.machine (omega (arith, c.self.inside.processes.ok.0)) c.as_mut_slice.ensures.value c.page_in_at.ensures in
       let room = c.self.invariant.roomy in
+      omega (arith, same, room);
+  spacious =
+      let same = page_in_size _ _ _ c.self.inside.pager c.page_in_at.new.pager c.self.inside.slots c.self.inside.jobs.items c.self.inside.copies.items c.self.inside.processes.items c.as_mut_slice.result.now c.page_in_at.new.processes c.self.inside.processes.len c.args.key c.page_in_at.result
+      c.self.invariant.machine (omega (arith, c.self.inside.processes.ok.0)) c.as_mut_slice.ensures.value c.page_in_at.ensures in
+      let room = c.self.invariant.spacious in
       omega (arith, same, room);
 }
 
 pub returns : goal.returns
 returns g c =
-    page_in_served _ _ _ c.self.inside.pager c.page_in_at.new.pager c.self.inside.slots c.self.inside.jobs.items c.self.inside.processes.items c.as_mut_slice.result.now c.page_in_at.new.processes c.self.inside.processes.len c.args.key c.page_in_at.result
+    page_in_served _ _ _ c.self.inside.pager c.page_in_at.new.pager c.self.inside.slots c.self.inside.jobs.items c.self.inside.copies.items c.self.inside.processes.items c.as_mut_slice.result.now c.page_in_at.new.processes c.self.inside.processes.len c.args.key c.page_in_at.result
     c.self.invariant.machine (omega (arith, c.self.inside.processes.ok.0)) c.as_mut_slice.ensures.value c.page_in_at.ensures
     c.args.self.now c.self.view_is

@@ -39,23 +39,24 @@ slices_at-slices-requires g c =
 pub invariant_of-self : goal.invariant_of-self
 invariant_of-self g c = record {
   machine =
-      (many_told g.S.SwapSlot.content g.S.SwapSlot.honest g.S.SwapSlot.failures c.args.process c.args.hart c.self.inside.pager c.self.inside.slots c.self.inside.jobs.items c.self.inside.processes.items
+      (many_told g.S.SwapSlot.content g.S.SwapSlot.honest g.S.SwapSlot.failures c.args.process c.args.hart c.self.inside.pager c.self.inside.slots c.self.inside.jobs.items c.self.inside.copies.items c.self.inside.processes.items
       c.as_mut_slice.result.now c.slices_at-slices.new.processes c.self.inside.processes.len c.slices_at-slices.result.ran (option_map (λ (slice : Slice). slice.stop) c.slices_at-slices.result.last) _ c.args.self.now c.self.view_is refl
       (sym c.in_default.is ∙ c.hart_refusal-refusal.ensures ∙ ap (hart_refusal c.args.process c.args.hart) c.as_slice.ensures.value)
       c.faithful.ensures (omega (arith, c.self.inside.processes.ok.0)) c.as_mut_slice.ensures.value c.slices_at-slices.ensures.changes).1.machine;
   roomy = c.self.invariant.roomy;
+  spacious = c.self.invariant.spacious;
 }
 
 pub returns-clause-runs : goal.returns-clause-runs
 returns-clause-runs g c =
-    (many_told g.S.SwapSlot.content g.S.SwapSlot.honest g.S.SwapSlot.failures c.args.process c.args.hart c.self.inside.pager c.self.inside.slots c.self.inside.jobs.items c.self.inside.processes.items
+    (many_told g.S.SwapSlot.content g.S.SwapSlot.honest g.S.SwapSlot.failures c.args.process c.args.hart c.self.inside.pager c.self.inside.slots c.self.inside.jobs.items c.self.inside.copies.items c.self.inside.processes.items
     c.as_mut_slice.result.now c.slices_at-slices.new.processes c.self.inside.processes.len c.slices_at-slices.result.ran (option_map (λ (slice : Slice). slice.stop) c.slices_at-slices.result.last) c.last_reply.result c.args.self.now c.self.view_is c.last_reply.ensures
     (sym c.in_default.is ∙ c.hart_refusal-refusal.ensures ∙ ap (hart_refusal c.args.process c.args.hart) c.as_slice.ensures.value)
     c.faithful.ensures (omega (arith, c.self.inside.processes.ok.0)) c.as_mut_slice.ensures.value c.slices_at-slices.ensures.changes).0
 
 pub returns-clause-coherent : goal.returns-clause-coherent
 returns-clause-coherent g c =
-    (many_told g.S.SwapSlot.content g.S.SwapSlot.honest g.S.SwapSlot.failures c.args.process c.args.hart c.self.inside.pager c.self.inside.slots c.self.inside.jobs.items c.self.inside.processes.items
+    (many_told g.S.SwapSlot.content g.S.SwapSlot.honest g.S.SwapSlot.failures c.args.process c.args.hart c.self.inside.pager c.self.inside.slots c.self.inside.jobs.items c.self.inside.copies.items c.self.inside.processes.items
     c.as_mut_slice.result.now c.slices_at-slices.new.processes c.self.inside.processes.len c.slices_at-slices.result.ran (option_map (λ (slice : Slice). slice.stop) c.slices_at-slices.result.last) c.last_reply.result c.args.self.now c.self.view_is c.last_reply.ensures
     (sym c.in_default.is ∙ c.hart_refusal-refusal.ensures ∙ ap (hart_refusal c.args.process c.args.hart) c.as_slice.ensures.value)
     c.faithful.ensures (omega (arith, c.self.inside.processes.ok.0)) c.as_mut_slice.ensures.value c.slices_at-slices.ensures.changes).1.coherent

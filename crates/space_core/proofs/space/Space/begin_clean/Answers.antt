@@ -1,3 +1,6 @@
+use Rattle.std.proofs.Common.{subst}
+use Rattle.paged_memory.specs.Copies.{LeavesCopies}
+use Rattle.paged_memory.specs.CopiesCallLaws.{begun_copies}
 use Rattle.space_core.specs.StandsFor.{SpaceValue}
 use Rattle.paged_memory.specs.NoticesLaws.{begun_harts}
 use Rattle.paged_memory.specs.ShowingLaws.{begun_given_up}
@@ -12,3 +15,8 @@ invariant_of-self g c =
     (begun_harts c.is_some-ended.result c.begin_clean.result c.args.vpn c.self.inside.memory c.begin_clean.new.self did.err did.ok) did.memory
     (begun_given_up c.is_some-ended.result c.begin_clean.result c.self.inside.memory c.begin_clean.new.self c.args.vpn did.err did.ok)
     c.self.invariant
+
+pub returns-clause-copies : goal.returns-clause-copies
+returns-clause-copies g c =
+    subst (λ (v : SpaceValue g.row.S.Denot). LeavesCopies v.memory c.begin_clean.new.self) c.self.view_is
+    (begun_copies c.is_some-ended.result c.begin_clean.result c.args.vpn c.self.inside.memory c.begin_clean.new.self c.requires c.begin_clean.ensures.err c.begin_clean.ensures.ok)

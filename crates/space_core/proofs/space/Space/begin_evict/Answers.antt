@@ -1,3 +1,6 @@
+use Rattle.std.proofs.Common.{subst}
+use Rattle.paged_memory.specs.Copies.{LeavesCopies}
+use Rattle.paged_memory.specs.CopiesCallLaws.{left_copies}
 use Rattle.space_core.specs.StandsFor.{SpaceValue}
 use Rattle.paged_memory.specs.NoticesLaws.{left_harts}
 use Rattle.paged_memory.specs.ShowingLaws.{left_given_up}
@@ -12,3 +15,8 @@ invariant_of-self g c =
     (left_harts c.begin_evict.result c.args.vpn c.self.inside.memory c.begin_evict.new.self did.err did.ok) did.memory
     (left_given_up c.begin_evict.result c.self.inside.memory c.begin_evict.new.self c.args.vpn did.err did.ok)
     c.self.invariant
+
+pub returns-clause-copies : goal.returns-clause-copies
+returns-clause-copies g c =
+    subst (λ (v : SpaceValue g.row.S.Denot). LeavesCopies v.memory c.begin_evict.new.self) c.self.view_is
+    (left_copies c.begin_evict.result c.args.vpn c.self.inside.memory c.begin_evict.new.self c.begin_evict.ensures.err c.begin_evict.ensures.ok)

@@ -1,3 +1,6 @@
+use Rattle.std.proofs.Common.{subst}
+use Rattle.paged_memory.specs.Copies.{LeavesCopies}
+use Rattle.paged_memory.specs.CopiesCallLaws.{returned_copies}
 use Rattle.space_core.specs.StandsFor.{SpaceValue}
 use Rattle.paged_memory.specs.ShowingLaws.{returned_given_up}
 use Rattle.paged_memory.specs.UsingLaws.{same_harts}
@@ -11,3 +14,8 @@ invariant_of-self g c =
     (same_harts c.self.inside.memory c.bring_back.new.self c.bring_back.ensures.caches) (λ is_honest. c.bring_back.ensures.memory)
     (returned_given_up c.bring_back.result c.self.inside.memory c.bring_back.new.self c.args.vpn c.bring_back.ensures.ok c.bring_back.ensures.err)
     c.self.invariant
+
+pub returns-clause-copies : goal.returns-clause-copies
+returns-clause-copies g c =
+    subst (λ (v : SpaceValue g.row.S.Denot). LeavesCopies v.memory c.bring_back.new.self) c.self.view_is
+    (returned_copies c.bring_back.result c.args.vpn c.self.inside.memory c.bring_back.new.self c.bring_back.ensures.ok c.bring_back.ensures.err)

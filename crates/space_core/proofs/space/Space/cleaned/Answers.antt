@@ -1,3 +1,6 @@
+use Rattle.std.proofs.Common.{subst}
+use Rattle.paged_memory.specs.CopiesCallLaws.{copies_back}
+use Rattle.paged_memory.specs.Cleaning.{CopiesBack}
 use Rattle.space_core.specs.StandsFor.{SpaceValue}
 use Rattle.paged_memory.specs.ShowingLaws.{ended_given_up}
 use Rattle.space_core.proofs.Spaces.{pages_moved}
@@ -10,3 +13,8 @@ invariant_of-self g c =
     pages_moved g.S.SwapSlot.content g.S.SwapSlot.honest inside c.cleaned.new.self did.stays (λ is_honest. did.memory)
     (ended_given_up c.args.job c.cleaned.result c.self.inside.memory c.cleaned.new.self did.ended)
     c.self.invariant
+
+pub returns-clause-copies : goal.returns-clause-copies
+returns-clause-copies g c =
+    subst (λ (v : SpaceValue g.row.S.Denot). CopiesBack c.args.job c.cleaned.result v.memory c.cleaned.new.self) c.self.view_is
+    (copies_back c.args.job c.cleaned.result c.self.inside.memory c.cleaned.new.self c.cleaned.ensures.stays c.cleaned.ensures.ended)

@@ -1,4 +1,7 @@
+use Rattle.std.proofs.Common.{subst}
 use Rattle.paged_memory.specs.ShowingLaws.{collected_given_up}
+use Rattle.paged_memory.specs.Copies.{LeavesCopies}
+use Rattle.paged_memory.specs.CopiesCallLaws.{collected_copies}
 use Rattle.space_core.specs.StandsFor.{SpaceValue}
 use Rattle.space_core.proofs.Spaces.{pages_moved}
 use Rattle.space_core.proofs.space.Space.collect.Goals as goal
@@ -9,3 +12,8 @@ invariant_of-self g c =
     pages_moved g.S.SwapSlot.content g.S.SwapSlot.honest inside c.collect.new.self c.collect.ensures.stays c.collect.ensures.memory
     (collected_given_up _ c.args.vpn c.args.spare.now c.collect.new.spare c.collect.result c.self.inside.memory c.collect.new.self c.collect.ensures.answer)
     c.self.invariant
+
+pub returns-clause-copies : goal.returns-clause-copies
+returns-clause-copies g c =
+    subst (λ (v : SpaceValue g.row.S.Denot). LeavesCopies v.memory c.collect.new.self) c.self.view_is
+    (collected_copies _ c.args.vpn c.args.spare.now c.collect.new.spare c.collect.result c.self.inside.memory c.collect.new.self c.requires c.collect.ensures.stays c.collect.ensures.same c.collect.ensures.answer)

@@ -1,3 +1,6 @@
+use Rattle.std.proofs.Common.{subst}
+use Rattle.paged_memory.specs.CopiesCallLaws.{copies_out}
+use Rattle.paged_memory.specs.Cleaning.{CopiesOut}
 use Rattle.space_core.specs.StandsFor.{SpaceValue}
 use Rattle.paged_memory.specs.ShowingLaws.{copied_given_up}
 use Rattle.space_core.proofs.Spaces.{pages_moved}
@@ -10,3 +13,8 @@ invariant_of-self g c =
     pages_moved g.S.SwapSlot.content g.S.SwapSlot.honest inside c.copy_clean.new.self did.stays (λ is_honest. did.memory)
     (copied_given_up c.args.vpn c.args.spare.now c.copy_clean.new.spare c.copy_clean.result c.self.inside.memory c.copy_clean.new.self did.answer)
     c.self.invariant
+
+pub returns-clause-copies : goal.returns-clause-copies
+returns-clause-copies g c =
+    subst (λ (v : SpaceValue g.row.S.Denot). CopiesOut c.args.vpn c.copy_clean.result v.memory c.copy_clean.new.self) c.self.view_is
+    (copies_out c.args.vpn c.args.spare.now c.copy_clean.new.spare c.copy_clean.result c.self.inside.memory c.copy_clean.new.self c.requires c.copy_clean.ensures.stays c.copy_clean.ensures.answer)

@@ -1,3 +1,6 @@
+use Rattle.std.proofs.Common.{subst}
+use Rattle.paged_memory.specs.Copies.{LeavesCopies}
+use Rattle.paged_memory.specs.CopiesCallLaws.{paged_in_copies}
 use Rattle.space_core.specs.StandsFor.{SpaceValue}
 use Rattle.paged_memory.specs.ShowingLaws.{paged_in_given_up}
 use Rattle.paged_memory.specs.UsingLaws.{same_harts}
@@ -10,3 +13,8 @@ invariant_of-self g c =
     let did = c.page_in.ensures in
     space_moved g.S.SwapSlot.content g.S.SwapSlot.honest inside c.page_in.new.self (same_harts inside.memory c.page_in.new.self did.caches) did.memory
     (paged_in_given_up g.S.SwapSlot.content g.S.SwapSlot.honest g.S.SwapSlot.failures c.args.frame c.args.vpn inside.memory c.page_in.new.self c.page_in.result did.ok did.refused) c.self.invariant
+
+pub returns-clause-copies : goal.returns-clause-copies
+returns-clause-copies g c =
+    subst (λ (v : SpaceValue g.row.S.Denot). LeavesCopies v.memory c.page_in.new.self) c.self.view_is
+    (paged_in_copies g.S.SwapSlot.content g.S.SwapSlot.honest g.S.SwapSlot.failures c.args.frame c.args.vpn c.self.inside.memory c.page_in.new.self c.page_in.result c.requires c.page_in.ensures.process c.page_in.ensures.unmapped c.page_in.ensures.ok c.page_in.ensures.refused)

@@ -1,10 +1,13 @@
-use Rattle.std.proofs.Common.{◌≡◌, ◌<◌, ◌^◌, Some, subst, arith}
+use Rattle.std.proofs.Common.{◌≡◌, ◌<◌, ◌^◌, Some, ap, subst, arith}
 use Rattle.std.specs.Prelude.{OnOk, length}
 use Rattle.page_memory.specs.Words.{page_number}
 use Rattle.flat_machine.specs.Process.{Process, flat_run, opening}
 use Rattle.flat_machine.specs.Schedule.{written_out}
 use Rattle.paged_memory.specs.Peeking.{bytes_of}
 use Rattle.paged_memory.specs.ShowingLaws.{peeked_given_up}
+use Rattle.paged_memory.specs.Copies.{LeavesCopies}
+use Rattle.paged_memory.specs.ComeLaws.{looked_alike}
+use Rattle.paged_memory.specs.Paged.{PagedValue}
 use Rattle.space_core.specs.StandsFor.{SpaceValue}
 use Rattle.space_core.proofs.PagingSpaces.{bytes_flat}
 use Rattle.space_core.proofs.Spaces.{pages_moved}
@@ -23,3 +26,8 @@ returns-clause-flat g c is_honest =
     let small : page_number c.args.address < 2 ^ 20 = omega arith in
     subst (λ (v : SpaceValue g.row.S.Denot). OnOk c.peek.result ((flat : Process) → flat_run (written_out v.schedule) (opening v.image v.input) ≡ Some flat → bytes_of flat.memory c.args.address (length c.args.bytes.now) ≡ Some c.peek.new.bytes)) c.self.view_is
     (bytes_flat g.S.SwapSlot.content g.S.SwapSlot.honest inside c.args.address (length c.args.bytes.now) c.peek.new.bytes c.peek.result small is_honest c.self.invariant c.peek.ensures.bytes)
+
+pub returns-clause-copies : goal.returns-clause-copies
+returns-clause-copies g c =
+    subst (λ (v : SpaceValue g.row.S.Denot). LeavesCopies v.memory c.peek.new.self) c.self.view_is
+    ((looked_alike g.S.SwapSlot.content g.S.SwapSlot.honest c.args.address c.self.inside.memory c.peek.new.self (omega arith) (ap (λ (m : PagedValue g.row.S.Denot). m.process) c.peek.ensures.stays) (ap (λ (m : PagedValue g.row.S.Denot). m.tables) c.peek.ensures.stays) c.peek.ensures.left).copies)

@@ -1,4 +1,7 @@
+use Rattle.std.proofs.Common.{subst}
 use Rattle.paged_memory.specs.ShowingLaws.{saved_given_up}
+use Rattle.paged_memory.specs.Copies.{LeavesCopies}
+use Rattle.paged_memory.specs.CopiesCallLaws.{saved_copies}
 use Rattle.space_core.specs.StandsFor.{SpaceValue}
 use Rattle.space_core.proofs.Spaces.{pages_moved}
 use Rattle.space_core.proofs.space.Space.saved.Goals as goal
@@ -9,3 +12,8 @@ invariant_of-self g c =
     pages_moved g.S.SwapSlot.content g.S.SwapSlot.honest inside c.saved.new.self c.saved.ensures.stays c.saved.ensures.memory
     (saved_given_up c.args.job c.saved.result c.self.inside.memory c.saved.new.self c.saved.ensures.freed c.saved.ensures.refused)
     c.self.invariant
+
+pub returns-clause-copies : goal.returns-clause-copies
+returns-clause-copies g c =
+    subst (λ (v : SpaceValue g.row.S.Denot). LeavesCopies v.memory c.saved.new.self) c.self.view_is
+    (saved_copies c.args.job c.saved.result c.self.inside.memory c.saved.new.self c.saved.ensures.stays c.saved.ensures.freed c.saved.ensures.refused)

@@ -1,6 +1,8 @@
 use Rattle.std.proofs.Common.{◌≡◌, Some, sym, ap, ◌∙◌, subst}
 use Rattle.paged_memory.specs.NoticesLaws.{emptied_quiet, emptied_before}
 use Rattle.paged_memory.specs.Moving.{HasNothingBelow}
+use Rattle.paged_memory.specs.Copies.{LeavesCopies}
+use Rattle.paged_memory.specs.CopiesCallLaws.{taken_copies}
 use Rattle.space_core.specs.RunningValue.{RunningValue}
 use Rattle.space_core.specs.StandsFor.{SpaceValue}
 use Rattle.space_core.proofs.PagingSpaces.{space_given_up}
@@ -20,3 +22,8 @@ invariant_of-self g c =
     let did = c.take_from.ensures in
     let ended : c.self.inside.recorded.running.ending ≡ Some c.in_ok-end.field-0 = ap (λ (r : RunningValue). r.ending) (sym c.running.ensures) ∙ sym c.end.ensures ∙ c.in_ok-end.was in
     space_given_up g.S.SwapSlot.content g.S.SwapSlot.honest inside c.take_from.new.self c.in_ok-end.field-0 ended c.clear_caches.new.self c.take_from.result c.clear_caches.ensures did.left did.given did.caches did.reserved c.self.invariant
+
+pub returns-clause-copies : goal.returns-clause-copies
+returns-clause-copies g c =
+    subst (λ (v : SpaceValue g.row.S.Denot). LeavesCopies v.memory c.take_from.new.self) c.self.view_is
+    (taken_copies c.take_from.result c.self.inside.memory c.clear_caches.new.self c.take_from.new.self c.clear_caches.ensures c.take_from.ensures.left c.take_from.ensures.given)

@@ -1,5 +1,8 @@
+use Rattle.std.proofs.Common.{subst}
 use Rattle.paged_memory.specs.NoticesLaws.{cleared_harts}
 use Rattle.paged_memory.specs.ShowingLaws.{forgotten_given_up, forgotten_shown}
+use Rattle.paged_memory.specs.Copies.{LeavesCopies}
+use Rattle.paged_memory.specs.CopiesCallLaws.{forgotten_copies}
 use Rattle.space_core.specs.StandsFor.{SpaceValue}
 use Rattle.space_core.proofs.Spaces.{space_memory}
 use Rattle.space_core.proofs.space.Space.test_and_clear.Goals as goal
@@ -12,3 +15,8 @@ invariant_of-self g c =
     (cleared_harts c.test_and_clear_accessed.result c.args.vpn c.self.inside.memory c.test_and_clear_accessed.new.self did.gone did.forgets)
     (forgotten_shown g.S.SwapSlot.content c.test_and_clear_accessed.result c.args.vpn inside.memory c.test_and_clear_accessed.new.self did.gone did.forgets)
     (forgotten_given_up c.test_and_clear_accessed.result c.args.vpn inside.memory c.test_and_clear_accessed.new.self did.gone did.forgets) c.self.invariant
+
+pub returns-clause-copies : goal.returns-clause-copies
+returns-clause-copies g c =
+    subst (λ (v : SpaceValue g.row.S.Denot). LeavesCopies v.memory c.test_and_clear_accessed.new.self) c.self.view_is
+    (forgotten_copies c.test_and_clear_accessed.result c.args.vpn c.self.inside.memory c.test_and_clear_accessed.new.self c.test_and_clear_accessed.ensures.gone c.test_and_clear_accessed.ensures.forgets)

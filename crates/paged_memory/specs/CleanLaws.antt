@@ -309,27 +309,27 @@ module _ {S : Type 0} where
       };
     }
 
-    back_out : {P : FrameValue → Bool → Type 0} (dirty : Bool) (now : Keeping S) → is_copy_out now ≡ false → is_kept now ≡ true → (place : Place S) → told.page.place ≡ place → IfCopyOut dirty place P → told.page'.place ≡ keeping now place → HasCleaned job old new
-    back_out dirty now back full Fresh was out is = absurd out
-    back_out dirty now back full (Resident frame CopyOut) was out is = back_from _ _ was is (rekept_resident frame CopyOut now) refl back refl full
-    back_out dirty now back full (Leaving frame CopyOut mark) was out is = back_from _ _ was is (rekept_leaving frame CopyOut now mark) refl back refl full
-    back_out dirty now back full (Resident frame NoSlot) was out is = absurd out
-    back_out dirty now back full (Resident frame (Saved copy)) was out is = absurd out
-    back_out dirty now back full (Resident frame (Unbacked own)) was out is = absurd out
-    back_out dirty now back full (Resident frame (Cleaning own)) was out is = absurd out
-    back_out dirty now back full (Leaving frame NoSlot mark) was out is = absurd out
-    back_out dirty now back full (Leaving frame (Saved copy) mark) was out is = absurd out
-    back_out dirty now back full (Leaving frame (Unbacked own) mark) was out is = absurd out
-    back_out dirty now back full (Leaving frame (Cleaning own) mark) was out is = absurd out
-    back_out dirty now back full (Saving frame mark) was out is = absurd out
-    back_out dirty now back full (Away copy) was out is = absurd out
-    back_out dirty now back full Purged was out is = absurd out
+    back_out : (P : FrameValue → Bool → Type 0) (dirty : Bool) (now : Keeping S) → is_copy_out now ≡ false → is_kept now ≡ true → (place : Place S) → told.page.place ≡ place → IfCopyOut dirty place P → told.page'.place ≡ keeping now place → HasCleaned job old new
+    back_out P dirty now back full Fresh was out is = absurd out
+    back_out P dirty now back full (Resident frame CopyOut) was out is = back_from _ _ was is (rekept_resident frame CopyOut now) refl back refl full
+    back_out P dirty now back full (Leaving frame CopyOut mark) was out is = back_from _ _ was is (rekept_leaving frame CopyOut now mark) refl back refl full
+    back_out P dirty now back full (Resident frame NoSlot) was out is = absurd out
+    back_out P dirty now back full (Resident frame (Saved copy)) was out is = absurd out
+    back_out P dirty now back full (Resident frame (Unbacked own)) was out is = absurd out
+    back_out P dirty now back full (Resident frame (Cleaning own)) was out is = absurd out
+    back_out P dirty now back full (Leaving frame NoSlot mark) was out is = absurd out
+    back_out P dirty now back full (Leaving frame (Saved copy) mark) was out is = absurd out
+    back_out P dirty now back full (Leaving frame (Unbacked own) mark) was out is = absurd out
+    back_out P dirty now back full (Leaving frame (Cleaning own) mark) was out is = absurd out
+    back_out P dirty now back full (Saving frame mark) was out is = absurd out
+    back_out P dirty now back full (Away copy) was out is = absurd out
+    back_out P dirty now back full Purged was out is = absurd out
 
   pub clean_comes_to : (job : SavedValue S) (a : Cleaned S) (old new : PagedValue S) → OnlyPages old new → EndsCleaningIn job a old new → CleanComesTo job old new a
   clean_comes_to job (end.WrongPage back) old new stays ends = stays ∙ ap (λ p. record old { pages = p }) ends.1.0
   clean_comes_to job end.Stored old new stays ends =
-      back_out job old new stays ends.0 ends.1.0 _ ends.1.1 ends.1.1.how.0 (dirty_of (entry_at old.tables job.vpn)) (Unbacked (Some job.slot)) refl refl ends.1.1.page.place refl ends.1.1.how.1.0 ends.1.1.how.1.1
+      back_out job old new stays ends.0 ends.1.0 _ ends.1.1 ends.1.1.how.0 _ (dirty_of (entry_at old.tables job.vpn)) (Unbacked (Some job.slot)) refl refl ends.1.1.page.place refl ends.1.1.how.1.0 ends.1.1.how.1.1
   clean_comes_to job end.Device old new stays ends =
-      back_out job old new stays ends.0 ends.1.0 _ ends.1.1 ends.1.1.how.0 (dirty_of (entry_at old.tables job.vpn)) (Unbacked (Some job.slot)) refl refl ends.1.1.page.place refl ends.1.1.how.1.0 ends.1.1.how.1.1.1
+      back_out job old new stays ends.0 ends.1.0 _ ends.1.1 ends.1.1.how.0 _ (dirty_of (entry_at old.tables job.vpn)) (Unbacked (Some job.slot)) refl refl ends.1.1.page.place refl ends.1.1.how.1.0 ends.1.1.how.1.2
   clean_comes_to job end.Clean old new stays ends =
-      back_out job old new stays ends.0 ends.1.0 _ ends.1.1 ends.1.1.how.0 (dirty_of (entry_at old.tables job.vpn)) (Saved (copy_of job)) refl refl ends.1.1.page.place refl ends.1.1.how.1.0 ends.1.1.how.1.1.1
+      back_out job old new stays ends.0 ends.1.0 _ ends.1.1 ends.1.1.how.0 _ (dirty_of (entry_at old.tables job.vpn)) (Saved (copy_of job)) refl refl ends.1.1.page.place refl ends.1.1.how.1.0 ends.1.1.how.1.2

@@ -76,7 +76,7 @@ module _ {S : Type 0} where
       by_place Fresh was how = absurd how
       by_place (Resident frame slot) was how = absurd how
       by_place (Leaving frame slot mark) was how = absurd how
-      by_place (Saving frame mark) was how = moved_copies _ old new job.vpn err.1.1 (same_bits job.vpn old.tables new.tables (ap (λ (m : PagedValue S). m.tables) stays)) _ _ was how.1.1 refl
+      by_place (Saving frame mark) was how = moved_copies _ old new job.vpn err.1.1 (same_bits job.vpn old.tables new.tables (ap (λ (m : PagedValue S). m.tables) stays)) _ _ was how.2 refl
       by_place (Away copy) was how = absurd how
       by_place Purged was how = absurd how
 

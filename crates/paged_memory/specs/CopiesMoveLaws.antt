@@ -1,7 +1,7 @@
 -- What one page's move from one place to another does to the copies that are out.
 use Rattle.std.proofs.Common.{◌≡◌, ℕ, ◌+◌, ◌^◌, ◌<◌, ◌&&◌, Bool, true, false, cond, List, Option, Some, None, is_some, inl, inr, refl, sym, ap, ◌∙◌, arith, subst}
 use Rattle.std.proofs.lemmas.Bool.Decides.{eqb_tells}
-use Rattle.std.specs.Prelude.{IsFalse}
+use Rattle.std.specs.Prelude.{IsFalse, if◌then◌else◌}
 use Rattle.frame_pool.specs.FrameValue.{FrameValue}
 use Rattle.page_store.specs.Cleaning.{IfCopyOut}
 use Rattle.page_store.specs.Keeping.{is_copy_out, CopyOut}

@@ -94,13 +94,13 @@ module _ {S : Type 0} where
   untold_dropped dirty CopyOut = refl
 
   -- nor of a page that is leaving and counts as unchanged
-  unchanged_unheld : {frame : FrameValue} (mark : Bool) (slot : Keeping S) → changed false (Leaving frame slot mark) ≡ false → is_copy_out slot ≡ false
-  unchanged_unheld mark NoSlot h = refl
-  unchanged_unheld mark (Saved slot) h = refl
-  unchanged_unheld mark (Unbacked slot) h = refl
-  unchanged_unheld mark (Cleaning slot) h = refl
-  unchanged_unheld true CopyOut h = cc
-  unchanged_unheld false CopyOut h = cc
+  unchanged_unheld : (frame : FrameValue) (mark : Bool) (slot : Keeping S) → changed false (Leaving frame slot mark) ≡ false → is_copy_out slot ≡ false
+  unchanged_unheld frame mark NoSlot h = refl
+  unchanged_unheld frame mark (Saved slot) h = refl
+  unchanged_unheld frame mark (Unbacked slot) h = refl
+  unchanged_unheld frame mark (Cleaning slot) h = refl
+  unchanged_unheld frame true CopyOut h = cc
+  unchanged_unheld frame false CopyOut h = cc
 
   -- it is absent, and has let this frame go
   pub record HasGone (vpn : ℕ) (frame : FrameValue) (old new : PagedValue S) : Type 0 where
@@ -124,7 +124,7 @@ module _ {S : Type 0} where
     gone_to = ap (λ (p : PageValue S). p.place) goes.page.how.is
 
     unheld : is_copy_out kept_slot ≡ false
-    unheld = unchanged_unheld goes.page.how.mark kept_slot (ap (λ (p : Place S). changed false p) (sym goes.page.how.was) ∙ goes.page.how.unchanged)
+    unheld = unchanged_unheld frame goes.page.how.mark kept_slot (ap (λ (p : Place S). changed false p) (sym goes.page.how.was) ∙ goes.page.how.unchanged)
 
     pub gone : HasGone vpn frame old new
     gone = record {

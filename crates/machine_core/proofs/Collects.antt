@@ -54,7 +54,7 @@ module _ {S : Type 0} where
 
   -- ---- sums of saves
 
-  more_jobs : (test : Key → Bool) (jobs : List (JobValue S)) (job : JobValue S) → jobs_where test (jobs ++ job ∷ []) ≡ jobs_where test jobs + cond (test (key_of job.process job.vpn)) 1 0
+  pub more_jobs : (test : Key → Bool) (jobs : List (JobValue S)) (job : JobValue S) → jobs_where test (jobs ++ job ∷ []) ≡ jobs_where test jobs + cond (test (key_of job.process job.vpn)) 1 0
   unfolding jobs_where total
   more_jobs test [] job = omega arith
   more_jobs test (other ∷ jobs) job = omega (arith, more_jobs test jobs job)

@@ -7,12 +7,14 @@ use Rattle.clock_policy.specs.Residents.{residents, is_key, has_resident}
 use Rattle.frame_pool.specs.FrameValue.{FrameValue}
 use Rattle.page_store.specs.JobValue.{JobValue}
 use Rattle.paged_memory.specs.AmongLaws.{residents_framed as among_framed, savings_framed as saved_framed, one_resident_less, one_saving_less}
+use Rattle.paged_memory.specs.CleanBarLaws.{copies_framed as copied_framed, one_copy_less}
+use Rattle.paged_memory.specs.Cleaning.{is_cleaning_in}
 use Rattle.paged_memory.specs.Stages.{is_resident_stage, is_saving_stage, has_frame_stage}
 use Rattle.paged_memory.specs.Whole.{stage_in}
 use Rattle.space_core.specs.StandsFor.{SpaceValue}
 use Rattle.machine_core.specs.Machine.{CoreValue, IsMachine, total, numbers_below, jobs_where}
 use Rattle.machine_sides.specs.Sides.{ProcessSideValue}
-use Rattle.machine_sides.specs.Together.{residents_in, savings_in, frames_in, frames_where, key_of}
+use Rattle.machine_sides.specs.Together.{residents_in, savings_in, copies_in, frames_in, frames_where, key_of}
 use Rattle.machine_core.proofs.Finding.{total_some, has_resident as resident_of}
 
 module _ {A : Type 0} (few many : A → ℕ) (all : (x : A) → few x ≤ many x) where
@@ -122,3 +124,21 @@ module _ {S : Type 0} where
           | inl listed ↦ not_listed number listed.1
           | inr full ↦ not_full full.2
         ]
+
+  -- ---- a page of which a copy is out holds a frame
+
+  copies_framed : (q : ProcessSideValue S) → copies_in q.space (λ _. true) ≤ frames_in q.space (λ _. true)
+  unfolding copies_in frames_in
+  copies_framed q = copied_framed q.space.memory
+
+  one_copy_fewer_in : (space : SpaceValue S) (vpn : ℕ) → vpn < 2 ^ 20 → is_cleaning_in space.memory vpn ≡ true → copies_in space (λ _. true) + 1 ≤ frames_in space (λ _. true)
+  unfolding copies_in frames_in
+  one_copy_fewer_in space vpn small cleaning = one_copy_less space.memory vpn small cleaning
+
+  -- a copy of a page that is being cleaned has room
+  pub copy_fits : (core : CoreValue S) (p : ℕ) (q : ProcessSideValue S) (vpn : ℕ) → IsMachine core → slice_get core.processes p ≡ Some q → vpn < 2 ^ 20 → is_cleaning_in q.space.memory vpn ≡ true → length core.copies < core.pager.pager.size
+  copy_fits core p q vpn machine found small cleaning =
+      let framed = machine.framed (λ _. true) in
+      let fewer : total (λ (r : ProcessSideValue S). copies_in r.space (λ _. true)) core.processes + 1 ≤ total (λ (r : ProcessSideValue S). frames_in r.space (λ _. true)) core.processes = one_fewer_total _ _ copies_framed core.processes p q found (one_copy_fewer_in q.space vpn small cleaning) in
+      let copied = machine.copied (λ _. true) in
+      omega (arith, framed, fewer, copied, all_jobs core.copies, all_numbers core.pager.pager.size)

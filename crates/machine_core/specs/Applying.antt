@@ -2,8 +2,9 @@
 use Rattle.std.specs.Prelude.{◌≡◌, ◌⊎◌, ℕ, List, [], ◌∷◌}
 use Rattle.clock_policy.specs.ClockPro.{question_of}
 use Rattle.machine_core.specs.declared.event.Event.{Event}
-use Rattle.machine_core.specs.declared.event.Event.TheVariants.{Step, Notice, Sweep, Collect, Saved, PageIn, Kill, Purge}
+use Rattle.machine_core.specs.declared.event.Event.TheVariants.{Step, Notice, Sweep, Collect, Saved, PageIn, Kill, Purge, Clean, Copy, Cleaned}
 use Rattle.machine_core.specs.declared.event.Reply.{Reply}
+use Rattle.machine_core.specs.CleaningEvents.{clean_refusal, copy_refusal, cleaned_refusal, CleansOnce, CopiesOnce, CleanedOnce}
 use Rattle.machine_core.specs.CollectEvent.{collect_refusal, CollectsOnce}
 use Rattle.machine_core.specs.PurgeEvent.{purge_refusal, PurgesOnce}
 use Rattle.machine_core.specs.SavingOut.{saved_refusal, SavesOnce}
@@ -23,6 +24,9 @@ module _ {S : Type 0} (held : S → List ℕ) (honest : Type 0) (failures : S �
   ServesEvent (PageIn key) old new reply = RefusesEvent (page_in_refusal key old) old new reply ⊎ PagesInOnce held honest failures key old new reply
   ServesEvent (Kill process cause) old new reply = RefusesEvent (kill_refusal process old.processes) old new reply ⊎ Kills process cause old new reply
   ServesEvent (Purge process) old new reply = RefusesEvent (purge_refusal process old.processes) old new reply ⊎ PurgesOnce process old new reply
+  ServesEvent (Clean key) old new reply = RefusesEvent (clean_refusal key old.processes) old new reply ⊎ CleansOnce held key old new reply
+  ServesEvent (Copy key) old new reply = RefusesEvent (copy_refusal key old.processes) old new reply ⊎ CopiesOnce held key old new reply
+  ServesEvent (Cleaned key) old new reply = RefusesEvent (cleaned_refusal key old) old new reply ⊎ CleanedOnce held honest failures key old new reply
 
   -- an event and its reply, and the machine that it leaves, which is a faithful one
   pub record Applies (event : Event) (old new : CoreValue S) (reply : Reply) : Type 0 where

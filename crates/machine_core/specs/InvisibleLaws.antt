@@ -14,9 +14,10 @@ use Rattle.std.proofs.lemmas.Option.{slice_get_within}
 use Rattle.std.proofs.Common.{append_assoc}
 use Rattle.machine_sides.specs.Sides.{ProcessSideValue}
 use Rattle.machine_core.specs.declared.event.Event.{Event}
-use Rattle.machine_core.specs.declared.event.Event.TheVariants.{Step, Notice, Sweep, Collect, Saved, PageIn, Kill, Purge}
+use Rattle.machine_core.specs.declared.event.Event.TheVariants.{Step, Notice, Sweep, Collect, Saved, PageIn, Kill, Purge, Clean, Copy, Cleaned}
 use Rattle.machine_core.specs.declared.event.Reply.{Reply}
 use Rattle.space_core.specs.StandsFor.{SpaceValue, StandsFor, flat_with}
+use Rattle.machine_core.specs.CleaningOrderLaws.{clean_tells, copy_tells, cleaned_tells}
 use Rattle.machine_core.specs.LeavingOrderLaws.{collect_tells, saved_tells, purge_tells}
 use Rattle.machine_core.specs.OrderLaws.{Tells, still_remains, refused_tells}
 use Rattle.machine_core.specs.EventOrderLaws.{page_in_tells, step_tells, notice_tells, kill_tells, sweep_tells}
@@ -32,6 +33,9 @@ module _ {S : Type 0} where
     serves_tells (PageIn key) old new answer serves = elim serves [ inl refuses ↦ refused_tells _ _ old new answer refuses | inr once ↦ page_in_tells held honest failures key old new answer once ]
     serves_tells (Kill p cause) old new answer serves = elim serves [ inl refuses ↦ refused_tells _ _ old new answer refuses | inr kills ↦ kill_tells p cause old new answer kills ]
     serves_tells (Purge p) old new answer serves = elim serves [ inl refuses ↦ refused_tells _ _ old new answer refuses | inr once ↦ purge_tells p old new answer once ]
+    serves_tells (Clean key) old new answer serves = elim serves [ inl refuses ↦ refused_tells _ _ old new answer refuses | inr once ↦ clean_tells held key old new answer once ]
+    serves_tells (Copy key) old new answer serves = elim serves [ inl refuses ↦ refused_tells _ _ old new answer refuses | inr once ↦ copy_tells held key old new answer once ]
+    serves_tells (Cleaned key) old new answer serves = elim serves [ inl refuses ↦ refused_tells _ _ old new answer refuses | inr once ↦ cleaned_tells held honest failures key old new answer once ]
 
     -- a space that stands for a flat process shows it
     stands_shows : (image : ImageContent) (input harts : List ℕ) (space : SpaceValue S) → StandsFor held space → space.image ≡ image → space.input ≡ input → written_out space.schedule ≡ harts

@@ -18,3 +18,5 @@ pub mod RefusalNumber
 pub mod SavingOut
 pub mod TotalLaws
 pub mod Coherent
+pub mod CleaningEvents
+pub mod CleaningOrderLaws

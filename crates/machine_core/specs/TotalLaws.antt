@@ -32,6 +32,11 @@ module _ {A : Type 0} where
   get_set_same (z ∷ zs) zero x y h = refl
   get_set_same (z ∷ zs) (suc p) x y h = get_set_same zs p x y h
 
+  pub set_back : (xs : List A) (p : ℕ) (x : A) → slice_get xs p ≡ Some x → slice_set xs p x ≡ xs
+  set_back [] p x h = cc
+  set_back (z ∷ zs) zero x h = let e : z ≡ x = cc in ap (λ y. y ∷ zs) (sym e)
+  set_back (z ∷ zs) (suc p) x h = ap (λ l. z ∷ l) (set_back zs p x h)
+
   pub get_set_other : (xs : List A) (p i : ℕ) (y : A) → (i ≡ p → ⊥) → slice_get (slice_set xs p y) i ≡ slice_get xs i
   get_set_other [] p i y h = refl
   get_set_other (z ∷ zs) zero zero y h = absurd (h refl)

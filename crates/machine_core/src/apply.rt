@@ -49,6 +49,9 @@ impl<L: Ledger, S: SwapSlot, C: Clock> Core<L, S, C> {
             Event::PageIn(key) => self.page_in(key),
             Event::Kill { process, cause } => self.kill(process, cause),
             Event::Purge { process } => self.purge(process),
+            Event::Clean(key) => self.clean(key),
+            Event::Copy(key) => self.copy(key),
+            Event::Cleaned(key) => self.cleaned(key),
         }
     }
 }

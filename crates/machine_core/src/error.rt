@@ -3,7 +3,7 @@ ghost use Rattle.machine_core.specs.RefusalNumber.{refusal_number};
 
 use thiserror::Error;
 
-/// Why an event is refused, in the order in which the reasons are tested.
+/// Why an event is refused, in the order in which the reasons are tested, but for want of memory, which comes last.
 #[derive(Clone, Copy, PartialEq, Eq, Debug, Error)]
 pub enum EventRefusal {
     #[error("there is no such process")]
@@ -30,10 +30,20 @@ pub enum EventRefusal {
     Purged,
     #[error("out of memory")]
     NoMemory,
+    #[error("the page is not resident")]
+    NotResident,
+    #[error("the page is not changed")]
+    NotChanged,
+    #[error("the page is being cleaned")]
+    AlreadyCleaning,
+    #[error("the page is not being cleaned")]
+    NotCleaning,
+    #[error("no copy of the page is out")]
+    NotCopied,
 }
 
 impl EventRefusal {
-    /// The number under which the refusal is printed, 1 to 12.
+    /// The number under which the refusal is printed, 1 to 17.
     pub fn number(self) -> u32
         ensures { result ≡ refusal_number self }
     {
@@ -50,6 +60,11 @@ impl EventRefusal {
             EventRefusal::SavingStill => 10,
             EventRefusal::Purged => 11,
             EventRefusal::NoMemory => 12,
+            EventRefusal::NotResident => 13,
+            EventRefusal::NotChanged => 14,
+            EventRefusal::AlreadyCleaning => 15,
+            EventRefusal::NotCleaning => 16,
+            EventRefusal::NotCopied => 17,
         }
     }
 }

@@ -21,6 +21,12 @@ pub enum Event {
     Kill { process: u32, cause: KillCause },
     /// An ended process gives its frames and slots back.
     Purge { process: u32 },
+    /// A changed resident page's cleaning begins.
+    Clean(Key),
+    /// A page that is being cleaned is copied, if no store was made since.
+    Copy(Key),
+    /// A copy of a page is written to its slot, and comes back.
+    Cleaned(Key),
 }
 
 /// What came of an event.
@@ -50,9 +56,10 @@ pub enum Reply {
     Freed,
     /// The page was copied, to be saved.
     Dirty,
-    /// No slot is free for the page, and it is resident again.
+    /// No slot is free for the page: one that was leaving is resident again, one that was being cleaned is changed.
     NoSlot,
-    /// The device failed: a page that was to be saved is resident again, one that was to be loaded is where it was.
+    /// The device failed: a page that was to be saved is resident again, one that was to be loaded is where it was, and one that
+    /// was being cleaned is changed.
     Device,
     /// What was loaded is not what was saved, by its digest. The page is where it was.
     Damaged,
@@ -62,6 +69,14 @@ pub enum Reply {
     Killed,
     /// The process has given everything back.
     Purged,
+    /// The page's dirty bit is clear, so that it tells of the next store.
+    Cleaning,
+    /// A store was made since the cleaning began, which has ended: the page is changed.
+    Stored,
+    /// The page was copied, to be written while it stays.
+    Copied,
+    /// The page's slot holds what the page does, which is unchanged.
+    Cleaned,
     /// Nothing was done, but for what want of memory leaves.
     Refused(EventRefusal),
 }

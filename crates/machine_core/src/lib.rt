@@ -6,6 +6,7 @@
 
 mod apply;
 mod coherence;
+mod core_clean;
 mod core_collect;
 mod core_page_in;
 mod core_purge;
@@ -27,7 +28,7 @@ pub use error::{CoreError, EventRefusal};
 pub use event::{Event, Reply};
 pub use machine::Core;
 pub use machine_sides::{
-    Admission, Looked, NotAdmitted, PagerSide, ProcessSide, PurgeRefusal, Purging, SaveFailure,
+    Admission, CleanBar, CopyBar, Copying, Looked, NotAdmitted, PagerSide, ProcessSide, PurgeRefusal, Purging, SaveFailure,
     SaveOutcome, SideCounts, Swept, admit, collect, purge, saved, sweep, undo,
 };
 pub use many_steps::Steps;

@@ -1,7 +1,9 @@
 -- When a page's cleaning begins and when a copy of it goes out; and how many copies can be out.
-use Rattle.std.proofs.Common.{◌≡◌, ℕ, zero, suc, ◌+◌, ◌^◌, ◌<◌, ◌≤◌, ◌&&◌, Bool, true, false, cond, List, Option, Some, None, refl, sym, ap, ◌∙◌, arith, subst}
+use Rattle.std.proofs.Common.{◌≡◌, ℕ, zero, suc, ◌+◌, ◌^◌, ◌<◌, ◌≤◌, ◌&&◌, Bool, true, false, cond, List, Option, Some, None, refl, sym, ap, ◌∙◌, inl, inr, arith, subst}
 use Rattle.frame_pool.specs.FrameValue.{FrameValue}
-use Rattle.page_store.specs.Cleaning.{CopiedPage, copied_clean, copy_resident, copy_cleaning, copy_unmarked, is_being_cleaned}
+use Rattle.std.specs.Prelude.{IsFalse}
+use Rattle.std.proofs.lemmas.Bool.Decides.{eqb_tells}
+use Rattle.page_store.specs.Cleaning.{IfOut, IfCopyOut, CopiedPage, copied_clean, copy_resident, copy_cleaning, copy_unmarked, is_being_cleaned}
 use Rattle.page_store.specs.Keeping.{Keeping, NoSlot, Saved, Unbacked, Cleaning, CopyOut, is_copy_out}
 use Rattle.page_store.specs.PageValue.{PageValue, Place, Fresh, Resident, Leaving, Saving, Away, Purged, frame_of, slot_of}
 use Rattle.page_store.specs.declared.answer.CleanCopy.{CleanCopy}
@@ -14,7 +16,7 @@ use Rattle.sv32_table.specs.EntryAt.{entry_at, dirty_of}
 use Rattle.sv32_table.specs.EntryLaws.{dirty_of-page_entry}
 use Rattle.paged_memory.specs.Cleaning.{BeginsCleaning, DoesNotClean, RefusesClean, CopiesAt, CopiesPage, IsCopyOf, refused_of, page_refusal, clean_refusal_in, is_cleaning_in}
 use Rattle.paged_memory.specs.Coheres.{HoldsIn}
-use Rattle.paged_memory.specs.Copies.{StandsAt, CopyStands, is_copied_in, copies_among}
+use Rattle.paged_memory.specs.Copies.{StandsAt, CopyStands, KeepsCopies, CopyGoesOut, is_copied_in, copies_among}
 use Rattle.paged_memory.specs.Counting.{page_passes, pages_below, pages_where, frame_passes}
 use Rattle.paged_memory.specs.FewerLaws.{Implies, fewer_where, one_fewer_where}
 use Rattle.paged_memory.specs.Paged.{PagedValue, page_at, seen_at}
@@ -196,3 +198,41 @@ module _ {S : Type 0} where
       subst (λ bit. StandsAt job.copy bit (page_at memory.pages job.vpn)) (sym (dirty_seen (seen_at memory.pages job.vpn) (entry_at memory.tables job.vpn) (holds.agree.mapped job.vpn small).entry)) stands,
     ),
   )
+
+  -- a copy that stands is out
+  stands_out : (bytes : List ℕ) (dirty : Bool) (place : Place S) → IfCopyOut dirty place (λ frame stored. IsFalse stored → frame.bytes ≡ bytes) → is_copy_out (slot_of place) ≡ true
+  stands_out bytes dirty Fresh h = absurd h
+  stands_out bytes dirty (Resident frame slot) h = by_slot slot h
+    where
+      by_slot : (slot : Keeping S) → IfOut slot (IsFalse dirty → frame.bytes ≡ bytes) → is_copy_out slot ≡ true
+      by_slot NoSlot h = absurd h
+      by_slot (Saved copy) h = absurd h
+      by_slot (Unbacked own) h = absurd h
+      by_slot (Cleaning own) h = absurd h
+      by_slot CopyOut h = refl
+  stands_out bytes dirty (Leaving frame slot mark) h = by_slot slot h
+    where
+      by_slot : (slot : Keeping S) → IfOut slot (IsFalse mark → frame.bytes ≡ bytes) → is_copy_out slot ≡ true
+      by_slot NoSlot h = absurd h
+      by_slot (Saved copy) h = absurd h
+      by_slot (Unbacked own) h = absurd h
+      by_slot (Cleaning own) h = absurd h
+      by_slot CopyOut h = refl
+  stands_out bytes dirty (Saving frame mark) h = absurd h
+  stands_out bytes dirty (Away copy) h = absurd h
+  stands_out bytes dirty Purged h = absurd h
+
+  pub stands_copied : (memory : PagedValue S) (vpn : ℕ) (bytes : List ℕ) → CopyStands vpn bytes memory → is_copied_in memory vpn ≡ true
+  stands_copied memory vpn bytes stands = by_page (page_at memory.pages vpn) stands
+    where
+      by_page : (o : Option (PageValue S)) → StandsAt bytes (entry_at memory.tables vpn).dirty o → page_passes (λ (page : PageValue S). is_copy_out (slot_of page.place)) o ≡ true
+      by_page None h = absurd h
+      by_page (Some page) h = stands_out bytes (entry_at memory.tables vpn).dirty page.place h
+
+  -- where one more goes out, those that stood stand
+  pub goes_keeps : (old new : PagedValue S) (vpn : ℕ) (copy : List ℕ) → CopyGoesOut vpn copy old new → KeepsCopies old new
+  goes_keeps old new vpn copy goes q bytes small stands =
+      elim (eqb_tells q vpn) [
+        | inl same ↦ let yes = stands_copied old q bytes stands in let no : is_copied_in old q ≡ false = ap (is_copied_in old) same.1 ∙ goes.before in absurd (let clash : true ≡ false = sym yes ∙ no in cc)
+        | inr other ↦ goes.others.stand q bytes small other.1 stands
+      ]

@@ -4,7 +4,7 @@ use Rattle.std.specs.Fmt.{decimal}
 use Rattle.clock_policy.specs.Text.{key_text}
 use Rattle.machine_core.specs.RefusalNumber.{refusal_number}
 use Rattle.machine_core.specs.declared.event.Reply.{Reply}
-use Rattle.machine_core.specs.declared.event.Reply.TheVariants.{Ran, Yielded, HartDone, Ended, Absent, ScheduleFull, Noticed, Asked, Victim, NotYet, Freed, Dirty, NoSlot, Device, Damaged, Mapped, Killed, Purged, Refused}
+use Rattle.machine_core.specs.declared.event.Reply.TheVariants.{Ran, Yielded, HartDone, Ended, Absent, ScheduleFull, Noticed, Asked, Victim, NotYet, Freed, Dirty, NoSlot, Device, Damaged, Mapped, Killed, Purged, Cleaning, Stored, Copied, Cleaned, Refused}
 
 abbrev pub reply_text : Reply → List ℕ
 reply_text Ran = codes "ran"
@@ -25,4 +25,8 @@ reply_text Damaged = codes "damaged"
 reply_text Mapped = codes "mapped"
 reply_text Killed = codes "killed"
 reply_text Purged = codes "purged"
+reply_text Cleaning = codes "cleaning"
+reply_text Stored = codes "stored"
+reply_text Copied = codes "copied"
+reply_text Cleaned = codes "clean"
 reply_text (Refused refusal) = codes "refused " ++ decimal (refusal_number refusal)

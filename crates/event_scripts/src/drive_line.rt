@@ -3,7 +3,7 @@
 ghost use Rattle.std.specs.Prelude.{◌≡◌, ◌↔◌, ◌∷◌, [], IfOk, IfSome, IsErr, None, Ok};
 ghost use Rattle.text_lines.specs.Text.{words_of};
 ghost use Rattle.machine_core.specs.declared.event.Event.{Event};
-ghost use Rattle.event_scripts.specs.DriveScript.{WritesEvent};
+ghost use Rattle.event_scripts.specs.DriveScript.{IsOfCleaning, WritesEvent};
 ghost use Rattle.text_lines.specs.Lines.{IsSkipped};
 
 use clock_policy::Key;
@@ -107,6 +107,22 @@ fn event_of_two(name: &[u8], first: &[u8], second: &[u8]) -> Option<Event>
     } else if name == b"kill".as_slice() {
         let cause = KillCause::from_number(second)?;
         Some(Event::Kill { process, cause })
+    } else {
+        cleaning_event(name, key)
+    }
+}
+
+/// An event of a page that is cleaned.
+fn cleaning_event(name: &[u8], key: Key) -> Option<Event>
+    ensures found { IfSome result (λ event. IsOfCleaning name.now key event) }
+    ensures none { result ≡ None → (event : Event) → ¬ IsOfCleaning name.now key event }
+{
+    if name == b"clean".as_slice() {
+        Some(Event::Clean(key))
+    } else if name == b"copy".as_slice() {
+        Some(Event::Copy(key))
+    } else if name == b"cleaned".as_slice() {
+        Some(Event::Cleaned(key))
     } else {
         None
     }

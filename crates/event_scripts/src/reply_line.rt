@@ -32,6 +32,10 @@ impl fmt::Display for ReplyLine {
             Reply::Mapped => f.write_str("mapped"),
             Reply::Killed => f.write_str("killed"),
             Reply::Purged => f.write_str("purged"),
+            Reply::Cleaning => f.write_str("cleaning"),
+            Reply::Stored => f.write_str("stored"),
+            Reply::Copied => f.write_str("copied"),
+            Reply::Cleaned => f.write_str("clean"),
             Reply::Refused(refusal) => {
                 let number = refusal.number();
                 write!(f, "refused {number}")

@@ -1,5 +1,5 @@
 -- The machine stays one where a copy that is out comes back, and what that comes to.
-use Rattle.std.proofs.Common.{◌≡◌, ℕ, zero, suc, ◌+◌, ◌≤◌, ◌<◌, ◌^◌, ◌==◌, Bool, true, false, cond, List, [], ◌∷◌, ◌++◌, length, Some, None, slice_get, position, take, drop, inl, inr, refl, sym, ap, ◌∙◌, arith, subst}
+use Rattle.std.proofs.Common.{◌≡◌, ℕ, zero, suc, ◌+◌, ◌≤◌, ◌<◌, ◌^◌, ◌==◌, Bool, true, false, cond, List, [], ◌∷◌, ◌++◌, length, Option, Some, None, is_some, slice_get, position, take, drop, inl, inr, refl, sym, ap, ◌∙◌, arith, subst}
 use Rattle.std.specs.Prelude.{slice_set, All}
 use Rattle.std.proofs.lemmas.Bool.Decides.{eqb_tells}
 use Rattle.std.proofs.lemmas.List.{length-set}
@@ -213,11 +213,15 @@ module _ {S : Type 0} where
         subst (λ l. IsMachine (record core { processes = l; copies = copies' })) is_set
         (cleaned_machine held honest failures core key at.process copies' job machine found_lent makes at.process' (has_cleaned held honest failures core key at.process copies' job machine found_lent makes at.process' came is_own_copy at.ends))
 
-    pub cleaned_once : (old : CoreValue S) (answer : Reply) (place : ℕ) → core ≡ old → position (is_save_of key) copies ≡ Some place → RepliesBack came answer → CleanedOnce held honest failures key old after answer
-    cleaned_once old answer place is at_place told =
+    there_is : (o : Option ℕ) → is_some o ≡ true → unless_out o ≡ None
+    there_is None h = cc
+    there_is (Some place) h = refl
+
+    pub cleaned_once : (old : CoreValue S) (answer : Reply) → core ≡ old → is_some (position (is_save_of key) copies) ≡ true → RepliesBack came answer → CleanedOnce held honest failures key old after answer
+    cleaned_once old answer is at_place told =
         subst (λ o. CleanedOnce held honest failures key o after answer) is
         (record {
-          allowed = ap (of_process (λ process. unless_out (position (is_save_of key) copies))) found_lent ∙ ap unless_out at_place;
+          allowed = ap (of_process (λ process. unless_out (position (is_save_of key) copies))) found_lent ∙ there_is (position (is_save_of key) copies) at_place;
           process = at.process;
           process' = at.process';
           found = found_lent;

@@ -1,4 +1,7 @@
+pub mod Cleans
 pub mod Collects
+pub mod CopiesBack
+pub mod CopiesGo
 pub mod Cores
 pub mod Counted
 pub mod Finding

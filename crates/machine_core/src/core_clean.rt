@@ -1,6 +1,6 @@
 //! The machine's events of a page that is cleaned while it is used.
 
-ghost use Rattle.std.specs.Prelude.{◌≡◌, ◌⊎◌, ◌<◌, length, position, vec_len, vec_capacity, IfSome, IfNone, IfOk};
+ghost use Rattle.std.specs.Prelude.{◌≡◌, ◌⊎◌, ◌<◌, None, true, is_some, length, position, vec_len, vec_capacity, IfSome, IfNone, IfOk};
 ghost use Rattle.machine_core.specs.CleaningEvents.{cleaned_refusal, clean_barred, clean_refusal, clean_reply, copies_after, copy_barred, copy_refusal, copy_reply, CleanedOnce, CleansAt, CleansOnce, CopiesAt, CopiesOnce, CopyBackAt, IsOwnCopy, RepliesBack};
 ghost use Rattle.machine_core.specs.MachineRun.{RefusesEvent};
 ghost use Rattle.machine_core.specs.SavingOut.{is_save_of, MakesSave};
@@ -148,6 +148,8 @@ fn keep_copy<S: SwapSlot>(
 fn write_copy<S: SwapSlot>(copies: &mut Vec<CleanJob<S>>, key: Key) -> Option<CleanedJob<S>>
     ensures makes { IfSome result (MakesSave S.content S.honest S.failures key copies.old.items
         copies.new.items) }
+    ensures found { IfSome result (λ _. is_some (position (is_save_of key) copies.old.items) ≡
+        true) }
     ensures none { IfNone result (position (is_save_of key) copies.old.items ≡ None) }
     ensures stays { IfNone result (copies.new ≡ copies.old) }
     ensures capacity { vec_capacity copies.new ≡ vec_capacity copies.old }

@@ -5,4 +5,4 @@ pub mod Looking
 pub mod PurgeSteps
 pub mod SlicesInARow
 pub mod Sweeps
-pub mod Copying
+pub mod SpareSlots

@@ -115,7 +115,7 @@ impl<L: Ledger, S: SwapSlot> ProcessSide<L, S> {
 
     /// Ends the cleaning of a page whose copy comes back; see [`space_core::Space::cleaned`].
     pub fn cleaned(&mut self, job: CleanedJob<S>) -> Cleaned<S>
-        ensures { TakesCopyBack job result self.old self.new }
+        ensures ends { TakesCopyBack job result self.old self.new }
         ensures memory { memory_of S.content self.new.space.memory ≡
             memory_of S.content self.old.space.memory }
     {

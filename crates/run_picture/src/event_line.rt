@@ -16,6 +16,9 @@ impl fmt::Display for EventLine {
             Event::PageIn(key) => write!(f, "pagein {} {}", key.process, key.vpn),
             Event::Kill { process, cause } => write!(f, "kill {process} {}", cause.number()),
             Event::Purge { process } => write!(f, "purge {process}"),
+            Event::Clean(key) => write!(f, "clean {} {}", key.process, key.vpn),
+            Event::Copy(key) => write!(f, "copy {} {}", key.process, key.vpn),
+            Event::Cleaned(key) => write!(f, "cleaned {} {}", key.process, key.vpn),
         }
     }
 }

@@ -57,6 +57,7 @@ impl Named {
 fn key_in_event(event: Event) -> Option<Key> {
     match event {
         Event::Collect(key) | Event::Saved(key) | Event::PageIn(key) => Some(key),
+        Event::Clean(key) | Event::Copy(key) | Event::Cleaned(key) => Some(key),
         _ => None,
     }
 }

@@ -1,7 +1,7 @@
 -- A free slot is at hand while the page is copied.
 use Rattle.std.proofs.Common.{◌≡◌, None, IsNone, sym, ap, ◌∙◌, subst}
 use Rattle.machine_sides.specs.Sides.{ProcessSideValue}
-use Rattle.machine_sides.proofs.Copying.{page_copied}
+use Rattle.machine_sides.proofs.SpareSlots.{page_copied}
 use Rattle.machine_sides.proofs.process_side.ProcessSide.copy_page.Goals as goal
 
 pub returns-clause-copied : goal.returns-clause-copied

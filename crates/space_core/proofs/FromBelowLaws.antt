@@ -35,7 +35,7 @@ module _ {S : Type 0} (hart : ℕ) where
     leaves = subst (All (TakesIn after)) (sym (stores_are hart process r are)) leaves;
   }
 
-  pub next_not_taken : (process : Process) (r : Registers) (before after : PagedValue S) (why : ServeStop) → hart_registers hart process ≡ Some r → LeavesOf process r before after (Err why) → LeavesNext {A = Progress} hart process before after (Err why)
+  pub next_not_taken : (process : Process) (r : Registers) (before after : PagedValue S) (why : ServeStop) → hart_registers hart process ≡ Some r → LeavesOf process r before after (Err why) → LeavesNext hart process before after (Err why)
   next_not_taken process r before after serve.NoMemory are leaves = record {
     registers = r;
     are = are;
@@ -47,7 +47,7 @@ module _ {S : Type 0} (hart : ℕ) where
     leaves = subst (λ stores. Missed (MarksSince after (cache_in before hart)) (MissesIn before hart) (page_number r.pc) stores page) (sym (stores_are hart process r are)) leaves;
   }
 
-  pub misses_next : {A : Type 0} (process : Process) (before after : PagedValue S) (page : ℕ) → LeavesNext {A = A} hart process before after (Err (serve.Absent page)) → MissesNext hart process before after page
+  pub misses_next : (process : Process) (before after : PagedValue S) (page : ℕ) → LeavesNext hart process before after (Err (serve.Absent page)) → MissesNext hart process before after page
   misses_next process before after page next = record { registers = next.registers; are = next.are; missed = next.leaves }
 
   -- where nothing but caches changed since

@@ -203,7 +203,7 @@ module _ {S : Type 0} (held : S → List ℕ) (honest : Type 0) (hart : ℕ) whe
   pub not_ended : (o : Outcome) (inside now : RunningValue) (between after : PagedValue S) (r : Registers) (why : ServeStop) (regs : Registers) (env : Environment) → inside ≡ now → ((memory : Memory) → IsWhole (with_memory inside memory))
       → may_step hart (with_memory now (memory_of held between)) ≡ true → r ≡ slice_index_or inside.harts hart r → (left : LeftBy held honest hart o now between)
       → IsRest (HasIn between hart) (MarksSince after (cache_in between hart)) (LacksIn between) (MarkedIn between) (MarkedIn after) hart o r inside.environment (memory_of held between) (Err why) regs env (memory_of held after)
-      → LeavesRest (TakesIn after) (MissesIn between hart) o r (memory_of held between) (Err why) → KeepsAccess hart between after
+      → LeavesRest {A = Stepped} (TakesIn after) (MissesIn between hart) o r (memory_of held between) (Err why) → KeepsAccess hart between after
       → EndsStep held honest hart (Err why) now left.before (record { harts = slice_set inside.harts hart regs; environment = env; ending = inside.ending }) after
   not_ended o inside now between after r why regs env same whole may are left rest leaves kept =
       let before = left.before in

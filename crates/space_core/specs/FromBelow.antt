@@ -11,13 +11,14 @@ use Rattle.paged_memory.specs.HartMemory.{MarksSince}
 use Rattle.paged_memory.specs.Missing.{MissesIn, TakesIn}
 use Rattle.paged_memory.specs.Paged.{PagedValue}
 use Rattle.paged_memory.specs.Using.{cache_in}
+use Rattle.space_core.specs.declared.progress.Progress.{Progress}
 use Rattle.space_core.specs.declared.progress.SliceStop.{SliceStop}
 use Rattle.space_core.specs.declared.progress.SliceStop.TheVariants.{Budget, Absent, Yield, HartDone, Ended, NoHart, ScheduleFull, NoMemory}
 use Rattle.space_core.specs.Next.{next_stores}
 
 module _ {S : Type 0} (hart : ℕ) where
   -- of the next step, from one memory to another, by its answer
-  pub record LeavesNext {A : Type 0} (process : Process) (before after : PagedValue S) (result : Result A ServeStop) : Type 0 where
+  pub record LeavesNext (process : Process) (before after : PagedValue S) (result : Result Progress ServeStop) : Type 0 where
     pub registers : Registers
     pub are : hart_registers hart process ≡ Some registers
     pub leaves : LeavesStep (TakesIn after) (MarksSince after (cache_in before hart)) (MissesIn before hart) (page_number registers.pc) (next_stores hart process) result

@@ -25,7 +25,6 @@ module _ {S : Type 0} (held : S → List ℕ) (honest : Type 0) (hart : ℕ) whe
     pub stops : StopsRecorded (LacksIn old.memory) hart 1 (room old.schedule hart) (shown_process held old) why ran (shown_process held new)
     pub pages : EachStep (λ at. Used (HasIn old.memory hart) (MarksSince new.memory (cache_in old.memory hart)) (next_pages hart at)) hart (answered why ran) (shown_process held old)
     pub bound : BoundsEach (MarkedIn old.memory) (MarkedIn new.memory) hart (begun why ran) (shown_process held old)
-
     -- what an instruction that was answered stored to takes stores; and a page that was absent was not in the hart's cache when its access
     -- came, whatever the cache held when the instruction began
     pub takes : EachStep (λ at. All (TakesIn new.memory) (next_stores hart at)) hart (answered why ran) (shown_process held old)

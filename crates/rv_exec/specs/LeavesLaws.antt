@@ -1,9 +1,9 @@
 -- What an instruction leaves, by its fetch and its access to data.
-use Rattle.std.specs.Prelude.{◌≡◌, ℕ, Bool, refl, List, [], ◌∷◌, ◌⊎◌, Option, Some, None, Result, Ok, Err, All}
+use Rattle.std.specs.Prelude.{◌≡◌, ℕ, Bool, refl, List, [], Option, Some, None, Ok, Err, All}
 use Rattle.std.proofs.Common.{ap, sym, subst, inl, inr, ◌∙◌}
 use Rattle.page_memory.specs.declared.fault.MemoryFault.{MemoryFault}
 use Rattle.page_memory.specs.declared.words.Access.{Access}
-use Rattle.page_memory.specs.declared.words.Access.TheVariants.{Load, Store, Fetch}
+use Rattle.page_memory.specs.declared.words.Access.TheVariants.{Load, Store}
 use Rattle.page_memory.specs.Words.{page_number}
 use Rattle.page_memory.specs.Memory.{Memory, fetched, stored, replaced, stored_conditionally}
 use Rattle.rv_isa.specs.declared.instruction.Insn.{Insn}
@@ -18,11 +18,11 @@ use Rattle.rv_exec.specs.Access.{store_width}
 use Rattle.rv_exec.specs.AccessLaws.{store_used, store_uses_none, amo_used, amo_uses_none, conditional_used, conditional_uses_none}
 use Rattle.rv_exec.specs.Amo.{amo_result}
 use Rattle.rv_exec.specs.BoundsLaws.{stores_fetched}
-use Rattle.rv_exec.specs.Leaves.{MissedBefore, MissesNoMore, MissedData, LeavesData, Missed, LeavesPages}
+use Rattle.rv_exec.specs.Leaves.{MissedBefore, MissedData, LeavesData, LeavesPages}
 use Rattle.rv_exec.specs.LineLaws.{all_none}
 use Rattle.rv_exec.specs.Outcomes.{IsPresent}
 use Rattle.rv_exec.specs.Registers.{Registers}
-use Rattle.rv_exec.specs.Uses.{page_of_access, store_pages, amo_pages, data_pages, data_stores, decoded_pages, decoded_stores, fetched_stores, pages_stored}
+use Rattle.rv_exec.specs.Uses.{store_pages, amo_pages, data_pages, data_stores, decoded_pages, decoded_stores, fetched_stores, pages_stored}
 
 -- ---- a load, and an instruction that has no access to data
 

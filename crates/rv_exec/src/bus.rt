@@ -53,10 +53,10 @@ pub trait Bus {
     /// each that is marked as stored to the second.
     ghost within: { Self → (ℕ → Bool) → (ℕ → Bool) → Type 0 };
 
-    /// The pages that stores may reach with no mark of their own to set.
+    /// The pages that take stores: their marks tell of a store, or need not.
     ghost takes: { Self → ℕ → Type 0 };
 
-    /// That it has a page at hand for no access of a kind, behind accesses to these pages.
+    /// That a page is not at hand for an access of a kind, behind accesses to these pages at the most.
     ghost misses: { Self → List ℕ → Access → ℕ → Type 0 };
 
     /// What holds of the bus before and after any calls; `memory` aside, all that stays.

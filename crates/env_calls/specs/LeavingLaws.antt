@@ -1,5 +1,5 @@
 -- What a read leaves, and a step by its instruction and what follows it.
-use Rattle.std.specs.Prelude.{◌≡◌, ℕ, List, [], ◌∷◌, ◌++◌, All, Bool, Contains, Result, Ok, Err, IsOk}
+use Rattle.std.specs.Prelude.{◌≡◌, ℕ, List, [], ◌∷◌, ◌++◌, All, Bool, Result, Ok, Err, IsOk}
 use Rattle.std.proofs.Common.{sym, subst, inl, inr, ap, ◌∙◌, append-nil}
 use Rattle.page_memory.specs.declared.fault.MemoryFault.{MemoryFault}
 use Rattle.page_memory.specs.declared.words.Access.{Access}

@@ -1,6 +1,6 @@
 -- What an access of a hart leaves, from below: a page that was stored to takes stores, and a hart's cache did not show a page that was
 -- absent to it.
-use Rattle.std.specs.Prelude.{◌≡◌, ℕ, ◌^◌, ◌<◌, ◌==◌, ◌||◌, Bool, false, List, [], ◌∷◌}
+use Rattle.std.specs.Prelude.{ℕ, ◌^◌, ◌<◌, ◌==◌, ◌||◌, Bool, false, List, [], ◌∷◌}
 use Rattle.page_memory.specs.declared.words.Access.{Access}
 use Rattle.tlb_core.specs.declared.translation.Translation.{Translation}
 use Rattle.tlb_core.specs.Cache.{Hits}

@@ -1,26 +1,19 @@
 -- Laws of what an access of a hart leaves, from below.
-use Rattle.std.specs.Prelude.{◌≡◌, ℕ, ◌^◌, ◌<◌, ◌==◌, ◌||◌, Bool, true, false, List, [], ◌∷◌, All, Result, Ok, Err, OnOk, refl}
-use Rattle.std.proofs.Common.{sym, ap, ◌∙◌, subst, eq-eqb}
+use Rattle.std.specs.Prelude.{◌≡◌, ℕ, ◌^◌, ◌<◌, ◌==◌, ◌||◌, Bool, true, false, List, [], ◌∷◌, refl}
+use Rattle.std.proofs.Common.{ap, eq-eqb}
 use Rattle.std.proofs.lemmas.List.Elements.{All-weaker}
-use Rattle.page_memory.specs.declared.fault.MemoryFault.{MemoryFault}
 use Rattle.page_memory.specs.declared.words.Access.{Access}
-use Rattle.page_memory.specs.Words.{page_number}
-use Rattle.rv_exec.specs.declared.bus.BusError.{BusError}
-use Rattle.rv_exec.specs.declared.bus.BusError.TheVariants.{Fault, Absent}
-use Rattle.rv_exec.specs.Answers.{Answers, with_answer}
-use Rattle.rv_exec.specs.Leaves.{Leaves, MissedBefore}
+use Rattle.rv_exec.specs.Leaves.{MissedBefore}
 use Rattle.sv32_table.specs.EntryAt.{entry_at}
 use Rattle.tlb_core.specs.declared.translation.Translation.{Translation}
 use Rattle.tlb_core.specs.Cache.{Hits}
-use Rattle.paged_memory.specs.Access.{ServesHeld, TakesStores, cache_of}
-use Rattle.paged_memory.specs.Accesses.{Accesses, AnswersAccess}
 use Rattle.paged_memory.specs.HartMemory.{KeepsAccess, KeepsPages}
 use Rattle.paged_memory.specs.HartMemoryLaws.{by_seen}
-use Rattle.paged_memory.specs.Missing.{is_among, MissesBehind, MissesIn, TakesIn}
+use Rattle.paged_memory.specs.Missing.{is_among, MissesBehind, TakesIn}
 use Rattle.paged_memory.specs.OwnCache.{FilledFrom, MayFill}
 use Rattle.paged_memory.specs.OwnCacheLaws.{filled_itself, filled_on, filled_page}
 use Rattle.paged_memory.specs.Paged.{PagedValue, seen_at}
-use Rattle.paged_memory.specs.Seen.{is_dirty, loose_seen, takes_stores}
+use Rattle.paged_memory.specs.Seen.{is_dirty, loose_seen}
 
 -- ---- pages that were accessed
 

@@ -1,7 +1,6 @@
 -- What a step leaves, from below, is what its slice does.
-use Rattle.std.proofs.Common.{◌≡◌, ◌+◌, ℕ, List, Result, Ok, Err, sym, subst, ap, arith}
+use Rattle.std.proofs.Common.{◌≡◌, ℕ, List, Result, Ok, Err, sym, subst, arith}
 use Rattle.std.specs.Prelude.{All, Some}
-use Rattle.page_memory.specs.declared.words.Access.{Access}
 use Rattle.page_memory.specs.Words.{page_number}
 use Rattle.rv_exec.specs.Leaves.{Missed}
 use Rattle.rv_exec.specs.Registers.{Registers}

@@ -1,6 +1,6 @@
 -- What a hart's next instruction leaves, from below: each page that it stores to takes stores; and a page that was absent to it was not
 -- in the hart's cache when its access came.
-use Rattle.std.specs.Prelude.{◌≡◌, ℕ, Option, Some, Result}
+use Rattle.std.specs.Prelude.{◌≡◌, ℕ, Some, Result}
 use Rattle.page_memory.specs.Words.{page_number}
 use Rattle.rv_exec.specs.Leaves.{Missed}
 use Rattle.rv_exec.specs.Registers.{Registers}

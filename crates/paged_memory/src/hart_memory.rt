@@ -221,6 +221,7 @@ impl<'a, L: Ledger, S: SwapSlot, O: Opening> Bus for HartMemory<'a, L, S, O> {
         }
     }
 
+    #[inline(always)]
     fn load_reserved(&mut self, hart: u32, address: u32) -> Result<u32, BusError>
         ensures answer { let after = with_answer (λ word.
             (word, memory_of S.content self.new.memory.now)) result in
@@ -240,6 +241,7 @@ impl<'a, L: Ledger, S: SwapSlot, O: Opening> Bus for HartMemory<'a, L, S, O> {
         }
     }
 
+    #[inline(always)]
     fn store_conditional(&mut self, hart: u32, address: u32, word: u32) -> Result<bool, BusError>
         ensures answer { let after = with_answer (λ is_stored.
             (is_stored, memory_of S.content self.new.memory.now)) result in

@@ -59,10 +59,10 @@ pub used_traps : (has marks : ℕ → Type 0) (hart : ℕ) (regs : Registers) (m
     → line.line hart regs memory ≡ line.Traps cause value → Used has marks (pages_used regs memory) → Used has marks (step_pages hart regs memory)
 used_traps has marks hart regs memory cause value e used = subst (Used has marks) (sym (pages_traps hart regs memory cause value e)) used
 
-contains_before : (page : ℕ) (pages others : List ℕ) → Contains pages page → Contains (pages ++ others) page
+pub contains_before : (page : ℕ) (pages others : List ℕ) → Contains pages page → Contains (pages ++ others) page
 contains_before page pages others h = (h.0, omega (arith, h.1, length-append pages others), get_or_append_left pages others page h.0 h.1 ∙ h.2)
 
-contains_after : (page : ℕ) (others pages : List ℕ) → Contains pages page → Contains (others ++ pages) page
+pub contains_after : (page : ℕ) (others pages : List ℕ) → Contains pages page → Contains (others ++ pages) page
 contains_after page others pages h = (length others + h.0, omega (arith, h.1, length-append others pages), get_or-append-add others pages h.0 page ∙ h.2)
 
 -- the step needs the pages of its instruction, whatever becomes of it
@@ -70,7 +70,7 @@ pub step_contains : (hart : ℕ) (regs : Registers) (memory : Memory) (page : �
 unfolding step_pages
 step_contains hart regs memory page h = contains_before page (pages_used regs memory) (served_pages regs memory (line.line hart regs memory)) h
 
-all_append : (P : ℕ → Type 0) (xs ys : List ℕ) → All P xs → All P ys → All P (xs ++ ys)
+pub all_append : (P : ℕ → Type 0) (xs ys : List ℕ) → All P xs → All P ys → All P (xs ++ ys)
 all_append P [] ys a b = b
 all_append P (x ∷ xs) ys a b = all_front P x (xs ++ ys) (a 0 x (omega arith)) (all_append P xs ys (λ k d h. a (suc k) d (omega arith)) b)
 
@@ -128,7 +128,7 @@ bound_first before after hart regs memory first =
     let stores : List ℕ = served_stores regs memory (line.line hart regs memory) in
     record { bound = λ u s passes stored was. first.bound u s (front_passes u (pages_used regs memory) served passes) (front_passes s (pages_stored regs memory) stores stored) was }
 
-call_stores_after : (hart : ℕ) (regs regs' : Registers) (memory memory' : Memory) → line.line hart regs memory ≡ line.Call → regs' ≡ regs → memory' ≡ memory
+pub call_stores_after : (hart : ℕ) (regs regs' : Registers) (memory memory' : Memory) → line.line hart regs memory ≡ line.Call → regs' ≡ regs → memory' ≡ memory
     → step_stores hart regs memory ≡ pages_stored regs memory ++ call_stores regs' memory'
 unfolding step_stores
 call_stores_after hart regs regs' memory memory' e same_regs same_memory =

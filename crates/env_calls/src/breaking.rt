@@ -4,6 +4,7 @@ ghost use Rattle.page_memory.specs.MemoryMap.{image_end, most_pages};
 ghost use Rattle.rv_exec.specs.Bounds.{Bounds};
 ghost use Rattle.rv_exec.specs.Registers.{register};
 ghost use Rattle.env_calls.specs.Calls.{move_break, moved_break, pages_to_add, a0};
+ghost use Rattle.env_calls.specs.Leaving.{LeavesCall};
 ghost use Rattle.env_calls.specs.Serving.{Serves, TakesMemory};
 
 use crate::answering::{A0, answer};
@@ -12,7 +13,7 @@ use crate::served::{ServeStop, Served};
 use rv_exec::{Bus, Regs};
 
 /// Serves a request to move the break: the break that stands is the answer.
-#[tactic(auto, unfolding(crate::specs::Calls::move_break, crate::specs::Calls::answers))]
+#[tactic(auto, unfolding(crate::specs::Calls::move_break, crate::specs::Calls::answers), using(crate::specs::LeavingLaws::storing_none))]
 pub fn serve_break<B: Bus>(env: &mut Env, regs: &mut Regs, bus: &mut B) -> Result<Served, ServeStop>
     ensures served { let effect = move_break regs.old env.old (B.memory bus.old)
         (register regs.old a0) in
@@ -25,6 +26,7 @@ pub fn serve_break<B: Bus>(env: &mut Env, regs: &mut Regs, bus: &mut B) -> Resul
         (register regs.old a0) in
         result ≡ Err ServeStop.NoMemory → TakesMemory env.old effect }
     ensures bound { Bounds (B.within bus.old) (B.within bus.new) [] [] }
+    ensures leaves { LeavesCall (B.takes bus.new) (B.misses bus.old) [] result }
     ensures kept { B.keeps bus.old bus.new }
 {
     let request = regs.x(A0);
@@ -36,7 +38,7 @@ pub fn serve_break<B: Bus>(env: &mut Env, regs: &mut Regs, bus: &mut B) -> Resul
 }
 
 /// Moves the break to a request that is granted.
-#[tactic(auto, unfolding(crate::specs::Calls::answers))]
+#[tactic(auto, unfolding(crate::specs::Calls::answers), using(crate::specs::LeavingLaws::storing_none))]
 fn grant_break<B: Bus>(
     env: &mut Env,
     regs: &mut Regs,
@@ -55,6 +57,7 @@ fn grant_break<B: Bus>(
     ensures no_memory { let effect = moved_break regs.old env.old (B.memory bus.old) request true in
         result ≡ Err ServeStop.NoMemory → TakesMemory env.old effect }
     ensures bound { Bounds (B.within bus.old) (B.within bus.new) [] [] }
+    ensures leaves { LeavesCall (B.takes bus.new) (B.misses bus.old) [] result }
     ensures kept { B.keeps bus.old bus.new }
 {
     let added = env.pages_to_add(request);

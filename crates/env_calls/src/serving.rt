@@ -1,6 +1,7 @@
 ghost use Rattle.std.specs.Prelude.{◌≡◌, Err, IfOk, OnErr};
 ghost use Rattle.env_calls.specs.Calls.{call, call_pages, call_stores};
 ghost use Rattle.rv_exec.specs.Bounds.{Bounds};
+ghost use Rattle.env_calls.specs.Leaving.{LeavesCall};
 ghost use Rattle.env_calls.specs.Serving.{Serves, TakesMemory, UsesPages};
 
 use crate::answering::{A0, A7, NO_SUCH_CALL, answer};
@@ -27,7 +28,7 @@ use rv_exec::{Bus, Regs};
 ///
 /// A read or a write where its page lacks the right answers -14, any other number -38.
 #[cold]
-#[tactic(auto, unfolding(crate::specs::Calls::answers, crate::specs::Calls::call, crate::specs::Calls::call_pages, crate::specs::Calls::call_stores))]
+#[tactic(auto, unfolding(crate::specs::Calls::answers, crate::specs::Calls::call, crate::specs::Calls::call_pages, crate::specs::Calls::call_stores), using(crate::specs::LeavingLaws::storing_none))]
 pub fn serve<B: Bus>(
     env: &mut Env,
     hart: u32,
@@ -45,6 +46,10 @@ pub fn serve<B: Bus>(
         UsesPages (B.has bus.old) (B.marks bus.new) (B.lacks bus.old) used result }
     ensures bound { let memory = B.memory bus.old in
         Bounds (B.within bus.old) (B.within bus.new) (call_pages regs.old memory) (call_stores regs.old memory) }
+
+    // Each page that the call stores to takes stores; or the absent one was not at hand when its access came.
+    ensures leaves { let stored = call_stores regs.old (B.memory bus.old) in
+        LeavesCall (B.takes bus.new) (B.misses bus.old) stored result }
 
     // Only output and new pages take memory.
     ensures no_memory { result ≡ Err ServeStop.NoMemory →

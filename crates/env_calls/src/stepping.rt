@@ -2,6 +2,7 @@ ghost use Rattle.std.specs.Prelude.{◌≡◌, Err, IfOk, OnErr};
 ghost use Rattle.rv_exec.specs.Bounds.{Bounds};
 ghost use Rattle.env_calls.specs.Serving.{TakesMemory};
 ghost use Rattle.env_calls.specs.Finishing.{rest_effect, rest_pages, rest_stores, RestUses};
+ghost use Rattle.env_calls.specs.Leaving.{LeavesRest};
 ghost use Rattle.env_calls.specs.Stepping.{IsEffect, Stays, served_step};
 
 use crate::env::Env;
@@ -53,6 +54,10 @@ pub fn finish<B: Bus>(
         (B.memory bus.old) result }
     ensures bound { let memory = B.memory bus.old in
         Bounds (B.within bus.old) (B.within bus.new) (rest_pages outcome regs.old memory) (rest_stores outcome regs.old memory) }
+
+    // Each page that the call stores to takes stores; or the absent one was not at hand when its access came.
+    ensures leaves { LeavesRest (B.takes bus.new) (B.misses bus.old) outcome regs.old
+        (B.memory bus.old) result }
 
     // Only output and new pages take memory.
     ensures no_memory { result ≡ Err ServeStop.NoMemory →

@@ -8,6 +8,7 @@ ghost use Rattle.rv_exec.specs.Registers.{register};
 ghost use Rattle.rv_exec.specs.Bounds.{Bounds};
 ghost use Rattle.rv_exec.specs.Uses.{page_of_access};
 ghost use Rattle.env_calls.specs.Calls.{read, did_read, read_pages, count_to_read, write, wrote, write_pages, count_in_page, a1, a2};
+ghost use Rattle.env_calls.specs.Leaving.{LeavesCall};
 ghost use Rattle.env_calls.specs.Serving.{Serves, TakesMemory, UsesPages};
 
 use crate::answering::{A1, A2, BAD_ADDRESS, answer};
@@ -39,7 +40,7 @@ fn count_to_read(env: &Env, address: u32, wanted: u32) -> usize
 }
 
 /// Serves a read.
-#[tactic(auto, unfolding(crate::specs::Calls::answers, crate::specs::Calls::read, crate::specs::Calls::read_pages))]
+#[tactic(auto, unfolding(crate::specs::Calls::answers, crate::specs::Calls::read, crate::specs::Calls::read_pages), using(crate::specs::LeavingLaws::storing_none))]
 pub fn serve_read<B: Bus>(env: &mut Env, regs: &mut Regs, bus: &mut B) -> Result<Served, ServeStop>
     ensures served { let memory = B.memory bus.old in
         let effect = read regs.old env.old memory (register regs.old a1) (register regs.old a2) in
@@ -54,6 +55,9 @@ pub fn serve_read<B: Bus>(env: &mut Env, regs: &mut Regs, bus: &mut B) -> Result
         (register regs.old a2) in
         Bounds (B.within bus.old) (B.within bus.new) used used }
     ensures no_memory { result ≢ Err ServeStop.NoMemory }
+    ensures leaves { let stored = read_pages (B.memory bus.old) (register regs.old a1)
+        (register regs.old a2) in
+        LeavesCall (B.takes bus.new) (B.misses bus.old) stored result }
     ensures kept { B.keeps bus.old bus.new }
 {
     let address = regs.x(A1);
@@ -67,7 +71,7 @@ pub fn serve_read<B: Bus>(env: &mut Env, regs: &mut Regs, bus: &mut B) -> Result
 }
 
 /// Copies so many of the next bytes of the input into one page, and answers their number.
-#[tactic(auto, unfolding(crate::specs::Calls::answers), using(crate::specs::CallLaws::reading, crate::specs::CallLaws::read_bound))]
+#[tactic(auto, unfolding(crate::specs::Calls::answers), using(crate::specs::CallLaws::reading, crate::specs::CallLaws::read_bound, crate::specs::LeavingLaws::read_takes))]
 fn read_in_page<B: Bus>(
     env: &mut Env,
     regs: &mut Regs,
@@ -90,6 +94,9 @@ fn read_in_page<B: Bus>(
         (usable (B.memory bus.old).pages Access.Store address) in
         Bounds (B.within bus.old) (B.within bus.new) used used }
     ensures no_memory { result ≢ Err ServeStop.NoMemory }
+    ensures leaves { let stored = page_of_access address
+        (usable (B.memory bus.old).pages Access.Store address) in
+        LeavesCall (B.takes bus.new) (B.misses bus.old) stored result }
     ensures kept { B.keeps bus.old bus.new }
 {
     match bus.copy_in(address, &env.input()[..count]) {
@@ -103,7 +110,7 @@ fn read_in_page<B: Bus>(
 }
 
 /// Serves a write.
-#[tactic(auto, unfolding(crate::specs::Calls::answers, crate::specs::Calls::write, crate::specs::Calls::write_pages))]
+#[tactic(auto, unfolding(crate::specs::Calls::answers, crate::specs::Calls::write, crate::specs::Calls::write_pages), using(crate::specs::LeavingLaws::storing_none))]
 pub fn serve_write<B: Bus>(env: &mut Env, regs: &mut Regs, bus: &mut B) -> Result<Served, ServeStop>
     ensures served { let memory = B.memory bus.old in
         let effect = write regs.old env.old memory (register regs.old a1) (register regs.old a2) in
@@ -120,6 +127,7 @@ pub fn serve_write<B: Bus>(env: &mut Env, regs: &mut Regs, bus: &mut B) -> Resul
     ensures no_memory { let memory = B.memory bus.old in
         let effect = write regs.old env.old memory (register regs.old a1) (register regs.old a2) in
         result ≡ Err ServeStop.NoMemory → TakesMemory env.old effect }
+    ensures leaves { LeavesCall (B.takes bus.new) (B.misses bus.old) [] result }
     ensures kept { B.keeps bus.old bus.new }
 {
     let address = regs.x(A1);
@@ -132,7 +140,7 @@ pub fn serve_write<B: Bus>(env: &mut Env, regs: &mut Regs, bus: &mut B) -> Resul
 }
 
 /// Writes so many bytes of one page to the output, and answers their number.
-#[tactic(auto, unfolding(crate::specs::Calls::answers), using(crate::specs::CallLaws::writing))]
+#[tactic(auto, unfolding(crate::specs::Calls::answers), using(crate::specs::CallLaws::writing, crate::specs::LeavingLaws::storing_none))]
 fn write_in_page<B: Bus>(
     env: &mut Env,
     regs: &mut Regs,
@@ -157,6 +165,7 @@ fn write_in_page<B: Bus>(
     ensures no_memory { let bytes = copied_out (B.memory bus.old) address count in
         let effect = wrote regs.old env.old (B.memory bus.old) count bytes in
         result ≡ Err ServeStop.NoMemory → TakesMemory env.old effect }
+    ensures leaves { LeavesCall (B.takes bus.new) (B.misses bus.old) [] result }
     ensures kept { B.keeps bus.old bus.new }
 {
     let mut page = [0; PAGE_SIZE];

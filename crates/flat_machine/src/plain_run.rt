@@ -46,6 +46,7 @@ fn run_at_hand(hart: u32, pc: &mut u32, regs: &mut Regs, memory: &mut FlatMemory
         match execute_at(hart, pc, regs, memory) {
             Outcome::Done => left -= 1,
             Outcome::Ecall => return at_call(left),
+            Outcome::Trap(Cause::IllegalInstruction, word) => return at_illegal(left, word),
             Outcome::Trap(cause, value) => return at_trap(left, cause, value),
             Outcome::Absent(_) => unreachable!(),
         }
@@ -67,6 +68,18 @@ fn at_call(left: u64) -> Halt
     Halt {
         left,
         last: Outcome::Ecall,
+    }
+}
+
+/// Where a hart stopped whose next word is outside the table.
+#[cold]
+#[inline(never)]
+fn at_illegal(left: u64, word: u32) -> Halt
+    ensures { result ≡ record { left = left; last = Outcome.Trap Cause.IllegalInstruction word } }
+{
+    Halt {
+        left,
+        last: Outcome::Trap(Cause::IllegalInstruction, word),
     }
 }
 

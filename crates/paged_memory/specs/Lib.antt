@@ -32,6 +32,8 @@ pub mod Moving
 pub mod MovingLaws
 pub mod Using
 pub mod UsingLaws
+pub mod Missing
+pub mod MissingLaws
 pub mod Coheres
 pub mod Fresh
 pub mod FreshLaws

@@ -67,6 +67,8 @@ impl<'a, L: Ledger, S: SwapSlot, O: Opening> Bus for HartMemory<'a, L, S, O> {
     ghost use Rattle.paged_memory.specs.Access.{HasPage, LacksPage};
     ghost use Rattle.paged_memory.specs.HartMemory.{MarksSince, MarksWithin};
     ghost use Rattle.paged_memory.specs.HartMemoryLaws.{access_itself, access_on, lacked, had, marked};
+    ghost use Rattle.paged_memory.specs.Missing.{MissesIn, TakesIn};
+    ghost use Rattle.paged_memory.specs.MissingLaws.{takes_kept};
 
     ghost memory = { λ m. memory_of S.content m.memory.now };
 
@@ -77,6 +79,10 @@ impl<'a, L: Ledger, S: SwapSlot, O: Opening> Bus for HartMemory<'a, L, S, O> {
     ghost marks = { λ m. MarksSince m.memory.now O.opening };
 
     ghost within = { λ m. MarksWithin m.memory.now.tables };
+
+    ghost takes = { λ m. TakesIn m.memory.now };
+
+    ghost misses = { λ m. MissesIn m.memory.now m.hart };
 
     ghost keeps = { λ old new. (new.hart ≡ old.hart) × (new.memory.ghost_name ≡ old.memory.ghost_name) × KeepsAccess old.hart old.memory.now new.memory.now };
 
@@ -89,6 +95,8 @@ impl<'a, L: Ledger, S: SwapSlot, O: Opening> Bus for HartMemory<'a, L, S, O> {
     ghost had_before = { λ before after page kept has. had before.hart page before.memory.now after.memory.now kept.2 (subst (λ h. HasPage after.memory.now.pages (cache_of after.memory.now.caches h) page) kept.0 has) };
 
     ghost marked_on = { λ before after page kept was. marked before.hart page O.opening before.memory.now after.memory.now kept.2 was };
+
+    ghost takes_on = { λ before after page kept taken. takes_kept before.hart page before.memory.now after.memory.now kept.2 taken };
 
     #[inline]
     #[tactic(auto, unfolding(page_memory::specs::Pages::fetched, page_memory::specs::Pages::aligned_page))]
@@ -213,6 +221,7 @@ impl<'a, L: Ledger, S: SwapSlot, O: Opening> Bus for HartMemory<'a, L, S, O> {
         }
     }
 
+    #[inline(always)]
     fn load_reserved(&mut self, hart: u32, address: u32) -> Result<u32, BusError>
         ensures answer { let after = with_answer (λ word.
             (word, memory_of S.content self.new.memory.now)) result in
@@ -232,6 +241,7 @@ impl<'a, L: Ledger, S: SwapSlot, O: Opening> Bus for HartMemory<'a, L, S, O> {
         }
     }
 
+    #[inline(always)]
     fn store_conditional(&mut self, hart: u32, address: u32, word: u32) -> Result<bool, BusError>
         ensures answer { let after = with_answer (λ is_stored.
             (is_stored, memory_of S.content self.new.memory.now)) result in

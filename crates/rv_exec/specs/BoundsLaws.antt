@@ -23,7 +23,7 @@ pages_fetched : (regs : Registers) (memory : Memory) (word : ℕ) → fetched me
 unfolding pages_used
 pages_fetched regs memory word h = ap (fetched_pages regs memory) h
 
-stores_fetched : (regs : Registers) (memory : Memory) (word : ℕ) → fetched memory regs.pc ≡ Ok word
+pub stores_fetched : (regs : Registers) (memory : Memory) (word : ℕ) → fetched memory regs.pc ≡ Ok word
     → pages_stored regs memory ≡ decoded_stores regs memory (insn_of word)
 unfolding pages_stored
 stores_fetched regs memory word h = ap (fetched_stores regs memory) h

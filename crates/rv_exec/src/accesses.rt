@@ -9,6 +9,7 @@ ghost use Rattle.rv_exec.specs.Line.{address_at, load_line, store_line, amo_line
 ghost use Rattle.rv_exec.specs.Uses.{load_pages, store_pages, amo_pages};
 ghost use Rattle.rv_exec.specs.Outcomes.{Follows, UnlessDone, UsesPages};
 ghost use Rattle.rv_exec.specs.Bounds.{Bounds};
+ghost use Rattle.rv_exec.specs.Leaves.{LeavesData};
 
 use crate::arithmetic::add;
 use crate::at_hand::{advance, compute, read};
@@ -40,6 +41,8 @@ pub fn perform_load<B: Bus>(
         UsesPages (B.has bus.old) (B.marks bus.new) (B.lacks bus.old) used result }
     ensures bound { Bounds (B.within bus.old) (B.within bus.new)
         (load_pages (B.memory bus.old) kind (address_at (with_pc regs.old pc.old) rs1 offset)) [] }
+    ensures leaves { LeavesData (B.takes bus.new) (B.misses bus.old) (B.misses bus.new) []
+        result }
     ensures kept { B.keeps bus.old bus.new }
 {
     let address = add(read(*pc, regs, rs1), offset.word());
@@ -48,7 +51,7 @@ pub fn perform_load<B: Bus>(
 
 /// Loads from an address into rd.
 #[inline(always)]
-#[tactic(auto, using(crate::specs::AccessLaws::loading), unfolding(crate::specs::Uses::load_pages, crate::specs::Uses::store_pages, crate::specs::Uses::amo_pages))]
+#[tactic(auto, using(crate::specs::AccessLaws::loading, crate::specs::LeavesLaws::loading_leaves), unfolding(crate::specs::Uses::load_pages, crate::specs::Uses::store_pages, crate::specs::Uses::amo_pages))]
 fn load_from<B: Bus>(
     pc: &mut u32,
     regs: &mut Regs,
@@ -66,6 +69,8 @@ fn load_from<B: Bus>(
         UsesPages (B.has bus.old) (B.marks bus.new) (B.lacks bus.old) used result }
     ensures bound { Bounds (B.within bus.old) (B.within bus.new)
         (load_pages (B.memory bus.old) kind address) [] }
+    ensures leaves { LeavesData (B.takes bus.new) (B.misses bus.old) (B.misses bus.new) []
+        result }
     ensures kept { B.keeps bus.old bus.new }
 {
     match bus.load(width_of_load(kind), address) {
@@ -100,6 +105,9 @@ pub fn perform_store<B: Bus>(
         (address_at (with_pc regs.old pc.old) rs1 offset) (register (with_pc regs.old pc.old) rs2)
         in
         Bounds (B.within bus.old) (B.within bus.new) used used }
+    ensures leaves { let stored = store_pages (B.memory bus.old) kind
+        (address_at (with_pc regs.old pc.old) rs1 offset) (register (with_pc regs.old pc.old) rs2) in
+        LeavesData (B.takes bus.new) (B.misses bus.old) (B.misses bus.new) stored result }
     ensures kept { B.keeps bus.old bus.new }
 {
     let address = add(read(*pc, regs, rs1), offset.word());
@@ -127,6 +135,8 @@ fn store_to<B: Bus>(
         UsesPages (B.has bus.old) (B.marks bus.new) (B.lacks bus.old) used result }
     ensures bound { let used = store_pages (B.memory bus.old) kind address word in
         Bounds (B.within bus.old) (B.within bus.new) used used }
+    ensures leaves { let stored = store_pages (B.memory bus.old) kind address word in
+        LeavesData (B.takes bus.new) (B.misses bus.old) (B.misses bus.new) stored result }
     ensures kept { B.keeps bus.old bus.new }
 {
     match bus.store(width_of_store(kind), address, word) {
@@ -157,6 +167,8 @@ pub fn perform_amo<B: Bus>(
         UsesPages (B.has bus.old) (B.marks bus.new) (B.lacks bus.old) used result }
     ensures bound { let used = amo_pages (B.memory bus.old) kind address operand in
         Bounds (B.within bus.old) (B.within bus.new) used used }
+    ensures leaves { let stored = amo_pages (B.memory bus.old) kind address operand in
+        LeavesData (B.takes bus.new) (B.misses bus.old) (B.misses bus.new) stored result }
     ensures kept { B.keeps bus.old bus.new }
 {
     match bus.amo(address, kind, operand) {
@@ -168,7 +180,7 @@ pub fn perform_amo<B: Bus>(
 
 /// Loads the word at an address into rd, and reserves it for the hart.
 #[inline(always)]
-#[tactic(auto, using(crate::specs::AccessLaws::reserving_word), unfolding(crate::specs::Uses::load_pages, crate::specs::Uses::store_pages))]
+#[tactic(auto, using(crate::specs::AccessLaws::reserving_word, crate::specs::LeavesLaws::loading_leaves), unfolding(crate::specs::Uses::load_pages, crate::specs::Uses::store_pages))]
 pub fn perform_load_reserved<B: Bus>(
     hart: u32,
     pc: &mut u32,
@@ -186,6 +198,8 @@ pub fn perform_load_reserved<B: Bus>(
         UsesPages (B.has bus.old) (B.marks bus.new) (B.lacks bus.old) used result }
     ensures bound { Bounds (B.within bus.old) (B.within bus.new)
         (load_pages (B.memory bus.old) LoadKind.Lw address) [] }
+    ensures leaves { LeavesData (B.takes bus.new) (B.misses bus.old) (B.misses bus.new) []
+        result }
     ensures kept { B.keeps bus.old bus.new }
 {
     match bus.load_reserved(hart, address) {
@@ -216,6 +230,8 @@ pub fn perform_store_conditional<B: Bus>(
         UsesPages (B.has bus.old) (B.marks bus.new) (B.lacks bus.old) used result }
     ensures bound { let used = store_pages (B.memory bus.old) StoreKind.Sw address word in
         Bounds (B.within bus.old) (B.within bus.new) used used }
+    ensures leaves { let stored = store_pages (B.memory bus.old) StoreKind.Sw address word in
+        LeavesData (B.takes bus.new) (B.misses bus.old) (B.misses bus.new) stored result }
     ensures kept { B.keeps bus.old bus.new }
 {
     match bus.store_conditional(hart, address, word) {

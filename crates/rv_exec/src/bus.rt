@@ -1,6 +1,7 @@
-ghost use Rattle.std.specs.Prelude.{◌≡◌, ℕ, Bool, ◌+◌, ◌^◌, ◌<◌, ◌≤◌, [], length, OnOk, OnErr, IsErr};
+ghost use Rattle.std.specs.Prelude.{◌≡◌, ℕ, Bool, ◌+◌, ◌^◌, ◌<◌, ◌≤◌, [], length, OnOk, OnErr, IsErr, List, ◌∷◌};
+ghost use Rattle.page_memory.specs.declared.words.Access.{Access};
 ghost use Rattle.page_memory.specs.declared.words.Width.{Width};
-ghost use Rattle.page_memory.specs.Words.{page_offset};
+ghost use Rattle.page_memory.specs.Words.{page_number, page_offset};
 ghost use Rattle.page_memory.specs.Memory.{Memory, fetched, loaded, stored, replaced, loaded_reserved, stored_conditionally, copied_out, copied_in, with_zeroed};
 
 use page_memory::{MemoryFault, Width};
@@ -33,6 +34,7 @@ pub trait Bus {
     ghost use Rattle.rv_exec.specs.Answers.{Answers, with_answer};
     ghost use Rattle.rv_exec.specs.Amo.{amo_result};
     ghost use Rattle.rv_exec.specs.Bounds.{Bounds};
+    ghost use Rattle.rv_exec.specs.Leaves.{Leaves, MissedBefore};
     ghost use Rattle.rv_exec.specs.Uses.{page_of_access};
 
     /// The memory that the bus stands for.
@@ -51,6 +53,12 @@ pub trait Bus {
     /// each that is marked as stored to the second.
     ghost within: { Self → (ℕ → Bool) → (ℕ → Bool) → Type 0 };
 
+    /// The pages that take stores: their marks tell of a store, or need not.
+    ghost takes: { Self → ℕ → Type 0 };
+
+    /// That a page is not at hand for an access of a kind, behind accesses to these pages at the most.
+    ghost misses: { Self → List ℕ → Access → ℕ → Type 0 };
+
     /// What holds of the bus before and after any calls; `memory` aside, all that stays.
     ghost keeps: { Self → Self → Type 0 };
 
@@ -61,6 +69,8 @@ pub trait Bus {
         ensures same { memory self.new ≡ memory self.old }
         ensures bound { let pages = page_of_access address (fetched (memory self.old) address) in
             Bounds (within self.old) (within self.new) pages [] }
+        ensures leaves { Leaves (MissedBefore (misses self.old) (misses self.new) (page_number address))
+            (misses self.old [] Access.Fetch) result }
         ensures kept { keeps self.old self.new };
 
     /// The number at an address, not extended.
@@ -70,6 +80,7 @@ pub trait Bus {
         ensures same { memory self.new ≡ memory self.old }
         ensures bound { let pages = page_of_access address (loaded (memory self.old) width address)
             in Bounds (within self.old) (within self.new) pages [] }
+        ensures leaves { Leaves (Unit {0}) (misses self.old [] Access.Load) result }
         ensures kept { keeps self.old self.new };
 
     /// Stores the low bytes of a word.
@@ -81,6 +92,8 @@ pub trait Bus {
         ensures bound { let pages = page_of_access address
             (stored (memory self.old) width address word) in
             Bounds (within self.old) (within self.new) pages pages }
+        ensures leaves { Leaves (takes self.new (page_number address))
+            (misses self.old [] Access.Store) result }
         ensures kept { keeps self.old self.new };
 
     /// Replaces the word at an address by the operation's result, in one step, and answers the old word.
@@ -93,6 +106,8 @@ pub trait Bus {
         ensures bound { let pages = page_of_access address (replaced (memory self.old)
             (λ (old : ℕ). amo_result operation old operand) address) in
             Bounds (within self.old) (within self.new) pages pages }
+        ensures leaves { Leaves (takes self.new (page_number address))
+            (misses self.old [] Access.Store) result }
         ensures kept { keeps self.old self.new };
 
     /// Loads the word at an address, and reserves it for the hart of a number.
@@ -104,6 +119,7 @@ pub trait Bus {
         ensures bound { let pages = page_of_access address
             (loaded (memory self.old) Width.Word address) in
             Bounds (within self.old) (within self.new) pages [] }
+        ensures leaves { Leaves (Unit {0}) (misses self.old [] Access.Load) result }
         ensures kept { keeps self.old self.new };
 
     /// Stores a word where the hart of a number has reserved it, and answers whether it has. The hart's reservation goes.
@@ -115,6 +131,8 @@ pub trait Bus {
         ensures bound { let pages = page_of_access address
             (stored (memory self.old) Width.Word address word) in
             Bounds (within self.old) (within self.new) pages pages }
+        ensures leaves { Leaves (takes self.new (page_number address))
+            (misses self.old [] Access.Store) result }
         ensures kept { keeps self.old self.new };
 
     /// Copies bytes of one page to a slice.
@@ -127,6 +145,7 @@ pub trait Bus {
         ensures same { memory self.new ≡ memory self.old }
         ensures bound { let pages = page_of_access address (copied_out (memory self.old) address
             (length to.old)) in Bounds (within self.old) (within self.new) pages [] }
+        ensures leaves { Leaves (Unit {0}) (misses self.old [] Access.Load) result }
         ensures kept { keeps self.old self.new };
 
     /// Copies a slice into one page.
@@ -139,6 +158,8 @@ pub trait Bus {
         ensures bound { let pages = page_of_access address
             (copied_in (memory self.old) address from.now) in
             Bounds (within self.old) (within self.new) pages pages }
+        ensures leaves { Leaves (takes self.new (page_number address))
+            (misses self.old [] Access.Store) result }
         ensures kept { keeps self.old self.new };
 
     /// Maps pages of zeros that may be read and written at so many page numbers from the first on, wherever
@@ -151,7 +172,8 @@ pub trait Bus {
         ensures bound { Bounds (within self.old) (within self.new) [] [] }
         ensures kept { keeps self.old self.new };
 
-    // `keeps` is a preorder; no page is lacked or had after it that was not before, and what is marked stays so.
+    // `keeps` is a preorder; no page is lacked or had after it that was not before, and what is marked stays so,
+    // and what takes stores does.
     ghost keeps_itself: { (bus : Self) → keeps bus bus };
 
     ghost keeps_on: { (before between after : Self) → keeps before between → keeps between after → keeps before after };
@@ -161,4 +183,6 @@ pub trait Bus {
     ghost had_before: { (before after : Self) (page : ℕ) → keeps before after → has after page → has before page };
 
     ghost marked_on: { (before after : Self) (page : ℕ) → keeps before after → marks before page → marks after page };
+
+    ghost takes_on: { (before after : Self) (page : ℕ) → keeps before after → takes before page → takes after page };
 }

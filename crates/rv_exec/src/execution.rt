@@ -6,6 +6,8 @@ ghost use Rattle.rv_isa.specs.Forms.{insn_of_form, branch_insn, load_insn, store
 ghost use Rattle.rv_exec.specs.Registers.{with_pc};
 ghost use Rattle.rv_exec.specs.Line.{decoded_line, line};
 ghost use Rattle.rv_exec.specs.Bounds.{Bounds};
+ghost use Rattle.rv_exec.specs.Leaves.{LeavesData, LeavesPages};
+ghost use Rattle.page_memory.specs.Words.{page_number};
 ghost use Rattle.rv_exec.specs.Uses.{decoded_pages, decoded_stores, pages_used, pages_stored};
 ghost use Rattle.rv_exec.specs.Outcomes.{Follows, UnlessDone, UsesPages, IsPresent};
 
@@ -41,6 +43,10 @@ pub fn execute<B: Bus>(hart: u32, regs: &mut Regs, bus: &mut B) -> Outcome
         UsesPages (B.has bus.old) (B.marks bus.new) (B.lacks bus.old) used result }
     ensures bound { let memory = B.memory bus.old in
         Bounds (B.within bus.old) (B.within bus.new) (pages_used regs.old memory) (pages_stored regs.old memory) }
+
+    // Each page that it stores to takes stores; or the absent one was not at hand when its access came.
+    ensures leaves { let stored = pages_stored regs.old (B.memory bus.old) in
+        LeavesPages (B.takes bus.new) (B.marks bus.new) (B.misses bus.old) (B.misses bus.new) (page_number regs.old.pc) stored result }
     ensures kept { B.keeps bus.old bus.new }
 {
     let mut pc = regs.pc();
@@ -62,6 +68,10 @@ pub fn execute_at<B: Bus>(hart: u32, pc: &mut u32, regs: &mut Regs, bus: &mut B)
         UsesPages (B.has bus.old) (B.marks bus.new) (B.lacks bus.old) used result }
     ensures bound { let memory = B.memory bus.old in
         Bounds (B.within bus.old) (B.within bus.new) (pages_used (with_pc regs.old pc.old) memory) (pages_stored (with_pc regs.old pc.old) memory) }
+
+    // Each page that it stores to takes stores; or the absent one was not at hand when its access came.
+    ensures leaves { let stored = pages_stored (with_pc regs.old pc.old) (B.memory bus.old) in
+        LeavesPages (B.takes bus.new) (B.marks bus.new) (B.misses bus.old) (B.misses bus.new) (page_number (with_pc regs.old pc.old).pc) stored result }
     ensures kept { B.keeps bus.old bus.new }
 {
     let address = *pc;
@@ -86,6 +96,9 @@ fn perform<B: Bus>(hart: u32, pc: &mut u32, regs: &mut Regs, bus: &mut B, word: 
         UsesPages (B.has bus.old) (B.marks bus.new) (B.lacks bus.old) used result }
     ensures bound { let memory = B.memory bus.old in
         Bounds (B.within bus.old) (B.within bus.new) (decoded_pages (with_pc regs.old pc.old) memory (insn_of word)) (decoded_stores (with_pc regs.old pc.old) memory (insn_of word)) }
+    ensures leaves { let stored = decoded_stores (with_pc regs.old pc.old) (B.memory bus.old)
+        (insn_of word) in
+        LeavesData (B.takes bus.new) (B.misses bus.old) (B.misses bus.new) stored result }
     ensures kept { B.keeps bus.old bus.new }
 {
     perform_form(hart, pc, regs, bus, form_of_word(word), word)
@@ -93,6 +106,7 @@ fn perform<B: Bus>(hart: u32, pc: &mut u32, regs: &mut Regs, bus: &mut B, word: 
 
 /// Does what the table says of a word of a form.
 #[inline(always)]
+#[tactic(auto, using(crate::specs::LeavesLaws::leaves_no_data))]
 fn perform_form<B: Bus>(
     hart: u32,
     pc: &mut u32,
@@ -111,6 +125,9 @@ fn perform_form<B: Bus>(
         UsesPages (B.has bus.old) (B.marks bus.new) (B.lacks bus.old) used result }
     ensures bound { let memory = B.memory bus.old in
         Bounds (B.within bus.old) (B.within bus.new) (decoded_pages (with_pc regs.old pc.old) memory (insn_of_form form word)) (decoded_stores (with_pc regs.old pc.old) memory (insn_of_form form word)) }
+    ensures leaves { let stored = decoded_stores (with_pc regs.old pc.old) (B.memory bus.old)
+        (insn_of_form form word) in
+        LeavesData (B.takes bus.new) (B.misses bus.old) (B.misses bus.new) stored result }
     ensures kept { B.keeps bus.old bus.new }
 {
     match form {
@@ -253,6 +270,9 @@ fn load<B: Bus>(pc: &mut u32, regs: &mut Regs, bus: &mut B, kind: LoadKind, word
         UsesPages (B.has bus.old) (B.marks bus.new) (B.lacks bus.old) used result }
     ensures bound { let memory = B.memory bus.old in
         Bounds (B.within bus.old) (B.within bus.new) (decoded_pages (with_pc regs.old pc.old) memory (Some (load_insn kind word))) (decoded_stores (with_pc regs.old pc.old) memory (Some (load_insn kind word))) }
+    ensures leaves { let stored = decoded_stores (with_pc regs.old pc.old) (B.memory bus.old)
+        (Some (load_insn kind word)) in
+        LeavesData (B.takes bus.new) (B.misses bus.old) (B.misses bus.new) stored result }
     ensures kept { B.keeps bus.old bus.new }
 {
     perform_load(pc, regs, bus, kind, rd(word), rs1(word), immediate(word))
@@ -272,6 +292,9 @@ fn store<B: Bus>(pc: &mut u32, regs: &mut Regs, bus: &mut B, kind: StoreKind, wo
         UsesPages (B.has bus.old) (B.marks bus.new) (B.lacks bus.old) used result }
     ensures bound { let memory = B.memory bus.old in
         Bounds (B.within bus.old) (B.within bus.new) (decoded_pages (with_pc regs.old pc.old) memory (Some (store_insn kind word))) (decoded_stores (with_pc regs.old pc.old) memory (Some (store_insn kind word))) }
+    ensures leaves { let stored = decoded_stores (with_pc regs.old pc.old) (B.memory bus.old)
+        (Some (store_insn kind word)) in
+        LeavesData (B.takes bus.new) (B.misses bus.old) (B.misses bus.new) stored result }
     ensures kept { B.keeps bus.old bus.new }
 {
     perform_store(
@@ -442,6 +465,9 @@ fn amo<B: Bus>(hart: u32, pc: &mut u32, regs: &mut Regs, bus: &mut B, word: u32)
         UsesPages (B.has bus.old) (B.marks bus.new) (B.lacks bus.old) used result }
     ensures bound { let memory = B.memory bus.old in
         Bounds (B.within bus.old) (B.within bus.new) (decoded_pages (with_pc regs.old pc.old) memory (amo_of word)) (decoded_stores (with_pc regs.old pc.old) memory (amo_of word)) }
+    ensures leaves { let stored = decoded_stores (with_pc regs.old pc.old) (B.memory bus.old)
+        (amo_of word) in
+        LeavesData (B.takes bus.new) (B.misses bus.old) (B.misses bus.new) stored result }
     ensures kept { B.keeps bus.old bus.new }
 {
     match amo_kind(word) {
@@ -468,6 +494,9 @@ fn reservation<B: Bus>(hart: u32, pc: &mut u32, regs: &mut Regs, bus: &mut B, wo
         UsesPages (B.has bus.old) (B.marks bus.new) (B.lacks bus.old) used result }
     ensures bound { let memory = B.memory bus.old in
         Bounds (B.within bus.old) (B.within bus.new) (decoded_pages (with_pc regs.old pc.old) memory (reservation_of word)) (decoded_stores (with_pc regs.old pc.old) memory (reservation_of word)) }
+    ensures leaves { let stored = decoded_stores (with_pc regs.old pc.old) (B.memory bus.old)
+        (reservation_of word) in
+        LeavesData (B.takes bus.new) (B.misses bus.old) (B.misses bus.new) stored result }
     ensures kept { B.keeps bus.old bus.new }
 {
     match reservation_kind(word) {

@@ -20,6 +20,10 @@ impl Bus for FlatMemory {
 
     ghost within = { λ _ _ _. Unit {0} };
 
+    ghost takes = { λ _ _. Unit {0} };
+
+    ghost misses = { λ _ _ _ _. Unit {0} };
+
     ghost keeps = { λ _ _. Unit {0} };
 
     ghost keeps_itself = { λ _. tt };
@@ -31,6 +35,8 @@ impl Bus for FlatMemory {
     ghost had_before = { λ _ _ _ _ had. had };
 
     ghost marked_on = { λ _ _ _ _ marked. marked };
+
+    ghost takes_on = { λ _ _ _ _ taken. taken };
 
     #[inline]
     fn fetch(&mut self, address: u32) -> Result<u32, BusError> {

@@ -13,7 +13,7 @@ use Rattle.space_core.proofs.StepMoves.{pages_are}
 abbrev Marked : Type 1
 Marked = (ℕ → Bool) → (ℕ → Bool) → Type 0
 
-stores_are : (hart : ℕ) (process : Process) (r : Registers) → hart_registers hart process ≡ Some r → next_stores hart process ≡ step_stores hart r process.memory
+pub stores_are : (hart : ℕ) (process : Process) (r : Registers) → hart_registers hart process ≡ Some r → next_stores hart process ≡ step_stores hart r process.memory
 unfolding next_stores
 stores_are hart process r are = ap (λ o. unwrap_or (option_map (λ registers. step_stores hart registers process.memory) o) []) are
 

@@ -3,6 +3,7 @@ pub mod SliceMoves
 pub mod Shown
 pub mod Standing
 pub mod Spaces
+pub mod FromBelowLaws
 pub mod StepEnds
 pub mod SliceLaws
 mod PagingSpaces

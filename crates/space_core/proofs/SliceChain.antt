@@ -1,5 +1,6 @@
 -- A slice is the slices of its instructions, one after another: what they say together.
 use Rattle.std.proofs.Common.{◌≡◌, ◌≢◌, inl, inr, ℕ, zero, suc, true, false, is_some, IsSome, IfSome, IfNone, unwrap_or, option_map, ◌-◌, ◌+◌, ◌++◌, ◌≤◌, ◌<◌, true≢false, List, replicate, Option, Some, None, refl, sym, ap, ◌∙◌, subst, arith, append_assoc, append-nil}
+use Rattle.std.specs.Prelude.{All}
 use Rattle.std.proofs.lemmas.Bool.Decides.{eqb_tells}
 use Rattle.std.proofs.lemmas.Option.{none-some, same_Some}
 use Rattle.std.proofs.lemmas.List.{replicate-append-replicate}
@@ -10,6 +11,8 @@ use Rattle.flat_machine.specs.Schedule.{written_out, room}
 use Rattle.flat_machine.specs.StepLaws.{both, has_no_ending}
 use Rattle.paged_memory.specs.CopiesLaws.{copies_itself, copies_on}
 use Rattle.paged_memory.specs.HartMemory.{MarksSince}
+use Rattle.paged_memory.specs.Missing.{TakesIn}
+use Rattle.paged_memory.specs.MissingLaws.{takes_with}
 use Rattle.paged_memory.specs.Paged.{PagedValue}
 use Rattle.space_core.specs.declared.progress.Slice.{Slice}
 use Rattle.space_core.specs.declared.progress.SliceStop.{SliceStop}
@@ -17,7 +20,7 @@ use Rattle.space_core.specs.declared.progress.SliceStop.TheVariants.{Budget, Abs
 use Rattle.space_core.specs.declared.progress.Progress.{Progress}
 use Rattle.space_core.specs.declared.progress.Progress.TheVariants as progress
 use Rattle.paged_memory.specs.Coheres.{Coheres}
-use Rattle.space_core.specs.Next.{next_pages, answered, begun}
+use Rattle.space_core.specs.Next.{next_pages, next_stores, answered, begun}
 use Rattle.space_core.specs.Slices.{EachStep, BoundsEach, PassesOn, EndsWith, StopsShort, StopsRecorded}
 use Rattle.space_core.specs.Slicing.{shown_process, OthersStay, LeavesCaches, KeepsSpace}
 use Rattle.space_core.specs.StandsFor.{SpaceValue, StandsFor, IsSpace}
@@ -180,6 +183,7 @@ module _ {S : Type 0} (held : S → List ℕ) (honest : Type 0) (hart : ℕ) whe
     pub stops : StopsRecorded (LacksIn old.memory) hart budget (room old.schedule hart) (shown_process held old) why ran (shown_process held new)
     pub pages : EachStep (λ at. Used (HasIn old.memory hart) (MarksSince new.memory (cache_in old.memory hart)) (next_pages hart at)) hart (answered why ran) (shown_process held old)
     pub bound : BoundsEach (MarkedIn old.memory) (MarkedIn new.memory) hart (begun why ran) (shown_process held old)
+    pub takes : EachStep (λ at. All (TakesIn new.memory) (next_stores hart at)) hart (answered why ran) (shown_process held old)
     pub kept : KeepsSpace hart why old new
     pub stands : honest → StandsFor held new
     pub coheres : Coheres held honest new.memory
@@ -193,6 +197,7 @@ module _ {S : Type 0} (held : S → List ℕ) (honest : Type 0) (hart : ℕ) whe
     stops = (refl, (λ none. absurd (omega (arith, none))), each_none (PassesOn hart) hart (shown_process held space));
     pages = each_none _ hart (shown_process held space);
     bound = bound_none (MarkedIn space.memory) hart 0 (shown_process held space);
+    takes = each_none _ hart (shown_process held space);
     kept = record {
       image = refl;
       input = refl;
@@ -234,6 +239,9 @@ module _ {S : Type 0} (held : S → List ℕ) (honest : Type 0) (hart : ℕ) whe
             (λ page has. had_then old between all.kept page has) marks_back (one.pages done at h e)));
         bound = bound_as (MarkedIn old.memory) (MarkedIn new.memory) hart (n + begun why ran) (begun why (n + ran)) before (begun_then why n ran)
             (bound_then (MarkedIn old.memory) (MarkedIn between.memory) (MarkedIn new.memory) hart n (begun why ran) before (shown_process held between) all.ran_is all.bound one.bound);
+        takes = subst (λ k. EachStep (λ at. All (TakesIn new.memory) (next_stores hart at)) hart k before) (answered_then why n ran)
+            (each_append (λ at. All (TakesIn new.memory) (next_stores hart at)) hart n (answered why ran) before (shown_process held between)
+            (λ done at h e k d w. takes_with _ between.memory new.memory one.kept.pages one.kept.changed (all.takes done at h e k d w)) all.ran_is one.takes);
         kept = kept_then why old between new all.kept one.kept;
         stands = one.stands;
         coheres = one.coheres;
@@ -263,6 +271,7 @@ module _ {S : Type 0} (held : S → List ℕ) (honest : Type 0) (hart : ℕ) whe
     stops = stops_wide (LacksIn old.memory) hart n budget (room old.schedule hart) (shown_process held old) why ran (shown_process held new) fits other all.stops;
     pages = all.pages;
     bound = all.bound;
+    takes = all.takes;
     kept = all.kept;
     stands = all.stands;
     coheres = all.coheres;

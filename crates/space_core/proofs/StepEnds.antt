@@ -6,6 +6,10 @@ use Rattle.rv_exec.specs.declared.outcome.Outcome.{Outcome}
 use Rattle.rv_exec.specs.declared.outcome.Outcome.TheVariants as outcome
 use Rattle.rv_exec.specs.Outcomes.{Used}
 use Rattle.rv_exec.specs.Registers.{Registers}
+use Rattle.rv_exec.specs.Leaves.{LeavesPages}
+use Rattle.rv_exec.specs.Uses.{pages_stored}
+use Rattle.page_memory.specs.Words.{page_number}
+use Rattle.std.specs.Prelude.{All}
 use Rattle.env_calls.specs.declared.served.ServeStop.{ServeStop}
 use Rattle.env_calls.specs.declared.served.ServeStop.TheVariants as serve
 use Rattle.env_calls.specs.declared.stepping.Stepped.{Stepped}
@@ -13,6 +17,8 @@ use Rattle.env_calls.specs.declared.stepping.Stepped.TheVariants as stepped
 use Rattle.env_calls.specs.Environment.{Environment}
 use Rattle.env_calls.specs.Finishing.{RestUses, CameTo, IsRest, IsStep}
 use Rattle.env_calls.specs.FinishingLaws.{step_then}
+use Rattle.env_calls.specs.Leaving.{LeavesRest}
+use Rattle.env_calls.specs.LeavingLaws.{leaves_then, stores_next}
 use Rattle.env_calls.specs.Serving.{UsesPages}
 use Rattle.env_calls.specs.StepLaws.{effect_next, used_next, bound_first}
 use Rattle.flat_machine.specs.declared.end.End.{End}
@@ -20,6 +26,8 @@ use Rattle.flat_machine.specs.Process.{Process, IsWhole, may_step}
 use Rattle.flat_machine.specs.RunLaws.{flat_run_none, one_more_step}
 use Rattle.paged_memory.specs.HartMemory.{KeepsAccess, MarksSince}
 use Rattle.paged_memory.specs.HartMemoryLaws.{access_on, served_before}
+use Rattle.paged_memory.specs.Missing.{MissesIn, TakesIn}
+use Rattle.paged_memory.specs.MissingLaws.{takes_kept}
 use Rattle.paged_memory.specs.Paged.{PagedValue, memory_of}
 use Rattle.paged_memory.specs.Using.{cache_in, HasIn, LacksIn, MarkedIn}
 use Rattle.paged_memory.specs.UsingLaws.{lacked_in, had_in}
@@ -29,11 +37,13 @@ use Rattle.space_core.specs.declared.progress.SliceStop.{SliceStop}
 use Rattle.space_core.specs.declared.progress.SliceStop.TheVariants as stop
 use Rattle.space_core.specs.Endings.{LeftBy, EndsStep, EndsOne}
 use Rattle.space_core.specs.HartLoop.{RunsTo}
-use Rattle.space_core.specs.Next.{next_pages, answered, begun, stop_after, stop_before}
+use Rattle.space_core.specs.FromBelow.{AtAbsent, MissesNext}
+use Rattle.space_core.specs.Next.{next_pages, next_stores, answered, begun, stop_after, stop_before}
 use Rattle.space_core.specs.RunningValue.{RunningValue, with_memory}
 use Rattle.space_core.specs.Settling.{harts_after, ending_after, progress_of_step, IfSpawns}
 use Rattle.space_core.specs.Slices.{EachStep, BoundsEach, PassesOn, StopsRecorded}
 use Rattle.space_core.proofs.Bounding.{next_bound, bound_one}
+use Rattle.space_core.proofs.FromBelowLaws.{LeavesOf, next_taken, next_not_taken, misses_next}
 use Rattle.space_core.proofs.SliceMoves.{each_none, each_more, used_on, still_may}
 use Rattle.space_core.proofs.StepMoves.{is_started, registers_are, whole_with, room_to_spawn, settled, harts_stay, progressed, used_pages, stopped_pages, wants_memory}
 
@@ -89,6 +99,23 @@ module _ {S : Type 0} (held : S → List ℕ) (honest : Type 0) (hart : ℕ) whe
         no_memory = rest.no_memory;
       })
 
+  -- what they leave, from below
+  pub leaves_of : (o : Outcome) (old : RunningValue) (between after : PagedValue S) (r : Registers) (result : Result Stepped ServeStop) (regs : Registers) (env : Environment)
+      → hart < length old.harts → r ≡ slice_index_or old.harts hart r → (left : LeftBy held honest hart o old between)
+      → IsRest (HasIn between hart) (MarksSince after (cache_in between hart)) (LacksIn between) (MarkedIn between) (MarkedIn after) hart o r old.environment (memory_of held between) result regs env (memory_of held after)
+      → LeavesRest (TakesIn after) (MissesIn between hart) o r (memory_of held between) result → KeepsAccess hart between after
+      → LeavesOf hart (with_memory old (memory_of held left.before)) r left.before after result
+  leaves_of o old between after r result regs env within are left rest leaves kept =
+      let before = left.before in
+      let same : left.regs ≡ r = same_Some _ _ (ap Some left.are ∙ sym (slice_get-get_or old.harts hart left.regs within) ∙ slice_get-get_or old.harts hart r within ∙ ap Some (sym are)) in
+      leaves_then (HasIn before hart) (MarksSince between (cache_in before hart)) (LacksIn before) (HasIn between hart) (MarksSince after (cache_in between hart)) (LacksIn between) (MarksSince after (cache_in before hart))
+      (MarkedIn before) (MarkedIn between) (MarkedIn after) (TakesIn between) (TakesIn after) (MissesIn before hart) (MissesIn between hart) hart r old.environment (memory_of held before) r (memory_of held between) result regs env (memory_of held after)
+      (λ page taken. takes_kept hart page between after kept taken) (marks_on before between after kept) o
+      (subst (λ x. CameTo (HasIn before hart) (MarksSince between (cache_in before hart)) (LacksIn before) (MarkedIn before) (MarkedIn between) hart o x (memory_of held before) x (memory_of held between)) same left.runs.came)
+      rest
+      (subst (λ (x : Registers). LeavesPages (TakesIn between) (MarksSince between (cache_in before hart)) (MissesIn before hart) (MissesIn between hart) (page_number x.pc) (pages_stored x (memory_of held before)) o) same left.runs.leaves)
+      leaves
+
   -- ---- in a process
 
   abbrev pub taken_to : RunningValue → Registers → Environment → Stepped → RunningValue
@@ -101,8 +128,8 @@ module _ {S : Type 0} (held : S → List ℕ) (honest : Type 0) (hart : ℕ) whe
 
   pub was_taken : (old : RunningValue) (before after : PagedValue S) (r : Registers) (s : Stepped) (regs : Registers) (env : Environment)
       → IsWhole (with_memory old (memory_of held before)) → may_step hart (with_memory old (memory_of held before)) ≡ true → r ≡ slice_index_or old.harts hart r
-      → StepOn old before after r (Ok s) regs env → KeepsAccess hart before after → WasTaken s old before (taken_to old regs env s) after
-  was_taken old before after r s regs env whole may are step kept =
+      → StepOn old before after r (Ok s) regs env → LeavesOf hart (with_memory old (memory_of held before)) r before after (Ok s) → KeepsAccess hart before after → WasTaken s old before (taken_to old regs env s) after
+  was_taken old before after r s regs env whole may are step leaves kept =
       let memory = memory_of held before in
       let memory' = memory_of held after in
       let done = settled hart old old memory r regs env memory' s whole refl may are step.stepped step.regs_stay step.env_stays step.memory_stays in
@@ -113,6 +140,7 @@ module _ {S : Type 0} (held : S → List ℕ) (honest : Type 0) (hart : ℕ) whe
           progress = progressed hart old old memory r regs env memory' s refl now step.stepped;
           pages = used_pages (HasIn before hart) (MarksSince after (cache_in before hart)) hart (with_memory old memory) r now step.pages;
           bound = next_bound (MarkedIn before) (MarkedIn after) hart (with_memory old memory) r now step.bound;
+          leaves = next_taken hart (with_memory old memory) r before after s (progress_of_step s) now leaves;
           wants = λ never. absurd (no_want _ never);
           stays = tt;
           memory_stays = tt;
@@ -124,9 +152,9 @@ module _ {S : Type 0} (held : S → List ℕ) (honest : Type 0) (hart : ℕ) whe
   -- one that was not
   pub was_not_taken : (old : RunningValue) (before after : PagedValue S) (r : Registers) (why : ServeStop) (regs : Registers) (env : Environment)
       → IsWhole (with_memory old (memory_of held before)) → may_step hart (with_memory old (memory_of held before)) ≡ true → r ≡ slice_index_or old.harts hart r
-      → StepOn old before after r (Err why) regs env → KeepsAccess hart before after
+      → StepOn old before after r (Err why) regs env → LeavesOf hart (with_memory old (memory_of held before)) r before after (Err why) → KeepsAccess hart before after
       → EndsStep held honest hart (Err why) old before (record { harts = slice_set old.harts hart regs; environment = env; ending = old.ending }) after
-  was_not_taken old before after r why regs env whole may are step kept =
+  was_not_taken old before after r why regs env whole may are step leaves kept =
       let memory = memory_of held before in
       let now = registers_are hart old old memory r whole refl may are in
       let harts = harts_stay hart old.harts r regs are step.regs_stay in
@@ -135,6 +163,7 @@ module _ {S : Type 0} (held : S → List ℕ) (honest : Type 0) (hart : ℕ) whe
         progress = tt;
         pages = stopped_pages (HasIn before hart) (MarksSince after (cache_in before hart)) (LacksIn before) hart (with_memory old memory) r why now step.pages;
         bound = next_bound (MarkedIn before) (MarkedIn after) hart (with_memory old memory) r now step.bound;
+        leaves = next_not_taken hart (with_memory old memory) r before after why now leaves;
         wants = wants_memory hart old old memory r why refl may now step.no_memory;
         stays = λ i. record { harts = harts i; environment = step.env_stays i; ending = old.ending };
         memory_stays = step.memory_stays;
@@ -158,8 +187,8 @@ module _ {S : Type 0} (held : S → List ℕ) (honest : Type 0) (hart : ℕ) whe
   pub ended : (o : Outcome) (inside now : RunningValue) (between after : PagedValue S) (r : Registers) (s : Stepped) (regs : Registers) (env : Environment) → inside ≡ now → ((memory : Memory) → IsWhole (with_memory inside memory))
       → may_step hart (with_memory now (memory_of held between)) ≡ true → r ≡ slice_index_or inside.harts hart r → (left : LeftBy held honest hart o now between)
       → IsRest (HasIn between hart) (MarksSince after (cache_in between hart)) (LacksIn between) (MarkedIn between) (MarkedIn after) hart o r inside.environment (memory_of held between) (Ok s) regs env (memory_of held after)
-      → KeepsAccess hart between after → Took s inside now left.before regs env after
-  ended o inside now between after r s regs env same whole may are left rest kept =
+      → LeavesRest (TakesIn after) (MissesIn between hart) o r (memory_of held between) (Ok s) → KeepsAccess hart between after → Took s inside now left.before regs env after
+  ended o inside now between after r s regs env same whole may are left rest leaves kept =
       let before = left.before in
       let memory = memory_of held before in
       let may_inside : may_step hart (with_memory inside memory) ≡ true = ap (λ (v : RunningValue). may_step hart (with_memory v memory)) same ∙ may in
@@ -167,21 +196,23 @@ module _ {S : Type 0} (held : S → List ℕ) (honest : Type 0) (hart : ℕ) whe
       record {
         roomy = λ capacity few. room_to_spawn hart inside inside memory r regs env (memory_of held after) s capacity (whole memory) step.stepped few;
         taken = subst (λ (v : RunningValue). WasTaken s v before (taken_to inside regs env s) after) same
-            (was_taken inside before after r s regs env (whole memory) may_inside are step (access_on hart before between after left.runs.kept kept));
+            (was_taken inside before after r s regs env (whole memory) may_inside are step
+            (leaves_of o inside between after r (Ok s) regs env (is_started hart inside inside memory (whole memory) refl may_inside) are (left_inside o inside now between same left) rest leaves kept) (access_on hart before between after left.runs.kept kept));
       }
 
   pub not_ended : (o : Outcome) (inside now : RunningValue) (between after : PagedValue S) (r : Registers) (why : ServeStop) (regs : Registers) (env : Environment) → inside ≡ now → ((memory : Memory) → IsWhole (with_memory inside memory))
       → may_step hart (with_memory now (memory_of held between)) ≡ true → r ≡ slice_index_or inside.harts hart r → (left : LeftBy held honest hart o now between)
       → IsRest (HasIn between hart) (MarksSince after (cache_in between hart)) (LacksIn between) (MarkedIn between) (MarkedIn after) hart o r inside.environment (memory_of held between) (Err why) regs env (memory_of held after)
-      → KeepsAccess hart between after
+      → LeavesRest {A = Stepped} (TakesIn after) (MissesIn between hart) o r (memory_of held between) (Err why) → KeepsAccess hart between after
       → EndsStep held honest hart (Err why) now left.before (record { harts = slice_set inside.harts hart regs; environment = env; ending = inside.ending }) after
-  not_ended o inside now between after r why regs env same whole may are left rest kept =
+  not_ended o inside now between after r why regs env same whole may are left rest leaves kept =
       let before = left.before in
       let memory = memory_of held before in
       let may_inside : may_step hart (with_memory inside memory) ≡ true = ap (λ (v : RunningValue). may_step hart (with_memory v memory)) same ∙ may in
       let step = step_of o inside between after r (Err why) regs env (is_started hart inside inside memory (whole memory) refl may_inside) are (left_inside o inside now between same left) rest kept in
       subst (λ (v : RunningValue). EndsStep held honest hart (Err why) v before (record { harts = slice_set inside.harts hart regs; environment = env; ending = inside.ending }) after) same
-      (was_not_taken inside before after r why regs env (whole memory) may_inside are step (access_on hart before between after left.runs.kept kept))
+      (was_not_taken inside before after r why regs env (whole memory) may_inside are step
+      (leaves_of o inside between after r (Err why) regs env (is_started hart inside inside memory (whole memory) refl may_inside) are (left_inside o inside now between same left) rest leaves kept) (access_on hart before between after left.runs.kept kept))
 
   -- the same, by the parts that are left
   pub taken_as : (s : Stepped) (inside : RunningValue) (regs : Registers) (env : Environment) (harts : List Registers) (ending : Option End) (pc : ℕ)
@@ -202,16 +233,19 @@ module _ {S : Type 0} (held : S → List ℕ) (honest : Type 0) (hart : ℕ) whe
   -- one that ran
   ran_one : (fits : ℕ) → 0 < fits → (what : Progress) (why : SliceStop) (old : RunningValue) (before : PagedValue S) (new : RunningValue) (after : PagedValue S) → answered why 1 ≡ 1 → begun why 1 ≡ 1
       → StopsRecorded (LacksIn before) hart 1 fits (with_memory old (memory_of held before)) why 1 (with_memory new (memory_of held after))
-      → EndsStep held honest hart (Ok what) old before new after → EndsOne held honest hart fits 1 why old before new after
-  ran_one fits some what why old before new after answers begins stops ends =
+      → AtAbsent why (MissesNext hart (with_memory old (memory_of held before)) before after) → EndsStep held honest hart (Ok what) old before new after → EndsOne held honest hart fits 1 why old before new after
+  ran_one fits some what why old before new after answers begins stops missed ends =
       let p : Process = with_memory old (memory_of held before) in
       let P : Process → Type 0 = λ at. Used (HasIn before hart) (MarksSince after (cache_in before hart)) (next_pages hart at) in
+      let Q : Process → Type 0 = λ at. All (TakesIn after) (next_stores hart at) in
       record {
         ran_is = one_more_step 0 hart p p (with_memory new (memory_of held after)) (flat_run_none p) ends.step;
         within = omega arith;
         stops = stops;
         pages = subst (λ n. EachStep P hart n p) (sym answers) (each_more P hart 0 p p (each_none P hart p) (flat_run_none p) ends.pages);
         bound = subst (λ n. BoundsEach (MarkedIn before) (MarkedIn after) hart n p) (sym begins) (bound_one (MarkedIn before) (MarkedIn after) hart p ends.bound);
+        takes = subst (λ n. EachStep Q hart n p) (sym answers) (each_more Q hart 0 p p (each_none Q hart p) (flat_run_none p) ends.leaves.leaves);
+        missed = missed;
         kept = ends.kept;
       }
 
@@ -220,30 +254,31 @@ module _ {S : Type 0} (held : S → List ℕ) (honest : Type 0) (hart : ℕ) whe
   took_one fits some progress.GoesOn old before new after may ends =
       let p : Process = with_memory old (memory_of held before) in
       ran_one fits some progress.GoesOn stop.Budget old before new after refl refl
-      ((refl, (λ _. still_may hart p (with_memory new (memory_of held after)) progress.GoesOn may ends.step ends.progress refl), each_more (PassesOn hart) hart 0 p p (each_none (PassesOn hart) hart p) (flat_run_none p) (inl ends.progress))) ends
+      ((refl, (λ _. still_may hart p (with_memory new (memory_of held after)) progress.GoesOn may ends.step ends.progress refl), each_more (PassesOn hart) hart 0 p p (each_none (PassesOn hart) hart p) (flat_run_none p) (inl ends.progress))) tt ends
   took_one fits some progress.Spawned old before new after may ends =
       let p : Process = with_memory old (memory_of held before) in
       ran_one fits some progress.Spawned stop.Budget old before new after refl refl
-      ((refl, (λ _. still_may hart p (with_memory new (memory_of held after)) progress.Spawned may ends.step ends.progress refl), each_more (PassesOn hart) hart 0 p p (each_none (PassesOn hart) hart p) (flat_run_none p) (inr ends.progress))) ends
+      ((refl, (λ _. still_may hart p (with_memory new (memory_of held after)) progress.Spawned may ends.step ends.progress refl), each_more (PassesOn hart) hart 0 p p (each_none (PassesOn hart) hart p) (flat_run_none p) (inr ends.progress))) tt ends
   took_one fits some progress.Yielded old before new after may ends =
       let p : Process = with_memory old (memory_of held before) in
       ran_one fits some progress.Yielded stop.Yield old before new after refl refl
-      (record { earlier = 0; last = p; count = refl; on = each_none (PassesOn hart) hart p; reached = flat_run_none p; was = ends.progress }) ends
+      (record { earlier = 0; last = p; count = refl; on = each_none (PassesOn hart) hart p; reached = flat_run_none p; was = ends.progress }) tt ends
   took_one fits some progress.HartDone old before new after may ends =
       let p : Process = with_memory old (memory_of held before) in
       ran_one fits some progress.HartDone stop.HartDone old before new after refl refl
-      (record { earlier = 0; last = p; count = refl; on = each_none (PassesOn hart) hart p; reached = flat_run_none p; was = ends.progress }) ends
+      (record { earlier = 0; last = p; count = refl; on = each_none (PassesOn hart) hart p; reached = flat_run_none p; was = ends.progress }) tt ends
   took_one fits some progress.Ended old before new after may ends =
       let p : Process = with_memory old (memory_of held before) in
       ran_one fits some progress.Ended stop.Ended old before new after refl refl
-      (inr (record { earlier = 0; last = p; count = refl; on = each_none (PassesOn hart) hart p; reached = flat_run_none p; was = ends.progress })) ends
+      (inr (record { earlier = 0; last = p; count = refl; on = each_none (PassesOn hart) hart p; reached = flat_run_none p; was = ends.progress })) tt ends
 
   -- one that did not run
   ran_none : (fits : ℕ) → 0 < fits → (why : SliceStop) (stopped : ServeStop) (old : RunningValue) (before : PagedValue S) (new : RunningValue) (after : PagedValue S) → begun why 0 ≡ 1
       → EachStep (λ at. Used (HasIn before hart) (MarksSince after (cache_in before hart)) (next_pages hart at)) hart (answered why 0) (with_memory old (memory_of held before))
+      → EachStep (λ at. All (TakesIn after) (next_stores hart at)) hart (answered why 0) (with_memory old (memory_of held before)) → AtAbsent why (MissesNext hart (with_memory old (memory_of held before)) before after)
       → StopsRecorded (LacksIn before) hart 1 fits (with_memory old (memory_of held before)) why 0 (with_memory old (memory_of held before))
       → EndsStep held honest hart (Err stopped) old before new after → EndsOne held honest hart fits 0 why old before new after
-  ran_none fits some why stopped old before new after begins pages stops ends =
+  ran_none fits some why stopped old before new after begins pages takes missed stops ends =
       let p : Process = with_memory old (memory_of held before) in
       let same : p ≡ with_memory new (memory_of held after) = λ i. with_memory (sym ends.stays i) (sym ends.memory_stays i) in
       record {
@@ -252,6 +287,8 @@ module _ {S : Type 0} (held : S → List ℕ) (honest : Type 0) (hart : ℕ) whe
         stops = subst (StopsRecorded (LacksIn before) hart 1 fits p why 0) same stops;
         pages = pages;
         bound = subst (λ n. BoundsEach (MarkedIn before) (MarkedIn after) hart n p) (sym begins) (bound_one (MarkedIn before) (MarkedIn after) hart p ends.bound);
+        takes = takes;
+        missed = missed;
         kept = ends.kept;
       }
 
@@ -259,12 +296,14 @@ module _ {S : Type 0} (held : S → List ℕ) (honest : Type 0) (hart : ℕ) whe
       → EndsStep held honest hart (Err stopped) old before new after → EndsOne held honest hart fits 0 (stop_before stopped) old before new after
   took_none fits some (serve.Absent page) old before new after may ends =
       let p : Process = with_memory old (memory_of held before) in
-      ran_none fits some (stop.Absent page) (serve.Absent page) old before new after refl (each_none _ hart p)
+      ran_none fits some (stop.Absent page) (serve.Absent page) old before new after refl (each_none _ hart p) (each_none _ hart p) (misses_next hart p before after page ends.leaves)
       ((some, (record { fewer = omega arith; on = each_none (PassesOn hart) hart p; may = may }, ends.pages.0, ends.pages.1))) ends
   took_none fits some serve.NoMemory old before new after may ends =
       let p : Process = with_memory old (memory_of held before) in
       let P : Process → Type 0 = λ at. Used (HasIn before hart) (MarksSince after (cache_in before hart)) (next_pages hart at) in
+      let Q : Process → Type 0 = λ at. All (TakesIn after) (next_stores hart at) in
       ran_none fits some stop.NoMemory serve.NoMemory old before new after refl (each_more P hart 0 p p (each_none P hart p) (flat_run_none p) ends.pages)
+      (each_more Q hart 0 p p (each_none Q hart p) (flat_run_none p) ends.leaves.leaves) tt
       ((some, (record { fewer = omega arith; on = each_none (PassesOn hart) hart p; may = may }, ends.wants refl))) ends
 
   -- ---- an instruction that was simply done
@@ -285,4 +324,4 @@ module _ {S : Type 0} (held : S → List ℕ) (honest : Type 0) (hart : ℕ) whe
         pages = used_next (HasIn before hart) (MarksSince after (cache_in before hart)) hart r memory regs memory' runs.came.line_is runs.came.pages;
         bound = bound_first (MarkedIn before) (MarkedIn after) hart r memory runs.came.bound;
         no_memory = λ never. absurd (no_want _ never);
-      }) runs.kept).ends
+      }) (subst (All (TakesIn after)) (sym (stores_next hart r memory regs memory' runs.came.line_is)) runs.leaves) runs.kept).ends

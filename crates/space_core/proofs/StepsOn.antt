@@ -1,5 +1,6 @@
 -- A hart's instructions one at a time are slices of one instruction, one after another.
 use Rattle.std.proofs.Common.{◌≡◌, ◌+◌, ◌++◌, ◌≤◌, ◌<◌, ℕ, zero, suc, true, ◌⊎◌, inl, inr, min, IfNone, IfSome, List, length, replicate, slice_set, slice_index_or, Option, Some, None, option_map, refl, sym, ap, ◌∙◌, subst, arith, append_assoc, append-nil, length-set}
+use Rattle.std.specs.Prelude.{All}
 use Rattle.std.proofs.lemmas.Bool.Decides.{eqb_tells}
 use Rattle.std.proofs.lemmas.Option.{none-some, same_Some}
 use Rattle.std.proofs.lemmas.List.{set-get_or, set-set, get_or-set_same, replicate-append-replicate}
@@ -19,6 +20,7 @@ use Rattle.paged_memory.specs.Coheres.{Coheres}
 use Rattle.paged_memory.specs.Copies.{KeepsCopies}
 use Rattle.paged_memory.specs.HartMemory.{MarksSince}
 use Rattle.paged_memory.specs.HartMemoryLaws.{access_itself}
+use Rattle.paged_memory.specs.Missing.{TakesIn}
 use Rattle.paged_memory.specs.Moving.{OnlyCaches, SameTablesIn}
 use Rattle.paged_memory.specs.Paged.{PagedValue, memory_of}
 use Rattle.paged_memory.specs.ShowingLaws.{used_given_up}
@@ -30,7 +32,8 @@ use Rattle.space_core.specs.declared.progress.SliceStop.{SliceStop}
 use Rattle.space_core.specs.declared.progress.SliceStop.TheVariants.{Budget}
 use Rattle.space_core.specs.Endings.{LeftBy, EndsOne, RunsRecorded, RefusesAll}
 use Rattle.space_core.specs.HartLoop.{RunsTo, RunsEach, RunsShort, RunsUntil, HartRuns}
-use Rattle.space_core.specs.Next.{next_pages, answered, begun}
+use Rattle.space_core.specs.FromBelow.{MissesNext}
+use Rattle.space_core.specs.Next.{next_pages, next_stores, answered, begun}
 use Rattle.space_core.specs.RunningValue.{RunningValue, RecordedValue, with_memory}
 use Rattle.space_core.specs.Slices.{EachStep, BoundsEach, StopsRecorded}
 use Rattle.space_core.specs.Slicing.{shown_process, SettlesCaches}
@@ -38,6 +41,7 @@ use Rattle.space_core.specs.StandsFor.{SpaceValue, StandsFor, IsSpace}
 use Rattle.space_core.specs.StepByStep.{SlicesOne, StepsOn, StepsEach}
 use Rattle.space_core.proofs.SliceLaws.{harts_run, settled}
 use Rattle.space_core.proofs.Bounding.{bound_none}
+use Rattle.space_core.proofs.FromBelowLaws.{at_absent, misses_settled, none_absent, takes_settled}
 use Rattle.space_core.proofs.SliceMoves.{each_none, used_on}
 use Rattle.space_core.proofs.Standing.{stands_sliced}
 use Rattle.space_core.proofs.StepEnds.{done_one}
@@ -210,6 +214,8 @@ module _ {S : Type 0} (held : S → List ℕ) (honest : Type 0) (hart : ℕ) whe
         pages = λ done at h e. used_on (HasIn old.memory hart) (MarksSince after (cache_in old.memory hart)) (HasIn old.memory hart) (MarksSince new (cache_in old.memory hart)) (next_pages hart at) (λ _ had. had)
             (λ page marks. subst (λ (m : PagedValue S). MarksSince m (cache_in old.memory hart) page) (sym only) marks) (ends.pages done at h e);
         bound = same_marks new after (λ marks. BoundsEach (MarkedIn old.memory) marks hart (begun why ran) p) (sym (caches_marks after new only)) ends.bound;
+        takes = λ done at h e. takes_settled after new (next_stores hart at) only (ends.takes done at h e);
+        missed = at_absent why (MissesNext hart p old.memory after) (MissesNext hart p old.memory new) (λ page was. misses_settled hart p old.memory after new page only was) ends.missed;
         kept = record {
           image = refl;
           input = refl;
@@ -394,6 +400,8 @@ module _ {S : Type 0} (held : S → List ℕ) (honest : Type 0) (hart : ℕ) whe
         stops = stops;
         pages = subst (λ n. EachStep (λ at. Used (HasIn old.memory hart) (MarksSince old.memory (cache_in old.memory hart)) (next_pages hart at)) hart n p) (sym answers) (each_none _ hart p);
         bound = bound_none (MarkedIn old.memory) hart (begun why 0) p;
+        takes = subst (λ n. EachStep (λ at. All (TakesIn old.memory) (next_stores hart at)) hart n p) (sym answers) (each_none _ hart p);
+        missed = none_absent why (MissesNext hart p old.memory old.memory) begins;
         kept = access_itself hart old.memory;
       }) is.stands (sym (append-nil (written_out old.schedule))) (omega arith) only settles cached coheres in
       record { slice = one; is = record { stands = one.stands; cached = cached } }

@@ -1,5 +1,5 @@
 -- How a hart's step ends, once its instruction came to an outcome, and how it is recorded. Only the helpers that do it say this.
-use Rattle.std.specs.Prelude.{◌≡◌, ℕ, ◌+◌, ◌++◌, ◌≤◌, ◌<◌, true, List, replicate, slice_index_or, Option, Some, None, Result, Err, OnOk, OnErr, IfOk}
+use Rattle.std.specs.Prelude.{◌≡◌, ℕ, ◌+◌, ◌++◌, ◌≤◌, ◌<◌, true, List, All, replicate, slice_index_or, Option, Some, None, Result, Err, OnOk, OnErr, IfOk}
 use Rattle.rv_exec.specs.declared.outcome.Outcome.{Outcome}
 use Rattle.rv_exec.specs.Bounds.{Bounds}
 use Rattle.rv_exec.specs.Outcomes.{Used}
@@ -11,10 +11,12 @@ use Rattle.flat_machine.specs.Process.{may_step, flat_step, flat_run}
 use Rattle.flat_machine.specs.Refusals.{WantsMemory}
 use Rattle.flat_machine.specs.Schedule.{written_out, room}
 use Rattle.paged_memory.specs.HartMemory.{KeepsAccess, MarksSince}
+use Rattle.paged_memory.specs.Missing.{TakesIn}
 use Rattle.paged_memory.specs.Paged.{PagedValue, memory_of}
 use Rattle.paged_memory.specs.Using.{cache_in, HasIn, LacksIn, MarkedIn}
 use Rattle.space_core.specs.declared.progress.Progress.{Progress}
 use Rattle.space_core.specs.declared.progress.SliceStop.{SliceStop}
+use Rattle.space_core.specs.FromBelow.{AtAbsent, LeavesNext, MissesNext}
 use Rattle.space_core.specs.HartLoop.{RunsTo, RunsEach, HartRuns}
 use Rattle.space_core.specs.Next.{next_progress, next_pages, next_stores, answered, begun}
 use Rattle.space_core.specs.RunningValue.{RunningValue, RecordedValue, with_memory}
@@ -36,6 +38,7 @@ module _ {S : Type 0} (held : S → List ℕ) (honest : Type 0) (hart : ℕ) whe
     pub progress : IfOk result (λ progress. next_progress hart (with_memory old (memory_of held before)) ≡ Some progress)
     pub pages : UsesPages (HasIn before hart) (MarksSince after (cache_in before hart)) (LacksIn before) (next_pages hart (with_memory old (memory_of held before))) result
     pub bound : Bounds (MarkedIn before) (MarkedIn after) (next_pages hart (with_memory old (memory_of held before))) (next_stores hart (with_memory old (memory_of held before)))
+    pub leaves : LeavesNext hart (with_memory old (memory_of held before)) before after result
     pub wants : result ≡ Err serve.NoMemory → WantsMemory hart (with_memory old (memory_of held before))
     pub stays : OnErr result (new ≡ old)
     pub memory_stays : OnErr result (memory_of held after ≡ memory_of held before)
@@ -48,6 +51,8 @@ module _ {S : Type 0} (held : S → List ℕ) (honest : Type 0) (hart : ℕ) whe
     pub stops : StopsRecorded (LacksIn before) hart 1 fits (with_memory old (memory_of held before)) why ran (with_memory new (memory_of held after))
     pub pages : EachStep (λ at. Used (HasIn before hart) (MarksSince after (cache_in before hart)) (next_pages hart at)) hart (answered why ran) (with_memory old (memory_of held before))
     pub bound : BoundsEach (MarkedIn before) (MarkedIn after) hart (begun why ran) (with_memory old (memory_of held before))
+    pub takes : EachStep (λ at. All (TakesIn after) (next_stores hart at)) hart (answered why ran) (with_memory old (memory_of held before))
+    pub missed : AtAbsent why (MissesNext hart (with_memory old (memory_of held before)) before after)
     pub kept : KeepsAccess hart before after
 
   -- the last instruction of several ended so, if it was not done as the others were

@@ -1,13 +1,17 @@
 -- The inner loop of a hart: what its instructions come to, on its process's memory. Only the helpers that run it say this.
 use Rattle.std.specs.Prelude.{◌≡◌, ℕ, zero, suc, ◌<◌, List, slice_set, slice_index_or}
 use Rattle.page_memory.specs.Memory.{Memory}
+use Rattle.page_memory.specs.Words.{page_number}
 use Rattle.rv_exec.specs.declared.outcome.Outcome.{Outcome}
 use Rattle.rv_exec.specs.declared.outcome.Outcome.TheVariants.{Done, Ecall, Trap, Absent}
+use Rattle.rv_exec.specs.Leaves.{LeavesPages}
 use Rattle.rv_exec.specs.Registers.{Registers}
+use Rattle.rv_exec.specs.Uses.{pages_stored}
 use Rattle.env_calls.specs.Finishing.{CameTo}
 use Rattle.flat_machine.specs.Process.{IsWhole}
 use Rattle.paged_memory.specs.Coheres.{Coheres}
 use Rattle.paged_memory.specs.HartMemory.{KeepsAccess, MarksSince}
+use Rattle.paged_memory.specs.Missing.{MissesIn, TakesIn}
 use Rattle.paged_memory.specs.Paged.{PagedValue, memory_of}
 use Rattle.paged_memory.specs.Using.{cache_in, HasIn, LacksIn, MarkedIn}
 use Rattle.space_core.specs.RunningValue.{RunningValue, with_memory}
@@ -17,6 +21,7 @@ module _ {S : Type 0} (held : S → List ℕ) (honest : Type 0) (hart : ℕ) whe
   -- that was to be dropped when that very instruction began
   pub record RunsTo (outcome : Outcome) (regs : Registers) (old : PagedValue S) (regs' : Registers) (new : PagedValue S) : Type 0 where
     pub came : CameTo (HasIn old hart) (MarksSince new (cache_in old hart)) (LacksIn old) (MarkedIn old) (MarkedIn new) hart outcome regs (memory_of held old) regs' (memory_of held new)
+    pub leaves : LeavesPages (TakesIn new) (MarksSince new (cache_in old hart)) (MissesIn old hart) (MissesIn new hart) (page_number regs.pc) (pages_stored regs (memory_of held old)) outcome
     pub kept : KeepsAccess hart old new
     pub coheres : Coheres held honest new
 

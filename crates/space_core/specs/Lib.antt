@@ -9,3 +9,4 @@ pub mod StepByStep
 pub mod HartLoop
 pub mod Endings
 pub mod Slicing
+pub mod FromBelow

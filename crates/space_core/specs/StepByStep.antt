@@ -1,13 +1,15 @@
 -- A hart's instructions one at a time: each is a slice of one, and is recorded.
-use Rattle.std.specs.Prelude.{◌≡◌, ◌≢◌, ℕ, zero, suc, ◌+◌, ◌++◌, ◌<◌, ◌≤◌, Option, Some, None, List, replicate}
+use Rattle.std.specs.Prelude.{◌≡◌, ◌≢◌, ℕ, zero, suc, ◌+◌, ◌++◌, ◌<◌, ◌≤◌, Option, Some, None, List, All, replicate}
 use Rattle.rv_exec.specs.Outcomes.{Used}
 use Rattle.flat_machine.specs.Process.{flat_run}
 use Rattle.flat_machine.specs.Schedule.{written_out, room}
 use Rattle.paged_memory.specs.HartMemory.{MarksSince}
+use Rattle.paged_memory.specs.Missing.{TakesIn}
 use Rattle.space_core.specs.declared.progress.SliceStop.{SliceStop}
 use Rattle.space_core.specs.declared.progress.SliceStop.TheVariants.{Budget}
 use Rattle.paged_memory.specs.Coheres.{Coheres}
-use Rattle.space_core.specs.Next.{next_pages, answered, begun}
+use Rattle.space_core.specs.FromBelow.{AtAbsent, MissesNext}
+use Rattle.space_core.specs.Next.{next_pages, next_stores, answered, begun}
 use Rattle.space_core.specs.Slices.{EachStep, BoundsEach, StopsRecorded}
 use Rattle.space_core.specs.Slicing.{shown_process, KeepsSpace}
 use Rattle.space_core.specs.StandsFor.{SpaceValue, StandsFor}
@@ -23,6 +25,10 @@ module _ {S : Type 0} (held : S → List ℕ) (honest : Type 0) (hart : ℕ) whe
     pub stops : StopsRecorded (LacksIn old.memory) hart 1 (room old.schedule hart) (shown_process held old) why ran (shown_process held new)
     pub pages : EachStep (λ at. Used (HasIn old.memory hart) (MarksSince new.memory (cache_in old.memory hart)) (next_pages hart at)) hart (answered why ran) (shown_process held old)
     pub bound : BoundsEach (MarkedIn old.memory) (MarkedIn new.memory) hart (begun why ran) (shown_process held old)
+    -- what an instruction that was answered stored to takes stores; and a page that was absent was not in the hart's cache when its access
+    -- came, whatever the cache held when the instruction began
+    pub takes : EachStep (λ at. All (TakesIn new.memory) (next_stores hart at)) hart (answered why ran) (shown_process held old)
+    pub missed : AtAbsent why (MissesNext hart (shown_process held old) old.memory new.memory)
     pub kept : KeepsSpace hart why old new
     pub stands : honest → StandsFor held new
     pub coheres : Coheres held honest new.memory

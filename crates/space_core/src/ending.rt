@@ -2,8 +2,10 @@
 
 ghost use Rattle.std.specs.Prelude.{◌≡◌, ℕ, ◌≤◌, ◌<◌, true, length};
 ghost use Rattle.env_calls.specs.Finishing.{IsRest};
+ghost use Rattle.env_calls.specs.Leaving.{LeavesRest};
 ghost use Rattle.flat_machine.specs.Process.{may_step};
 ghost use Rattle.paged_memory.specs.HartMemory.{KeepsAccess, MarksSince};
+ghost use Rattle.paged_memory.specs.Missing.{MissesIn, TakesIn};
 ghost use Rattle.paged_memory.specs.Paged.{memory_of};
 ghost use Rattle.paged_memory.specs.Using.{cache_in, HasIn, LacksIn, MarkedIn};
 ghost use Rattle.paged_memory.specs.Whole.{harts_in};
@@ -34,6 +36,8 @@ fn finish_on<L: Ledger, S: SwapSlot, O: Opening>(
         (cache_in memory.old hart)) (LacksIn memory.old) (MarkedIn memory.old)
         (MarkedIn memory.new)
         hart outcome regs.old env.old (memory_of S.content memory.old) result regs.new env.new (memory_of S.content memory.new) }
+    ensures leaves { LeavesRest (TakesIn memory.new) (MissesIn memory.old hart) outcome regs.old
+        (memory_of S.content memory.old) result }
     ensures kept { KeepsAccess hart memory.old memory.new }
 {
     let mut bus: HartMemory<L, S, O> = HartMemory::new(memory, hart as usize);

@@ -93,6 +93,7 @@ fn run_at_hand<L: Ledger, S: SwapSlot>(
         match run_one::<L, S, Brand>(pc, regs, memory, hart) {
             Outcome::Done => left -= 1,
             Outcome::Ecall => return at_call(left),
+            Outcome::Trap(Cause::IllegalInstruction, word) => return at_illegal(left, word),
             Outcome::Trap(cause, value) => return at_trap(left, cause, value),
             Outcome::Absent(page) => return at_absent(left, page),
         }
@@ -114,6 +115,18 @@ fn at_call(left: u32) -> Halt
     Halt {
         left,
         last: Outcome::Ecall,
+    }
+}
+
+/// Where a hart stopped whose next word is outside the table.
+#[cold]
+#[inline(never)]
+fn at_illegal(left: u32, word: u32) -> Halt
+    ensures { result ≡ record { left = left; last = Outcome.Trap Cause.IllegalInstruction word } }
+{
+    Halt {
+        left,
+        last: Outcome::Trap(Cause::IllegalInstruction, word),
     }
 }
 

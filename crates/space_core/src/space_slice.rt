@@ -1,12 +1,13 @@
 //! Several instructions of a hart in a row.
 
-ghost use Rattle.std.specs.Prelude.{◌≡◌, ◌≤◌, ◌+◌, ◌++◌, Some, replicate};
+ghost use Rattle.std.specs.Prelude.{◌≡◌, ◌≤◌, ◌+◌, ◌++◌, All, Some, replicate};
 ghost use Rattle.rv_exec.specs.Outcomes.{Used};
 ghost use Rattle.flat_machine.specs.Process.{flat_run};
 ghost use Rattle.flat_machine.specs.Schedule.{written_out, room};
 ghost use Rattle.paged_memory.specs.HartMemory.{MarksSince};
 ghost use Rattle.paged_memory.specs.Coheres.{Coheres};
-ghost use Rattle.space_core.specs.Next.{next_pages, answered, begun};
+ghost use Rattle.paged_memory.specs.Missing.{TakesIn};
+ghost use Rattle.space_core.specs.Next.{next_pages, next_stores, answered, begun};
 ghost use Rattle.space_core.specs.Slices.{EachStep, BoundsEach, StopsRecorded};
 ghost use Rattle.space_core.specs.Slicing.{shown_process, KeepsSpace};
 ghost use Rattle.space_core.specs.StandsFor.{StandsFor};
@@ -65,12 +66,17 @@ impl<L: Ledger, S: SwapSlot> Space<L, S> {
             EachStep (λ at. Used (HasIn self.old.memory hart) (MarksSince self.new.memory opening) (next_pages hart at)) hart (answered result.stop result.ran) (shown_process S.content self.old) }
         ensures bound { BoundsEach (MarkedIn self.old.memory) (MarkedIn self.new.memory) hart
             (begun result.stop result.ran) (shown_process S.content self.old) }
+
+        // Each page that an answered instruction stored to takes stores: a copy of it, if one is out, will not become its backing.
+        ensures takes { EachStep (λ at. All (TakesIn self.new.memory) (next_stores hart at)) hart
+            (answered result.stop result.ran) (shown_process S.content self.old) }
         ensures kept { KeepsSpace hart result.stop self.old self.new }
         ensures stands { S.honest → StandsFor S.content self.new }
         ensures coheres { Coheres S.content S.honest self.new.memory }
 
         // Each instruction says of itself which pages were had and marked: a page's use may be without a mark only where the hart
-        // had a translation of it that was to be dropped when that very instruction began.
+        // had a translation of it that was to be dropped when that very instruction began; and, at an absent page, that the hart's cache
+        // did not show it when its access came.
         ensures each { SlicesEach S.content S.honest hart budget result.ran result.stop self.old
             self.new }
     {

@@ -2,8 +2,10 @@
 use Rattle.std.proofs.Common.{◌≡◌, sym, ap, ◌∙◌, subst}
 use Rattle.rv_exec.specs.Line.{line}
 use Rattle.rv_exec.specs.Outcomes.{Follows, UnlessDone, UsesPages}
+use Rattle.page_memory.specs.Words.{page_number}
 use Rattle.rv_exec.specs.Bounds.{Bounds}
-use Rattle.rv_exec.specs.Registers.{with_pc}
+use Rattle.rv_exec.specs.Leaves.{LeavesPages}
+use Rattle.rv_exec.specs.Registers.{Registers, with_pc}
 use Rattle.rv_exec.specs.RegistersLaws.{own_pc}
 use Rattle.rv_exec.specs.Uses.{pages_used, pages_stored}
 use Rattle.rv_exec.proofs.execution.execute.Goals as goal
@@ -32,3 +34,10 @@ returns-clause-bound g c =
     let own : with_pc c.args.regs.now c.pc-pc.result ≡ c.args.regs.now = ap (λ p. with_pc c.args.regs.now p) c.pc-pc.ensures ∙ own_pc c.args.regs.now in
     subst (λ r. Bounds (g.B.Bus.within c.args.bus.now) (g.B.Bus.within c.execute_at-outcome.new.bus) (pages_used r (g.B.Bus.memory c.args.bus.now)) (pages_stored r (g.B.Bus.memory c.args.bus.now))) own
     c.execute_at-outcome.ensures.bound
+
+pub returns-clause-leaves : goal.returns-clause-leaves
+returns-clause-leaves g c =
+    let own : with_pc c.args.regs.now c.pc-pc.result ≡ c.args.regs.now = ap (λ p. with_pc c.args.regs.now p) c.pc-pc.ensures ∙ own_pc c.args.regs.now in
+    let bus = c.execute_at-outcome.new.bus in
+    subst (λ (r : Registers). LeavesPages (g.B.Bus.takes bus) (g.B.Bus.marks bus) (g.B.Bus.misses c.args.bus.now) (g.B.Bus.misses bus) (page_number r.pc) (pages_stored r (g.B.Bus.memory c.args.bus.now)) c.execute_at-outcome.result) own
+    c.execute_at-outcome.ensures.leaves

@@ -1,10 +1,11 @@
 -- The line and its pages are those that memory's answer to the fetch leads to.
-use Rattle.std.proofs.Common.{◌≡◌, sym, ap, ◌∙◌, subst, [], Ok, Err, IsOk}
+use Rattle.std.proofs.Common.{◌≡◌, sym, ap, ◌∙◌, subst, [], Ok, Err, IsOk, inl}
 use Rattle.page_memory.specs.Words.{page_number}
 use Rattle.page_memory.specs.Memory.{fetched}
 use Rattle.rv_isa.specs.Table.{insn_of}
 use Rattle.rv_exec.specs.Line.{line, decoded_line}
 use Rattle.rv_exec.specs.LineLaws.{line_fetched, line_fault, uses_fetched, used_fault, contains_fetch}
+use Rattle.rv_exec.specs.LeavesLaws.{leaves_fetched, leaves_unfetched}
 use Rattle.rv_exec.specs.Outcomes.{Follows}
 use Rattle.rv_exec.specs.Bounds.{Bounds}
 use Rattle.rv_exec.specs.BoundsLaws.{bounds_fetched, bounds_refused}
@@ -90,3 +91,31 @@ returns-in-Err-Absent-clause-bound g c =
     let first : Bounds (g.B.Bus.within c.args.bus.now) (g.B.Bus.within c.fetch.new.self) (page_of_access regs.pc (fetched memory regs.pc)) [] =
     c.in-Err-Absent.ensures.bound in
     bounds_refused (g.B.Bus.within c.args.bus.now) (g.B.Bus.within c.fetch.new.self) regs memory first
+
+pub returns-in-Ok-clause-leaves : goal.returns-in-Ok-clause-leaves
+unfolding with_pc
+returns-in-Ok-clause-leaves g c =
+    let regs = with_pc c.args.regs.now c.args.pc.now in
+    let memory = g.B.Bus.memory c.args.bus.now in
+    let fetch : fetched memory regs.pc ≡ Ok c.in-Ok.word = c.in-Ok.ensures.answer.0 in
+    let mark : g.B.Bus.marks c.fetch.new.self (page_number regs.pc) = c.in-Ok.ensures.answer.1.1 in
+    leaves_fetched (g.B.Bus.takes c.perform.new.bus) (g.B.Bus.marks c.fetch.new.self) (g.B.Bus.marks c.perform.new.bus)
+    (g.B.Bus.misses c.args.bus.now) (g.B.Bus.misses c.fetch.new.self) (g.B.Bus.misses c.perform.new.bus)
+    regs memory (g.B.Bus.memory c.fetch.new.self) c.in-Ok.word c.perform.result
+    fetch c.in-Ok.ensures.same c.in-Ok.ensures.leaves mark
+    (λ page h. g.met.B.Bus.marked_on _ _ page c.perform.ensures.kept h)
+    c.perform.ensures.leaves
+
+pub returns-in-Err-Fault-clause-leaves : goal.returns-in-Err-Fault-clause-leaves
+unfolding with_pc
+returns-in-Err-Fault-clause-leaves g c =
+    let fetch : fetched (g.B.Bus.memory c.args.bus.now) c.args.pc.now ≡ Err c.in-Err-Fault.fault =
+    rw (c.in-Err-Fault.field-0-is) at c.in-Err-Fault.ensures.answer in
+    leaves_unfetched (g.B.Bus.takes c.fetch.new.self) (with_pc c.args.regs.now c.args.pc.now) (g.B.Bus.memory c.args.bus.now) c.in-Err-Fault.fault fetch
+
+pub returns-in-Err-Absent-clause-leaves : goal.returns-in-Err-Absent-clause-leaves
+unfolding with_pc
+returns-in-Err-Absent-clause-leaves g c =
+    let answer = rw (c.in-Err-Absent.field-0-is) at c.in-Err-Absent.ensures.answer in
+    let missed = rw (c.in-Err-Absent.field-0-is) at c.in-Err-Absent.ensures.leaves in
+    inl (answer.0, missed)

@@ -7,7 +7,7 @@ use Rattle.rv_exec.specs.Answers.{with_answer}
 use Rattle.rv_exec.specs.Bounds.{Bounds}
 use Rattle.paged_memory.specs.HartMemory.{MarksWithin}
 use Rattle.paged_memory.specs.Paged.{PagedValue, memory_of}
-use Rattle.paged_memory.proofs.BusLaws.{bus_answers, bus_bound, bus_bound_with, bus_keeps, bus_keeps_written, bus_same, bus_refuses, bus_refuses_reserving}
+use Rattle.paged_memory.proofs.BusLaws.{bus_answers, bus_bound, bus_bound_with, bus_leaves, bus_leaves_with, bus_leaves_written, bus_missed, bus_keeps, bus_keeps_written, bus_same, bus_refuses, bus_refuses_reserving}
 use Rattle.paged_memory.proofs.hart_memory.HartMemoryBus.TheImpl.Goals as goal
 
 pub fetch-tells : goal.fetch-tells
@@ -18,6 +18,7 @@ fetch-tells g c =
       answer = bus_answers c.args.self.now.hart Fetch c.args.address c.result old new g.O.Opening.opening (fetched (memory_of g.S.SwapSlot.content old) c.args.address) c.result c.args.self.now.in_turn c.ensures.reads.accesses c.ensures.answer;
       same = bus_same c.args.self.now.hart Fetch c.args.address c.result old new g.S.SwapSlot.content c.ensures.reads;
       bound = bus_bound c.args.self.now.hart Fetch c.args.address c.result old new (fetched (memory_of g.S.SwapSlot.content old) c.args.address) c.ensures.reads.accesses c.ensures.answer;
+      leaves = bus_leaves c.args.self.now.hart Fetch c.args.address c.result old new (fetched (memory_of g.S.SwapSlot.content old) c.args.address) _ (bus_missed c.args.self.now.hart Fetch c.args.address c.result old new c.new.self.now.hart c.ensures.hart c.ensures.reads.accesses) c.ensures.reads.accesses c.ensures.answer;
       kept = (c.ensures.hart, c.ensures.same_reference, bus_keeps c.args.self.now.hart Fetch c.args.address c.result old new c.ensures.reads.accesses c.ensures.reads.pages);
     }
 
@@ -29,6 +30,7 @@ load-tells g c =
       answer = bus_answers c.args.self.now.hart Load c.args.address c.result old new g.O.Opening.opening (loaded (memory_of g.S.SwapSlot.content old) c.args.width c.args.address) c.result c.args.self.now.in_turn c.ensures.reads.accesses c.ensures.answer;
       same = bus_same c.args.self.now.hart Load c.args.address c.result old new g.S.SwapSlot.content c.ensures.reads;
       bound = bus_bound c.args.self.now.hart Load c.args.address c.result old new (loaded (memory_of g.S.SwapSlot.content old) c.args.width c.args.address) c.ensures.reads.accesses c.ensures.answer;
+      leaves = bus_leaves c.args.self.now.hart Load c.args.address c.result old new (loaded (memory_of g.S.SwapSlot.content old) c.args.width c.args.address) (Unit {0}) tt c.ensures.reads.accesses c.ensures.answer;
       kept = (c.ensures.hart, c.ensures.same_reference, bus_keeps c.args.self.now.hart Load c.args.address c.result old new c.ensures.reads.accesses c.ensures.reads.pages);
     }
 
@@ -40,6 +42,7 @@ store-tells g c =
       answer = bus_answers c.args.self.now.hart Store c.args.address c.result old new g.O.Opening.opening (stored (memory_of g.S.SwapSlot.content old) c.args.width c.args.address c.args.word) (with_answer (λ _. memory_of g.S.SwapSlot.content new) c.result) c.args.self.now.in_turn c.ensures.writes.accesses c.ensures.answer;
       refused = bus_refuses c.args.self.now.hart Store c.args.address c.result old new g.S.SwapSlot.content c.ensures.writes;
       bound = bus_bound_with c.args.self.now.hart Store c.args.address c.result old new (stored (memory_of g.S.SwapSlot.content old) c.args.width c.args.address c.args.word) (λ _. memory_of g.S.SwapSlot.content new) c.ensures.writes.accesses c.ensures.answer;
+      leaves = bus_leaves_written c.args.self.now.hart Store c.args.address c.result old new (stored (memory_of g.S.SwapSlot.content old) c.args.width c.args.address c.args.word) (λ _. memory_of g.S.SwapSlot.content new) c.ensures.writes c.ensures.answer;
       kept = (c.ensures.hart, c.ensures.same_reference, bus_keeps_written c.args.self.now.hart Store c.args.address c.result old new c.ensures.writes);
     }
 
@@ -51,6 +54,7 @@ amo-tells g c =
       answer = bus_answers c.args.self.now.hart Store c.args.address c.result old new g.O.Opening.opening (replaced (memory_of g.S.SwapSlot.content old) (λ old_word. amo_result c.args.operation old_word c.args.operand) c.args.address) (with_answer (λ old_word. (old_word, memory_of g.S.SwapSlot.content new)) c.result) c.args.self.now.in_turn c.ensures.writes.accesses c.ensures.answer;
       refused = bus_refuses c.args.self.now.hart Store c.args.address c.result old new g.S.SwapSlot.content c.ensures.writes;
       bound = bus_bound_with c.args.self.now.hart Store c.args.address c.result old new (replaced (memory_of g.S.SwapSlot.content old) (λ old_word. amo_result c.args.operation old_word c.args.operand) c.args.address) (λ old_word. (old_word, memory_of g.S.SwapSlot.content new)) c.ensures.writes.accesses c.ensures.answer;
+      leaves = bus_leaves_written c.args.self.now.hart Store c.args.address c.result old new (replaced (memory_of g.S.SwapSlot.content old) (λ old_word. amo_result c.args.operation old_word c.args.operand) c.args.address) (λ old_word. (old_word, memory_of g.S.SwapSlot.content new)) c.ensures.writes c.ensures.answer;
       kept = (c.ensures.hart, c.ensures.same_reference, bus_keeps_written c.args.self.now.hart Store c.args.address c.result old new c.ensures.writes);
     }
 
@@ -62,6 +66,7 @@ load_reserved-tells g c =
       answer = bus_answers c.args.self.now.hart Load c.args.address c.result old new g.O.Opening.opening (loaded_reserved (memory_of g.S.SwapSlot.content old) c.args.hart c.args.address) (with_answer (λ word. (word, memory_of g.S.SwapSlot.content new)) c.result) c.args.self.now.in_turn c.ensures.reserves.accesses c.ensures.answer;
       refused = bus_refuses_reserving c.args.self.now.hart Load c.args.address c.result old new g.S.SwapSlot.content c.ensures.reserves;
       bound = subst (λ pages. Bounds (MarksWithin old.tables) (MarksWithin new.tables) pages []) (reserving_page (memory_of g.S.SwapSlot.content old) c.args.hart c.args.address) (bus_bound_with c.args.self.now.hart Load c.args.address c.result old new (loaded_reserved (memory_of g.S.SwapSlot.content old) c.args.hart c.args.address) (λ word. (word, memory_of g.S.SwapSlot.content new)) c.ensures.reserves.accesses c.ensures.answer);
+      leaves = bus_leaves_with c.args.self.now.hart Load c.args.address c.result old new (loaded_reserved (memory_of g.S.SwapSlot.content old) c.args.hart c.args.address) (λ word. (word, memory_of g.S.SwapSlot.content new)) c.ensures.reserves.accesses c.ensures.answer;
       kept = (c.ensures.hart, c.ensures.same_reference, bus_keeps c.args.self.now.hart Load c.args.address c.result old new c.ensures.reserves.accesses c.ensures.reserves.pages);
     }
 
@@ -74,6 +79,7 @@ store_conditional-tells g c =
       refused = bus_refuses c.args.self.now.hart Store c.args.address c.result old new g.S.SwapSlot.content c.ensures.writes;
       bound = subst (λ pages. Bounds (MarksWithin old.tables) (MarksWithin new.tables) pages pages) (conditional_page (memory_of g.S.SwapSlot.content old) c.args.hart c.args.address c.args.word)
           (bus_bound_with c.args.self.now.hart Store c.args.address c.result old new (stored_conditionally (memory_of g.S.SwapSlot.content old) c.args.hart c.args.address c.args.word) (λ is_stored. (is_stored, memory_of g.S.SwapSlot.content new)) c.ensures.writes.accesses c.ensures.answer);
+      leaves = bus_leaves_written c.args.self.now.hart Store c.args.address c.result old new (stored_conditionally (memory_of g.S.SwapSlot.content old) c.args.hart c.args.address c.args.word) (λ is_stored. (is_stored, memory_of g.S.SwapSlot.content new)) c.ensures.writes c.ensures.answer;
       kept = (c.ensures.hart, c.ensures.same_reference, bus_keeps_written c.args.self.now.hart Store c.args.address c.result old new c.ensures.writes);
     }
 
@@ -86,6 +92,7 @@ copy_out-tells g c =
       same = bus_same c.args.self.now.hart Load c.args.address c.result old new g.S.SwapSlot.content c.ensures.reads;
       refused = c.ensures.refused;
       bound = bus_bound_with c.args.self.now.hart Load c.args.address c.result old new (copied_out (memory_of g.S.SwapSlot.content old) c.args.address (length c.args.to.now)) (λ _. c.new.to.now) c.ensures.reads.accesses c.ensures.answer;
+      leaves = bus_leaves_with c.args.self.now.hart Load c.args.address c.result old new (copied_out (memory_of g.S.SwapSlot.content old) c.args.address (length c.args.to.now)) (λ _. c.new.to.now) c.ensures.reads.accesses c.ensures.answer;
       kept = (c.ensures.hart, c.ensures.same_reference, bus_keeps c.args.self.now.hart Load c.args.address c.result old new c.ensures.reads.accesses c.ensures.reads.pages);
     }
 
@@ -97,5 +104,6 @@ copy_in-tells g c =
       answer = bus_answers c.args.self.now.hart Store c.args.address c.result old new g.O.Opening.opening (copied_in (memory_of g.S.SwapSlot.content old) c.args.address c.args.from.now) (with_answer (λ _. memory_of g.S.SwapSlot.content new) c.result) c.args.self.now.in_turn c.ensures.writes.accesses c.ensures.answer;
       refused = bus_refuses c.args.self.now.hart Store c.args.address c.result old new g.S.SwapSlot.content c.ensures.writes;
       bound = bus_bound_with c.args.self.now.hart Store c.args.address c.result old new (copied_in (memory_of g.S.SwapSlot.content old) c.args.address c.args.from.now) (λ _. memory_of g.S.SwapSlot.content new) c.ensures.writes.accesses c.ensures.answer;
+      leaves = bus_leaves_written c.args.self.now.hart Store c.args.address c.result old new (copied_in (memory_of g.S.SwapSlot.content old) c.args.address c.args.from.now) (λ _. memory_of g.S.SwapSlot.content new) c.ensures.writes c.ensures.answer;
       kept = (c.ensures.hart, c.ensures.same_reference, bus_keeps_written c.args.self.now.hart Store c.args.address c.result old new c.ensures.writes);
     }

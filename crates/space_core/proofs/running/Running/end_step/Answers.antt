@@ -25,7 +25,7 @@ settle-requires g c =
     let inside : RunningValue = record { harts = c.self.inside.harts.items; environment = c.self.inside.env; ending = c.self.inside.end } in
     let did = c.in-Ok.ensures in
     let took = ended g.S.SwapSlot.content g.S.SwapSlot.honest c.args.hart c.args.outcome inside c.args.self.now c.args.memory.now c.finish_on.new.memory c.index_mut-regs.result.now c.in-Ok.stepped c.finish_on.new.regs c.finish_on.new.env
-    c.self.view_is c.self.invariant.whole c.requires.may c.index_mut-regs.ensures.value c.requires.left did.rest did.kept in
+    c.self.view_is c.self.invariant.whole c.requires.may c.index_mut-regs.ensures.value c.requires.left did.rest did.leaves did.kept in
     record { room = took.roomy c.self.inside.harts.cap c.self.invariant.roomy }
 
 pub invariant_of-self : goal.invariant_of-self
@@ -33,7 +33,7 @@ invariant_of-self g c =
     let inside : RunningValue = record { harts = c.self.inside.harts.items; environment = c.self.inside.env; ending = c.self.inside.end } in
     let did = c.in-Ok.ensures in
     let took = ended g.S.SwapSlot.content g.S.SwapSlot.honest c.args.hart c.args.outcome inside c.args.self.now c.args.memory.now c.finish_on.new.memory c.index_mut-regs.result.now c.in-Ok.stepped c.finish_on.new.regs c.finish_on.new.env
-    c.self.view_is c.self.invariant.whole c.requires.may c.index_mut-regs.ensures.value c.requires.left did.rest did.kept in
+    c.self.view_is c.self.invariant.whole c.requires.may c.index_mut-regs.ensures.value c.requires.left did.rest did.leaves did.kept in
     let same = taken_as g.S.SwapSlot.content g.S.SwapSlot.honest c.args.hart c.in-Ok.stepped inside c.finish_on.new.regs c.finish_on.new.env c.settle.new.harts.items c.settle.new.end c.pc-pc.result c.settle.ensures.harts c.settle.ensures.end c.pc-pc.ensures in
     record {
       whole = λ any. subst (λ (v : RunningValue). IsWhole (with_memory v any)) same (took.taken.whole any);
@@ -55,7 +55,7 @@ returns-in-Ok g c = record {
       let inside : RunningValue = record { harts = c.self.inside.harts.items; environment = c.self.inside.env; ending = c.self.inside.end } in
       let did = c.in-Ok.ensures in
       let took = ended g.S.SwapSlot.content g.S.SwapSlot.honest c.args.hart c.args.outcome inside c.args.self.now c.args.memory.now c.finish_on.new.memory c.index_mut-regs.result.now c.in-Ok.stepped c.finish_on.new.regs c.finish_on.new.env
-      c.self.view_is c.self.invariant.whole c.requires.may c.index_mut-regs.ensures.value left did.rest did.kept in
+      c.self.view_is c.self.invariant.whole c.requires.may c.index_mut-regs.ensures.value left did.rest did.leaves did.kept in
       let same = taken_as g.S.SwapSlot.content g.S.SwapSlot.honest c.args.hart c.in-Ok.stepped inside c.finish_on.new.regs c.finish_on.new.env c.settle.new.harts.items c.settle.new.end c.pc-pc.result c.settle.ensures.harts c.settle.ensures.end c.pc-pc.ensures in
       ends_as g.S.SwapSlot.content g.S.SwapSlot.honest c.args.hart c.in-Ok.stepped c.settle.result c.args.self.now left.before _ _ c.finish_on.new.memory same c.settle.ensures.progress took.taken.ends;
 }
@@ -66,5 +66,5 @@ returns-in-Err g c = record {
       let inside : RunningValue = record { harts = c.self.inside.harts.items; environment = c.self.inside.env; ending = c.self.inside.end } in
       let did = c.in-Err.ensures in
       not_ended g.S.SwapSlot.content g.S.SwapSlot.honest c.args.hart c.args.outcome inside c.args.self.now c.args.memory.now c.finish_on.new.memory c.index_mut-regs.result.now c.in-Err.stop c.finish_on.new.regs c.finish_on.new.env
-      c.self.view_is c.self.invariant.whole c.requires.may c.index_mut-regs.ensures.value left did.rest did.kept;
+      c.self.view_is c.self.invariant.whole c.requires.may c.index_mut-regs.ensures.value left did.rest did.leaves did.kept;
 }

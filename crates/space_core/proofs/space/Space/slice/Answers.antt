@@ -35,6 +35,9 @@ returns-clause-pages g c = (all g c).pages
 pub returns-clause-bound : goal.returns-clause-bound
 returns-clause-bound g c = (all g c).bound
 
+pub returns-clause-takes : goal.returns-clause-takes
+returns-clause-takes g c = (all g c).takes
+
 pub returns-clause-kept : goal.returns-clause-kept
 returns-clause-kept g c = (all g c).kept
 

@@ -9,7 +9,7 @@ use Rattle.machine_core.specs.declared.event.Event.TheVariants.{Step, Notice, Sw
 use Rattle.machine_core.specs.declared.event.Reply.{Reply}
 use Rattle.machine_core.specs.declared.event.Reply.TheVariants as reply
 use Rattle.serial_driver.specs.Patience.{tried_with, spent_with}
-use Rattle.serial_driver.specs.Turning.{Turn, IsInTurn, first_turn, noticed_in, paged_in, purged_in, step_turn, waiting}
+use Rattle.serial_driver.specs.Turning.{Turn, IsInTurn, first_turn, noticed_in, paged_in, purged_in, step_turn, swept_turn, waiting}
 
 -- how many loads failed in a row within one absence, the event that the last answer settled, if it did, and whose turn it is
 pub record Duty : Type 0 where
@@ -106,7 +106,7 @@ abbrev pub duty_with : Event → Reply → Duty → Duty
 duty_with (Step process hart) answer duty =
     record { faults = step_faults answer duty.faults; owed = step_owes process answer; turn = step_turn process hart answer duty.turn.slice duty.turn.left }
 duty_with (Notice process hart) answer duty = record { faults = duty.faults; owed = None; turn = noticed_in duty.turn.phase duty.turn }
-duty_with Sweep answer duty = record { faults = duty.faults; owed = None; turn = waiting duty.turn }
+duty_with Sweep answer duty = record { faults = duty.faults; owed = None; turn = swept_turn answer duty.turn }
 duty_with (Collect key) answer duty = record { faults = duty.faults; owed = collect_owes key answer; turn = waiting duty.turn }
 duty_with (Saved key) answer duty = record { faults = duty.faults; owed = save_owes key.process answer; turn = waiting duty.turn }
 duty_with (PageIn key) answer duty =

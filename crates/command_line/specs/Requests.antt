@@ -3,6 +3,7 @@ use Rattle.std.specs.Prelude.{◌≡◌, ◌↔◌, ℕ, ◌≤◌, List, Option
 use Rattle.std.specs.Str.Parse.{digits_value}
 use Rattle.clap.specs.Walk.{Row, Text, all_of, first_of}
 use Rattle.text_lines.specs.Numbers.{IsUpTo}
+use Rattle.machine_limits.specs.Limits.{most_processes}
 use Rattle.command_line.specs.declared.request.AsmRequest.{AsmRequest}
 use Rattle.command_line.specs.declared.request.FlatRequest.{FlatRequest}
 use Rattle.command_line.specs.declared.request.ClockRequest.{ClockRequest}
@@ -49,9 +50,6 @@ usual_workers = 4
 abbrev pub most_workers : ℕ
 most_workers = 64
 
-abbrev pub most_images : ℕ
-most_images = 16
-
 -- a decimal number from `least` to `most`, and nothing else
 abbrev pub IsBetween : ℕ → ℕ → Text → Type 0
 IsBetween least most text = IsUpTo most 10 text × (least ≤ digits_value 10 text)
@@ -72,7 +70,7 @@ IsNumberIfGiven least most number (Some text) = IsSomeAnd number (λ given. IsNu
 
 -- the files of the images, in their order
 abbrev pub AreImages : List Row → List Text → Type 0
-AreImages rows names = (all_of (codes "image") rows ≡ Some names) × (length names ≤ most_images)
+AreImages rows names = (all_of (codes "image") rows ≡ Some names) × (length names ≤ most_processes)
 
 -- a flag is set
 abbrev pub IsSet : Text → List Row → Type 0
@@ -146,7 +144,7 @@ abbrev pub IsClockInRange : ClockRequest → Type 0
 IsClockInRange request = IsFrom least_frames most_frames request.frames
 
 abbrev pub IsDriveInRange : DriveRequest → Type 0
-IsDriveInRange request = IsFrom least_frames most_frames request.frames × (request.slots ≤ most_slots) × (length request.images.items ≤ most_images)
+IsDriveInRange request = IsFrom least_frames most_frames request.frames × (request.slots ≤ most_slots) × (length request.images.items ≤ most_processes)
 
 abbrev pub IsThreadingInRange : Threading → Type 0
 IsThreadingInRange Serial = ⊤
@@ -154,7 +152,7 @@ IsThreadingInRange (Workers workers status) = IsFrom 1 most_workers workers
 
 abbrev pub IsRunInRange : RunRequest → Type 0
 IsRunInRange request = IsFrom least_frames most_frames request.frames × (request.slots ≤ most_slots) × IsFrom 1 longest_slice request.slice
-    × IsFrom 1 highest_limit request.limit × (length request.images.items ≤ most_images) × IsThreadingInRange request.threading
+    × IsFrom 1 highest_limit request.limit × (length request.images.items ≤ most_processes) × IsThreadingInRange request.threading
 
 abbrev pub IsDebugInRange : DebugRequest → Type 0
 IsDebugInRange request = IfSome request.frames (IsFrom least_frames most_frames)

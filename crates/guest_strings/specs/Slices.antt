@@ -4,6 +4,7 @@ use Rattle.std.specs.Option.{option_or}
 use Rattle.page_memory.specs.Memory.{Memory}
 use Rattle.rv_exec.specs.Registers.{Registers}
 use Rattle.env_calls.specs.Environment.{most_harts}
+use Rattle.machine_limits.specs.Limits.{most_processes}
 use Rattle.flat_machine.specs.Process.{Process, hart_registers, may_step}
 use Rattle.guest_strings.specs.Yields.{step_yields}
 use Rattle.guest_strings.specs.declared.turns.Turn.{Turn}
@@ -37,6 +38,10 @@ yields_at place processes = yields_in place (slice_get processes (process_of pla
 unfoldable pub first_place : ℕ → ℕ → List Process → Option ℕ
 first_place zero place processes = None
 first_place (suc count) place processes = cond (may_run place processes) (Some place) (first_place count (place + 1) processes)
+
+-- of a machine's processes
+abbrev pub most_places : ℕ
+most_places = most_harts * most_processes
 
 abbrev pub places : List Process → ℕ
 places processes = most_harts * length processes

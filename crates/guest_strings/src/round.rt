@@ -1,7 +1,8 @@
 //! Processes side by side, which run by slices.
 
 ghost use Rattle.std.specs.Prelude.{◌≤◌, ◌<◌, length};
-ghost use Rattle.guest_strings.specs.Slices.{place_of};
+ghost use Rattle.machine_limits.specs.Limits.{most_processes};
+ghost use Rattle.guest_strings.specs.Slices.{most_places, place_of};
 
 use crate::turns::Turn;
 use flat_machine::FlatProcess;
@@ -15,6 +16,6 @@ pub(crate) struct Round {
     pub(crate) slice: u32,
     /// How many more instructions may run.
     pub(crate) left: u64,
-    ghost few: { length processes.items ≤ 16 },
-    ghost there: { place_of turn < 128 },
+    ghost few: { length processes.items ≤ most_processes },
+    ghost there: { place_of turn < most_places },
 }

@@ -2,7 +2,7 @@
 
 ghost use Rattle.std.specs.Prelude.{◌≡◌, ◌<◌, ◌≤◌, ◌+◌, ◌-◌, length, IfSome};
 ghost use Rattle.flat_machine.specs.Process.{may_step};
-ghost use Rattle.guest_strings.specs.Slices.{first_place, first_turn, is_kept, may_run, next_place, place_of, turn_after};
+ghost use Rattle.guest_strings.specs.Slices.{first_place, first_turn, is_kept, may_run, most_places, next_place, place_of, turn_after};
 
 use flat_machine::FlatProcess;
 use machine_limits::{MOST_HARTS, MOST_PROCESSES};
@@ -21,7 +21,7 @@ pub(crate) struct Turn {
 pub(crate) fn first_turn(processes: &[FlatProcess], slice: u32) -> Option<Turn>
     requires { length processes.now ≤ MOST_PROCESSES }
     ensures turn { result ≡ first_turn slice processes.now }
-    ensures small { place_of result < 128 }
+    ensures small { place_of result < most_places }
 {
     match first_place(processes, 0, MOST_HARTS * processes.len()) {
         Some(place) => Some(Turn { place, left: slice }),
@@ -38,9 +38,9 @@ pub(crate) fn turn_after(
     turn: Turn,
 ) -> Option<Turn>
     requires few { length processes.now ≤ MOST_PROCESSES }
-    requires small { turn.place < 128 }
+    requires small { turn.place < most_places }
     ensures turn { result ≡ turn_after slice yielded turn processes.now }
-    ensures small { place_of result < 128 }
+    ensures small { place_of result < most_places }
 {
     if is_kept(processes, yielded, turn) {
         return Some(Turn {
@@ -67,9 +67,9 @@ fn is_kept(processes: &[FlatProcess], yielded: bool, turn: Turn) -> bool
 /// The next place whose hart may step.
 fn next_place(processes: &[FlatProcess], place: usize) -> Option<usize>
     requires few { length processes.now ≤ MOST_PROCESSES }
-    requires small { place < 128 }
+    requires small { place < most_places }
     ensures next { result ≡ next_place place processes.now }
-    ensures small { IfSome result (λ next. next < 128) }
+    ensures small { IfSome result (λ next. next < most_places) }
 {
     match first_place(processes, place + 1, MOST_HARTS * processes.len()) {
         Some(next) => Some(next),

@@ -71,8 +71,9 @@ fn carry_process<L: Ledger, S: SwapSlot, C: Clock, G: Gate, R: Wait>(
 ) -> bool {
     let mut has_run = false;
     for hart in 0..MOST_HARTS as u32 {
-        if falls_to(process, hart, shift)
-            && shared.may_run(process, hart)
+        // Most harts can't run, and a read tells that sooner than a division.
+        if shared.may_run(process, hart)
+            && falls_to(process, hart, shift)
             && carry_hart(rt, shared, process, hart, shift.slice, gate)
         {
             has_run = true;

@@ -3,7 +3,7 @@
 ghost use Rattle.std.specs.Prelude.{◌≡◌, ◌+◌, ◌≤◌, All, length, vec_len, vec_capacity, [], true};
 ghost use Rattle.hart_carriers.specs.Ending.{Counts};
 ghost use Rattle.reclaim_daemon.specs.Audit.{IsSound, AgreeEverywhere};
-ghost use Rattle.reclaim_daemon.specs.SharedValue.{most_processes};
+ghost use Rattle.machine_limits.specs.Limits.{most_processes};
 ghost use Rattle.hart_carriers.specs.FlatLines.{counts_of, StandsForRuns};
 
 use crate::crew::Crew;

@@ -2,7 +2,7 @@
 
 ghost use Rattle.std.specs.Prelude.{◌≡◌, ◌+◌, ◌<◌, ◌≤◌, ◌⊎◌, ◌↔◌, All, length, vec_len, true, IfOk, OnOk, IsErrOf};
 ghost use Rattle.hart_carriers.specs.Ending.{EndsSound, IsCrewOf};
-ghost use Rattle.reclaim_daemon.specs.SharedValue.{most_processes};
+ghost use Rattle.machine_limits.specs.Limits.{most_processes};
 ghost use Rattle.hart_carriers.specs.FlatLines.{counts_of, StandsForRuns};
 
 use crate::closing::close;
@@ -23,7 +23,7 @@ use std::thread::Threads;
 use swap_slots::SwapSlot;
 
 /// Runs a machine of 4 to 4096 frames on these slots by so many worker threads, each hart by slices of so many instructions, until each of
-/// its processes has ended: these images, which it shares, on copies of these inputs, numbered from 0 in their order. There are at most 16.
+/// its processes has ended: these images, which it shares, on copies of these inputs, numbered from 0 in their order. There are at most 64.
 ///
 /// Where a thread can't be started, each process that goes on is killed for want of memory.
 pub fn run_machine<S: SwapSlot + Send, C: Clock + Send, G: Gate + Sync, R: Threads + Wait + Sync>(
@@ -51,7 +51,7 @@ pub fn run_machine<S: SwapSlot + Send, C: Clock + Send, G: Gate + Sync, R: Threa
         EndsSound S (length handed.now) report) }
     ensures bad_size { IsErrOf result RunRefusal.BadSize ↔ ((frames < 4) ⊎ (4096 < frames)) }
     ensures too_many { IsErrOf result RunRefusal.TooManyProcesses ↔ ((4 ≤ frames) ×
-        ((frames ≤ 4096) × (16 < length handed.now))) }
+        ((frames ≤ 4096) × (most_processes < length handed.now))) }
 {
     let blank = Blank::new(u64::from(frames) + 1);
     report_over::<Brand, S, C, G, R>(
@@ -95,7 +95,7 @@ fn report_over<
         EndsSound S (length handed.now) report) }
     ensures bad_size { IsErrOf result RunRefusal.BadSize ↔ ((frames < 4) ⊎ (4096 < frames)) }
     ensures too_many { IsErrOf result RunRefusal.TooManyProcesses ↔ ((4 ≤ frames) ×
-        ((frames ≤ 4096) × (16 < length handed.now))) }
+        ((frames ≤ 4096) × (most_processes < length handed.now))) }
 {
     match run_over::<L, S, C, G, R>(
         rt, alloc, frames, blank, slots, handed, workers, slice, gate,
@@ -142,7 +142,7 @@ pub fn run_over<
     ensures shares { IfOk result (λ ran. ran.0.audit ≡ true → ran.1.parts ≡ L.parts) }
     ensures bad_size { IsErrOf result RunRefusal.BadSize ↔ ((frames < 4) ⊎ (4096 < frames)) }
     ensures too_many { IsErrOf result RunRefusal.TooManyProcesses ↔ ((4 ≤ frames) ×
-        ((frames ≤ 4096) × (16 < length handed.now))) }
+        ((frames ≤ 4096) × (most_processes < length handed.now))) }
 {
     let desk: Desk<L, C> = make_desk(alloc, frames, handed.len(), blank)?;
     match run_on::<L, S, C, G, R>(rt, alloc, desk, frames, slots, handed, workers, slice, gate) {
@@ -163,7 +163,7 @@ fn make_desk<L: Ledger, C: Clock>(
     requires one_each { L.parts ≡ frames + 1 }
     ensures bad_size { IsErrOf result RunRefusal.BadSize ↔ ((frames < 4) ⊎ (4096 < frames)) }
     ensures too_many { IsErrOf result RunRefusal.TooManyProcesses ↔ ((4 ≤ frames) ×
-        ((frames ≤ 4096) × (16 < processes))) }
+        ((frames ≤ 4096) × (most_processes < processes))) }
     ensures few { OnOk result (processes ≤ most_processes) }
 {
     if frames < FEWEST_FRAMES || frames > MOST_FRAMES {

@@ -2,6 +2,7 @@
 
 use crate::crew::Crew;
 use crate::line::Line;
+use machine_limits::MOST_PROCESSES;
 use thiserror::Error;
 
 /// What a machine has come to. Each count stays at its type's largest number.
@@ -35,7 +36,7 @@ pub struct Report {
 pub enum RunRefusal {
     #[error("the number of frames is not between 4 and 4096")]
     BadSize,
-    #[error("there are more than 16 processes")]
+    #[error("there are more than {most} processes", most = MOST_PROCESSES)]
     TooManyProcesses,
     #[error("out of memory")]
     NoMemory,

@@ -13,6 +13,7 @@ use Rattle.clock_policy.specs.Lawful.{Lawful}
 use Rattle.clock_policy.specs.Residents.{residents}
 use Rattle.flat_machine.specs.Process.{opening_pages}
 use Rattle.frame_pool.specs.FrameValue.{zero_frame}
+use Rattle.machine_limits.specs.Limits.{most_processes}
 use Rattle.page_memory.specs.Pages.{Page}
 use Rattle.page_store.specs.JobValue.{JobValue}
 use Rattle.paged_memory.specs.AmongLaws.{fresh_residents, fresh_savings, fresh_copies, fresh_frames, fresh_slots}
@@ -134,7 +135,7 @@ module _ {S : Type 0} where
       → MachineBegins frames free (map f xs) (record { pager = pager; slots = slots; processes = processes; jobs = jobs; copies = copies })
   begun f frames free xs pager slots processes jobs copies full is size all none alone = record { pager = full; slots = pool_of slots free is size; processes = all; jobs = none; copies = alone }
 
-  pub machine_begins : (frames : ℕ) (free : List S) (starts : List Start) (core : CoreValue S) → 4 ≤ frames → frames ≤ 4096 → length starts ≤ 16 → MachineBegins frames free starts core → IsMachine core
+  pub machine_begins : (frames : ℕ) (free : List S) (starts : List Start) (core : CoreValue S) → 4 ≤ frames → frames ≤ 4096 → length starts ≤ most_processes → MachineBegins frames free starts core → IsMachine core
   unfolding opening_state residents frames_where jobs_where total numbers_below
   machine_begins frames free starts core least most few begins = record {
     lawful = subst (λ (p : PagerSideValue). Lawful p.pager.list) (sym begins.pager) (opening_lawful frames least most);

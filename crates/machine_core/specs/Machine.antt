@@ -4,6 +4,7 @@ use Rattle.clock_policy.specs.declared.key.Key.{Key}
 use Rattle.clock_policy.specs.Lawful.{Lawful}
 use Rattle.clock_policy.specs.Residents.{residents}
 use Rattle.frame_pool.specs.FrameValue.{FrameValue}
+use Rattle.machine_limits.specs.Limits.{most_processes}
 use Rattle.page_store.specs.JobValue.{JobValue}
 use Rattle.paged_memory.specs.Copies.{CopyStands}
 use Rattle.paged_memory.specs.Stages.{is_saving_stage}
@@ -58,7 +59,7 @@ module _ {S : Type 0} where
     pub lawful : Lawful core.pager.pager.list
     pub frames : core.pager.pager.list.frames ≡ core.pager.pager.size
     pub numbered : (number : ℕ) (process : ProcessSideValue S) → slice_get core.processes number ≡ Some process → process.space.memory.process ≡ number
-    pub few : length core.processes ≤ 16
+    pub few : length core.processes ≤ most_processes
     pub listed : (test : Key → Bool) → residents core.pager.pager.list test ≡ total (λ (process : ProcessSideValue S). residents_in process.space test) core.processes
     pub framed : (test : ℕ → Bool) → frames_where test core.pager.pager.free + total (λ (process : ProcessSideValue S). frames_in process.space test) core.processes ≡ numbers_below core.pager.pager.size test
     pub saved : (test : Key → Bool) → jobs_where test core.jobs ≡ total (λ (process : ProcessSideValue S). savings_in process.space test) core.processes

@@ -1,6 +1,7 @@
 ghost use Rattle.std.specs.Prelude.{◌≡◌};
 ghost use Rattle.machine_core.specs.RefusalNumber.{refusal_number};
 
+use machine_limits::MOST_PROCESSES;
 use thiserror::Error;
 
 /// Why an event is refused, in the order in which the reasons are tested, but for want of memory, which comes last.
@@ -74,7 +75,7 @@ impl EventRefusal {
 pub enum CoreError {
     #[error("the number of frames is not between 4 and 4096")]
     BadSize,
-    #[error("there are more than 16 processes")]
+    #[error("there are more than {most} processes", most = MOST_PROCESSES)]
     TooManyProcesses,
     #[error("out of memory")]
     NoMemory,

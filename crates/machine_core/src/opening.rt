@@ -3,6 +3,7 @@
 ghost use Rattle.std.specs.Prelude.{◌≡◌, ◌+◌, ◌<◌, ◌≤◌, ◌↔◌, ◌⊎◌, map, length, IfOk, IsErrOf};
 ghost use Rattle.machine_core.specs.Opening.{AllBegin, MachineBegins};
 ghost use Rattle.elf_image.specs.Start.{start_of};
+ghost use Rattle.machine_limits.specs.Limits.{most_processes};
 
 use crate::error::CoreError;
 use crate::machine::Core;
@@ -16,7 +17,7 @@ use swap_slots::{SlotPool, SwapSlot};
 
 impl<L: Ledger, S: SwapSlot, C: Clock> Core<L, S, C> {
     /// A machine of 4 to 4096 frames, with these slots, that is to run these images on these inputs. The processes are numbered
-    /// from 0, in their order; there may be none, and there are at most 16. The ledger has one part for each frame, and one for
+    /// from 0, in their order; there may be none, and there are at most 64. The ledger has one part for each frame, and one for
     /// the pager itself.
     ///
     /// Refused with the first of `BadSize` and `TooManyProcesses` that holds, or else where memory is wanting.
@@ -34,7 +35,7 @@ impl<L: Ledger, S: SwapSlot, C: Clock> Core<L, S, C> {
             start_of start.0 start.1.items) processes.items) core) }
         ensures bad_size { IsErrOf result CoreError.BadSize ↔ ((frames < 4) ⊎ (4096 < frames)) }
         ensures too_many { IsErrOf result CoreError.TooManyProcesses ↔ ((4 ≤ frames) ×
-            ((frames ≤ 4096) × (16 < length processes.items))) }
+            ((frames ≤ 4096) × (most_processes < length processes.items))) }
     {
         if frames < FEWEST_FRAMES || frames > MOST_FRAMES {
             return Err(CoreError::BadSize);
@@ -71,7 +72,7 @@ fn begin_all<L: Ledger, S: SwapSlot>(
     alloc: Global,
     starts: Vec<(Image, Vec<u8>)>,
 ) -> Result<Vec<ProcessSide<L, S>>, AllocError>
-    requires { length starts.items ≤ 16 }
+    requires { length starts.items ≤ most_processes }
     ensures { IfOk result (λ sides. AllBegin (map (λ start.
         start_of start.0 start.1.items) starts.items) sides.items) }
 {

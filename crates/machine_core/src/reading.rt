@@ -3,6 +3,7 @@
 ghost use Rattle.std.specs.Prelude.{◌≡◌, ◌≢◌, ◌↔◌, ◌+◌, ◌*◌, ◌<◌, ◌≤◌, ◌^◌, Some, true, false, None, IsNone, IfNone, IfSome, length, slice_get, option_copied, option_map};
 ghost use Rattle.std.specs.Option.{option_and_then};
 ghost use Rattle.clock_policy.specs.Residents.{residents};
+ghost use Rattle.machine_limits.specs.Limits.{most_processes};
 ghost use Rattle.page_memory.specs.Words.{page_offset};
 ghost use Rattle.machine_sides.specs.Admitting.{stage_at};
 ghost use Rattle.machine_core.specs.MachineRun.{ChangesOne};
@@ -63,7 +64,7 @@ impl<L: Ledger, S: SwapSlot, C: Clock> Core<L, S, C> {
     /// How many processes there are: their numbers go from 0 on.
     pub fn processes(&self) -> usize
         ensures count { result ≡ length self.now.processes }
-        ensures few { result ≤ 16 }
+        ensures few { result ≤ most_processes }
     {
         self.processes.len()
     }

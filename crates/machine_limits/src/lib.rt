@@ -5,7 +5,7 @@
 pub const MOST_HARTS: usize = 8;
 
 /// How many processes a machine may run.
-pub const MOST_PROCESSES: usize = 16;
+pub const MOST_PROCESSES: usize = 64;
 
 /// The fewest frames that a machine has.
 pub const FEWEST_FRAMES: u32 = 4;

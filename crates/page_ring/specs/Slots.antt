@@ -8,10 +8,15 @@ use Rattle.page_ring.specs.declared.node_index.IndexedNode.{IndexedNode}
 abbrev pub same_key : Key → Key → Bool
 same_key k q = (k.process == q.process) && (k.vpn == q.vpn)
 
--- the slot of a page among n, which is a power of two: the pages of a process take turns from its part of the slots on, and
--- the high bits of a number count where the low ones are alike
+-- The slot from which on the pages of a process have theirs, among n. The factor is 2 ^ 32 over the golden ratio, and odd: its multiples below
+-- 2 ^ 32 stand apart, however many there are.
+abbrev pub first_slot : ℕ → ℕ → ℕ
+first_slot process n = process * 2654435761 % 2 ^ 32 * n % 2 ^ 64 / 2 ^ 32
+
+-- the slot of a page among n, which is a power of two: the pages of a process take turns from its first slot on, and the high
+-- bits of a number count where the low ones are alike
 unfoldable pub index_slot : Key → ℕ → ℕ
-index_slot k n = bit_and ((k.process * (n / 16) % 2 ^ 64 + bit_xor k.vpn (k.vpn / 2 ^ (trailing_zeros w64 n % 32))) % 2 ^ 64) (n - 1)
+index_slot k n = bit_and ((first_slot k.process n + bit_xor k.vpn (k.vpn / 2 ^ (trailing_zeros w64 n % 32))) % 2 ^ 64) (n - 1)
 
 -- what a slot tells of a page
 abbrev pub held : Option IndexedNode → Key → Option ℕ

@@ -1,7 +1,7 @@
 //! An index from a page to its node.
 
 ghost use Rattle.std.specs.Prelude.{◌≡◌, ◌≤◌, ◌<◌, ◌^◌, ◌⊎◌, length, cond, Some, None, IfOk, OnOk, OnErr, vec_len};
-ghost use Rattle.page_ring.specs.Slots.{same_key, index_slot, in_slot, IsSlotTaken};
+ghost use Rattle.page_ring.specs.Slots.{first_slot, same_key, index_slot, in_slot, IsSlotTaken};
 
 use clock_policy::Key;
 use std::alloc::{AllocError, Global};
@@ -21,6 +21,18 @@ impl IndexedNode {
     {
         self.key.process == key.process && self.key.vpn == key.vpn
     }
+}
+
+/// 2 ^ 32 over the golden ratio, and odd: its multiples below 2 ^ 32 stand apart, however many there are.
+const SPREAD: u32 = 0x9E37_79B1;
+
+/// The slot from which on the pages of a process have theirs, in a table of so many. However many processes there are, each has
+/// some half of a fair part of the table before the next one begins.
+#[inline(always)]
+fn first_slot(process: u32, slots: usize) -> usize
+    ensures { result ≡ first_slot process slots }
+{
+    (process.wrapping_mul(SPREAD) as usize).wrapping_mul(slots) >> 32
 }
 
 /// A table with a slot for each page, by its number, and a map of the pages whose slot was taken.
@@ -45,7 +57,7 @@ impl NodeIndex {
     }
 
     /// The slot of a page. Neighbours have slots side by side, and so have pages at a distance that is a power of two, once
-    /// the low bits of their numbers are all alike; each of 16 processes begins in a part of its own.
+    /// the low bits of their numbers are all alike; each process begins in a part of its own.
     #[inline(always)]
     #[tactic(auto, unfolding(crate::specs::Slots::index_slot))]
     fn slot(&self, key: Key) -> usize
@@ -54,8 +66,7 @@ impl NodeIndex {
     {
         let slots = self.slots.len();
         let high = key.vpn.wrapping_shr(slots.trailing_zeros());
-        let first = (key.process as usize).wrapping_mul(slots / 16);
-        first.wrapping_add((key.vpn ^ high) as usize) & (slots - 1)
+        first_slot(key.process, slots).wrapping_add((key.vpn ^ high) as usize) & (slots - 1)
     }
 
     /// The node of a page.

@@ -2,6 +2,7 @@
 
 ghost use Rattle.std.specs.Prelude.{◌≡◌, ◌≤◌, IfOk, length, map};
 ghost use Rattle.elf_image.specs.Start.{start_of};
+ghost use Rattle.machine_limits.specs.Limits.{most_processes};
 ghost use Rattle.policies_cli.specs.Asked.{AreGuests, opened};
 
 use crate::request::GuestRequest;
@@ -11,12 +12,12 @@ use image_files::{Fault, Folder, read_processes};
 use machine_limits::MOST_PROCESSES;
 use std::alloc::{AllocError, Global};
 
-/// The guests that a request names, 16 at most.
+/// The guests that a request names, 64 at most.
 pub fn read_guests<'a, R: Folder + AllocGlobal>(
     rt: &R,
     request: &GuestRequest<'a>,
 ) -> Result<Vec<FlatProcess>, Fault<'a>>
-    ensures few { IfOk result (λ processes. length processes.items ≤ 16) }
+    ensures few { IfOk result (λ processes. length processes.items ≤ most_processes) }
     ensures asked { IfOk result (λ processes. AreGuests R.gives request.now processes.items) }
 {
     let starts = read_processes(rt, request.images.as_slice(), request.input)?;

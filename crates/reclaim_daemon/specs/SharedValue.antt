@@ -7,10 +7,6 @@ pub record SharedValue : Type 0 where
   pub slots : ℕ
   pub most_tries : ℕ
 
--- how many processes a machine may have
-abbrev pub most_processes : ℕ
-most_processes = 16
-
 -- how often a process may be tried for, for each frame of the machine
 abbrev pub tries_per_frame : ℕ
 tries_per_frame = 64

@@ -2,7 +2,7 @@
 
 ghost use Rattle.std.specs.Prelude.{◌≡◌, ◌<◌, ◌≤◌, ◌*◌, ◌^◌, true, IfSome, IsNone};
 ghost use Rattle.reclaim_daemon.specs.Audit.{CountsMore, FindsSound, HoldsAll, IsListed};
-ghost use Rattle.reclaim_daemon.specs.SharedValue.{most_processes};
+ghost use Rattle.machine_limits.specs.Limits.{most_processes};
 
 use crate::desk::Desk;
 use crate::held::Held;

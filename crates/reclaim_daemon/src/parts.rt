@@ -2,7 +2,7 @@
 
 ghost use Rattle.std.specs.Prelude.{◌≡◌, ◌≤◌, true, vec_len};
 ghost use Rattle.reclaim_daemon.specs.Audit.{IsSound, AgreeEverywhere};
-ghost use Rattle.reclaim_daemon.specs.SharedValue.{most_processes};
+ghost use Rattle.machine_limits.specs.Limits.{most_processes};
 
 use crate::audit::{count_more, is_all};
 use crate::desk::Desk;

@@ -1,7 +1,8 @@
 //! The locks of a machine.
 
 ghost use Rattle.std.specs.Prelude.{◌≡◌, ◌+◌, ◌*◌, ◌≤◌, ◌↔◌, [], true, vec_len, vec_capacity, OnOk, OnErr, IsErrOf};
-ghost use Rattle.reclaim_daemon.specs.SharedValue.{most_processes, tries_per_frame};
+ghost use Rattle.machine_limits.specs.Limits.{most_processes};
+ghost use Rattle.reclaim_daemon.specs.SharedValue.{tries_per_frame};
 
 use crate::desk::Desk;
 use crate::held::Held;
@@ -50,7 +51,8 @@ pub struct Shared<L: Ledger, S: SwapSlot, C: Clock> {
 
 impl<L: Ledger, S: SwapSlot, C: Clock> Model for Shared<L, S, C> {
     ghost use Rattle.std.specs.Prelude.{◌≤◌, vec_len};
-    ghost use Rattle.reclaim_daemon.specs.SharedValue.{SharedValue, most_processes};
+    ghost use Rattle.machine_limits.specs.Limits.{most_processes};
+    ghost use Rattle.reclaim_daemon.specs.SharedValue.{SharedValue};
 
     ghost Value = { SharedValue };
 
@@ -62,7 +64,7 @@ impl<L: Ledger, S: SwapSlot, C: Clock> Model for Shared<L, S, C> {
 /// Why a process was not added, in the order in which the reasons are tested.
 #[derive(Clone, Copy, PartialEq, Eq, Debug, Error)]
 pub enum AddRefusal {
-    #[error("the machine has sixteen processes")]
+    #[error("the machine has {most} processes", most = MOST_PROCESSES)]
     TooMany,
     #[error("out of memory")]
     NoMemory,

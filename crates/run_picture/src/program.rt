@@ -2,6 +2,7 @@
 
 ghost use Rattle.std.specs.Prelude.{◌≡◌, ◌+◌, ◌≤◌, length};
 ghost use Rattle.command_line.specs.Requests.{IsDriveInRange};
+ghost use Rattle.machine_limits.specs.Limits.{most_processes};
 
 use crate::drive::film;
 use crate::json::write_film;
@@ -81,7 +82,7 @@ fn film_script(
 ) -> Result<Film, AllocError>
     requires least { 4 ≤ frames }
     requires most { frames ≤ 4096 }
-    requires few { length processes.items ≤ 16 }
+    requires few { length processes.items ≤ most_processes }
 {
     let blank = Blank::new(u64::from(frames) + 1);
     film_with::<Brand>(alloc, frames, blank, slots, processes, events)
@@ -100,7 +101,7 @@ fn film_with<L: Ledger>(
     requires one_each { L.parts ≡ frames + 1 }
     requires least { 4 ≤ frames }
     requires most { frames ≤ 4096 }
-    requires few { length processes.items ≤ 16 }
+    requires few { length processes.items ≤ most_processes }
 {
     let mut core = new_machine::<L>(alloc, frames, blank, slots, processes)?;
     film(alloc, &mut core, events)

@@ -4,6 +4,7 @@ ghost use Rattle.std.specs.Prelude.{◌≡◌, ◌+◌, ◌≤◌, IfErr, IfOk, 
 ghost use Rattle.command_line.specs.Requests.{IsDriveInRange};
 ghost use Rattle.elf_image.specs.Start.{start_of};
 ghost use Rattle.image_files.specs.Faults.{IfBadLine, IsOfNoLine};
+ghost use Rattle.machine_limits.specs.Limits.{most_processes};
 ghost use Rattle.serial_commands.specs.Asked.{IsPlayedAsAsked, PlaysAsAsked};
 ghost use Rattle.serial_commands.specs.Playing.{Plays};
 ghost use Rattle.text_lines.specs.Text.{lines_of};
@@ -90,7 +91,7 @@ pub fn play(
 ) -> Result<Played, AllocError>
     requires least { 4 ≤ frames }
     requires most { frames ≤ 4096 }
-    requires few { length processes.items ≤ 16 }
+    requires few { length processes.items ≤ most_processes }
     ensures { IfOk result (λ played. Plays frames slots (map (λ start.
         start_of start.0 start.1.items) processes.items) (lines_of script.now) played.replies.items
         played.bad_line) }
@@ -112,7 +113,7 @@ fn play_with<L: Ledger>(
     requires one_each { L.parts ≡ frames + 1 }
     requires least { 4 ≤ frames }
     requires most { frames ≤ 4096 }
-    requires few { length processes.items ≤ 16 }
+    requires few { length processes.items ≤ most_processes }
     ensures { IfOk result (λ played. Plays frames slots (map (λ start.
         start_of start.0 start.1.items) processes.items) (lines_of script.now) played.replies.items
         played.bad_line) }

@@ -3,6 +3,7 @@
 ghost use Rattle.std.specs.Prelude.{◌≡◌, ◌+◌, ◌≤◌, IfOk, length, map, replicate};
 ghost use Rattle.elf_image.specs.Start.{start_of};
 ghost use Rattle.machine_core.specs.Opening.{MachineBegins};
+ghost use Rattle.machine_limits.specs.Limits.{most_processes};
 ghost use Rattle.swap_slots.specs.Slot.{zero_content};
 
 use clock_ring::ClockRing;
@@ -26,7 +27,7 @@ pub fn new_machine<L: Ledger>(
     requires one_each { L.parts ≡ frames + 1 }
     requires least { 4 ≤ frames }
     requires most { frames ≤ 4096 }
-    requires few { length processes.items ≤ 16 }
+    requires few { length processes.items ≤ most_processes }
     ensures { IfOk result (λ core. MachineBegins frames (replicate slots zero_content)
         (map (λ start. start_of start.0 start.1.items) processes.items) core) }
 {
@@ -47,7 +48,7 @@ pub(crate) fn machine_on<L: Ledger, S: SwapSlot>(
     requires one_each { L.parts ≡ frames + 1 }
     requires least { 4 ≤ frames }
     requires most { frames ≤ 4096 }
-    requires few { length processes.items ≤ 16 }
+    requires few { length processes.items ≤ most_processes }
     ensures { IfOk result (λ core. MachineBegins frames slots.items (map (λ start.
         start_of start.0 start.1.items) processes.items) core) }
 {

@@ -3,6 +3,7 @@
 ghost use Rattle.std.specs.Prelude.{◌≡◌, ◌+◌, ◌≤◌, IfOk, length, map, option_map};
 ghost use Rattle.command_line.specs.Requests.{IsRunInRange};
 ghost use Rattle.elf_image.specs.Start.{start_of};
+ghost use Rattle.machine_limits.specs.Limits.{most_processes};
 ghost use Rattle.serial_commands.specs.Asked.{RunsAsAsked};
 ghost use Rattle.serial_commands.specs.Playing.{ReportsAsked, ReportsOver, WritesRun};
 
@@ -43,7 +44,7 @@ fn run_asked<'a, R: Folder + AllocGlobal, W: Write>(
     out: &mut W,
 ) -> Result<u8, Fault<'a>>
     requires in_range { IsRunInRange request.now }
-    requires few { length processes.items ≤ 16 }
+    requires few { length processes.items ≤ most_processes }
     ensures { IfOk result (WritesRun (ReportsAsked R.makes (option_map (λ s.
         s.now) request.now.swap) request.now.frames request.now.slots (map (λ start.
         start_of start.0 start.1.items) processes.items) request.now.slice request.now.limit)
@@ -71,7 +72,7 @@ fn run<'a, S: SwapSlot, W: Write>(
     out: &mut W,
 ) -> Result<u8, Fault<'a>>
     requires in_range { IsRunInRange request.now }
-    requires few { length processes.items ≤ 16 }
+    requires few { length processes.items ≤ most_processes }
     ensures { IfOk result (WritesRun (ReportsOver S.content S.honest S.failures request.now.frames
         slots.items (map (λ start. start_of start.0 start.1.items) processes.items)
         request.now.slice request.now.limit) (W.contents out.old) (W.contents out.new)) }
@@ -92,7 +93,7 @@ fn run_with<'a, L: Ledger, S: SwapSlot, W: Write>(
     requires name { blank.name ≡ L.name }
     requires parts { blank.parts ≡ L.parts }
     requires one_each { L.parts ≡ request.now.frames + 1 }
-    requires few { length processes.items ≤ 16 }
+    requires few { length processes.items ≤ most_processes }
     ensures { IfOk result (WritesRun (ReportsOver S.content S.honest S.failures request.now.frames
         slots.items (map (λ start. start_of start.0 start.1.items) processes.items)
         request.now.slice request.now.limit) (W.contents out.old) (W.contents out.new)) }

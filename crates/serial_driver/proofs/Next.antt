@@ -5,7 +5,7 @@ use Rattle.flat_machine.specs.declared.end.KillCause.TheVariants as cause
 use Rattle.machine_core.specs.declared.event.Event as machine
 use Rattle.machine_core.specs.declared.event.Event.TheVariants.{Kill, Notice, Step}
 use Rattle.serial_driver.specs.Nexts.{IsNext, IsOrdinary}
-use Rattle.serial_driver.specs.Owing.{Duty, Pays, is_kill, next_owed}
+use Rattle.serial_driver.specs.Owing.{Duty, Pays, is_ending, next_owed}
 use Rattle.serial_driver.specs.Turning.{IsInTurn, MayNotice, MayStep}
 use Rattle.serial_driver.specs.TurnsDuty.{phase_of, turn_of}
 use Rattle.serial_driver.specs.declared.harts.HartOf.{HartOf}
@@ -13,7 +13,7 @@ use Rattle.serial_driver.specs.declared.turns.Next.TheVariants.{Event}
 use Rattle.serial_driver.specs.declared.turns.Stage.TheVariants.{Choose, Run, Rest}
 use Rattle.serial_driver.specs.declared.turns.Turns.{Turns}
 
-free_pays : (owed : Option machine.Event) (event : machine.Event) → owed ≡ None → is_kill event ≡ false → Pays owed event
+free_pays : (owed : Option machine.Event) (event : machine.Event) → owed ≡ None → is_ending event ≡ false → Pays owed event
 free_pays owed event is none = subst (λ o. Pays o event) (sym is) none
 
 pub ordinary_next : (allowed : ℕ) (event : machine.Event) → 0 < allowed → (spent : Option ℕ) (duty : Duty) → IsOrdinary duty.turn event → next_owed duty.owed spent ≡ None → IsNext allowed spent duty (Event event)

@@ -8,6 +8,7 @@ use Rattle.machine_core.specs.declared.event.Reply.{Reply}
 use Rattle.machine_core.specs.declared.event.Reply.TheVariants.{Ran}
 use Rattle.machine_core.specs.Headline.{has_run}
 use Rattle.machine_core.specs.ManySteps.{steps_of, replies_of}
+use Rattle.machine_limits.specs.Limits.{most_processes}
 use Rattle.serial_driver.specs.Patience.{IsPatient, any_ran, renewed, run_of, spent_after, spent_of, spent_with, tried_after, tried_again, tried_with, try_of}
 use Rattle.serial_driver.specs.declared.patience.Patience.{Patience}
 
@@ -97,3 +98,18 @@ steps_spent most tried process hart zero None spent many all some = absurd (omeg
 steps_spent most tried process hart (suc count) None spent many all some = ran_spent most tried process hart count spent
 steps_spent most tried process hart ran (Some reply) spent many all some =
     spent_on most tried (replicate ran (Step process hart)) (Step process hart ∷ []) (replicate ran Ran) (reply ∷ []) spent (same_count process hart ran)
+
+-- nothing was tried for at first
+zeros : (count number : ℕ) → ◌≡◌ {A = ℕ} (slice_index_or (replicate count 0) number 0) 0
+zeros zero number = refl
+zeros (suc count) zero = refl
+zeros (suc count) (suc number) = zeros count number
+
+least : (most : ℕ) → ◌≡◌ {A = ℕ} 0 (min 0 most)
+least most = omega arith
+
+pub patient_first : (most : ℕ) (patience : Patience) → patience.most_tries ≡ most → patience.tries ≡ replicate {A = ℕ} most_processes 0 → IsPatient most (λ _. 0) patience
+patient_first most patience bound none = record {
+  bound = bound;
+  exact = λ number small. ap (λ l. slice_index_or l number 0) none ∙ zeros most_processes number ∙ least most;
+}

@@ -5,7 +5,7 @@ use Rattle.serial_driver.specs.declared.turns.Next.TheVariants.{Steps, Event}
 use Rattle.machine_core.specs.declared.event.Event as machine
 use Rattle.machine_core.specs.declared.event.Event.TheVariants.{Step}
 use Rattle.serial_driver.specs.Closing.{is_limit_kill}
-use Rattle.serial_driver.specs.Owing.{Duty, Pays, is_kill, next_owed}
+use Rattle.serial_driver.specs.Owing.{Duty, Pays, is_ending, next_owed}
 use Rattle.serial_driver.specs.Turning.{Turn, IsInTurn}
 
 abbrev pub most_events : Next → ℕ
@@ -23,6 +23,6 @@ MayCome spent duty (Event event) = (is_limit_kill event ≡ false) × Pays (next
 abbrev pub IsNext : ℕ → Option ℕ → Duty → Next → Type 0
 IsNext allowed spent duty next = (0 < most_events next) × ((most_events next ≤ allowed) × MayCome spent duty next)
 
--- an event that ends no process, in turn
+-- an event that ends no process and has none give back what it has, in turn
 abbrev pub IsOrdinary : Turn → machine.Event → Type 0
-IsOrdinary turn event = (is_limit_kill event ≡ false) × (is_kill event ≡ false) × IsInTurn turn event
+IsOrdinary turn event = (is_limit_kill event ≡ false) × (is_ending event ≡ false) × IsInTurn turn event

@@ -9,7 +9,7 @@ use Rattle.machine_core.specs.declared.event.Event.TheVariants.{Step, Notice, Sw
 use Rattle.machine_core.specs.declared.event.Reply.{Reply}
 use Rattle.machine_core.specs.declared.event.Reply.TheVariants as reply
 use Rattle.serial_driver.specs.Patience.{tried_with, spent_with}
-use Rattle.serial_driver.specs.Turning.{Turn, IsInTurn, first_turn, noticed_in, paged_in, purged_in, step_turn, waiting}
+use Rattle.serial_driver.specs.Turning.{Turn, IsInTurn, first_turn, noticed_in, paged_in, purged_in, step_turn, swept_turn, waiting}
 
 -- how many loads failed in a row within one absence, the event that the last answer settled, if it did, and whose turn it is
 pub record Duty : Type 0 where
@@ -106,7 +106,7 @@ abbrev pub duty_with : Event → Reply → Duty → Duty
 duty_with (Step process hart) answer duty =
     record { faults = step_faults answer duty.faults; owed = step_owes process answer; turn = step_turn process hart answer duty.turn.slice duty.turn.left }
 duty_with (Notice process hart) answer duty = record { faults = duty.faults; owed = None; turn = noticed_in duty.turn.phase duty.turn }
-duty_with Sweep answer duty = record { faults = duty.faults; owed = None; turn = waiting duty.turn }
+duty_with Sweep answer duty = record { faults = duty.faults; owed = None; turn = swept_turn answer duty.turn }
 duty_with (Collect key) answer duty = record { faults = duty.faults; owed = collect_owes key answer; turn = waiting duty.turn }
 duty_with (Saved key) answer duty = record { faults = duty.faults; owed = save_owes key.process answer; turn = waiting duty.turn }
 duty_with (PageIn key) answer duty =
@@ -120,10 +120,11 @@ duty_after [] answers duty = duty
 duty_after (event ∷ events) [] duty = duty
 duty_after (event ∷ events) (answer ∷ answers) duty = duty_after events answers (duty_with event answer duty)
 
--- whether an event ends a process
-abbrev pub is_kill : Event → Bool
-is_kill (Kill process cause) = true
-is_kill _ = false
+-- whether an event ends a process, or has one give back what it has
+abbrev pub is_ending : Event → Bool
+is_ending (Kill process cause) = true
+is_ending (Purge process) = true
+is_ending _ = false
 
 -- What comes next: the event that is settled; else the end of the process that is spent, at once, for want of a place for its pages.
 abbrev pub next_owed : Option Event → Option ℕ → Option Event
@@ -131,10 +132,10 @@ next_owed (Some owed) spent = Some owed
 next_owed None (Some process) = Some (Kill process cause.NoSwap)
 next_owed None None = None
 
--- an event that is owed is the next; where none is, no process is ended
+-- an event that is owed is the next; where none is, no process is ended, and none gives back what it has
 abbrev pub Pays : Option Event → Event → Type 0
 Pays (Some owed) event = event ≡ owed
-Pays None event = is_kill event ≡ false
+Pays None event = is_ending event ≡ false
 
 -- the same of events one after another, each in turn, where a process is spent by so many tries; the counts are those before the first
 unfoldable pub ArePaid : ℕ → (ℕ → ℕ) → Duty → Option ℕ → List Event → List Reply → Type 0

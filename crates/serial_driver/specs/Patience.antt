@@ -5,6 +5,7 @@ use Rattle.machine_core.specs.declared.event.Event.TheVariants.{Step, Collect, S
 use Rattle.machine_core.specs.declared.event.Reply.{Reply}
 use Rattle.machine_core.specs.declared.event.Reply.TheVariants as reply
 use Rattle.machine_core.specs.Headline.{has_run}
+use Rattle.machine_limits.specs.Limits.{most_processes}
 use Rattle.serial_driver.specs.declared.patience.Patience.{Patience}
 
 -- whether a page failed to leave its frame: it found no slot, or the device failed
@@ -70,10 +71,10 @@ spent_after most tried (event ∷ events) (answer ∷ answers) spent =
 abbrev pub tries_per_frame : ℕ
 tries_per_frame = 64
 
--- what the driver remembers: of each process of a machine, of which there are sixteen at most, how often it was tried for, up to the bound
+-- what the driver remembers: of each process of a machine, how often it was tried for, up to the bound
 pub record IsPatient (most : ℕ) (tried : ℕ → ℕ) (patience : Patience) : Type 0 where
   pub bound : patience.most_tries ≡ most
-  pub exact : (number : ℕ) → number < 16 → slice_index_or patience.tries number 0 ≡ min (tried number) most
+  pub exact : (number : ℕ) → number < most_processes → slice_index_or patience.tries number 0 ≡ min (tried number) most
 
 -- whether a step of some in a row ran
 abbrev pub any_ran : ℕ → Option Reply → Bool

@@ -6,12 +6,13 @@ use Rattle.machine_core.specs.declared.event.Reply.{Reply}
 use Rattle.machine_core.specs.declared.event.Reply.TheVariants as reply
 
 -- A turn begins with the first instruction of some hart; that hart runs on; its turn is over, and it drops its translations; or it waits
--- for a page, or is gone.
+-- for a page, or is gone. While it waits, the harts of a victim's process drop theirs, until the victim is looked at.
 pub data Phase : Type 0 where
   Begins : Phase
   Runs : Phase
   Rests : Phase
   Waits : Phase
+  Clears : ℕ → Phase
 
 pub record Turn : Type 0 where
   pub slice : ℕ
@@ -32,6 +33,10 @@ begun turn = record { slice = turn.slice; process = turn.process; hart = turn.ha
 abbrev pub waiting : Turn → Turn
 waiting turn = record { slice = turn.slice; process = turn.process; hart = turn.hart; left = turn.left; phase = Waits }
 
+-- it waits, and a page of a process is to leave its frame
+abbrev pub clearing : ℕ → Turn → Turn
+clearing victim turn = record { slice = turn.slice; process = turn.process; hart = turn.hart; left = turn.left; phase = Clears victim }
+
 -- with nothing left of its slice a hart rests
 abbrev pub resting : ℕ → Phase
 resting left = if left == 0 then Rests else Runs
@@ -51,7 +56,13 @@ step_turn process hart _ slice left = record { slice = slice; process = process;
 -- a hart that rests and drops its translations makes room for another
 abbrev pub noticed_in : Phase → Turn → Turn
 noticed_in Waits turn = waiting turn
+noticed_in (Clears victim) turn = clearing victim turn
 noticed_in _ turn = begun turn
+
+-- a question may name a victim
+abbrev pub swept_turn : Reply → Turn → Turn
+swept_turn (reply.Victim key) turn = clearing key.process turn
+swept_turn _ turn = waiting turn
 
 -- a hart whose page came in runs on
 abbrev pub paged_in : Bool → Turn → Turn
@@ -72,13 +83,15 @@ MayStep Begins turn process hart = ⊤
 MayStep Runs turn process hart = (process ≡ turn.process) × (hart ≡ turn.hart)
 MayStep Rests turn process hart = ⊥
 MayStep Waits turn process hart = ⊥
+MayStep (Clears victim) turn process hart = ⊥
 
--- which may drop its translations: the one whose turn is over, or, while one waits, another
+-- which may drop its translations: the one whose turn is over, or, while one waits, one of the victim's process
 abbrev pub MayNotice : Phase → Turn → ℕ → ℕ → Type 0
 MayNotice Begins turn process hart = ⊥
 MayNotice Runs turn process hart = ⊥
 MayNotice Rests turn process hart = (process ≡ turn.process) × (hart ≡ turn.hart)
-MayNotice Waits turn process hart = ⊤
+MayNotice Waits turn process hart = ⊥
+MayNotice (Clears victim) turn process hart = process ≡ victim
 
 -- a process may be ended, and may give back what it has, at any time; no other event is a part of a run
 abbrev pub EndsProcess : Event → Type 0
@@ -92,7 +105,7 @@ abbrev pub IsInTurn : Turn → Event → Type 0
 IsInTurn turn (Step process hart) = MayStep turn.phase turn process hart
 IsInTurn turn (Notice process hart) = MayNotice turn.phase turn process hart
 IsInTurn turn Sweep = turn.phase ≡ Waits
-IsInTurn turn (Collect key) = turn.phase ≡ Waits
+IsInTurn turn (Collect key) = turn.phase ≡ Clears key.process
 IsInTurn turn (Saved key) = turn.phase ≡ Waits
 IsInTurn turn (PageIn key) = (turn.phase ≡ Waits) × (key.process ≡ turn.process)
 IsInTurn turn event = EndsProcess event

@@ -10,7 +10,7 @@ use Rattle.serial_driver.specs.declared.turns.Stage.{Stage}
 use Rattle.serial_driver.specs.declared.turns.Stage.TheVariants.{Choose, Run, Rest, Wait, Clear, Save, Kill, Purge}
 use Rattle.serial_driver.specs.declared.turns.Turns.{Turns}
 use Rattle.serial_driver.specs.Owing.{Duty}
-use Rattle.serial_driver.specs.Turning.{Phase, Begins, Runs, Rests, Waits, Turn}
+use Rattle.serial_driver.specs.Turning.{Phase, Begins, Clears, Runs, Rests, Waits, Turn}
 
 -- the cause that is recorded of a failure
 abbrev pub cause_of : Failure → KillCause
@@ -34,7 +34,7 @@ phase_of (Choose from) = Begins
 phase_of Run = Runs
 phase_of Rest = Rests
 phase_of Wait = Waits
-phase_of (Clear victim hart) = Waits
+phase_of (Clear victim hart) = Clears victim.process
 phase_of (Save victim) = Waits
 phase_of (Kill process failure) = Waits
 phase_of (Purge process) = Waits

@@ -3,6 +3,7 @@
 ghost use Rattle.std.specs.Prelude.{◌≡◌, ◌*◌, ◌<◌, ℕ, None, Some, if◌then◌else◌};
 ghost use Rattle.machine_core.specs.Headline.{has_run};
 ghost use Rattle.machine_core.specs.ManySteps.{steps_of, replies_of};
+ghost use Rattle.machine_limits.specs.Limits.{most_processes};
 ghost use Rattle.serial_driver.specs.Patience.{IsPatient, any_ran, has_failed, is_served, renewed, run_of, spent_of, spent_with, tried_after, tried_again, tried_with, try_of, tries_per_frame};
 
 use machine_core::{Event, Reply, Steps};
@@ -40,7 +41,7 @@ impl Patience {
 
     /// Heeds an event and the reply to it.
     pub(crate) fn heed(&mut self, event: Event, reply: Reply)
-        requires { (number : ℕ) → try_of event reply ≡ Some number → number < 16 }
+        requires { (number : ℕ) → try_of event reply ≡ Some number → number < most_processes }
         ensures tries { (most : ℕ) (tried : ℕ → ℕ) → IsPatient most tried self.old →
             IsPatient most (λ number. tried_with number event reply (tried number)) self.new }
         ensures spent { (most : ℕ) (tried : ℕ → ℕ) → IsPatient most tried self.old →
@@ -79,7 +80,7 @@ impl Patience {
 
     /// A page of a process was brought in, or failed to leave.
     fn try_again(&mut self, process: Option<u32>)
-        requires { (number : ℕ) → process ≡ Some number → number < 16 }
+        requires { (number : ℕ) → process ≡ Some number → number < most_processes }
         ensures tries { (most : ℕ) (tried : ℕ → ℕ) → IsPatient most tried self.old →
             IsPatient most (λ number. tried_again number process (tried number)) self.new }
         ensures spent { (most : ℕ) (tried : ℕ → ℕ) → IsPatient most tried self.old →

@@ -5,7 +5,7 @@ ghost use Rattle.serial_driver.specs.Endings.{HasEnded};
 ghost use Rattle.machine_core.specs.ManySteps.{steps_of, replies_of};
 ghost use Rattle.serial_driver.specs.Nexts.{IsNext, IsOrdinary};
 ghost use Rattle.serial_driver.specs.Owing.{no_duty, most_load_faults, duty_with, duty_after, duty_purged, owed_save, step_owes, step_faults, stop_owes, save_owes, collect_owes, load_owes, load_faults, next_owed, Duty, is_out_of_memory, is_no_memory, is_dirty, is_mapped};
-ghost use Rattle.serial_driver.specs.Turning.{IsInTurn, Runs, Waits, begun, noticed_in, paged_in, purged_in, ran_turn, step_turn, waiting};
+ghost use Rattle.serial_driver.specs.Turning.{IsInTurn, Clears, Runs, Waits, begun, noticed_in, paged_in, purged_in, ran_turn, step_turn, swept_turn, waiting};
 ghost use Rattle.serial_driver.specs.TurnsDuty.{cause_of, duty_of, phase_of, stage_owes, turn_of};
 ghost use Rattle.flat_machine.specs.declared.end.KillCause.TheVariants as cause;
 ghost use Rattle.machine_core.specs.declared.event.Event.TheVariants as machine;
@@ -220,7 +220,7 @@ impl Turns {
         victim: Key,
         hart: u32,
     ) -> Event
-        requires { phase_of self.old.stage ≡ Waits }
+        requires { phase_of self.old.stage ≡ Clears victim.process }
         ensures ordinary { IsOrdinary (turn_of self.old) result }
         ensures kept { stage_owes self.old.stage ≡ None → duty_of self.new ≡ duty_of self.old }
     {
@@ -360,7 +360,7 @@ impl Turns {
           faults = self.old.load_faults;
           owed = None;
           turn =
-              waiting (turn_of self.old);
+              swept_turn reply (turn_of self.old);
         } }
     {
         self.stage = match reply {

@@ -1,5 +1,6 @@
 -- What guests miss under each policy.
-use Rattle.std.specs.Prelude.{◌≡◌, ℕ, ◌-◌, Bool, true, false, List, length, Option, Some, None, map}
+use Rattle.std.specs.Prelude.{◌≡◌, ℕ, ◌-◌, ◌&&◌, ◌||◌, Bool, true, false, cond, nat_le, List, [], ◌∷◌, length, Option, Some, None, map}
+use Rattle.clock_policy.specs.FrameCounts.{least_frames, most_frames}
 use Rattle.clock_policy.specs.declared.key.Key.{Key}
 use Rattle.flat_machine.specs.Process.{Process}
 use Rattle.guest_strings.specs.declared.reference.Reference.{Reference}
@@ -24,6 +25,23 @@ pages_of references = map (λ reference. reference.page) references
 -- the pages of the string of references of guests by slices of so many instructions, of up to so many instructions in all
 abbrev pub guest_pages : ℕ → ℕ → List Process → List Key
 guest_pages slice limit processes = pages_of (guest_string slice limit processes)
+
+-- whether so many frames are what a machine may have, and the list of CLOCK-Pro
+abbrev pub is_machines : ℕ → Bool
+is_machines n = nat_le least_frames n && nat_le n most_frames
+
+-- whether each policy that is asked for serves so many frames: CLOCK-Pro's list is for no others than a machine's
+abbrev pub serves : PolicySet → ℕ → Bool
+serves wanted n = cond (wanted.clock_pro_used || wanted.clock_pro) (is_machines n) true
+
+abbrev pub all_serve : PolicySet → List Frames → Bool
+all_serve wanted [] = true
+all_serve wanted (f ∷ fs) = serves wanted f.number && all_serve wanted fs
+
+-- the same of the numbers that are asked for; the usual ones are a machine's
+abbrev pub all_asked_serve : PolicySet → Option (List Frames) → Bool
+all_asked_serve wanted None = true
+all_asked_serve wanted (Some frames) = all_serve wanted frames
 
 -- a count where it is asked for
 abbrev pub asked : Bool → ℕ → Option ℕ

@@ -1,17 +1,17 @@
 //! What each policy misses.
 
-ghost use Rattle.std.specs.Prelude.{◌≡◌, IfOk, map};
+ghost use Rattle.std.specs.Prelude.{◌≡◌, ◌↔◌, IfOk, Err, false, map};
 ghost use Rattle.page_policies.specs.NextUses.{next_uses};
 ghost use Rattle.page_policies.specs.Optimal.{optimal_misses};
-ghost use Rattle.miss_counts.specs.Counted.{counted, asked, since, left};
+ghost use Rattle.miss_counts.specs.Counted.{counted, asked, all_serve, since, left};
 
 use crate::policy_set::PolicySet;
 use crate::progress::{Progress, Stage};
 use clock_policy::Key;
 use clock_ring::ClockRing;
 use page_policies::{
-    Arc, ClockPro, ClockProUsed, Fifo, Frames, Lru, Optimum, Policy, Random, S3Fifo, SecondChance,
-    Sieve, TwoQueues, misses,
+    Arc, ClockPro, ClockProUsed, Fifo, Frames, Lru, Optimum, Policy, PolicyRefusal, Random, S3Fifo,
+    SecondChance, Sieve, TwoQueues, misses,
 };
 use std::alloc::{AllocError, Global};
 
@@ -69,7 +69,7 @@ fn left(after: Option<u64>, before: Option<u64>) -> Option<u64>
     }
 }
 
-/// What a string misses under a policy, where that is asked for.
+/// What a string misses under a policy, where that is asked for. The caller has seen that it serves so many frames.
 fn misses_if<P: Policy>(
     alloc: Global,
     frames: Frames,
@@ -81,8 +81,10 @@ fn misses_if<P: Policy>(
     if !is_wanted {
         return Ok(None);
     }
-    let count = misses::<P>(alloc, frames, string)?;
-    Ok(Some(count as u64))
+    match misses::<P>(alloc, frames, string) {
+        Ok(count) => Ok(Some(count as u64)),
+        Err(_) => Err(AllocError),
+    }
 }
 
 /// What a string misses under the optimum, which is given the string as it needs it, where that is asked for.
@@ -151,6 +153,24 @@ fn counts_of(
 
 /// What a string misses with each of these numbers of frames, under the policies that are asked for.
 pub fn rows_of<P: Progress>(
+    alloc: Global,
+    frames: &[Frames],
+    string: &[Key],
+    wanted: PolicySet,
+    progress: &mut P,
+) -> Result<Vec<Counts>, PolicyRefusal>
+    ensures rows { IfOk result (λ rows. rows.items ≡ map (counted wanted string.now) frames.now) }
+    ensures bad_size { (result ≡ Err PolicyRefusal.BadSize) ↔ (all_serve wanted frames.now ≡
+        false) }
+{
+    if !wanted.serves_all(frames) {
+        return Err(PolicyRefusal::BadSize);
+    }
+    Ok(count_rows(alloc, frames, string, wanted, progress)?)
+}
+
+/// The same rows. The caller has seen that each policy serves each number of frames.
+pub(crate) fn count_rows<P: Progress>(
     alloc: Global,
     frames: &[Frames],
     string: &[Key],

@@ -1,6 +1,6 @@
 //! Misses counted as references come.
 
-ghost use Rattle.std.specs.Prelude.{◌≡◌, ◌+◌, ◌<◌, ◌^◌, None, length, IfOk, OnOk, option_map};
+ghost use Rattle.std.specs.Prelude.{◌≡◌, ◌+◌, ◌<◌, ◌^◌, ◌↔◌, Err, None, false, length, IfOk, OnOk, option_map};
 ghost use Rattle.page_policies.specs.Queues.{fifo_misses, lru_misses};
 ghost use Rattle.page_policies.specs.SecondChance.{clock_misses};
 ghost use Rattle.page_policies.specs.ClockProPlay.{clock_pro_used_misses, clock_pro_misses};
@@ -9,6 +9,7 @@ ghost use Rattle.page_policies.specs.Arc.{arc_misses};
 ghost use Rattle.page_policies.specs.Sieve.{sieve_misses};
 ghost use Rattle.page_policies.specs.S3Fifo.{s3_fifo_misses};
 ghost use Rattle.page_policies.specs.Random.{random_misses};
+ghost use Rattle.miss_counts.specs.Counted.{serves};
 ghost use Rattle.miss_counts.specs.Playing.{Opens, GoesOn};
 
 use crate::clock_pro_players::ClockProPlayers;
@@ -20,8 +21,8 @@ use crate::younger_players::YoungerPlayers;
 use clock_policy::Key;
 use clock_ring::ClockRing;
 use page_policies::{
-    Arc, ClockPro, ClockProUsed, Fifo, Frames, Lru, Policy, Random, S3Fifo, SecondChance, Sieve,
-    TwoQueues,
+    Arc, ClockPro, ClockProUsed, Fifo, Frames, Lru, Policy, PolicyRefusal, Random, S3Fifo,
+    SecondChance, Sieve, TwoQueues,
 };
 use std::alloc::{AllocError, Global};
 
@@ -38,7 +39,9 @@ pub struct Row {
 }
 
 impl Row {
-    pub fn new(alloc: Global, frames: Frames, wanted: PolicySet) -> Result<Row, AllocError>
+    pub fn new(alloc: Global, frames: Frames, wanted: PolicySet) -> Result<Row, PolicyRefusal>
+        ensures bad_size { (result ≡ Err PolicyRefusal.BadSize) ↔ (serves wanted frames.number ≡
+            false) }
         ensures frames { IfOk result (λ row. row.frames ≡ frames) }
         ensures references { IfOk result (λ row. row.references ≡ 0) }
         ensures fifo { IfOk result (λ row. Opens wanted.fifo
@@ -72,6 +75,9 @@ impl Row {
             (λ p string. p.misses + ⟦<Random as Policy>⟧.to_miss p.policy string)
             (random_misses frames.number) row.older.random) }
     {
+        if !wanted.serves(frames) {
+            return Err(PolicyRefusal::BadSize);
+        }
         Ok(Row {
             frames,
             references: 0,

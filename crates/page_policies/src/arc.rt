@@ -7,6 +7,7 @@ ghost use Rattle.page_policies.specs.ArcLaws.{lists_of};
 
 use crate::frames::Frames;
 use crate::policy::{Outcome, Policy};
+use crate::refusal::PolicyRefusal;
 use crate::queue::Queue;
 use clock_policy::Key;
 use std::alloc::{AllocError, Global};
@@ -221,10 +222,12 @@ impl Policy for Arc {
 
     ghost to_miss = { λ policy string. misses_by in_arc (arc policy.frames) (lists_of policy) string };
 
+    ghost refuses = { λ number. ⊥ };
+
     ghost none_to_miss = { λ policy. refl };
 
     #[tactic(auto, unfolding(crate::specs::Arc::arc_misses))]
-    fn new(alloc: Global, frames: Frames) -> Result<Self, AllocError> {
+    fn new(alloc: Global, frames: Frames) -> Result<Self, PolicyRefusal> {
         Ok(Arc {
             frames: frames.number(),
             t1: Queue::new(alloc)?,

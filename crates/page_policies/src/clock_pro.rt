@@ -1,16 +1,18 @@
 //! CLOCK-Pro.
 
-ghost use Rattle.std.specs.Prelude.{◌≡◌, refl, cond, true, IfOk, OnOk};
+ghost use Rattle.std.specs.Prelude.{◌≡◌, ◌<◌, ◌⊎◌, ◌↔◌, refl, cond, true, Err, IfOk, OnOk};
 ghost use Rattle.std.specs.HashSet.{contains};
 ghost use Rattle.clock_policy.specs.declared.key.Key.{Key};
-ghost use Rattle.clock_policy.specs.ClockPro.{kind_of, question_of, admitted};
+ghost use Rattle.clock_policy.specs.ClockPro.{kind_of, question_of, admitted, opening_state};
+ghost use Rattle.clock_policy.specs.FrameCounts.{least_frames, most_frames};
 ghost use Rattle.page_policies.specs.Strings.{is_page, misses as misses_by};
 ghost use Rattle.page_policies.specs.ClockProPlay.{is_resident_kind, in_play, bit_of, asked, is_full_refusal, entered, placed, marked_used, clock_pro, clock_pro_misses};
 ghost use Rattle.page_policies.specs.PlayLaws.{play_of};
 
 use crate::frames::Frames;
 use crate::policy::{Outcome, Policy};
-use clock_policy::{Bit, Clock, EntryKind, Key, Kind, Refusal};
+use crate::refusal::PolicyRefusal;
+use clock_policy::{Bit, Clock, EntryKind, Key, Kind, NewRefusal, Refusal};
 use std::alloc::{AllocError, Global};
 use std::collections::HashSet;
 
@@ -21,6 +23,19 @@ pub struct ClockPro<C: Clock> {
     used: HashSet<Key>,
     /// how many questions make room at most
     turns: usize,
+}
+
+/// An empty list for so many frames.
+pub(crate) fn new_clock<C: Clock>(alloc: Global, frames: Frames) -> Result<C, PolicyRefusal>
+    ensures opens { IfOk result (λ clock. C.state clock ≡ opening_state frames.number) }
+    ensures bad_size { (result ≡ Err PolicyRefusal.BadSize) ↔ ((frames.number < least_frames) ⊎
+        (most_frames < frames.number)) }
+{
+    match C::new(alloc, frames.number()) {
+        Ok(clock) => Ok(clock),
+        Err(NewRefusal::BadSize) => Err(PolicyRefusal::BadSize),
+        Err(NewRefusal::NoMemory) => Err(PolicyRefusal::NoMemory),
+    }
 }
 
 /// The mark of a page as the answer to the question for it.
@@ -104,13 +119,13 @@ impl<C: Clock> Policy for ClockPro<C> {
 
     ghost to_miss = { λ policy string. misses_by in_play (clock_pro policy.turns) (play_of (C.state policy.clock) policy.used) string };
 
+    ghost refuses = { λ number. (number < least_frames) ⊎ (most_frames < number) };
+
     ghost none_to_miss = { λ policy. refl };
 
     #[tactic(auto, unfolding(crate::specs::ClockProPlay::clock_pro_misses))]
-    fn new(alloc: Global, frames: Frames) -> Result<Self, AllocError> {
-        let Ok(clock) = C::new(alloc, frames.number()) else {
-            return Err(AllocError);
-        };
+    fn new(alloc: Global, frames: Frames) -> Result<Self, PolicyRefusal> {
+        let clock = new_clock(alloc, frames)?;
         Ok(ClockPro {
             clock,
             used: HashSet::new(alloc),

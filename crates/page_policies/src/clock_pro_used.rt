@@ -1,13 +1,15 @@
 //! CLOCK-Pro as the machine plays it.
 
-ghost use Rattle.std.specs.Prelude.{◌≡◌, refl};
+ghost use Rattle.std.specs.Prelude.{◌≡◌, ◌<◌, ◌⊎◌, refl};
+ghost use Rattle.clock_policy.specs.FrameCounts.{least_frames, most_frames};
 ghost use Rattle.page_policies.specs.Strings.{misses as misses_by};
 ghost use Rattle.page_policies.specs.ClockProPlay.{in_play, clock_pro_used, clock_pro_used_misses};
 ghost use Rattle.page_policies.specs.PlayLaws.{play_of};
 
-use crate::clock_pro::{is_resident_kind, mark_used, place};
+use crate::clock_pro::{is_resident_kind, mark_used, new_clock, place};
 use crate::frames::Frames;
 use crate::policy::{Outcome, Policy};
+use crate::refusal::PolicyRefusal;
 use clock_policy::{Clock, Key};
 use std::alloc::{AllocError, Global};
 use std::collections::HashSet;
@@ -26,13 +28,13 @@ impl<C: Clock> Policy for ClockProUsed<C> {
 
     ghost to_miss = { λ policy string. misses_by in_play (clock_pro_used policy.turns) (play_of (C.state policy.clock) policy.used) string };
 
+    ghost refuses = { λ number. (number < least_frames) ⊎ (most_frames < number) };
+
     ghost none_to_miss = { λ policy. refl };
 
     #[tactic(auto, unfolding(crate::specs::ClockProPlay::clock_pro_used_misses))]
-    fn new(alloc: Global, frames: Frames) -> Result<Self, AllocError> {
-        let Ok(clock) = C::new(alloc, frames.number()) else {
-            return Err(AllocError);
-        };
+    fn new(alloc: Global, frames: Frames) -> Result<Self, PolicyRefusal> {
+        let clock = new_clock(alloc, frames)?;
         Ok(ClockProUsed {
             clock,
             used: HashSet::new(alloc),

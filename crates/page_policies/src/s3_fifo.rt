@@ -11,6 +11,7 @@ ghost use Rattle.page_policies.specs.S3FifoLaws.{queues_of};
 
 use crate::frames::Frames;
 use crate::policy::{Outcome, Policy};
+use crate::refusal::PolicyRefusal;
 use crate::queue::{Queue, cut};
 use clock_policy::Key;
 use std::alloc::{AllocError, Global};
@@ -269,10 +270,12 @@ impl Policy for S3Fifo {
 
     ghost to_miss = { λ policy string. misses_by in_s3_fifo (s3_fifo policy.frames) (queues_of policy) string };
 
+    ghost refuses = { λ number. ⊥ };
+
     ghost none_to_miss = { λ policy. refl };
 
     #[tactic(auto, unfolding(crate::specs::S3Fifo::s3_fifo_misses))]
-    fn new(alloc: Global, frames: Frames) -> Result<Self, AllocError> {
+    fn new(alloc: Global, frames: Frames) -> Result<Self, PolicyRefusal> {
         Ok(S3Fifo {
             frames: frames.number(),
             small: Queue::new(alloc)?,

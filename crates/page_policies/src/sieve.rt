@@ -10,6 +10,7 @@ ghost use Rattle.page_policies.specs.SieveLaws.{queue_of};
 
 use crate::frames::Frames;
 use crate::policy::{Outcome, Policy};
+use crate::refusal::PolicyRefusal;
 use crate::queue::Queue;
 use clock_policy::Key;
 use std::alloc::{AllocError, Global};
@@ -159,10 +160,12 @@ impl Policy for Sieve {
 
     ghost to_miss = { λ policy string. misses_by in_sieve (sieve policy.frames) (queue_of policy) string };
 
+    ghost refuses = { λ number. ⊥ };
+
     ghost none_to_miss = { λ policy. refl };
 
     #[tactic(auto, unfolding(crate::specs::Sieve::sieve_misses))]
-    fn new(alloc: Global, frames: Frames) -> Result<Self, AllocError> {
+    fn new(alloc: Global, frames: Frames) -> Result<Self, PolicyRefusal> {
         Ok(Sieve {
             frames: frames.number(),
             ahead: Queue::new(alloc)?,

@@ -8,6 +8,7 @@ ghost use Rattle.page_policies.specs.TwoQueueLaws.{queues_of};
 
 use crate::frames::Frames;
 use crate::policy::{Outcome, Policy};
+use crate::refusal::PolicyRefusal;
 use crate::queue::{Queue, cut};
 use clock_policy::Key;
 use std::alloc::{AllocError, Global};
@@ -91,10 +92,12 @@ impl Policy for TwoQueues {
 
     ghost to_miss = { λ policy string. misses_by in_two_queues (two_queues policy.frames) (queues_of policy) string };
 
+    ghost refuses = { λ number. ⊥ };
+
     ghost none_to_miss = { λ policy. refl };
 
     #[tactic(auto, unfolding(crate::specs::TwoQueues::two_queues_misses))]
-    fn new(alloc: Global, frames: Frames) -> Result<Self, AllocError> {
+    fn new(alloc: Global, frames: Frames) -> Result<Self, PolicyRefusal> {
         Ok(TwoQueues {
             frames: frames.number(),
             a1in: Queue::new(alloc)?,

@@ -8,11 +8,11 @@ use Rattle.guest_strings.specs.Slices.{guest_string}
 use Rattle.page_policies.specs.declared.frames.Frames.{Frames}
 use Rattle.page_policies.specs.Queues.{fifo_misses, lru_misses}
 use Rattle.page_policies.specs.SecondChance.{clock_misses}
-use Rattle.page_policies.specs.ClockProPlay.{clock_pro_misses, clock_pro_used_misses}
-use Rattle.page_policies.specs.TwoQueues.{two_queues_misses}
-use Rattle.page_policies.specs.Arc.{arc_misses}
-use Rattle.page_policies.specs.Sieve.{sieve_misses}
-use Rattle.page_policies.specs.S3Fifo.{s3_fifo_misses}
+use Rattle.younger_policies.specs.ClockProPlay.{clock_pro_misses, clock_pro_used_misses}
+use Rattle.younger_policies.specs.TwoQueues.{two_queues_misses}
+use Rattle.younger_policies.specs.Arc.{arc_misses}
+use Rattle.younger_policies.specs.Sieve.{sieve_misses}
+use Rattle.younger_policies.specs.S3Fifo.{s3_fifo_misses}
 use Rattle.page_policies.specs.Random.{random_misses}
 use Rattle.page_policies.specs.Optimal.{optimal_misses}
 use Rattle.miss_counts.specs.FrameNumbers.{usual_numbers, page_count}

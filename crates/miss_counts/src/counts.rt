@@ -10,10 +10,10 @@ use crate::progress::{Progress, Stage};
 use clock_policy::Key;
 use clock_ring::ClockRing;
 use page_policies::{
-    Arc, ClockPro, ClockProUsed, Fifo, Frames, Lru, Optimum, Policy, PolicyRefusal, Random, S3Fifo,
-    SecondChance, Sieve, TwoQueues, misses,
+    Fifo, Frames, Lru, Optimum, Policy, PolicyRefusal, Random, SecondChance, misses,
 };
 use std::alloc::{AllocError, Global};
+use younger_policies::{Arc, ClockPro, ClockProUsed, S3Fifo, Sieve, TwoQueues};
 
 /// Misses with so many frames, of the policies that were asked for.
 #[derive(Clone, Copy, Debug, PartialEq, Eq)]

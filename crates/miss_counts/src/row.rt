@@ -3,11 +3,11 @@
 ghost use Rattle.std.specs.Prelude.{◌≡◌, ◌+◌, ◌<◌, ◌^◌, ◌↔◌, Err, None, false, length, IfOk, OnOk, option_map};
 ghost use Rattle.page_policies.specs.Queues.{fifo_misses, lru_misses};
 ghost use Rattle.page_policies.specs.SecondChance.{clock_misses};
-ghost use Rattle.page_policies.specs.ClockProPlay.{clock_pro_used_misses, clock_pro_misses};
-ghost use Rattle.page_policies.specs.TwoQueues.{two_queues_misses};
-ghost use Rattle.page_policies.specs.Arc.{arc_misses};
-ghost use Rattle.page_policies.specs.Sieve.{sieve_misses};
-ghost use Rattle.page_policies.specs.S3Fifo.{s3_fifo_misses};
+ghost use Rattle.younger_policies.specs.ClockProPlay.{clock_pro_used_misses, clock_pro_misses};
+ghost use Rattle.younger_policies.specs.TwoQueues.{two_queues_misses};
+ghost use Rattle.younger_policies.specs.Arc.{arc_misses};
+ghost use Rattle.younger_policies.specs.Sieve.{sieve_misses};
+ghost use Rattle.younger_policies.specs.S3Fifo.{s3_fifo_misses};
 ghost use Rattle.page_policies.specs.Random.{random_misses};
 ghost use Rattle.miss_counts.specs.Counted.{serves};
 ghost use Rattle.miss_counts.specs.Playing.{Opens, GoesOn};
@@ -20,11 +20,9 @@ use crate::policy_set::PolicySet;
 use crate::younger_players::YoungerPlayers;
 use clock_policy::Key;
 use clock_ring::ClockRing;
-use page_policies::{
-    Arc, ClockPro, ClockProUsed, Fifo, Frames, Lru, Policy, PolicyRefusal, Random, S3Fifo,
-    SecondChance, Sieve, TwoQueues,
-};
+use page_policies::{Fifo, Frames, Lru, Policy, PolicyRefusal, Random, SecondChance};
 use std::alloc::{AllocError, Global};
+use younger_policies::{Arc, ClockPro, ClockProUsed, S3Fifo, Sieve, TwoQueues};
 
 /// The policies that are asked for with one number of frames, which count as references come. After an error nothing is said of them.
 ///

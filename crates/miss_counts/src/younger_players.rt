@@ -1,17 +1,18 @@
 //! The policies since 1994 but CLOCK-Pro, which count as references come.
 
 ghost use Rattle.std.specs.Prelude.{◌≡◌, ◌+◌, IfOk, OnOk};
-ghost use Rattle.page_policies.specs.TwoQueues.{two_queues_misses};
-ghost use Rattle.page_policies.specs.Arc.{arc_misses};
-ghost use Rattle.page_policies.specs.Sieve.{sieve_misses};
-ghost use Rattle.page_policies.specs.S3Fifo.{s3_fifo_misses};
+ghost use Rattle.younger_policies.specs.TwoQueues.{two_queues_misses};
+ghost use Rattle.younger_policies.specs.Arc.{arc_misses};
+ghost use Rattle.younger_policies.specs.Sieve.{sieve_misses};
+ghost use Rattle.younger_policies.specs.S3Fifo.{s3_fifo_misses};
 ghost use Rattle.miss_counts.specs.Playing.{Opens, GoesOn};
 
 use crate::player::{Player, play_if, player_if};
 use crate::policy_set::PolicySet;
 use clock_policy::Key;
-use page_policies::{Arc, Frames, Policy, S3Fifo, Sieve, TwoQueues};
+use page_policies::{Frames, Policy};
 use std::alloc::{AllocError, Global};
+use younger_policies::{Arc, S3Fifo, Sieve, TwoQueues};
 
 /// The policies since 1994 but CLOCK-Pro, where they are asked for. After an error nothing is said of them.
 #[derive(Drop)]

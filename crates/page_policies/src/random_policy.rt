@@ -8,8 +8,8 @@ ghost use Rattle.page_policies.specs.RandomLaws.{pages_of};
 
 use crate::frames::Frames;
 use crate::policy::{Outcome, Policy};
-use crate::refusal::PolicyRefusal;
 use crate::random_state::Random;
+use crate::refusal::PolicyRefusal;
 use clock_policy::Key;
 use indexmap::IndexSet;
 use rand_core::utils::NextWord;

@@ -3,12 +3,15 @@
 use clock_policy::Key;
 use clock_ring::ClockRing;
 use page_policies::{
-    Arc, ClockPro, ClockProUsed, Fifo, Frames, Lru, Optimum, Policy, Random, S3Fifo, SecondChance,
-    Sieve, TwoQueues, clock_pro_is_a_play, misses, more_frames_never_miss_more, next_uses,
-    no_policy_misses_less, optimum_is_a_play, younger_policies_are_plays,
+    Fifo, Frames, Lru, Optimum, Policy, Random, SecondChance, misses, more_frames_never_miss_more,
+    next_uses, no_policy_misses_less, optimum_is_a_play,
 };
 use std::alloc::Global;
 use std::test::Fail;
+use younger_policies::{
+    Arc, ClockPro, ClockProUsed, S3Fifo, Sieve, TwoQueues, clock_pro_is_a_play,
+    younger_policies_are_plays,
+};
 
 fn string(alloc: Global) -> Result<Vec<Key>, Fail> {
     let mut string = Vec::new(alloc);

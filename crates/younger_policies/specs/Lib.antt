@@ -1,0 +1,15 @@
+pub mod TwoQueues
+pub mod TwoQueueLaws
+pub mod TwoQueuePlayLaws
+pub mod Arc
+pub mod ArcLaws
+pub mod ArcPlayLaws
+pub mod Sieve
+pub mod SieveLaws
+pub mod SievePlayLaws
+pub mod S3Fifo
+pub mod S3FifoLaws
+pub mod S3FifoPlayLaws
+pub mod ClockProPlay
+pub mod PlayLaws
+pub mod ClockPlayLaws

@@ -10,6 +10,7 @@ use Rattle.page_policies.specs.Queues.{fifo_misses, lru_misses}
 use Rattle.page_policies.specs.SecondChance.{clock_misses}
 use Rattle.younger_policies.specs.ClockProPlay.{clock_pro_misses, clock_pro_used_misses}
 use Rattle.younger_policies.specs.TwoQueues.{two_queues_misses}
+use Rattle.younger_policies.specs.Lirs.{lirs_misses}
 use Rattle.younger_policies.specs.Arc.{arc_misses}
 use Rattle.younger_policies.specs.Sieve.{sieve_misses}
 use Rattle.younger_policies.specs.S3Fifo.{s3_fifo_misses}
@@ -59,6 +60,7 @@ counted wanted string frames = record {
   clock_pro_used = asked wanted.clock_pro_used (clock_pro_used_misses frames.number string);
   clock_pro = asked wanted.clock_pro (clock_pro_misses frames.number string);
   two_queues = asked wanted.two_queues (two_queues_misses frames.number string);
+  lirs = asked wanted.lirs (lirs_misses frames.number string);
   arc = asked wanted.arc (arc_misses frames.number string);
   sieve = asked wanted.sieve (sieve_misses frames.number string);
   s3_fifo = asked wanted.s3_fifo (s3_fifo_misses frames.number string);
@@ -94,6 +96,7 @@ since all before = record {
   clock_pro_used = left all.clock_pro_used before.clock_pro_used;
   clock_pro = left all.clock_pro before.clock_pro;
   two_queues = left all.two_queues before.two_queues;
+  lirs = left all.lirs before.lirs;
   arc = left all.arc before.arc;
   sieve = left all.sieve before.sieve;
   s3_fifo = left all.s3_fifo before.s3_fifo;

@@ -13,7 +13,7 @@ use page_policies::{
     Fifo, Frames, Lru, Optimum, Policy, PolicyRefusal, Random, SecondChance, misses,
 };
 use std::alloc::{AllocError, Global};
-use younger_policies::{Arc, ClockPro, ClockProUsed, S3Fifo, Sieve, TwoQueues};
+use younger_policies::{Arc, ClockPro, ClockProUsed, Lirs, S3Fifo, Sieve, TwoQueues};
 
 /// Misses with so many frames, of the policies that were asked for.
 #[derive(Clone, Copy, Debug, PartialEq, Eq)]
@@ -27,6 +27,7 @@ pub struct Counts {
     pub clock_pro_used: Option<u64>,
     pub clock_pro: Option<u64>,
     pub two_queues: Option<u64>,
+    pub lirs: Option<u64>,
     pub arc: Option<u64>,
     pub sieve: Option<u64>,
     pub s3_fifo: Option<u64>,
@@ -49,6 +50,7 @@ impl Counts {
             clock_pro_used: left(self.clock_pro_used, before.clock_pro_used),
             clock_pro: left(self.clock_pro, before.clock_pro),
             two_queues: left(self.two_queues, before.two_queues),
+            lirs: left(self.lirs, before.lirs),
             arc: left(self.arc, before.arc),
             sieve: left(self.sieve, before.sieve),
             s3_fifo: left(self.s3_fifo, before.s3_fifo),
@@ -129,6 +131,7 @@ fn counts_of(
     )?;
     let clock_pro = misses_if::<ClockPro<ClockRing>>(alloc, frames, string, wanted.clock_pro)?;
     let two_queues = misses_if::<TwoQueues>(alloc, frames, string, wanted.two_queues)?;
+    let lirs = misses_if::<Lirs>(alloc, frames, string, wanted.lirs)?;
     let arc = misses_if::<Arc>(alloc, frames, string, wanted.arc)?;
     let sieve = misses_if::<Sieve>(alloc, frames, string, wanted.sieve)?;
     let s3_fifo = misses_if::<S3Fifo>(alloc, frames, string, wanted.s3_fifo)?;
@@ -143,6 +146,7 @@ fn counts_of(
         clock_pro_used,
         clock_pro,
         two_queues,
+        lirs,
         arc,
         sieve,
         s3_fifo,

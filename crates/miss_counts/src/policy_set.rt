@@ -14,6 +14,7 @@ pub struct PolicySet {
     pub clock_pro_used: bool,
     pub clock_pro: bool,
     pub two_queues: bool,
+    pub lirs: bool,
     pub arc: bool,
     pub sieve: bool,
     pub s3_fifo: bool,

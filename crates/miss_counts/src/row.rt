@@ -5,6 +5,7 @@ ghost use Rattle.page_policies.specs.Queues.{fifo_misses, lru_misses};
 ghost use Rattle.page_policies.specs.SecondChance.{clock_misses};
 ghost use Rattle.younger_policies.specs.ClockProPlay.{clock_pro_used_misses, clock_pro_misses};
 ghost use Rattle.younger_policies.specs.TwoQueues.{two_queues_misses};
+ghost use Rattle.younger_policies.specs.Lirs.{lirs_misses};
 ghost use Rattle.younger_policies.specs.Arc.{arc_misses};
 ghost use Rattle.younger_policies.specs.Sieve.{sieve_misses};
 ghost use Rattle.younger_policies.specs.S3Fifo.{s3_fifo_misses};
@@ -22,7 +23,7 @@ use clock_policy::Key;
 use clock_ring::ClockRing;
 use page_policies::{Fifo, Frames, Lru, Policy, PolicyRefusal, Random, SecondChance};
 use std::alloc::{AllocError, Global};
-use younger_policies::{Arc, ClockPro, ClockProUsed, S3Fifo, Sieve, TwoQueues};
+use younger_policies::{Arc, ClockPro, ClockProUsed, Lirs, S3Fifo, Sieve, TwoQueues};
 
 /// The policies that are asked for with one number of frames, which count as references come. After an error nothing is said of them.
 ///
@@ -60,6 +61,9 @@ impl Row {
         ensures two_queues { IfOk result (λ row. Opens wanted.two_queues
             (λ p string. p.misses + ⟦<TwoQueues as Policy>⟧.to_miss p.policy string)
             (two_queues_misses frames.number) row.younger.two_queues) }
+        ensures lirs { IfOk result (λ row. Opens wanted.lirs
+            (λ p string. p.misses + ⟦<Lirs as Policy>⟧.to_miss p.policy string)
+            (lirs_misses frames.number) row.younger.lirs) }
         ensures arc { IfOk result (λ row. Opens wanted.arc
             (λ p string. p.misses + ⟦<Arc as Policy>⟧.to_miss p.policy string)
             (arc_misses frames.number) row.younger.arc) }
@@ -108,6 +112,9 @@ impl Row {
         ensures two_queues { OnOk result (GoesOn (λ p. p.misses)
             (λ p string. p.misses + ⟦<TwoQueues as Policy>⟧.to_miss p.policy string)
             pages.now self.old.younger.two_queues self.new.younger.two_queues) }
+        ensures lirs { OnOk result (GoesOn (λ p. p.misses)
+            (λ p string. p.misses + ⟦<Lirs as Policy>⟧.to_miss p.policy string)
+            pages.now self.old.younger.lirs self.new.younger.lirs) }
         ensures arc { OnOk result (GoesOn (λ p. p.misses)
             (λ p string. p.misses + ⟦<Arc as Policy>⟧.to_miss p.policy string)
             pages.now self.old.younger.arc self.new.younger.arc) }
@@ -138,6 +145,7 @@ impl Row {
           clock_pro_used = option_map (λ p. p.misses) self.now.clock_pros.clock_pro_used;
           clock_pro = option_map (λ p. p.misses) self.now.clock_pros.clock_pro;
           two_queues = option_map (λ p. p.misses) self.now.younger.two_queues;
+          lirs = option_map (λ p. p.misses) self.now.younger.lirs;
           arc = option_map (λ p. p.misses) self.now.younger.arc;
           sieve = option_map (λ p. p.misses) self.now.younger.sieve;
           s3_fifo = option_map (λ p. p.misses) self.now.younger.s3_fifo;
@@ -154,6 +162,7 @@ impl Row {
             clock_pro_used: misses_so_far(&self.clock_pros.clock_pro_used),
             clock_pro: misses_so_far(&self.clock_pros.clock_pro),
             two_queues: misses_so_far(&self.younger.two_queues),
+            lirs: misses_so_far(&self.younger.lirs),
             arc: misses_so_far(&self.younger.arc),
             sieve: misses_so_far(&self.younger.sieve),
             s3_fifo: misses_so_far(&self.younger.s3_fifo),

@@ -13,3 +13,6 @@ pub mod S3FifoPlayLaws
 pub mod ClockProPlay
 pub mod PlayLaws
 pub mod ClockPlayLaws
+pub mod Lirs
+pub mod LirsLaws
+pub mod LirsPlayLaws

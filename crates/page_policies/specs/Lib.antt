@@ -25,3 +25,5 @@ pub mod NextPlaceLaws
 pub mod PlaceStepLaws
 pub mod SlotPlayLaws
 pub mod MoreFramesLaws
+pub mod LruDepths
+pub mod LruDepthLaws

@@ -4,6 +4,7 @@
 mod fifo_policy;
 mod frames;
 mod laws;
+mod lru_depths;
 mod lru_policy;
 mod optimum;
 mod policy;
@@ -20,6 +21,7 @@ pub use laws::{
     fewer_frames_hold_fewer_pages, more_frames_never_miss_more, no_policy_misses_less,
     optimum_is_a_play,
 };
+pub use lru_depths::lru_curve;
 pub use lru_policy::Lru;
 pub use optimum::Optimum;
 pub use policy::{Outcome, Policy, misses};

@@ -38,6 +38,11 @@ impl PolicySet {
     pub fn serves_all(self, frames: &[Frames]) -> bool
         ensures { result ≡ all_serve self frames.now }
     {
-        frames.iter().all(|number| self.serves(*number))
+        'frames: for number in frames {
+            if !self.serves(*number) {
+                return false;
+            }
+        }
+        true
     }
 }

@@ -8,7 +8,7 @@ use elf_image::Image;
 use flat_machine::FlatProcess;
 use guest_strings::GuestString;
 use machine_core::Core;
-use page_policies::{ClockProUsed, Frames, misses};
+use page_policies::{Frames, misses};
 use rv_asm::assemble;
 use serial_driver::run_serial;
 use std::alloc::Global;
@@ -16,6 +16,7 @@ use std::marker::Brand;
 use std::sync::ledger::{Blank, Ledger};
 use std::test::Fail;
 use swap_slots::MemorySlot;
+use younger_policies::ClockProUsed;
 
 /// Stores to eleven pages and then loads from them.
 const ELEVEN: &str = "        lui  s0, 0x7FFC0

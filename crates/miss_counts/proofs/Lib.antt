@@ -1,3 +1,4 @@
 mod Doublings
 mod Powers
 mod Seen
+mod Serving

@@ -1,5 +1,6 @@
 -- What guests miss under each policy.
-use Rattle.std.specs.Prelude.{◌≡◌, ℕ, ◌-◌, Bool, true, false, List, length, Option, Some, None, map}
+use Rattle.std.specs.Prelude.{◌≡◌, ℕ, ◌-◌, ◌&&◌, ◌||◌, Bool, true, false, cond, nat_le, List, [], ◌∷◌, length, Option, Some, None, map}
+use Rattle.clock_policy.specs.FrameCounts.{least_frames, most_frames}
 use Rattle.clock_policy.specs.declared.key.Key.{Key}
 use Rattle.flat_machine.specs.Process.{Process}
 use Rattle.guest_strings.specs.declared.reference.Reference.{Reference}
@@ -7,11 +8,12 @@ use Rattle.guest_strings.specs.Slices.{guest_string}
 use Rattle.page_policies.specs.declared.frames.Frames.{Frames}
 use Rattle.page_policies.specs.Queues.{fifo_misses, lru_misses}
 use Rattle.page_policies.specs.SecondChance.{clock_misses}
-use Rattle.page_policies.specs.ClockProPlay.{clock_pro_misses, clock_pro_used_misses}
-use Rattle.page_policies.specs.TwoQueues.{two_queues_misses}
-use Rattle.page_policies.specs.Arc.{arc_misses}
-use Rattle.page_policies.specs.Sieve.{sieve_misses}
-use Rattle.page_policies.specs.S3Fifo.{s3_fifo_misses}
+use Rattle.younger_policies.specs.ClockProPlay.{clock_pro_misses, clock_pro_used_misses}
+use Rattle.younger_policies.specs.TwoQueues.{two_queues_misses}
+use Rattle.younger_policies.specs.Lirs.{lirs_misses}
+use Rattle.younger_policies.specs.Arc.{arc_misses}
+use Rattle.younger_policies.specs.Sieve.{sieve_misses}
+use Rattle.younger_policies.specs.S3Fifo.{s3_fifo_misses}
 use Rattle.page_policies.specs.Random.{random_misses}
 use Rattle.page_policies.specs.Optimal.{optimal_misses}
 use Rattle.miss_counts.specs.FrameNumbers.{usual_numbers, page_count}
@@ -24,6 +26,23 @@ pages_of references = map (λ reference. reference.page) references
 -- the pages of the string of references of guests by slices of so many instructions, of up to so many instructions in all
 abbrev pub guest_pages : ℕ → ℕ → List Process → List Key
 guest_pages slice limit processes = pages_of (guest_string slice limit processes)
+
+-- whether so many frames are what a machine may have, and the list of CLOCK-Pro
+abbrev pub is_machines : ℕ → Bool
+is_machines n = nat_le least_frames n && nat_le n most_frames
+
+-- whether each policy that is asked for serves so many frames: CLOCK-Pro's list is for no others than a machine's
+abbrev pub serves : PolicySet → ℕ → Bool
+serves wanted n = cond (wanted.clock_pro_used || wanted.clock_pro) (is_machines n) true
+
+abbrev pub all_serve : PolicySet → List Frames → Bool
+all_serve wanted [] = true
+all_serve wanted (f ∷ fs) = serves wanted f.number && all_serve wanted fs
+
+-- the same of the numbers that are asked for; the usual ones are a machine's
+abbrev pub all_asked_serve : PolicySet → Option (List Frames) → Bool
+all_asked_serve wanted None = true
+all_asked_serve wanted (Some frames) = all_serve wanted frames
 
 -- a count where it is asked for
 abbrev pub asked : Bool → ℕ → Option ℕ
@@ -41,6 +60,7 @@ counted wanted string frames = record {
   clock_pro_used = asked wanted.clock_pro_used (clock_pro_used_misses frames.number string);
   clock_pro = asked wanted.clock_pro (clock_pro_misses frames.number string);
   two_queues = asked wanted.two_queues (two_queues_misses frames.number string);
+  lirs = asked wanted.lirs (lirs_misses frames.number string);
   arc = asked wanted.arc (arc_misses frames.number string);
   sieve = asked wanted.sieve (sieve_misses frames.number string);
   s3_fifo = asked wanted.s3_fifo (s3_fifo_misses frames.number string);
@@ -76,6 +96,7 @@ since all before = record {
   clock_pro_used = left all.clock_pro_used before.clock_pro_used;
   clock_pro = left all.clock_pro before.clock_pro;
   two_queues = left all.two_queues before.two_queues;
+  lirs = left all.lirs before.lirs;
   arc = left all.arc before.arc;
   sieve = left all.sieve before.sieve;
   s3_fifo = left all.s3_fifo before.s3_fifo;

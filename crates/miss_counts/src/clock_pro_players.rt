@@ -1,15 +1,16 @@
 //! CLOCK-Pro, as this machine plays it and as published, which count as references come.
 
 ghost use Rattle.std.specs.Prelude.{◌≡◌, ◌+◌, IfOk, OnOk};
-ghost use Rattle.page_policies.specs.ClockProPlay.{clock_pro_used_misses, clock_pro_misses};
+ghost use Rattle.younger_policies.specs.ClockProPlay.{clock_pro_used_misses, clock_pro_misses};
 ghost use Rattle.miss_counts.specs.Playing.{Opens, GoesOn};
 
 use crate::player::{Player, play_if, player_if};
 use crate::policy_set::PolicySet;
 use clock_policy::Key;
 use clock_ring::ClockRing;
-use page_policies::{ClockPro, ClockProUsed, Frames, Policy};
+use page_policies::{Frames, Policy};
 use std::alloc::{AllocError, Global};
+use younger_policies::{ClockPro, ClockProUsed};
 
 /// CLOCK-Pro, as this machine plays it and as published, where they are asked for. After an error nothing is said of them.
 #[derive(Drop)]

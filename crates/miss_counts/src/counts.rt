@@ -1,19 +1,19 @@
 //! What each policy misses.
 
-ghost use Rattle.std.specs.Prelude.{◌≡◌, IfOk, map};
+ghost use Rattle.std.specs.Prelude.{◌≡◌, ◌↔◌, IfOk, Err, false, map};
 ghost use Rattle.page_policies.specs.NextUses.{next_uses};
 ghost use Rattle.page_policies.specs.Optimal.{optimal_misses};
-ghost use Rattle.miss_counts.specs.Counted.{counted, asked, since, left};
+ghost use Rattle.miss_counts.specs.Counted.{counted, asked, all_serve, since, left};
 
 use crate::policy_set::PolicySet;
 use crate::progress::{Progress, Stage};
 use clock_policy::Key;
 use clock_ring::ClockRing;
 use page_policies::{
-    Arc, ClockPro, ClockProUsed, Fifo, Frames, Lru, Optimum, Policy, Random, S3Fifo, SecondChance,
-    Sieve, TwoQueues, misses,
+    Fifo, Frames, Lru, Optimum, Policy, PolicyRefusal, Random, SecondChance, misses,
 };
 use std::alloc::{AllocError, Global};
+use younger_policies::{Arc, ClockPro, ClockProUsed, Lirs, S3Fifo, Sieve, TwoQueues};
 
 /// Misses with so many frames, of the policies that were asked for.
 #[derive(Clone, Copy, Debug, PartialEq, Eq)]
@@ -27,6 +27,7 @@ pub struct Counts {
     pub clock_pro_used: Option<u64>,
     pub clock_pro: Option<u64>,
     pub two_queues: Option<u64>,
+    pub lirs: Option<u64>,
     pub arc: Option<u64>,
     pub sieve: Option<u64>,
     pub s3_fifo: Option<u64>,
@@ -49,6 +50,7 @@ impl Counts {
             clock_pro_used: left(self.clock_pro_used, before.clock_pro_used),
             clock_pro: left(self.clock_pro, before.clock_pro),
             two_queues: left(self.two_queues, before.two_queues),
+            lirs: left(self.lirs, before.lirs),
             arc: left(self.arc, before.arc),
             sieve: left(self.sieve, before.sieve),
             s3_fifo: left(self.s3_fifo, before.s3_fifo),
@@ -69,7 +71,7 @@ fn left(after: Option<u64>, before: Option<u64>) -> Option<u64>
     }
 }
 
-/// What a string misses under a policy, where that is asked for.
+/// What a string misses under a policy, where that is asked for. The caller has seen that it serves so many frames.
 fn misses_if<P: Policy>(
     alloc: Global,
     frames: Frames,
@@ -81,8 +83,10 @@ fn misses_if<P: Policy>(
     if !is_wanted {
         return Ok(None);
     }
-    let count = misses::<P>(alloc, frames, string)?;
-    Ok(Some(count as u64))
+    match misses::<P>(alloc, frames, string) {
+        Ok(count) => Ok(Some(count as u64)),
+        Err(_) => Err(AllocError),
+    }
 }
 
 /// What a string misses under the optimum, which is given the string as it needs it, where that is asked for.
@@ -127,6 +131,7 @@ fn counts_of(
     )?;
     let clock_pro = misses_if::<ClockPro<ClockRing>>(alloc, frames, string, wanted.clock_pro)?;
     let two_queues = misses_if::<TwoQueues>(alloc, frames, string, wanted.two_queues)?;
+    let lirs = misses_if::<Lirs>(alloc, frames, string, wanted.lirs)?;
     let arc = misses_if::<Arc>(alloc, frames, string, wanted.arc)?;
     let sieve = misses_if::<Sieve>(alloc, frames, string, wanted.sieve)?;
     let s3_fifo = misses_if::<S3Fifo>(alloc, frames, string, wanted.s3_fifo)?;
@@ -141,6 +146,7 @@ fn counts_of(
         clock_pro_used,
         clock_pro,
         two_queues,
+        lirs,
         arc,
         sieve,
         s3_fifo,
@@ -151,6 +157,24 @@ fn counts_of(
 
 /// What a string misses with each of these numbers of frames, under the policies that are asked for.
 pub fn rows_of<P: Progress>(
+    alloc: Global,
+    frames: &[Frames],
+    string: &[Key],
+    wanted: PolicySet,
+    progress: &mut P,
+) -> Result<Vec<Counts>, PolicyRefusal>
+    ensures rows { IfOk result (λ rows. rows.items ≡ map (counted wanted string.now) frames.now) }
+    ensures bad_size { (result ≡ Err PolicyRefusal.BadSize) ↔ (all_serve wanted frames.now ≡
+        false) }
+{
+    if !wanted.serves_all(frames) {
+        return Err(PolicyRefusal::BadSize);
+    }
+    Ok(count_rows(alloc, frames, string, wanted, progress)?)
+}
+
+/// The same rows. The caller has seen that each policy serves each number of frames.
+pub(crate) fn count_rows<P: Progress>(
     alloc: Global,
     frames: &[Frames],
     string: &[Key],

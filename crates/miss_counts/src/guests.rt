@@ -1,14 +1,14 @@
 //! What guests miss.
 
-ghost use Rattle.std.specs.Prelude.{◌≡◌, ◌≤◌, IfOk, OnOk, cond, true, length, option_map};
+ghost use Rattle.std.specs.Prelude.{◌≡◌, ◌≤◌, ◌↔◌, IfOk, OnOk, Err, cond, true, false, length, option_map};
 ghost use Rattle.std.specs.HashSet.{contains};
 ghost use Rattle.clock_policy.specs.declared.key.Key.{Key};
 ghost use Rattle.guest_strings.specs.ToCome.{to_come};
 ghost use Rattle.page_policies.specs.Strings.{is_page};
-ghost use Rattle.miss_counts.specs.Counted.{IsTable, IsUsualTable, guest_pages, pages_of};
+ghost use Rattle.miss_counts.specs.Counted.{IsTable, IsUsualTable, all_asked_serve, guest_pages, pages_of};
 ghost use Rattle.miss_counts.specs.FrameNumbers.{page_count};
 
-use crate::counts::{Counts, rows_of};
+use crate::counts::{Counts, count_rows};
 use crate::frame_numbers::usual_frames;
 use crate::policy_set::PolicySet;
 use crate::progress::{Progress, Stage};
@@ -16,7 +16,7 @@ use clock_policy::Key;
 use flat_machine::FlatProcess;
 use guest_strings::GuestString;
 use machine_limits::MOST_PROCESSES;
-use page_policies::Frames;
+use page_policies::{Frames, PolicyRefusal};
 use std::alloc::{AllocError, Global};
 use std::collections::HashSet;
 
@@ -46,6 +46,38 @@ pub fn guest_rows<P: Progress>(
     frames: Option<Vec<Frames>>,
     wanted: PolicySet,
     progress: &mut P,
+) -> Result<Vec<Counts>, PolicyRefusal>
+    requires { length processes.items ≤ MOST_PROCESSES }
+    ensures rows { IfOk result (λ rows. IsTable wanted (guest_pages slice limit processes.items)
+        (option_map (λ f. f.items) frames) rows.items) }
+    ensures bad_size { (result ≡ Err PolicyRefusal.BadSize) ↔ (all_asked_serve wanted
+        (option_map (λ f. f.items) frames) ≡ false) }
+{
+    if !serves_asked(wanted, &frames) {
+        return Err(PolicyRefusal::BadSize);
+    }
+    Ok(counted_rows(alloc, processes, slice, limit, frames, wanted, progress)?)
+}
+
+/// Whether each of the policies serves each of these numbers of frames, or the usual ones.
+fn serves_asked(wanted: PolicySet, frames: &Option<Vec<Frames>>) -> bool
+    ensures { result ≡ all_asked_serve wanted (option_map (λ f. f.items) frames.now) }
+{
+    match frames {
+        Some(frames) => wanted.serves_all(frames.as_slice()),
+        None => true,
+    }
+}
+
+/// What the string of guests misses. The caller has seen that each policy serves each number of frames.
+fn counted_rows<P: Progress>(
+    alloc: Global,
+    processes: Vec<FlatProcess>,
+    slice: u32,
+    limit: u64,
+    frames: Option<Vec<Frames>>,
+    wanted: PolicySet,
+    progress: &mut P,
 ) -> Result<Vec<Counts>, AllocError>
     requires { length processes.items ≤ MOST_PROCESSES }
     ensures { IfOk result (λ rows. IsTable wanted (guest_pages slice limit processes.items)
@@ -55,7 +87,7 @@ pub fn guest_rows<P: Progress>(
     let Some(frames) = frames else {
         return usual_rows(alloc, string.as_slice(), wanted, progress);
     };
-    rows_of(
+    count_rows(
         alloc,
         frames.as_slice(),
         string.as_slice(),
@@ -74,7 +106,7 @@ fn usual_rows<P: Progress>(
     ensures { IfOk result (λ rows. IsUsualTable wanted string.now rows.items) }
 {
     let usual = usual_frames(alloc, count_pages(alloc, string)?)?;
-    rows_of(alloc, usual.as_slice(), string, wanted, progress)
+    count_rows(alloc, usual.as_slice(), string, wanted, progress)
 }
 
 /// How many pages a string refers to.

@@ -1,11 +1,11 @@
 //! A policy that plays a string piece by piece.
 
-ghost use Rattle.std.specs.Prelude.{◌≡◌, ◌+◌, ◌<◌, ◌≤◌, ◌^◌, ◌++◌, List, IfOk, OnOk, length, option_map};
+ghost use Rattle.std.specs.Prelude.{◌≡◌, ◌+◌, ◌<◌, ◌≤◌, ◌^◌, ◌++◌, ◌↔◌, List, Err, IfOk, OnOk, length, option_map};
 ghost use Rattle.clock_policy.specs.declared.key.Key.{Key};
 ghost use Rattle.miss_counts.specs.Playing.{Opens, GoesOn};
 
 use clock_policy::Key;
-use page_policies::{Frames, Outcome, Policy};
+use page_policies::{Frames, Outcome, Policy, PolicyRefusal};
 use std::alloc::{AllocError, Global};
 
 /// A policy, with how many references have missed so far. After an error nothing is said of it.
@@ -17,9 +17,10 @@ pub(crate) struct Player<P: Policy> {
 
 impl<P: Policy> Player<P> {
     /// What is counted and what is to come are the misses of the whole string.
-    pub(crate) fn new(alloc: Global, frames: Frames) -> Result<Self, AllocError>
-        ensures { IfOk result (λ player. (string : List Key) →
+    pub(crate) fn new(alloc: Global, frames: Frames) -> Result<Self, PolicyRefusal>
+        ensures whole { IfOk result (λ player. (string : List Key) →
             player.misses + P.to_miss player.policy string ≡ P.misses frames.number string) }
+        ensures bad_size { (result ≡ Err PolicyRefusal.BadSize) ↔ P.refuses frames.number }
     {
         let policy = P::new(alloc, frames)?;
         Ok(Player { policy, misses: 0 })
@@ -44,7 +45,7 @@ impl<P: Policy> Player<P> {
     }
 }
 
-/// A policy that begins to count, where it is asked for.
+/// A policy that begins to count, where it is asked for. The caller has seen that it serves so many frames.
 pub(crate) fn player_if<P: Policy>(
     alloc: Global,
     frames: Frames,
@@ -56,8 +57,10 @@ pub(crate) fn player_if<P: Policy>(
     if !is_wanted {
         return Ok(None);
     }
-    let player = Player::new(alloc, frames)?;
-    Ok(Some(player))
+    match Player::new(alloc, frames) {
+        Ok(player) => Ok(Some(player)),
+        Err(_) => Err(AllocError),
+    }
 }
 
 /// Some pages are used, where the policy is one that counts.

@@ -1,14 +1,16 @@
 //! Misses counted as references come.
 
-ghost use Rattle.std.specs.Prelude.{◌≡◌, ◌+◌, ◌<◌, ◌^◌, None, length, IfOk, OnOk, option_map};
+ghost use Rattle.std.specs.Prelude.{◌≡◌, ◌+◌, ◌<◌, ◌^◌, ◌↔◌, Err, None, false, length, IfOk, OnOk, option_map};
 ghost use Rattle.page_policies.specs.Queues.{fifo_misses, lru_misses};
 ghost use Rattle.page_policies.specs.SecondChance.{clock_misses};
-ghost use Rattle.page_policies.specs.ClockProPlay.{clock_pro_used_misses, clock_pro_misses};
-ghost use Rattle.page_policies.specs.TwoQueues.{two_queues_misses};
-ghost use Rattle.page_policies.specs.Arc.{arc_misses};
-ghost use Rattle.page_policies.specs.Sieve.{sieve_misses};
-ghost use Rattle.page_policies.specs.S3Fifo.{s3_fifo_misses};
+ghost use Rattle.younger_policies.specs.ClockProPlay.{clock_pro_used_misses, clock_pro_misses};
+ghost use Rattle.younger_policies.specs.TwoQueues.{two_queues_misses};
+ghost use Rattle.younger_policies.specs.Lirs.{lirs_misses};
+ghost use Rattle.younger_policies.specs.Arc.{arc_misses};
+ghost use Rattle.younger_policies.specs.Sieve.{sieve_misses};
+ghost use Rattle.younger_policies.specs.S3Fifo.{s3_fifo_misses};
 ghost use Rattle.page_policies.specs.Random.{random_misses};
+ghost use Rattle.miss_counts.specs.Counted.{serves};
 ghost use Rattle.miss_counts.specs.Playing.{Opens, GoesOn};
 
 use crate::clock_pro_players::ClockProPlayers;
@@ -19,11 +21,9 @@ use crate::policy_set::PolicySet;
 use crate::younger_players::YoungerPlayers;
 use clock_policy::Key;
 use clock_ring::ClockRing;
-use page_policies::{
-    Arc, ClockPro, ClockProUsed, Fifo, Frames, Lru, Policy, Random, S3Fifo, SecondChance, Sieve,
-    TwoQueues,
-};
+use page_policies::{Fifo, Frames, Lru, Policy, PolicyRefusal, Random, SecondChance};
 use std::alloc::{AllocError, Global};
+use younger_policies::{Arc, ClockPro, ClockProUsed, Lirs, S3Fifo, Sieve, TwoQueues};
 
 /// The policies that are asked for with one number of frames, which count as references come. After an error nothing is said of them.
 ///
@@ -38,7 +38,9 @@ pub struct Row {
 }
 
 impl Row {
-    pub fn new(alloc: Global, frames: Frames, wanted: PolicySet) -> Result<Row, AllocError>
+    pub fn new(alloc: Global, frames: Frames, wanted: PolicySet) -> Result<Row, PolicyRefusal>
+        ensures bad_size { (result ≡ Err PolicyRefusal.BadSize) ↔ (serves wanted frames.number ≡
+            false) }
         ensures frames { IfOk result (λ row. row.frames ≡ frames) }
         ensures references { IfOk result (λ row. row.references ≡ 0) }
         ensures fifo { IfOk result (λ row. Opens wanted.fifo
@@ -59,6 +61,9 @@ impl Row {
         ensures two_queues { IfOk result (λ row. Opens wanted.two_queues
             (λ p string. p.misses + ⟦<TwoQueues as Policy>⟧.to_miss p.policy string)
             (two_queues_misses frames.number) row.younger.two_queues) }
+        ensures lirs { IfOk result (λ row. Opens wanted.lirs
+            (λ p string. p.misses + ⟦<Lirs as Policy>⟧.to_miss p.policy string)
+            (lirs_misses frames.number) row.younger.lirs) }
         ensures arc { IfOk result (λ row. Opens wanted.arc
             (λ p string. p.misses + ⟦<Arc as Policy>⟧.to_miss p.policy string)
             (arc_misses frames.number) row.younger.arc) }
@@ -72,6 +77,9 @@ impl Row {
             (λ p string. p.misses + ⟦<Random as Policy>⟧.to_miss p.policy string)
             (random_misses frames.number) row.older.random) }
     {
+        if !wanted.serves(frames) {
+            return Err(PolicyRefusal::BadSize);
+        }
         Ok(Row {
             frames,
             references: 0,
@@ -104,6 +112,9 @@ impl Row {
         ensures two_queues { OnOk result (GoesOn (λ p. p.misses)
             (λ p string. p.misses + ⟦<TwoQueues as Policy>⟧.to_miss p.policy string)
             pages.now self.old.younger.two_queues self.new.younger.two_queues) }
+        ensures lirs { OnOk result (GoesOn (λ p. p.misses)
+            (λ p string. p.misses + ⟦<Lirs as Policy>⟧.to_miss p.policy string)
+            pages.now self.old.younger.lirs self.new.younger.lirs) }
         ensures arc { OnOk result (GoesOn (λ p. p.misses)
             (λ p string. p.misses + ⟦<Arc as Policy>⟧.to_miss p.policy string)
             pages.now self.old.younger.arc self.new.younger.arc) }
@@ -134,6 +145,7 @@ impl Row {
           clock_pro_used = option_map (λ p. p.misses) self.now.clock_pros.clock_pro_used;
           clock_pro = option_map (λ p. p.misses) self.now.clock_pros.clock_pro;
           two_queues = option_map (λ p. p.misses) self.now.younger.two_queues;
+          lirs = option_map (λ p. p.misses) self.now.younger.lirs;
           arc = option_map (λ p. p.misses) self.now.younger.arc;
           sieve = option_map (λ p. p.misses) self.now.younger.sieve;
           s3_fifo = option_map (λ p. p.misses) self.now.younger.s3_fifo;
@@ -150,6 +162,7 @@ impl Row {
             clock_pro_used: misses_so_far(&self.clock_pros.clock_pro_used),
             clock_pro: misses_so_far(&self.clock_pros.clock_pro),
             two_queues: misses_so_far(&self.younger.two_queues),
+            lirs: misses_so_far(&self.younger.lirs),
             arc: misses_so_far(&self.younger.arc),
             sieve: misses_so_far(&self.younger.sieve),
             s3_fifo: misses_so_far(&self.younger.s3_fifo),

@@ -25,7 +25,7 @@ cut_without (suc n) p (q ∷ qs) =
     cut (suc n) [] = refl
     cut (suc n) (q ∷ qs) = ap (λ (l : List Key). q ∷ l) (cut n qs)
 
-cut_step : (n : ℕ) (p : Key) (s : List Key) → lru n p (take n s) ≡ take n (stacked p s)
+pub cut_step : (n : ℕ) (p : Key) (s : List Key) → lru n p (take n s) ≡ take n (stacked p s)
 cut_step zero p s = refl
 cut_step (suc n) p s = ap (λ (l : List Key). p ∷ l) (cut_without n p s)
 
@@ -59,7 +59,7 @@ from_stack few many s (p ∷ ps) h =
     let small : misses holds (lru few) (lru few p (take few s)) ps ≡ misses holds (lru few) (take few (stacked p s)) ps = ap (λ (l : List Key). misses holds (lru few) l ps) (cut_step few p s) in
     omega (arith, now, later, big, small)
 
-nothing : (n : ℕ) → take n (let none : List Key = [] in none) ≡ []
+pub nothing : (n : ℕ) → take n (let none : List Key = [] in none) ≡ []
 nothing zero = refl
 nothing (suc n) = refl
 

@@ -4,14 +4,8 @@ ghost use Rattle.page_policies.specs.Inclusion.{Inclusion, MissesNoMore};
 ghost use Rattle.page_policies.specs.Queues.{fifo_misses, lru_misses};
 ghost use Rattle.page_policies.specs.SecondChance.{clock_misses};
 ghost use Rattle.page_policies.specs.Optimal.{optimal_misses};
-ghost use Rattle.page_policies.specs.Demand.{NoneMissesLess, IsPlayed, IsPlayedWithin};
-ghost use Rattle.page_policies.specs.ClockProPlay.{clock_pro_misses, clock_pro_used_misses};
-ghost use Rattle.page_policies.specs.TwoQueues.{two_queues_misses};
-ghost use Rattle.page_policies.specs.Arc.{arc_misses};
-ghost use Rattle.page_policies.specs.Sieve.{sieve_misses};
-ghost use Rattle.page_policies.specs.S3Fifo.{s3_fifo_misses};
+ghost use Rattle.page_policies.specs.Demand.{NoneMissesLess, IsPlayed};
 ghost use Rattle.page_policies.specs.Random.{random_misses};
-ghost use Rattle.clock_policy.specs.FrameCounts.{least_frames, most_frames};
 
 /// LRU has the inclusion property: at each moment the pages in fewer frames are among those in more, whatever the string.
 #[tactic(auto, using(crate::specs::InclusionLaws::inclusion))]
@@ -33,30 +27,13 @@ pub fn no_policy_misses_less()
     ensures { NoneMissesLess }
 {}
 
-/// The optimum can be reached: what it does is a way to serve the string. FIFO, CLOCK and LRU are such ways too, so that the
-/// optimum is their floor.
-#[tactic(auto, using(crate::specs::PlayedLaws::optimum_played, crate::specs::PlayedLaws::fifo_played, crate::specs::PlayedLaws::lru_played, crate::specs::SlotPlayLaws::clock_played))]
+/// The optimum can be reached: what it does is a way to serve the string. FIFO, CLOCK, LRU and random replacement are such ways too, so
+/// that the optimum is their floor.
+#[tactic(auto, using(crate::specs::PlayedLaws::optimum_played, crate::specs::PlayedLaws::fifo_played, crate::specs::PlayedLaws::lru_played, crate::specs::SlotPlayLaws::clock_played, crate::specs::RandomLaws::random_played))]
 pub fn optimum_is_a_play()
     ensures optimum { IsPlayed optimal_misses }
     ensures fifo { IsPlayed fifo_misses }
     ensures lru { IsPlayed lru_misses }
     ensures clock { IsPlayed clock_misses }
-{}
-
-/// So are 2Q, ARC, SIEVE and S3-FIFO, and random replacement.
-#[tactic(auto, using(crate::specs::TwoQueuePlayLaws::two_queues_played, crate::specs::ArcPlayLaws::arc_played, crate::specs::SievePlayLaws::sieve_played, crate::specs::S3FifoPlayLaws::s3_fifo_played, crate::specs::RandomLaws::random_played))]
-pub fn younger_policies_are_plays()
-    ensures two_queues { IsPlayed two_queues_misses }
-    ensures arc { IsPlayed arc_misses }
-    ensures sieve { IsPlayed sieve_misses }
-    ensures s3_fifo { IsPlayed s3_fifo_misses }
     ensures random { IsPlayed random_misses }
-{}
-
-/// CLOCK-Pro is a way to serve a string too, with 4 to 4096 frames, so that the optimum is its floor. In particular five answers a
-/// frame always make room.
-#[tactic(auto, using(crate::specs::ClockPlayLaws::clock_pro_played, crate::specs::ClockPlayLaws::clock_pro_used_played))]
-pub fn clock_pro_is_a_play()
-    ensures published { IsPlayedWithin least_frames most_frames clock_pro_misses }
-    ensures used { IsPlayedWithin least_frames most_frames clock_pro_used_misses }
 {}

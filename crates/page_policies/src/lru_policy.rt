@@ -7,6 +7,7 @@ ghost use Rattle.page_policies.specs.Queues.{lru, lru_misses};
 
 use crate::frames::Frames;
 use crate::policy::{Outcome, Policy};
+use crate::refusal::PolicyRefusal;
 use clock_policy::Key;
 use lru::LruCache;
 use std::alloc::{AllocError, Global};
@@ -23,10 +24,12 @@ impl Policy for Lru {
 
     ghost to_miss = { λ policy string. misses_by holds (lru policy.pages.cap) (keys_of policy.pages.entries) string };
 
+    ghost refuses = { λ number. ⊥ };
+
     ghost none_to_miss = { λ policy. refl };
 
     #[tactic(auto, unfolding(crate::specs::Queues::lru_misses))]
-    fn new(alloc: Global, frames: Frames) -> Result<Self, AllocError> {
+    fn new(alloc: Global, frames: Frames) -> Result<Self, PolicyRefusal> {
         let room = NonZeroUsize::new(frames.number()).unwrap_or(NonZeroUsize::MIN);
         let pages = LruCache::sparse(alloc, room)?;
         Ok(Lru { pages })

@@ -1,10 +1,11 @@
 //! What every policy owes.
 
-ghost use Rattle.std.specs.Prelude.{◌≡◌, ℕ, ◌+◌, List, [], ◌∷◌, IfOk, zero};
+ghost use Rattle.std.specs.Prelude.{◌≡◌, ℕ, ◌+◌, List, [], ◌∷◌, IfOk, ◌↔◌, Err, zero};
 ghost use Rattle.clock_policy.specs.declared.key.Key.{Key};
 ghost use Rattle.page_policies.specs.Outcomes.{miss_count};
 
 use crate::frames::Frames;
+use crate::refusal::PolicyRefusal;
 use clock_policy::Key;
 use std::alloc::{AllocError, Global};
 
@@ -25,11 +26,14 @@ pub trait Policy: Drop {
     /// How many references of a string would miss from here on.
     ghost to_miss: { Self → List Key → ℕ };
 
-    /// The policy with all its frames empty. CLOCK-Pro's list serves 4 to 4096 frames, and with others there is none, as where there is
-    /// no memory.
-    fn new(alloc: Global, frames: Frames) -> Result<Self, AllocError>
-        ensures { IfOk result (λ policy. (string : List Key) →
-            to_miss policy string ≡ misses frames.number string) };
+    /// Which numbers of frames the policy does not serve, of those that `Frames` may be.
+    ghost refuses: { ℕ → Type 0 };
+
+    /// The policy with all its frames empty.
+    fn new(alloc: Global, frames: Frames) -> Result<Self, PolicyRefusal>
+        ensures misses { IfOk result (λ policy. (string : List Key) →
+            to_miss policy string ≡ misses frames.number string) }
+        ensures bad_size { (result ≡ Err PolicyRefusal.BadSize) ↔ refuses frames.number };
 
     /// A page is used.
     fn refer(&mut self, page: Key) -> Result<Outcome, AllocError>
@@ -40,8 +44,13 @@ pub trait Policy: Drop {
 }
 
 /// How many references of the string miss under the policy with so many frames.
-pub fn misses<P: Policy>(alloc: Global, frames: Frames, string: &[Key]) -> Result<usize, AllocError>
-    ensures { IfOk result (λ count. count ≡ P.misses frames.number string.now) }
+pub fn misses<P: Policy>(
+    alloc: Global,
+    frames: Frames,
+    string: &[Key],
+) -> Result<usize, PolicyRefusal>
+    ensures count { IfOk result (λ count. count ≡ P.misses frames.number string.now) }
+    ensures bad_size { (result ≡ Err PolicyRefusal.BadSize) ↔ P.refuses frames.number }
 {
     let mut policy = P::new(alloc, frames)?;
     let mut count = 0;

@@ -2,8 +2,7 @@
 
 ghost use Rattle.std.specs.Prelude.{◌≡◌, ◌<◌, ◌^◌, [], length, OnOk, IfOk};
 ghost use Rattle.page_policies.specs.Strings.{holds, without};
-ghost use Rattle.page_policies.specs.Ordered.{to_front, last_of, but_last};
-ghost use Rattle.page_policies.specs.TwoQueues.{at_most};
+ghost use Rattle.page_policies.specs.Ordered.{to_front, last_of, but_last, at_most};
 
 use clock_policy::Key;
 use lru::LruCache;
@@ -12,7 +11,7 @@ use std::marker::Model;
 
 /// Pages in an order, none twice: a queue or a stack, in which each page is found at once. It takes memory for the pages that it has.
 #[derive(Drop)]
-pub(crate) struct Queue {
+pub struct Queue {
     pages: LruCache<Key, ()>,
 }
 
@@ -30,28 +29,31 @@ impl Model for Queue {
 }
 
 impl Queue {
-    pub(crate) fn new(alloc: Global) -> Result<Queue, AllocError>
+    /// With no page.
+    pub fn new(alloc: Global) -> Result<Queue, AllocError>
         ensures { IfOk result (λ queue. queue ≡ []) }
     {
         let pages = LruCache::unbounded(alloc)?;
         Ok(Queue { pages })
     }
 
-    pub(crate) fn len(&self) -> usize
+    /// How many pages there are.
+    pub fn len(&self) -> usize
         ensures len { result ≡ length self.now }
         ensures fits { result < 2 ^ 63 }
     {
         self.pages.len()
     }
 
-    pub(crate) fn contains(&self, page: Key) -> bool
+    /// Whether the page is there.
+    pub fn contains(&self, page: Key) -> bool
         ensures { result ≡ holds page self.now }
     {
         self.pages.contains(&page)
     }
 
     /// The page comes to the front, from wherever it was.
-    pub(crate) fn push(&mut self, page: Key) -> Result<(), AllocError>
+    pub fn push(&mut self, page: Key) -> Result<(), AllocError>
         ensures { OnOk result (self.new ≡ to_front page self.old) }
     {
         // For the proof alone: a read tells how many pages there may be.
@@ -63,7 +65,7 @@ impl Queue {
     }
 
     /// The page at the tail.
-    pub(crate) fn last(&self) -> Option<Key>
+    pub fn last(&self) -> Option<Key>
         ensures { result ≡ last_of self.now }
     {
         match self.pages.peek_lru() {
@@ -73,7 +75,7 @@ impl Queue {
     }
 
     /// Takes the page at the tail out.
-    pub(crate) fn pop(&mut self) -> Option<Key>
+    pub fn pop(&mut self) -> Option<Key>
         ensures page { result ≡ last_of self.old }
         ensures others { self.new ≡ but_last self.old }
     {
@@ -83,8 +85,8 @@ impl Queue {
         }
     }
 
-    /// Takes the page out, wherever it is.
-    pub(crate) fn remove(&mut self, page: Key) -> bool
+    /// Takes the page out, wherever it is, and answers whether it was there.
+    pub fn remove(&mut self, page: Key) -> bool
         ensures found { result ≡ holds page self.old }
         ensures others { self.new ≡ without page self.old }
     {
@@ -93,7 +95,7 @@ impl Queue {
 }
 
 /// At most so many pages are left, where there is one more than that.
-pub(crate) fn cut(queue: &mut Queue, most: usize)
+pub fn cut(queue: &mut Queue, most: usize)
     ensures { queue.new ≡ at_most most queue.old }
 {
     if most < queue.len() {

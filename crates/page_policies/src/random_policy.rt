@@ -9,6 +9,7 @@ ghost use Rattle.page_policies.specs.RandomLaws.{pages_of};
 use crate::frames::Frames;
 use crate::policy::{Outcome, Policy};
 use crate::random_state::Random;
+use crate::refusal::PolicyRefusal;
 use clock_policy::Key;
 use indexmap::IndexSet;
 use rand_core::utils::NextWord;
@@ -87,10 +88,12 @@ impl Policy for Random {
 
     ghost to_miss = { λ policy string. misses_by in_random (random policy.frames) (pages_of policy) string };
 
+    ghost refuses = { λ number. ⊥ };
+
     ghost none_to_miss = { λ policy. refl };
 
     #[tactic(auto, unfolding(crate::specs::Random::random_misses))]
-    fn new(alloc: Global, frames: Frames) -> Result<Self, AllocError> {
+    fn new(alloc: Global, frames: Frames) -> Result<Self, PolicyRefusal> {
         Ok(Random {
             frames: frames.number(),
             pages: IndexSet::new(alloc),

@@ -8,6 +8,7 @@ ghost use Rattle.page_policies.specs.SlotLaws.{slots_of};
 
 use crate::frames::Frames;
 use crate::policy::{Outcome, Policy};
+use crate::refusal::PolicyRefusal;
 use clock_policy::{Entry, EntryKind, Key};
 use page_ring::IndexedRing;
 use std::alloc::{AllocError, Global};
@@ -124,10 +125,12 @@ impl Policy for SecondChance {
 
     ghost to_miss = { λ policy string. misses_by in_slots (second_chance policy.frames) (slots_of policy.ring.cells) string };
 
+    ghost refuses = { λ number. ⊥ };
+
     ghost none_to_miss = { λ policy. refl };
 
     #[tactic(auto, unfolding(crate::specs::SecondChance::clock_misses))]
-    fn new(alloc: Global, frames: Frames) -> Result<Self, AllocError> {
+    fn new(alloc: Global, frames: Frames) -> Result<Self, PolicyRefusal> {
         let frames = frames.number();
         let ring = IndexedRing::new(alloc, frames)?;
         Ok(SecondChance { frames, ring })

@@ -8,7 +8,7 @@ use crate::request::MissesRequest;
 use crate::table::write_table;
 use crate::teller::Teller;
 use crate::wrong::Wrong;
-use image_files::{Fault, Folder};
+use image_files::Folder;
 use miss_counts::{Counts, Progress, guest_rows};
 use std::io::Write;
 use std::rt::Files;
@@ -34,7 +34,7 @@ pub fn count_misses<'a, R: Folder + AllocGlobal, P: Progress>(
     rt: &R,
     request: MissesRequest<'a>,
     progress: &mut P,
-) -> Result<Vec<Counts>, Fault<'a>>
+) -> Result<Vec<Counts>, Wrong<'a>>
     ensures { IfOk result (λ rows. CountsAsAsked R.gives request.entry rows.items) }
 {
     let processes = read_guests(rt, &request.guest)?;

@@ -4,7 +4,7 @@ use miss_counts::PolicySet;
 
 /// What `--policies` may name.
 pub(crate) const NAMES: &str =
-    "fifo, clock, lru, clock-pro-used, clock-pro, 2q, arc, sieve, s3-fifo, random, optimum, parted by commas, or all";
+    "fifo, clock, lru, clock-pro-used, clock-pro, 2q, lirs, arc, sieve, s3-fifo, random, optimum, parted by commas, or all";
 
 /// None of them.
 const NONE: PolicySet = PolicySet {
@@ -14,6 +14,7 @@ const NONE: PolicySet = PolicySet {
     clock_pro_used: false,
     clock_pro: false,
     two_queues: false,
+    lirs: false,
     arc: false,
     sieve: false,
     s3_fifo: false,
@@ -29,6 +30,7 @@ pub(crate) const USUAL: PolicySet = PolicySet {
     clock_pro_used: true,
     clock_pro: false,
     two_queues: false,
+    lirs: false,
     arc: false,
     sieve: false,
     s3_fifo: false,
@@ -56,6 +58,7 @@ fn add(set: &mut PolicySet, word: &str) -> bool {
         "clock-pro-used" => set.clock_pro_used = true,
         "clock-pro" => set.clock_pro = true,
         "2q" => set.two_queues = true,
+        "lirs" => set.lirs = true,
         "arc" => set.arc = true,
         "sieve" => set.sieve = true,
         "s3-fifo" => set.s3_fifo = true,
@@ -75,6 +78,7 @@ fn all() -> PolicySet {
         clock_pro_used: true,
         clock_pro: true,
         two_queues: true,
+        lirs: true,
         arc: true,
         sieve: true,
         s3_fifo: true,

@@ -142,11 +142,8 @@ fn wanted_policies<'a>(matches: &ArgMatches<'a>, usual: PolicySet) -> Result<Pol
 
 /// CLOCK-Pro's list serves no other numbers of frames than a machine has.
 fn refuse_frames<'a>(frames: &[Frames], wanted: PolicySet) -> Result<(), Wrong<'a>> {
-    if !wanted.clock_pro && !wanted.clock_pro_used {
-        return Ok(());
-    }
     for frames in frames {
-        if !frames.are_a_machines() {
+        if !wanted.serves(*frames) {
             return Err(Wrong::ClockProFrames(frames.number()));
         }
     }

@@ -14,7 +14,7 @@ const WIDER: usize = 18;
 /// A policy's name, and its misses where they were counted.
 type Column = (&'static str, Option<u64>);
 
-fn columns_of(counts: &Counts) -> [Column; 10] {
+fn columns_of(counts: &Counts) -> [Column; 11] {
     [
         ("fifo", counts.fifo),
         ("clock", counts.clock),
@@ -22,6 +22,7 @@ fn columns_of(counts: &Counts) -> [Column; 10] {
         ("clock-pro-used", counts.clock_pro_used),
         ("clock-pro", counts.clock_pro),
         ("2q", counts.two_queues),
+        ("lirs", counts.lirs),
         ("arc", counts.arc),
         ("sieve", counts.sieve),
         ("s3-fifo", counts.s3_fifo),

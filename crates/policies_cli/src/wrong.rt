@@ -1,12 +1,13 @@
 //! What is wrong with the words or the trace that the program was given.
 
 use image_files::Fault;
+use page_policies::PolicyRefusal;
 use std::alloc::AllocError;
 use std::io;
 
 /// Why a command stops. What is of the other programs too is their fault.
 #[derive(Debug, Drop, thiserror::Error)]
-pub(crate) enum Wrong<'a> {
+pub enum Wrong<'a> {
     #[error("{0}")]
     Fault(Fault<'a>),
     /// Words that are no request, as the library that reads them says it. Help that was asked for is no fault.
@@ -21,6 +22,8 @@ pub(crate) enum Wrong<'a> {
     /// A number of frames that one of the policies can't have.
     #[error("{0} frames: clock-pro and clock-pro-used have 4 to 4096; name others by --policies")]
     ClockProFrames(usize),
+    #[error("clock-pro and clock-pro-used have 4 to 4096 frames; name others by --policies")]
+    BadSize,
     #[error("{0}: no references")]
     Empty(&'a str),
     #[error("{0}: its first line names no column `id`, `obj_id`, `object_id`, `key` or `page`")]
@@ -41,6 +44,15 @@ impl<'a> From<Fault<'a>> for Wrong<'a> {
 impl From<AllocError> for Wrong<'_> {
     fn from(_: AllocError) -> Self {
         Wrong::Fault(Fault::NoMemory)
+    }
+}
+
+impl From<PolicyRefusal> for Wrong<'_> {
+    fn from(refusal: PolicyRefusal) -> Self {
+        match refusal {
+            PolicyRefusal::BadSize => Wrong::BadSize,
+            PolicyRefusal::NoMemory => Wrong::Fault(Fault::NoMemory),
+        }
     }
 }
 

@@ -3,12 +3,15 @@
 use clock_policy::Key;
 use clock_ring::ClockRing;
 use page_policies::{
-    Arc, ClockPro, ClockProUsed, Fifo, Frames, Lru, Optimum, Policy, Random, S3Fifo, SecondChance,
-    Sieve, TwoQueues, clock_pro_is_a_play, misses, more_frames_never_miss_more, next_uses,
-    no_policy_misses_less, optimum_is_a_play, younger_policies_are_plays,
+    Fifo, Frames, Lru, Optimum, Policy, Random, SecondChance, lru_curve, misses,
+    more_frames_never_miss_more, next_uses, no_policy_misses_less, optimum_is_a_play,
 };
 use std::alloc::Global;
 use std::test::Fail;
+use younger_policies::{
+    Arc, ClockPro, ClockProUsed, Lirs, S3Fifo, Sieve, TwoQueues, clock_pro_is_a_play,
+    younger_policies_are_plays,
+};
 
 fn string(alloc: Global) -> Result<Vec<Key>, Fail> {
     let mut string = Vec::new(alloc);
@@ -47,6 +50,7 @@ fn with_three_and_four<P: Policy>(alloc: Global) -> Result<(usize, usize), Fail>
 fn younger_policies_miss_as_in_the_model(rt: HostRuntime) -> Result<(), Fail> {
     assert_eq!(rt; with_three_and_four::<SecondChance>(rt.alloc())?, (9, 10));
     assert_eq!(rt; with_three_and_four::<TwoQueues>(rt.alloc())?, (10, 9));
+    assert_eq!(rt; with_three_and_four::<Lirs>(rt.alloc())?, (8, 7));
     assert_eq!(rt; with_three_and_four::<Arc>(rt.alloc())?, (10, 7));
     assert_eq!(rt; with_three_and_four::<Sieve>(rt.alloc())?, (10, 8));
     assert_eq!(rt; with_three_and_four::<S3Fifo>(rt.alloc())?, (10, 10));
@@ -62,6 +66,13 @@ fn both_profiles_of_clock_pro_play(rt: HostRuntime) -> Result<(), Fail> {
     let clear = misses::<ClockPro<ClockRing>>(rt.alloc(), four, string.as_slice())?;
     let used = misses::<ClockProUsed<ClockRing>>(rt.alloc(), four, string.as_slice())?;
     assert_eq!(rt; (clear, used), (8, 8));
+    Ok(())
+}
+
+#[test]
+fn lru_misses_less_with_more_frames(rt: HostRuntime) -> Result<(), Fail> {
+    let curve = lru_curve(rt.alloc(), string(rt.alloc())?.as_slice())?;
+    assert_eq!(rt; curve.as_slice(), [12, 12, 10, 8, 5].as_slice());
     Ok(())
 }
 

@@ -1,6 +1,0 @@
-use Rattle.std.proofs.Common.{◌≡◌, map, take}
-use Rattle.miss_counts.specs.Counted.{counted}
-use Rattle.miss_counts.proofs.counts.rows_of.Given as goal
-
-abbrev pub invariant-frames : goal.invariant-frames
-invariant-frames g l = l.rows.items ≡ map (counted l.wanted l.string) (take l.number-index l.frames)

@@ -1,0 +1,10 @@
+use Rattle.std.proofs.Common.{sym, ◌∙◌}
+use Rattle.younger_policies.specs.LirsLaws.{lists_of, pruned_more}
+use Rattle.younger_policies.proofs.lirs.Lirs.prune.Goals as goal
+
+pub loop-turn-preserved : goal.loop-turn-preserved
+loop-turn-preserved c = record {
+  lists = pruned_more c.args.turns c.loop-turn._turn (lists_of c.loop-turn.self) (lists_of c.drop_bottom.new.self) c.loop-turn-test.true (sym c.if-is_bottom_lir.false ∙ c.is_bottom_lir.ensures) c.drop_bottom.ensures.lists
+      ∙ c.loop-turn.invariant.lists;
+  frames = c.drop_bottom.ensures.frames ∙ c.loop-turn.invariant.frames;
+}

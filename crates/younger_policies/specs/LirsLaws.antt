@@ -1,0 +1,26 @@
+-- The counter of LIRS as its definition sees it.
+use Rattle.std.specs.Prelude.{◌≡◌, ℕ, suc, ◌+◌, ◌-◌, ◌<◌, Bool, true, false, cond, List}
+use Rattle.std.proofs.Common.{arith, sym, ap, ◌∙◌}
+use Rattle.clock_policy.specs.declared.key.Key.{Key}
+use Rattle.page_policies.specs.Ordered.{last_of, but_last}
+use Rattle.younger_policies.specs.Lirs.{LirsState, is_bottom_lir, pruned}
+use Rattle.younger_policies.specs.declared.lirs.Lirs.{Lirs}
+
+abbrev pub lists_of : Lirs → LirsState
+lists_of s = record { lir = s.lir; stack = s.stack; queue = s.queue }
+
+abbrev pub without_bottom : LirsState → LirsState
+without_bottom s = record { lir = s.lir; stack = but_last s.stack; queue = s.queue }
+
+pub pruned_more : (n i : ℕ) (s t : LirsState) → i < n → false ≡ is_bottom_lir (last_of s.stack) s → t ≡ without_bottom s → pruned (n - (i + 1)) t ≡ pruned (n - i) s
+pruned_more n i s t h lir is =
+    let e : n - i ≡ suc (n - (i + 1)) = omega (arith, h) in
+    ap (pruned (n - (i + 1))) is
+    ∙ ap (λ (b : Bool). cond b s (pruned (n - (i + 1)) (without_bottom s))) lir
+    ∙ ap (λ (k : ℕ). pruned k s) (sym e)
+
+pub pruned_done : (n i : ℕ) (s : LirsState) → i < n → true ≡ is_bottom_lir (last_of s.stack) s → s ≡ pruned (n - i) s
+pruned_done n i s h lir =
+    let e : n - i ≡ suc (n - (i + 1)) = omega (arith, h) in
+    ap (λ (b : Bool). cond b s (pruned (n - (i + 1)) (without_bottom s))) lir
+    ∙ ap (λ (k : ℕ). pruned k s) (sym e)

@@ -1,0 +1,124 @@
+-- 2Q is a way to serve a string: a proof.
+use Rattle.std.specs.Prelude.{◌≡◌, ℕ, ◌+◌, ◌-◌, ◌<◌, ◌≤◌, Bool, true, false, cond, nat_lt, List, [], ◌++◌, length, refl}
+use Rattle.std.proofs.Common.{arith, sym, ap, ◌∙◌}
+use Rattle.std.proofs.lemmas.Bool.Decides.{nat_tests}
+use Rattle.clock_policy.specs.declared.key.Key.{Key}
+use Rattle.page_policies.specs.Strings.{holds}
+use Rattle.page_policies.specs.Ordered.{to_front, but_last}
+use Rattle.page_policies.specs.Demand.{number, MayLeave, IsPlayed}
+use Rattle.page_policies.specs.PartLaws.{number_append, holds_append, length_parts, front_there, number_front, number_moved, length_front, length_moved, length_but_last, number_but_last, hit_leaves, miss_leaves, Serves, served_plays}
+use Rattle.younger_policies.specs.TwoQueues.{TwoQueuesState, kin, recent_out, main_out, reclaimed, came_back, came, brought, used, in_two_queues, two_queues, two_queues_misses}
+
+-- the pages in frames
+abbrev pages : TwoQueuesState → List Key
+pages s = s.am ++ s.a1in
+
+abbrev room : TwoQueuesState → ℕ
+room s = length s.a1in + length s.am
+
+abbrev count : (Key → Bool) → TwoQueuesState → ℕ
+count test s = number test s.am + number test s.a1in
+
+found : (p : Key) (s : TwoQueuesState) → in_two_queues p s ≡ holds p (pages s)
+found p s = sym (holds_append p s.am s.a1in)
+
+size : (s : TwoQueuesState) → length (pages s) ≡ room s
+size s = let e : length (s.am ++ s.a1in) ≡ length s.am + length s.a1in = length_parts s.am s.a1in in omega (arith, e)
+
+counted : (test : Key → Bool) (s : TwoQueuesState) → number test (pages s) ≡ count test s
+counted test s = number_append test s.am s.a1in
+
+pub there_first : (p : Key) (a b : List Key) → holds p a ≡ true → holds p (a ++ b) ≡ true
+there_first p a b h = holds_append p a b ∙ ap (λ (t : Bool). cond t true (holds p b)) h
+
+pub there_second : (p : Key) (a b : List Key) → holds p b ≡ true → holds p (a ++ b) ≡ true
+there_second p a b h = holds_append p a b ∙ ap (λ (t : Bool). cond (holds p a) true t) h ∙ either (holds p a)
+  where
+    either : (t : Bool) → cond t true true ≡ true
+    either true = refl
+    either false = refl
+
+-- room for one page
+record Room (m : ℕ) (s t : TwoQueuesState) : Type 0 where
+  few : room t < m
+  fewer : (test : Key → Bool) → count test t ≤ count test s
+
+quarter : (m : ℕ) → 1 ≤ m → kin m < m
+quarter m some = grind arith
+
+room_is : (m : ℕ) (s : TwoQueuesState) → 1 ≤ m → room s ≤ m → Room m s (reclaimed m s)
+room_is m s some few = elim (nat_lt (room s) m) as (λ b. nat_lt (room s) m ≡ b → Room m s (cond b s (cond (nat_lt (kin m) (length s.a1in)) (recent_out m s) (main_out s)))) [
+  | true ↦ λ h. record { few = less (room s) m h; fewer = λ test. omega arith }
+  | false ↦ λ h. elim (nat_lt (kin m) (length s.a1in)) as (λ b. nat_lt (kin m) (length s.a1in) ≡ b → Room m s (cond b (recent_out m s) (main_out s))) [
+    | true ↦ λ g. record {
+      few = let more : kin m < length s.a1in = less (kin m) (length s.a1in) g in let e : length (but_last s.a1in) ≡ length s.a1in - 1 = length_but_last s.a1in in omega (arith, some, few, more, e);
+      fewer = λ test. let e : number test (but_last s.a1in) ≤ number test s.a1in = number_but_last test s.a1in in omega (arith, e);
+    }
+    | false ↦ λ g. record {
+      few = let q : kin m < m = quarter m some in let k : length s.a1in ≤ kin m = most (kin m) (length s.a1in) g in let f : m ≤ room s = most (room s) m h in
+          let e : length (but_last s.am) ≡ length s.am - 1 = length_but_last s.am in sums m (kin m) (length s.a1in) (length s.am) (length (but_last s.am)) few k q f e;
+      fewer = λ test. let e : number test (but_last s.am) ≤ number test s.am = number_but_last test s.am in omega (arith, e);
+    }
+  ] refl
+] refl
+  where
+    less : (a b : ℕ) → nat_lt a b ≡ true → a < b
+    less a b h = grind (arith, nat_tests)
+
+    most : (a b : ℕ) → nat_lt a b ≡ false → b ≤ a
+    most a b h = grind (arith, nat_tests)
+
+    sums : (m k a b c : ℕ) → a + b ≤ m → a ≤ k → k < m → m ≤ a + b → c ≡ b - 1 → a + c < m
+    sums m k a b c few some q f e = omega (arith, few, some, q, f, e)
+
+miss : (m : ℕ) (p : Key) (s : TwoQueuesState) → 1 ≤ m → room s ≤ m → false ≡ in_two_queues p s → MayLeave m p (pages s) (pages (brought m p s))
+miss m p s some few out = let r : Room m s (reclaimed m s) = room_is m s some few in let t : TwoQueuesState = reclaimed m s in
+    elim (holds p s.a1out) as (λ b. MayLeave m p (pages s) (pages (cond b (came_back p (reclaimed m s)) (came p (reclaimed m s))))) [
+      | true ↦ miss_leaves m p (pages s) (pages (came_back p (reclaimed m s))) (out ∙ found p s) (there_first p (to_front p (reclaimed m s).am) (reclaimed m s).a1in (front_there p (reclaimed m s).am))
+          (let e : length (pages (came_back p (reclaimed m s))) ≡ room (came_back p (reclaimed m s)) = size (came_back p (reclaimed m s)) in
+          let l : length (to_front p (reclaimed m s).am) ≤ length (reclaimed m s).am + 1 = length_front p (reclaimed m s).am in
+          let f : room (reclaimed m s) < m = r.few in omega (arith, e, l, f))
+          (λ test.
+          let e : number test (pages (came_back p (reclaimed m s))) ≡ count test (came_back p (reclaimed m s)) = counted test (came_back p (reclaimed m s)) in
+          let f : number test (pages s) ≡ count test s = counted test s in
+          let l : number test (to_front p (reclaimed m s).am) ≤ number test (reclaimed m s).am + cond (test p) 1 0 = number_front test p (reclaimed m s).am in
+          let g : count test (reclaimed m s) ≤ count test s = r.fewer test in omega (arith, e, f, l, g))
+      | false ↦ miss_leaves m p (pages s) (pages (came p (reclaimed m s))) (out ∙ found p s) (there_second p (reclaimed m s).am (to_front p (reclaimed m s).a1in) (front_there p (reclaimed m s).a1in))
+          (let e : length (pages (came p (reclaimed m s))) ≡ room (came p (reclaimed m s)) = size (came p (reclaimed m s)) in
+          let l : length (to_front p (reclaimed m s).a1in) ≤ length (reclaimed m s).a1in + 1 = length_front p (reclaimed m s).a1in in
+          let f : room (reclaimed m s) < m = r.few in omega (arith, e, l, f))
+          (λ test.
+          let e : number test (pages (came p (reclaimed m s))) ≡ count test (came p (reclaimed m s)) = counted test (came p (reclaimed m s)) in
+          let f : number test (pages s) ≡ count test s = counted test s in
+          let l : number test (to_front p (reclaimed m s).a1in) ≤ number test (reclaimed m s).a1in + cond (test p) 1 0 = number_front test p (reclaimed m s).a1in in
+          let g : count test (reclaimed m s) ≤ count test s = r.fewer test in omega (arith, e, f, l, g))
+    ]
+
+hit : (m : ℕ) (p : Key) (s : TwoQueuesState) → room s ≤ m → true ≡ in_two_queues p s → MayLeave m p (pages s) (pages (used p s))
+hit m p s few is = elim (holds p s.am) as (λ b. holds p s.am ≡ b → MayLeave m p (pages s) (pages (cond b (record { a1in = s.a1in; a1out = s.a1out; am = to_front p s.am }) s))) [
+  | true ↦ λ h. hit_leaves m p (pages s) (to_front p s.am ++ s.a1in) (is ∙ found p s) (there_first p (to_front p s.am) s.a1in (front_there p s.am))
+      (let e : length (to_front p s.am ++ s.a1in) ≡ length (to_front p s.am) + length s.a1in = length_parts (to_front p s.am) s.a1in in
+      let l : length (to_front p s.am) ≡ length s.am = length_moved p s.am h in omega (arith, e, l, few))
+      (λ test.
+      let e : number test (to_front p s.am ++ s.a1in) ≡ number test (to_front p s.am) + number test s.a1in = number_append test (to_front p s.am) s.a1in in
+      let f : number test (pages s) ≡ count test s = counted test s in
+      let l : number test (to_front p s.am) ≡ number test s.am = number_moved test p s.am h in omega (arith, e, f, l))
+  | false ↦ λ h. hit_leaves m p (pages s) (pages s) (is ∙ found p s) (sym (is ∙ found p s)) (let e : length (pages s) ≡ room s = size s in omega (arith, e, few)) (λ test. omega arith)
+] refl
+
+leaves : (m : ℕ) (p : Key) (s : TwoQueuesState) → 1 ≤ m → room s ≤ m → MayLeave m p (pages s) (pages (two_queues m p s))
+leaves m p s some few = elim (in_two_queues p s) as (λ b. b ≡ in_two_queues p s → MayLeave m p (pages s) (pages (cond b (used p s) (brought m p s)))) [
+  | true ↦ λ is. hit m p s few is
+  | false ↦ λ is. miss m p s some few is
+] refl
+
+serves : (m : ℕ) → 1 ≤ m → (p : Key) (s : TwoQueuesState) → room s ≤ m → Serves m pages (λ s. room s ≤ m) in_two_queues p s (two_queues m p s)
+serves m some p s few = let l : MayLeave m p (pages s) (pages (two_queues m p s)) = leaves m p s some few in record {
+  found = found p s;
+  leaves = l;
+  lawful_after = let e : length (pages (two_queues m p s)) ≡ room (two_queues m p s) = size (two_queues m p s) in let f : length (pages (two_queues m p s)) ≤ m = l.few in omega (arith, e, f);
+}
+
+pub two_queues_played : IsPlayed two_queues_misses
+unfolding two_queues_misses
+two_queues_played frames string some = served_plays frames pages (λ s. room s ≤ frames) in_two_queues (two_queues frames) (serves frames some) (record { a1in = []; a1out = []; am = [] }) string (omega arith)

@@ -1,0 +1,28 @@
+//! Laws of the policies' definitions.
+
+ghost use Rattle.clock_policy.specs.FrameCounts.{least_frames, most_frames};
+ghost use Rattle.page_policies.specs.Demand.{IsPlayed, IsPlayedWithin};
+ghost use Rattle.younger_policies.specs.ClockProPlay.{clock_pro_misses, clock_pro_used_misses};
+ghost use Rattle.younger_policies.specs.TwoQueues.{two_queues_misses};
+ghost use Rattle.younger_policies.specs.Lirs.{lirs_misses};
+ghost use Rattle.younger_policies.specs.Arc.{arc_misses};
+ghost use Rattle.younger_policies.specs.Sieve.{sieve_misses};
+ghost use Rattle.younger_policies.specs.S3Fifo.{s3_fifo_misses};
+
+/// 2Q, LIRS, ARC, SIEVE and S3-FIFO are ways to serve a string, so that the optimum is their floor.
+#[tactic(auto, using(crate::specs::TwoQueuePlayLaws::two_queues_played, crate::specs::LirsPlayLaws::lirs_played, crate::specs::ArcPlayLaws::arc_played, crate::specs::SievePlayLaws::sieve_played, crate::specs::S3FifoPlayLaws::s3_fifo_played))]
+pub fn younger_policies_are_plays()
+    ensures two_queues { IsPlayed two_queues_misses }
+    ensures lirs { IsPlayed lirs_misses }
+    ensures arc { IsPlayed arc_misses }
+    ensures sieve { IsPlayed sieve_misses }
+    ensures s3_fifo { IsPlayed s3_fifo_misses }
+{}
+
+/// CLOCK-Pro is a way to serve a string too, with 4 to 4096 frames, so that the optimum is its floor. In particular five answers a
+/// frame always make room.
+#[tactic(auto, using(crate::specs::ClockPlayLaws::clock_pro_played, crate::specs::ClockPlayLaws::clock_pro_used_played))]
+pub fn clock_pro_is_a_play()
+    ensures published { IsPlayedWithin least_frames most_frames clock_pro_misses }
+    ensures used { IsPlayedWithin least_frames most_frames clock_pro_used_misses }
+{}

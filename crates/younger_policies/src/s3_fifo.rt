@@ -1,0 +1,292 @@
+//! S3-FIFO.
+
+ghost use Rattle.std.specs.Prelude.{◌≡◌, ◌+◌, ◌*◌, ◌<◌, refl, cond, true, false, length, nat_lt, IfOk, OnOk};
+ghost use Rattle.std.specs.HashMap.{get};
+ghost use Rattle.clock_policy.specs.declared.key.Key.{Key};
+ghost use Rattle.page_policies.specs.Strings.{is_page, misses as misses_by};
+ghost use Rattle.page_policies.specs.NextUses.{known};
+ghost use Rattle.page_policies.specs.Ordered.{last_of};
+ghost use Rattle.younger_policies.specs.S3Fifo.{small_frames, main_frames, with_freq, pages_in, tail_freq, main_again, main_out, evicted_main, main_turned, main_cut, small_up, small_out, evicted_small, evicted, room_made, came_back, came, inserted, used, in_s3_fifo, s3_fifo, s3_fifo_misses};
+ghost use Rattle.younger_policies.specs.S3FifoLaws.{queues_of};
+
+use clock_policy::Key;
+use page_policies::{Frames, Outcome, Policy, PolicyRefusal, Queue, cut};
+use std::alloc::{AllocError, Global};
+use std::collections::HashMap;
+
+/// S3-FIFO: a small queue for new pages, a main one for those that are used there more than once, and ghosts of those that were not.
+#[derive(Drop)]
+pub struct S3Fifo {
+    frames: usize,
+    small: Queue,
+    main: Queue,
+    ghosts: Queue,
+    freq: HashMap<Key, u8>,
+}
+
+/// No page has a count.
+fn no_counts(alloc: Global) -> HashMap<Key, u8>
+    ensures { (q : Key) → known (get is_page result q) ≡ 0 }
+{
+    HashMap::new(alloc)
+}
+
+/// How often a page was used.
+fn count_of(freq: &HashMap<Key, u8>, page: Key) -> u8
+    ensures { result ≡ known (get is_page freq.now page) }
+{
+    match freq.get(&page) {
+        Some(count) => *count,
+        None => 0,
+    }
+}
+
+/// A page has this count from now on.
+fn set_count(freq: &mut HashMap<Key, u8>, page: Key, count: u8) -> Result<(), AllocError>
+    ensures { OnOk result ((q : Key) → known (get is_page freq.new q) ≡ cond (is_page page q) count
+        (known (get is_page freq.old q))) }
+{
+    match freq.insert(page, count) {
+        Ok(_) => Ok(()),
+        Err(_) => Err(AllocError),
+    }
+}
+
+/// A page has no count any more.
+fn clear_count(freq: &mut HashMap<Key, u8>, page: Key)
+    ensures { (q : Key) → known (get is_page freq.new q) ≡ cond (is_page page q) 0
+        (known (get is_page freq.old q)) }
+{
+    freq.remove(&page);
+}
+
+/// How many frames the main queue has.
+fn main_frames(frames: usize) -> usize
+    ensures { result ≡ main_frames frames }
+{
+    frames.saturating_sub((frames / 10).max(1))
+}
+
+impl S3Fifo {
+    /// Whether the page at the tail of the main queue was used.
+    fn is_main_tail_used(&self) -> bool
+        ensures { result ≡ nat_lt 0 (tail_freq (last_of self.now.main) (queues_of self.now)) }
+    {
+        match self.main.last() {
+            Some(page) => 0 < count_of(&self.freq, page),
+            None => false,
+        }
+    }
+
+    /// Whether the page at the tail of the small queue was used more than once.
+    fn is_small_tail_busy(&self) -> bool
+        ensures { result ≡ nat_lt 1 (tail_freq (last_of self.now.small) (queues_of self.now)) }
+    {
+        match self.small.last() {
+            Some(page) => 1 < count_of(&self.freq, page),
+            None => false,
+        }
+    }
+
+    /// The page at the tail of the main queue leaves.
+    fn drop_main_tail(&mut self)
+        ensures queues { queues_of self.new ≡ main_out (queues_of self.old) }
+        ensures frames { self.new.frames ≡ self.old.frames }
+    {
+        self.main.pop();
+    }
+
+    /// The page at the tail of the main queue goes to its head, and its count falls.
+    fn turn_main(&mut self) -> Result<(), AllocError>
+        ensures queues { OnOk result (queues_of self.new ≡ main_again (last_of self.old.main)
+            (queues_of self.old)) }
+        ensures frames { self.new.frames ≡ self.old.frames }
+    {
+        let Some(page) = self.main.last() else {
+            return Ok(());
+        };
+        let count = count_of(&self.freq, page);
+        set_count(&mut self.freq, page, count.saturating_sub(1))?;
+        self.main.push(page)
+    }
+
+    /// Used pages go to the main queue's head, so many times at most, and then the page at its tail leaves.
+    fn evict_main(&mut self, turns: u128) -> Result<(), AllocError>
+        ensures queues { OnOk result (queues_of self.new ≡ evicted_main turns (queues_of self.old)) }
+        ensures frames { self.new.frames ≡ self.old.frames }
+    {
+        for _turn in 0..turns {
+            if !self.is_main_tail_used() {
+                self.drop_main_tail();
+                return Ok(());
+            }
+            self.turn_main()?;
+        }
+        self.drop_main_tail();
+        Ok(())
+    }
+
+    /// A page leaves the main queue.
+    fn take_main(&mut self) -> Result<(), AllocError>
+        ensures queues { OnOk result (queues_of self.new ≡ main_turned (queues_of self.old)) }
+        ensures frames { self.new.frames ≡ self.old.frames }
+    {
+        let len = self.main.len();
+        self.evict_main(3 * len as u128)
+    }
+
+    /// A page leaves the main queue where it has too many.
+    fn cut_main(&mut self) -> Result<(), AllocError>
+        ensures queues { OnOk result (queues_of self.new ≡ main_cut self.old.frames (queues_of
+            self.old)) }
+        ensures frames { self.new.frames ≡ self.old.frames }
+    {
+        if main_frames(self.frames) < self.main.len() {
+            self.take_main()
+        } else {
+            Ok(())
+        }
+    }
+
+    /// The page at the tail of the small queue goes to the main one.
+    fn move_up(&mut self) -> Result<(), AllocError>
+        ensures queues { OnOk result (queues_of self.new ≡ small_up self.old.frames (last_of
+            self.old.small) (queues_of self.old)) }
+        ensures frames { self.new.frames ≡ self.old.frames }
+    {
+        let Some(page) = self.small.pop() else {
+            return Ok(());
+        };
+        self.main.push(page)?;
+        self.cut_main()?;
+        Ok(())
+    }
+
+    /// The page at the tail of the small queue leaves, and is remembered.
+    fn move_out(&mut self) -> Result<(), AllocError>
+        ensures queues { OnOk result (queues_of self.new ≡ small_out self.old.frames (last_of
+            self.old.small) (queues_of self.old)) }
+        ensures frames { self.new.frames ≡ self.old.frames }
+    {
+        let Some(page) = self.small.pop() else {
+            return Ok(());
+        };
+        self.ghosts.push(page)?;
+        cut(&mut self.ghosts, main_frames(self.frames));
+        clear_count(&mut self.freq, page);
+        Ok(())
+    }
+
+    /// Pages that were used more than once go to the main queue, so many at most, until one was not, which leaves.
+    fn evict_small(&mut self, turns: usize) -> Result<(), AllocError>
+        ensures queues { OnOk result (queues_of self.new ≡ evicted_small self.old.frames turns
+            (queues_of self.old)) }
+        ensures frames { self.new.frames ≡ self.old.frames }
+    {
+        for _turn in 0..turns {
+            if !self.is_small_tail_busy() {
+                return self.move_out();
+            }
+            self.move_up()?;
+        }
+        Ok(())
+    }
+
+    /// A page leaves one of the two queues, or all of the small one's go to the main one.
+    fn evict(&mut self) -> Result<(), AllocError>
+        ensures queues { OnOk result (queues_of self.new ≡ evicted self.old.frames (queues_of
+            self.old)) }
+        ensures frames { self.new.frames ≡ self.old.frames }
+    {
+        let len = self.small.len();
+        if self.frames as u128 <= 10 * len as u128 {
+            self.evict_small(len)
+        } else {
+            self.take_main()
+        }
+    }
+
+    /// Room for one page.
+    fn make_room(&mut self) -> Result<(), AllocError>
+        ensures queues { OnOk result (queues_of self.new ≡ room_made self.old.frames 2 (queues_of
+            self.old)) }
+        ensures frames { self.new.frames ≡ self.old.frames }
+    {
+        if self.small.len() + self.main.len() < self.frames {
+            return Ok(());
+        }
+        self.evict()?;
+        if self.small.len() + self.main.len() < self.frames {
+            return Ok(());
+        }
+        self.evict()
+    }
+
+    /// A page comes in.
+    fn insert(&mut self, page: Key) -> Result<(), AllocError>
+        ensures queues { OnOk result (queues_of self.new ≡ inserted page (queues_of self.old)) }
+        ensures frames { self.new.frames ≡ self.old.frames }
+    {
+        clear_count(&mut self.freq, page);
+        if self.ghosts.contains(page) {
+            self.ghosts.remove(page);
+            self.main.push(page)
+        } else {
+            self.small.push(page)
+        }
+    }
+
+    /// A page that is there was used.
+    fn note_use(&mut self, page: Key) -> Result<(), AllocError>
+        ensures queues { OnOk result (queues_of self.new ≡ used page (queues_of self.old)) }
+        ensures frames { self.new.frames ≡ self.old.frames }
+    {
+        let count = count_of(&self.freq, page);
+        set_count(&mut self.freq, page, count.saturating_add(1).min(3))
+    }
+
+    /// A page is used. Whether it was in a frame.
+    fn step(&mut self, page: Key) -> Result<bool, AllocError>
+        ensures hit { IfOk result (λ hit. hit ≡ in_s3_fifo page (queues_of self.old)) }
+        ensures queues { OnOk result (queues_of self.new ≡ s3_fifo self.old.frames page (queues_of
+            self.old)) }
+        ensures frames { self.new.frames ≡ self.old.frames }
+    {
+        if !self.small.contains(page) && !self.main.contains(page) {
+            self.make_room()?;
+            self.insert(page)?;
+            return Ok(false);
+        }
+        self.note_use(page)?;
+        Ok(true)
+    }
+}
+
+impl Policy for S3Fifo {
+    ghost misses = { s3_fifo_misses };
+
+    ghost to_miss = { λ policy string. misses_by in_s3_fifo (s3_fifo policy.frames) (queues_of policy) string };
+
+    ghost refuses = { λ number. ⊥ };
+
+    ghost none_to_miss = { λ policy. refl };
+
+    #[tactic(auto, unfolding(crate::specs::S3Fifo::s3_fifo_misses))]
+    fn new(alloc: Global, frames: Frames) -> Result<Self, PolicyRefusal> {
+        Ok(S3Fifo {
+            frames: frames.number(),
+            small: Queue::new(alloc)?,
+            main: Queue::new(alloc)?,
+            ghosts: Queue::new(alloc)?,
+            freq: no_counts(alloc),
+        })
+    }
+
+    fn refer(&mut self, page: Key) -> Result<Outcome, AllocError> {
+        if self.step(page)? {
+            Ok(Outcome::Hit)
+        } else {
+            Ok(Outcome::Miss)
+        }
+    }
+}

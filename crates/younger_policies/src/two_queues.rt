@@ -1,0 +1,113 @@
+//! 2Q.
+
+ghost use Rattle.std.specs.Prelude.{◌≡◌, ◌≤◌, ◌<◌, ◌^◌, refl, length, IfOk, OnOk};
+ghost use Rattle.clock_policy.specs.declared.key.Key.{Key};
+ghost use Rattle.page_policies.specs.Strings.{misses as misses_by};
+ghost use Rattle.younger_policies.specs.TwoQueues.{in_two_queues, kin, kout, recent_out, main_out, reclaimed, used, brought, two_queues, two_queues_misses};
+ghost use Rattle.younger_policies.specs.TwoQueueLaws.{queues_of};
+
+use clock_policy::Key;
+use page_policies::{Frames, Outcome, Policy, PolicyRefusal, Queue, cut};
+use std::alloc::{AllocError, Global};
+
+/// 2Q: a page comes into a queue first, and only one that comes back after it left that goes to a stack, whose last page leaves.
+#[derive(Drop)]
+pub struct TwoQueues {
+    frames: usize,
+    a1in: Queue,
+    a1out: Queue,
+    am: Queue,
+}
+
+impl TwoQueues {
+    /// The last page of the queue leaves, and is remembered.
+    fn let_recent_out(&mut self) -> Result<(), AllocError>
+        ensures queues { OnOk result (queues_of self.new ≡ recent_out self.old.frames (queues_of
+            self.old)) }
+        ensures frames { self.new.frames ≡ self.old.frames }
+    {
+        if let Some(page) = self.a1in.pop() {
+            self.a1out.push(page)?;
+        }
+        cut(&mut self.a1out, self.frames / 2);
+        Ok(())
+    }
+
+    /// Room for one page.
+    fn reclaim(&mut self) -> Result<(), AllocError>
+        ensures queues { OnOk result (queues_of self.new ≡ reclaimed self.old.frames (queues_of
+            self.old)) }
+        ensures frames { self.new.frames ≡ self.old.frames }
+    {
+        if self.a1in.len() + self.am.len() < self.frames {
+            return Ok(());
+        }
+        if self.frames / 4 < self.a1in.len() {
+            return self.let_recent_out();
+        }
+        self.am.pop();
+        Ok(())
+    }
+
+    /// A page comes in that is in no frame.
+    fn bring(&mut self, page: Key) -> Result<(), AllocError>
+        ensures queues { OnOk result (queues_of self.new ≡ brought self.old.frames page (queues_of
+            self.old)) }
+        ensures frames { self.new.frames ≡ self.old.frames }
+    {
+        let comes_back = self.a1out.contains(page);
+        self.reclaim()?;
+        if comes_back {
+            self.a1out.remove(page);
+            self.am.push(page)
+        } else {
+            self.a1in.push(page)
+        }
+    }
+
+    /// A page is used. Whether it was in a frame.
+    fn step(&mut self, page: Key) -> Result<bool, AllocError>
+        ensures hit { IfOk result (λ hit. hit ≡ in_two_queues page (queues_of self.old)) }
+        ensures queues { OnOk result (queues_of self.new ≡ two_queues self.old.frames page
+            (queues_of self.old)) }
+        ensures frames { self.new.frames ≡ self.old.frames }
+    {
+        if self.am.contains(page) {
+            self.am.push(page)?;
+            return Ok(true);
+        }
+        if self.a1in.contains(page) {
+            return Ok(true);
+        }
+        self.bring(page)?;
+        Ok(false)
+    }
+}
+
+impl Policy for TwoQueues {
+    ghost misses = { two_queues_misses };
+
+    ghost to_miss = { λ policy string. misses_by in_two_queues (two_queues policy.frames) (queues_of policy) string };
+
+    ghost refuses = { λ number. ⊥ };
+
+    ghost none_to_miss = { λ policy. refl };
+
+    #[tactic(auto, unfolding(crate::specs::TwoQueues::two_queues_misses))]
+    fn new(alloc: Global, frames: Frames) -> Result<Self, PolicyRefusal> {
+        Ok(TwoQueues {
+            frames: frames.number(),
+            a1in: Queue::new(alloc)?,
+            a1out: Queue::new(alloc)?,
+            am: Queue::new(alloc)?,
+        })
+    }
+
+    fn refer(&mut self, page: Key) -> Result<Outcome, AllocError> {
+        if self.step(page)? {
+            Ok(Outcome::Hit)
+        } else {
+            Ok(Outcome::Miss)
+        }
+    }
+}

@@ -9,7 +9,9 @@ pub(crate) fn policies<'a>(alloc: Global) -> Result<Command<'a>, AllocError> {
         .subcommand_required(true);
     let app = app.subcommand(misses(alloc)?)?;
     let app = app.subcommand(trace(alloc)?)?;
-    app.subcommand(replay(alloc)?)
+    let app = app.subcommand(replay(alloc)?)?;
+    let app = app.subcommand(curve(alloc)?)?;
+    app.subcommand(totals(alloc)?)
 }
 
 fn misses<'a>(alloc: Global) -> Result<Command<'a>, AllocError> {
@@ -25,6 +27,22 @@ fn replay<'a>(alloc: Global) -> Result<Command<'a>, AllocError> {
         .arg(option(alloc, "format"))?
         .arg(option(alloc, "skip"))?
         .arg(flag(alloc, "optimum"))?
+        .arg(Arg::new(alloc, "trace").required(true))
+}
+
+fn curve<'a>(alloc: Global) -> Result<Command<'a>, AllocError> {
+    Command::new(alloc, "curve")
+        .arg(option(alloc, "format"))?
+        .arg(flag(alloc, "ratio"))?
+        .arg(flag(alloc, "csv"))?
+        .arg(flag(alloc, "progress"))?
+        .arg(Arg::new(alloc, "trace").required(true))
+}
+
+fn totals<'a>(alloc: Global) -> Result<Command<'a>, AllocError> {
+    Command::new(alloc, "totals")
+        .arg(option(alloc, "format"))?
+        .arg(flag(alloc, "progress"))?
         .arg(Arg::new(alloc, "trace").required(true))
 }
 

@@ -2,6 +2,7 @@
 #![tactic(auto)]
 
 mod commands;
+mod curve_command;
 mod formats;
 mod frame_lists;
 mod guests;
@@ -14,6 +15,7 @@ mod request;
 mod requests;
 mod table;
 mod teller;
+mod totals_command;
 mod trace_command;
 mod trace_file;
 mod wrong;

@@ -1,9 +1,11 @@
 //! A run of the program.
 
+use crate::curve_command::run_curve;
 use crate::misses_command::run_misses;
 use crate::replay_command::run_replay;
 use crate::request::Request;
 use crate::requests::read_request;
+use crate::totals_command::run_totals;
 use crate::trace_command::run_trace;
 use crate::wrong::Wrong;
 use command_shell::finish;
@@ -66,5 +68,7 @@ fn run_words<'a, R: Files + AllocGlobal, S: AsStr, O: Write, E: Write>(
         Request::Misses(request) => run_misses(rt, request, out, err),
         Request::Trace(request) => Ok(run_trace(rt, &request, out)?),
         Request::Replay(request) => run_replay(rt, &request, out, err),
+        Request::Curve(request) => run_curve(rt, &request, out, err),
+        Request::Totals(request) => run_totals(rt, &request, out, err),
     }
 }

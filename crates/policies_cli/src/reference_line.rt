@@ -23,6 +23,14 @@ pub(crate) fn page_of(line: &[u8]) -> Option<Key> {
     Some(Key { process, vpn })
 }
 
+/// Whether a `w` stands behind the page of a line.
+pub(crate) fn is_write(line: &[u8]) -> bool {
+    match next_word(line) {
+        Some((_, rest)) => next_word(rest).is_some(),
+        None => false,
+    }
+}
+
 /// Writes a reference as such a line.
 pub(crate) fn write_line<W: Write>(reference: Reference, out: &mut W) -> io::Result<()> {
     let page = reference.page;

@@ -3,21 +3,14 @@
 use crate::request::ReplayRequest;
 use crate::table::write_table;
 use crate::teller::Teller;
-use crate::trace_file::TraceFile;
+use crate::trace_file::{BLOCK, TraceFile, open_trace, read_whole};
 use crate::wrong::Wrong;
 use image_files::Fault;
 use miss_counts::{Counts, PolicySet, Progress, Row, Stage, rows_of};
 use page_policies::Frames;
 use std::alloc::Global;
-use std::fs;
-use std::io::{BufRead, BufReader, Write};
+use std::io::{BufRead, Write};
 use std::rt::Files;
-
-/// How many bytes of a trace are read at a time.
-const BYTES: usize = 1 << 16;
-
-/// How many references each policy plays before the next one does: so many that a policy's memory is at hand while it plays.
-const BLOCK: usize = 1 << 14;
 
 /// Plays a trace on each policy as it comes, and writes the table.
 pub(crate) fn run_replay<'a, R: Files + AllocGlobal, W: Write, E: Write>(
@@ -40,13 +33,7 @@ fn count_trace<'a, R: Files + AllocGlobal, P: Progress>(
     progress: &mut P,
 ) -> Result<Vec<Counts>, Wrong<'a>> {
     let alloc = rt.alloc();
-    let Ok(file) = fs::open(rt, request.trace) else {
-        return Err(Wrong::Fault(Fault::CannotRead(request.trace)));
-    };
-    let Ok(file) = BufReader::with_capacity(alloc, BYTES, file) else {
-        return Err(Wrong::Fault(Fault::NoMemory));
-    };
-    let mut trace = TraceFile::new(alloc, request.trace, request.format, file);
+    let mut trace = open_trace(rt, request.trace, request.format)?;
     if request.wanted.optimum {
         count_whole(alloc, &mut trace, request, progress)
     } else {
@@ -61,21 +48,7 @@ fn count_whole<'a, B: BufRead + Drop, P: Progress>(
     request: &ReplayRequest<'a>,
     progress: &mut P,
 ) -> Result<Vec<Counts>, Wrong<'a>> {
-    let mut string = Vec::new(alloc);
-    let mut block = Vec::new(alloc);
-    for _ in 0..u64::MAX {
-        trace.fill(&mut block, BLOCK)?;
-        if block.is_empty() {
-            break;
-        }
-        if string.extend_from_slice(block.as_slice()).is_err() {
-            return Err(Wrong::Fault(Fault::NoMemory));
-        }
-        progress.tell(Stage::References(string.len() as u64));
-    }
-    if string.is_empty() {
-        return Err(Wrong::Empty(request.trace));
-    }
+    let string = read_whole(alloc, trace, progress)?;
     Ok(rows_of(
         alloc,
         request.frames.as_slice(),

@@ -9,6 +9,8 @@ pub enum Request<'a> {
     Misses(MissesRequest<'a>),
     Trace(TraceRequest<'a>),
     Replay(ReplayRequest<'a>),
+    Curve(CurveRequest<'a>),
+    Totals(TotalsRequest<'a>),
 }
 
 /// Which guests run, and how.
@@ -60,6 +62,23 @@ pub struct ReplayRequest<'a> {
     /// How many references come before those whose misses are told.
     pub skip: u64,
     pub printing: Printing,
+    pub trace: &'a str,
+}
+
+/// Count what a trace misses under LRU with every number of frames.
+#[derive(Drop)]
+pub struct CurveRequest<'a> {
+    pub format: Format,
+    pub printing: Printing,
+    pub trace: &'a str,
+}
+
+/// Count a trace's references and pages.
+#[derive(Drop)]
+pub struct TotalsRequest<'a> {
+    pub format: Format,
+    /// Whether it is told on standard error how far the count is.
+    pub is_told: bool,
     pub trace: &'a str,
 }
 

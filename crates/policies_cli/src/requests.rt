@@ -4,7 +4,8 @@ use crate::commands::policies;
 use crate::frame_lists::{ListFault, frames_in};
 use crate::policy_names::{NAMES, USUAL, policies_in};
 use crate::request::{
-    Format, GuestRequest, MissesRequest, Printing, ReplayRequest, Request, TraceRequest,
+    CurveRequest, Format, GuestRequest, MissesRequest, Printing, ReplayRequest, Request,
+    TotalsRequest, TraceRequest,
 };
 use crate::wrong::Wrong;
 use clap::ArgMatches;
@@ -46,6 +47,8 @@ pub(crate) fn read_request<'a, S: AsStr>(
         Some(("misses", matches)) => Ok(Request::Misses(misses_request(alloc, matches)?)),
         Some(("trace", matches)) => Ok(Request::Trace(trace_request(alloc, matches)?)),
         Some(("replay", matches)) => Ok(Request::Replay(replay_request(alloc, matches)?)),
+        Some(("curve", matches)) => Ok(Request::Curve(curve_request(matches)?)),
+        Some(("totals", matches)) => Ok(Request::Totals(totals_request(matches)?)),
         _ => Err(Wrong::Fault(Fault::BadUsage)),
     }
 }
@@ -104,9 +107,7 @@ fn replay_request<'a>(
         ));
     }
     let format = format(matches)?;
-    let Some(trace) = matches.get_str("trace") else {
-        return Err(Wrong::Fault(Fault::BadUsage));
-    };
+    let trace = trace(matches)?;
     Ok(ReplayRequest {
         frames,
         format,
@@ -115,6 +116,30 @@ fn replay_request<'a>(
         printing: printing(matches),
         trace,
     })
+}
+
+fn curve_request<'a>(matches: &ArgMatches<'a>) -> Result<CurveRequest<'a>, Wrong<'a>> {
+    Ok(CurveRequest {
+        format: format(matches)?,
+        printing: printing(matches),
+        trace: trace(matches)?,
+    })
+}
+
+fn totals_request<'a>(matches: &ArgMatches<'a>) -> Result<TotalsRequest<'a>, Wrong<'a>> {
+    Ok(TotalsRequest {
+        format: format(matches)?,
+        is_told: is_given(matches, "progress"),
+        trace: trace(matches)?,
+    })
+}
+
+/// The name of the trace.
+fn trace<'a>(matches: &ArgMatches<'a>) -> Result<&'a str, Wrong<'a>> {
+    match matches.get_str("trace") {
+        Some(trace) => Ok(trace),
+        None => Err(Wrong::Fault(Fault::BadUsage)),
+    }
 }
 
 /// What `--skip` may be.

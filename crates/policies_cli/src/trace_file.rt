@@ -1,14 +1,23 @@
 //! Traces in files, read as they come.
 
 use crate::formats::{column_of_ids, page_of_csv, page_of_record};
-use crate::reference_line::page_of;
+use crate::reference_line::{is_write, page_of};
 use crate::request::Format;
 use crate::wrong::Wrong;
 use clock_policy::Key;
 use image_files::Fault;
+use miss_counts::{Progress, Stage};
 use std::alloc::{AllocError, Global};
-use std::io;
-use std::io::{BufRead, ErrorKind, Read};
+use std::io::{BufRead, BufReader, ErrorKind, Read};
+use std::rt::Files;
+use std::{fs, io};
+
+/// How many bytes of a trace are read at a time.
+const BYTES: usize = 1 << 16;
+
+/// How many references are read at a time, and each policy plays before the next one does: so many that a policy's memory is at hand
+/// while it plays.
+pub(crate) const BLOCK: usize = 1 << 14;
 
 /// How many bytes a record of the binary format has.
 const RECORD: usize = 24;
@@ -29,6 +38,8 @@ pub(crate) struct TraceFile<'a, B: BufRead> {
     count: u64,
     /// which column of a line has the id, counted from 0
     column: usize,
+    /// how many references say that they write
+    writes: u64,
 }
 
 impl<'a, B: BufRead + Drop> TraceFile<'a, B> {
@@ -41,7 +52,13 @@ impl<'a, B: BufRead + Drop> TraceFile<'a, B> {
             line: Vec::new(alloc),
             count: 0,
             column: 0,
+            writes: 0,
         }
+    }
+
+    /// How many references so far say that they write, which those of a text alone do.
+    pub(crate) fn writes(&self) -> u64 {
+        self.writes
     }
 
     /// Fills a block with the next pages, so many at most. At the end of the trace it is empty.
@@ -74,8 +91,11 @@ impl<'a, B: BufRead + Drop> TraceFile<'a, B> {
         let page = match self.format {
             Format::Text => page_of(line),
             Format::Csv => page_of_csv(line, self.column),
+            Format::OracleGeneral if self.count == 1 && is_text(line) => None,
             Format::OracleGeneral => page_of_record(line),
         };
+        let is_write = self.format == Format::Text && is_write(line);
+        self.writes = self.writes.saturating_add(u64::from(is_write));
         match page {
             Some(page) => Ok(Some(page)),
             None => Err(self.bad_line()),
@@ -99,6 +119,9 @@ impl<'a, B: BufRead + Drop> TraceFile<'a, B> {
     /// What is told of a line that is no reference: its number, and its first characters.
     fn bad_line(&self) -> Wrong<'a> {
         if self.format == Format::OracleGeneral {
+            if self.count == 1 && is_text(self.line.as_slice()) {
+                return Wrong::Text(self.name);
+            }
             return Wrong::Record(self.count, self.line.len());
         }
         match shown(self.alloc, self.line.as_slice()) {
@@ -140,6 +163,53 @@ impl<'a, B: BufRead + Drop> TraceFile<'a, B> {
             },
         }
     }
+}
+
+/// Opens a trace.
+pub(crate) fn open_trace<'a, R: Files + AllocGlobal>(
+    rt: &R,
+    name: &'a str,
+    format: Format,
+) -> Result<TraceFile<'a, BufReader<R::File>>, Wrong<'a>> {
+    let Ok(file) = fs::open(rt, name) else {
+        return Err(Wrong::Fault(Fault::CannotRead(name)));
+    };
+    match BufReader::with_capacity(rt.alloc(), BYTES, file) {
+        Ok(file) => Ok(TraceFile::new(rt.alloc(), name, format, file)),
+        Err(_) => Err(Wrong::Fault(Fault::NoMemory)),
+    }
+}
+
+/// All pages of a trace. One with none is a fault.
+pub(crate) fn read_whole<'a, B: BufRead + Drop, P: Progress>(
+    alloc: Global,
+    trace: &mut TraceFile<'a, B>,
+    progress: &mut P,
+) -> Result<Vec<Key>, Wrong<'a>> {
+    let mut string = Vec::new(alloc);
+    let mut block = Vec::new(alloc);
+    for _ in 0..u64::MAX {
+        trace.fill(&mut block, BLOCK)?;
+        if block.is_empty() {
+            break;
+        }
+        if string.extend_from_slice(block.as_slice()).is_err() {
+            return Err(Wrong::Fault(Fault::NoMemory));
+        }
+        progress.tell(Stage::References(string.len() as u64));
+    }
+    if string.is_empty() {
+        return Err(Wrong::Empty(trace.name));
+    }
+    Ok(string)
+}
+
+/// Whether the bytes of a record are characters of a text, all of them: as a record it would tell of a next use more than 2^56 references
+/// ahead.
+fn is_text(record: &[u8]) -> bool {
+    record
+        .iter()
+        .all(|byte| (32..127).contains(byte) || (9..14).contains(byte))
 }
 
 /// The first characters of a line; what can't be shown is a question mark.

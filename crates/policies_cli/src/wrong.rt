@@ -31,6 +31,9 @@ pub enum Wrong<'a> {
     /// A line, from 1 on, and what stands there.
     #[error("line {0}: bad line: {1}")]
     Line(u64, String),
+    /// A text where records were asked for.
+    #[error("{0}: it is a text, and no records of 24 bytes; --format text or csv reads one")]
+    Text(&'a str),
     #[error("record {0}: bad record: {1} bytes of 24")]
     Record(u64, usize),
 }

@@ -17,9 +17,6 @@ const names = ["zero", "ra", "sp", "gp", "tp", "t0", "t1", "t2", "s0", "s1", "a0
 const none = "\u2013";
 const root = 0x200000;    // the physical page of the first page table; table k stands k pages behind it
 const ran = new Set(["ran", "yield", "hart done", "ended"]);
-const afterCleaning = { cleaning: "cleaning", copied: "copied", stored: "changed", device: "changed", "no slot": "changed", clean: "" };
-const cleaningWords = { cleaning: ", being cleaned", copied: ", a copy is out" };
-const cleanings = trackCleanings(scenes);    // of each scene, what is known of pages that were cleaned
 const asked = { hits: 0, misses: 0 };
 let at = 0;
 
@@ -54,41 +51,6 @@ function unfoldProcess(process, before) {
     return { ...old, ...hart, x };
   });
   return { end: process.end, harts, tables: (process.tables || []).map((table, k) => table || before.tables[k]) };
-}
-
-// Of each scene the pages of which a cleaning has begun, by their keys: `cleaning`, `copied` while a copy is out, or `changed` where it ended with no
-// clean page, which counts as changed then whatever its dirty bit. No reader of the machine tells it: it is read off the events and the replies.
-function trackCleanings(all) {
-  let known = new Map();
-  return all.map(scene => {
-    const next = new Map(known);
-    trackCleaning(scene, next);
-    known = next;
-    return next;
-  });
-}
-
-function trackCleaning({ event, reply }, known) {
-  const named = /^(clean|copy|cleaned|collect|saved) (\d+) (\d+)$/.exec(event || "");
-  const key = named ? named[2] + "/" + named[3] : "";
-  const victim = /^victim (\d+\/\d+)$/.exec(reply || "");
-  if (victim) endsCleaning(victim[1], known);
-  else if (reply === "freed") known.delete(key);
-  else if (named && named[1].startsWith("c") && named[1] !== "collect" && reply in afterCleaning) {
-    if (afterCleaning[reply]) known.set(key, afterCleaning[reply]);
-    else known.delete(key);
-  } else if (["ended", "killed", "purged"].includes(reply)) {
-    const process = event.split(" ")[1];
-    for (const page of [...known.keys()].filter(page => page.startsWith(process + "/"))) {
-      if (reply === "purged") known.delete(page);
-      else endsCleaning(page, known);
-    }
-  }
-}
-
-// A cleaning that has no copy ends; one whose copy is out goes on.
-function endsCleaning(key, known) {
-  if (known.get(key) === "cleaning") known.set(key, "changed");
 }
 
 function text(bytes) {
@@ -130,7 +92,6 @@ function holders(scene, key) {
 // Where the film itself tells whether the page counts as changed, that is taken.
 function leavesDirty(scene, [key, , , , , changed]) {
   if (changed !== undefined) return changed;
-  if (cleanings[scenes.indexOf(scene)].has(key)) return true;
   for (let k = scenes.indexOf(scene) - 1; k >= 0; k--) {
     const row = scenes[k].pages.find(([name]) => name === key);
     if (row && row[1] === "resident") return row[4];
@@ -140,17 +101,18 @@ function leavesDirty(scene, [key, , , , , changed]) {
 
 // What the table says of a page: where it is, its frame, its two bits, and who has cached it.
 function cells(scene, row) {
-  const [key, state, frame, accessed, dirty] = row;
+  const [key, state, frame, accessed, dirty, changed] = row;
   if (!state) return ["not mapped", none, none, none, ...(translates ? [none] : [])];
   const known = accessed !== null;
   const left = state === "leaving" || state === "saving" ? leavesDirty(scene, row) : undefined;
-  return [signs[state] + " " + state + cleaningOf(scene, key), frame === null ? none : String(frame), known ? yes(accessed) : none,
-    known ? yes(dirty) + (!dirty && cleanings[scenes.indexOf(scene)].has(key) ? ", but changed" : "") : left === undefined ? none : left ? "to be saved" : "unchanged",
+  return [stateOf(row), frame === null ? none : String(frame), known ? yes(accessed) : none,
+    known ? yes(dirty) + (changed && !dirty ? ", but changed" : "") : left === undefined ? none : left ? "to be saved" : "unchanged",
     ...(translates ? [holders(scene, key).join(", ") || none] : [])];
 }
 
-function cleaningOf(scene, key) {
-  return cleaningWords[cleanings[scenes.indexOf(scene)].get(key)] || "";
+// Where a page is, and how far its cleaning is, if one has begun.
+function stateOf([, state, , , , , cleaning]) {
+  return signs[state] + " " + state + (cleaning ? ", " + cleaning : "");
 }
 
 function showFrames(scene) {
@@ -166,7 +128,7 @@ function showFrames(scene) {
     }
     const [key, state, , accessed, dirty] = row;
     const bits = accessed === null ? (leavesDirty(scene, row) ? " (D)" : "") : " " + (accessed ? "A" : "") + (dirty ? "D" : "");
-    items.push(make("li", { class: state }, label, make("span", { class: "page code" }, pageName(key)), bits, make("br"), signs[state] + " " + state + cleaningOf(scene, key)));
+    items.push(make("li", { class: state }, label, make("span", { class: "page code" }, pageName(key)), bits, make("br"), stateOf(row)));
   }
   by("frames").replaceChildren(...items);
 }

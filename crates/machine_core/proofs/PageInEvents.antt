@@ -84,7 +84,7 @@ module _ {S : Type 0} where
           admits = taken.admits;
           why = why;
           absent = λ same. refused_absent held honest failures taken.admission.frame key.vpn taken.back.frame q.space.memory q'.space.memory taken.fault why there.absent same;
-          tables = taken.fails.unmapped;
+          unmapped = taken.fails.unmapped;
           rest = taken.fails.rest;
           purged = taken.purged;
           withdraws =

@@ -137,7 +137,7 @@ module _ {S : Type 0} where
       small = (unbarred key core.pager.pager q.space goes.admits.allowed).there.small
 
       goes_alike : CountsAlike q.space.memory q'.space.memory
-      goes_alike = refused_alike held honest q.space.memory q'.space.memory goes.rest.process goes.tables key.vpn small failures goes.admission.frame goes.back goes.fault goes.why
+      goes_alike = refused_alike held honest q.space.memory q'.space.memory goes.rest.process goes.unmapped key.vpn small failures goes.admission.frame goes.back goes.fault goes.why
 
       number_same : goes.back.number ≡ goes.admission.frame.number
       number_same = refused_number held honest failures goes.admission.frame key.vpn goes.back q.space.memory q'.space.memory goes.fault goes.why

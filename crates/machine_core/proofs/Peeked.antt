@@ -11,4 +11,4 @@ module _ {S : Type 0} (held : S → List ℕ) (honest : Type 0) where
   pub peek_alike : (failures : S → ℕ) (address : ℕ) → address < 2 ^ 32 → (room bytes : List (Option ℕ)) (result : Result (Unit {0}) PeekFault) (q q' : ProcessSideValue S) → Peeks held honest failures address room bytes result q q'
       → CountsAlike q.space.memory q'.space.memory
   peek_alike failures address small room bytes result q q' how =
-      looked_alike held honest address q.space.memory q'.space.memory small (ap (λ (p : ProcessSideValue S). p.space.memory.process) how.stays) (ap (λ (p : ProcessSideValue S). p.space.memory.tables) how.stays) how.left
+      looked_alike held honest address q.space.memory q'.space.memory small (ap (λ (p : ProcessSideValue S). p.space.memory) how.stays) how.left

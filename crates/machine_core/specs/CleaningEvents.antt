@@ -36,6 +36,16 @@ abbrev pub copy_barred : CopyBar → EventRefusal
 copy_barred copy.Ended = refusal.Ended
 copy_barred copy.NotCleaning = refusal.NotCleaning
 
+-- no copy of the page is out
+abbrev pub unless_out : Option ℕ → Option EventRefusal
+unless_out (Some place) = None
+unless_out None = Some refusal.NotCopied
+
+-- what the beginning of a cleaning is replied with
+abbrev pub clean_reply : Result (Unit {0}) CleanBar → Reply
+clean_reply (Ok done) = reply.Cleaning
+clean_reply (Err why) = reply.Refused (clean_barred why)
+
 module _ {S : Type 0} where
   -- ---- why each is refused
 
@@ -50,11 +60,6 @@ module _ {S : Type 0} where
 
   abbrev pub copy_refusal : Key → List (ProcessSideValue S) → Option EventRefusal
   copy_refusal key processes = of_process (copy_reason key.vpn) (slice_get processes key.process)
-
-  -- no copy of the page is out
-  abbrev pub unless_out : Option ℕ → Option EventRefusal
-  unless_out (Some place) = None
-  unless_out None = Some refusal.NotCopied
 
   abbrev pub cleaned_refusal : Key → CoreValue S → Option EventRefusal
   cleaned_refusal key core = of_process (λ process. unless_out (position (is_save_of key) core.copies)) (slice_get core.processes key.process)
@@ -132,10 +137,6 @@ module _ {S : Type 0} where
     pub err : OnErr result (process' ≡ process)
     pub memory : memory_of held process'.space.memory ≡ memory_of held process.space.memory
     pub is : new ≡ slice_set old number process'
-
-  abbrev pub clean_reply : Result (Unit {0}) CleanBar → Reply
-  clean_reply (Ok done) = reply.Cleaning
-  clean_reply (Err why) = reply.Refused (clean_barred why)
 
   -- a copy is asked for in the process of this number
   abbrev pub IfCopies : ℕ → ProcessSideValue S → ProcessSideValue S → PoolValue S → PoolValue S → Result (Copying S) CopyBar → Type 0

@@ -77,7 +77,7 @@ module _ {S : Type 0} where
       pub admits : Admits key pager between process.space admission
       pub why : RefusesIn held honest failures admission.frame key.vpn back fault process.space.memory process'.space.memory
       pub absent : fault ≢ load.NotAbsent
-      pub tables : SameEntries process.space.memory process'.space.memory
+      pub unmapped : SameEntries process.space.memory process'.space.memory
       pub rest : KeepsRest held honest process.space process'.space
       pub purged : process'.purged ≡ process.purged
       pub withdraws : pager' ≡ record between {

@@ -18,7 +18,7 @@ use Rattle.paged_memory.specs.Calls.{ChangesBy}
 use Rattle.paged_memory.specs.Counting.{is_resident_place, is_saving_place, frame_passes, is_kept}
 use Rattle.paged_memory.specs.Filling.{BroughtIn, StaysAbsent}
 use Rattle.paged_memory.specs.MoveLaws.{KeepsOthers, moved_keeps, stage_before, stage_after, frame_before, frame_after, moved_stay, moved_residents, moved_savings, moved_frames, moved_slots}
-use Rattle.paged_memory.specs.Moving.{ComesIn, RefusesIn, LeavesLookedAt}
+use Rattle.paged_memory.specs.Moving.{ComesIn, RefusesIn, LeavesLookedAt, OnlyPages}
 use Rattle.paged_memory.specs.Paged.{PagedValue, page_at}
 use Rattle.paged_memory.specs.Peeking.{LeavesPlace, LeavesPage}
 use Rattle.paged_memory.specs.Stages.{is_absent_stage}
@@ -239,5 +239,5 @@ module _ {S : Type 0} where
           by_place Purged left = same_tables old new process left tables
 
     -- a page that is looked at
-    pub looked_alike : (address : ℕ) (old new : PagedValue S) → address < 2 ^ 32 → new.process ≡ old.process → new.tables ≡ old.tables → LeavesLookedAt held honest address old new → CountsAlike old new
-    looked_alike address old new small process tables left = left_alike old new process tables (page_number address) (omega (arith, small)) (page_at old.pages (page_number address)) left
+    pub looked_alike : (address : ℕ) (old new : PagedValue S) → address < 2 ^ 32 → OnlyPages old new → LeavesLookedAt held honest address old new → CountsAlike old new
+    looked_alike address old new small stays left = left_alike old new (ap (λ (m : PagedValue S). m.process) stays) (ap (λ (m : PagedValue S). m.tables) stays) (page_number address) (omega (arith, small)) (page_at old.pages (page_number address)) left

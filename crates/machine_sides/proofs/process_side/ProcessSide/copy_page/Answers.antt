@@ -1,5 +1,5 @@
 -- A free slot is at hand while the page is copied.
-use Rattle.std.proofs.Common.{◌≡◌, None, IsNone, sym, ap, ◌∙◌, subst}
+use Rattle.std.proofs.Common.{◌≡◌, None, IsNone, refl, sym, ap, ◌∙◌, arith, subst}
 use Rattle.machine_sides.specs.Sides.{ProcessSideValue}
 use Rattle.machine_sides.proofs.SpareSlots.{page_copied}
 use Rattle.machine_sides.proofs.process_side.ProcessSide.copy_page.Goals as goal
@@ -8,5 +8,5 @@ pub returns-clause-copied : goal.returns-clause-copied
 returns-clause-copied g c =
     let live : c.self.inside.space.running.ending ≡ None = ap (λ (p : ProcessSideValue _). p.space.running.ending) c.self.view_is ∙ c.requires.live in
     page_copied c.args.vpn c.self.inside.purged c.args.self.now c.self.inside.space c.copy_clean-copied.new.self c.args.slots.now c.take-spare.new.self c.put_back.new.slots c.take-spare.result c.copy_clean-copied.new.spare c.copy_clean-copied.result c.self.view_is c.requires.small
-    (c.copy_clean-copied.ensures.answer (subst IsNone (sym live) tt)) c.copy_clean-copied.ensures.copies c.copy_clean-copied.ensures.same c.copy_clean-copied.ensures.stays
-    c.len.ensures.within c.take-spare.ensures.empty c.take-spare.ensures.taken c.take-spare.ensures.none c.take-spare.ensures.size c.put_back.ensures
+    (c.copy_clean-copied.ensures.answer (subst IsNone (sym live) refl)) c.copy_clean-copied.ensures.copies c.copy_clean-copied.ensures.same c.copy_clean-copied.ensures.stays
+    (let count = c.len.ensures.free in let within = c.len.ensures.within in omega (arith, count, within)) c.take-spare.ensures.empty c.take-spare.ensures.taken c.take-spare.ensures.none c.take-spare.ensures.size c.put_back.ensures

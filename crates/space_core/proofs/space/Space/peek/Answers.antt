@@ -1,4 +1,4 @@
-use Rattle.std.proofs.Common.{◌≡◌, ◌<◌, ◌^◌, Some, ap, subst, arith}
+use Rattle.std.proofs.Common.{◌≡◌, ◌<◌, ◌^◌, Some, subst, arith}
 use Rattle.std.specs.Prelude.{OnOk, length}
 use Rattle.page_memory.specs.Words.{page_number}
 use Rattle.flat_machine.specs.Process.{Process, flat_run, opening}
@@ -7,7 +7,6 @@ use Rattle.paged_memory.specs.Peeking.{bytes_of}
 use Rattle.paged_memory.specs.ShowingLaws.{peeked_given_up}
 use Rattle.paged_memory.specs.Copies.{LeavesCopies}
 use Rattle.paged_memory.specs.ComeLaws.{looked_alike}
-use Rattle.paged_memory.specs.Paged.{PagedValue}
 use Rattle.space_core.specs.StandsFor.{SpaceValue}
 use Rattle.space_core.proofs.PagingSpaces.{bytes_flat}
 use Rattle.space_core.proofs.Spaces.{pages_moved}
@@ -30,4 +29,4 @@ returns-clause-flat g c is_honest =
 pub returns-clause-copies : goal.returns-clause-copies
 returns-clause-copies g c =
     subst (λ (v : SpaceValue g.row.S.Denot). LeavesCopies v.memory c.peek.new.self) c.self.view_is
-    ((looked_alike g.S.SwapSlot.content g.S.SwapSlot.honest c.args.address c.self.inside.memory c.peek.new.self (omega arith) (ap (λ (m : PagedValue g.row.S.Denot). m.process) c.peek.ensures.stays) (ap (λ (m : PagedValue g.row.S.Denot). m.tables) c.peek.ensures.stays) c.peek.ensures.left).copies)
+    ((looked_alike g.S.SwapSlot.content g.S.SwapSlot.honest c.args.address c.self.inside.memory c.peek.new.self (omega arith) c.peek.ensures.stays c.peek.ensures.left).copies)

@@ -1,5 +1,5 @@
 -- The machine stays one where a copy of a page is asked for, and what that comes to.
-use Rattle.std.proofs.Common.{◌≡◌, ◌⊎◌, ℕ, ◌+◌, ◌<◌, ◌^◌, Bool, true, false, cond, take, drop, List, [], ◌∷◌, ◌++◌, length, length-append, Option, Some, None, Result, Ok, Err, option_map, is_some, nat_lt, slice_get, inl, inr, refl, sym, ap, ◌∙◌, arith, subst}
+use Rattle.std.proofs.Common.{◌≡◌, ◌⊎◌, ℕ, ◌+◌, ◌<◌, ◌≤◌, ◌^◌, Bool, true, false, cond, take, drop, List, [], ◌∷◌, ◌++◌, length, length-append, Option, Some, None, Result, Ok, Err, option_map, is_some, nat_lt, slice_get, inl, inr, refl, sym, ap, ◌∙◌, arith, subst}
 use Rattle.std.specs.Prelude.{slice_set, All, IfOk, if◌then◌else◌}
 use Rattle.std.proofs.lemmas.List.{length-set}
 use Rattle.std.proofs.lemmas.List.Elements.{All-nil, All-cons, All-append}
@@ -131,6 +131,14 @@ module _ {S : Type 0} where
         by_result : (r : Result (Copying S) CopyBar) → refused_of r ≡ copy_bars at.process.space key.vpn → IfOk r (λ _. length copies < pager.pager.size)
         by_result (Ok answer) barred = let page = unbarred at.process key.vpn barred in copy_fits core key.process at.process key.vpn machine found_at page.0 page.1
         by_result (Err why) barred = tt
+
+    -- as many as there is room for
+    pub copy_fits_in : (count capacity : ℕ) → count ≡ length copies → pager.pager.size ≤ capacity → IfOk result (λ _. count < capacity)
+    copy_fits_in count capacity counted wide = by_result result copy_room
+      where
+        by_result : (r : Result (Copying S) CopyBar) → IfOk r (λ _. length copies < pager.pager.size) → IfOk r (λ _. count < capacity)
+        by_result (Ok answer) fits = omega (arith, counted, wide, fits)
+        by_result (Err why) fits = tt
 
     left_is : copies' ≡ copies_after result copies → record core { slots = slots'; processes = slice_set items key.process at.process'; copies = copies_after result copies } ≡ left
     left_is kept = ap (λ l. record core { slots = slots'; processes = l; copies = copies_after result copies }) is_set ∙ ap (λ l. record left { copies = l }) (sym kept)

@@ -150,7 +150,7 @@ module _ {S : Type 0} (held : S → List ℕ) (honest : Type 0) (failures : S �
       → (Runs held honest failures (steps_of p hart count (option_map step_reply last)) (replies_of count (option_map step_reply last)) (record { pager = pager; slots = slots; processes = items; jobs = jobs; copies = copies })
       (record { pager = pager; slots = slots; processes = take n (new ++ drop (length new) items); jobs = jobs; copies = copies }))
       × IsFaithful held honest (record { pager = pager; slots = slots; processes = take n (new ++ drop (length new) items); jobs = jobs; copies = copies })
-  many_back pager slots jobs items lent new n count last allowed faithful long same one =
+  many_back pager slots jobs copies items lent new n count last allowed faithful long same one =
       let core : CoreValue S = record { pager = pager; slots = slots; processes = items; jobs = jobs; copies = copies } in
       let found : slice_get items p ≡ Some one.process = ap (λ l. slice_get l p) (sym same) ∙ one.found in
       let is : new ≡ slice_set items p one.process' = one.is ∙ ap (λ l. slice_set l p one.process') same in
@@ -167,9 +167,9 @@ module _ {S : Type 0} (held : S → List ℕ) (honest : Type 0) (failures : S �
       → None ≡ hart_refusal p hart items → IsFaithful held honest old → n ≡ length items → lent ≡ items → ChangesOne (SlicesMany held honest hart count last) p lent new
       → (Runs held honest failures (steps_of p hart count reply) (replies_of count reply) old (record { pager = pager; slots = slots; processes = take n (new ++ drop (length new) items); jobs = jobs; copies = copies }))
       × IsFaithful held honest (record { pager = pager; slots = slots; processes = take n (new ++ drop (length new) items); jobs = jobs; copies = copies })
-  many_told pager slots jobs items lent new n count last reply old seen told allowed faithful long same one =
+  many_told pager slots jobs copies items lent new n count last reply old seen told allowed faithful long same one =
       let left : CoreValue S = record { pager = pager; slots = slots; processes = take n (new ++ drop (length new) items); jobs = jobs; copies = copies } in
-      let back = many_back pager slots jobs items lent new n count last allowed (subst (IsFaithful held honest) (sym seen) faithful) long same one in (
+      let back = many_back pager slots jobs copies items lent new n count last allowed (subst (IsFaithful held honest) (sym seen) faithful) long same one in (
         subst (λ l. Runs held honest failures (steps_of p hart count l) (replies_of count l) old left) (sym told)
             (subst (λ k. Runs held honest failures (steps_of p hart count (option_map step_reply last)) (replies_of count (option_map step_reply last)) k left) seen back.0),
         back.1,

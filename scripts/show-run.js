@@ -101,13 +101,18 @@ function leavesDirty(scene, [key, , , , , changed]) {
 
 // What the table says of a page: where it is, its frame, its two bits, and who has cached it.
 function cells(scene, row) {
-  const [key, state, frame, accessed, dirty] = row;
+  const [key, state, frame, accessed, dirty, changed] = row;
   if (!state) return ["not mapped", none, none, none, ...(translates ? [none] : [])];
   const known = accessed !== null;
   const left = state === "leaving" || state === "saving" ? leavesDirty(scene, row) : undefined;
-  return [signs[state] + " " + state, frame === null ? none : String(frame), known ? yes(accessed) : none,
-    known ? yes(dirty) : left === undefined ? none : left ? "to be saved" : "unchanged",
+  return [stateOf(row), frame === null ? none : String(frame), known ? yes(accessed) : none,
+    known ? yes(dirty) + (changed && !dirty ? ", but changed" : "") : left === undefined ? none : left ? "to be saved" : "unchanged",
     ...(translates ? [holders(scene, key).join(", ") || none] : [])];
+}
+
+// Where a page is, and how far its cleaning is, if one has begun.
+function stateOf([, state, , , , , cleaning]) {
+  return signs[state] + " " + state + (cleaning ? ", " + cleaning : "");
 }
 
 function showFrames(scene) {
@@ -123,7 +128,7 @@ function showFrames(scene) {
     }
     const [key, state, , accessed, dirty] = row;
     const bits = accessed === null ? (leavesDirty(scene, row) ? " (D)" : "") : " " + (accessed ? "A" : "") + (dirty ? "D" : "");
-    items.push(make("li", { class: state }, label, make("span", { class: "page code" }, pageName(key)), bits, make("br"), signs[state] + " " + state));
+    items.push(make("li", { class: state }, label, make("span", { class: "page code" }, pageName(key)), bits, make("br"), stateOf(row)));
   }
   by("frames").replaceChildren(...items);
 }
@@ -269,7 +274,7 @@ function showAbout(scene, before) {
     const hart = process && process.harts[step[2]];
     if (hart) parts.push((ran.has(scene.reply) ? "It ran " : "It is at "), instruction(Number(step[1]), hart));
   }
-  const named = /^(?:pagein|collect|saved) (\d+) (\d+)$/.exec(scene.event || "");
+  const named = /^(?:pagein|collect|saved|clean|copy|cleaned) (\d+) (\d+)$/.exec(scene.event || "");
   if (named) parts.push("Page " + named[1] + "/" + hex(Number(named[2])) + ".");
   const absent = /^absent (\d+)$/.exec(scene.reply || "");
   if (absent) parts.push((hasHarts ? ", and needs page " : "It needs page ") + hex(Number(absent[1])) + ".");

@@ -1,9 +1,9 @@
 //! The lines of a drive script.
 
 use clock_policy::Key;
-use event_scripts::{event_on_line, read_drive_script};
+use event_scripts::{ReplyLine, event_on_line, read_drive_script};
 use flat_machine::KillCause;
-use machine_core::Event;
+use machine_core::{Event, EventRefusal, Reply};
 use std::test::Fail;
 use text_lines::BadLine;
 
@@ -14,7 +14,7 @@ const KEY: Key = Key {
 };
 
 /// Lines of every event, with numbers in all forms.
-const LINES: [(&str, Event); 8] = [
+const LINES: [(&str, Event); 11] = [
     (
         "step 0 1",
         Event::Step {
@@ -41,6 +41,9 @@ const LINES: [(&str, Event); 8] = [
         },
     ),
     ("purge 0xFFFFFFFF", Event::Purge { process: u32::MAX }),
+    ("clean 0 16", Event::Clean(KEY)),
+    ("copy\t0x0 0x10", Event::Copy(KEY)),
+    ("cleaned 0 16", Event::Cleaned(KEY)),
 ];
 
 #[test]
@@ -49,7 +52,7 @@ fn lines_are_events(rt: HostRuntime) {
         assert_eq!(rt; event_on_line(line.as_bytes()), Ok(Some(event)), "{line}");
     }
     assert_eq!(rt; event_on_line(b"#sweep".as_slice()), Ok(None));
-    for line in ["kill 0 7", "step 4294967296 0"] {
+    for line in ["kill 0 7", "step 4294967296 0", "clean 0", "copied 0 16"] {
         assert_eq!(rt; event_on_line(line.as_bytes()), Err(BadLine), "{line}");
     }
 }
@@ -71,5 +74,24 @@ fn a_script_ends_with_its_last_line(rt: HostRuntime) -> Result<(), Fail> {
     let script = read_drive_script(rt.alloc(), b"sweep\n".as_slice())?;
     assert_eq!(rt; script.events.len(), 1);
     assert_eq!(rt; script.bad_line, None);
+    Ok(())
+}
+
+#[test]
+fn replies_to_cleaning_are_lines(rt: HostRuntime) -> Result<(), Fail> {
+    for (reply, line) in [
+        (Reply::Cleaning, "cleaning"),
+        (Reply::Stored, "stored"),
+        (Reply::Copied, "copied"),
+        (Reply::Cleaned, "clean"),
+        (Reply::Refused(EventRefusal::NotResident), "refused 13"),
+        (Reply::Refused(EventRefusal::NotChanged), "refused 14"),
+        (Reply::Refused(EventRefusal::AlreadyCleaning), "refused 15"),
+        (Reply::Refused(EventRefusal::NotCleaning), "refused 16"),
+        (Reply::Refused(EventRefusal::NotCopied), "refused 17"),
+    ] {
+        let told = format!(in rt.alloc(); "{}", ReplyLine(reply))?;
+        assert_eq!(rt; told.as_str(), line);
+    }
     Ok(())
 }

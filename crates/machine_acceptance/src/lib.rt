@@ -3,6 +3,8 @@
 #![tactic(auto)]
 
 #[cfg(test)]
+mod cleaning;
+#[cfg(test)]
 mod event_lines;
 #[cfg(test)]
 mod failing;

@@ -17,7 +17,7 @@ use wandering_guest::{Random, WANDERS};
 
 const PROCESSES: u32 = 3;
 
-const EVENTS: u32 = 10_000;
+const EVENTS: u32 = 40_000;
 
 /// Any page of any process, and some that are not there.
 fn any_key(random: &mut Random) -> Key {
@@ -33,11 +33,16 @@ struct Told {
     absent: Key,
     victim: Key,
     dirty: Key,
+    mapped: Key,
+    cleaning: Key,
+    copied: Key,
     /// The step that ran just now.
     goes_on: Option<Event>,
     ran: u32,
     freed: u32,
     saved: u32,
+    cleaned: u32,
+    stored: u32,
     refused: u32,
 }
 
@@ -55,7 +60,7 @@ impl Told {
             self.absent.process
         };
         let hart = random.below(3);
-        match random.below(64) {
+        match random.below(80) {
             0..=29 => Event::Step { process, hart },
             30..=33 => Event::Notice { process, hart },
             34..=39 => Event::Sweep,
@@ -65,11 +70,28 @@ impl Told {
             52 => Event::Saved(any_key(random)),
             53..=61 => Event::PageIn(self.absent),
             62 => Event::PageIn(any_key(random)),
+            63..=78 => self.cleaning_event(random),
             _ if process < PROCESSES => Event::Purge { process },
             // No process is killed, so that each can be looked at in the end.
             _ => Event::Kill {
                 process,
                 cause: KillCause::Limit,
+            },
+        }
+    }
+
+    /// An event of a page that is cleaned: mostly of the one that was told of last.
+    fn cleaning_event(&self, random: &mut Random) -> Event {
+        match random.below(16) {
+            0..=1 => Event::Clean(any_key(random)),
+            2..=5 => Event::Clean(self.mapped),
+            6 => Event::Copy(any_key(random)),
+            7..=9 => Event::Copy(self.cleaning),
+            10 => Event::Cleaned(any_key(random)),
+            11..=13 => Event::Cleaned(self.copied),
+            _ => Event::Notice {
+                process: self.cleaning.process,
+                hart: random.below(2),
             },
         }
     }
@@ -84,8 +106,13 @@ impl Told {
             }
             Reply::Absent(vpn) => self.miss(event, vpn),
             Reply::Victim(key) => self.victim = key,
-            Reply::Dirty => self.copied(event),
+            Reply::Dirty => self.is_to_be_saved(event),
             Reply::Freed => self.free(event),
+            Reply::Mapped => self.is_mapped(event),
+            Reply::Cleaning => self.is_cleaning(event),
+            Reply::Copied => self.is_copied(event),
+            Reply::Cleaned => self.cleaned = self.cleaned.saturating_add(1),
+            Reply::Stored => self.stored = self.stored.saturating_add(1),
             Reply::Refused(_) => self.refused = self.refused.saturating_add(1),
             _ => {}
         }
@@ -97,9 +124,27 @@ impl Told {
         }
     }
 
-    fn copied(&mut self, event: Event) {
+    fn is_to_be_saved(&mut self, event: Event) {
         if let Event::Collect(key) = event {
             self.dirty = key;
+        }
+    }
+
+    fn is_mapped(&mut self, event: Event) {
+        if let Event::PageIn(key) = event {
+            self.mapped = key;
+        }
+    }
+
+    fn is_cleaning(&mut self, event: Event) {
+        if let Event::Clean(key) = event {
+            self.cleaning = key;
+        }
+    }
+
+    fn is_copied(&mut self, event: Event) {
+        if let Event::Copy(key) = event {
+            self.copied = key;
         }
     }
 
@@ -201,10 +246,15 @@ fn wanders_from<L: Ledger>(
         absent: nowhere,
         victim: nowhere,
         dirty: nowhere,
+        mapped: nowhere,
+        cleaning: nowhere,
+        copied: nowhere,
         goes_on: None,
         ran: 0,
         freed: 0,
         saved: 0,
+        cleaned: 0,
+        stored: 0,
         refused: 0,
     };
     let mut random = Random::new(seed);
@@ -216,6 +266,12 @@ fn wanders_from<L: Ledger>(
     assert!(rt; told.ran > 500, "{} steps", told.ran);
     assert!(rt; told.freed > 10, "{} drops", told.freed);
     assert!(rt; told.saved > 10, "{} saves", told.saved);
+    assert!(rt; told.cleaned > 10, "{} pages cleaned", told.cleaned);
+    assert!(rt;
+        told.stored > 0,
+        "{} cleanings that a store ended",
+        told.stored
+    );
     assert!(rt; told.refused > 1000, "{} refusals", told.refused);
     for process in 0..PROCESSES {
         let stands = stands_for_its_run(alloc, &mut core, process)?;

@@ -1,1 +1,2 @@
+pub mod CleaningWords
 pub mod Passed

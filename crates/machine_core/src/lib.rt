@@ -28,8 +28,9 @@ pub use error::{CoreError, EventRefusal};
 pub use event::{Event, Reply};
 pub use machine::Core;
 pub use machine_sides::{
-    Admission, CleanBar, CopyBar, Copying, Looked, NotAdmitted, PagerSide, ProcessSide, PurgeRefusal, Purging, SaveFailure,
-    SaveOutcome, SideCounts, Swept, admit, collect, purge, saved, sweep, undo,
+    Admission, CleanBar, CopyBar, Copying, Looked, NotAdmitted, PagerSide, ProcessSide,
+    PurgeRefusal, Purging, SaveFailure, SaveOutcome, SideCounts, Swept, admit, collect, purge,
+    saved, sweep, undo,
 };
 pub use many_steps::Steps;
 pub use report::{ProcessReport, Report};

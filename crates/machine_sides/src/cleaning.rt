@@ -70,11 +70,7 @@ impl<L: Ledger, S: SwapSlot> ProcessSide<L, S> {
 
     /// Copies a page that is being cleaned, if it may be; see [`space_core::Space::copy_clean`]. A slot is taken from the free
     /// ones only for a page that has none. A refusal changes nothing.
-    pub fn copy_clean(
-        &mut self,
-        vpn: u32,
-        slots: &mut SlotPool<S>,
-    ) -> Result<Copying<S>, CopyBar>
+    pub fn copy_clean(&mut self, vpn: u32, slots: &mut SlotPool<S>) -> Result<Copying<S>, CopyBar>
         ensures copies { IfOk result (Copies vpn self.old self.new slots.old slots.new) }
         ensures barred { refused_of result ≡ copy_bars self.old.space vpn }
         ensures err { OnErr result (self.new ≡ self.old) }

@@ -21,7 +21,7 @@ mod starting;
 mod sweeping;
 
 pub use admission::{Admission, NotAdmitted, admit, undo};
-pub use cleaning::{CleanBar, Copying, CopyBar};
+pub use cleaning::{CleanBar, CopyBar, Copying};
 pub use collecting::{Looked, collect};
 pub use counting::{entries_of_resident_pages, is_in_frame, resident_entries};
 pub use pager_side::{PagerSide, SideCounts};

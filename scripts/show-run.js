@@ -88,25 +88,14 @@ function holders(scene, key) {
     .map(entry => "hart " + number + (entry[4] ? " (doomed)" : "")));
 }
 
-// What the dirty bit was of a page that is leaving, when it was last seen in its frame and mapped: by it the page will be saved or dropped.
-// Where the film itself tells whether the page counts as changed, that is taken.
-function leavesDirty(scene, [key, , , , , changed]) {
-  if (changed !== undefined) return changed;
-  for (let k = scenes.indexOf(scene) - 1; k >= 0; k--) {
-    const row = scenes[k].pages.find(([name]) => name === key);
-    if (row && row[1] === "resident") return row[4];
-  }
-  return undefined;
-}
-
 // What the table says of a page: where it is, its frame, its two bits, and who has cached it.
 function cells(scene, row) {
   const [key, state, frame, accessed, dirty, changed] = row;
   if (!state) return ["not mapped", none, none, none, ...(translates ? [none] : [])];
   const known = accessed !== null;
-  const left = state === "leaving" || state === "saving" ? leavesDirty(scene, row) : undefined;
+  const leaves = state === "leaving" || state === "saving";
   return [stateOf(row), frame === null ? none : String(frame), known ? yes(accessed) : none,
-    known ? yes(dirty) + (changed && !dirty ? ", but changed" : "") : left === undefined ? none : left ? "to be saved" : "unchanged",
+    known ? yes(dirty) + (changed && !dirty ? ", but changed" : "") : !leaves ? none : changed ? "to be saved" : "unchanged",
     ...(translates ? [holders(scene, key).join(", ") || none] : [])];
 }
 
@@ -126,8 +115,8 @@ function showFrames(scene) {
       items.push(make("li", { class: "free" }, label, "free"));
       continue;
     }
-    const [key, state, , accessed, dirty] = row;
-    const bits = accessed === null ? (leavesDirty(scene, row) ? " (D)" : "") : " " + (accessed ? "A" : "") + (dirty ? "D" : "");
+    const [key, state, , accessed, dirty, changed] = row;
+    const bits = accessed === null ? (changed ? " (D)" : "") : " " + (accessed ? "A" : "") + (dirty ? "D" : "");
     items.push(make("li", { class: state }, label, make("span", { class: "page code" }, pageName(key)), bits, make("br"), stateOf(row)));
   }
   by("frames").replaceChildren(...items);

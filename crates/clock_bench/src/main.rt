@@ -1,17 +1,24 @@
 //! A replacement list that serves page faults: prints how many calls it had and a checksum of its victims, and on standard
 //! error the nanoseconds. Arguments: `ring` or `list`, frames, pages, references. With `stride` or `shared` first it is the circle of
-//! links, each page 16 numbers past the one before, or 16 processes with the same page numbers.
-//! With `whole` first, the circle of links is purged of one process of 16 and copied, each as often as there are references: prints
-//! how many entries went, and on standard error the nanoseconds of all purges and of all copies.
+//! links, each page 16 numbers past the one before, or as many processes as a machine may run, with the same page numbers.
+//! With `whole` first, the circle of links is purged of one of so many processes and copied, each as often as there are references:
+//! prints how many entries went, and on standard error the nanoseconds of all purges and of all copies.
 #![tactic(auto)]
 
 use anyhow::{Context, Result};
 use clock_list::ClockList;
 use clock_policy::{Bit, Clock, Key, Verdict};
 use clock_ring::ClockRing;
+use machine_limits::MOST_PROCESSES;
 use std::alloc::Global;
 use std::env;
 use std::time::Instant;
+
+/// How many processes share the list.
+const PROCESSES: u32 = MOST_PROCESSES as u32;
+
+/// How many numbers a page of `stride` is past the one before.
+const STRIDE: u32 = 16;
 
 /// Which keys the pages have.
 #[derive(Clone, Copy, PartialEq, Eq, Debug)]
@@ -30,11 +37,11 @@ impl Keys {
             },
             Keys::Stride => Key {
                 process: 0,
-                vpn: page.wrapping_mul(16),
+                vpn: page.wrapping_mul(STRIDE),
             },
             Keys::Shared => Key {
-                process: page % 16,
-                vpn: page / 16,
+                process: page % PROCESSES,
+                vpn: page / PROCESSES,
             },
         }
     }
@@ -42,8 +49,8 @@ impl Keys {
     fn page(self, key: Key) -> u32 {
         match self {
             Keys::OneProcess => key.vpn,
-            Keys::Stride => key.vpn / 16,
-            Keys::Shared => key.vpn.wrapping_mul(16).wrapping_add(key.process),
+            Keys::Stride => key.vpn / STRIDE,
+            Keys::Shared => key.vpn.wrapping_mul(PROCESSES).wrapping_add(key.process),
         }
     }
 }
@@ -168,13 +175,13 @@ fn timed<C: Clock>(
     Ok(())
 }
 
-/// Each frame has a page again, of 16 processes by turns.
+/// Each frame has a page again, of the processes by turns.
 fn fill<C: Clock>(clock: &mut C, frames: usize) {
     for i in 0..frames {
         let vpn = u32::try_from(i).unwrap_or(0);
         // A page that is there already is refused.
         let _ = clock.restore(Key {
-            process: vpn % 16,
+            process: vpn % PROCESSES,
             vpn,
         });
     }
@@ -190,7 +197,7 @@ fn whole<C: Clock>(rt: &HostRuntime, mut clock: C, frames: usize, rounds: usize)
         entries.clear();
         clock.copy_entries(&mut entries)?;
         let copied = start.elapsed(rt)?.as_nanos();
-        let process = u32::try_from(round).unwrap_or(0) % 16;
+        let process = u32::try_from(round).unwrap_or(0) % PROCESSES;
         let start = Instant::now(rt)?;
         gone = gone.saturating_add(u64::from(clock.purge(process)));
         let purged = start.elapsed(rt)?.as_nanos();

@@ -4,4 +4,4 @@ pub mod Flipped
 pub mod FileSlotValue
 pub mod FromStart
 pub mod FileNames
-pub mod Naming
+pub mod Making

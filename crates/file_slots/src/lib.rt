@@ -5,6 +5,7 @@
 
 mod blink;
 mod fault;
+mod file_maker;
 mod file_name;
 mod file_slot;
 mod flip;
@@ -14,6 +15,7 @@ mod tests;
 
 pub use blink::BlinkSlot;
 pub use fault::FilesFault;
+pub use file_maker::FileMaker;
 pub use file_name::FileName;
 pub use file_slot::FileSlot;
 pub use flip::FlipSlot;

@@ -1,29 +1,28 @@
-ghost use Rattle.std.specs.Prelude.{◌≡◌, min, map, All, IfOk, IfErr};
-ghost use Rattle.std.specs.List.{range_with_len};
-ghost use Rattle.file_slots.specs.Naming.{NamesOneOf, Names};
+ghost use Rattle.std.specs.Prelude.{◌≡◌, min, IfOk, IfErr};
+ghost use Rattle.file_slots.specs.FileNames.{file_name};
+ghost use Rattle.file_slots.specs.Making.{AreMade, IsMade, StopsAt, StopsMaking};
 
 use crate::fault::FilesFault;
+use crate::file_maker::FileMaker;
 use crate::file_name::FileName;
 use crate::file_slot::FileSlot;
-use std::fs::OpenOptions;
-use std::rt::Files;
 
 /// The most files that slots are made of.
 pub const MOST_FILES: u32 = 512;
 
 /// So many slots, but at most [`MOST_FILES`], each in a file of its own: `PREFIX.0`, `PREFIX.1` and so on, made in this order.
 ///
-/// Each file is made anew, empty: what a file of that name held is gone. A file that the system does not make so stops the rest,
-/// and those made before it stay.
-pub fn make_file_slots<'a, R: Files + AllocGlobal>(
-    rt: &R,
+/// Each file is made anew, empty: what a file of that name held is gone. The first file that can't be made so stops the rest, and
+/// those made before it stay.
+pub fn make_file_slots<'a, M: FileMaker + AllocGlobal>(
+    rt: &M,
     prefix: &'a str,
     count: u32,
-) -> Result<Vec<FileSlot<R::File>>, FilesFault<'a>>
-    ensures numbers { IfOk result (λ slots. map (λ slot. slot.number) slots.items ≡
-        range_with_len 0 (min count MOST_FILES)) }
-    ensures unused { IfOk result (λ slots. All (λ slot. slot.failures ≡ 0) slots.items) }
-    ensures refused { IfErr result (NamesOneOf prefix.now (min count MOST_FILES)) }
+) -> Result<Vec<FileSlot<M::File>>, FilesFault<'a>>
+    ensures made { IfOk result (λ slots. AreMade M.makes prefix.now (min count MOST_FILES)
+        slots.items) }
+    ensures refused { IfErr result (StopsMaking M.makes M.refuses prefix.now
+        (min count MOST_FILES)) }
 {
     let wanted = count.min(MOST_FILES);
     let mut slots = Vec::with_capacity(rt.alloc(), wanted as usize)?;
@@ -35,23 +34,16 @@ pub fn make_file_slots<'a, R: Files + AllocGlobal>(
 }
 
 /// The slot in the file of this name, which is made anew.
-fn make_file_slot<'a, R: Files + AllocGlobal>(
-    rt: &R,
+fn make_file_slot<'a, M: FileMaker + AllocGlobal>(
+    rt: &M,
     name: FileName<'a>,
-) -> Result<FileSlot<R::File>, FilesFault<'a>>
-    ensures number { IfOk result (λ slot. slot.number ≡ name.entry.number) }
-    ensures unused { IfOk result (λ slot. slot.failures ≡ 0) }
-    ensures refused { IfErr result (Names name.entry) }
+) -> Result<FileSlot<M::File>, FilesFault<'a>>
+    ensures made { IfOk result (IsMade M.makes name.entry.prefix.now name.entry.number) }
+    ensures refused { IfErr result (StopsAt M.refuses name.entry) }
 {
     let path = format!(in rt.alloc(); "{name}")?;
-    let opened = OpenOptions::new()
-        .read(true)
-        .write(true)
-        .create(true)
-        .truncate(true)
-        .open(rt, path.as_str());
-    match opened {
-        Ok(file) => Ok(FileSlot::new(name.number, file)),
-        Err(_) => Err(FilesFault::CannotMake(name)),
+    match rt.make_file(path.as_str()) {
+        Some(file) => Ok(FileSlot::new(name.number, file)),
+        None => Err(FilesFault::CannotMake(name)),
     }
 }

@@ -7,7 +7,8 @@ use elf_image::Image;
 use flat_machine::{End, KillCause};
 use image_files::{Fault, memory_slots};
 use machine_core::Core;
-use serial_driver::{play, standing_of};
+use machine_limits::MOST_PROCESSES;
+use serial_driver::{into_report, play};
 use std::alloc::Global;
 use std::io::Write;
 use std::marker::Brand;
@@ -47,6 +48,7 @@ fn run_machine<'a, L: Ledger, W: Write>(
     requires parts { blank.parts ≡ L.parts }
     requires one_each { L.parts ≡ frames + 1 }
 {
+    let room = Vec::with_capacity(alloc, MOST_PROCESSES)?;
     let slots = memory_slots(alloc, SLOTS)?;
     let mut processes = Vec::new(alloc);
     if processes.push((image, input)).is_err() {
@@ -57,14 +59,14 @@ fn run_machine<'a, L: Ledger, W: Write>(
         return Err(Fault::NoMemory);
     };
     play(&mut core, SLICE, limit);
-    if core.processes() == 0 {
+    let report = into_report(core, room);
+    let Some(process) = report.processes.first() else {
         return Err(Fault::NoMemory);
-    }
-    let standing = standing_of(&core, 0);
-    out.write_all(standing.output)?;
+    };
+    out.write_all(process.output.as_slice())?;
     out.flush()?;
-    match standing.end {
-        Some(end) => Ok((end, standing.steps)),
-        None => Ok((End::Killed(KillCause::Limit), standing.steps)),
+    match process.end {
+        Some(end) => Ok((end, process.steps)),
+        None => Ok((End::Killed(KillCause::Limit), process.steps)),
     }
 }

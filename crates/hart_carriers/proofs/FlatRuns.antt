@@ -1,30 +1,32 @@
--- What a process has come to, as its line tells it, is what a flat run comes to.
-use Rattle.std.proofs.Common.{◌≡◌, ℕ, List, ap, ◌∙◌}
-use Rattle.flat_machine.specs.Schedule.{written_out}
+-- What a process has come to, as it is told, is what a flat run comes to.
+use Rattle.std.proofs.Common.{◌≡◌, ℕ, List, length, ap, ◌∙◌}
 use Rattle.elf_image.specs.Start.{Start}
+use Rattle.flat_machine.specs.Schedule.{written_out}
+use Rattle.hart_carriers.specs.Counts.{status_of}
+use Rattle.hart_carriers.specs.FlatLines.{counts_of}
+use Rattle.machine_sides.specs.FlatLines.{StandsForRun}
+use Rattle.machine_sides.specs.Reporting.{Told, come_to, told}
+use Rattle.machine_sides.specs.declared.report.ProcessReport.{ProcessReport}
 use Rattle.space_core.specs.StandsFor.{SpaceValue, StandsFor, flat_with, own_ending}
 use Rattle.status_cell.specs.declared.status.Status.{Status}
-use Rattle.hart_carriers.specs.Counts.{status_of}
-use Rattle.hart_carriers.specs.FlatLines.{StandsForRun, counts_of}
-use Rattle.hart_carriers.specs.declared.line.Line.{Line}
 
 module _ {S : Type 0} (held : S → List ℕ) where
-  -- the line of a process that stands for a flat run, which was started from this
-  pub stands_for_run : (start : Start) (space : SpaceValue S) (line : Line) → StandsFor held space → start.image ≡ space.image → start.input ≡ space.input
-      → line.output.items ≡ space.running.environment.output → line.end ≡ space.running.ending → line.last ≡ status_of space → line.steps ≡ line.last.steps
-      → StandsForRun start line
-  unfolding status_of
-  stands_for_run start space line stands image input output end last steps =
+  -- what is told of a process that stands for a flat run, which was started from this
+  pub stands_for_run : (start : Start) (space : SpaceValue S) (line : Told) → StandsFor held space → start.image ≡ space.image → start.input ≡ space.input → line ≡ come_to space → StandsForRun start line
+  stands_for_run start space line stands image input is =
       record {
         harts = written_out space.schedule;
         flat = flat_with space.running stands.memory;
         ran = rw (image, input) stands.ran;
-        steps = steps ∙ ap (λ (s : Status). s.steps) last;
-        output = output;
-        ending = ap own_ending end;
+        steps = ap (λ (t : Told). t.steps) is;
+        output = ap (λ (t : Told). t.output) is;
+        ending = ap (λ (t : Told). own_ending t.end) is;
       }
 
-  pub counted : (space : SpaceValue S) (line : Line) → line.output.items ≡ space.running.environment.output → line.last ≡ status_of space → line.steps ≡ line.last.steps
-      → line.last ≡ counts_of line
+  pub counted : (space : SpaceValue S) (report : ProcessReport) (last : Status) → told report ≡ come_to space → last ≡ status_of space → last ≡ counts_of report
   unfolding status_of
-  counted space line output last steps = cc
+  counted space report last is now =
+      let steps : report.steps ≡ length (written_out space.schedule) = ap (λ (t : Told). t.steps) is in
+      let output : report.output.items ≡ space.running.environment.output = ap (λ (t : Told). t.output) is in
+      let many : length report.output.items ≡ length space.running.environment.output = ap (λ (l : List ℕ). length l) output in
+      cc

@@ -1,72 +1,89 @@
--- Lines are told one after another.
-use Rattle.std.proofs.Common.{◌≡◌, ℕ, zero, suc, ◌<◌, ◌≤◌, ◌++◌, ◌&&◌, [], ◌∷◌, Bool, true, false, List, Vec, length, Some, slice_get, refl, sym, ap, subst, get_or, ⊎_elim, arith, length-append, eq-or-lt_of_le}
-use Rattle.std.proofs.lemmas.List.Elements.{All-push, All-nil}
+-- Processes are told one after another.
+use Rattle.std.proofs.Common.{◌≡◌, ℕ, zero, suc, ◌<◌, ◌≤◌, ◌++◌, ◌&&◌, [], ◌∷◌, Bool, true, false, List, Vec, length, map, Some, slice_get, refl, sym, ap, ◌∙◌, subst, get_or, ⊎_elim, arith, length-append, eq-or-lt_of_le}
+use Rattle.std.proofs.lemmas.List.{length-map}
 use Rattle.std.proofs.lemmas.Option.{slice_get_within, slice_get_read}
 use Rattle.elf_image.specs.Image.{ImageContent}
 use Rattle.elf_image.specs.Start.{Start, start_of}
-use Rattle.hart_carriers.specs.FlatLines.{StandsForRun, HasLine, StandsForRuns, counts_of}
+use Rattle.hart_carriers.specs.FlatLines.{StandsForRuns, counts_of}
 use Rattle.hart_carriers.specs.Telling.{Adds, ToldSoFar}
-use Rattle.hart_carriers.specs.declared.line.Line.{Line}
+use Rattle.hart_carriers.specs.declared.lines.Told as so
+use Rattle.machine_sides.specs.FlatLines.{HasLine, StandsForRun}
+use Rattle.machine_sides.specs.Reporting.{Told, told}
+use Rattle.machine_sides.specs.declared.report.ProcessReport.{ProcessReport}
 
-pub get_before : (xs : List Line) (y : Line) (k : ℕ) (x : Line) → slice_get xs k ≡ Some x → slice_get (xs ++ y ∷ []) k ≡ Some x
-get_before [] y k x e = absurd (cc)
-get_before (z ∷ xs) y zero x e = e
-get_before (z ∷ xs) y (suc k) x e = get_before xs y k x e
+module _ {A : Type 0} where
+  get_before : (xs : List A) (y : A) (k : ℕ) (x : A) → slice_get xs k ≡ Some x → slice_get (xs ++ y ∷ []) k ≡ Some x
+  get_before [] y k x e = absurd (cc)
+  get_before (z ∷ xs) y zero x e = e
+  get_before (z ∷ xs) y (suc k) x e = get_before xs y k x e
 
-pub get_last : (xs : List Line) (y : Line) → slice_get (xs ++ y ∷ []) (length xs) ≡ Some y
-get_last [] y = refl
-get_last (x ∷ xs) y = get_last xs y
+  get_last : (xs : List A) (y : A) → slice_get (xs ++ y ∷ []) (length xs) ≡ Some y
+  get_last [] y = refl
+  get_last (x ∷ xs) y = get_last xs y
+
+  map_push : {B : Type 0} (f : A → B) (xs : List A) (x : A) → map f (xs ++ x ∷ []) ≡ map f xs ++ f x ∷ []
+  map_push f [] x = refl
+  map_push f (z ∷ zs) x = ap (λ l. f z ∷ l) (map_push f zs x)
 
 both_true : (a b : Bool) → a && b ≡ true → (a ≡ true) × (b ≡ true)
 both_true true true e = (refl, refl)
 both_true true false e = absurd (cc)
 both_true false b e = absurd (cc)
 
-has_before : (start : Start) (number : ℕ) (xs : List Line) (y : Line) → HasLine start number xs → HasLine start number (xs ++ y ∷ [])
+has_before : (start : Start) (number : ℕ) (xs : List Told) (y : Told) → HasLine start number xs → HasLine start number (xs ++ y ∷ [])
 has_before start number xs y has = record { line = has.line; found = get_before xs y number has.line has.found; stands = has.stands }
 
 module _ {Z : Type 0} (honest : Type 0) (handed : List (ImageContent × Vec ℕ Z)) where
-  pub told_none : (started : Bool) (lines : List Line) → lines ≡ [] → ToldSoFar honest handed started lines
-  told_none started lines none = rw none (record { stands = λ h s number given small. absurd (omega arith); last = All-nil (λ (line : Line). line.last ≡ counts_of line) })
+  pub told_none : (so_far : so.Told) → so_far.processes.items ≡ [] → so_far.published.items ≡ [] → ToldSoFar honest handed so_far
+  told_none so_far none blank = record {
+    stands = λ h s number given small. absurd (omega (arith, small, ap (λ (l : List ProcessReport). length l) none));
+    last = blank ∙ sym (ap (map counts_of) none);
+  }
 
-  grown : (before started : Bool) (old : List Line) (line : Line) → ToldSoFar honest handed before old
-      → (honest → started ≡ true → (given : ImageContent × Vec ℕ Z) → slice_get handed (length old) ≡ Some given → StandsForRun (start_of given.0 given.1.items) line)
-      → honest → before && started ≡ true → (number : ℕ) (given : ImageContent × Vec ℕ Z) → number < length (old ++ line ∷ []) → slice_get handed number ≡ Some given
-      → HasLine (start_of given.0 given.1.items) number (old ++ line ∷ [])
-  grown before started old line told stands is_honest all number given small at =
+  grown : (before started : Bool) (old : List ProcessReport) (report : ProcessReport)
+      → (honest → before ≡ true → (number : ℕ) (given : ImageContent × Vec ℕ Z) → number < length old → slice_get handed number ≡ Some given → HasLine (start_of given.0 given.1.items) number (map told old))
+      → (honest → started ≡ true → (given : ImageContent × Vec ℕ Z) → slice_get handed (length old) ≡ Some given → StandsForRun (start_of given.0 given.1.items) (told report))
+      → honest → before && started ≡ true → (number : ℕ) (given : ImageContent × Vec ℕ Z) → number < length (old ++ report ∷ []) → slice_get handed number ≡ Some given
+      → HasLine (start_of given.0 given.1.items) number (map told (old ++ report ∷ []))
+  grown before started old report earlier stands is_honest all number given small at =
       let parts = both_true before started all in
-      let within : number ≤ length old = omega (arith, length-append old (line ∷ [])) in
-      ⊎_elim
+      let within : number ≤ length old = omega (arith, length-append old (report ∷ []), small) in
+      subst (HasLine (start_of given.0 given.1.items) number) (sym (map_push told old report))
+      (⊎_elim
       (λ (here : number ≡ length old).
       let at' : slice_get handed (length old) ≡ Some given = subst (λ (n : ℕ). slice_get handed n ≡ Some given) here at in
+      let place : length (map told old) ≡ number = length-map old told ∙ sym here in
       record {
-        line = line;
-        found = subst (λ (n : ℕ). slice_get (old ++ line ∷ []) n ≡ Some line) (sym here) (get_last old line);
+        line = told report;
+        found = subst (λ (n : ℕ). slice_get (map told old ++ told report ∷ []) n ≡ Some (told report)) place (get_last (map told old) (told report));
         stands = stands is_honest parts.1 given at';
       })
-      (λ (below : number < length old). has_before _ number old line (told.stands is_honest parts.0 number given below at))
-      (eq-or-lt_of_le within)
+      (λ (below : number < length old). has_before _ number (map told old) (told report) (earlier is_honest parts.0 number given below at))
+      (eq-or-lt_of_le within))
 
-  pub told_more : (before after : Bool) (old new : List Line) → ToldSoFar honest handed before old → Adds honest handed before after old new → ToldSoFar honest handed after new
-  told_more before after old new told adds =
-      rw (adds.added, adds.told) (record {
-        stands = grown before adds.started old adds.line told adds.stands;
-        last = All-push (λ (line : Line). line.last ≡ counts_of line) old adds.line told.last adds.last;
-      })
+  pub told_more : (old new : so.Told) → ToldSoFar honest handed old → Adds honest handed old new → ToldSoFar honest handed new
+  told_more old new so_far adds = record {
+    stands = λ is_honest all number given small at.
+        let within : number < length (old.processes.items ++ adds.report ∷ []) = subst (λ (l : List ProcessReport). number < length l) adds.added small in
+        subst (λ (l : List ProcessReport). HasLine (start_of given.0 given.1.items) number (map told l)) (sym adds.added)
+        (grown old.started adds.started old.processes.items adds.report so_far.stands adds.stands is_honest (sym adds.all ∙ all) number given within at);
+    last = adds.published ∙ ap (λ l. l ++ adds.last ∷ []) so_far.last ∙ ap (λ s. map counts_of old.processes.items ++ s ∷ []) adds.counted
+        ∙ sym (map_push counts_of old.processes.items adds.report) ∙ sym (ap (map counts_of) adds.added);
+  }
 
-  -- all are told where there is a line for each
-  pub told_all : (started : Bool) (lines : List Line) → ToldSoFar honest handed started lines → length lines ≡ length handed → honest → started ≡ true → StandsForRuns handed lines
-  told_all started lines told many is_honest all number given at = told.stands is_honest all number given (rw many (slice_get_within handed number given at)) at
+  -- all are told where there is one for each
+  pub told_all : (so_far : so.Told) → ToldSoFar honest handed so_far → length so_far.processes.items ≡ length handed → honest → so_far.started ≡ true → StandsForRuns handed so_far.processes.items
+  told_all so_far told_so many is_honest all number given at = told_so.stands is_honest all number given (rw many (slice_get_within handed number given at)) at
 
-  -- a process for which nothing was handed in
-  pub told_less : (before : Bool) (lines : List Line) → ToldSoFar honest handed before lines → ToldSoFar honest handed false lines
-  told_less before lines told = record { stands = λ h s. absurd (cc); last = told.last }
+  -- where a process is not told, or some were not, they were not all started from what was handed in
+  pub told_less : (so_far : so.Told) → ToldSoFar honest handed so_far → ToldSoFar honest handed (record { processes = so_far.processes; published = so_far.published; started = false })
+  told_less so_far told_so = record { stands = λ h s. absurd (cc); last = told_so.last }
 
-  pub many_more : (before after : Bool) (old new : List Line) → Adds honest handed before after old new → length old < length handed → length new ≤ length handed
-  many_more before after old new adds small = omega (arith, ap (λ (l : List Line). length l) adds.added, length-append old (adds.line ∷ []))
+  pub many_more : (old new : so.Told) → Adds honest handed old new → length old.processes.items < length handed → length new.processes.items ≤ length handed
+  many_more old new adds small = omega (arith, ap (λ (l : List ProcessReport). length l) adds.added, length-append old.processes.items (adds.report ∷ []), small)
 
 -- what was looked up is what was handed in under that number
-pub stands_at : {Z : Type 0} (handed : List (ImageContent × Vec ℕ Z)) (at n : ℕ) (found : ImageContent × Vec ℕ Z) (input : List ℕ) (line : Line) → at ≡ n → n < length handed
+pub stands_at : {Z : Type 0} (handed : List (ImageContent × Vec ℕ Z)) (at n : ℕ) (found : ImageContent × Vec ℕ Z) (input : List ℕ) (line : Told) → at ≡ n → n < length handed
     → found ≡ get_or handed at found → input ≡ found.1.items → StandsForRun (start_of found.0 input) line
     → (given : ImageContent × Vec ℕ Z) → slice_get handed n ≡ Some given → StandsForRun (start_of given.0 given.1.items) line
 stands_at {Z} handed at n found input line is small read same stands given given_at =

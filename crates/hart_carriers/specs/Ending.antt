@@ -4,15 +4,8 @@ use Rattle.reclaim_daemon.specs.Audit.{IsSound, AgreeEverywhere}
 use Rattle.reclaim_daemon.specs.DeskValue.{DeskValue}
 use Rattle.reclaim_daemon.specs.HeldValue.{HeldValue}
 use Rattle.hart_carriers.specs.declared.crew.Crew.{Crew}
-use Rattle.hart_carriers.specs.declared.report.Report.{Report}
-
--- the counts of a report are those of this pager
-pub record Counts (desk : DeskValue) (report : Report) : Type 0 where
-  pub page_ins : report.page_ins ≡ desk.pager.pager.tallies.page_ins
-  pub victims : report.victims ≡ desk.pager.pager.tallies.victims
-  pub saves : report.saves ≡ desk.pager.saves
-  pub drops : report.drops ≡ desk.pager.drops
-  pub questions : report.questions ≡ desk.pager.pager.tallies.questions
+use Rattle.machine_sides.specs.Reporting.{Counts}
+use Rattle.machine_sides.specs.declared.report.Report.{Report}
 
 -- a pager and so many processes, as their locks kept them, on which an audit finds nothing amiss: list and pages agree, page by page
 pub record EndsSound (S : Type 0) (processes : ℕ) (report : Report) : Type 0 where
@@ -22,7 +15,7 @@ pub record EndsSound (S : Type 0) (processes : ℕ) (report : Report) : Type 0 w
   pub sound : IsSound desk held
   pub agree : AgreeEverywhere desk held
   pub size : desk.pager.pager.size ≡ report.frames
-  pub counts : Counts desk report
+  pub counts : Counts desk.pager report
 
 -- a crew of so many workers, who give slices of so many instructions, or of those that could be started
 pub record IsCrewOf (workers slice : ℕ) (crew : Crew) : Type 0 where

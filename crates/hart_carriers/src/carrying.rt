@@ -4,9 +4,10 @@ ghost use Rattle.std.specs.Prelude.{◌≡◌, ◌==◌, ◌+◌, ◌%◌, ◌<�
 
 use crate::crew::Shift;
 use crate::paging_in::bring_in;
-use clock_policy::{Clock, Key};
+use crate::seats::{EMPTY, Lack, Row, Seat, seats};
+use clock_policy::Clock;
 use flat_machine::KillCause;
-use machine_limits::MOST_HARTS;
+use machine_limits::{MOST_HARTS, MOST_PROCESSES};
 use reclaim_daemon::{Gate, HoldOfProcess, Shared};
 use space_core::{Slice, SliceStop};
 use std::sync::Wait;
@@ -33,32 +34,57 @@ pub fn carrier<L: Ledger, S: SwapSlot, C: Clock, G: Gate, R: Wait>(
         workers,
         slice,
     };
+    let mut seats = seats();
+    let mut hungry = false;
     for _ in rt.forever() {
         if shared.has_ended() {
             return shift;
         }
-        let changes = shared.changes();
-        if !carry_round(rt, shared, &shift, gate) {
-            shared.wait_for_change(rt, changes);
+        let rings = shared.rings(worker);
+        let round = carry_round(rt, shared, &shift, &mut seats, rings, gate);
+        if hungry != round.hungry {
+            hungry = round.hungry;
+            if !hungry {
+                shared.set_hungry(worker, false);
+            }
+        }
+        if !round.ran {
+            shared.wait_for_ring(rt, worker, rings);
         }
     }
     unreachable!()
 }
 
-/// Gives each hart that falls to a worker a slice. Answers whether any instruction ran.
+/// What a worker's round over its harts came to.
+#[derive(Clone, Copy)]
+struct Round {
+    /// Whether any instruction ran.
+    ran: bool,
+    /// Whether a hart waits for a frame.
+    hungry: bool,
+}
+
+/// Carries each hart that falls to a worker and may be carried.
 fn carry_round<L: Ledger, S: SwapSlot, C: Clock, G: Gate, R: Wait>(
     rt: &R,
     shared: &Shared<L, S, C>,
     shift: &Shift,
+    seats: &mut [Row; MOST_PROCESSES],
+    rings: u64,
     gate: &G,
-) -> bool {
-    let mut has_run = false;
+) -> Round {
+    let mut round = Round {
+        ran: false,
+        hungry: false,
+    };
     for process in 0..shared.processes() {
-        if carry_process(rt, shared, process, shift, gate) {
-            has_run = true;
+        if let Some(row) = seats.get_mut(process as usize) {
+            let of_process = carry_process(rt, shared, process, shift, row, rings, gate);
+            round.ran = round.ran || of_process.ran;
+            round.hungry = round.hungry || of_process.hungry;
         }
     }
-    has_run
+    round
 }
 
 /// The same of the harts of one process.
@@ -67,19 +93,41 @@ fn carry_process<L: Ledger, S: SwapSlot, C: Clock, G: Gate, R: Wait>(
     shared: &Shared<L, S, C>,
     process: u32,
     shift: &Shift,
+    row: &mut Row,
+    rings: u64,
     gate: &G,
-) -> bool {
-    let mut has_run = false;
-    for hart in 0..MOST_HARTS as u32 {
-        // Most harts can't run, and a read tells that sooner than a division.
-        if shared.may_run(process, hart)
-            && falls_to(process, hart, shift)
-            && carry_hart(rt, shared, process, hart, shift.slice, gate)
-        {
-            has_run = true;
+) -> Round {
+    let mut round = Round {
+        ran: false,
+        hungry: false,
+    };
+    let mut next = first_hart(process, shift);
+    for _ in 0..MOST_HARTS {
+        let Some(seat) = row.get_mut(next as usize) else {
+            return round;
+        };
+        let hart = next as u32;
+        if shared.may_run(process, hart) && falls_to(process, hart, shift) {
+            if carry_hart(rt, shared, process, hart, shift, seat, rings, gate) {
+                round.ran = true;
+            }
+        } else if !shared.is_live(process, hart) {
+            *seat = EMPTY;
         }
+        round.hungry = round.hungry || seat.hungry;
+        next = next.saturating_add(u64::from(shift.workers));
     }
-    has_run
+    round
+}
+
+/// The least hart of a process that falls to a worker; the others follow by as many as there are workers.
+fn first_hart(process: u32, shift: &Shift) -> u64 {
+    if shift.workers == 0 {
+        return MOST_HARTS as u64;
+    }
+    let workers = u64::from(shift.workers);
+    let others = workers.saturating_sub(u64::from(process) % workers);
+    u64::from(shift.worker).saturating_add(others) % workers
 }
 
 /// Whether a hart of a process falls to a worker.
@@ -93,38 +141,50 @@ fn falls_to(process: u32, hart: u32, shift: &Shift) -> bool
     (u64::from(process) + u64::from(hart)) % u64::from(shift.workers) == u64::from(shift.worker)
 }
 
-/// Gives a hart one slice, and brings in the pages that it lacks on the way. Answers whether any instruction ran.
+/// Carries a hart to the end of its turn, or as far as it gets without a page that it has to wait for. Answers whether any instruction ran.
 fn carry_hart<L: Ledger, S: SwapSlot, C: Clock, G: Gate, R: Wait>(
     rt: &R,
     shared: &Shared<L, S, C>,
     process: u32,
     hart: u32,
-    slice: u32,
+    shift: &Shift,
+    seat: &mut Seat,
+    rings: u64,
     gate: &G,
 ) -> bool {
-    let mut left = slice.max(1);
     let mut has_run = false;
+    if seat.left == 0 {
+        seat.left = shift.slice.max(1);
+    }
     for _ in rt.forever() {
-        let Some(hold) = shared.slice(rt, process, hart, left) else {
+        if !bring_in(rt, shared, process, hart, shift.worker, seat, rings, gate) {
+            return has_run;
+        }
+        let Some(hold) = shared.slice(rt, process, hart, seat.left) else {
             return has_run;
         };
         let HoldOfProcess { reply, .. } = hold;
-        let Slice { ran, stop } = reply;
+        let Some(slice) = reply else {
+            return has_run;
+        };
+        let Slice { ran, stop } = slice;
         gate.after_slice(process, hart, ran);
         has_run = has_run || ran != 0;
-        left = left.saturating_sub(ran).max(1);
-        match stop {
-            SliceStop::Absent(vpn) => {
-                if !bring_in(rt, shared, gate, Key { process, vpn }) {
-                    return has_run;
-                }
+        seat.left = seat.left.saturating_sub(ran).max(1);
+        if let SliceStop::Absent(vpn) = stop {
+            seat.lack = Some(Lack {
+                vpn,
+                faults: 0,
+                told: false,
+                tried: None,
+            });
+        } else {
+            if let Some(cause) = failure(stop) {
+                shared.kill(rt, process, cause);
             }
-            other => {
-                if let Some(cause) = failure(other) {
-                    shared.kill(rt, process, cause);
-                }
-                return has_run;
-            }
+            seat.left = 0;
+            shared.end_turn(process, hart, matches!(stop, SliceStop::Yield));
+            return has_run;
         }
     }
     unreachable!()

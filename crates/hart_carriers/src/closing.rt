@@ -1,48 +1,54 @@
 //! What a machine has come to whose threads were joined.
 
-ghost use Rattle.std.specs.Prelude.{◌≡◌, ◌+◌, ◌≤◌, All, length, vec_len, vec_capacity, [], true};
-ghost use Rattle.hart_carriers.specs.Ending.{Counts};
+ghost use Rattle.std.specs.Prelude.{◌≡◌, ◌+◌, ◌≤◌, length, map, vec_len, vec_capacity, [], true};
+ghost use Rattle.machine_sides.specs.Reporting.{Counts};
 ghost use Rattle.reclaim_daemon.specs.Audit.{IsSound, AgreeEverywhere};
 ghost use Rattle.machine_limits.specs.Limits.{most_processes};
 ghost use Rattle.hart_carriers.specs.FlatLines.{counts_of, StandsForRuns};
 
 use crate::crew::Crew;
 use crate::gathering::gather_frames;
-use crate::line::{Line, Ran};
+use crate::line::Ran;
 use crate::lines::tell;
-use crate::report::Report;
+use crate::report::RunReport;
 use clock_policy::Clock;
 use elf_image::Image;
-use machine_sides::PagerSide;
+use machine_sides::{PagerSide, ProcessReport, Report};
 use reclaim_daemon::{Desk, Held, Parts};
+use status_cell::Status;
 use std::sync::ledger::{Ledger, Share};
 use swap_slots::SwapSlot;
 
 /// What a machine of so many frames has come to, whose harts this crew carried and whose processes were to run these images on these
-/// inputs, and the share of its frames. Both lists have room.
+/// inputs, and the share of its frames. The lists have room.
 pub(crate) fn close<L: Ledger, S: SwapSlot, C: Clock>(
     parts: Parts<L, S, C>,
     frames: u32,
     crew: Crew,
     handed: &[(Image, Vec<u8>)],
-    room: Vec<Line>,
+    room: Vec<ProcessReport>,
+    statuses: Vec<Status>,
     ran: Vec<Ran<L, S>>,
-) -> (Report, Share<L>)
+) -> (RunReport, Share<L>)
     requires few { vec_len parts.processes ≤ most_processes }
     requires empty { room.items ≡ [] }
     requires room { length handed.now ≤ vec_capacity room }
-    ensures stands { S.honest → result.0.audit ≡ true →
-        StandsForRuns handed.entry.now result.0.lines.items }
-    ensures last { All (λ line. line.last ≡ counts_of line) result.0.lines.items }
-    ensures many { result.0.audit ≡ true → vec_len result.0.lines ≡ length handed.entry.now }
-    ensures frames { result.0.frames ≡ frames }
+    requires blank { statuses.items ≡ [] }
+    requires space { length handed.now ≤ vec_capacity statuses }
+    ensures stands { S.honest → result.0.report.audit ≡ true →
+        StandsForRuns handed.entry.now result.0.report.processes.items }
+    ensures last { result.0.published.items ≡ map counts_of result.0.report.processes.items }
+    ensures many { result.0.report.audit ≡ true →
+        vec_len result.0.report.processes ≡ length handed.entry.now }
+    ensures frames { result.0.report.frames ≡ frames }
     ensures slots { result.0.slots ≡ parts.slots.size }
     ensures crew { result.0.crew ≡ crew }
-    ensures shares { result.0.audit ≡ true → result.1.parts ≡ frames + 1 }
-    ensures counts { Counts parts.desk result.0 }
-    ensures size { result.0.audit ≡ true → parts.desk.pager.pager.size ≡ frames }
-    ensures sound { result.0.audit ≡ true → IsSound parts.desk parts.processes.items }
-    ensures agree { result.0.audit ≡ true → AgreeEverywhere parts.desk parts.processes.items }
+    ensures shares { result.0.report.audit ≡ true → result.1.parts ≡ frames + 1 }
+    ensures counts { Counts parts.desk.pager result.0.report }
+    ensures size { result.0.report.audit ≡ true → parts.desk.pager.pager.size ≡ frames }
+    ensures sound { result.0.report.audit ≡ true → IsSound parts.desk parts.processes.items }
+    ensures agree { result.0.report.audit ≡ true →
+        AgreeEverywhere parts.desk parts.processes.items }
 {
     let agrees = parts.audit();
     let counts = parts.desk.pager().counts();
@@ -52,12 +58,10 @@ pub(crate) fn close<L: Ledger, S: SwapSlot, C: Clock>(
     let sound = desk.is_sound();
     let (pager, _strays) = desk.into_parts();
     let (whole, share) = gather_all(pager, frames);
-    let told = tell(all_ran(processes, ran), handed, room);
+    let told = tell(all_ran(processes, ran), handed, room, statuses);
     let report = Report {
-        lines: told.lines,
+        processes: told.processes,
         frames,
-        slots,
-        crew,
         page_ins: counts.pager.tallies.page_ins,
         victims: counts.pager.tallies.victims,
         saves: counts.saves,
@@ -65,7 +69,13 @@ pub(crate) fn close<L: Ledger, S: SwapSlot, C: Clock>(
         questions: counts.pager.tallies.questions,
         audit: all_hold(agrees, sized, sound, whole, told.started),
     };
-    (report, share)
+    let run = RunReport {
+        report,
+        published: told.published,
+        slots,
+        crew,
+    };
+    (run, share)
 }
 
 /// The pager's desk and the processes, each of which has given back what the daemon has left it.

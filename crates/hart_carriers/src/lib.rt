@@ -10,12 +10,13 @@ mod lines;
 mod machine;
 mod paging_in;
 mod report;
+mod seats;
 mod threads;
 
 pub use carrying::carrier;
 pub use crew::{Crew, Shift};
 pub use gathering::gather_frames;
-pub use line::{Line, Ran};
+pub use line::Ran;
 pub use lines::{Told, tell};
 pub use machine::{run_machine, run_over};
-pub use report::{Report, RunRefusal};
+pub use report::{RunRefusal, RunReport};

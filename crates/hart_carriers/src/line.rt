@@ -1,57 +1,46 @@
 ghost use Rattle.std.specs.Prelude.{◌≡◌, true};
 ghost use Rattle.elf_image.specs.Start.{start_of};
 ghost use Rattle.hart_carriers.specs.Counts.{status_of};
-ghost use Rattle.hart_carriers.specs.FlatLines.{counts_of, StandsForRun};
+ghost use Rattle.hart_carriers.specs.FlatLines.{counts_of};
+ghost use Rattle.machine_sides.specs.FlatLines.{StandsForRun};
+ghost use Rattle.machine_sides.specs.Reporting.{told};
 
 use elf_image::Image;
-use flat_machine::End;
-use machine_sides::ProcessSide;
+use machine_sides::{ProcessReport, into_process_report};
+use space_core::Space;
 use status_cell::Status;
 use std::sync::ledger::Ledger;
 use swap_slots::SwapSlot;
 
-/// What a process has come to.
-#[derive(Drop)]
-pub struct Line {
-    /// What it wrote, in bytes.
-    pub output: Vec<u8>,
-    /// How it ended, if it did.
-    pub end: Option<End>,
-    /// How many instructions ran.
-    pub steps: u64,
-    /// What was published last.
-    pub last: Status,
-}
-
 /// A process that runs no more, and what was published of it last, which is how far it has come.
 #[derive(Drop)]
 pub struct Ran<L: Ledger, S: SwapSlot> {
-    pub process: ProcessSide<L, S>,
+    pub process: Space<L, S>,
     pub last: Status,
-    pub ghost published: { last ≡ status_of process.space },
+    pub ghost published: { last ≡ status_of process },
 }
 
-/// What a process has come to, and whether it was started from this image and this input.
-#[tactic(auto, using(crate::proofs::FlatRuns::stands_for_run, crate::proofs::FlatRuns::counted), unfolding(crate::specs::Counts::status_of))]
-pub(crate) fn line_of<L: Ledger, S: SwapSlot>(
-    ran: Ran<L, S>,
-    image: &Image,
-    input: &[u8],
-) -> (Line, bool)
-    ensures stands { S.honest → result.1 ≡ true →
-        StandsForRun (start_of image.now input.now) result.0 }
-    ensures last { result.0.last ≡ counts_of result.0 }
+/// What a process has come to, what was published of it last, and whether it was started from this image and this input.
+#[derive(Drop)]
+pub(crate) struct Line {
+    pub(crate) report: ProcessReport,
+    pub(crate) last: Status,
+    pub(crate) started: bool,
+}
+
+/// The line of a process that was to run this image on this input.
+#[tactic(auto, using(crate::proofs::FlatRuns::stands_for_run, crate::proofs::FlatRuns::counted))]
+pub(crate) fn line_of<L: Ledger, S: SwapSlot>(ran: Ran<L, S>, image: &Image, input: &[u8]) -> Line
+    ensures stands { S.honest → result.started ≡ true →
+        StandsForRun (start_of image.now input.now) (told result.report) }
+    ensures last { result.last ≡ counts_of result.report }
 {
     let Ran { process, last } = ran;
     process.coherent();
     let started = process.started_from(image, input);
-    let end = process.end();
-    let output = process.into_output();
-    let line = Line {
-        output,
-        end,
-        steps: last.steps,
+    Line {
+        report: into_process_report(process),
         last,
-    };
-    (line, started)
+        started,
+    }
 }

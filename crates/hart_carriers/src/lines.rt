@@ -1,9 +1,11 @@
-ghost use Rattle.std.specs.Prelude.{◌≡◌, ◌≤◌, ◌<◌, ◌&&◌, All, length, vec_len, vec_capacity, [], true};
+ghost use Rattle.std.specs.Prelude.{◌≡◌, ◌≤◌, ◌<◌, ◌&&◌, length, map, vec_len, vec_capacity, [], true};
 ghost use Rattle.hart_carriers.specs.FlatLines.{counts_of, StandsForRuns};
 ghost use Rattle.hart_carriers.specs.Telling.{Adds};
 
-use crate::line::{Line, Ran, line_of};
+use crate::line::{Ran, line_of};
 use elf_image::Image;
+use machine_sides::ProcessReport;
+use status_cell::Status;
 use std::sync::ledger::Ledger;
 use swap_slots::SwapSlot;
 
@@ -11,68 +13,86 @@ use swap_slots::SwapSlot;
 #[derive(Drop)]
 pub struct Told {
     /// By the processes' numbers.
-    pub lines: Vec<Line>,
+    pub processes: Vec<ProcessReport>,
+    /// What was published last of each.
+    pub published: Vec<Status>,
     /// Whether there is one for each image and input that the machine was given, and each process was started from its own.
     pub started: bool,
 }
 
-/// Tells what processes have come to that were to run these images on these inputs, in a list whose room is there. A process for
-/// which none is there gets no line.
+/// Tells what processes have come to that were to run these images on these inputs, in lists whose room is there. A process for
+/// which none is there is not told.
 pub fn tell<L: Ledger, S: SwapSlot>(
     processes: Vec<Ran<L, S>>,
     handed: &[(Image, Vec<u8>)],
-    room: Vec<Line>,
+    room: Vec<ProcessReport>,
+    statuses: Vec<Status>,
 ) -> Told
     requires empty { room.items ≡ [] }
     requires room { length handed.now ≤ vec_capacity room }
+    requires blank { statuses.items ≡ [] }
+    requires space { length handed.now ≤ vec_capacity statuses }
     ensures stands { S.honest → result.started ≡ true →
-        StandsForRuns handed.entry.now result.lines.items }
-    ensures last { All (λ line. line.last ≡ counts_of line) result.lines.items }
-    ensures many { result.started ≡ true → vec_len result.lines ≡ length handed.entry.now }
+        StandsForRuns handed.entry.now result.processes.items }
+    ensures last { result.published.items ≡ map counts_of result.processes.items }
+    ensures many { result.started ≡ true → vec_len result.processes ≡ length handed.entry.now }
 {
-    let mut lines = room;
-    let mut started = true;
+    let mut told = Told {
+        processes: room,
+        published: statuses,
+        started: true,
+    };
     for ran in processes {
-        if lines.len() < handed.len() {
-            started = add(&mut lines, ran, handed, started);
+        if told.processes.len() < handed.len() {
+            add(&mut told, ran, handed);
         } else {
-            started = false;
+            told.started = false;
         }
     }
-    close(lines, started, handed.len())
+    close(told, handed.len())
 }
 
-/// What is told by these lines, of which there are to be so many.
-fn close(lines: Vec<Line>, started: bool, wanted: usize) -> Told
-    ensures lines { result.lines ≡ lines }
-    ensures started { result.started ≡ true → started ≡ true }
-    ensures many { result.started ≡ true → vec_len lines ≡ wanted }
+/// What is told, where so many are to be.
+fn close(told: Told, wanted: usize) -> Told
+    ensures processes { result.processes ≡ told.processes }
+    ensures published { result.published ≡ told.published }
+    ensures started { result.started ≡ true → told.started ≡ true }
+    ensures many { result.started ≡ true → vec_len told.processes ≡ wanted }
 {
-    if lines.len() != wanted {
+    let Told {
+        processes,
+        published,
+        started,
+    } = told;
+    if processes.len() != wanted {
         return Told {
-            lines,
+            processes,
+            published,
             started: false,
         };
     }
-    Told { lines, started }
+    Told {
+        processes,
+        published,
+        started,
+    }
 }
 
-/// Adds the line of the next process. Answers whether those before were all started from what was handed in, and it too.
-fn add<L: Ledger, S: SwapSlot>(
-    lines: &mut Vec<Line>,
-    ran: Ran<L, S>,
-    handed: &[(Image, Vec<u8>)],
-    before: bool,
-) -> bool
-    requires known { vec_len lines.old < length handed.now }
-    requires room { length handed.now ≤ vec_capacity lines.old }
-    ensures adds { Adds S.honest handed.now before result lines.old.items lines.new.items }
-    ensures room { vec_capacity lines.new ≡ vec_capacity lines.old }
+/// Adds what the next process has come to. They were all started from what was handed in if those before were, and it too.
+fn add<L: Ledger, S: SwapSlot>(told: &mut Told, ran: Ran<L, S>, handed: &[(Image, Vec<u8>)])
+    requires known { vec_len told.old.processes < length handed.now }
+    requires room { length handed.now ≤ vec_capacity told.old.processes }
+    requires space { length handed.now ≤ vec_capacity told.old.published }
+    requires each { vec_len told.old.published ≡ vec_len told.old.processes }
+    ensures adds { Adds S.honest handed.now told.old told.new }
+    ensures room { vec_capacity told.new.processes ≡ vec_capacity told.old.processes }
+    ensures space { vec_capacity told.new.published ≡ vec_capacity told.old.published }
 {
-    let (image, input) = &handed[lines.len()];
-    let (line, started) = line_of(ran, image, input.as_slice());
-    lines.push_reserved(line);
-    both(before, started)
+    let (image, input) = &handed[told.processes.len()];
+    let line = line_of(ran, image, input.as_slice());
+    told.started = both(told.started, line.started);
+    told.published.push_reserved(line.last);
+    told.processes.push_reserved(line.report);
 }
 
 fn both(a: bool, b: bool) -> bool

@@ -1,20 +1,21 @@
 //! Whole runs of machines by threads.
 
-ghost use Rattle.std.specs.Prelude.{◌≡◌, ◌+◌, ◌<◌, ◌≤◌, ◌⊎◌, ◌↔◌, All, length, vec_len, true, IfOk, OnOk, IsErrOf};
+ghost use Rattle.std.specs.Prelude.{◌≡◌, ◌+◌, ◌<◌, ◌≤◌, ◌⊎◌, ◌↔◌, length, map, vec_len, true, IfOk, OnOk, IsErrOf};
 ghost use Rattle.hart_carriers.specs.Ending.{EndsSound, IsCrewOf};
 ghost use Rattle.machine_limits.specs.Limits.{most_processes};
 ghost use Rattle.hart_carriers.specs.FlatLines.{counts_of, StandsForRuns};
 
 use crate::closing::close;
-use crate::line::{Line, Ran};
-use crate::report::{Report, RunRefusal};
+use crate::line::Ran;
+use crate::report::{RunRefusal, RunReport};
 use crate::threads::run_threads;
 use clock_policy::Clock;
 use elf_image::Image;
 use frame_pool::PoolError;
 use machine_limits::{FEWEST_FRAMES, MOST_FRAMES, MOST_PROCESSES};
+use machine_sides::ProcessReport;
 use reclaim_daemon::{AddRefusal, Desk, Gate, Held, Shared};
-use status_cell::Viewer;
+use status_cell::{Status, Viewer};
 use std::alloc::{AllocError, Global};
 use std::marker::Brand;
 use std::sync::Wait;
@@ -35,20 +36,20 @@ pub fn run_machine<S: SwapSlot + Send, C: Clock + Send, G: Gate + Sync, R: Threa
     workers: u32,
     slice: u32,
     gate: &G,
-) -> Result<Report, RunRefusal>
+) -> Result<RunReport, RunRefusal>
     requires workers { 0 < workers }
     requires slice { 0 < slice }
-    ensures stands { IfOk result (λ report. S.honest → report.audit ≡ true →
-        StandsForRuns handed.now report.lines.items) }
-    ensures last { IfOk result (λ report. All (λ line.
-        line.last ≡ counts_of line) report.lines.items) }
-    ensures many { IfOk result (λ report. report.audit ≡ true →
-        vec_len report.lines ≡ length handed.now) }
-    ensures frames { IfOk result (λ report. report.frames ≡ frames) }
-    ensures slots { IfOk result (λ report. report.audit ≡ true → report.slots ≡ vec_len slots) }
-    ensures crew { IfOk result (λ report. IsCrewOf workers slice report.crew) }
-    ensures sound { IfOk result (λ report. report.audit ≡ true →
-        EndsSound S (length handed.now) report) }
+    ensures stands { IfOk result (λ run. S.honest → run.report.audit ≡ true →
+        StandsForRuns handed.now run.report.processes.items) }
+    ensures last { IfOk result (λ run.
+        run.published.items ≡ map counts_of run.report.processes.items) }
+    ensures many { IfOk result (λ run. run.report.audit ≡ true →
+        vec_len run.report.processes ≡ length handed.now) }
+    ensures frames { IfOk result (λ run. run.report.frames ≡ frames) }
+    ensures slots { IfOk result (λ run. run.report.audit ≡ true → run.slots ≡ vec_len slots) }
+    ensures crew { IfOk result (λ run. IsCrewOf workers slice run.crew) }
+    ensures sound { IfOk result (λ run. run.report.audit ≡ true →
+        EndsSound S (length handed.now) run.report) }
     ensures bad_size { IsErrOf result RunRefusal.BadSize ↔ ((frames < 4) ⊎ (4096 < frames)) }
     ensures too_many { IsErrOf result RunRefusal.TooManyProcesses ↔ ((4 ≤ frames) ×
         ((frames ≤ 4096) × (most_processes < length handed.now))) }
@@ -76,23 +77,23 @@ fn report_over<
     workers: u32,
     slice: u32,
     gate: &G,
-) -> Result<Report, RunRefusal>
+) -> Result<RunReport, RunRefusal>
     requires name { blank.name ≡ L.name }
     requires parts { blank.parts ≡ L.parts }
     requires one_each { L.parts ≡ frames + 1 }
     requires workers { 0 < workers }
     requires slice { 0 < slice }
-    ensures stands { IfOk result (λ report. S.honest → report.audit ≡ true →
-        StandsForRuns handed.now report.lines.items) }
-    ensures last { IfOk result (λ report. All (λ line.
-        line.last ≡ counts_of line) report.lines.items) }
-    ensures many { IfOk result (λ report. report.audit ≡ true →
-        vec_len report.lines ≡ length handed.now) }
-    ensures frames { IfOk result (λ report. report.frames ≡ frames) }
-    ensures slots { IfOk result (λ report. report.audit ≡ true → report.slots ≡ vec_len slots) }
-    ensures crew { IfOk result (λ report. IsCrewOf workers slice report.crew) }
-    ensures sound { IfOk result (λ report. report.audit ≡ true →
-        EndsSound S (length handed.now) report) }
+    ensures stands { IfOk result (λ run. S.honest → run.report.audit ≡ true →
+        StandsForRuns handed.now run.report.processes.items) }
+    ensures last { IfOk result (λ run.
+        run.published.items ≡ map counts_of run.report.processes.items) }
+    ensures many { IfOk result (λ run. run.report.audit ≡ true →
+        vec_len run.report.processes ≡ length handed.now) }
+    ensures frames { IfOk result (λ run. run.report.frames ≡ frames) }
+    ensures slots { IfOk result (λ run. run.report.audit ≡ true → run.slots ≡ vec_len slots) }
+    ensures crew { IfOk result (λ run. IsCrewOf workers slice run.crew) }
+    ensures sound { IfOk result (λ run. run.report.audit ≡ true →
+        EndsSound S (length handed.now) run.report) }
     ensures bad_size { IsErrOf result RunRefusal.BadSize ↔ ((frames < 4) ⊎ (4096 < frames)) }
     ensures too_many { IsErrOf result RunRefusal.TooManyProcesses ↔ ((4 ≤ frames) ×
         ((frames ≤ 4096) × (most_processes < length handed.now))) }
@@ -123,23 +124,25 @@ pub fn run_over<
     workers: u32,
     slice: u32,
     gate: &G,
-) -> Result<(Report, Share<L>), RunRefusal>
+) -> Result<(RunReport, Share<L>), RunRefusal>
     requires name { blank.name ≡ L.name }
     requires parts { blank.parts ≡ L.parts }
     requires one_each { L.parts ≡ frames + 1 }
     requires workers { 0 < workers }
     requires slice { 0 < slice }
-    ensures stands { IfOk result (λ ran. S.honest → ran.0.audit ≡ true →
-        StandsForRuns handed.now ran.0.lines.items) }
-    ensures last { IfOk result (λ ran. All (λ line. line.last ≡ counts_of line) ran.0.lines.items) }
-    ensures many { IfOk result (λ ran. ran.0.audit ≡ true →
-        vec_len ran.0.lines ≡ length handed.now) }
-    ensures frames { IfOk result (λ ran. ran.0.frames ≡ frames) }
-    ensures slots { IfOk result (λ ran. ran.0.audit ≡ true → ran.0.slots ≡ vec_len slots) }
+    ensures stands { IfOk result (λ ran. S.honest → ran.0.report.audit ≡ true →
+        StandsForRuns handed.now ran.0.report.processes.items) }
+    ensures last { IfOk result (λ ran.
+        ran.0.published.items ≡ map counts_of ran.0.report.processes.items) }
+    ensures many { IfOk result (λ ran. ran.0.report.audit ≡ true →
+        vec_len ran.0.report.processes ≡ length handed.now) }
+    ensures frames { IfOk result (λ ran. ran.0.report.frames ≡ frames) }
+    ensures slots { IfOk result (λ ran. ran.0.report.audit ≡ true →
+        ran.0.slots ≡ vec_len slots) }
     ensures crew { IfOk result (λ ran. IsCrewOf workers slice ran.0.crew) }
-    ensures sound { IfOk result (λ ran. ran.0.audit ≡ true →
-        EndsSound S (length handed.now) ran.0) }
-    ensures shares { IfOk result (λ ran. ran.0.audit ≡ true → ran.1.parts ≡ L.parts) }
+    ensures sound { IfOk result (λ ran. ran.0.report.audit ≡ true →
+        EndsSound S (length handed.now) ran.0.report) }
+    ensures shares { IfOk result (λ ran. ran.0.report.audit ≡ true → ran.1.parts ≡ L.parts) }
     ensures bad_size { IsErrOf result RunRefusal.BadSize ↔ ((frames < 4) ⊎ (4096 < frames)) }
     ensures too_many { IsErrOf result RunRefusal.TooManyProcesses ↔ ((4 ≤ frames) ×
         ((frames ≤ 4096) × (most_processes < length handed.now))) }
@@ -196,27 +199,39 @@ fn run_on<
     workers: u32,
     slice: u32,
     gate: &G,
-) -> Result<(Report, Share<L>), AllocError>
+) -> Result<(RunReport, Share<L>), AllocError>
     requires { length handed.now ≤ most_processes }
-    ensures stands { IfOk result (λ ran. S.honest → ran.0.audit ≡ true →
-        StandsForRuns handed.now ran.0.lines.items) }
-    ensures last { IfOk result (λ ran. All (λ line. line.last ≡ counts_of line) ran.0.lines.items) }
-    ensures many { IfOk result (λ ran. ran.0.audit ≡ true →
-        vec_len ran.0.lines ≡ length handed.now) }
-    ensures frames { IfOk result (λ ran. ran.0.frames ≡ frames) }
-    ensures slots { IfOk result (λ ran. ran.0.audit ≡ true → ran.0.slots ≡ vec_len slots) }
+    ensures stands { IfOk result (λ ran. S.honest → ran.0.report.audit ≡ true →
+        StandsForRuns handed.now ran.0.report.processes.items) }
+    ensures last { IfOk result (λ ran.
+        ran.0.published.items ≡ map counts_of ran.0.report.processes.items) }
+    ensures many { IfOk result (λ ran. ran.0.report.audit ≡ true →
+        vec_len ran.0.report.processes ≡ length handed.now) }
+    ensures frames { IfOk result (λ ran. ran.0.report.frames ≡ frames) }
+    ensures slots { IfOk result (λ ran. ran.0.report.audit ≡ true →
+        ran.0.slots ≡ vec_len slots) }
     ensures crew { IfOk result (λ ran. IsCrewOf workers slice ran.0.crew) }
-    ensures sound { IfOk result (λ ran. ran.0.audit ≡ true →
-        EndsSound S (length handed.now) ran.0) }
-    ensures shares { IfOk result (λ ran. ran.0.audit ≡ true → ran.1.parts ≡ frames + 1) }
+    ensures sound { IfOk result (λ ran. ran.0.report.audit ≡ true →
+        EndsSound S (length handed.now) ran.0.report) }
+    ensures shares { IfOk result (λ ran. ran.0.report.audit ≡ true → ran.1.parts ≡ frames + 1) }
 {
-    let room: Vec<Line> = Vec::with_capacity(alloc, handed.len())?;
+    let room: Vec<ProcessReport> = Vec::with_capacity(alloc, handed.len())?;
+    let statuses: Vec<Status> = Vec::with_capacity(alloc, handed.len())?;
     let ran: Vec<Ran<L, S>> = Vec::with_capacity(alloc, handed.len())?;
     let held: Vec<Held<L, S>> = Vec::with_capacity(alloc, handed.len())?;
     let mut shared: Shared<L, S, C> = Shared::new(alloc, desk, slots);
     let mut viewers = begin_all(alloc, &mut shared, handed)?;
+    shared.add_workers(workers)?;
     let crew = run_threads(rt, &shared, viewers.as_mut_slice(), workers, slice, gate);
-    Ok(close(shared.into_parts(held), frames, crew, handed, room, ran))
+    Ok(close(
+        shared.into_parts(held),
+        frames,
+        crew,
+        handed,
+        room,
+        statuses,
+        ran,
+    ))
 }
 
 /// Adds processes that are to run these images, shared, on copies of these inputs to a machine that has none, and answers viewers of

@@ -1,5 +1,6 @@
 //! A page that a hart lacks is brought in, or its process ended.
 
+use crate::seats::{EMPTY, Lack, Seat};
 use clock_policy::{Clock, Key};
 use flat_machine::KillCause;
 use machine_limits::MOST_LOAD_FAULTS;
@@ -8,54 +9,94 @@ use paged_memory::PageInFault;
 use reclaim_daemon::{Gate, HoldOfBoth, PagedIn, Shared};
 use std::sync::Wait;
 use std::sync::ledger::Ledger;
-use std::thread::yield_now;
 use swap_slots::SwapSlot;
 
 /// What one try for a page came to.
 #[derive(Clone, Copy)]
 enum Try {
-    /// The hart may go on: the page is in, or was not absent.
+    /// The hart may go on: the page is in.
     Done,
     /// The process has ended.
     Ended,
-    /// Another try may do, at once.
-    Again,
-    /// Another try may do, once something has changed.
-    Later,
+    /// Another try may do, once a frame has come free.
+    NoFrame,
+    /// Another try may do, once the page has come or gone.
+    NotYet,
     /// The page could not be loaded.
     LoadFault,
     /// The process is to be ended.
     Fails(KillCause),
 }
 
-/// Brings a page in, and waits for a frame where none is free. Answers whether the hart may go on; else its process has ended.
+/// Brings in the page that a hart lacks, if it lacks one. Answers whether the hart may go on; else it waits for the page, or its process has
+/// ended.
 pub(crate) fn bring_in<L: Ledger, S: SwapSlot, C: Clock, G: Gate, R: Wait>(
     rt: &R,
     shared: &Shared<L, S, C>,
+    process: u32,
+    hart: u32,
+    worker: u32,
+    seat: &mut Seat,
+    rings: u64,
     gate: &G,
-    key: Key,
 ) -> bool {
-    let mut left = MOST_LOAD_FAULTS;
     for _ in rt.forever() {
-        let changes = shared.changes();
-        match try_page(rt, shared, gate, key) {
-            Try::Done => return !is_spent(rt, shared, key.process),
-            Try::Ended => return false,
-            Try::Again => yield_now(),
-            Try::Later => shared.wait_for_change(rt, changes),
+        let Some(lack) = seat.lack else {
+            return true;
+        };
+        if lack.tried == Some(rings) {
+            return false;
+        }
+        let vpn = lack.vpn;
+        match try_page(rt, shared, gate, Key { process, vpn }) {
+            Try::Done => {
+                seat.lack = None;
+                seat.hungry = false;
+                shared.set_paging(process, hart, false);
+                return !is_spent(rt, shared, process);
+            }
+            Try::Ended => {
+                *seat = EMPTY;
+                return false;
+            }
+            Try::NoFrame => {
+                seat.lack = Some(Lack {
+                    told: true,
+                    tried: Some(rings),
+                    ..lack
+                });
+                seat.hungry = true;
+                shared.set_paging(process, hart, true);
+                shared.set_hungry(worker, true);
+                return false;
+            }
+            // It may have come or gone before it was known that the hart waits for that: so it is tried for once more.
+            Try::NotYet if !lack.told => {
+                shared.set_paging(process, hart, true);
+                seat.lack = Some(Lack { told: true, ..lack });
+            }
+            Try::NotYet => {
+                seat.lack = Some(Lack {
+                    tried: Some(rings),
+                    ..lack
+                });
+                seat.hungry = false;
+                return false;
+            }
             Try::LoadFault => {
-                left = left.saturating_sub(1);
-                if left == 0 {
-                    shared.kill(rt, key.process, KillCause::LoadFailed);
+                let faults = lack.faults.saturating_add(1);
+                seat.lack = Some(Lack { faults, ..lack });
+                if faults >= MOST_LOAD_FAULTS {
+                    shared.kill(rt, process, KillCause::LoadFailed);
                     return false;
                 }
             }
             Try::Fails(cause) => {
-                shared.kill(rt, key.process, cause);
+                shared.kill(rt, process, cause);
                 return false;
             }
         }
-        if is_spent(rt, shared, key.process) {
+        if is_spent(rt, shared, process) {
             return false;
         }
     }
@@ -69,7 +110,7 @@ fn is_spent<L: Ledger, S: SwapSlot, C: Clock, R: Wait>(
     process: u32,
 ) -> bool {
     match shared.kill_if_spent(rt, process) {
-        Some(hold) => hold.reply,
+        Some(hold) => hold.reply != Some(false),
         None => true,
     }
 }
@@ -89,7 +130,7 @@ fn try_page<L: Ledger, S: SwapSlot, C: Clock, G: Gate, R: Wait>(
         return Try::Ended;
     };
     match paged_in {
-        PagedIn::Mapped => Try::Done,
+        PagedIn::Mapped | PagedIn::Here => Try::Done,
         PagedIn::NotAdmitted(reason) => after_refusal(reason),
         PagedIn::Failed { admission, fault } => {
             shared.undo(rt, admission);
@@ -98,24 +139,19 @@ fn try_page<L: Ledger, S: SwapSlot, C: Clock, G: Gate, R: Wait>(
     }
 }
 
-/// A page is not absent where another hart of the process brought it in, or where it is leaving. It is listed as resident between the
-/// failed load of another hart and its withdrawal.
+/// A page that is not absent is on its way out. It is listed as resident between the failed load of another hart and its withdrawal.
 fn after_refusal(reason: NotAdmitted) -> Try {
     match reason {
         NotAdmitted::Ended => Try::Ended,
-        NotAdmitted::NotAbsent => {
-            yield_now();
-            Try::Done
-        }
-        NotAdmitted::AlreadyResident => Try::Again,
-        NotAdmitted::NoFrame => Try::Later,
+        NotAdmitted::NotAbsent | NotAdmitted::AlreadyResident => Try::NotYet,
+        NotAdmitted::NoFrame => Try::NoFrame,
         NotAdmitted::NoMemory => Try::Fails(KillCause::NoMemory),
     }
 }
 
 fn after_fault(fault: PageInFault) -> Try {
     match fault {
-        PageInFault::NotAbsent => Try::Again,
+        PageInFault::NotAbsent => Try::NotYet,
         PageInFault::Device => Try::LoadFault,
         PageInFault::Damaged => Try::Fails(KillCause::Damaged),
         PageInFault::NoMemory => Try::Fails(KillCause::NoMemory),

@@ -1,34 +1,23 @@
 //! What a run of a machine by threads has come to.
 
 use crate::crew::Crew;
-use crate::line::Line;
 use machine_limits::MOST_PROCESSES;
+use machine_sides::Report;
+use status_cell::Status;
 use thiserror::Error;
 
-/// What a machine has come to. Each count stays at its type's largest number.
+/// What a machine that threads ran has come to.
 #[derive(Drop)]
-pub struct Report {
-    /// By the processes' numbers.
-    pub lines: Vec<Line>,
-    /// How many frames the machine has.
-    pub frames: u32,
-    /// Of how many slots its pool was in the end.
+pub struct RunReport {
+    /// What is told of any machine. Its audit is true where the list's resident entries are the resident pages, no frame is lost, the slots
+    /// are those of the machine, nothing has happened that no event of it gives, and each process was started from what was handed in.
+    pub report: Report,
+    /// What was published last of each process, by their numbers.
+    pub published: Vec<Status>,
+    /// Of how many slots the machine's pool was in the end.
     pub slots: usize,
     /// Who carried the harts.
     pub crew: Crew,
-    /// Pages that were admitted to a frame.
-    pub page_ins: u64,
-    /// Pages that were named to leave their frames.
-    pub victims: u64,
-    /// Pages whose frame was freed once they were saved.
-    pub saves: u64,
-    /// Unchanged pages whose frame was freed with no save.
-    pub drops: u64,
-    /// Questions of the list that were answered.
-    pub questions: u64,
-    /// Whether the list's resident entries are the resident pages, no frame is lost, the slots are those of the machine, nothing has happened
-    /// that no event of it gives, and each process was started from what was handed in.
-    pub audit: bool,
 }
 
 /// Why a machine was not run, in the order in which the reasons are tested.

@@ -1,10 +1,9 @@
 -- The files of processes are read one after another.
-use Rattle.std.proofs.Common.{◌≡◌, ◌∙◌, ◌++◌, ◌∷◌, ◌+◌, ◌<◌, ◌≤◌, ℕ, List, [], length, map, drop, take, get_or, ap, arith, refl, sym, subst, suc, slice_index_or, slice_set, Option, None}
+use Rattle.std.proofs.Common.{◌≡◌, ◌∙◌, ◌++◌, ◌∷◌, inl, ◌+◌, ◌<◌, ◌≤◌, ℕ, List, [], length, map, drop, take, get_or, ap, arith, refl, sym, subst, suc, slice_index_or, slice_set, Option, None}
 use Rattle.std.proofs.lemmas.List.{map-append, drop_more, take_more, take_all, take-append-drop, nil_from_length}
 use Rattle.elf_image.specs.Start.{Start}
-use Rattle.image_files.specs.Faults.{IsOfFile}
 use Rattle.image_files.specs.Reading.{AreGiven, GivesImage, GivesInput}
-use Rattle.image_files.specs.Refused.{StopsAtImage}
+use Rattle.image_files.specs.Refused.{GivesNoImage, StopsAtImage}
 use Rattle.image_files.specs.declared.fault.Fault.{Fault}
 use Rattle.image_files.specs.declared.fault.Fault.TheVariants as fault
 
@@ -37,9 +36,9 @@ module _ (gives : List ℕ → List ℕ → Type 0) where
   all_read called start images i items past read = subst (λ l. AreGiven gives None (map called l) (map start items)) (take_all i images past) read
 
   -- a fault of one image, behind those that were read
-  pub stops_at : {X P : Type 0} (called : X → List ℕ) (start : P → Start) (images : List X) (i : ℕ) (d : X) (items : List P) (why : Fault) → i < length images
-      → AreGiven gives None (map called (take i images)) (map start items) → IsOfFile (called (get_or images i d)) why → StopsAtImage gives (map called images) why
-  stops_at called start images i d items why within read of = record {
+  pub stops_at : {X P : Type 0} (withholds : List ℕ → Type 0) (called : X → List ℕ) (start : P → Start) (images : List X) (i : ℕ) (d : X) (items : List P) (why : Fault) → i < length images
+      → AreGiven gives None (map called (take i images)) (map start items) → GivesNoImage gives withholds (called (get_or images i d)) why → StopsAtImage gives withholds (map called images) why
+  stops_at withholds called start images i d items why within read refused = record {
     above = map called (take i images);
     name = called (get_or images i d);
     below = map called (drop (i + 1) images);
@@ -48,14 +47,14 @@ module _ (gives : List ℕ → List ℕ → Type 0) where
         ap (map called) (sym (take-append-drop i images)) ∙ ap (λ l. map called (take i images ++ l)) (drop_more images i d within)
         ∙ map-append called (take i images) (get_or images i d ∷ drop (i + 1) images);
     read = read;
-    of_file = of;
+    refused = refused;
   }
 
   -- the same for want of memory
-  pub stops_scant : {X P : Type 0} (called : X → List ℕ) (start : P → Start) (images : List X) (i : ℕ) (items : List P) → i < length images
-      → AreGiven gives None (map called (take i images)) (map start items) → StopsAtImage gives (map called images) fault.NoMemory
-  stops_scant called start [] i items within read = absurd (omega (arith, within))
-  stops_scant called start (image ∷ images) i items within read = stops_at called start (image ∷ images) i image items fault.NoMemory within read (tt {0})
+  pub stops_scant : {X P : Type 0} (withholds : List ℕ → Type 0) (called : X → List ℕ) (start : P → Start) (images : List X) (i : ℕ) (items : List P) → i < length images
+      → AreGiven gives None (map called (take i images)) (map start items) → StopsAtImage gives withholds (map called images) fault.NoMemory
+  stops_scant withholds called start [] i items within read = absurd (omega (arith, within))
+  stops_scant withholds called start (image ∷ images) i items within read = stops_at withholds called start (image ∷ images) i image items fault.NoMemory within read (inl (tt {0}))
 
   pub none_given : {P : Type 0} (start : P → Start) (input : Option (List ℕ)) (names : List (List ℕ)) (items : List P) → length items ≡ 0
       → AreGiven gives None names (map start items) → AreGiven gives input names (map start items)

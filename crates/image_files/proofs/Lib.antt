@@ -1,3 +1,4 @@
 pub mod Given
+pub mod ImageFaults
 pub mod WordLines
 pub mod ZeroSlots

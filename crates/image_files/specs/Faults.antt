@@ -1,5 +1,5 @@
--- Which faults tell of a line, and which of a file.
-use Rattle.std.specs.Prelude.{◌≡◌, ◌⊎◌, ℕ, ⊤, List, Contains}
+-- Which faults tell of a line, and which that a file can't be read or written.
+use Rattle.std.specs.Prelude.{◌≡◌, ℕ, ⊤, List}
 use Rattle.command_line.specs.declared.request.UsageError.{UsageError}
 use Rattle.command_line.specs.declared.request.UsageError.TheVariants as usage
 use Rattle.image_files.specs.declared.fault.Fault.{Fault}
@@ -14,18 +14,16 @@ IfBadLine _ P = ⊤
 abbrev pub IsOfNoLine : Fault → Type 0
 IsOfNoLine why = IfBadLine why (λ number. ⊥)
 
--- A fault of the file of this name: it can't be read, or doesn't hold what it should; or memory is wanting.
-abbrev pub IsOfFile : List ℕ → Fault → Type 0
-IsOfFile name (fault.CannotRead named) = named.now ≡ name
-IsOfFile name (fault.ElfFault named number) = named.now ≡ name
-IsOfFile name (fault.Source named line number) = named.now ≡ name
-IsOfFile name (fault.BadWords named) = named.now ≡ name
-IsOfFile name fault.NoMemory = ⊤
-IsOfFile name _ = ⊥
+-- the file of this name can't be read, which `withholds` tells of it; or memory is wanting
+abbrev pub IsUnread : (List ℕ → Type 0) → List ℕ → Fault → Type 0
+IsUnread withholds name (fault.CannotRead named) = (named.now ≡ name) × withholds name
+IsUnread withholds name fault.NoMemory = ⊤
+IsUnread withholds name _ = ⊥
 
--- a fault of one of some files
-abbrev pub IsOfFileAmong : List (List ℕ) → Fault → Type 0
-IsOfFileAmong names why = (name : List ℕ) × (Contains names name × IsOfFile name why)
+-- the file of this name can't be written
+abbrev pub IsUnwritten : List ℕ → Fault → Type 0
+IsUnwritten name (fault.CannotRead named) = named.now ≡ name
+IsUnwritten name _ = ⊥
 
 -- words that make no request, as a fault
 abbrev pub usage_fault : UsageError → Fault

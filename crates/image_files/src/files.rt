@@ -1,39 +1,38 @@
 //! Files that commands read and write whole, and files of slots.
 
-ghost use Rattle.std.specs.Prelude.{◌≡◌, ◌≤◌, ℕ, ⊤, List, [], false, is_some, IfErr, IfOk, min, option_map, vec_len};
-ghost use Rattle.image_files.specs.Faults.{IsOfFile, IsOfNoLine};
+ghost use Rattle.std.specs.Prelude.{◌≡◌, ◌≤◌, ℕ, ⊤, List, [], false, is_some, IfErr, IfOk, option_map, vec_len};
+ghost use Rattle.std.specs.Str.{IsUtf8};
+ghost use Rattle.image_files.specs.FileFaults.{IsNoText};
+ghost use Rattle.image_files.specs.Faults.{IsOfNoLine, IsUnread, IsUnwritten};
 ghost use Rattle.image_files.specs.Reading.{GivesInput};
-ghost use Rattle.image_files.specs.Refused.{IsOfInput};
-ghost use Rattle.image_files.specs.SlotFiles.{AreNewFiles, CannotMakeOneOf};
+ghost use Rattle.image_files.specs.Refused.{GivesNoInput, GivesNoText};
+ghost use Rattle.image_files.specs.SlotFiles.{AreNewFiles, AreNoNewFiles};
 
 use crate::fault::Fault;
 use crate::system_files::{MOST_BYTES, open_to_read, write_file};
-use file_slots::{FileSlot, make_file_slots};
+use file_slots::{FileMaker, FileSlot, make_file_slots};
 use std::alloc::Global;
-use std::io::{ErrorKind, Read, Seek, Write};
+use std::io::{ErrorKind, Read};
 use std::rt::Files;
 
 /// Where files are read and written, and slots' files are made.
-pub trait Folder {
-    /// An open file.
-    type File: Read + Write + Seek + Drop;
-
+pub trait Folder: FileMaker {
     /// Whether a file of this name may be found to hold these bytes.
     ghost gives: { List ℕ → List ℕ → Type 0 };
 
-    /// Whether an open file may be one that was made anew, empty, under this name.
-    ghost makes: { List ℕ → Self.File → Type 0 };
+    /// Whether it may be found that a file of this name can't be read.
+    ghost withholds: { List ℕ → Type 0 };
 
     /// The bytes of a file.
     fn read<'a>(&self, name: &'a str) -> Result<Vec<u8>, Fault<'a>>
         ensures bytes { IfOk result (λ bytes. gives name.now bytes.items) }
         ensures fault { IfErr result IsOfNoLine }
-        ensures of_file { IfErr result (IsOfFile name.now) };
+        ensures unread { IfErr result (IsUnread withholds name.now) };
 
     /// Makes a file anew of these bytes. Where it takes none, no file is left that was not there before.
     fn write<'a>(&self, name: &'a str, bytes: &[u8]) -> Result<(), Fault<'a>>
         ensures fault { IfErr result IsOfNoLine }
-        ensures of_file { IfErr result (IsOfFile name.now) };
+        ensures unwritten { IfErr result (IsUnwritten name.now) };
 
     /// So many slots, but 512 at most, each in a file of its own that is made anew: `PREFIX.0`, `PREFIX.1` and so on.
     fn make_slots<'a>(
@@ -41,17 +40,15 @@ pub trait Folder {
         prefix: &'a str,
         count: u32,
     ) -> Result<Vec<FileSlot<Self::File>>, Fault<'a>>
-        ensures made { IfOk result (λ slots. AreNewFiles makes prefix.now count slots.items) }
-        ensures refused { IfErr result (CannotMakeOneOf prefix.now (min count 512)) };
+        ensures made { IfOk result (λ slots. AreNewFiles Self.makes prefix.now count slots.items) }
+        ensures refused { IfErr result (AreNoNewFiles Self.makes Self.refuses prefix.now count) };
 }
 
-/// Of the system's files nothing is known before they are read, nor which one an open file is.
+/// Of the system's files nothing is known before they are read, nor which of them can be.
 impl<R: Files + AllocGlobal> Folder for R {
-    type File = R::File;
-
     ghost gives = { λ _ _. ⊤ };
 
-    ghost makes = { λ _ _. ⊤ };
+    ghost withholds = { λ _. ⊤ };
 
     fn read<'a>(&self, name: &'a str) -> Result<Vec<u8>, Fault<'a>> {
         read_file(self, name)
@@ -77,7 +74,7 @@ impl<R: Files + AllocGlobal> Folder for R {
 pub fn read_file<'a, R: Files + AllocGlobal>(rt: &R, name: &'a str) -> Result<Vec<u8>, Fault<'a>>
     ensures few { IfOk result (λ bytes. vec_len bytes ≤ MOST_BYTES) }
     ensures fault { IfErr result IsOfNoLine }
-    ensures of_file { IfErr result (IsOfFile name.now) }
+    ensures unread { IfErr result (IsUnread (λ _. ⊤) name.now) }
 {
     let Some(file) = open_to_read(rt, name) else {
         return Err(Fault::CannotRead(name));
@@ -104,7 +101,8 @@ pub fn read_input<'a, R: Folder + AllocGlobal>(
     ensures given { IfOk result (λ bytes. GivesInput R.gives (option_map (λ s.
         s.now) name.entry) bytes.items) }
     ensures fault { IfErr result IsOfNoLine }
-    ensures of_input { IfErr result (IsOfInput (option_map (λ s. s.now) name.entry)) }
+    ensures refused { IfErr result (GivesNoInput R.gives R.withholds (option_map (λ s.
+        s.now) name.entry)) }
 {
     match name {
         Some(name) => rt.read(name),
@@ -115,8 +113,9 @@ pub fn read_input<'a, R: Folder + AllocGlobal>(
 /// The text of a file, which has to be UTF-8.
 pub fn read_text<'a, R: Folder>(rt: &R, name: &'a str) -> Result<String, Fault<'a>>
     ensures text { IfOk result (λ text. R.gives name.now text.bytes.items) }
+    ensures utf8 { IfOk result (λ text. IsUtf8 text.bytes.items) }
     ensures fault { IfErr result IsOfNoLine }
-    ensures of_file { IfErr result (IsOfFile name.now) }
+    ensures refused { IfErr result (GivesNoText R.gives R.withholds name.now) }
 {
     text_of(rt.read(name)?, name)
 }
@@ -124,8 +123,15 @@ pub fn read_text<'a, R: Folder>(rt: &R, name: &'a str) -> Result<String, Fault<'
 /// The text that a file's bytes are.
 pub fn text_of(bytes: Vec<u8>, name: &str) -> Result<String, Fault<'_>>
     ensures text { IfOk result (λ text. text.bytes.items ≡ bytes.items) }
+    ensures utf8 { IfOk result (λ text. IsUtf8 text.bytes.items) }
     ensures fault { IfErr result IsOfNoLine }
-    ensures of_file { IfErr result (IsOfFile name.now) }
+    ensures refused { IfErr result (IsNoText name.now bytes.items) }
 {
-    String::from_utf8(bytes).map_err(|_| Fault::CannotRead(name))
+    match String::from_utf8(bytes) {
+        Ok(text) => {
+            let _text = text.as_str();
+            Ok(text)
+        }
+        Err(_) => Err(Fault::CannotRead(name)),
+    }
 }

@@ -1,13 +1,12 @@
 //! Images and sources in files.
 
 ghost use Rattle.std.specs.Prelude.{◌≡◌, None, Ok, IfErr, IfOk, length, map, option_map};
-ghost use Rattle.elf_image.specs.Image.{image_of_words};
 ghost use Rattle.elf_image.specs.Start.{start_of};
-ghost use Rattle.image_files.specs.Faults.{IsOfFile, IsOfNoLine};
-ghost use Rattle.image_files.specs.Reading.{AreGiven, GivesImage, GivesListing, HoldsImage};
-ghost use Rattle.image_files.specs.Refused.{StopsAtImage, StopsReading};
-ghost use Rattle.image_files.specs.WordsFile.{words_in};
-ghost use Rattle.rv_asm.specs.Assembly.{Assembles};
+ghost use Rattle.image_files.specs.FileFaults.{HasElfFault, HasFault, HasSourceFault, HasWordsFault};
+ghost use Rattle.image_files.specs.Faults.{IsOfNoLine};
+ghost use Rattle.image_files.specs.Reading.{AreGiven, GivesImage, GivesListing, HoldsImage, IsElfImage, IsListing, IsSourceImage, IsWordsImage};
+ghost use Rattle.image_files.specs.Refused.{GivesNoImage, GivesNoListing, StopsAtImage, StopsReading};
+ghost use Rattle.image_files.specs.Told.{TellsElfFault};
 
 use crate::fault::Fault;
 use crate::files::{Folder, read_input, text_of};
@@ -21,7 +20,7 @@ use std::alloc::Global;
 pub fn read_image<'a, R: Folder + AllocGlobal>(rt: &R, name: &'a str) -> Result<Image, Fault<'a>>
     ensures image { IfOk result (GivesImage R.gives name.now) }
     ensures fault { IfErr result IsOfNoLine }
-    ensures of_file { IfErr result (IsOfFile name.now) }
+    ensures refused { IfErr result (GivesNoImage R.gives R.withholds name.now) }
 {
     let file = rt.read(name)?;
     image_in(rt.alloc(), file, name)
@@ -31,12 +30,12 @@ pub fn read_image<'a, R: Folder + AllocGlobal>(rt: &R, name: &'a str) -> Result<
 fn image_in<'a>(alloc: Global, file: Vec<u8>, name: &'a str) -> Result<Image, Fault<'a>>
     ensures image { IfOk result (HoldsImage file.items) }
     ensures fault { IfErr result IsOfNoLine }
-    ensures of_file { IfErr result (IsOfFile name.now) }
+    ensures refused { IfErr result (HasFault name.now file.items) }
 {
     match kind_of_file(file.as_slice()) {
-        ImageKind::Elf => image_or_fault(read_elf(alloc, file.as_slice()), name),
+        ImageKind::Elf => image_of_elf(alloc, file.as_slice(), name),
         ImageKind::Words => image_of_words(alloc, file.as_slice(), name),
-        ImageKind::Source => Ok(listing_of(alloc, file, name)?.into_image()),
+        ImageKind::Source => image_of_source(alloc, file, name),
     }
 }
 
@@ -52,8 +51,8 @@ pub fn read_processes<'a, R: Folder + AllocGlobal>(
         s.now) input.entry) (map (λ s. s.now) images.now) (map (λ start.
         start_of start.0 start.1.items) processes.items)) }
     ensures fault { IfErr result IsOfNoLine }
-    ensures refused { IfErr result (StopsReading R.gives (option_map (λ s. s.now) input.entry)
-        (map (λ s. s.now) images.now)) }
+    ensures refused { IfErr result (StopsReading R.gives R.withholds (option_map (λ s.
+        s.now) input.entry) (map (λ s. s.now) images.now)) }
 {
     let mut processes = read_images(rt, images)?;
     let input = read_input(rt, input)?;
@@ -72,7 +71,7 @@ fn read_images<'a, R: Folder + AllocGlobal>(
     ensures read { IfOk result (λ processes. AreGiven R.gives None (map (λ s. s.now) images.now)
         (map (λ start. start_of start.0 start.1.items) processes.items)) }
     ensures fault { IfErr result IsOfNoLine }
-    ensures refused { IfErr result (StopsAtImage R.gives (map (λ s. s.now) images.now)) }
+    ensures refused { IfErr result (StopsAtImage R.gives R.withholds (map (λ s. s.now) images.now)) }
 {
     let mut processes = Vec::new(rt.alloc());
     for name in images {
@@ -88,15 +87,16 @@ fn read_images<'a, R: Folder + AllocGlobal>(
 pub fn read_source<'a, R: Folder + AllocGlobal>(rt: &R, name: &'a str) -> Result<Listing, Fault<'a>>
     ensures listing { IfOk result (GivesListing R.gives name.now) }
     ensures fault { IfErr result IsOfNoLine }
-    ensures of_file { IfErr result (IsOfFile name.now) }
+    ensures refused { IfErr result (GivesNoListing R.gives R.withholds name.now) }
 {
     listing_of(rt.alloc(), rt.read(name)?, name)
 }
 
+/// What the bytes of a file, as a source, are assembled to.
 fn listing_of<'a>(alloc: Global, file: Vec<u8>, name: &'a str) -> Result<Listing, Fault<'a>>
-    ensures listing { IfOk result (Assembles file.items) }
+    ensures listing { IfOk result (IsListing file.items) }
     ensures fault { IfErr result IsOfNoLine }
-    ensures of_file { IfErr result (IsOfFile name.now) }
+    ensures refused { IfErr result (HasSourceFault name.now file.items) }
 {
     let source = text_of(file, name)?;
     match assemble(alloc, source.as_str()) {
@@ -106,10 +106,21 @@ fn listing_of<'a>(alloc: Global, file: Vec<u8>, name: &'a str) -> Result<Listing
     }
 }
 
-fn image_of_words<'a>(alloc: Global, file: &[u8], name: &'a str) -> Result<Image, Fault<'a>>
-    ensures image { IfOk result (λ image. image ≡ image_of_words (words_in file.now)) }
+fn image_of_source<'a>(alloc: Global, file: Vec<u8>, name: &'a str) -> Result<Image, Fault<'a>>
+    ensures image { IfOk result (IsSourceImage file.items) }
     ensures fault { IfErr result IsOfNoLine }
-    ensures of_file { IfErr result (IsOfFile name.now) }
+    ensures refused { IfErr result (HasSourceFault name.now file.items) }
+{
+    match listing_of(alloc, file, name) {
+        Ok(listing) => Ok(listing.into_image()),
+        Err(fault) => Err(fault),
+    }
+}
+
+fn image_of_words<'a>(alloc: Global, file: &[u8], name: &'a str) -> Result<Image, Fault<'a>>
+    ensures image { IfOk result (IsWordsImage file.now) }
+    ensures fault { IfErr result IsOfNoLine }
+    ensures refused { IfErr result (HasWordsFault name.now file.now) }
 {
     match words_of_file(alloc, file) {
         Ok(words) => image_or_fault(Image::from_words(alloc, words.as_slice()), name),
@@ -118,10 +129,19 @@ fn image_of_words<'a>(alloc: Global, file: &[u8], name: &'a str) -> Result<Image
     }
 }
 
+fn image_of_elf<'a>(alloc: Global, file: &[u8], name: &'a str) -> Result<Image, Fault<'a>>
+    ensures image { IfOk result (IsElfImage file.now) }
+    ensures fault { IfErr result IsOfNoLine }
+    ensures refused { IfErr result (HasElfFault name.now file.now) }
+{
+    image_or_fault(read_elf(alloc, file), name)
+}
+
+/// An image that was made of a file, or why it was not.
 fn image_or_fault(made: Result<Image, ElfFault>, name: &str) -> Result<Image, Fault<'_>>
     ensures image { IfOk result (λ image. made ≡ Ok image) }
     ensures fault { IfErr result IsOfNoLine }
-    ensures of_file { IfErr result (IsOfFile name.now) }
+    ensures refused { IfErr result (TellsElfFault name.now made) }
 {
     match made {
         Ok(image) => Ok(image),

@@ -15,11 +15,12 @@ use Rattle.machine_core.specs.declared.event.Reply.{Reply}
 use Rattle.machine_core.proofs.Cores.{alike_machine, lent_back}
 use Rattle.machine_sides.specs.Cleaning.{StartsCleaning}
 use Rattle.machine_sides.specs.CleaningLaws.{starts_alike}
-use Rattle.machine_sides.specs.Sides.{PagerSideValue, ProcessSideValue}
+use Rattle.machine_sides.specs.Sides.{PagerSideValue}
 use Rattle.machine_sides.specs.declared.cleaning.CleanBar.{CleanBar}
+use Rattle.space_core.specs.StandsFor.{SpaceValue}
 
 module _ {S : Type 0} where
-  module _ (held : S → List ℕ) (pager : PagerSideValue) (slots : PoolValue S) (jobs copies : List (JobValue S)) (items lent new : List (ProcessSideValue S)) (n : ℕ) (key : Key) (result : Result (Unit {0}) CleanBar)
+  module _ (held : S → List ℕ) (pager : PagerSideValue) (slots : PoolValue S) (jobs copies : List (JobValue S)) (items lent new : List (SpaceValue S)) (n : ℕ) (key : Key) (result : Result (Unit {0}) CleanBar)
       (machine : IsMachine (record { pager = pager; slots = slots; processes = items; jobs = jobs; copies = copies })) (long : n ≡ length items) (same : lent ≡ items) (at : CleansAt held key.process key.vpn lent new result) where
     abbrev core : CoreValue S
     core = record { pager = pager; slots = slots; processes = items; jobs = jobs; copies = copies }
@@ -35,12 +36,12 @@ module _ {S : Type 0} where
         let is : new ≡ slice_set items key.process at.process' = at.is ∙ ap (λ l. slice_set l key.process at.process') same in
         sym is ∙ sym (lent_back items new n long (ap length is ∙ length-set items key.process at.process'))
 
-    alike : CountsAlike at.process.space.memory at.process'.space.memory
+    alike : CountsAlike at.process.memory at.process'.memory
     alike = by_result result at.starts at.err
       where
-        by_result : (r : Result (Unit {0}) CleanBar) → OnOk r (StartsCleaning key.vpn at.process at.process') → OnErr r (at.process' ≡ at.process) → CountsAlike at.process.space.memory at.process'.space.memory
+        by_result : (r : Result (Unit {0}) CleanBar) → OnOk r (StartsCleaning key.vpn at.process at.process') → OnErr r (at.process' ≡ at.process) → CountsAlike at.process.memory at.process'.memory
         by_result (Ok done) starts err = starts_alike key.vpn at.process at.process' starts
-        by_result (Err why) starts err = same_memory at.process.space.memory at.process'.space.memory (ap (λ (p : ProcessSideValue S). p.space.memory) err)
+        by_result (Err why) starts err = same_memory at.process.memory at.process'.memory (ap (λ (p : SpaceValue S). p.memory) err)
 
     pub clean_back : IsMachine left
     clean_back = subst (λ l. IsMachine (record { pager = pager; slots = slots; processes = l; jobs = jobs; copies = copies })) is_set (alike_machine core key.process at.process at.process' machine found alike)

@@ -26,7 +26,7 @@ use Rattle.machine_sides.specs.LookLaws.{same_sides}
 use Rattle.machine_core.specs.Machine.{CoreValue, IsMachine, IsSaveOut, IsCopyOut, jobs_where, total}
 use Rattle.machine_core.specs.MachineRun.{of_process}
 use Rattle.machine_sides.specs.ReturnLaws.{returned_rest, listed_frames, back_together}
-use Rattle.machine_sides.specs.Sides.{PagerSideValue, ProcessSideValue}
+use Rattle.machine_sides.specs.Sides.{PagerSideValue}
 use Rattle.machine_sides.specs.StageLaws.{stage_passes}
 use Rattle.machine_sides.specs.TogetherLaws.{LeavesRest}
 use Rattle.machine_sides.specs.Together.{Together, key_of}
@@ -61,9 +61,9 @@ module _ {S : Type 0} where
 
   -- ---- the moves
 
-  module _ (core core' : CoreValue S) (p : ℕ) (q q' : ProcessSideValue S) (machine : IsMachine core) (found : slice_get core.processes p ≡ Some q) (processes : core'.processes ≡ slice_set core.processes p q') where
+  module _ (core core' : CoreValue S) (p : ℕ) (q q' : SpaceValue S) (machine : IsMachine core) (found : slice_get core.processes p ≡ Some q) (processes : core'.processes ≡ slice_set core.processes p q') where
     -- where neither slots nor saves change
-    quiet_moves : Together core.pager.pager core'.pager.pager q.space q'.space → Lawful core'.pager.pager.list → core'.pager.pager.list.frames ≡ core'.pager.pager.size → LeavesRest q.space q'.space → core'.slots ≡ core.slots → core'.jobs ≡ core.jobs → core'.copies ≡ core.copies → Moves core core' p q q'
+    quiet_moves : Together core.pager.pager core'.pager.pager q q' → Lawful core'.pager.pager.list → core'.pager.pager.list.frames ≡ core'.pager.pager.size → LeavesRest q q' → core'.slots ≡ core.slots → core'.jobs ≡ core.jobs → core'.copies ≡ core.copies → Moves core core' p q q'
     quiet_moves together lawful frames rest slots jobs copies = record {
       found = found;
       processes = processes;
@@ -89,8 +89,8 @@ module _ {S : Type 0} where
       copies_out = subst (λ l. All (IsCopyOut l) core'.copies) (sym processes) (subst (All (IsCopyOut (slice_set core.processes p q'))) (sym copies) (copies_stay core.processes p q q' core.copies found rest.copies.stand machine.copies_out));
     }
 
-    same_rest : q' ≡ q → LeavesRest q.space q'.space
-    same_rest same = subst (λ (r : ProcessSideValue S). LeavesRest q.space r.space) (sym same) (record { savings = λ test. refl; slots = refl; stay = λ number small is. (refl, refl); copies = leaves_itself q.space.memory })
+    same_rest : q' ≡ q → LeavesRest q q'
+    same_rest same = subst (λ (r : SpaceValue S). LeavesRest q r) (sym same) (record { savings = λ test. refl; slots = refl; stay = λ number small is. (refl, refl); copies = leaves_itself q.memory })
 
     lawful_still : core'.pager ≡ core.pager → Lawful core'.pager.pager.list
     lawful_still pager = subst (λ (s : PagerSideValue). Lawful s.pager.list) (sym pager) machine.lawful
@@ -114,7 +114,7 @@ module _ {S : Type 0} where
       returned_moves back jobs copies =
           let together = back_together vpn core.pager core'.pager q q' back.returns in
           quiet_moves together back.returns.listed.lawful
-          (listed_frames (key_of q.space.memory.process vpn) core.pager core'.pager back.returns.listed ∙ machine.frames ∙ sym together.size)
+          (listed_frames (key_of q.memory.process vpn) core.pager core'.pager back.returns.listed ∙ machine.frames ∙ sym together.size)
           (returned_rest vpn q q' back.returns.mapped) back.slots_stay jobs copies
 
       copied_moves : (job : JobValue S) → IsCopied vpn core.pager core'.pager q q' core.slots core'.slots job → core'.jobs ≡ core.jobs ++ job ∷ [] → core'.copies ≡ core.copies → Moves core core' p q q'
@@ -127,8 +127,8 @@ module _ {S : Type 0} where
             frame = at.frame;
             small = subst (λ n. n < 2 ^ 20) (sym saving.moves.vpn_is) saving.moves.small;
             found = ap (slice_get core'.processes) number ∙ ap (λ l. slice_get l p) processes ∙ get_set_same core.processes p q q' found;
-            saving = ap (λ v. is_saving_stage (stage_in q'.space.memory v)) saving.moves.vpn_is ∙ ap is_saving_stage at.is;
-            framed = ap (frame_in q'.space.memory) saving.moves.vpn_is ∙ at.framed_still;
+            saving = ap (λ v. is_saving_stage (stage_in q'.memory v)) saving.moves.vpn_is ∙ ap is_saving_stage at.is;
+            framed = ap (frame_in q'.memory) saving.moves.vpn_is ∙ at.framed_still;
             same = sym at.copy;
           } in
           let others : All (IsSaveOut core'.processes) core.jobs = subst (λ l. All (IsSaveOut l) core.jobs) (sym processes) (out_stays core.processes p q q' core.jobs found at.stay machine.out) in
@@ -140,7 +140,7 @@ module _ {S : Type 0} where
             frames = frames_still copied.pager_stays;
             saved = λ test.
                 let more : jobs_where test core'.jobs ≡ jobs_where test core.jobs + cond (test (key_of job.process job.vpn)) 1 0 = ap (jobs_where test) jobs ∙ more_jobs test core.jobs job in
-                let key : cond {A = ℕ} (test (key_of job.process job.vpn)) 1 0 ≡ cond (test (key_of q.space.memory.process vpn)) 1 0 = ap (λ k. cond {A = ℕ} (test k) 1 0) (one_key (key_of job.process job.vpn) (key_of q.space.memory.process vpn) saving.moves.process saving.moves.vpn_is) in
+                let key : cond {A = ℕ} (test (key_of job.process job.vpn)) 1 0 ≡ cond (test (key_of q.memory.process vpn)) 1 0 = ap (λ k. cond {A = ℕ} (test k) 1 0) (one_key (key_of job.process job.vpn) (key_of q.memory.process vpn) saving.moves.process saving.moves.vpn_is) in
                 let one = copied_savings vpn job q q' core.slots core'.slots saving test in
                 omega (arith, more, key, one);
             slotted =
@@ -179,9 +179,9 @@ module _ {S : Type 0} where
 
   -- ---- what a look comes to in the machine
 
-  module _ (core : CoreValue S) (p : ℕ) (q q' : ProcessSideValue S) (vpn : ℕ) (machine : IsMachine core) (found : slice_get core.processes p ≡ Some q) (leaving : is_leaving_at q.space vpn ≡ true) where
-    holds : HoldsFrame q.space vpn
-    holds = leaving_holds q.space vpn leaving
+  module _ (core : CoreValue S) (p : ℕ) (q q' : SpaceValue S) (vpn : ℕ) (machine : IsMachine core) (found : slice_get core.processes p ≡ Some q) (leaving : is_leaving_at q vpn ≡ true) where
+    holds : HoldsFrame q vpn
+    holds = leaving_holds q vpn leaving
 
     pub looked_own : {L : Type 0} (pager' : PagerSideValue) (slots' : PoolValue S) (looked : Looked L S) → Looks vpn core.pager pager' q q' core.slots slots' looked → IsOwn looked
     looked_own pager' slots' NotLeaving how = let no = how.0 in let yes = leaving in cc
@@ -194,18 +194,18 @@ module _ {S : Type 0} where
 
     -- a save of the page has room
     pub looked_room : length core.jobs < core.pager.pager.size
-    looked_room = job_fits core p q vpn machine found holds (leaving_not_saving (stage_in q.space.memory vpn) (stage_passes q.space is_leaving_stage vpn refl leaving).1)
+    looked_room = job_fits core p q vpn machine found holds (leaving_not_saving (stage_in q.memory vpn) (stage_passes q is_leaving_stage vpn refl leaving).1)
 
   -- ---- the event
 
-  allowed_leaving : (vpn : ℕ) (q : ProcessSideValue S) → leaving_reason vpn q ≡ None → is_leaving_at q.space vpn ≡ true
-  allowed_leaving vpn q h = by_answer (is_leaving_at q.space vpn) h
+  allowed_leaving : (vpn : ℕ) (q : SpaceValue S) → leaving_reason vpn q ≡ None → is_leaving_at q vpn ≡ true
+  allowed_leaving vpn q h = by_answer (is_leaving_at q vpn) h
     where
       by_answer : (b : Bool) → (if b then None else Some refusal.NotLeaving) ≡ None → b ≡ true
       by_answer true h = refl
       by_answer false h = cc
 
-  module _ (held : S → List ℕ) (honest : Type 0) (L : Type 0) (pager pager' : PagerSideValue) (slots slots' : PoolValue S) (jobs copies : List (JobValue S)) (items lent new : List (ProcessSideValue S)) (n : ℕ) (key : Key) (looked : Looked L S)
+  module _ (held : S → List ℕ) (honest : Type 0) (L : Type 0) (pager pager' : PagerSideValue) (slots slots' : PoolValue S) (jobs copies : List (JobValue S)) (items lent new : List (SpaceValue S)) (n : ℕ) (key : Key) (looked : Looked L S)
       (machine : IsMachine (record { pager = pager; slots = slots; processes = items; jobs = jobs; copies = copies })) (allowed : collect_refusal key items ≡ None)
       (long : n ≡ length items) (same : lent ≡ items) (looks : LooksAt held honest key.process key.vpn pager pager' slots slots' lent new looked) where
     abbrev core : CoreValue S
@@ -219,7 +219,7 @@ module _ {S : Type 0} where
         let is : new ≡ slice_set items key.process looks.process' = looks.is ∙ ap (λ l. slice_set l key.process looks.process') same in
         lent_back items new n long (ap length is ∙ length-set items key.process looks.process') ∙ is
 
-    leaving : is_leaving_at looks.process.space key.vpn ≡ true
+    leaving : is_leaving_at looks.process key.vpn ≡ true
     leaving = allowed_leaving key.vpn looks.process (ap (of_process (leaving_reason key.vpn)) (sym found) ∙ allowed)
 
     pub own : IsOwn looked

@@ -30,7 +30,7 @@ use Rattle.machine_core.proofs.JobsOut.{both_true, same_key, total_permuted}
 use Rattle.machine_core.proofs.Kept.{moved_machine, out_stays}
 use Rattle.machine_sides.specs.Cleaning.{TakesCopyBack}
 use Rattle.machine_sides.specs.CleaningLaws.{in_place_together, in_place_savings, back_copies}
-use Rattle.machine_sides.specs.Sides.{PagerSideValue, ProcessSideValue}
+use Rattle.machine_sides.specs.Sides.{PagerSideValue}
 use Rattle.machine_sides.specs.Together.{copies_in, key_of}
 
 module _ {S : Type 0} where
@@ -44,7 +44,7 @@ module _ {S : Type 0} where
         ap (is_copied_in space.memory) (sym (eqb-true found.number key.vpn same.1)) ∙ found.copied,
       )
 
-  module _ (held : S → List ℕ) (honest : Type 0) (failures : S → ℕ) (core : CoreValue S) (key : Key) (q : ProcessSideValue S) (copies' : List (JobValue S)) (job : SavedValue S)
+  module _ (held : S → List ℕ) (honest : Type 0) (failures : S → ℕ) (core : CoreValue S) (key : Key) (q : SpaceValue S) (copies' : List (JobValue S)) (job : SavedValue S)
       (machine : IsMachine core) (found : slice_get core.processes key.process ≡ Some q) (makes : MakesSave held honest failures key core.copies copies' job) where
     outs : All (IsCopyOut core.processes) (makes.job ∷ copies')
     outs = All-permutation (IsCopyOut core.processes) core.copies (makes.job ∷ copies') makes.taken machine.copies_out
@@ -58,37 +58,37 @@ module _ {S : Type 0} where
     vpn_is : job.vpn ≡ key.vpn
     vpn_is = makes.page ∙ makes.job_page
 
-    number : q.space.memory.process ≡ key.process
+    number : q.memory.process ≡ key.process
     number = machine.numbered key.process q found
 
     small : job.vpn < 2 ^ 20
     small = let s = out.small in let e = makes.page in omega (arith, s, e)
 
-    stands : CopyStands job.vpn job.copy q.space.memory
+    stands : CopyStands job.vpn job.copy q.memory
     stands =
-        subst (λ bytes. CopyStands job.vpn bytes q.space.memory) (sym makes.copy)
-        (subst (λ v. CopyStands v makes.job.copy q.space.memory) (sym makes.page)
-        (subst (λ (r : ProcessSideValue S). CopyStands makes.job.vpn makes.job.copy r.space.memory) here out.stands))
+        subst (λ bytes. CopyStands job.vpn bytes q.memory) (sym makes.copy)
+        (subst (λ v. CopyStands v makes.job.copy q.memory) (sym makes.page)
+        (subst (λ (r : SpaceValue S). CopyStands makes.job.vpn makes.job.copy r.memory) here out.stands))
 
-    pub own_copy : (q' : ProcessSideValue S) (came : Cleaned S) → HoldsIn held honest q.space.memory → TakesCopyBack job came q q' → IsOwnCopy came
-    own_copy q' (end.WrongPage back) agree ends = ends.ends.1.1 (stands_back held honest q.space.memory job agree (makes.process ∙ makes.job_process ∙ sym number) small stands)
+    pub own_copy : (q' : SpaceValue S) (came : Cleaned S) → HoldsIn held honest q.memory → TakesCopyBack job came q q' → IsOwnCopy came
+    own_copy q' (end.WrongPage back) agree ends = ends.ends.1.1 (stands_back held honest q.memory job agree (makes.process ∙ makes.job_process ∙ sym number) small stands)
     own_copy q' end.Stored agree ends = tt
     own_copy q' end.Device agree ends = tt
     own_copy q' end.Clean agree ends = tt
 
-    has_cleaned : (q' : ProcessSideValue S) (came : Cleaned S) → IsOwnCopy came → TakesCopyBack job came q q' → HasCleaned job q.space.memory q'.space.memory
+    has_cleaned : (q' : SpaceValue S) (came : Cleaned S) → IsOwnCopy came → TakesCopyBack job came q q' → HasCleaned job q.memory q'.memory
     has_cleaned q' (end.WrongPage back) own ends = absurd own
-    has_cleaned q' end.Stored own ends = clean_comes_to job end.Stored q.space.memory q'.space.memory ends.only ends.ends
-    has_cleaned q' end.Device own ends = clean_comes_to job end.Device q.space.memory q'.space.memory ends.only ends.ends
-    has_cleaned q' end.Clean own ends = clean_comes_to job end.Clean q.space.memory q'.space.memory ends.only ends.ends
+    has_cleaned q' end.Stored own ends = clean_comes_to job end.Stored q.memory q'.memory ends.only ends.ends
+    has_cleaned q' end.Device own ends = clean_comes_to job end.Device q.memory q'.memory ends.only ends.ends
+    has_cleaned q' end.Clean own ends = clean_comes_to job end.Clean q.memory q'.memory ends.only ends.ends
 
     -- ---- the machine stays one
 
-    module _ (q' : ProcessSideValue S) (has : HasCleaned job q.space.memory q'.space.memory) where
-      abbrev now : List (ProcessSideValue S)
+    module _ (q' : SpaceValue S) (has : HasCleaned job q.memory q'.memory) where
+      abbrev now : List (SpaceValue S)
       now = slice_set core.processes key.process q'
 
-      this : key_of q.space.memory.process job.vpn ≡ key
+      this : key_of q.memory.process job.vpn ≡ key
       this = one_key _ key number vpn_is
 
       jobs_split : (test : Key → Bool) → jobs_where test core.copies ≡ cond (test key) 1 0 + jobs_where test copies'
@@ -98,21 +98,21 @@ module _ {S : Type 0} where
           let same : cond {A = ℕ} (test (key_of makes.job.process makes.job.vpn)) 1 0 ≡ cond (test key) 1 0 = ap (λ k. cond {A = ℕ} (test k) 1 0) (one_key _ key makes.job_process makes.job_page) in
           omega (arith, moved, same)
 
-      copies_split : (test : Key → Bool) → copies_in q'.space test + cond (test key) 1 0 ≡ copies_in q.space test
-      copies_split test = ap (λ k. copies_in q'.space test + cond (test k) 1 0) (sym this) ∙ back_copies job q q' has test
+      copies_split : (test : Key → Bool) → copies_in q' test + cond (test key) 1 0 ≡ copies_in q test
+      copies_split test = ap (λ k. copies_in q' test + cond (test k) 1 0) (sym this) ∙ back_copies job q q' has test
 
-      now_copied : (test : Key → Bool) → jobs_where test copies' ≡ total (λ (r : ProcessSideValue S). copies_in r.space test) now
+      now_copied : (test : Key → Bool) → jobs_where test copies' ≡ total (λ (r : SpaceValue S). copies_in r test) now
       now_copied test =
           let jobs = jobs_split test in
           let copied = copies_split test in
           let before = machine.copied test in
-          let set = total_set (λ (r : ProcessSideValue S). copies_in r.space test) core.processes key.process q q' found in
+          let set = total_set (λ (r : SpaceValue S). copies_in r test) core.processes key.process q q' found in
           omega (arith, jobs, copied, before, set)
 
       -- no copy of the page is out any more
-      none_out : (i : ℕ) (r : ProcessSideValue S) → slice_get now i ≡ Some r → 1 ≤ copies_in r.space (is_key key) → ⊥
+      none_out : (i : ℕ) (r : SpaceValue S) → slice_get now i ≡ Some r → 1 ≤ copies_in r (is_key key) → ⊥
       none_out i r at some =
-          let there = copy_counted r.space key some in
+          let there = copy_counted r key some in
           let is : r ≡ q' = elim (got_set core.processes key.process i q' r at) [
             | inl e ↦ e.1
             | inr old ↦
@@ -121,8 +121,8 @@ module _ {S : Type 0} where
                 let both : Some r ≡ Some q' = sym at ∙ ap (slice_get now) i_is ∙ mine in
                 cc
           ] in
-          let yes : is_copied_in q'.space.memory key.vpn ≡ true = ap (λ (s : ProcessSideValue S). is_copied_in s.space.memory key.vpn) (sym is) ∙ there.1 in
-          let no : is_copied_in q'.space.memory key.vpn ≡ false = ap (is_copied_in q'.space.memory) (sym vpn_is) ∙ has.back.back in
+          let yes : is_copied_in q'.memory key.vpn ≡ true = ap (λ (s : SpaceValue S). is_copied_in s.memory key.vpn) (sym is) ∙ there.1 in
+          let no : is_copied_in q'.memory key.vpn ≡ false = ap (is_copied_in q'.memory) (sym vpn_is) ∙ has.back.back in
           cc
 
       none_left : jobs_where (is_key key) copies' ≡ 0
@@ -132,7 +132,7 @@ module _ {S : Type 0} where
           by_count zero is = is
           by_count (suc n) is =
               let copied_now = now_copied (is_key key) in
-              let one = total_some (λ (r : ProcessSideValue S). copies_in r.space (is_key key)) now (omega (arith, is, copied_now)) in
+              let one = total_some (λ (r : SpaceValue S). copies_in r (is_key key)) now (omega (arith, is, copied_now)) in
               absurd (none_out one.place one.item one.found one.some)
 
       out_still : (other : JobValue S) → is_save_of key other ≡ false → IsCopyOut core.processes other → IsCopyOut now other
@@ -145,7 +145,7 @@ module _ {S : Type 0} where
                   process = q';
                   small = out_job.small;
                   found = ap (slice_get now) same.1 ∙ get_set_same core.processes key.process q q' found;
-                  stands = has.back.others.stand other.vpn other.copy out_job.small apart (subst (λ (r : ProcessSideValue S). CopyStands other.vpn other.copy r.space.memory) there out_job.stands);
+                  stands = has.back.others.stand other.vpn other.copy out_job.small apart (subst (λ (r : SpaceValue S). CopyStands other.vpn other.copy r.memory) there out_job.stands);
                 }
             | inr other_process ↦ record {
               process = out_job.process;
@@ -172,10 +172,10 @@ module _ {S : Type 0} where
           moved_machine core (record core { processes = now; copies = copies' }) key.process q q' machine (record {
             found = found;
             processes = refl;
-            together = in_place_together q.space q'.space job.vpn has.stays core.pager.pager;
+            together = in_place_together q q' job.vpn has.stays core.pager.pager;
             lawful = machine.lawful;
             frames = machine.frames;
-            saved = λ test. let a = in_place_savings q.space q'.space job.vpn has.stays test in omega (arith, a);
+            saved = λ test. let a = in_place_savings q q' job.vpn has.stays test in omega (arith, a);
             slotted =
                 let long : suc (length copies') ≡ length core.copies = length_permutation core.copies (makes.job ∷ copies') makes.taken in
                 let slots = has.slots in
@@ -188,7 +188,7 @@ module _ {S : Type 0} where
 
   -- ---- the event
 
-  module _ (held : S → List ℕ) (honest : Type 0) (failures : S → ℕ) (pager : PagerSideValue) (slots : PoolValue S) (jobs copies copies' : List (JobValue S)) (items lent new : List (ProcessSideValue S)) (n : ℕ) (key : Key) (job : SavedValue S) (came : Cleaned S)
+  module _ (held : S → List ℕ) (honest : Type 0) (failures : S → ℕ) (pager : PagerSideValue) (slots : PoolValue S) (jobs copies copies' : List (JobValue S)) (items lent new : List (SpaceValue S)) (n : ℕ) (key : Key) (job : SavedValue S) (came : Cleaned S)
       (machine : IsMachine (record { pager = pager; slots = slots; processes = items; jobs = jobs; copies = copies })) (long : n ≡ length items) (same : lent ≡ items)
       (makes : MakesSave held honest failures key copies copies' job) (at : CopyBackAt held honest job key.process lent new came) where
     abbrev core : CoreValue S

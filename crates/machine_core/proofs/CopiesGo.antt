@@ -23,33 +23,34 @@ use Rattle.machine_core.proofs.Counted.{copy_fits}
 use Rattle.machine_core.proofs.Kept.{Moves, moved_machine, out_stays, copies_stay}
 use Rattle.machine_sides.specs.Cleaning.{PageCopied, copy_bars, is_cleaning_at}
 use Rattle.machine_sides.specs.CleaningLaws.{in_place_together, in_place_savings, copied_to, has_copied, gone_copies, gone_slots}
-use Rattle.machine_sides.specs.Sides.{PagerSideValue, ProcessSideValue}
+use Rattle.machine_sides.specs.Sides.{PagerSideValue}
 use Rattle.machine_sides.specs.Together.{key_of}
 use Rattle.machine_sides.specs.declared.cleaning.CopyBar.{CopyBar}
 use Rattle.machine_sides.specs.declared.cleaning.CopyBar.TheVariants as copy
 use Rattle.machine_sides.specs.declared.cleaning.Copying.{Copying}
 use Rattle.machine_sides.specs.declared.cleaning.Copying.TheVariants.{Stored, NotYet, NoSlot, Copied}
+use Rattle.space_core.specs.StandsFor.{SpaceValue}
 
 module _ {S : Type 0} where
   -- a copy is asked for only of a page that is being cleaned
-  unbarred : (q : ProcessSideValue S) (vpn : ℕ) → None ≡ copy_bars q.space vpn → (vpn < 2 ^ 20) × (is_cleaning_in q.space.memory vpn ≡ true)
-  unbarred q vpn h = by_ending (is_some q.space.running.ending) h
+  unbarred : (q : SpaceValue S) (vpn : ℕ) → None ≡ copy_bars q vpn → (vpn < 2 ^ 20) × (is_cleaning_in q.memory vpn ≡ true)
+  unbarred q vpn h = by_ending (is_some q.running.ending) h
     where
-      by_small : (b : Bool) → nat_lt vpn (2 ^ 20) ≡ b → (if b then is_cleaning_in q.space.memory vpn else false) ≡ true → (vpn < 2 ^ 20) × (is_cleaning_in q.space.memory vpn ≡ true)
+      by_small : (b : Bool) → nat_lt vpn (2 ^ 20) ≡ b → (if b then is_cleaning_in q.memory vpn else false) ≡ true → (vpn < 2 ^ 20) × (is_cleaning_in q.memory vpn ≡ true)
       by_small true is h = (grind (arith, is), h)
       by_small false is h = cc
 
-      by_cleaning : (b : Bool) → is_cleaning_at q.space vpn ≡ b → None ≡ (if b then None else Some copy.NotCleaning) → (vpn < 2 ^ 20) × (is_cleaning_in q.space.memory vpn ≡ true)
+      by_cleaning : (b : Bool) → is_cleaning_at q vpn ≡ b → None ≡ (if b then None else Some copy.NotCleaning) → (vpn < 2 ^ 20) × (is_cleaning_in q.memory vpn ≡ true)
       by_cleaning true is h = by_small (nat_lt vpn (2 ^ 20)) refl is
       by_cleaning false is h = cc
 
-      by_ending : (b : Bool) → None ≡ (if b then Some copy.Ended else (if is_cleaning_at q.space vpn then None else Some copy.NotCleaning)) → (vpn < 2 ^ 20) × (is_cleaning_in q.space.memory vpn ≡ true)
+      by_ending : (b : Bool) → None ≡ (if b then Some copy.Ended else (if is_cleaning_at q vpn then None else Some copy.NotCleaning)) → (vpn < 2 ^ 20) × (is_cleaning_in q.memory vpn ≡ true)
       by_ending true h = cc
-      by_ending false h = by_cleaning (is_cleaning_at q.space vpn) refl h
+      by_ending false h = by_cleaning (is_cleaning_at q vpn) refl h
 
   -- ---- a copy goes out
 
-  module _ (core : CoreValue S) (p : ℕ) (q q' : ProcessSideValue S) (vpn : ℕ) (slots' : PoolValue S) (machine : IsMachine core) (found : slice_get core.processes p ≡ Some q) where
+  module _ (core : CoreValue S) (p : ℕ) (q q' : SpaceValue S) (vpn : ℕ) (slots' : PoolValue S) (machine : IsMachine core) (found : slice_get core.processes p ≡ Some q) where
     abbrev after : List (JobValue S) → CoreValue S
     after copies = record core { slots = slots'; processes = slice_set core.processes p q'; copies = copies }
 
@@ -61,16 +62,16 @@ module _ {S : Type 0} where
           process = q';
           small = subst (λ n. n < 2 ^ 20) (sym has.vpn_is) made.lends.small;
           found = ap (slice_get (slice_set core.processes p q')) number ∙ get_set_same core.processes p q q' found;
-          stands = subst (λ v. CopyStands v job.copy q'.space.memory) (sym has.vpn_is) has.goes.stands;
+          stands = subst (λ v. CopyStands v job.copy q'.memory) (sym has.vpn_is) has.goes.stands;
         } in
-        let others = copies_stay core.processes p q q' core.copies found (goes_keeps q.space.memory q'.space.memory vpn job.copy has.goes) machine.copies_out in
+        let others = copies_stay core.processes p q q' core.copies found (goes_keeps q.memory q'.memory vpn job.copy has.goes) machine.copies_out in
         record {
           found = found;
           processes = refl;
-          together = in_place_together q.space q'.space vpn has.stays core.pager.pager;
+          together = in_place_together q q' vpn has.stays core.pager.pager;
           lawful = machine.lawful;
           frames = machine.frames;
-          saved = λ test. let a = in_place_savings q.space q'.space vpn has.stays test in omega (arith, a);
+          saved = λ test. let a = in_place_savings q q' vpn has.stays test in omega (arith, a);
           slotted =
               let more : length (core.copies ++ job ∷ []) ≡ length core.copies + 1 = length-append core.copies (job ∷ []) in
               let one = gone_slots vpn q q' core.slots slots' job made in
@@ -79,13 +80,13 @@ module _ {S : Type 0} where
           out = out_stays core.processes p q q' core.jobs found has.stays.stay machine.out;
           copied = λ test.
               let more : jobs_where test (core.copies ++ job ∷ []) ≡ jobs_where test core.copies + cond (test (key_of job.process job.vpn)) 1 0 = more_jobs test core.copies job in
-              let key : cond {A = ℕ} (test (key_of job.process job.vpn)) 1 0 ≡ cond (test (key_of q.space.memory.process vpn)) 1 0 = ap (λ k. cond {A = ℕ} (test k) 1 0) (one_key (key_of job.process job.vpn) (key_of q.space.memory.process vpn) has.process has.vpn_is) in
+              let key : cond {A = ℕ} (test (key_of job.process job.vpn)) 1 0 ≡ cond (test (key_of q.memory.process vpn)) 1 0 = ap (λ k. cond {A = ℕ} (test k) 1 0) (one_key (key_of job.process job.vpn) (key_of q.memory.process vpn) has.process has.vpn_is) in
               let one = gone_copies vpn q q' core.slots slots' job made test in
               omega (arith, more, key, one);
           copies_out = All-append (IsCopyOut (slice_set core.processes p q')) core.copies (job ∷ []) others (All-cons (IsCopyOut (slice_set core.processes p q')) job [] out (All-nil _));
         }
 
-    uncopied : slots' ≡ core.slots → CountsAlike q.space.memory q'.space.memory → IsMachine (after core.copies)
+    uncopied : slots' ≡ core.slots → CountsAlike q.memory q'.memory → IsMachine (after core.copies)
     uncopied same alike = subst (λ s. IsMachine (record core { slots = s; processes = slice_set core.processes p q' })) (sym same) (alike_machine core p q q' machine found alike)
 
     copy_machine : (r : Result (Copying S) CopyBar) → IfCopies vpn q q' core.slots slots' r → IsMachine (after (copies_after r core.copies))
@@ -108,7 +109,7 @@ module _ {S : Type 0} where
 
   -- ---- the event
 
-  module _ (held : S → List ℕ) (pager : PagerSideValue) (slots slots' : PoolValue S) (jobs copies copies' : List (JobValue S)) (items lent new : List (ProcessSideValue S)) (n : ℕ) (key : Key) (result : Result (Copying S) CopyBar)
+  module _ (held : S → List ℕ) (pager : PagerSideValue) (slots slots' : PoolValue S) (jobs copies copies' : List (JobValue S)) (items lent new : List (SpaceValue S)) (n : ℕ) (key : Key) (result : Result (Copying S) CopyBar)
       (machine : IsMachine (record { pager = pager; slots = slots; processes = items; jobs = jobs; copies = copies })) (long : n ≡ length items) (same : lent ≡ items) (at : CopiesAt held key.process key.vpn slots slots' lent new result) where
     abbrev core : CoreValue S
     core = record { pager = pager; slots = slots; processes = items; jobs = jobs; copies = copies }
@@ -128,7 +129,7 @@ module _ {S : Type 0} where
     pub copy_room : IfOk result (λ _. length copies < pager.pager.size)
     copy_room = by_result result at.barred
       where
-        by_result : (r : Result (Copying S) CopyBar) → refused_of r ≡ copy_bars at.process.space key.vpn → IfOk r (λ _. length copies < pager.pager.size)
+        by_result : (r : Result (Copying S) CopyBar) → refused_of r ≡ copy_bars at.process key.vpn → IfOk r (λ _. length copies < pager.pager.size)
         by_result (Ok answer) barred = let page = unbarred at.process key.vpn barred in copy_fits core key.process at.process key.vpn machine found_at page.0 page.1
         by_result (Err why) barred = tt
 

@@ -29,19 +29,20 @@ use Rattle.machine_sides.specs.declared.sweeping.Swept.{Swept}
 use Rattle.machine_sides.specs.declared.sweeping.Swept.TheVariants as swept
 use Rattle.machine_core.specs.MachineRun.{ChangesOne, of_process, used_bit, SweepsAt, SweepsOnce, sweep_reply, swept_reply}
 use Rattle.machine_sides.specs.ProcessCalls.{StepsOnce, TakesNotices, IsKilled}
-use Rattle.machine_sides.specs.Sides.{PagerSideValue, ProcessSideValue}
+use Rattle.machine_sides.specs.Sides.{PagerSideValue}
 use Rattle.machine_sides.specs.Sweeping.{AnswersQuestion, Sweeps}
 use Rattle.machine_sides.specs.SweepLaws.{answers_together, answers_rest}
 use Rattle.machine_sides.specs.TogetherLaws.{alike_residents, alike_frames, alike_rest}
 use Rattle.machine_core.specs.declared.error.EventRefusal.{EventRefusal}
 use Rattle.machine_core.proofs.Finding.{Asked, HasResident, asked_process, bit_there}
 use Rattle.machine_core.proofs.Kept.{moved_machine, out_stays, copies_stay, copies_even}
+use Rattle.space_core.specs.StandsFor.{SpaceValue}
 
 -- a process that an event is not refused for is there
-pub is_there : {S : Type 0} (reason : ProcessSideValue S → Option EventRefusal) (processes : List (ProcessSideValue S)) (p : ℕ) → None ≡ of_process reason (slice_get processes p) → p < length processes
+pub is_there : {S : Type 0} (reason : SpaceValue S → Option EventRefusal) (processes : List (SpaceValue S)) (p : ℕ) → None ≡ of_process reason (slice_get processes p) → p < length processes
 is_there reason processes p h = by_process (slice_get processes p) refl
   where
-    by_process : (o : Option (ProcessSideValue _)) → slice_get processes p ≡ o → p < length processes
+    by_process : (o : Option (SpaceValue _)) → slice_get processes p ≡ o → p < length processes
     by_process None at = let e = h ∙ ap (of_process reason) at in cc
     by_process (Some process) at = slice_get_within processes p process at
 
@@ -50,21 +51,21 @@ pub lent_back : {A : Type 0} (items new : List A) (n : ℕ) → n ≡ length ite
 lent_back items new n long same = let past : length items ≤ length new = omega (arith, same) in rw (drop_all (length new) items past, append-nil new) (take_all n new (omega (arith, long, same)))
 
 module _ {S : Type 0} where
-  pub alike_machine : (core : CoreValue S) (p : ℕ) (q q' : ProcessSideValue S) → IsMachine core → slice_get core.processes p ≡ Some q → CountsAlike q.space.memory q'.space.memory
+  pub alike_machine : (core : CoreValue S) (p : ℕ) (q q' : SpaceValue S) → IsMachine core → slice_get core.processes p ≡ Some q → CountsAlike q.memory q'.memory
       → IsMachine (record core { processes = slice_set core.processes p q' })
   alike_machine core p q q' machine found alike =
       moved_machine core (record core { processes = slice_set core.processes p q' }) p q q' machine (record {
         found = found;
         processes = refl;
         together = record {
-          listed = λ test. let a = alike_residents q.space q'.space alike test in omega (arith, a);
-          framed = λ test. let a = alike_frames q.space q'.space alike test in omega (arith, a);
+          listed = λ test. let a = alike_residents q q' alike test in omega (arith, a);
+          framed = λ test. let a = alike_frames q q' alike test in omega (arith, a);
           size = refl;
           process = alike.process;
         };
         lawful = machine.lawful;
         frames = machine.frames;
-        saved = λ test. let a = (alike_rest q.space q'.space alike).savings test in omega (arith, a);
+        saved = λ test. let a = (alike_rest q q' alike).savings test in omega (arith, a);
         slotted = let a = alike.slots in omega (arith, a);
         slots = refl;
         out = out_stays core.processes p q q' core.jobs found alike.stay machine.out;
@@ -73,8 +74,8 @@ module _ {S : Type 0} where
       })
 
   -- the processes that were lent as a slice, of which one changed
-  pub lent_machine : (by : ProcessSideValue S → ProcessSideValue S → Type 0) (alike : (q q' : ProcessSideValue S) → by q q' → CountsAlike q.space.memory q'.space.memory)
-      (pager : PagerSideValue) (slots : PoolValue S) (jobs copies : List (JobValue S)) (items lent new : List (ProcessSideValue S)) (n p : ℕ)
+  pub lent_machine : (by : SpaceValue S → SpaceValue S → Type 0) (alike : (q q' : SpaceValue S) → by q q' → CountsAlike q.memory q'.memory)
+      (pager : PagerSideValue) (slots : PoolValue S) (jobs copies : List (JobValue S)) (items lent new : List (SpaceValue S)) (n p : ℕ)
       → IsMachine (record { pager = pager; slots = slots; processes = items; jobs = jobs; copies = copies }) → n ≡ length items → lent ≡ items → ChangesOne by p lent new
       → IsMachine (record { pager = pager; slots = slots; processes = take n (new ++ drop (length new) items); jobs = jobs; copies = copies })
   lent_machine by alike pager slots jobs copies items lent new n p machine long same one =
@@ -84,25 +85,25 @@ module _ {S : Type 0} where
       let all : slice_set items p one.process' ≡ take n (new ++ drop (length new) items) = sym is ∙ sym (lent_back items new n long (ap length is ∙ length-set items p one.process')) in
       subst (λ l. IsMachine (record { pager = pager; slots = slots; processes = l; jobs = jobs; copies = copies })) all (alike_machine core p one.process one.process' machine found (alike one.process one.process' one.how))
 
-  pub step_alike : (held : S → List ℕ) (honest : Type 0) (hart : ℕ) (why : SliceStop) (q q' : ProcessSideValue S) → StepsOnce held honest hart why q q' → CountsAlike q.space.memory q'.space.memory
-  step_alike held honest hart why q q' how = kept_alike q.space.memory q'.space.memory how.slice.kept.process how.slice.kept.pages how.slice.kept.copies
+  pub step_alike : (held : S → List ℕ) (honest : Type 0) (hart : ℕ) (why : SliceStop) (q q' : SpaceValue S) → StepsOnce held honest hart why q q' → CountsAlike q.memory q'.memory
+  step_alike held honest hart why q q' how = kept_alike q.memory q'.memory how.slice.kept.process how.slice.kept.pages how.slice.kept.copies
 
-  pub notice_alike : (hart : ℕ) (q q' : ProcessSideValue S) → TakesNotices hart q q' → CountsAlike q.space.memory q'.space.memory
-  notice_alike hart q q' how = subst (λ (r : ProcessSideValue S). CountsAlike q.space.memory r.space.memory) (sym how) (noticed_alike hart q.space.memory)
+  pub notice_alike : (hart : ℕ) (q q' : SpaceValue S) → TakesNotices hart q q' → CountsAlike q.memory q'.memory
+  notice_alike hart q q' how = subst (λ (r : SpaceValue S). CountsAlike q.memory r.memory) (sym how) (noticed_alike hart q.memory)
 
   killed_same : (memory : PagedValue S) (ending : Option End) → CountsAlike memory (if_killed ending memory)
   killed_same memory None = emptied_alike memory
   killed_same memory (Some end) = same_memory memory memory refl
 
-  pub kill_alike : (cause : KillCause) (q q' : ProcessSideValue S) → IsKilled cause q q' → CountsAlike q.space.memory q'.space.memory
-  kill_alike cause q q' how = subst (λ (r : ProcessSideValue S). CountsAlike q.space.memory r.space.memory) (sym how) (killed_same q.space.memory q.space.running.ending)
+  pub kill_alike : (cause : KillCause) (q q' : SpaceValue S) → IsKilled cause q q' → CountsAlike q.memory q'.memory
+  kill_alike cause q q' how = subst (λ (r : SpaceValue S). CountsAlike q.memory r.memory) (sym how) (killed_same q.memory q.running.ending)
 
   -- the same of a sweep, whose page is resident
-  pub swept_machine : (core : CoreValue S) (pager' : PagerSideValue) (q q' : ProcessSideValue S) (key : Key) (bit : Bit) (verdict : Verdict) → IsMachine core → slice_get core.processes key.process ≡ Some q
-      → HasResident q.space key → AnswersQuestion core.pager pager' q q' key bit verdict → IsMachine (record core { pager = pager'; processes = slice_set core.processes key.process q' })
+  pub swept_machine : (core : CoreValue S) (pager' : PagerSideValue) (q q' : SpaceValue S) (key : Key) (bit : Bit) (verdict : Verdict) → IsMachine core → slice_get core.processes key.process ≡ Some q
+      → HasResident q key → AnswersQuestion core.pager pager' q q' key bit verdict → IsMachine (record core { pager = pager'; processes = slice_set core.processes key.process q' })
   unfolding pager_answered
   swept_machine core pager' q q' key bit verdict machine found there answers =
-      let not_gone : is_gone bit ≡ false = ap is_gone (sym answers.bit_is) ∙ bit_there q.space key there in
+      let not_gone : is_gone bit ≡ false = ap is_gone (sym answers.bit_is) ∙ bit_there q key there in
       let now : pager'.pager ≡ pager_answered bit core.pager.pager = ap (λ (p : PagerSideValue). p.pager) answers.pager_is in
       let rest = answers_rest core.pager pager' q q' key bit verdict there.small answers in
       moved_machine core (record core { pager = pager'; processes = slice_set core.processes key.process q' }) key.process q q' machine (record {
@@ -120,7 +121,7 @@ module _ {S : Type 0} where
       })
 
   -- the sweep that was made for the page of the question
-  answers_of : (core : CoreValue S) (pager' : PagerSideValue) (key : Key) (q q' : ProcessSideValue S) (result : Swept) → question_of core.pager.pager.list ≡ Some key → Sweeps core.pager pager' q q' result
+  answers_of : (core : CoreValue S) (pager' : PagerSideValue) (key : Key) (q q' : SpaceValue S) (result : Swept) → question_of core.pager.pager.list ≡ Some key → Sweeps core.pager pager' q q' result
       → (bit : Bit) × ((verdict : Verdict) × (AnswersQuestion core.pager pager' q q' key bit verdict × (swept_reply result ≡ sweep_reply key bit verdict)))
   answers_of core pager' key q q' swept.NothingResident asks how = let none = how.0 in cc
   answers_of core pager' key q q' (swept.Asked k bit) asks how =
@@ -130,7 +131,7 @@ module _ {S : Type 0} where
       let same : k ≡ key = let e = how.1.question in cc in
       (how.0, (verdict.Victim k, (subst (λ x. AnswersQuestion core.pager pager' q q' x how.0 (verdict.Victim k)) same how.1, ap (λ x. Victim x) same)))
 
-  module _ (pager pager' : PagerSideValue) (slots : PoolValue S) (jobs copies : List (JobValue S)) (items lent new : List (ProcessSideValue S)) (n : ℕ) (key : Key) (result : Swept)
+  module _ (pager pager' : PagerSideValue) (slots : PoolValue S) (jobs copies : List (JobValue S)) (items lent new : List (SpaceValue S)) (n : ℕ) (key : Key) (result : Swept)
       (machine : IsMachine (record { pager = pager; slots = slots; processes = items; jobs = jobs; copies = copies })) (asks : question_of pager.pager.list ≡ Some key)
       (long : n ≡ length items) (same : lent ≡ items) (sweeps : SweepsAt pager pager' key.process lent new result) where
     abbrev pub core : CoreValue S
@@ -147,8 +148,8 @@ module _ {S : Type 0} where
     asked : Asked core key
     asked = asked_process core key machine asks
 
-    there : HasResident sweeps.process.space key
-    there = let e : asked.process ≡ sweeps.process = let a = asked.found in let b = found in cc in subst (λ (q : ProcessSideValue S). HasResident q.space key) e asked.resident
+    there : HasResident sweeps.process key
+    there = let e : asked.process ≡ sweeps.process = let a = asked.found in let b = found in cc in subst (λ (q : SpaceValue S). HasResident q key) e asked.resident
 
     pub swept_back : IsMachine (record { pager = pager'; slots = slots; processes = take n (new ++ drop (length new) items); jobs = jobs; copies = copies })
     swept_back =
@@ -166,7 +167,7 @@ module _ {S : Type 0} where
           process' = sweeps.process';
           found = found;
           answers = a.1.1.0;
-          there = ap is_gone (sym a.1.1.0.bit_is) ∙ bit_there sweeps.process.space key there;
+          there = ap is_gone (sym a.1.1.0.bit_is) ∙ bit_there sweeps.process key there;
           processes = sym is_set;
           stays = refl;
           reply_is = is ∙ a.1.1.1;

@@ -13,7 +13,6 @@ use Rattle.paged_memory.specs.Stages.{is_resident_stage, is_saving_stage, has_fr
 use Rattle.paged_memory.specs.Whole.{stage_in}
 use Rattle.space_core.specs.StandsFor.{SpaceValue}
 use Rattle.machine_core.specs.Machine.{CoreValue, IsMachine, total, numbers_below, jobs_where}
-use Rattle.machine_sides.specs.Sides.{ProcessSideValue}
 use Rattle.machine_sides.specs.Together.{residents_in, savings_in, copies_in, frames_in, frames_where, key_of}
 use Rattle.machine_core.proofs.Finding.{total_some, has_resident as resident_of}
 
@@ -54,13 +53,13 @@ all_jobs (job ∷ jobs) = omega (arith, all_jobs jobs)
 
 module _ {S : Type 0} where
   -- a page holds a frame where it is resident or is being saved
-  pub residents_framed : (q : ProcessSideValue S) → residents_in q.space (λ _. true) ≤ frames_in q.space (λ _. true)
+  pub residents_framed : (q : SpaceValue S) → residents_in q (λ _. true) ≤ frames_in q (λ _. true)
   unfolding residents_in frames_in
-  residents_framed q = among_framed q.space.memory
+  residents_framed q = among_framed q.memory
 
-  pub savings_framed : (q : ProcessSideValue S) → savings_in q.space (λ _. true) ≤ frames_in q.space (λ _. true)
+  pub savings_framed : (q : SpaceValue S) → savings_in q (λ _. true) ≤ frames_in q (λ _. true)
   unfolding savings_in frames_in
-  savings_framed q = saved_framed q.space.memory
+  savings_framed q = saved_framed q.memory
 
   -- a page that holds a frame and is not resident
   pub record HoldsFrame (space : SpaceValue S) (vpn : ℕ) : Type 0 where
@@ -76,22 +75,22 @@ module _ {S : Type 0} where
   unfolding savings_in frames_in
   one_saving_fewer_in space vpn holds unsaved = one_saving_less space.memory vpn holds.small holds.framed unsaved
 
-  module _ (core : CoreValue S) (p : ℕ) (q : ProcessSideValue S) (vpn : ℕ) (machine : IsMachine core) (found : slice_get core.processes p ≡ Some q) (holds : HoldsFrame q.space vpn) where
+  module _ (core : CoreValue S) (p : ℕ) (q : SpaceValue S) (vpn : ℕ) (machine : IsMachine core) (found : slice_get core.processes p ≡ Some q) (holds : HoldsFrame q vpn) where
     -- as many frames are in pages as are not free
-    frames_in_pages : length core.pager.pager.free + total (λ (r : ProcessSideValue S). frames_in r.space (λ _. true)) core.processes ≡ core.pager.pager.size
+    frames_in_pages : length core.pager.pager.free + total (λ (r : SpaceValue S). frames_in r (λ _. true)) core.processes ≡ core.pager.pager.size
     frames_in_pages = let framed = machine.framed (λ _. true) in omega (arith, framed, all_frames core.pager.pager.free, all_numbers core.pager.pager.size)
 
-    one_resident_fewer : total (λ (r : ProcessSideValue S). residents_in r.space (λ _. true)) core.processes + 1 ≤ total (λ (r : ProcessSideValue S). frames_in r.space (λ _. true)) core.processes
-    one_resident_fewer = one_fewer_total _ _ residents_framed core.processes p q found (one_resident_fewer_in q.space vpn holds)
+    one_resident_fewer : total (λ (r : SpaceValue S). residents_in r (λ _. true)) core.processes + 1 ≤ total (λ (r : SpaceValue S). frames_in r (λ _. true)) core.processes
+    one_resident_fewer = one_fewer_total _ _ residents_framed core.processes p q found (one_resident_fewer_in q vpn holds)
 
     -- a frame is missing among the free ones
     pub frame_missing : length core.pager.pager.free < core.pager.pager.size
     frame_missing = omega (arith, frames_in_pages, one_resident_fewer)
 
     -- a save of the page has room
-    pub job_fits : is_saving_stage (stage_in q.space.memory vpn) ≡ false → length core.jobs < core.pager.pager.size
+    pub job_fits : is_saving_stage (stage_in q.memory vpn) ≡ false → length core.jobs < core.pager.pager.size
     job_fits unsaved =
-        let fewer : total (λ (r : ProcessSideValue S). savings_in r.space (λ _. true)) core.processes + 1 ≤ total (λ (r : ProcessSideValue S). frames_in r.space (λ _. true)) core.processes = one_fewer_total _ _ savings_framed core.processes p q found (one_saving_fewer_in q.space vpn holds unsaved) in
+        let fewer : total (λ (r : SpaceValue S). savings_in r (λ _. true)) core.processes + 1 ≤ total (λ (r : SpaceValue S). frames_in r (λ _. true)) core.processes = one_fewer_total _ _ savings_framed core.processes p q found (one_saving_fewer_in q vpn holds unsaved) in
         let saved = machine.saved (λ _. true) in
         omega (arith, frames_in_pages, fewer, saved, all_jobs core.jobs)
 
@@ -103,21 +102,21 @@ module _ {S : Type 0} where
         omega (arith, full, listed, frames, frames_in_pages, one_resident_fewer)
 
     -- and has not the page
-    not_listed : q.space.memory.process ≡ p → has_resident (key_of p vpn) core.pager.pager.list ≡ true → ⊥
+    not_listed : q.memory.process ≡ p → has_resident (key_of p vpn) core.pager.pager.list ≡ true → ⊥
     not_listed number is =
         let key = key_of p vpn in
         let once : residents core.pager.pager.list (is_key key) ≡ 1 = key_residents key core.pager.pager.list machine.lawful ∙ ap (λ b. cond {A = ℕ} b 1 0) is in
         let listed = machine.listed (is_key key) in
-        let one = total_some (λ (r : ProcessSideValue S). residents_in r.space (is_key key)) core.processes (omega (arith, once, listed)) in
-        let there = resident_of one.item.space key one.some in
+        let one = total_some (λ (r : SpaceValue S). residents_in r (is_key key)) core.processes (omega (arith, once, listed)) in
+        let there = resident_of one.item key one.some in
         let place : one.place ≡ p = sym (machine.numbered one.place one.item one.found) ∙ there.of_process in
         let same : one.item ≡ q = let a = one.found in let b = found in let c = place in cc in
-        let yes : is_resident_stage (stage_in q.space.memory vpn) ≡ true = ap (λ (r : ProcessSideValue S). is_resident_stage (stage_in r.space.memory vpn)) (sym same) ∙ there.resident in
+        let yes : is_resident_stage (stage_in q.memory vpn) ≡ true = ap (λ (r : SpaceValue S). is_resident_stage (stage_in r.memory vpn)) (sym same) ∙ there.resident in
         let no = holds.apart in
         cc
 
     -- so it takes the page back
-    pub takes_back : (refusal : Refusal) → (restored (key_of q.space.memory.process vpn) core.pager.pager.list).1 ≡ Err refusal → ⊥
+    pub takes_back : (refusal : Refusal) → (restored (key_of q.memory.process vpn) core.pager.pager.list).1 ≡ Err refusal → ⊥
     takes_back refusal why =
         let number = machine.numbered p q found in
         elim (restored_barred (key_of p vpn) core.pager.pager.list refusal (ap (λ n. (restored (key_of n vpn) core.pager.pager.list).1) (sym number) ∙ why)) [
@@ -127,18 +126,18 @@ module _ {S : Type 0} where
 
   -- ---- a page of which a copy is out holds a frame
 
-  copies_framed : (q : ProcessSideValue S) → copies_in q.space (λ _. true) ≤ frames_in q.space (λ _. true)
+  copies_framed : (q : SpaceValue S) → copies_in q (λ _. true) ≤ frames_in q (λ _. true)
   unfolding copies_in frames_in
-  copies_framed q = copied_framed q.space.memory
+  copies_framed q = copied_framed q.memory
 
   one_copy_fewer_in : (space : SpaceValue S) (vpn : ℕ) → vpn < 2 ^ 20 → is_cleaning_in space.memory vpn ≡ true → copies_in space (λ _. true) + 1 ≤ frames_in space (λ _. true)
   unfolding copies_in frames_in
   one_copy_fewer_in space vpn small cleaning = one_copy_less space.memory vpn small cleaning
 
   -- a copy of a page that is being cleaned has room
-  pub copy_fits : (core : CoreValue S) (p : ℕ) (q : ProcessSideValue S) (vpn : ℕ) → IsMachine core → slice_get core.processes p ≡ Some q → vpn < 2 ^ 20 → is_cleaning_in q.space.memory vpn ≡ true → length core.copies < core.pager.pager.size
+  pub copy_fits : (core : CoreValue S) (p : ℕ) (q : SpaceValue S) (vpn : ℕ) → IsMachine core → slice_get core.processes p ≡ Some q → vpn < 2 ^ 20 → is_cleaning_in q.memory vpn ≡ true → length core.copies < core.pager.pager.size
   copy_fits core p q vpn machine found small cleaning =
       let framed = machine.framed (λ _. true) in
-      let fewer : total (λ (r : ProcessSideValue S). copies_in r.space (λ _. true)) core.processes + 1 ≤ total (λ (r : ProcessSideValue S). frames_in r.space (λ _. true)) core.processes = one_fewer_total _ _ copies_framed core.processes p q found (one_copy_fewer_in q.space vpn small cleaning) in
+      let fewer : total (λ (r : SpaceValue S). copies_in r (λ _. true)) core.processes + 1 ≤ total (λ (r : SpaceValue S). frames_in r (λ _. true)) core.processes = one_fewer_total _ _ copies_framed core.processes p q found (one_copy_fewer_in q vpn small cleaning) in
       let copied = machine.copied (λ _. true) in
       omega (arith, framed, fewer, copied, all_jobs core.copies, all_numbers core.pager.pager.size)

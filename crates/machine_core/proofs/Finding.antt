@@ -13,7 +13,6 @@ use Rattle.paged_memory.specs.Whole.{stage_in, accessed_in}
 use Rattle.clock_policy.specs.declared.answer.Bit.TheVariants.{Gone}
 use Rattle.space_core.specs.StandsFor.{SpaceValue}
 use Rattle.machine_core.specs.Machine.{CoreValue, IsMachine, total}
-use Rattle.machine_sides.specs.Sides.{ProcessSideValue}
 use Rattle.machine_sides.specs.Sweeping.{bit_of, bit_at}
 use Rattle.machine_sides.specs.Together.{residents_in, key_of}
 
@@ -66,17 +65,17 @@ module _ {S : Type 0} where
 
   -- the process of the question's page
   pub record Asked (core : CoreValue S) (key : Key) : Type 0 where
-    pub process : ProcessSideValue S
+    pub process : SpaceValue S
     pub found : slice_get core.processes key.process ≡ Some process
     pub within : key.process < length core.processes
-    pub resident : HasResident process.space key
+    pub resident : HasResident process key
 
   pub asked_process : (core : CoreValue S) (key : Key) → IsMachine core → question_of core.pager.pager.list ≡ Some key → Asked core key
   asked_process core key machine asks =
       let once = asked_once key core.pager.pager.list machine.lawful asks in
       let listed = machine.listed (is_key key) in
-      let one = total_some (λ (q : ProcessSideValue S). residents_in q.space (is_key key)) core.processes (omega (arith, once, listed)) in
-      let there = has_resident one.item.space key one.some in
+      let one = total_some (λ (q : SpaceValue S). residents_in q (is_key key)) core.processes (omega (arith, once, listed)) in
+      let there = has_resident one.item key one.some in
       let same : one.place ≡ key.process = sym (machine.numbered one.place one.item one.found) ∙ there.of_process in
       let found : slice_get core.processes key.process ≡ Some one.item = ap (slice_get core.processes) (sym same) ∙ one.found in
       record { process = one.item; found = found; within = slice_get_within core.processes key.process one.item found; resident = there }

@@ -24,8 +24,9 @@ use Rattle.machine_core.specs.Machine.{CoreValue, IsMachine, IsSaveOut, IsCopyOu
 use Rattle.elf_image.specs.Start.{Start}
 use Rattle.machine_sides.specs.Starting.{Begins}
 use Rattle.machine_core.specs.Opening.{BeginsAt, AllBegin, MachineBegins}
-use Rattle.machine_sides.specs.Sides.{PagerSideValue, ProcessSideValue}
+use Rattle.machine_sides.specs.Sides.{PagerSideValue}
 use Rattle.machine_sides.specs.Together.{frames_where, residents_in, savings_in, copies_in, frames_in, key_of}
+use Rattle.space_core.specs.StandsFor.{SpaceValue}
 
 total_none : {A : Type 0} (f : A → ℕ) (xs : List A) → ((i : ℕ) (x : A) → slice_get xs i ≡ Some x → f x ≡ 0) → total f xs ≡ 0
 unfolding total
@@ -58,31 +59,31 @@ get_last (z ∷ zs) y = get_last zs y
 
 module _ {S : Type 0} where
   -- a process that begins counts nowhere
-  module _ (number : ℕ) (start : Start) (process : ProcessSideValue S) (begins : Begins number start process) where
+  module _ (number : ℕ) (start : Start) (process : SpaceValue S) (begins : Begins number start process) where
     abbrev mapped : List (ℕ × Page)
     mapped = opening_pages start.image.pages
 
-    no_residents : (test : Key → Bool) → residents_in process.space test ≡ 0
+    no_residents : (test : Key → Bool) → residents_in process test ≡ 0
     unfolding residents_in
-    no_residents test = fresh_residents mapped process.space.memory begins.pages (λ vpn. test (key_of process.space.memory.process vpn))
+    no_residents test = fresh_residents mapped process.memory begins.pages (λ vpn. test (key_of process.memory.process vpn))
 
-    no_savings : (test : Key → Bool) → savings_in process.space test ≡ 0
+    no_savings : (test : Key → Bool) → savings_in process test ≡ 0
     unfolding savings_in
-    no_savings test = fresh_savings mapped process.space.memory begins.pages (λ vpn. test (key_of process.space.memory.process vpn))
+    no_savings test = fresh_savings mapped process.memory begins.pages (λ vpn. test (key_of process.memory.process vpn))
 
-    no_copies : (test : Key → Bool) → copies_in process.space test ≡ 0
+    no_copies : (test : Key → Bool) → copies_in process test ≡ 0
     unfolding copies_in
-    no_copies test = fresh_copies mapped process.space.memory begins.pages (λ vpn. test (key_of process.space.memory.process vpn))
+    no_copies test = fresh_copies mapped process.memory begins.pages (λ vpn. test (key_of process.memory.process vpn))
 
-    no_frames : (test : ℕ → Bool) → frames_in process.space test ≡ 0
+    no_frames : (test : ℕ → Bool) → frames_in process test ≡ 0
     unfolding frames_in
-    no_frames test = fresh_frames mapped process.space.memory begins.pages test
+    no_frames test = fresh_frames mapped process.memory begins.pages test
 
-    no_slots : slots_within process.space.memory ≡ 0
-    no_slots = fresh_slots mapped process.space.memory begins.pages
+    no_slots : slots_within process.memory ≡ 0
+    no_slots = fresh_slots mapped process.memory begins.pages
 
   -- the process of a number that is there begins
-  begins_there : (starts : List Start) (processes : List (ProcessSideValue S)) (number : ℕ) (process : ProcessSideValue S) → AllBegin starts processes → slice_get processes number ≡ Some process → (start : Start) × Begins number start process
+  begins_there : (starts : List Start) (processes : List (SpaceValue S)) (number : ℕ) (process : SpaceValue S) → AllBegin starts processes → slice_get processes number ≡ Some process → (start : Start) × Begins number start process
   begins_there starts processes number process all at =
       let within = slice_get_within processes number process at in
       let many = all.many in
@@ -91,7 +92,7 @@ module _ {S : Type 0} where
       (here.start, subst (Begins number here.start) same here.begins)
 
   -- one more process begins
-  pub one_more_begins : {X : Type 0} (f : X → Start) (xs : List X) (x : X) (sides new : List (ProcessSideValue S)) (number : ℕ) (side : ProcessSideValue S) → AllBegin (map f xs) sides → number ≡ length sides
+  pub one_more_begins : {X : Type 0} (f : X → Start) (xs : List X) (x : X) (sides new : List (SpaceValue S)) (number : ℕ) (side : SpaceValue S) → AllBegin (map f xs) sides → number ≡ length sides
       → new ≡ sides ++ side ∷ [] → Begins number (f x) side → AllBegin (map f (xs ++ x ∷ [])) new
   one_more_begins f xs x sides new number side all counted is begins =
       subst (λ l. AllBegin l new) (sym (map-append f xs (x ∷ []))) (subst (AllBegin (map f xs ++ f x ∷ [])) (sym is) (record {
@@ -118,8 +119,8 @@ module _ {S : Type 0} where
             begins = here.begins;
           }
 
-  none_counts : (starts : List Start) (processes : List (ProcessSideValue S)) → AllBegin starts processes → (f : ProcessSideValue S → ℕ)
-      → ((number : ℕ) (start : Start) (process : ProcessSideValue S) → Begins number start process → f process ≡ 0) → total f processes ≡ 0
+  none_counts : (starts : List Start) (processes : List (SpaceValue S)) → AllBegin starts processes → (f : SpaceValue S → ℕ)
+      → ((number : ℕ) (start : Start) (process : SpaceValue S) → Begins number start process → f process ≡ 0) → total f processes ≡ 0
   none_counts starts processes all f none =
       total_none f processes (λ number process at. let b = begins_there starts processes number process all at in none number b.0 process b.1)
 
@@ -130,7 +131,7 @@ module _ {S : Type 0} where
       ap one is ∙ ap other size
 
   -- the parts of a machine before its first event
-  pub begun : {X : Type 0} (f : X → Start) (frames : ℕ) (free : List S) (xs : List X) (pager : PagerSideValue) (slots : PoolValue S) (processes : List (ProcessSideValue S)) (jobs copies : List (JobValue S))
+  pub begun : {X : Type 0} (f : X → Start) (frames : ℕ) (free : List S) (xs : List X) (pager : PagerSideValue) (slots : PoolValue S) (processes : List (SpaceValue S)) (jobs copies : List (JobValue S))
       → pager ≡ record { pager = full_pager frames; saves = 0; drops = 0 } → slots.free ≡ free → slots.size ≡ length free → AllBegin (map f xs) processes → jobs ≡ [] → copies ≡ []
       → MachineBegins frames free (map f xs) (record { pager = pager; slots = slots; processes = processes; jobs = jobs; copies = copies })
   begun f frames free xs pager slots processes jobs copies full is size all none alone = record { pager = full; slots = pool_of slots free is size; processes = all; jobs = none; copies = alone }
@@ -144,9 +145,9 @@ module _ {S : Type 0} where
     few = let many = begins.processes.many in omega (arith, many, few);
     listed = λ test.
         ap (λ (p : PagerSideValue). residents p.pager.list test) begins.pager
-        ∙ sym (none_counts starts core.processes begins.processes (λ (process : ProcessSideValue S). residents_in process.space test) (λ number start process b. no_residents number start process b test));
+        ∙ sym (none_counts starts core.processes begins.processes (λ (process : SpaceValue S). residents_in process test) (λ number start process b. no_residents number start process b test));
     framed = λ test.
-        let none = none_counts starts core.processes begins.processes (λ (process : ProcessSideValue S). frames_in process.space test) (λ number start process b. no_frames number start process b test) in
+        let none = none_counts starts core.processes begins.processes (λ (process : SpaceValue S). frames_in process test) (λ number start process b. no_frames number start process b test) in
         let free : frames_where test core.pager.pager.free ≡ frames_where test (map zero_frame (range_with_len 0 frames)) = ap (λ (p : PagerSideValue). frames_where test p.pager.free) begins.pager in
         let size : numbers_below core.pager.pager.size test ≡ numbers_below frames test = ap (λ (p : PagerSideValue). numbers_below p.pager.size test) begins.pager in
         let zero_first : 0 + frames ≡ frames = omega arith in
@@ -155,14 +156,14 @@ module _ {S : Type 0} where
         omega (arith, none, free, size, counted, numbered);
     saved = λ test.
         ap (jobs_where test) begins.jobs
-        ∙ sym (none_counts starts core.processes begins.processes (λ (process : ProcessSideValue S). savings_in process.space test) (λ number start process b. no_savings number start process b test));
+        ∙ sym (none_counts starts core.processes begins.processes (λ (process : SpaceValue S). savings_in process test) (λ number start process b. no_savings number start process b test));
     out = subst (All (IsSaveOut core.processes)) (sym begins.jobs) (All-nil _);
     copied = λ test.
         ap (jobs_where test) begins.copies
-        ∙ sym (none_counts starts core.processes begins.processes (λ (process : ProcessSideValue S). copies_in process.space test) (λ number start process b. no_copies number start process b test));
+        ∙ sym (none_counts starts core.processes begins.processes (λ (process : SpaceValue S). copies_in process test) (λ number start process b. no_copies number start process b test));
     copies_out = subst (All (IsCopyOut core.processes)) (sym begins.copies) (All-nil _);
     slotted =
-        let none = none_counts starts core.processes begins.processes (λ (process : ProcessSideValue S). slots_within process.space.memory) (λ number start process b. no_slots number start process b) in
+        let none = none_counts starts core.processes begins.processes (λ (process : SpaceValue S). slots_within process.memory) (λ number start process b. no_slots number start process b) in
         let jobs : length core.jobs ≡ 0 = ap length begins.jobs in
         let copies : length core.copies ≡ 0 = ap length begins.copies in
         let same : length core.slots.free ≡ core.slots.size = ap (λ (p : PoolValue S). length p.free) begins.slots ∙ sym (ap (λ (p : PoolValue S). p.size) begins.slots) in

@@ -23,7 +23,7 @@ use Rattle.machine_core.specs.declared.event.Reply.TheVariants.{Refused}
 use Rattle.machine_core.specs.Machine.{CoreValue, IsMachine}
 use Rattle.machine_core.specs.MachineRun.{of_process, RefusesEvent}
 use Rattle.machine_core.specs.PagingIn.{admit_reason, ComesIn, IsTakenBack, GoesBack, PagesIn, PagesInAt, PagesInOnce, page_in_reason, page_in_refusal}
-use Rattle.machine_sides.specs.Sides.{PagerSideValue, ProcessSideValue}
+use Rattle.machine_sides.specs.Sides.{PagerSideValue}
 use Rattle.machine_sides.specs.StageLaws.{stage_below}
 use Rattle.machine_core.proofs.Counted.{all_frames, all_numbers}
 use Rattle.machine_core.proofs.Cores.{lent_back}
@@ -36,7 +36,7 @@ set_same (y ∷ ys) zero x h = let same : y ≡ x = cc in ap (λ z. z ∷ ys) (s
 set_same (y ∷ ys) (suc i) x h = ap (λ l. y ∷ l) (set_same ys i x h)
 
 -- where no process has the number
-pub no_process : {S : Type 0} (reason : ProcessSideValue S → Option EventRefusal) (processes : List (ProcessSideValue S)) (p : ℕ) → length processes ≤ p → of_process reason (slice_get processes p) ≡ Some refusal.NoProcess
+pub no_process : {S : Type 0} (reason : SpaceValue S → Option EventRefusal) (processes : List (SpaceValue S)) (p : ℕ) → length processes ≤ p → of_process reason (slice_get processes p) ≡ Some refusal.NoProcess
 no_process reason [] p past = refl
 no_process reason (q ∷ qs) zero past = absurd (omega arith)
 no_process reason (q ∷ qs) (suc p) past = no_process reason qs p (omega arith)
@@ -64,18 +64,18 @@ module _ {S : Type 0} where
       by_test false is = is
       by_test true is = let no = resident_not_absent (stage_in old.memory v) is in let so = absent in cc
 
-  module _ (held : S → List ℕ) (honest : Type 0) (failures : S → ℕ) (core : CoreValue S) (key : Key) (pager' : PagerSideValue) (q q' : ProcessSideValue S) (reply : Reply) (machine : IsMachine core) (found : slice_get core.processes key.process ≡ Some q) where
+  module _ (held : S → List ℕ) (honest : Type 0) (failures : S → ℕ) (core : CoreValue S) (key : Key) (pager' : PagerSideValue) (q q' : SpaceValue S) (reply : Reply) (machine : IsMachine core) (found : slice_get core.processes key.process ≡ Some q) where
     -- an admission that was taken back: the page is absent as it was
     goes_back : IsTakenBack held honest failures key core.pager pager' q q' reply → GoesBack held honest failures key core.pager pager' q q' reply
     goes_back taken =
-        let there = (unbarred key core.pager.pager q.space taken.admits.allowed).there in
+        let there = (unbarred key core.pager.pager q taken.admits.allowed).there in
         let vpn_is : taken.admission.key.vpn ≡ key.vpn = ap (λ (k : Key). k.vpn) taken.admits.key_is in
         let key_is : taken.back.key ≡ key = taken.fails.key ∙ taken.admits.key_is in
         let small : taken.admission.key.vpn < 2 ^ 20 = let s = there.small in omega (arith, s, vpn_is) in
-        let why : RefusesIn held honest failures taken.admission.frame key.vpn taken.back.frame taken.fault q.space.memory q'.space.memory =
-        subst (λ v. RefusesIn held honest failures taken.admission.frame v taken.back.frame taken.fault q.space.memory q'.space.memory) vpn_is (taken.fails.why small) in
-        let still = refused_still held honest failures taken.admission.frame key.vpn taken.back.frame q.space.memory q'.space.memory taken.fault why in
-        let away : is_resident_at q'.space taken.back.key.vpn ≡ false = ap (λ (k : Key). is_resident_at q'.space k.vpn) key_is ∙ away_still q.space q'.space key.vpn there.small there.absent still in
+        let why : RefusesIn held honest failures taken.admission.frame key.vpn taken.back.frame taken.fault q.memory q'.memory =
+        subst (λ v. RefusesIn held honest failures taken.admission.frame v taken.back.frame taken.fault q.memory q'.memory) vpn_is (taken.fails.why small) in
+        let still = refused_still held honest failures taken.admission.frame key.vpn taken.back.frame q.memory q'.memory taken.fault why in
+        let away : is_resident_at q' taken.back.key.vpn ≡ false = ap (λ (k : Key). is_resident_at q' k.vpn) key_is ∙ away_still q q' key.vpn there.small there.absent still in
         record {
           admission = taken.admission;
           back = taken.back.frame;
@@ -83,10 +83,9 @@ module _ {S : Type 0} where
           between = taken.between;
           admits = taken.admits;
           why = why;
-          absent = λ same. refused_absent held honest failures taken.admission.frame key.vpn taken.back.frame q.space.memory q'.space.memory taken.fault why there.absent same;
+          absent = λ same. refused_absent held honest failures taken.admission.frame key.vpn taken.back.frame q.memory q'.memory taken.fault why there.absent same;
           unmapped = taken.fails.unmapped;
           rest = taken.fails.rest;
-          purged = taken.purged;
           withdraws =
               taken.undone
               ∙ ap (λ list. record taken.between { pager = record taken.between.pager { list = list; free = taken.between.pager.free ++ taken.back.frame ∷ [] } })
@@ -103,7 +102,7 @@ module _ {S : Type 0} where
       pub is_machine : IsMachine after
       pub size : pager'.pager.size ≡ core.pager.pager.size
 
-    reason_told : (reason : Option NotAdmitted) → bars key core.pager.pager q.space ≡ reason → page_in_refusal key core ≡ option_map admit_reason reason
+    reason_told : (reason : Option NotAdmitted) → bars key core.pager.pager q ≡ reason → page_in_refusal key core ≡ option_map admit_reason reason
     reason_told reason barred =
         ap (of_process (page_in_reason key.vpn core.pager.pager.free)) found
         ∙ reason_is key.vpn core.pager.pager.free q
@@ -155,10 +154,10 @@ module _ {S : Type 0} where
       is_refused : (why : EventRefusal) → page_in_refusal key core ≡ Some why → reply ≡ Refused why → Outcome
       is_refused why told answered = record { served = inl (record { refusal = why; reason_is = told; reply_is = answered; stays = unchanged }); is_machine = still_machine; size = still_size }
 
-      by_reason : (reason : NotAdmitted) → bars key core.pager.pager q.space ≡ told_by reason → (reason ≡ NoMemory → kind_of key core.pager.pager.list.entries ≡ None) → reply ≡ Refused (admit_reason reason) → Outcome
+      by_reason : (reason : NotAdmitted) → bars key core.pager.pager q ≡ told_by reason → (reason ≡ NoMemory → kind_of key core.pager.pager.list.entries ≡ None) → reply ≡ Refused (admit_reason reason) → Outcome
       by_reason Ended why grows answered = is_refused refusal.Ended (reason_told (Some Ended) why) answered
       by_reason NotAbsent why grows answered = is_refused refusal.NotAbsent (reason_told (Some NotAbsent) why) answered
-      by_reason AlreadyResident why grows answered = absurd (not_listed (is_some q.space.running.ending) (is_absent_at q.space key.vpn) (none_free core.pager.pager.free) (sym (bars_are core key q machine found) ∙ why))
+      by_reason AlreadyResident why grows answered = absurd (not_listed (is_some q.running.ending) (is_absent_at q key.vpn) (none_free core.pager.pager.free) (sym (bars_are core key q machine found) ∙ why))
       by_reason NoFrame why grows answered = is_refused refusal.NoFrame (reason_told (Some NoFrame) why) answered
       by_reason NoMemory why grows answered = record {
         served = inr (record {
@@ -182,7 +181,7 @@ module _ {S : Type 0} where
         ]
 
   -- the processes were lent as a slice
-  module _ (held : S → List ℕ) (honest : Type 0) (failures : S → ℕ) (pager pager' : PagerSideValue) (slots : PoolValue S) (jobs copies : List (JobValue S)) (items lent new : List (ProcessSideValue S)) (n : ℕ) (key : Key) (reply : Reply)
+  module _ (held : S → List ℕ) (honest : Type 0) (failures : S → ℕ) (pager pager' : PagerSideValue) (slots : PoolValue S) (jobs copies : List (JobValue S)) (items lent new : List (SpaceValue S)) (n : ℕ) (key : Key) (reply : Reply)
       (machine : IsMachine (record { pager = pager; slots = slots; processes = items; jobs = jobs; copies = copies })) (long : n ≡ length items) (same : lent ≡ items)
       (pages : PagesInAt held honest failures key pager pager' lent new reply) where
     abbrev pub lent_core : CoreValue S

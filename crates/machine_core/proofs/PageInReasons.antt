@@ -26,7 +26,6 @@ use Rattle.machine_sides.specs.declared.admission.NotAdmitted.TheVariants.{Ended
 use Rattle.machine_core.specs.declared.error.EventRefusal.TheVariants as refusal
 use Rattle.machine_core.specs.Machine.{CoreValue, IsMachine}
 use Rattle.machine_core.specs.PagingIn.{admit_reason, page_in_reason}
-use Rattle.machine_sides.specs.Sides.{ProcessSideValue}
 use Rattle.machine_sides.specs.StageLaws.{stage_below, stage_passes}
 use Rattle.machine_sides.specs.Together.{residents_in, frames_in}
 use Rattle.machine_core.proofs.Counted.{fewer_total, all_frames, all_numbers, residents_framed}
@@ -74,9 +73,9 @@ module _ {S : Type 0} where
   pub absent_there : (space : SpaceValue S) (vpn : ℕ) → is_absent_at space vpn ≡ true → IsThere space vpn
   absent_there space vpn h = let there = stage_passes space is_absent_stage vpn refl h in record { small = there.0; absent = there.1 }
 
-  module _ (core : CoreValue S) (key : Key) (q : ProcessSideValue S) (machine : IsMachine core) (found : slice_get core.processes key.process ≡ Some q) where
+  module _ (core : CoreValue S) (key : Key) (q : SpaceValue S) (machine : IsMachine core) (found : slice_get core.processes key.process ≡ Some q) where
     -- the list does not have an absent page as a resident one
-    pub absent_unlisted : is_absent_at q.space key.vpn ≡ true → has_resident key core.pager.pager.list ≡ false
+    pub absent_unlisted : is_absent_at q key.vpn ≡ true → has_resident key core.pager.pager.list ≡ false
     absent_unlisted absent = by_kind (has_resident key core.pager.pager.list) refl
       where
         by_kind : (b : Bool) → has_resident key core.pager.pager.list ≡ b → has_resident key core.pager.pager.list ≡ false
@@ -84,11 +83,11 @@ module _ {S : Type 0} where
         by_kind true is =
             let once : residents core.pager.pager.list (is_key key) ≡ 1 = key_residents key core.pager.pager.list machine.lawful ∙ ap (λ b. cond {A = ℕ} b 1 0) is in
             let listed = machine.listed (is_key key) in
-            let one = total_some (λ (r : ProcessSideValue S). residents_in r.space (is_key key)) core.processes (omega (arith, once, listed)) in
-            let there = resident_of one.item.space key one.some in
+            let one = total_some (λ (r : SpaceValue S). residents_in r (is_key key)) core.processes (omega (arith, once, listed)) in
+            let there = resident_of one.item key one.some in
             let place : one.place ≡ key.process = sym (machine.numbered one.place one.item one.found) ∙ there.of_process in
             let same : one.item ≡ q = let a = one.found in let b = found in let c = place in cc in
-            let no : is_absent_at q.space key.vpn ≡ false = resident_there q.space key (subst (λ (r : ProcessSideValue S). HasResident r.space key) same there) in
+            let no : is_absent_at q key.vpn ≡ false = resident_there q key (subst (λ (r : SpaceValue S). HasResident r key) same there) in
             cc
 
     -- where a frame is free the list is not full
@@ -106,7 +105,7 @@ module _ {S : Type 0} where
             let listed = machine.listed (λ _. true) in
             let framed = machine.framed (λ _. true) in
             let frames = machine.frames in
-            let fewer = fewer_total (λ (r : ProcessSideValue S). residents_in r.space (λ _. true)) (λ (r : ProcessSideValue S). frames_in r.space (λ _. true)) residents_framed core.processes in
+            let fewer = fewer_total (λ (r : SpaceValue S). residents_in r (λ _. true)) (λ (r : SpaceValue S). frames_in r (λ _. true)) residents_framed core.processes in
             absurd (omega (arith, full, listed, framed, frames, fewer, long core.pager.pager.free some, all_frames core.pager.pager.free, all_numbers core.pager.pager.size))
 
     pub no_frame_alike : has_no_frame core.pager.pager ≡ none_free core.pager.pager.free
@@ -121,16 +120,16 @@ module _ {S : Type 0} where
     told false false refused none h = refl
 
     -- what bars a page's admission is the first reason of the process's and the pager's, where a full list is none
-    pub bars_are : bars key core.pager.pager q.space ≡ first_reason (is_some q.space.running.ending) (is_absent_at q.space key.vpn) (none_free core.pager.pager.free)
+    pub bars_are : bars key core.pager.pager q ≡ first_reason (is_some q.running.ending) (is_absent_at q key.vpn) (none_free core.pager.pager.free)
     unfolding bars page_bars admission_refused
     bars_are =
-        told (is_some q.space.running.ending) (is_absent_at q.space key.vpn) (admission_refused key core.pager.pager) (none_free core.pager.pager.free)
+        told (is_some q.running.ending) (is_absent_at q key.vpn) (admission_refused key core.pager.pager) (none_free core.pager.pager.free)
         (λ absent.
         ap (λ b. if b then Some pager_refused.AlreadyResident else (if has_no_frame core.pager.pager then Some pager_refused.NoFrame else None)) (listed_alike key core.pager.pager.list ∙ absent_unlisted absent)
         ∙ ap (λ b. if b then Some pager_refused.NoFrame else None) no_frame_alike)
 
-  pub reason_is : (vpn : ℕ) (free : List FrameValue) (q : ProcessSideValue S) → page_in_reason vpn free q ≡ option_map admit_reason (first_reason (is_some q.space.running.ending) (is_absent_at q.space vpn) (none_free free))
-  reason_is vpn free q = event_told (is_some q.space.running.ending) (is_absent_at q.space vpn) (none_free free)
+  pub reason_is : (vpn : ℕ) (free : List FrameValue) (q : SpaceValue S) → page_in_reason vpn free q ≡ option_map admit_reason (first_reason (is_some q.running.ending) (is_absent_at q vpn) (none_free free))
+  reason_is vpn free q = event_told (is_some q.running.ending) (is_absent_at q vpn) (none_free free)
 
 -- ---- an admission
 

@@ -19,7 +19,7 @@ use Rattle.machine_sides.specs.Admitting.{AdmissionValue, Admits}
 use Rattle.machine_core.specs.declared.event.Reply.{Reply}
 use Rattle.machine_core.specs.Machine.{CoreValue, IsMachine}
 use Rattle.machine_core.specs.PagingIn.{ComesIn, GoesBack}
-use Rattle.machine_sides.specs.Sides.{PagerSideValue, ProcessSideValue}
+use Rattle.machine_sides.specs.Sides.{PagerSideValue}
 use Rattle.machine_sides.specs.Together.{frames_where, residents_in, savings_in, frames_in, key_of}
 use Rattle.machine_sides.specs.TogetherLaws.{residents_more, savings_same, alike_residents, alike_frames, alike_rest}
 use Rattle.machine_core.proofs.Kept.{Moves, moved_machine, out_stays, copies_stay, copies_even}
@@ -76,11 +76,11 @@ module _ {S : Type 0} where
 
   -- ---- the page comes in
 
-  module _ (held : S → List ℕ) (honest : Type 0) (failures : S → ℕ) (core : CoreValue S) (key : Key) (pager' : PagerSideValue) (q q' : ProcessSideValue S) (reply : Reply) (machine : IsMachine core) (found : slice_get core.processes key.process ≡ Some q) where
+  module _ (held : S → List ℕ) (honest : Type 0) (failures : S → ℕ) (core : CoreValue S) (key : Key) (pager' : PagerSideValue) (q q' : SpaceValue S) (reply : Reply) (machine : IsMachine core) (found : slice_get core.processes key.process ≡ Some q) where
     abbrev pub next : CoreValue S
     next = record core { pager = pager'; processes = slice_set core.processes key.process q' }
 
-    named : key_of q.space.memory.process key.vpn ≡ key
+    named : key_of q.memory.process key.vpn ≡ key
     named = one_key _ key (machine.numbered key.process q found) refl
 
     module _ (comes : ComesIn held honest failures key core.pager pager' q q' reply) where
@@ -88,37 +88,37 @@ module _ {S : Type 0} where
       vpn_is : comes.admission.key.vpn ≡ key.vpn
       vpn_is = ap (λ (k : Key). k.vpn) comes.admits.key_is
 
-      come_at : HasCome comes.admission.frame comes.admission.key.vpn q.space.memory q'.space.memory
-      come_at = come held honest comes.admission.frame comes.admission.key.vpn q.space.memory q'.space.memory comes.loads.moves
+      come_at : HasCome comes.admission.frame comes.admission.key.vpn q.memory q'.memory
+      come_at = come held honest comes.admission.frame comes.admission.key.vpn q.memory q'.memory comes.loads.moves
 
-      resident_more : (test : Key → Bool) → residents_in q'.space test ≡ residents_in q.space test + cond (test key) 1 0
+      resident_more : (test : Key → Bool) → residents_in q' test ≡ residents_in q test + cond (test key) 1 0
       resident_more test =
-          let more = residents_more q.space q'.space comes.loads.moves.process test comes.admission.key.vpn come_at.residents in
-          let this : cond {A = ℕ} (test (key_of q.space.memory.process comes.admission.key.vpn)) 1 0 ≡ cond (test key) 1 0 = ap (λ v. cond {A = ℕ} (test (key_of q.space.memory.process v)) 1 0) vpn_is ∙ ap (λ k. cond {A = ℕ} (test k) 1 0) named in
+          let more = residents_more q q' comes.loads.moves.process test comes.admission.key.vpn come_at.residents in
+          let this : cond {A = ℕ} (test (key_of q.memory.process comes.admission.key.vpn)) 1 0 ≡ cond (test key) 1 0 = ap (λ v. cond {A = ℕ} (test (key_of q.memory.process v)) 1 0) vpn_is ∙ ap (λ k. cond {A = ℕ} (test k) 1 0) named in
           omega (arith, more, this)
 
-      frame_more : (test : ℕ → Bool) → frames_in q'.space test ≡ frames_in q.space test + cond (test comes.admission.frame.number) 1 0
+      frame_more : (test : ℕ → Bool) → frames_in q' test ≡ frames_in q test + cond (test comes.admission.frame.number) 1 0
       unfolding frames_in
       frame_more test = come_at.frames test
 
-      saved_same : (test : Key → Bool) → savings_in q'.space test ≡ savings_in q.space test
-      saved_same test = savings_same q.space q'.space comes.loads.moves.process test come_at.savings
+      saved_same : (test : Key → Bool) → savings_in q' test ≡ savings_in q test
+      saved_same test = savings_same q q' comes.loads.moves.process test come_at.savings
 
       pub come_size : pager'.pager.size ≡ core.pager.pager.size
-      come_size = same_size key core.pager pager' q.space comes.admission comes.admits
+      come_size = same_size key core.pager pager' q comes.admission comes.admits
 
       come_moves : Moves core next key.process q q'
       come_moves = record {
         found = found;
         processes = refl;
         together = record {
-          listed = λ test. let list = one_listed key core.pager pager' q.space comes.admission comes.admits test in let pages = resident_more test in omega (arith, list, pages);
-          framed = λ test. let free = one_taken key core.pager pager' q.space comes.admission comes.admits test in let pages = frame_more test in omega (arith, free, pages);
+          listed = λ test. let list = one_listed key core.pager pager' q comes.admission comes.admits test in let pages = resident_more test in omega (arith, list, pages);
+          framed = λ test. let free = one_taken key core.pager pager' q comes.admission comes.admits test in let pages = frame_more test in omega (arith, free, pages);
           size = come_size;
           process = comes.loads.moves.process;
         };
         lawful = comes.admits.lawful;
-        frames = list_frames key core.pager pager' q.space comes.admission comes.admits ∙ machine.frames ∙ sym come_size;
+        frames = list_frames key core.pager pager' q comes.admission comes.admits ∙ machine.frames ∙ sym come_size;
         saved = λ test. let s = saved_same test in omega (arith, s);
         slotted = let s = come_at.slots in omega (arith, s);
         slots = refl;
@@ -134,33 +134,33 @@ module _ {S : Type 0} where
 
     module _ (goes : GoesBack held honest failures key core.pager pager' q q' reply) where
       small : key.vpn < 2 ^ 20
-      small = (unbarred key core.pager.pager q.space goes.admits.allowed).there.small
+      small = (unbarred key core.pager.pager q goes.admits.allowed).there.small
 
-      goes_alike : CountsAlike q.space.memory q'.space.memory
-      goes_alike = refused_alike held honest q.space.memory q'.space.memory goes.rest.process goes.unmapped key.vpn small failures goes.admission.frame goes.back goes.fault goes.why
+      goes_alike : CountsAlike q.memory q'.memory
+      goes_alike = refused_alike held honest q.memory q'.memory goes.rest.process goes.unmapped key.vpn small failures goes.admission.frame goes.back goes.fault goes.why
 
       number_same : goes.back.number ≡ goes.admission.frame.number
-      number_same = refused_number held honest failures goes.admission.frame key.vpn goes.back q.space.memory q'.space.memory goes.fault goes.why
+      number_same = refused_number held honest failures goes.admission.frame key.vpn goes.back q.memory q'.memory goes.fault goes.why
 
       list_now : pager'.pager.list ≡ (withdrawn key goes.between.pager.list).0
       list_now = ap (λ (p : PagerSideValue). p.pager.list) goes.withdraws
 
       pub back_size : pager'.pager.size ≡ core.pager.pager.size
-      back_size = ap (λ (p : PagerSideValue). p.pager.size) goes.withdraws ∙ same_size key core.pager goes.between q.space goes.admission goes.admits
+      back_size = ap (λ (p : PagerSideValue). p.pager.size) goes.withdraws ∙ same_size key core.pager goes.between q goes.admission goes.admits
 
       list_same : (test : Key → Bool) → residents pager'.pager.list test ≡ residents core.pager.pager.list test
       list_same test =
           let now : residents pager'.pager.list test ≡ residents (withdrawn key goes.between.pager.list).0 test = ap (λ list. residents list test) list_now in
-          let more = one_listed key core.pager goes.between q.space goes.admission goes.admits test in
+          let more = one_listed key core.pager goes.between q goes.admission goes.admits test in
           let fewer = withdrawn_residents test key goes.between.pager.list in
-          let this : cond {A = ℕ} (has_resident key goes.between.pager.list && test key) 1 0 ≡ cond (test key) 1 0 = ap (λ b. cond {A = ℕ} (b && test key) 1 0) (has_it key core.pager goes.between q.space goes.admission goes.admits) in
+          let this : cond {A = ℕ} (has_resident key goes.between.pager.list && test key) 1 0 ≡ cond (test key) 1 0 = ap (λ b. cond {A = ℕ} (b && test key) 1 0) (has_it key core.pager goes.between q goes.admission goes.admits) in
           omega (arith, now, more, fewer, this)
 
       frames_same : (test : ℕ → Bool) → frames_where test pager'.pager.free ≡ frames_where test core.pager.pager.free
       frames_same test =
           let now : frames_where test pager'.pager.free ≡ frames_where test (goes.between.pager.free ++ goes.back ∷ []) = ap (λ (p : PagerSideValue). frames_where test p.pager.free) goes.withdraws in
           let more = frames-append test goes.between.pager.free goes.back in
-          let taken = one_taken key core.pager goes.between q.space goes.admission goes.admits test in
+          let taken = one_taken key core.pager goes.between q goes.admission goes.admits test in
           let this : cond {A = ℕ} (test goes.back.number) 1 0 ≡ cond (test goes.admission.frame.number) 1 0 = ap (λ n. cond {A = ℕ} (test n) 1 0) number_same in
           omega (arith, now, more, taken, this)
 
@@ -169,14 +169,14 @@ module _ {S : Type 0} where
         found = found;
         processes = refl;
         together = record {
-          listed = λ test. let list = list_same test in let pages = alike_residents q.space q'.space goes_alike test in omega (arith, list, pages);
-          framed = λ test. let free = frames_same test in let pages = alike_frames q.space q'.space goes_alike test in omega (arith, free, pages);
+          listed = λ test. let list = list_same test in let pages = alike_residents q q' goes_alike test in omega (arith, list, pages);
+          framed = λ test. let free = frames_same test in let pages = alike_frames q q' goes_alike test in omega (arith, free, pages);
           size = back_size;
           process = goes_alike.process;
         };
         lawful = subst Lawful (sym list_now) (withdrawn_lawful key goes.between.pager.list goes.admits.lawful);
-        frames = ap (λ (list : ClockState). list.frames) list_now ∙ withdrawn_frames key goes.between.pager.list ∙ list_frames key core.pager goes.between q.space goes.admission goes.admits ∙ machine.frames ∙ sym back_size;
-        saved = λ test. let s = (alike_rest q.space q'.space goes_alike).savings test in omega (arith, s);
+        frames = ap (λ (list : ClockState). list.frames) list_now ∙ withdrawn_frames key goes.between.pager.list ∙ list_frames key core.pager goes.between q goes.admission goes.admits ∙ machine.frames ∙ sym back_size;
+        saved = λ test. let s = (alike_rest q q' goes_alike).savings test in omega (arith, s);
         slotted = let s = goes_alike.slots in omega (arith, s);
         slots = refl;
         out = out_stays core.processes key.process q q' core.jobs found goes_alike.stay machine.out;

@@ -26,7 +26,7 @@ use Rattle.machine_core.specs.MachineRun.{of_process}
 use Rattle.machine_core.specs.PurgeEvent.{purge_reason, purge_refusal, PurgesAt, PurgesOnce, IsDone}
 use Rattle.machine_sides.specs.PurgeLaws.{given_savings, given_stays, given_copies, purged_together, purged_pool}
 use Rattle.machine_sides.specs.Purging.{purge_bars, Purges, PurgesAll, StopsPurging}
-use Rattle.machine_sides.specs.Sides.{PagerSideValue, ProcessSideValue}
+use Rattle.machine_sides.specs.Sides.{PagerSideValue}
 use Rattle.machine_sides.specs.Together.{residents_in, frames_in, key_of}
 use Rattle.machine_core.proofs.Cores.{lent_back}
 use Rattle.machine_core.proofs.Counted.{all_frames, all_numbers}
@@ -66,24 +66,24 @@ module _ {S : Type 0} where
   all_of_own space test = ap (λ b. residents_among space.memory (λ v. b && test (key_of space.memory.process v))) (same_number space.memory.process)
 
   -- list and pages of a process of the machine agree
-  agreed : (core : CoreValue S) (p : ℕ) (q : ProcessSideValue S) → IsMachine core → slice_get core.processes p ≡ Some q → (test : Key → Bool)
-      → residents core.pager.pager.list (λ k. (k.process == q.space.memory.process) && test k) ≡ residents_in q.space test
+  agreed : (core : CoreValue S) (p : ℕ) (q : SpaceValue S) → IsMachine core → slice_get core.processes p ≡ Some q → (test : Key → Bool)
+      → residents core.pager.pager.list (λ k. (k.process == q.memory.process) && test k) ≡ residents_in q test
   agreed core p q machine found test =
-      machine.listed (λ k. (k.process == q.space.memory.process) && test k)
-      ∙ total_one (λ (r : ProcessSideValue S). residents_in r.space (λ k. (k.process == q.space.memory.process) && test k)) core.processes p q found
-      (λ i r at apart. none_of_other r.space q.space.memory.process test (other i r at apart))
-      ∙ all_of_own q.space test
+      machine.listed (λ k. (k.process == q.memory.process) && test k)
+      ∙ total_one (λ (r : SpaceValue S). residents_in r (λ k. (k.process == q.memory.process) && test k)) core.processes p q found
+      (λ i r at apart. none_of_other r q.memory.process test (other i r at apart))
+      ∙ all_of_own q test
     where
-      other : (i : ℕ) (r : ProcessSideValue S) → slice_get core.processes i ≡ Some r → (i ≡ p → ⊥) → (r.space.memory.process == q.space.memory.process) ≡ false
+      other : (i : ℕ) (r : SpaceValue S) → slice_get core.processes i ≡ Some r → (i ≡ p → ⊥) → (r.memory.process == q.memory.process) ≡ false
       other i r at apart =
-          elim (eqb_tells r.space.memory.process q.space.memory.process) [
+          elim (eqb_tells r.memory.process q.memory.process) [
             | inl same ↦ absurd (apart (sym (machine.numbered i r at) ∙ same.1 ∙ machine.numbered p q found))
             | inr differ ↦ differ.0
           ]
 
   -- ---- everything has its place
 
-  no_frame_back : (core : CoreValue S) (pager' : PagerSideValue) (pool' : PoolValue S) (p : ℕ) (q q' : ProcessSideValue S) (frame : FrameValue) (slot : Option S) → IsMachine core → slice_get core.processes p ≡ Some q
+  no_frame_back : (core : CoreValue S) (pager' : PagerSideValue) (pool' : PoolValue S) (p : ℕ) (q q' : SpaceValue S) (frame : FrameValue) (slot : Option S) → IsMachine core → slice_get core.processes p ≡ Some q
       → StopsPurging (Some frame) slot core.pager pager' q q' core.slots pool' → ⊥
   no_frame_back core pager' pool' p q q' frame slot machine found stops =
       let gave = stops.stops.gave in
@@ -92,10 +92,10 @@ module _ {S : Type 0} where
       let size : pager'.pager.size ≡ core.pager.pager.size = ap (λ (s : PagerState). s.size) gave.pager_is in
       let framed = gave.framed (λ _. true) in
       let all = machine.framed (λ _. true) in
-      let part = total_at (λ (r : ProcessSideValue S). frames_in r.space (λ _. true)) core.processes p q found in
+      let part = total_at (λ (r : SpaceValue S). frames_in r (λ _. true)) core.processes p q found in
       omega (arith, full, free, size, framed, all, part, length-append core.pager.pager.free gave.frames, all_frames gave.frames, all_frames core.pager.pager.free, all_numbers core.pager.pager.size)
 
-  no_slot_back : (core : CoreValue S) (pager' : PagerSideValue) (pool' : PoolValue S) (p : ℕ) (q q' : ProcessSideValue S) (frame : Option FrameValue) (slot : S) → IsMachine core → slice_get core.processes p ≡ Some q
+  no_slot_back : (core : CoreValue S) (pager' : PagerSideValue) (pool' : PoolValue S) (p : ℕ) (q q' : SpaceValue S) (frame : Option FrameValue) (slot : S) → IsMachine core → slice_get core.processes p ≡ Some q
       → StopsPurging frame (Some slot) core.pager pager' q q' core.slots pool' → ⊥
   no_slot_back core pager' pool' p q q' frame slot machine found stops =
       let gave = stops.stops.gave in
@@ -104,16 +104,16 @@ module _ {S : Type 0} where
       let size : pool'.size ≡ core.slots.size = ap (λ (s : PoolValue S). s.size) gave.pool_is in
       let slotted = gave.slotted in
       let all = machine.slotted in
-      let part = total_at (λ (r : ProcessSideValue S). slots_within r.space.memory) core.processes p q found in
+      let part = total_at (λ (r : SpaceValue S). slots_within r.memory) core.processes p q found in
       omega (arith, full, free, size, slotted, all, part, length-append core.slots.free gave.slots)
 
-  nothing_back : (core : CoreValue S) (pager' : PagerSideValue) (pool' : PoolValue S) (p : ℕ) (q q' : ProcessSideValue S) (frame : Option FrameValue) (slot : Option S) → IsMachine core → slice_get core.processes p ≡ Some q
+  nothing_back : (core : CoreValue S) (pager' : PagerSideValue) (pool' : PoolValue S) (p : ℕ) (q q' : SpaceValue S) (frame : Option FrameValue) (slot : Option S) → IsMachine core → slice_get core.processes p ≡ Some q
       → StopsPurging frame slot core.pager pager' q q' core.slots pool' → ⊥
   nothing_back core pager' pool' p q q' (Some frame) slot machine found stops = no_frame_back core pager' pool' p q q' frame slot machine found stops
   nothing_back core pager' pool' p q q' None (Some slot) machine found stops = no_slot_back core pager' pool' p q q' None slot machine found stops
   nothing_back core pager' pool' p q q' None None machine found stops = let some = stops.stops.some in cc
 
-  purges_all : {L : Type 0} (core : CoreValue S) (pager' : PagerSideValue) (pool' : PoolValue S) (p : ℕ) (q q' : ProcessSideValue S) (result : Purging L S) → IsMachine core → slice_get core.processes p ≡ Some q
+  purges_all : {L : Type 0} (core : CoreValue S) (pager' : PagerSideValue) (pool' : PoolValue S) (p : ℕ) (q q' : SpaceValue S) (result : Purging L S) → IsMachine core → slice_get core.processes p ≡ Some q
       → purge_bars q ≡ None → Purges core.pager pager' q q' core.slots pool' result → IsDone result × PurgesAll core.pager pager' q q' core.slots pool'
   purges_all core pager' pool' p q q' Done machine found allowed how = (tt, how)
   purges_all core pager' pool' p q q' (Refused reason) machine found allowed how = let why = how.why in cc
@@ -121,32 +121,32 @@ module _ {S : Type 0} where
 
   -- ---- the machine stays one
 
-  purged_machine : (core : CoreValue S) (pager' : PagerSideValue) (pool' : PoolValue S) (p : ℕ) (q q' : ProcessSideValue S) → IsMachine core → slice_get core.processes p ≡ Some q
+  purged_machine : (core : CoreValue S) (pager' : PagerSideValue) (pool' : PoolValue S) (p : ℕ) (q q' : SpaceValue S) → IsMachine core → slice_get core.processes p ≡ Some q
       → PurgesAll core.pager pager' q q' core.slots pool' → IsMachine (record core { pager = pager'; slots = pool'; processes = slice_set core.processes p q' })
   purged_machine core pager' pool' p q q' machine found all =
-      let now : pager'.pager ≡ record core.pager.pager { free = core.pager.pager.free ++ all.frames; list = purged q.space.memory.process core.pager.pager.list } = ap (λ (s : PagerSideValue). s.pager) all.pager_is in
+      let now : pager'.pager ≡ record core.pager.pager { free = core.pager.pager.free ++ all.frames; list = purged q.memory.process core.pager.pager.list } = ap (λ (s : PagerSideValue). s.pager) all.pager_is in
       moved_machine core (record core { pager = pager'; slots = pool'; processes = slice_set core.processes p q' }) p q q' machine (record {
         found = found;
         processes = refl;
         together = purged_together core.pager pager' q q' core.slots pool' all (agreed core p q machine found);
-        lawful = subst (λ (s : PagerState). Lawful s.list) (sym now) (purged_lawful q.space.memory.process core.pager.pager.list machine.lawful);
-        frames = ap (λ (s : PagerState). s.list.frames) now ∙ purged_frames q.space.memory.process core.pager.pager.list ∙ machine.frames ∙ sym (ap (λ (s : PagerState). s.size) now);
-        saved = λ test. let a = given_savings q.space q'.space all.space test in omega (arith, a);
+        lawful = subst (λ (s : PagerState). Lawful s.list) (sym now) (purged_lawful q.memory.process core.pager.pager.list machine.lawful);
+        frames = ap (λ (s : PagerState). s.list.frames) now ∙ purged_frames q.memory.process core.pager.pager.list ∙ machine.frames ∙ sym (ap (λ (s : PagerState). s.size) now);
+        saved = λ test. let a = given_savings q q' all.moves test in omega (arith, a);
         slotted = let a = purged_pool core.pager pager' q q' core.slots pool' all in omega (arith, a);
         slots = ap (λ (s : PoolValue S). s.size) all.pool_is;
-        out = out_stays core.processes p q q' core.jobs found (given_stays q.space q'.space all.space) machine.out;
-        copied = copies_even q q' core.copies all.space.moves.process (given_copies q.space q'.space all.space);
-        copies_out = copies_stay core.processes p q q' core.copies found (given_copies q.space q'.space all.space).stand machine.copies_out;
+        out = out_stays core.processes p q q' core.jobs found (given_stays q q' all.moves) machine.out;
+        copied = copies_even q q' core.copies all.moves.process (given_copies q q' all.moves);
+        copies_out = copies_stay core.processes p q q' core.copies found (given_copies q q' all.moves).stand machine.copies_out;
       })
 
-  unbarred_at : (processes : List (ProcessSideValue S)) (p : ℕ) (q : ProcessSideValue S) → purge_refusal p processes ≡ None → slice_get processes p ≡ Some q → purge_bars q ≡ None
+  unbarred_at : (processes : List (SpaceValue S)) (p : ℕ) (q : SpaceValue S) → purge_refusal p processes ≡ None → slice_get processes p ≡ Some q → purge_bars q ≡ None
   unbarred_at processes p q allowed found = none (purge_bars q) (sym (ap (of_process (λ side. option_map purge_reason (purge_bars side))) found) ∙ allowed)
     where
       none : (o : Option PurgeRefusal) → option_map purge_reason o ≡ None → o ≡ None
       none None h = refl
       none (Some reason) h = cc
 
-  module _ {L : Type 0} (pager pager' : PagerSideValue) (pool pool' : PoolValue S) (jobs copies : List (JobValue S)) (items lent new : List (ProcessSideValue S)) (n p : ℕ) (result : Purging L S)
+  module _ {L : Type 0} (pager pager' : PagerSideValue) (pool pool' : PoolValue S) (jobs copies : List (JobValue S)) (items lent new : List (SpaceValue S)) (n p : ℕ) (result : Purging L S)
       (machine : IsMachine (record { pager = pager; slots = pool; processes = items; jobs = jobs; copies = copies })) (allowed : purge_refusal p items ≡ None)
       (long : n ≡ length items) (same : lent ≡ items) (purges : PurgesAt pager pager' p lent new pool pool' result) where
     abbrev core : CoreValue S

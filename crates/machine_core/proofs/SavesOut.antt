@@ -28,7 +28,7 @@ use Rattle.machine_sides.specs.Returning.{DoesNotList}
 use Rattle.machine_sides.specs.SavingBack.{ShowsFailure, EndsSave, Settles, LeavesAgain, FailsAndReturns, FailsAndLeaves}
 use Rattle.machine_sides.specs.SavingLaws.{SaveEnds, freed_ends, returned_ends, left_ends}
 use Rattle.machine_core.specs.SavingOut.{saved_refusal, is_save_of, MakesSave, EndsSaving, SavesOnce, SavedAt, IsOwn, RepliesTo}
-use Rattle.machine_sides.specs.Sides.{PagerSideValue, ProcessSideValue}
+use Rattle.machine_sides.specs.Sides.{PagerSideValue}
 use Rattle.machine_sides.specs.Together.{savings_in, key_of}
 use Rattle.swap_slots.specs.PoolValue.{PoolValue}
 use Rattle.machine_core.proofs.Cores.{lent_back}
@@ -38,9 +38,10 @@ use Rattle.machine_core.proofs.Kept.{moved_machine, copies_stay, copies_even}
 use Rattle.machine_core.specs.TotalLaws.{total_set, got_set, get_set_same, get_set_other}
 use Rattle.machine_core.proofs.JobsOut.{same_key, total_permuted}
 use Rattle.machine_core.proofs.SavingPages.{saving_counted}
+use Rattle.space_core.specs.StandsFor.{SpaceValue}
 
 module _ {S : Type 0} where
-  module _ (held : S → List ℕ) (honest : Type 0) (failures : S → ℕ) (core : CoreValue S) (key : Key) (q : ProcessSideValue S) (jobs' : List (JobValue S)) (saved : SavedValue S)
+  module _ (held : S → List ℕ) (honest : Type 0) (failures : S → ℕ) (core : CoreValue S) (key : Key) (q : SpaceValue S) (jobs' : List (JobValue S)) (saved : SavedValue S)
       (machine : IsMachine core) (found : slice_get core.processes key.process ≡ Some q) (makes : MakesSave held honest failures key core.jobs jobs' saved) where
     outs : All (IsSaveOut core.processes) (makes.job ∷ jobs')
     outs = All-permutation (IsSaveOut core.processes) core.jobs (makes.job ∷ jobs') makes.taken machine.out
@@ -54,54 +55,54 @@ module _ {S : Type 0} where
     vpn_is : saved.vpn ≡ key.vpn
     vpn_is = makes.page ∙ makes.job_page
 
-    number : q.space.memory.process ≡ key.process
+    number : q.memory.process ≡ key.process
     number = machine.numbered key.process q found
 
     small : saved.vpn < 2 ^ 20
     small = let s = out.small in let e = makes.page in omega (arith, s, e)
 
-    saving : is_saving_stage (stage_in q.space.memory saved.vpn) ≡ true
+    saving : is_saving_stage (stage_in q.memory saved.vpn) ≡ true
     saving =
-        ap (λ v. is_saving_stage (stage_in q.space.memory v)) makes.page
-        ∙ ap (λ (r : ProcessSideValue S). is_saving_stage (stage_in r.space.memory makes.job.vpn)) (sym here)
+        ap (λ v. is_saving_stage (stage_in q.memory v)) makes.page
+        ∙ ap (λ (r : SpaceValue S). is_saving_stage (stage_in r.memory makes.job.vpn)) (sym here)
         ∙ out.saving
 
-    framed : frame_in q.space.memory saved.vpn ≡ Some out.frame
-    framed = ap (frame_in q.space.memory) makes.page ∙ ap (λ (r : ProcessSideValue S). frame_in r.space.memory makes.job.vpn) (sym here) ∙ out.framed
+    framed : frame_in q.memory saved.vpn ≡ Some out.frame
+    framed = ap (frame_in q.memory) makes.page ∙ ap (λ (r : SpaceValue S). frame_in r.memory makes.job.vpn) (sym here) ∙ out.framed
 
-    holds : HoldsFrame q.space saved.vpn
-    holds = record { small = small; framed = saving_framed (stage_in q.space.memory saved.vpn) saving; apart = saving_not_resident (stage_in q.space.memory saved.vpn) saving }
+    holds : HoldsFrame q saved.vpn
+    holds = record { small = small; framed = saving_framed (stage_in q.memory saved.vpn) saving; apart = saving_not_resident (stage_in q.memory saved.vpn) saving }
 
-    found_out : IsOutOf saved q.space.memory
-    found_out = out_of saved q.space.memory (makes.process ∙ makes.job_process ∙ sym number) small saving
+    found_out : IsOutOf saved q.memory
+    found_out = out_of saved q.memory (makes.process ∙ makes.job_process ∙ sym number) small saving
 
     -- the frame holds what was copied, so that it is the device that failed
-    device_failed : (failure : SaveFailure) (q' : ProcessSideValue S) → Settles (LeavesAgain failure saved) q q' → failure ≡ Device
+    device_failed : (failure : SaveFailure) (q' : SpaceValue S) → Settles (LeavesAgain failure saved) q q' → failure ≡ Device
     device_failed Device q' settles = refl
     device_failed Mismatch q' settles =
-        let again = leaving_again (ShowsFailure Mismatch saved) saved q.space.memory q'.space.memory settles.moves in
+        let again = leaving_again (ShowsFailure Mismatch saved) saved q.memory q'.memory settles.moves in
         let one : Some again.frame ≡ Some out.frame = sym again.framed ∙ framed in
         let frame : again.frame ≡ out.frame = cc in
         absurd (again.failed (ap (λ (f : FrameValue). f.bytes) frame ∙ out.same ∙ sym makes.copy))
 
-    takes : (refusal : Refusal) (pager' : PagerSideValue) → DoesNotList (key_of q.space.memory.process saved.vpn) core.pager pager' refusal → (refusal ≡ NoMemory → ⊥) → ⊥
+    takes : (refusal : Refusal) (pager' : PagerSideValue) → DoesNotList (key_of q.memory.process saved.vpn) core.pager pager' refusal → (refusal ≡ NoMemory → ⊥) → ⊥
     takes refusal pager' unlisted other = takes_back core key.process q saved.vpn machine found holds refusal (unlisted.why other)
 
-    only_memory : (refusal : Refusal) (pager' : PagerSideValue) → DoesNotList (key_of q.space.memory.process saved.vpn) core.pager pager' refusal → refusal ≡ NoMemory
+    only_memory : (refusal : Refusal) (pager' : PagerSideValue) → DoesNotList (key_of q.memory.process saved.vpn) core.pager pager' refusal → refusal ≡ NoMemory
     only_memory AlreadyResident pager' unlisted = absurd (takes AlreadyResident pager' unlisted (λ e. cc))
     only_memory NoQuestion pager' unlisted = absurd (takes NoQuestion pager' unlisted (λ e. cc))
     only_memory NotThere pager' unlisted = absurd (takes NotThere pager' unlisted (λ e. cc))
     only_memory Full pager' unlisted = absurd (takes Full pager' unlisted (λ e. cc))
     only_memory NoMemory pager' unlisted = refl
 
-    pub own : {L : Type 0} (outcome : SaveOutcome L S) (pager' : PagerSideValue) (q' : ProcessSideValue S) → EndsSave saved core.pager pager' q q' outcome → IsOwn outcome
+    pub own : {L : Type 0} (outcome : SaveOutcome L S) (pager' : PagerSideValue) (q' : SpaceValue S) → EndsSave saved core.pager pager' q q' outcome → IsOwn outcome
     own Freed pager' q' ends = tt
     own (HandedBack frame) pager' q' ends = let full = ends.full in let missing = frame_missing core key.process q saved.vpn machine found holds in omega (arith, full, missing)
     own (WrongPage back) pager' q' ends = ends.why found_out
     own (ResidentAgain failure) pager' q' ends = device_failed failure ends.between ends.settles
     own (NotRestored failure why) pager' q' ends = (device_failed failure q' ends.settles, only_memory why pager' ends.unlisted)
 
-    pub ends_with : {L : Type 0} (outcome : SaveOutcome L S) (pager' : PagerSideValue) (q' : ProcessSideValue S) (answer : Reply) → EndsSave saved core.pager pager' q q' outcome → RepliesTo outcome answer → EndsSaving saved core.pager pager' q q' answer
+    pub ends_with : {L : Type 0} (outcome : SaveOutcome L S) (pager' : PagerSideValue) (q' : SpaceValue S) (answer : Reply) → EndsSave saved core.pager pager' q q' outcome → RepliesTo outcome answer → EndsSaving saved core.pager pager' q q' answer
     ends_with Freed pager' q' answer ends told = inl (ends, told)
     ends_with (HandedBack frame) pager' q' answer ends told = absurd told
     ends_with (WrongPage back) pager' q' answer ends told = absurd told
@@ -109,7 +110,7 @@ module _ {S : Type 0} where
     ends_with (NotRestored failure why) pager' q' answer ends told =
         inr (inr (subst (λ w. FailsAndLeaves saved core.pager pager' q q' Device w) (only_memory why pager' ends.unlisted) (subst (λ f. FailsAndLeaves saved core.pager pager' q q' f why) (device_failed failure q' ends.settles) ends), told))
 
-    ended : (pager' : PagerSideValue) (q' : ProcessSideValue S) (answer : Reply) → EndsSaving saved core.pager pager' q q' answer → SaveEnds saved.vpn core.pager.pager pager'.pager q.space q'.space
+    ended : (pager' : PagerSideValue) (q' : SpaceValue S) (answer : Reply) → EndsSaving saved core.pager pager' q q' answer → SaveEnds saved.vpn core.pager.pager pager'.pager q q'
     ended pager' q' answer ends =
         elim ends [
           | inl freed ↦ freed_ends saved core.pager pager' q q' freed.0
@@ -121,11 +122,11 @@ module _ {S : Type 0} where
 
     -- ---- the machine stays one
 
-    module _ (pager' : PagerSideValue) (q' : ProcessSideValue S) (ends : SaveEnds saved.vpn core.pager.pager pager'.pager q.space q'.space) where
-      abbrev now : List (ProcessSideValue S)
+    module _ (pager' : PagerSideValue) (q' : SpaceValue S) (ends : SaveEnds saved.vpn core.pager.pager pager'.pager q q') where
+      abbrev now : List (SpaceValue S)
       now = slice_set core.processes key.process q'
 
-      this : key_of q.space.memory.process saved.vpn ≡ key
+      this : key_of q.memory.process saved.vpn ≡ key
       this = one_key _ key number vpn_is
 
       jobs_split : (test : Key → Bool) → jobs_where test core.jobs ≡ cond (test key) 1 0 + jobs_where test jobs'
@@ -135,21 +136,21 @@ module _ {S : Type 0} where
           let same : cond {A = ℕ} (test (key_of makes.job.process makes.job.vpn)) 1 0 ≡ cond (test key) 1 0 = ap (λ k. cond {A = ℕ} (test k) 1 0) (one_key _ key makes.job_process makes.job_page) in
           omega (arith, moved, same)
 
-      savings_split : (test : Key → Bool) → savings_in q'.space test + cond (test key) 1 0 ≡ savings_in q.space test
-      savings_split test = ap (λ k. savings_in q'.space test + cond (test k) 1 0) (sym this) ∙ ends.savings test
+      savings_split : (test : Key → Bool) → savings_in q' test + cond (test key) 1 0 ≡ savings_in q test
+      savings_split test = ap (λ k. savings_in q' test + cond (test k) 1 0) (sym this) ∙ ends.savings test
 
-      now_saved : (test : Key → Bool) → jobs_where test jobs' ≡ total (λ (r : ProcessSideValue S). savings_in r.space test) now
+      now_saved : (test : Key → Bool) → jobs_where test jobs' ≡ total (λ (r : SpaceValue S). savings_in r test) now
       now_saved test =
           let jobs = jobs_split test in
           let saving = savings_split test in
           let before = machine.saved test in
-          let set = total_set (λ (r : ProcessSideValue S). savings_in r.space test) core.processes key.process q q' found in
+          let set = total_set (λ (r : SpaceValue S). savings_in r test) core.processes key.process q q' found in
           omega (arith, jobs, saving, before, set)
 
       -- the page is saved no more
-      none_saving : (i : ℕ) (r : ProcessSideValue S) → slice_get now i ≡ Some r → 1 ≤ savings_in r.space (is_key key) → ⊥
+      none_saving : (i : ℕ) (r : SpaceValue S) → slice_get now i ≡ Some r → 1 ≤ savings_in r (is_key key) → ⊥
       none_saving i r at some =
-          let there = saving_counted r.space key some in
+          let there = saving_counted r key some in
           let is : r ≡ q' = elim (got_set core.processes key.process i q' r at) [
             | inl e ↦ e.1
             | inr old ↦
@@ -159,8 +160,8 @@ module _ {S : Type 0} where
                 let both : Some r ≡ Some q' = sym at ∙ ap (slice_get now) i_is ∙ mine in
                 cc
           ] in
-          let yes : is_saving_stage (stage_in q'.space.memory key.vpn) ≡ true = ap (λ (s : ProcessSideValue S). is_saving_stage (stage_in s.space.memory key.vpn)) (sym is) ∙ there.1.saving in
-          let no : is_saving_stage (stage_in q'.space.memory key.vpn) ≡ false = ap (λ v. is_saving_stage (stage_in q'.space.memory v)) (sym vpn_is) ∙ ends.ended in
+          let yes : is_saving_stage (stage_in q'.memory key.vpn) ≡ true = ap (λ (s : SpaceValue S). is_saving_stage (stage_in s.memory key.vpn)) (sym is) ∙ there.1.saving in
+          let no : is_saving_stage (stage_in q'.memory key.vpn) ≡ false = ap (λ v. is_saving_stage (stage_in q'.memory v)) (sym vpn_is) ∙ ends.ended in
           cc
 
       none_left : jobs_where (is_key key) jobs' ≡ 0
@@ -170,7 +171,7 @@ module _ {S : Type 0} where
           by_count zero is = is
           by_count (suc n) is =
               let saved_now = now_saved (is_key key) in
-              let one = total_some (λ (r : ProcessSideValue S). savings_in r.space (is_key key)) now (omega (arith, is, saved_now)) in
+              let one = total_some (λ (r : SpaceValue S). savings_in r (is_key key)) now (omega (arith, is, saved_now)) in
               absurd (none_saving one.place one.item one.found one.some)
 
       out_still : (job : JobValue S) → is_save_of key job ≡ false → IsSaveOut core.processes job → IsSaveOut now job
@@ -186,10 +187,10 @@ module _ {S : Type 0} where
                   small = out_job.small;
                   found = ap (slice_get now) same.1 ∙ get_set_same core.processes key.process q q' found;
                   saving =
-                      ap is_saving_stage (same_stage q.space.memory q'.space.memory job.vpn still)
-                      ∙ ap (λ (r : ProcessSideValue S). is_saving_stage (stage_in r.space.memory job.vpn)) (sym there)
+                      ap is_saving_stage (same_stage q.memory q'.memory job.vpn still)
+                      ∙ ap (λ (r : SpaceValue S). is_saving_stage (stage_in r.memory job.vpn)) (sym there)
                       ∙ out_job.saving;
-                  framed = same_frame q.space.memory q'.space.memory job.vpn still ∙ ap (λ (r : ProcessSideValue S). frame_in r.space.memory job.vpn) (sym there) ∙ out_job.framed;
+                  framed = same_frame q.memory q'.memory job.vpn still ∙ ap (λ (r : SpaceValue S). frame_in r.memory job.vpn) (sym there) ∙ out_job.framed;
                   same = out_job.same;
                 }
             | inr other ↦ record {
@@ -235,7 +236,7 @@ module _ {S : Type 0} where
           })
 
   -- the processes that were lent as a slice, to one of which a save comes back
-  module _ {L : Type 0} (held : S → List ℕ) (honest : Type 0) (failures : S → ℕ) (pager pager' : PagerSideValue) (slots : PoolValue S) (jobs copies jobs' : List (JobValue S)) (items lent new : List (ProcessSideValue S)) (n : ℕ) (key : Key) (saved : SavedValue S) (outcome : SaveOutcome L S)
+  module _ {L : Type 0} (held : S → List ℕ) (honest : Type 0) (failures : S → ℕ) (pager pager' : PagerSideValue) (slots : PoolValue S) (jobs copies jobs' : List (JobValue S)) (items lent new : List (SpaceValue S)) (n : ℕ) (key : Key) (saved : SavedValue S) (outcome : SaveOutcome L S)
       (machine : IsMachine (record { pager = pager; slots = slots; processes = items; jobs = jobs; copies = copies })) (long : n ≡ length items) (same : lent ≡ items)
       (makes : MakesSave held honest failures key jobs jobs' saved) (at : SavedAt held honest saved pager pager' key.process lent new outcome) where
     abbrev core : CoreValue S
@@ -259,7 +260,7 @@ module _ {S : Type 0} where
       ends_told : EndsSaving saved pager pager' at.process at.process' answer
       ends_told = ends_with held honest failures core key at.process jobs' saved machine found_lent makes outcome pager' at.process' answer at.ends told
 
-      counts : SaveEnds saved.vpn pager.pager pager'.pager at.process.space at.process'.space
+      counts : SaveEnds saved.vpn pager.pager pager'.pager at.process at.process'
       counts = ended held honest failures core key at.process jobs' saved machine found_lent makes pager' at.process' answer ends_told
 
       pub saved_size : pager'.pager.size ≡ pager.pager.size

@@ -14,7 +14,6 @@ use Rattle.paged_memory.specs.Whole.{stage_in}
 use Rattle.machine_sides.specs.SavingBack.{is_saving_at}
 use Rattle.machine_sides.specs.StageLaws.{stage_passes}
 use Rattle.machine_core.specs.SavingOut.{saving_reason, saved_refusal, is_save_of}
-use Rattle.machine_sides.specs.Sides.{ProcessSideValue}
 use Rattle.machine_sides.specs.Together.{savings_in, key_of}
 use Rattle.machine_core.specs.TotalLaws.{total_at}
 use Rattle.machine_core.proofs.JobsOut.{both_true, same_key, none_found}
@@ -29,33 +28,33 @@ module _ {S : Type 0} where
   saving_at space vpn h = let there = stage_passes space is_saving_stage vpn refl h in record { small = there.0; saving = there.1 }
 
   -- the process of a save that is not refused, and its page
-  pub record SavesPage (processes : List (ProcessSideValue S)) (key : Key) : Type 0 where
-    pub process : ProcessSideValue S
+  pub record SavesPage (processes : List (SpaceValue S)) (key : Key) : Type 0 where
+    pub process : SpaceValue S
     pub found : slice_get processes key.process ≡ Some process
-    pub saving : IsSavingAt process.space key.vpn
+    pub saving : IsSavingAt process key.vpn
 
-  pub not_refused : (processes : List (ProcessSideValue S)) (key : Key) → saved_refusal key processes ≡ None → SavesPage processes key
+  pub not_refused : (processes : List (SpaceValue S)) (key : Key) → saved_refusal key processes ≡ None → SavesPage processes key
   not_refused processes key h = by_process (slice_get processes key.process) refl h
     where
-      by_test : (q : ProcessSideValue S) (b : Bool) → slice_get processes key.process ≡ Some q → is_saving_at q.space key.vpn ≡ b → (if b then None else Some refusal.NotSaving) ≡ None → SavesPage processes key
-      by_test q true found is h = record { process = q; found = found; saving = saving_at q.space key.vpn is }
+      by_test : (q : SpaceValue S) (b : Bool) → slice_get processes key.process ≡ Some q → is_saving_at q key.vpn ≡ b → (if b then None else Some refusal.NotSaving) ≡ None → SavesPage processes key
+      by_test q true found is h = record { process = q; found = found; saving = saving_at q key.vpn is }
       by_test q false found is h = cc
 
-      by_process : (o : Option (ProcessSideValue S)) → slice_get processes key.process ≡ o → of_process (saving_reason key.vpn) o ≡ None → SavesPage processes key
+      by_process : (o : Option (SpaceValue S)) → slice_get processes key.process ≡ o → of_process (saving_reason key.vpn) o ≡ None → SavesPage processes key
       by_process None at h = cc
-      by_process (Some q) at h = by_test q (is_saving_at q.space key.vpn) at refl h
+      by_process (Some q) at h = by_test q (is_saving_at q key.vpn) at refl h
 
-  counted_at : (q : ProcessSideValue S) (key : Key) → q.space.memory.process ≡ key.process → IsSavingAt q.space key.vpn → 1 ≤ savings_in q.space (is_key key)
+  counted_at : (q : SpaceValue S) (key : Key) → q.memory.process ≡ key.process → IsSavingAt q key.vpn → 1 ≤ savings_in q (is_key key)
   unfolding savings_in
   counted_at q key number saving =
-      some_saving q.space.memory (λ vpn. is_key key (key_of q.space.memory.process vpn)) key.vpn saving.small saving.saving (same_key key q.space.memory.process key.vpn number refl)
+      some_saving q.memory (λ vpn. is_key key (key_of q.memory.process vpn)) key.vpn saving.small saving.saving (same_key key q.memory.process key.vpn number refl)
 
   -- the save of a page that is being saved is out
   pub is_out : (core : CoreValue S) (key : Key) → IsMachine core → saved_refusal key core.processes ≡ None → position (is_save_of key) core.jobs ≡ None → ⊥
   is_out core key machine allowed none =
       let page = not_refused core.processes key allowed in
       let one = counted_at page.process key (machine.numbered key.process page.process page.found) page.saving in
-      let all = total_at (λ (r : ProcessSideValue S). savings_in r.space (is_key key)) core.processes key.process page.process page.found in
+      let all = total_at (λ (r : SpaceValue S). savings_in r (is_key key)) core.processes key.process page.process page.found in
       let saved = machine.saved (is_key key) in
       let jobs = none_found key core.jobs none in
       omega (arith, one, all, saved, jobs)

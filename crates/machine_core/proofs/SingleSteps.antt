@@ -11,7 +11,7 @@ use Rattle.machine_core.specs.Faithful.{IsFaithful}
 use Rattle.machine_core.specs.Machine.{CoreValue}
 use Rattle.machine_core.specs.MachineRun.{step_reply, hart_reason, hart_refusal, of_process, ChangesOne}
 use Rattle.machine_sides.specs.ProcessCalls.{Slices, StepsOnce, SlicesOn, SliceEnds, SlicesMany}
-use Rattle.machine_sides.specs.Sides.{PagerSideValue, ProcessSideValue}
+use Rattle.machine_sides.specs.Sides.{PagerSideValue}
 use Rattle.machine_core.specs.declared.error.EventRefusal.TheVariants as refusal
 use Rattle.machine_core.specs.declared.event.Event.TheVariants.{Step}
 use Rattle.machine_core.specs.declared.event.Reply.{Reply}
@@ -48,56 +48,56 @@ may_go (Some end) live h = cc
 
 module _ {S : Type 0} (held : S → List ℕ) (honest : Type 0) (failures : S → ℕ) (p hart : ℕ) where
   -- one slice of a process of the machine is one step of it
-  one_step : (core : CoreValue S) (q : ProcessSideValue S) (next : SpaceValue S) (ran : ℕ) (why : SliceStop) → slice_get core.processes p ≡ Some q → hart_reason hart q ≡ None
-      → IsFaithful held honest core → Slices held honest hart 1 q.space next ran why
-      → Applies held honest failures (Step p hart) core (record core { processes = slice_set core.processes p (record q { space = next }) }) (step_reply why)
+  one_step : (core : CoreValue S) (q : SpaceValue S) (next : SpaceValue S) (ran : ℕ) (why : SliceStop) → slice_get core.processes p ≡ Some q → hart_reason hart q ≡ None
+      → IsFaithful held honest core → Slices held honest hart 1 q next ran why
+      → Applies held honest failures (Step p hart) core (record core { processes = slice_set core.processes p next }) (step_reply why)
   unfolding EachCoherent
   one_step core q next ran why found may faithful slice =
-      let how : StepsOnce held honest hart why q (record q { space = next }) = record { ran = ran; slice = slice; purged = refl } in
+      let how : StepsOnce held honest hart why q next = record { ran = ran; slice = slice } in
       record {
         served = inr (record {
           allowed = ap (of_process (hart_reason hart)) found ∙ may;
           why = why;
-          one = record { process = q; process' = record q { space = next }; found = found; how = how; is = refl };
+          one = record { process = q; process' = next; found = found; how = how; is = refl };
           stays = refl;
           reply_is = refl;
         });
         faithful = record {
           coherent = λ number process at.
-              elim (got_set core.processes p number (record q { space = next }) process at) [
-                | inl here ↦ subst (λ (r : ProcessSideValue S). IsCoherent held honest r.space) (sym here.1) (record { stands = slice.stands; harts = slice.kept.harts; memory = slice.coheres })
+              elim (got_set core.processes p number next process at) [
+                | inl here ↦ subst (λ (r : SpaceValue S). IsCoherent held honest r) (sym here.1) (record { stands = slice.stands; harts = slice.kept.harts; memory = slice.coheres })
                 | inr there ↦ faithful.coherent number process there
               ];
-          machine = alike_machine core p q (record q { space = next }) faithful.machine found (step_alike held honest hart why q (record q { space = next }) how);
+          machine = alike_machine core p q next faithful.machine found (step_alike held honest hart why q next how);
         };
       }
 
-  module _ (core : CoreValue S) (q : ProcessSideValue S) (found : slice_get core.processes p ≡ Some q) where
+  module _ (core : CoreValue S) (q : SpaceValue S) (found : slice_get core.processes p ≡ Some q) where
     -- the machine with its process so
     abbrev pub at : SpaceValue S → CoreValue S
-    at space = record core { processes = slice_set core.processes p (record q { space = space }) }
+    at space = record core { processes = slice_set core.processes p space }
 
     -- where so many steps have led
     pub record Led (count : ℕ) (space : SpaceValue S) : Type 0 where
       pub runs : Runs held honest failures (replicate count (Step p hart)) (replicate count Ran) core (at space)
-      pub may : hart_reason hart (record q { space = space }) ≡ None
+      pub may : hart_reason hart space ≡ None
       pub faithful : IsFaithful held honest (at space)
 
-    at_start : at q.space ≡ core
+    at_start : at q ≡ core
     at_start = ap (λ l. record core { processes = l }) (set_same core.processes p q found)
 
     -- one more step
     step_on : (count : ℕ) (space next : SpaceValue S) (ran : ℕ) (why : SliceStop) → Led count space → Slices held honest hart 1 space next ran why
         → Applies held honest failures (Step p hart) (at space) (at next) (step_reply why)
     step_on count space next ran why led slice =
-        let there : slice_get (slice_set core.processes p (record q { space = space })) p ≡ Some (record q { space = space }) = get_set_same core.processes p q (record q { space = space }) found in
-        subst (λ l. Applies held honest failures (Step p hart) (at space) (record core { processes = l }) (step_reply why)) (set_twice core.processes p (record q { space = space }) (record q { space = next }))
-        (one_step (at space) (record q { space = space }) next ran why there led.may led.faithful slice)
+        let there : slice_get (slice_set core.processes p space) p ≡ Some space = get_set_same core.processes p q space found in
+        subst (λ l. Applies held honest failures (Step p hart) (at space) (record core { processes = l }) (step_reply why)) (set_twice core.processes p space next)
+        (one_step (at space) space next ran why there led.may led.faithful slice)
 
-    pub led_on : (may : hart_reason hart q ≡ None) → IsFaithful held honest core → (count : ℕ) (space : SpaceValue S) → SlicesOn held honest hart count q.space space → Led count space
+    pub led_on : (may : hart_reason hart q ≡ None) → IsFaithful held honest core → (count : ℕ) (space : SpaceValue S) → SlicesOn held honest hart count q space → Led count space
     unfolding SlicesOn
     led_on may faithful zero space on =
-        let same : q.space ≡ space = sym on in
+        let same : q ≡ space = sym on in
         subst (λ s. Led 0 s) same (record {
           runs = subst (λ c. Runs held honest failures [] [] core c) (sym at_start) (runs_none held honest failures core);
           may = may;
@@ -125,26 +125,24 @@ module _ {S : Type 0} (held : S → List ℕ) (honest : Type 0) (failures : S �
       pub runs : Runs held honest failures (steps_of p hart count last) (replies_of count last) core new
       pub faithful : IsFaithful held honest new
 
-    pub many_stepped : (may : hart_reason hart q ≡ None) → IsFaithful held honest core → (count : ℕ) (last : Option SliceStop) (q' : ProcessSideValue S) → SlicesMany held honest hart count last q q'
+    pub many_stepped : (may : hart_reason hart q ≡ None) → IsFaithful held honest core → (count : ℕ) (last : Option SliceStop) (q' : SpaceValue S) → SlicesMany held honest hart count last q q'
         → Stepped count (option_map step_reply last) (record core { processes = slice_set core.processes p q' })
     many_stepped may faithful count last q' many =
-        let this : record q { space = q'.space } ≡ q' = ap (λ b. record { space = q'.space; purged = b }) (sym many.purged) in
-        subst (λ (r : ProcessSideValue S). Stepped count (option_map step_reply last) (record core { processes = slice_set core.processes p r })) this
-        (by_last last many.ends)
+        by_last last many.ends
       where
-        by_last : (o : Option SliceStop) → SliceEnds held honest hart o many.between q'.space → Stepped count (option_map step_reply o) (at q'.space)
+        by_last : (o : Option SliceStop) → SliceEnds held honest hart o many.between q' → Stepped count (option_map step_reply o) (at q')
         by_last None ends =
             let led = led_on may faithful count many.between many.on in
             subst (λ s. Stepped count None (at s)) (sym ends) (record { runs = led.runs; faithful = led.faithful })
         by_last (Some why) ends =
             let led = led_on may faithful count many.between many.on in
             record {
-              runs = led_last count many.between q'.space ends.0 why led ends.1;
-              faithful = (step_on count many.between q'.space ends.0 why led ends.1).faithful;
+              runs = led_last count many.between q' ends.0 why led ends.1;
+              faithful = (step_on count many.between q' ends.0 why led ends.1).faithful;
             }
 
   -- the processes that were lent as a slice
-  many_back : (pager : PagerSideValue) (slots : PoolValue S) (jobs copies : List (JobValue S)) (items lent new : List (ProcessSideValue S)) (n count : ℕ) (last : Option SliceStop)
+  many_back : (pager : PagerSideValue) (slots : PoolValue S) (jobs copies : List (JobValue S)) (items lent new : List (SpaceValue S)) (n count : ℕ) (last : Option SliceStop)
       → None ≡ hart_refusal p hart items → IsFaithful held honest (record { pager = pager; slots = slots; processes = items; jobs = jobs; copies = copies }) → n ≡ length items → lent ≡ items
       → (one : ChangesOne (SlicesMany held honest hart count last) p lent new)
       → (Runs held honest failures (steps_of p hart count (option_map step_reply last)) (replies_of count (option_map step_reply last)) (record { pager = pager; slots = slots; processes = items; jobs = jobs; copies = copies })
@@ -162,7 +160,7 @@ module _ {S : Type 0} (held : S → List ℕ) (honest : Type 0) (failures : S �
       )
 
   -- the same of the machine as its caller sees it, and of the reply that it is told
-  pub many_told : (pager : PagerSideValue) (slots : PoolValue S) (jobs copies : List (JobValue S)) (items lent new : List (ProcessSideValue S)) (n count : ℕ) (last : Option SliceStop) (reply : Option Reply) (old : CoreValue S)
+  pub many_told : (pager : PagerSideValue) (slots : PoolValue S) (jobs copies : List (JobValue S)) (items lent new : List (SpaceValue S)) (n count : ℕ) (last : Option SliceStop) (reply : Option Reply) (old : CoreValue S)
       → record { pager = pager; slots = slots; processes = items; jobs = jobs; copies = copies } ≡ old → reply ≡ option_map step_reply last
       → None ≡ hart_refusal p hart items → IsFaithful held honest old → n ≡ length items → lent ≡ items → ChangesOne (SlicesMany held honest hart count last) p lent new
       → (Runs held honest failures (steps_of p hart count reply) (replies_of count reply) old (record { pager = pager; slots = slots; processes = take n (new ++ drop (length new) items); jobs = jobs; copies = copies }))

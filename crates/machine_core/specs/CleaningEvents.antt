@@ -17,13 +17,13 @@ use Rattle.machine_core.specs.Machine.{CoreValue}
 use Rattle.machine_core.specs.MachineRun.{of_process}
 use Rattle.machine_core.specs.SavingOut.{is_save_of, MakesSave}
 use Rattle.machine_sides.specs.Cleaning.{StartsCleaning, PageCopied, Copies, TakesCopyBack, clean_bars, copy_bars}
-use Rattle.machine_sides.specs.Sides.{ProcessSideValue}
 use Rattle.machine_sides.specs.declared.cleaning.CleanBar.{CleanBar}
 use Rattle.machine_sides.specs.declared.cleaning.CleanBar.TheVariants as bar
 use Rattle.machine_sides.specs.declared.cleaning.CopyBar.{CopyBar}
 use Rattle.machine_sides.specs.declared.cleaning.CopyBar.TheVariants as copy
 use Rattle.machine_sides.specs.declared.cleaning.Copying.{Copying}
 use Rattle.machine_sides.specs.declared.cleaning.Copying.TheVariants.{Stored, NotYet, NoSlot, Copied}
+use Rattle.space_core.specs.StandsFor.{SpaceValue}
 
 -- what bars a page's cleaning, and a copy of it, as refusals of events
 abbrev pub clean_barred : CleanBar → EventRefusal
@@ -49,16 +49,16 @@ clean_reply (Err why) = reply.Refused (clean_barred why)
 module _ {S : Type 0} where
   -- ---- why each is refused
 
-  abbrev pub clean_reason : ℕ → ProcessSideValue S → Option EventRefusal
-  clean_reason vpn process = option_map clean_barred (clean_bars process.space vpn)
+  abbrev pub clean_reason : ℕ → SpaceValue S → Option EventRefusal
+  clean_reason vpn process = option_map clean_barred (clean_bars process vpn)
 
-  abbrev pub clean_refusal : Key → List (ProcessSideValue S) → Option EventRefusal
+  abbrev pub clean_refusal : Key → List (SpaceValue S) → Option EventRefusal
   clean_refusal key processes = of_process (clean_reason key.vpn) (slice_get processes key.process)
 
-  abbrev pub copy_reason : ℕ → ProcessSideValue S → Option EventRefusal
-  copy_reason vpn process = option_map copy_barred (copy_bars process.space vpn)
+  abbrev pub copy_reason : ℕ → SpaceValue S → Option EventRefusal
+  copy_reason vpn process = option_map copy_barred (copy_bars process vpn)
 
-  abbrev pub copy_refusal : Key → List (ProcessSideValue S) → Option EventRefusal
+  abbrev pub copy_refusal : Key → List (SpaceValue S) → Option EventRefusal
   copy_refusal key processes = of_process (copy_reason key.vpn) (slice_get processes key.process)
 
   abbrev pub cleaned_refusal : Key → CoreValue S → Option EventRefusal
@@ -69,16 +69,16 @@ module _ {S : Type 0} where
   -- a changed resident page's cleaning begins
   pub record CleansOnce (held : S → List ℕ) (key : Key) (old new : CoreValue S) (answer : Reply) : Type 0 where
     pub allowed : clean_refusal key old.processes ≡ None
-    pub process : ProcessSideValue S
-    pub process' : ProcessSideValue S
+    pub process : SpaceValue S
+    pub process' : SpaceValue S
     pub found : slice_get old.processes key.process ≡ Some process
     pub starts : StartsCleaning key.vpn process process'
-    pub memory : memory_of held process'.space.memory ≡ memory_of held process.space.memory
+    pub memory : memory_of held process'.memory ≡ memory_of held process.memory
     pub processes : new.processes ≡ slice_set old.processes key.process process'
     pub stays : new ≡ record old { processes = new.processes }
     pub reply_is : answer ≡ reply.Cleaning
 
-  module _ (vpn : ℕ) (old new : CoreValue S) (process process' : ProcessSideValue S) (told : Reply) where
+  module _ (vpn : ℕ) (old new : CoreValue S) (process process' : SpaceValue S) (told : Reply) where
     -- what the copy of a page comes to in the machine, with the copies that are then out and the reply
     pub data CopiesTo : Type 0 where
       stored : PageCopied vpn answered.Stored process process' old.slots new.slots → new.copies ≡ old.copies → told ≡ reply.Stored → CopiesTo
@@ -89,11 +89,11 @@ module _ {S : Type 0} where
   -- a copy of a page that is being cleaned is asked for
   pub record CopiesOnce (held : S → List ℕ) (key : Key) (old new : CoreValue S) (answer : Reply) : Type 0 where
     pub allowed : copy_refusal key old.processes ≡ None
-    pub process : ProcessSideValue S
-    pub process' : ProcessSideValue S
+    pub process : SpaceValue S
+    pub process' : SpaceValue S
     pub found : slice_get old.processes key.process ≡ Some process
     pub comes_to : CopiesTo key.vpn old new process process' answer
-    pub memory : memory_of held process'.space.memory ≡ memory_of held process.space.memory
+    pub memory : memory_of held process'.memory ≡ memory_of held process.memory
     pub processes : new.processes ≡ slice_set old.processes key.process process'
     pub stays : new ≡ record old { slots = new.slots; processes = new.processes; copies = new.copies }
 
@@ -113,43 +113,43 @@ module _ {S : Type 0} where
   -- a copy of a page that is out is written and comes back
   pub record CleanedOnce (held : S → List ℕ) (honest : Type 0) (failures : S → ℕ) (key : Key) (old new : CoreValue S) (answer : Reply) : Type 0 where
     pub allowed : cleaned_refusal key old ≡ None
-    pub process : ProcessSideValue S
-    pub process' : ProcessSideValue S
+    pub process : SpaceValue S
+    pub process' : SpaceValue S
     pub found : slice_get old.processes key.process ≡ Some process
     pub job : SavedValue S
     pub makes : MakesSave held honest failures key old.copies new.copies job
     pub came : Cleaned S
     pub ends : TakesCopyBack job came process process'
     pub told : RepliesBack came answer
-    pub memory : memory_of held process'.space.memory ≡ memory_of held process.space.memory
+    pub memory : memory_of held process'.memory ≡ memory_of held process.memory
     pub processes : new.processes ≡ slice_set old.processes key.process process'
     pub stays : new ≡ record old { processes = new.processes; copies = new.copies }
 
   -- ---- the steps of the events
 
   -- a page's cleaning begins in the process of this number, or does not
-  pub record CleansAt (held : S → List ℕ) (number vpn : ℕ) (old new : List (ProcessSideValue S)) (result : Result (Unit {0}) CleanBar) : Type 0 where
-    pub process : ProcessSideValue S
-    pub process' : ProcessSideValue S
+  pub record CleansAt (held : S → List ℕ) (number vpn : ℕ) (old new : List (SpaceValue S)) (result : Result (Unit {0}) CleanBar) : Type 0 where
+    pub process : SpaceValue S
+    pub process' : SpaceValue S
     pub found : slice_get old number ≡ Some process
     pub starts : OnOk result (StartsCleaning vpn process process')
-    pub barred : refused_of result ≡ clean_bars process.space vpn
+    pub barred : refused_of result ≡ clean_bars process vpn
     pub err : OnErr result (process' ≡ process)
-    pub memory : memory_of held process'.space.memory ≡ memory_of held process.space.memory
+    pub memory : memory_of held process'.memory ≡ memory_of held process.memory
     pub is : new ≡ slice_set old number process'
 
   -- a copy is asked for in the process of this number
-  abbrev pub IfCopies : ℕ → ProcessSideValue S → ProcessSideValue S → PoolValue S → PoolValue S → Result (Copying S) CopyBar → Type 0
+  abbrev pub IfCopies : ℕ → SpaceValue S → SpaceValue S → PoolValue S → PoolValue S → Result (Copying S) CopyBar → Type 0
   IfCopies vpn old new slots slots' (Ok answer) = Copies vpn old new slots slots' answer
   IfCopies vpn old new slots slots' (Err why) = (new ≡ old) × (slots' ≡ slots)
 
-  pub record CopiesAt (held : S → List ℕ) (number vpn : ℕ) (slots slots' : PoolValue S) (old new : List (ProcessSideValue S)) (result : Result (Copying S) CopyBar) : Type 0 where
-    pub process : ProcessSideValue S
-    pub process' : ProcessSideValue S
+  pub record CopiesAt (held : S → List ℕ) (number vpn : ℕ) (slots slots' : PoolValue S) (old new : List (SpaceValue S)) (result : Result (Copying S) CopyBar) : Type 0 where
+    pub process : SpaceValue S
+    pub process' : SpaceValue S
     pub found : slice_get old number ≡ Some process
     pub how : IfCopies vpn process process' slots slots' result
-    pub barred : refused_of result ≡ copy_bars process.space vpn
-    pub memory : memory_of held process'.space.memory ≡ memory_of held process.space.memory
+    pub barred : refused_of result ≡ copy_bars process vpn
+    pub memory : memory_of held process'.memory ≡ memory_of held process.memory
     pub is : new ≡ slice_set old number process'
 
   -- the copies that are out after it, and the reply
@@ -168,11 +168,11 @@ module _ {S : Type 0} where
   copy_reply (Err why) = reply.Refused (copy_barred why)
 
   -- a copy comes back to the process of this number, whose pages, tables and caches go together
-  pub record CopyBackAt (held : S → List ℕ) (honest : Type 0) (job : SavedValue S) (number : ℕ) (old new : List (ProcessSideValue S)) (came : Cleaned S) : Type 0 where
-    pub process : ProcessSideValue S
-    pub process' : ProcessSideValue S
+  pub record CopyBackAt (held : S → List ℕ) (honest : Type 0) (job : SavedValue S) (number : ℕ) (old new : List (SpaceValue S)) (came : Cleaned S) : Type 0 where
+    pub process : SpaceValue S
+    pub process' : SpaceValue S
     pub found : slice_get old number ≡ Some process
-    pub agree : HoldsIn held honest process.space.memory
+    pub agree : HoldsIn held honest process.memory
     pub ends : TakesCopyBack job came process process'
-    pub memory : memory_of held process'.space.memory ≡ memory_of held process.space.memory
+    pub memory : memory_of held process'.memory ≡ memory_of held process.memory
     pub is : new ≡ slice_set old number process'

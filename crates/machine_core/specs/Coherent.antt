@@ -3,7 +3,6 @@ use Rattle.std.specs.Prelude.{◌≡◌, ℕ, List, length, Some, slice_get}
 use Rattle.paged_memory.specs.Coheres.{Coheres}
 use Rattle.paged_memory.specs.Whole.{harts_in}
 use Rattle.space_core.specs.StandsFor.{SpaceValue, StandsFor}
-use Rattle.machine_sides.specs.Sides.{ProcessSideValue}
 
 module _ {S : Type 0} (held : S → List ℕ) (honest : Type 0) where
   -- it stands for its flat process where slots are honest, each hart that was started has its cache, and its pages, tables and
@@ -13,5 +12,5 @@ module _ {S : Type 0} (held : S → List ℕ) (honest : Type 0) where
     pub harts : harts_in space.memory ≡ length space.running.harts
     pub memory : Coheres held honest space.memory
 
-  unfoldable pub EachCoherent : List (ProcessSideValue S) → Type 0
-  EachCoherent processes = (number : ℕ) (process : ProcessSideValue S) → slice_get processes number ≡ Some process → IsCoherent process.space
+  unfoldable pub EachCoherent : List (SpaceValue S) → Type 0
+  EachCoherent processes = (number : ℕ) (process : SpaceValue S) → slice_get processes number ≡ Some process → IsCoherent process

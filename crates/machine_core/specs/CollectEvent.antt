@@ -12,19 +12,20 @@ use Rattle.machine_core.specs.declared.event.Reply.TheVariants as reply
 use Rattle.machine_core.specs.Machine.{CoreValue}
 use Rattle.machine_core.specs.MachineRun.{of_process}
 use Rattle.machine_sides.specs.Collecting.{is_leaving_at, Looks, IsNotYet, IsDropped, IsCopied, LacksAndReturns, LacksAndLeaves}
-use Rattle.machine_sides.specs.Sides.{PagerSideValue, ProcessSideValue}
+use Rattle.machine_sides.specs.Sides.{PagerSideValue}
 use Rattle.machine_sides.specs.declared.collecting.Looked.{Looked}
 use Rattle.machine_sides.specs.declared.collecting.Looked.TheVariants.{NotLeaving, NotYet, Freed, Dirty, NoSlot, NotRestored, HandedBack}
+use Rattle.space_core.specs.StandsFor.{SpaceValue}
 
 module _ {S : Type 0} where
   -- why a look at a page is refused
-  abbrev pub leaving_reason : ℕ → ProcessSideValue S → Option EventRefusal
-  leaving_reason vpn process = if is_leaving_at process.space vpn then None else Some refusal.NotLeaving
+  abbrev pub leaving_reason : ℕ → SpaceValue S → Option EventRefusal
+  leaving_reason vpn process = if is_leaving_at process vpn then None else Some refusal.NotLeaving
 
-  abbrev pub collect_refusal : Key → List (ProcessSideValue S) → Option EventRefusal
+  abbrev pub collect_refusal : Key → List (SpaceValue S) → Option EventRefusal
   collect_refusal key processes = of_process (leaving_reason key.vpn) (slice_get processes key.process)
 
-  module _ (vpn : ℕ) (old new : CoreValue S) (process process' : ProcessSideValue S) (answer : Reply) where
+  module _ (vpn : ℕ) (old new : CoreValue S) (process process' : SpaceValue S) (answer : Reply) where
     -- what a look at a page of a process comes to in the machine, with the saves that are then out and the reply: the save of a
     -- changed page is kept there; memory may be wanting where the list is to take the page back
     pub data CollectsTo : Type 0 where
@@ -37,23 +38,23 @@ module _ {S : Type 0} where
   -- a page that is leaving is looked at
   pub record CollectsOnce (held : S → List ℕ) (honest : Type 0) (key : Key) (old new : CoreValue S) (answer : Reply) : Type 0 where
     pub allowed : collect_refusal key old.processes ≡ None
-    pub process : ProcessSideValue S
-    pub process' : ProcessSideValue S
+    pub process : SpaceValue S
+    pub process' : SpaceValue S
     pub found : slice_get old.processes key.process ≡ Some process
     pub comes_to : CollectsTo key.vpn old new process process' answer
-    pub memory : honest → memory_of held process'.space.memory ≡ memory_of held process.space.memory
+    pub memory : honest → memory_of held process'.memory ≡ memory_of held process.memory
     pub processes : new.processes ≡ slice_set old.processes key.process process'
     pub stays : new ≡ record old { pager = new.pager; slots = new.slots; processes = new.processes; jobs = new.jobs }
 
   -- ---- the steps of the event
 
   -- a look at a page of the process of this number
-  pub record LooksAt (held : S → List ℕ) (honest : Type 0) {L : Type 0} (number vpn : ℕ) (pager pager' : PagerSideValue) (slots slots' : PoolValue S) (old new : List (ProcessSideValue S)) (looked : Looked L S) : Type 0 where
-    pub process : ProcessSideValue S
-    pub process' : ProcessSideValue S
+  pub record LooksAt (held : S → List ℕ) (honest : Type 0) {L : Type 0} (number vpn : ℕ) (pager pager' : PagerSideValue) (slots slots' : PoolValue S) (old new : List (SpaceValue S)) (looked : Looked L S) : Type 0 where
+    pub process : SpaceValue S
+    pub process' : SpaceValue S
     pub found : slice_get old number ≡ Some process
     pub how : Looks vpn pager pager' process process' slots slots' looked
-    pub memory : honest → memory_of held process'.space.memory ≡ memory_of held process.space.memory
+    pub memory : honest → memory_of held process'.memory ≡ memory_of held process.memory
     pub is : new ≡ slice_set old number process'
 
   -- what comes of a look at a page that is leaving in the machine, where each frame has its place and the list its pages

@@ -15,7 +15,6 @@ use Rattle.machine_core.specs.Headline.{has_run, adds}
 use Rattle.machine_core.specs.Machine.{CoreValue}
 use Rattle.machine_core.specs.MachineRun.{step_reply, sweep_reply, hart_reason, of_process, Steps, Notices, Kills, SweepsOnce}
 use Rattle.machine_sides.specs.ProcessCalls.{Slices}
-use Rattle.machine_sides.specs.Sides.{ProcessSideValue}
 use Rattle.machine_sides.specs.Sweeping.{ReadsBit, HeedsVerdict, bit_at}
 use Rattle.machine_core.specs.declared.error.EventRefusal.TheVariants as refusal
 use Rattle.clock_policy.specs.declared.refusal.Refusal.{Refusal}
@@ -94,32 +93,32 @@ module _ {S : Type 0} where
     step_tells p hart old new answer steps =
         let one = steps.one in
         let slice = one.how.slice in
-        let going : one.process.space.running.ending ≡ None = not_ended one.process.space.running.ending (slice_index_or one.process.space.running.environment.live hart false) (sym (ap (of_process (hart_reason hart)) one.found) ∙ steps.allowed) in
+        let going : one.process.running.ending ≡ None = not_ended one.process.running.ending (slice_index_or one.process.running.environment.live hart false) (sym (ap (of_process (hart_reason hart)) one.found) ∙ steps.allowed) in
         let ran : replicate one.how.ran hart ≡ adds p (Step p hart) answer =
-        ran_one hart one.how.ran steps.why one.process.space one.process'.space going slice ∙ ap (λ r. if has_run r then hart ∷ [] else []) (sym steps.reply_is) ∙ sym (own_added hart p (has_run answer)) in
+        ran_one hart one.how.ran steps.why one.process one.process' going slice ∙ ap (λ r. if has_run r then hart ∷ [] else []) (sym steps.reply_is) ∙ sym (own_added hart p (has_run answer)) in
         record {
           recorded = λ number process at.
               one_remains old.processes new.processes p one.process one.process' one.found one.is (λ n. adds n (Step p hart) answer)
-              (record { image = slice.kept.image; input = slice.kept.input; recorded = slice.recorded ∙ ap (λ l. written_out one.process.space.schedule ++ l) ran })
+              (record { image = slice.kept.image; input = slice.kept.input; recorded = slice.recorded ∙ ap (λ l. written_out one.process.schedule ++ l) ran })
               (λ n apart. other_added hart n p (has_run answer) apart) number process at;
           victim = λ key is. absurd (no_step_victim steps.why key (sym steps.reply_is ∙ is));
         }
 
-  own_order : (q q' : ProcessSideValue S) → q'.space.image ≡ q.space.image → q'.space.input ≡ q.space.input → q'.space.schedule ≡ q.space.schedule → SameOrder q.space q'.space
+  own_order : (q q' : SpaceValue S) → q'.image ≡ q.image → q'.input ≡ q.input → q'.schedule ≡ q.schedule → SameOrder q q'
   own_order q q' image input schedule = record { image = image; input = input; schedule = schedule }
 
   pub notice_tells : (p hart : ℕ) (old new : CoreValue S) (answer : Reply) → Notices p hart old new answer → Tells (Notice p hart) answer old new
   notice_tells p hart old new answer notices =
       let one = notices.one in
       quiet_tells (Notice p hart) old new answer p one.process one.process' one.found one.is
-      (own_order one.process one.process' (ap (λ (r : ProcessSideValue S). r.space.image) one.how) (ap (λ (r : ProcessSideValue S). r.space.input) one.how) (ap (λ (r : ProcessSideValue S). r.space.schedule) one.how))
+      (own_order one.process one.process' (ap (λ (r : SpaceValue S). r.image) one.how) (ap (λ (r : SpaceValue S). r.input) one.how) (ap (λ (r : SpaceValue S). r.schedule) one.how))
       (λ _. refl) (λ key is. let e : reply.Noticed ≡ reply.Victim key = sym notices.reply_is ∙ is in cc)
 
   pub kill_tells : (p : ℕ) (cause : KillCause) (old new : CoreValue S) (answer : Reply) → Kills p cause old new answer → Tells (Kill p cause) answer old new
   kill_tells p cause old new answer kills =
       let one = kills.one in
       quiet_tells (Kill p cause) old new answer p one.process one.process' one.found one.is
-      (own_order one.process one.process' (ap (λ (r : ProcessSideValue S). r.space.image) one.how) (ap (λ (r : ProcessSideValue S). r.space.input) one.how) (ap (λ (r : ProcessSideValue S). r.space.schedule) one.how))
+      (own_order one.process one.process' (ap (λ (r : SpaceValue S). r.image) one.how) (ap (λ (r : SpaceValue S). r.input) one.how) (ap (λ (r : SpaceValue S). r.schedule) one.how))
       (λ _. refl) (λ key is. let e : reply.Killed ≡ reply.Victim key = sym kills.reply_is ∙ is in cc)
 
   read_order : (bit : Bit) (vpn : ℕ) (old new : SpaceValue S) → ReadsBit bit vpn old new → SameOrder old new
@@ -135,10 +134,10 @@ module _ {S : Type 0} where
   unfolding pager_answered
   sweep_tells old new answer sweeps = record {
     recorded = λ number process at.
-        let first = read_order sweeps.bit sweeps.key.vpn sweeps.process.space sweeps.answers.between sweeps.answers.read in
-        let second = heeded_order sweeps.verdict sweeps.key.vpn sweeps.answers.between sweeps.process'.space sweeps.answers.heeded in
+        let first = read_order sweeps.bit sweeps.key.vpn sweeps.process sweeps.answers.between sweeps.answers.read in
+        let second = heeded_order sweeps.verdict sweeps.key.vpn sweeps.answers.between sweeps.process' sweeps.answers.heeded in
         quiet_remains old.processes new.processes sweeps.key.process sweeps.process sweeps.process' sweeps.found sweeps.processes
-        (goes_same sweeps.process.space sweeps.process'.space (then_same sweeps.process.space sweeps.answers.between sweeps.process'.space first second)) number process at;
+        (goes_same sweeps.process sweeps.process' (then_same sweeps.process sweeps.answers.between sweeps.process' first second)) number process at;
     victim = λ key is.
         let named = told_victim sweeps.key sweeps.bit sweeps.verdict key (sym sweeps.reply_is ∙ is) in
         let told : (answered sweeps.bit old.pager.pager.list).1 ≡ Ok (verdict.Victim named.victim) = sweeps.answers.told ∙ ap {B = Result Verdict Refusal} (λ v. Ok v) named.is in
@@ -150,7 +149,7 @@ module _ {S : Type 0} where
           found = ap (λ (k : Key). slice_get old.processes k.process) (sym same) ∙ sweeps.found;
           asked = q ∙ ap (λ (k : Key). Some k) victim;
           bit = sweeps.bit;
-          as_asked = ap (λ (k : Key). bit_at sweeps.process.space k.vpn) (sym same) ∙ sweeps.answers.bit_is;
+          as_asked = ap (λ (k : Key). bit_at sweeps.process k.vpn) (sym same) ∙ sweeps.answers.bit_is;
           named = told ∙ ap {B = Result Verdict Refusal} (λ (k : Key). Ok (verdict.Victim k)) victim;
           list = ap (λ (p : PagerSideValue). p.pager.list) sweeps.answers.pager_is;
         };
@@ -162,10 +161,10 @@ module _ {S : Type 0} where
   page_in_tells held honest failures key old new answer once =
       quiet_tells (PageIn key) old new answer key.process once.process once.process' once.found once.processes
       (elim once.how [
-        | inl comes ↦ same_beside once.process.space once.process'.space comes.loads.stays
+        | inl comes ↦ same_beside once.process once.process' comes.loads.stays
         | inr not ↦ elim not [
-          | inl back ↦ same_beside once.process.space once.process'.space back.rest.stays
-          | inr unlisted ↦ same_all once.process.space once.process'.space (ap (λ (p : ProcessSideValue S). p.space) unlisted.process_is)
+          | inl back ↦ same_beside once.process once.process' back.rest.stays
+          | inr unlisted ↦ same_all once.process once.process' (ap (λ (p : SpaceValue S). p) unlisted.process_is)
         ]
       ])
       (λ _. refl)

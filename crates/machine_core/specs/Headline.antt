@@ -16,7 +16,6 @@ use Rattle.machine_core.specs.declared.event.Reply.TheVariants as reply
 use Rattle.machine_core.specs.Machine.{CoreValue, total}
 use Rattle.elf_image.specs.Start.{Start}
 use Rattle.machine_core.specs.Opening.{MachineBegins}
-use Rattle.machine_sides.specs.Sides.{ProcessSideValue}
 use Rattle.machine_sides.specs.Sweeping.{bit_at}
 use Rattle.machine_sides.specs.Together.{residents_in}
 use Rattle.paged_memory.specs.Showing.{mapped_page, rights_of, is_given_up}
@@ -50,18 +49,18 @@ module _ {S : Type 0} where
     pub recorded : written_out new.schedule ≡ written_out old.schedule ++ added
 
   -- a process that was there goes on
-  pub record Remains (number : ℕ) (added : List ℕ) (new : List (ProcessSideValue S)) (old : ProcessSideValue S) : Type 0 where
-    pub process : ProcessSideValue S
+  pub record Remains (number : ℕ) (added : List ℕ) (new : List (SpaceValue S)) (old : SpaceValue S) : Type 0 where
+    pub process : SpaceValue S
     pub found : slice_get new number ≡ Some process
-    pub goes_on : GoesOn added old.space process.space
+    pub goes_on : GoesOn added old process
 
   -- the victim is the page that the list asks for, and the list's answer to that page's accessed bit
   pub record IsNamed (old new : CoreValue S) (key : Key) : Type 0 where
-    pub process : ProcessSideValue S
+    pub process : SpaceValue S
     pub found : slice_get old.processes key.process ≡ Some process
     pub asked : question_of old.pager.pager.list ≡ Some key
     pub bit : Bit
-    pub as_asked : bit_at process.space key.vpn ≡ bit
+    pub as_asked : bit_at process key.vpn ≡ bit
     pub named : (answered bit old.pager.pager.list).1 ≡ Ok (verdict.Victim key)
     pub list : new.pager.pager.list ≡ (answered bit old.pager.pager.list).0
 
@@ -80,18 +79,18 @@ module _ {S : Type 0} (held : S → List ℕ) where
     pub reserved : space.memory.reserved ≡ flat.memory.reserved
 
   -- the process of a number, in a machine that began with this start of it, shows what the steps of a run leave that ran
-  pub record ShowsRun (number : ℕ) (start : Start) (events : List Event) (answers : List Reply) (processes : List (ProcessSideValue S)) : Type 0 where
-    pub process : ProcessSideValue S
+  pub record ShowsRun (number : ℕ) (start : Start) (events : List Event) (answers : List Reply) (processes : List (SpaceValue S)) : Type 0 where
+    pub process : SpaceValue S
     pub found : slice_get processes number ≡ Some process
-    pub recorded : written_out process.space.schedule ≡ order_of number events answers
-    pub shows : ShowsFlatRun start.image start.input (order_of number events answers) process.space
+    pub recorded : written_out process.schedule ≡ order_of number events answers
+    pub shows : ShowsFlatRun start.image start.input (order_of number events answers) process
 
 module _ {S : Type 0} (held : S → List ℕ) (honest : Type 0) where
   -- what holds of the machine after an event, by the machine before it
   pub record IsInvisible (happened : Event) (answer : Reply) (old new : CoreValue S) : Type 0 where
-    pub shown : honest → (number : ℕ) (process : ProcessSideValue S) → slice_get new.processes number ≡ Some process → ShowsFlatRun held process.space.image process.space.input (written_out process.space.schedule) process.space
-    pub recorded : (number : ℕ) (process : ProcessSideValue S) → slice_get old.processes number ≡ Some process → Remains number (adds number happened answer) new.processes process
-    pub listed : (test : Key → Bool) → residents new.pager.pager.list test ≡ total (λ (process : ProcessSideValue S). residents_in process.space test) new.processes
+    pub shown : honest → (number : ℕ) (process : SpaceValue S) → slice_get new.processes number ≡ Some process → ShowsFlatRun held process.image process.input (written_out process.schedule) process
+    pub recorded : (number : ℕ) (process : SpaceValue S) → slice_get old.processes number ≡ Some process → Remains number (adds number happened answer) new.processes process
+    pub listed : (test : Key → Bool) → residents new.pager.pager.list test ≡ total (λ (process : SpaceValue S). residents_in process test) new.processes
     pub victim : (key : Key) → answer ≡ reply.Victim key → IsNamed old new key
 
 module _ {S : Type 0} (held : S → List ℕ) (honest : Type 0) (failures : S → ℕ) where

@@ -12,7 +12,6 @@ use Rattle.elf_image.specs.Image.{ImageContent}
 use Rattle.flat_machine.specs.Process.{opening, flat_run}
 use Rattle.std.proofs.lemmas.Option.{slice_get_within}
 use Rattle.std.proofs.Common.{append_assoc}
-use Rattle.machine_sides.specs.Sides.{ProcessSideValue}
 use Rattle.machine_core.specs.declared.event.Event.{Event}
 use Rattle.machine_core.specs.declared.event.Event.TheVariants.{Step, Notice, Sweep, Collect, Saved, PageIn, Kill, Purge, Clean, Copy, Cleaned}
 use Rattle.machine_core.specs.declared.event.Reply.{Reply}
@@ -59,7 +58,7 @@ module _ {S : Type 0} where
     event_invisible event old new answer applies =
         let tells = serves_tells event old new answer applies.served in
         record {
-          shown = λ is_honest number process at. stands_shows process.space.image process.space.input (written_out process.space.schedule) process.space ((applies.faithful.coherent number process at).stands is_honest) refl refl refl;
+          shown = λ is_honest number process at. stands_shows process.image process.input (written_out process.schedule) process ((applies.faithful.coherent number process at).stands is_honest) refl refl refl;
           recorded = tells.recorded;
           listed = applies.faithful.machine.listed;
           victim = tells.victim;
@@ -73,7 +72,7 @@ module _ {S : Type 0} where
     run_each (e ∷ es) (r ∷ rs) old new run = (run.0, (record { applies = run.1.0; invisible = event_invisible e old run.0 r run.1.0 }, run_each es rs run.0 new run.1.1))
 
     -- a process's recorded order grows by its steps that ran
-    order_grows : (events : List Event) (answers : List Reply) (old new : CoreValue S) → AfterEach held honest failures events answers old new → (number : ℕ) (process : ProcessSideValue S)
+    order_grows : (events : List Event) (answers : List Reply) (old new : CoreValue S) → AfterEach held honest failures events answers old new → (number : ℕ) (process : SpaceValue S)
         → slice_get old.processes number ≡ Some process → Remains number (order_of number events answers) new.processes process
     unfolding AfterEach order_of
     order_grows [] [] old new each number process at = still_remains old.processes new.processes (ap (λ (c : CoreValue S). c.processes) each) number process at
@@ -90,16 +89,16 @@ module _ {S : Type 0} where
             input = rest.goes_on.input ∙ first.goes_on.input;
             recorded =
                 rest.goes_on.recorded ∙ ap (λ l. l ++ order_of number es rs) first.goes_on.recorded
-                ∙ append_assoc (written_out process.space.schedule) (adds number e r) (order_of number es rs);
+                ∙ append_assoc (written_out process.schedule) (adds number e r) (order_of number es rs);
           };
         }
 
     -- a process that began shows the steps that ran
-    begun_shows : (number : ℕ) (start : Start) (order : List ℕ) (old new : List (ProcessSideValue S)) (began : ProcessSideValue S) → Begins number start began → (remains : Remains number order new began)
-        → StandsFor held remains.process.space → (written_out remains.process.space.schedule ≡ order) × ShowsFlatRun held start.image start.input order remains.process.space
+    begun_shows : (number : ℕ) (start : Start) (order : List ℕ) (old new : List (SpaceValue S)) (began : SpaceValue S) → Begins number start began → (remains : Remains number order new began)
+        → StandsFor held remains.process → (written_out remains.process.schedule ≡ order) × ShowsFlatRun held start.image start.input order remains.process
     begun_shows number start order old new began begins remains stands =
-        let recorded : written_out remains.process.space.schedule ≡ order = remains.goes_on.recorded ∙ ap (λ s. written_out s ++ order) begins.schedule in
-        (recorded, stands_shows start.image start.input order remains.process.space stands (remains.goes_on.image ∙ begins.image) (remains.goes_on.input ∙ begins.input) recorded)
+        let recorded : written_out remains.process.schedule ≡ order = remains.goes_on.recorded ∙ ap (λ s. written_out s ++ order) begins.schedule in
+        (recorded, stands_shows start.image start.input order remains.process stands (remains.goes_on.image ∙ begins.image) (remains.goes_on.input ∙ begins.input) recorded)
 
     -- paging is invisible in every run
     pub run_invisible : (events : List Event) (answers : List Reply) (old new : CoreValue S) → Runs held honest failures events answers old new → IsFaithful held honest new

@@ -1,43 +1,43 @@
 -- What the events of a page that leaves, and of an ended process, add to the recorded orders: nothing.
 use Rattle.std.proofs.Common.{◌≡◌, ℕ, List, inl, inr, refl, sym, ap, ◌∙◌}
 use Rattle.clock_policy.specs.declared.key.Key.{Key}
-use Rattle.machine_core.specs.OrderLaws.{SameOrder, same_beside, same_all, same_side, then_same, Tells, quiet_tells}
+use Rattle.machine_core.specs.OrderLaws.{SameOrder, same_beside, same_purged, same_all, same_beside, then_same, Tells, quiet_tells}
 use Rattle.machine_core.specs.CollectEvent.{CollectsTo, not_yet, freed, dirty, no_slot, no_memory, CollectsOnce}
 use Rattle.machine_core.specs.Machine.{CoreValue}
 use Rattle.machine_core.specs.PurgeEvent.{PurgesOnce}
 use Rattle.machine_core.specs.SavingOut.{SavesOnce}
-use Rattle.machine_sides.specs.Sides.{ProcessSideValue}
 use Rattle.machine_core.specs.declared.error.EventRefusal.TheVariants as refusal
 use Rattle.machine_core.specs.declared.event.Event.TheVariants.{Collect, Saved, Purge}
 use Rattle.machine_core.specs.declared.event.Reply.{Reply}
 use Rattle.machine_core.specs.declared.event.Reply.TheVariants.{Refused}
 use Rattle.machine_core.specs.declared.event.Reply.TheVariants as reply
+use Rattle.space_core.specs.StandsFor.{SpaceValue}
 
 module _ {S : Type 0} where
   -- the order of the process stays, and no victim is told
-  record IsQuiet (process process' : ProcessSideValue S) (answer : Reply) : Type 0 where
-    pub same : SameOrder process.space process'.space
+  record IsQuiet (process process' : SpaceValue S) (answer : Reply) : Type 0 where
+    pub same : SameOrder process process'
     pub no_victim : (k : Key) → answer ≡ reply.Victim k → ⊥
 
-  collected_quiet : (vpn : ℕ) (old new : CoreValue S) (process process' : ProcessSideValue S) (answer : Reply) → CollectsTo vpn old new process process' answer → IsQuiet process process' answer
+  collected_quiet : (vpn : ℕ) (old new : CoreValue S) (process process' : SpaceValue S) (answer : Reply) → CollectsTo vpn old new process process' answer → IsQuiet process process' answer
   collected_quiet vpn old new process process' answer (not_yet how jobs told) = record {
-    same = same_all process.space process'.space (ap (λ (p : ProcessSideValue S). p.space) how.stays.process_stays);
+    same = same_all process process' (ap (λ (p : SpaceValue S). p) how.stays.process_stays);
     no_victim = λ k is. let e : reply.NotYet ≡ reply.Victim k = sym told ∙ is in cc;
   }
   collected_quiet vpn old new process process' answer (freed how jobs told) = record {
-    same = same_side process process' how.drops.stays;
+    same = same_beside process process' how.drops.stays;
     no_victim = λ k is. let e : reply.Freed ≡ reply.Victim k = sym told ∙ is in cc;
   }
   collected_quiet vpn old new process process' answer (dirty job how jobs told) = record {
-    same = same_side process process' how.saving.stays;
+    same = same_beside process process' how.saving.stays;
     no_victim = λ k is. let e : reply.Dirty ≡ reply.Victim k = sym told ∙ is in cc;
   }
   collected_quiet vpn old new process process' answer (no_slot how jobs told) = record {
-    same = same_side process process' how.returns.mapped.stays;
+    same = same_beside process process' how.returns.mapped.stays;
     no_victim = λ k is. let e : reply.NoSlot ≡ reply.Victim k = sym told ∙ is in cc;
   }
   collected_quiet vpn old new process process' answer (no_memory how jobs told) = record {
-    same = same_all process.space process'.space (ap (λ (p : ProcessSideValue S). p.space) how.leaves.stays);
+    same = same_all process process' (ap (λ (p : SpaceValue S). p) how.leaves.stays);
     no_victim = λ k is. let e : Refused refusal.NoMemory ≡ reply.Victim k = sym told ∙ is in cc;
   }
 
@@ -51,10 +51,10 @@ module _ {S : Type 0} where
   saved_tells held honest failures key old new answer once =
       quiet_tells (Saved key) old new answer key.process once.process once.process' once.found once.processes
       (elim once.ends [
-        | inl passed ↦ same_side once.process once.process' passed.0.settles.stays
+        | inl passed ↦ same_beside once.process once.process' passed.0.settles.stays
         | inr failed ↦ elim failed [
-          | inl back ↦ then_same once.process.space back.0.between.space once.process'.space (same_side once.process back.0.between back.0.settles.stays) (same_side back.0.between once.process' back.0.returns.mapped.stays)
-          | inr left ↦ same_side once.process once.process' left.0.settles.stays
+          | inl back ↦ then_same once.process back.0.between once.process' (same_beside once.process back.0.between back.0.settles.stays) (same_beside back.0.between once.process' back.0.returns.mapped.stays)
+          | inr left ↦ same_beside once.process once.process' left.0.settles.stays
         ]
       ])
       (λ _. refl)
@@ -69,5 +69,5 @@ module _ {S : Type 0} where
   -- an ended process that gives everything back
   pub purge_tells : (p : ℕ) (old new : CoreValue S) (answer : Reply) → PurgesOnce p old new answer → Tells (Purge p) answer old new
   purge_tells p old new answer once =
-      quiet_tells (Purge p) old new answer p once.process once.process' once.found once.processes (same_beside once.process.space once.process'.space once.purges.space.stays) (λ _. refl)
+      quiet_tells (Purge p) old new answer p once.process once.process' once.found once.processes (same_purged once.process once.process' once.purges.is) (λ _. refl)
       (λ k is. let e : reply.Purged ≡ reply.Victim k = sym once.reply_is ∙ is in cc)

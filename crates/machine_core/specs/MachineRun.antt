@@ -12,7 +12,7 @@ use Rattle.clock_policy.specs.declared.key.Key.{Key}
 use Rattle.clock_policy.specs.Residents.{is_gone}
 use Rattle.machine_core.specs.Machine.{CoreValue}
 use Rattle.machine_sides.specs.ProcessCalls.{StepsOnce, TakesNotices, IsKilled}
-use Rattle.machine_sides.specs.Sides.{PagerSideValue, ProcessSideValue}
+use Rattle.machine_sides.specs.Sides.{PagerSideValue}
 use Rattle.machine_sides.specs.Sweeping.{AnswersQuestion, Sweeps}
 use Rattle.machine_core.specs.declared.error.EventRefusal.{EventRefusal}
 use Rattle.machine_core.specs.declared.error.EventRefusal.TheVariants as refusal
@@ -20,6 +20,7 @@ use Rattle.machine_sides.specs.declared.sweeping.Swept.{Swept}
 use Rattle.machine_sides.specs.declared.sweeping.Swept.TheVariants as swept
 use Rattle.machine_core.specs.declared.event.Reply.{Reply}
 use Rattle.machine_core.specs.declared.event.Reply.TheVariants.{Ran, Yielded, HartDone, Ended, Absent, ScheduleFull, Noticed, Asked, Victim, Killed, Refused}
+use Rattle.space_core.specs.StandsFor.{SpaceValue}
 
 -- what a slice of one instruction is replied with
 abbrev pub step_reply : SliceStop → Reply
@@ -55,22 +56,22 @@ swept_reply (swept.Victim key) = Victim key
 
 module _ {S : Type 0} where
   -- why an event of a process is refused, where `reason` is that of a process that is there
-  abbrev pub of_process : (ProcessSideValue S → Option EventRefusal) → Option (ProcessSideValue S) → Option EventRefusal
+  abbrev pub of_process : (SpaceValue S → Option EventRefusal) → Option (SpaceValue S) → Option EventRefusal
   of_process reason None = Some refusal.NoProcess
   of_process reason (Some process) = reason process
 
-  abbrev pub end_reason : ProcessSideValue S → Option EventRefusal
-  end_reason process = if is_some process.space.running.ending then Some refusal.Ended else None
+  abbrev pub end_reason : SpaceValue S → Option EventRefusal
+  end_reason process = if is_some process.running.ending then Some refusal.Ended else None
 
-  abbrev pub hart_reason : ℕ → ProcessSideValue S → Option EventRefusal
-  hart_reason hart process = if slice_index_or process.space.running.environment.live hart false then end_reason process else Some refusal.NoHart
+  abbrev pub hart_reason : ℕ → SpaceValue S → Option EventRefusal
+  hart_reason hart process = if slice_index_or process.running.environment.live hart false then end_reason process else Some refusal.NoHart
 
   -- why an event of a process's hart is refused
-  abbrev pub hart_refusal : ℕ → ℕ → List (ProcessSideValue S) → Option EventRefusal
+  abbrev pub hart_refusal : ℕ → ℕ → List (SpaceValue S) → Option EventRefusal
   hart_refusal process hart processes = of_process (hart_reason hart) (slice_get processes process)
 
   -- why a process is not ended by the machine
-  abbrev pub kill_refusal : ℕ → List (ProcessSideValue S) → Option EventRefusal
+  abbrev pub kill_refusal : ℕ → List (SpaceValue S) → Option EventRefusal
   kill_refusal process processes = of_process end_reason (slice_get processes process)
 
   -- an event is refused, and nothing has changed
@@ -81,17 +82,17 @@ module _ {S : Type 0} where
     pub stays : new ≡ old
 
   -- one process changes so, and no other
-  pub record ChangesOne (by : ProcessSideValue S → ProcessSideValue S → Type 0) (number : ℕ) (old new : List (ProcessSideValue S)) : Type 0 where
-    pub process : ProcessSideValue S
-    pub process' : ProcessSideValue S
+  pub record ChangesOne (by : SpaceValue S → SpaceValue S → Type 0) (number : ℕ) (old new : List (SpaceValue S)) : Type 0 where
+    pub process : SpaceValue S
+    pub process' : SpaceValue S
     pub found : slice_get old number ≡ Some process
     pub how : by process process'
     pub is : new ≡ slice_set old number process'
 
   -- a sweep of the pager and of the process of this number
-  pub record SweepsAt (pager pager' : PagerSideValue) (number : ℕ) (old new : List (ProcessSideValue S)) (result : Swept) : Type 0 where
-    pub process : ProcessSideValue S
-    pub process' : ProcessSideValue S
+  pub record SweepsAt (pager pager' : PagerSideValue) (number : ℕ) (old new : List (SpaceValue S)) (result : Swept) : Type 0 where
+    pub process : SpaceValue S
+    pub process' : SpaceValue S
     pub found : slice_get old number ≡ Some process
     pub how : Sweeps pager pager' process process' result
     pub is : new ≡ slice_set old number process'
@@ -123,8 +124,8 @@ module _ {S : Type 0} where
     pub key : Key
     pub bit : Bit
     pub verdict : Verdict
-    pub process : ProcessSideValue S
-    pub process' : ProcessSideValue S
+    pub process : SpaceValue S
+    pub process' : SpaceValue S
     pub found : slice_get old.processes key.process ≡ Some process
     pub answers : AnswersQuestion old.pager new.pager process process' key bit verdict
     pub there : is_gone bit ≡ false

@@ -17,7 +17,8 @@ use Rattle.machine_sides.specs.Admitting.{AdmissionValue, Admits, DoesNotAdmit, 
 use Rattle.machine_sides.specs.Loading.{Loads, DoesNotLoad, KeepsRest}
 use Rattle.machine_core.specs.Machine.{CoreValue}
 use Rattle.machine_core.specs.MachineRun.{of_process}
-use Rattle.machine_sides.specs.Sides.{PagerSideValue, ProcessSideValue}
+use Rattle.machine_sides.specs.Sides.{PagerSideValue}
+use Rattle.space_core.specs.StandsFor.{SpaceValue}
 
 -- why a page does not come in that was not admitted; one that is listed is not absent
 abbrev pub admit_reason : NotAdmitted → EventRefusal
@@ -35,18 +36,17 @@ fault_reply load.Damaged = Damaged
 fault_reply load.NoMemory = Refused NoMemory
 
 module _ {S : Type 0} where
-  pub record IsBarred (key : Key) (pager pager' : PagerSideValue) (process process' : ProcessSideValue S) (reply : Reply) : Type 0 where
+  pub record IsBarred (key : Key) (pager pager' : PagerSideValue) (process process' : SpaceValue S) (reply : Reply) : Type 0 where
     pub reason : NotAdmitted
-    pub why : DoesNotAdmit key pager pager' process.space reason
+    pub why : DoesNotAdmit key pager pager' process reason
     pub stays : process' ≡ process
     pub reply_is : reply ≡ Refused (admit_reason reason)
 
-  module _ (held : S → List ℕ) (honest : Type 0) (failures : S → ℕ) (key : Key) (pager pager' : PagerSideValue) (process process' : ProcessSideValue S) (reply : Reply) where
+  module _ (held : S → List ℕ) (honest : Type 0) (failures : S → ℕ) (key : Key) (pager pager' : PagerSideValue) (process process' : SpaceValue S) (reply : Reply) where
     pub record ComesIn : Type 0 where
       pub admission : AdmissionValue
-      pub admits : Admits key pager pager' process.space admission
-      pub loads : Loads held honest admission process.space process'.space
-      pub purged : process'.purged ≡ process.purged
+      pub admits : Admits key pager pager' process admission
+      pub loads : Loads held honest admission process process'
       pub reply_is : reply ≡ Mapped
 
     pub record IsTakenBack : Type 0 where
@@ -54,12 +54,11 @@ module _ {S : Type 0} where
       pub back : AdmissionValue
       pub fault : PageInFault
       pub between : PagerSideValue
-      pub admits : Admits key pager between process.space admission
-      pub fails : DoesNotLoad held honest failures admission back fault process.space process'.space
-      pub purged : process'.purged ≡ process.purged
+      pub admits : Admits key pager between process admission
+      pub fails : DoesNotLoad held honest failures admission back fault process process'
       pub undone : pager' ≡ record between {
         pager = record between.pager {
-          list = taken_back (is_resident_at process'.space back.key.vpn) back.key between.pager.list;
+          list = taken_back (is_resident_at process' back.key.vpn) back.key between.pager.list;
           free = between.pager.free ++ back.frame ∷ [];
         };
       }
@@ -74,12 +73,11 @@ module _ {S : Type 0} where
       pub back : FrameValue
       pub fault : PageInFault
       pub between : PagerSideValue
-      pub admits : Admits key pager between process.space admission
-      pub why : RefusesIn held honest failures admission.frame key.vpn back fault process.space.memory process'.space.memory
+      pub admits : Admits key pager between process admission
+      pub why : RefusesIn held honest failures admission.frame key.vpn back fault process.memory process'.memory
       pub absent : fault ≢ load.NotAbsent
-      pub unmapped : SameEntries process.space.memory process'.space.memory
-      pub rest : KeepsRest held honest process.space process'.space
-      pub purged : process'.purged ≡ process.purged
+      pub unmapped : SameEntries process.memory process'.memory
+      pub rest : KeepsRest held honest process process'
       pub withdraws : pager' ≡ record between {
         pager = record between.pager { list = (withdrawn key between.pager.list).0; free = between.pager.free ++ back ∷ [] };
       }
@@ -93,18 +91,18 @@ module _ {S : Type 0} where
       pub reply_is : reply ≡ Refused NoMemory
 
   -- why a page of a process that is there is not brought in, where these frames are free
-  abbrev pub page_in_reason : ℕ → List FrameValue → ProcessSideValue S → Option EventRefusal
+  abbrev pub page_in_reason : ℕ → List FrameValue → SpaceValue S → Option EventRefusal
   page_in_reason vpn free process =
-      if is_some process.space.running.ending then Some Ended else (if is_absent_at process.space vpn then (if none_free free then Some NoFrame else None) else Some NotAbsent)
+      if is_some process.running.ending then Some Ended else (if is_absent_at process vpn then (if none_free free then Some NoFrame else None) else Some NotAbsent)
 
   -- why a page is not brought in
   abbrev pub page_in_refusal : Key → CoreValue S → Option EventRefusal
   page_in_refusal key core = of_process (page_in_reason key.vpn core.pager.pager.free) (slice_get core.processes key.process)
 
   -- a page-in of the pager and of the key's process
-  pub record PagesInAt (held : S → List ℕ) (honest : Type 0) (failures : S → ℕ) (key : Key) (pager pager' : PagerSideValue) (old new : List (ProcessSideValue S)) (reply : Reply) : Type 0 where
-    pub process : ProcessSideValue S
-    pub process' : ProcessSideValue S
+  pub record PagesInAt (held : S → List ℕ) (honest : Type 0) (failures : S → ℕ) (key : Key) (pager pager' : PagerSideValue) (old new : List (SpaceValue S)) (reply : Reply) : Type 0 where
+    pub process : SpaceValue S
+    pub process' : SpaceValue S
     pub found : slice_get old key.process ≡ Some process
     pub how : PagesIn held honest failures key pager pager' process process' reply
     pub is : new ≡ slice_set old key.process process'
@@ -113,8 +111,8 @@ module _ {S : Type 0} where
   -- can't be loaded or mapped
   pub record PagesInOnce (held : S → List ℕ) (honest : Type 0) (failures : S → ℕ) (key : Key) (old new : CoreValue S) (reply : Reply) : Type 0 where
     pub allowed : page_in_refusal key old ≡ None
-    pub process : ProcessSideValue S
-    pub process' : ProcessSideValue S
+    pub process : SpaceValue S
+    pub process' : SpaceValue S
     pub found : slice_get old.processes key.process ≡ Some process
     pub how : ComesIn held honest failures key old.pager new.pager process process' reply
         ⊎ (GoesBack held honest failures key old.pager new.pager process process' reply ⊎ IsNotListed held honest failures key old.pager new.pager process process' reply)

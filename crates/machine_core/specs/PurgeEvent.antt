@@ -4,7 +4,7 @@ use Rattle.swap_slots.specs.PoolValue.{PoolValue}
 use Rattle.machine_core.specs.Machine.{CoreValue}
 use Rattle.machine_core.specs.MachineRun.{of_process}
 use Rattle.machine_sides.specs.Purging.{purge_bars, PurgesAll, Purges}
-use Rattle.machine_sides.specs.Sides.{PagerSideValue, ProcessSideValue}
+use Rattle.machine_sides.specs.Sides.{PagerSideValue}
 use Rattle.machine_core.specs.declared.error.EventRefusal.{EventRefusal}
 use Rattle.machine_core.specs.declared.error.EventRefusal.TheVariants as refusal
 use Rattle.machine_core.specs.declared.event.Reply.{Reply}
@@ -13,6 +13,7 @@ use Rattle.machine_sides.specs.declared.purging.PurgeRefusal.{PurgeRefusal}
 use Rattle.machine_sides.specs.declared.purging.PurgeRefusal.TheVariants.{NotEnded, SavingStill, AlreadyPurged}
 use Rattle.machine_sides.specs.declared.purging.Purging.{Purging}
 use Rattle.machine_sides.specs.declared.purging.Purging.TheVariants.{Done, Refused, HandedBack}
+use Rattle.space_core.specs.StandsFor.{SpaceValue}
 
 -- a process's reason to give nothing back as a refusal of the event
 abbrev pub purge_reason : PurgeRefusal → EventRefusal
@@ -28,13 +29,13 @@ IsDone (HandedBack frame slot) = ⊥
 
 module _ {S : Type 0} where
   -- why the event is refused
-  abbrev pub purge_refusal : ℕ → List (ProcessSideValue S) → Option EventRefusal
+  abbrev pub purge_refusal : ℕ → List (SpaceValue S) → Option EventRefusal
   purge_refusal process processes = of_process (λ side. option_map purge_reason (purge_bars side)) (slice_get processes process)
 
   -- a purge of the process of this number
-  pub record PurgesAt {L : Type 0} (pager pager' : PagerSideValue) (number : ℕ) (old new : List (ProcessSideValue S)) (pool pool' : PoolValue S) (result : Purging L S) : Type 0 where
-    pub process : ProcessSideValue S
-    pub process' : ProcessSideValue S
+  pub record PurgesAt {L : Type 0} (pager pager' : PagerSideValue) (number : ℕ) (old new : List (SpaceValue S)) (pool pool' : PoolValue S) (result : Purging L S) : Type 0 where
+    pub process : SpaceValue S
+    pub process' : SpaceValue S
     pub found : slice_get old number ≡ Some process
     pub how : Purges pager pager' process process' pool pool' result
     pub is : new ≡ slice_set old number process'
@@ -42,8 +43,8 @@ module _ {S : Type 0} where
   -- an ended process gives everything back, and the list forgets its pages
   pub record PurgesOnce (number : ℕ) (old new : CoreValue S) (reply : Reply) : Type 0 where
     pub allowed : purge_refusal number old.processes ≡ None
-    pub process : ProcessSideValue S
-    pub process' : ProcessSideValue S
+    pub process : SpaceValue S
+    pub process' : SpaceValue S
     pub found : slice_get old.processes number ≡ Some process
     pub purges : PurgesAll old.pager new.pager process process' old.slots new.slots
     pub processes : new.processes ≡ slice_set old.processes number process'

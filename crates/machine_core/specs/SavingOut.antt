@@ -16,15 +16,16 @@ use Rattle.machine_sides.specs.declared.saving_back.SaveOutcome.TheVariants.{Fre
 use Rattle.machine_core.specs.Machine.{CoreValue}
 use Rattle.machine_core.specs.MachineRun.{of_process}
 use Rattle.machine_sides.specs.SavingBack.{is_saving_at, EndsSave, IsFreed, FailsAndReturns, FailsAndLeaves}
-use Rattle.machine_sides.specs.Sides.{PagerSideValue, ProcessSideValue}
+use Rattle.machine_sides.specs.Sides.{PagerSideValue}
 use Rattle.machine_sides.specs.Together.{key_of}
+use Rattle.space_core.specs.StandsFor.{SpaceValue}
 
 module _ {S : Type 0} where
-  abbrev pub saving_reason : ℕ → ProcessSideValue S → Option EventRefusal
-  saving_reason vpn process = if is_saving_at process.space vpn then None else Some refusal.NotSaving
+  abbrev pub saving_reason : ℕ → SpaceValue S → Option EventRefusal
+  saving_reason vpn process = if is_saving_at process vpn then None else Some refusal.NotSaving
 
   -- why no save of a page comes back
-  abbrev pub saved_refusal : Key → List (ProcessSideValue S) → Option EventRefusal
+  abbrev pub saved_refusal : Key → List (SpaceValue S) → Option EventRefusal
   saved_refusal key processes = of_process (saving_reason key.vpn) (slice_get processes key.process)
 
   -- whether a save is of a page
@@ -48,7 +49,7 @@ module _ {S : Type 0} where
 
   -- what a save that comes back is replied with: its page's frame is free, or the device failed and the page is resident
   -- again, or leaving, where memory is wanting to list it
-  abbrev pub EndsSaving : SavedValue S → PagerSideValue → PagerSideValue → ProcessSideValue S → ProcessSideValue S → Reply → Type 0
+  abbrev pub EndsSaving : SavedValue S → PagerSideValue → PagerSideValue → SpaceValue S → SpaceValue S → Reply → Type 0
   EndsSaving saved pager pager' process process' answer =
       (IsFreed saved pager pager' process process' × (answer ≡ reply.Freed))
       ⊎ ((FailsAndReturns saved pager pager' process process' Device × (answer ≡ reply.Device))
@@ -57,25 +58,25 @@ module _ {S : Type 0} where
   -- a save of a page that is out is made and comes back
   pub record SavesOnce (held : S → List ℕ) (honest : Type 0) (failures : S → ℕ) (key : Key) (old new : CoreValue S) (answer : Reply) : Type 0 where
     pub allowed : saved_refusal key old.processes ≡ None
-    pub process : ProcessSideValue S
-    pub process' : ProcessSideValue S
+    pub process : SpaceValue S
+    pub process' : SpaceValue S
     pub found : slice_get old.processes key.process ≡ Some process
     pub saved : SavedValue S
     pub makes : MakesSave held honest failures key old.jobs new.jobs saved
     pub ends : EndsSaving saved old.pager new.pager process process' answer
-    pub memory : honest → memory_of held process'.space.memory ≡ memory_of held process.space.memory
+    pub memory : honest → memory_of held process'.memory ≡ memory_of held process.memory
     pub processes : new.processes ≡ slice_set old.processes key.process process'
     pub stays : new ≡ record old { pager = new.pager; processes = new.processes; jobs = new.jobs }
 
   -- ---- the steps of the event
 
   -- a save comes back to the pager and the process of this number
-  pub record SavedAt (held : S → List ℕ) (honest : Type 0) {L : Type 0} (saved : SavedValue S) (pager pager' : PagerSideValue) (number : ℕ) (old new : List (ProcessSideValue S)) (outcome : SaveOutcome L S) : Type 0 where
-    pub process : ProcessSideValue S
-    pub process' : ProcessSideValue S
+  pub record SavedAt (held : S → List ℕ) (honest : Type 0) {L : Type 0} (saved : SavedValue S) (pager pager' : PagerSideValue) (number : ℕ) (old new : List (SpaceValue S)) (outcome : SaveOutcome L S) : Type 0 where
+    pub process : SpaceValue S
+    pub process' : SpaceValue S
     pub found : slice_get old number ≡ Some process
     pub ends : EndsSave saved pager pager' process process' outcome
-    pub memory : honest → memory_of held process'.space.memory ≡ memory_of held process.space.memory
+    pub memory : honest → memory_of held process'.memory ≡ memory_of held process.memory
     pub is : new ≡ slice_set old number process'
 
   -- what comes of a save that the machine made itself

@@ -4,12 +4,12 @@ ghost use Rattle.machine_core.specs.Coherent.{EachCoherent};
 
 use crate::machine::Core;
 use clock_policy::Clock;
-use machine_sides::ProcessSide;
+use space_core::Space;
 use std::sync::ledger::Ledger;
 use swap_slots::SwapSlot;
 
 /// The pages, tables and caches of each process go together. It does nothing.
-pub(crate) fn each_coheres<L: Ledger, S: SwapSlot>(processes: &[ProcessSide<L, S>])
+pub(crate) fn each_coheres<L: Ledger, S: SwapSlot>(processes: &[Space<L, S>])
     ensures { EachCoherent S.content S.honest processes.now }
 {
     for side in processes {

@@ -9,8 +9,9 @@ use crate::error::EventRefusal;
 use crate::event::Reply;
 use crate::machine::Core;
 use clock_policy::{Clock, Key};
-use machine_sides::{CleanBar, CopyBar, Copying, ProcessSide};
+use machine_sides::{CleanBar, CopyBar, Copying, begin_clean, cleaned, copy_clean};
 use page_store::{CleanJob, Cleaned, CleanedJob};
+use space_core::Space;
 use std::sync::ledger::Ledger;
 use swap_slots::{SlotPool, SwapSlot};
 
@@ -56,19 +57,16 @@ impl<L: Ledger, S: SwapSlot, C: Clock> Core<L, S, C> {
 }
 
 /// A page's cleaning begins in the process of its number, or does not.
-fn clean_at<L: Ledger, S: SwapSlot>(
-    processes: &mut [ProcessSide<L, S>],
-    key: Key,
-) -> Result<(), CleanBar>
+fn clean_at<L: Ledger, S: SwapSlot>(processes: &mut [Space<L, S>], key: Key) -> Result<(), CleanBar>
     requires { key.process < length processes.old }
     ensures { CleansAt S.content key.process key.vpn processes.old processes.new result }
 {
-    processes[key.process as usize].begin_clean(key.vpn)
+    begin_clean(&mut processes[key.process as usize], key.vpn)
 }
 
 /// A copy of a page is asked for in the process of its number.
 fn copy_at<L: Ledger, S: SwapSlot>(
-    processes: &mut [ProcessSide<L, S>],
+    processes: &mut [Space<L, S>],
     key: Key,
     slots: &mut SlotPool<S>,
 ) -> Result<Copying<S>, CopyBar>
@@ -76,12 +74,12 @@ fn copy_at<L: Ledger, S: SwapSlot>(
     ensures { CopiesAt S.content key.process key.vpn slots.old slots.new processes.old
         processes.new result }
 {
-    processes[key.process as usize].copy_clean(key.vpn, slots)
+    copy_clean(&mut processes[key.process as usize], key.vpn, slots)
 }
 
 /// A copy comes back to the process of this number.
 fn take_back<L: Ledger, S: SwapSlot>(
-    processes: &mut [ProcessSide<L, S>],
+    processes: &mut [Space<L, S>],
     process: usize,
     job: CleanedJob<S>,
 ) -> Cleaned<S>
@@ -90,7 +88,7 @@ fn take_back<L: Ledger, S: SwapSlot>(
 {
     let side = &mut processes[process];
     side.coherent();
-    side.cleaned(job)
+    cleaned(side, job)
 }
 
 fn clean_reply(begun: Result<(), CleanBar>) -> Reply

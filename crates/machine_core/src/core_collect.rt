@@ -8,8 +8,9 @@ use crate::error::EventRefusal;
 use crate::event::Reply;
 use crate::machine::Core;
 use clock_policy::{Clock, Key};
-use machine_sides::{Looked, PagerSide, ProcessSide, collect};
+use machine_sides::{Looked, PagerSide, collect, is_leaving};
 use page_store::SaveJob;
+use space_core::Space;
 use std::sync::ledger::Ledger;
 use swap_slots::{SlotPool, SwapSlot};
 
@@ -35,7 +36,7 @@ impl<L: Ledger, S: SwapSlot, C: Clock> Core<L, S, C> {
 
 /// Why a look at a page is refused, if it is.
 fn collect_refusal<L: Ledger, S: SwapSlot>(
-    processes: &[ProcessSide<L, S>],
+    processes: &[Space<L, S>],
     key: Key,
 ) -> Option<EventRefusal>
     ensures { result ≡ collect_refusal key processes.now }
@@ -43,7 +44,7 @@ fn collect_refusal<L: Ledger, S: SwapSlot>(
     let Some(side) = processes.get(key.process as usize) else {
         return Some(EventRefusal::NoProcess);
     };
-    if side.is_leaving(key.vpn) {
+    if is_leaving(side, key.vpn) {
         return None;
     }
     Some(EventRefusal::NotLeaving)
@@ -52,7 +53,7 @@ fn collect_refusal<L: Ledger, S: SwapSlot>(
 /// A look at a page of the process of its number.
 fn collect_at<L: Ledger, S: SwapSlot, C: Clock>(
     pager: &mut PagerSide<L, C>,
-    processes: &mut [ProcessSide<L, S>],
+    processes: &mut [Space<L, S>],
     key: Key,
     slots: &mut SlotPool<S>,
 ) -> Looked<L, S>

@@ -9,7 +9,8 @@ use crate::event::Reply;
 use crate::machine::Core;
 use crate::paging_in::page_in;
 use clock_policy::{Clock, Key};
-use machine_sides::{PagerSide, ProcessSide};
+use machine_sides::PagerSide;
+use space_core::Space;
 use std::sync::ledger::Ledger;
 use swap_slots::SwapSlot;
 
@@ -29,7 +30,7 @@ impl<L: Ledger, S: SwapSlot, C: Clock> Core<L, S, C> {
 /// A page of the process of its key is brought in.
 fn page_in_at<L: Ledger, S: SwapSlot, C: Clock>(
     pager: &mut PagerSide<L, C>,
-    processes: &mut [ProcessSide<L, S>],
+    processes: &mut [Space<L, S>],
     key: Key,
 ) -> Reply
     requires there { key.process < length processes.old }

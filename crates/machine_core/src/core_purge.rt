@@ -8,7 +8,8 @@ use crate::error::EventRefusal;
 use crate::event::Reply;
 use crate::machine::Core;
 use clock_policy::Clock;
-use machine_sides::{PagerSide, ProcessSide, PurgeRefusal, Purging, purge, purge_bars};
+use machine_sides::{PagerSide, PurgeRefusal, Purging, purge, purge_bars};
+use space_core::Space;
 use std::sync::ledger::Ledger;
 use swap_slots::{SlotPool, SwapSlot};
 
@@ -34,7 +35,7 @@ impl<L: Ledger, S: SwapSlot, C: Clock> Core<L, S, C> {
 
 /// Why a process's purge is refused, if it is.
 fn purge_refusal<L: Ledger, S: SwapSlot>(
-    processes: &[ProcessSide<L, S>],
+    processes: &[Space<L, S>],
     process: u32,
 ) -> Option<EventRefusal>
     ensures { result ≡ purge_refusal process processes.now }
@@ -62,7 +63,7 @@ fn purge_reason(reason: PurgeRefusal) -> EventRefusal
 /// A purge of the process of this number.
 fn purge_at<L: Ledger, S: SwapSlot, C: Clock>(
     pager: &mut PagerSide<L, C>,
-    processes: &mut [ProcessSide<L, S>],
+    processes: &mut [Space<L, S>],
     process: usize,
     slots: &mut SlotPool<S>,
 ) -> Purging<L, S>

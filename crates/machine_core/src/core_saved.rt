@@ -8,8 +8,9 @@ use crate::error::EventRefusal;
 use crate::event::Reply;
 use crate::machine::Core;
 use clock_policy::{Clock, Key};
-use machine_sides::{PagerSide, ProcessSide, SaveOutcome, saved};
+use machine_sides::{PagerSide, SaveOutcome, is_saving, saved};
 use page_store::{SaveJob, SavedJob};
+use space_core::Space;
 use std::sync::ledger::Ledger;
 use swap_slots::SwapSlot;
 
@@ -38,7 +39,7 @@ impl<L: Ledger, S: SwapSlot, C: Clock> Core<L, S, C> {
 
 /// Why no save of a page comes back, if none does.
 fn saved_refusal<L: Ledger, S: SwapSlot>(
-    processes: &[ProcessSide<L, S>],
+    processes: &[Space<L, S>],
     key: Key,
 ) -> Option<EventRefusal>
     ensures { result ≡ saved_refusal key processes.now }
@@ -46,7 +47,7 @@ fn saved_refusal<L: Ledger, S: SwapSlot>(
     let Some(side) = processes.get(key.process as usize) else {
         return Some(EventRefusal::NoProcess);
     };
-    if side.is_saving(key.vpn) {
+    if is_saving(side, key.vpn) {
         return None;
     }
     Some(EventRefusal::NotSaving)
@@ -80,7 +81,7 @@ fn is_of_page<S: SwapSlot>(job: &SaveJob<S>, key: Key) -> bool
 /// A save comes back to the pager and the process of this number.
 fn saved_at<L: Ledger, S: SwapSlot, C: Clock>(
     pager: &mut PagerSide<L, C>,
-    processes: &mut [ProcessSide<L, S>],
+    processes: &mut [Space<L, S>],
     process: usize,
     job: SavedJob<S>,
 ) -> SaveOutcome<L, S>

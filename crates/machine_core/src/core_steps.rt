@@ -8,14 +8,14 @@ use crate::error::EventRefusal;
 use crate::event::Reply;
 use clock_policy::{Bit, Clock};
 use flat_machine::KillCause;
-use machine_sides::{PagerSide, ProcessSide, Swept, sweep};
-use space_core::SliceStop;
+use machine_sides::{PagerSide, Swept, run_step, sweep};
+use space_core::{SliceStop, Space};
 use std::sync::ledger::Ledger;
 use swap_slots::SwapSlot;
 
 /// Why an event of a process's hart is refused, if it is.
 pub(crate) fn hart_refusal<L: Ledger, S: SwapSlot>(
-    processes: &[ProcessSide<L, S>],
+    processes: &[Space<L, S>],
     process: u32,
     hart: u32,
 ) -> Option<EventRefusal>
@@ -35,7 +35,7 @@ pub(crate) fn hart_refusal<L: Ledger, S: SwapSlot>(
 
 /// Why a process is not ended by the machine, if it is not.
 pub(crate) fn kill_refusal<L: Ledger, S: SwapSlot>(
-    processes: &[ProcessSide<L, S>],
+    processes: &[Space<L, S>],
     process: u32,
 ) -> Option<EventRefusal>
     ensures { result ≡ kill_refusal process processes.now }
@@ -51,7 +51,7 @@ pub(crate) fn kill_refusal<L: Ledger, S: SwapSlot>(
 
 /// A process's hart runs one instruction, or says why not.
 pub(crate) fn step<L: Ledger, S: SwapSlot>(
-    processes: &mut [ProcessSide<L, S>],
+    processes: &mut [Space<L, S>],
     process: usize,
     hart: u32,
 ) -> SliceStop
@@ -59,12 +59,12 @@ pub(crate) fn step<L: Ledger, S: SwapSlot>(
     ensures { ChangesOne (StepsOnce S.content S.honest hart result) process processes.old
         processes.new }
 {
-    processes[process].step(hart)
+    run_step(&mut processes[process], hart)
 }
 
 /// A process's hart drops its translations that are to be dropped.
 pub(crate) fn notice<L: Ledger, S: SwapSlot>(
-    processes: &mut [ProcessSide<L, S>],
+    processes: &mut [Space<L, S>],
     process: usize,
     hart: u32,
 )
@@ -76,7 +76,7 @@ pub(crate) fn notice<L: Ledger, S: SwapSlot>(
 
 /// The machine ends a process.
 pub(crate) fn kill<L: Ledger, S: SwapSlot>(
-    processes: &mut [ProcessSide<L, S>],
+    processes: &mut [Space<L, S>],
     process: usize,
     cause: KillCause,
 )
@@ -105,7 +105,7 @@ pub(crate) fn step_reply(stop: SliceStop) -> Reply
 /// A sweep of the pager and of the process of this number.
 pub(crate) fn sweep_at<L: Ledger, S: SwapSlot, C: Clock>(
     pager: &mut PagerSide<L, C>,
-    processes: &mut [ProcessSide<L, S>],
+    processes: &mut [Space<L, S>],
     process: usize,
 ) -> Swept
     requires { process < length processes.old }

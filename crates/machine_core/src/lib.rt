@@ -20,7 +20,6 @@ mod memory_showing;
 mod opening;
 mod paging_in;
 mod reading;
-mod report;
 mod running;
 mod showing;
 
@@ -28,10 +27,9 @@ pub use error::{CoreError, EventRefusal};
 pub use event::{Event, Reply};
 pub use machine::Core;
 pub use machine_sides::{
-    Admission, CleanBar, CopyBar, Copying, Looked, NotAdmitted, PagerSide, ProcessSide,
-    PurgeRefusal, Purging, SaveFailure, SaveOutcome, SideCounts, Swept, admit, collect, purge,
-    saved, sweep, undo,
+    Admission, CleanBar, CopyBar, Copying, Looked, NotAdmitted, PagerSide, ProcessReport,
+    PurgeRefusal, Purging, Report, SaveFailure, SaveOutcome, SideCounts, Swept, admit, collect,
+    purge, saved, sweep, undo,
 };
 pub use many_steps::Steps;
-pub use report::{ProcessReport, Report};
 pub use running::cut_run;

@@ -7,8 +7,9 @@ use crate::error::EventRefusal;
 use crate::event::Reply;
 use clock_policy::Clock;
 use flat_machine::KillCause;
-use machine_sides::{PagerSide, ProcessSide};
+use machine_sides::PagerSide;
 use page_store::{CleanJob, SaveJob};
+use space_core::Space;
 use std::marker::Model;
 use std::sync::ledger::Ledger;
 use swap_slots::{SlotPool, SwapSlot};
@@ -18,7 +19,7 @@ use swap_slots::{SlotPool, SwapSlot};
 pub struct Core<L: Ledger, S: SwapSlot, C: Clock> {
     pub(crate) pager: PagerSide<L, C>,
     pub(crate) slots: SlotPool<S>,
-    pub(crate) processes: Vec<ProcessSide<L, S>>,
+    pub(crate) processes: Vec<Space<L, S>>,
     pub(crate) jobs: Vec<SaveJob<S>>,
     pub(crate) copies: Vec<CleanJob<S>>,
 }

@@ -11,8 +11,8 @@ use crate::core_steps::{hart_refusal, step_reply};
 use crate::event::Reply;
 use crate::machine::Core;
 use clock_policy::Clock;
-use machine_sides::ProcessSide;
-use space_core::Slice;
+use machine_sides::run_steps;
+use space_core::{Slice, Space};
 use std::sync::ledger::Ledger;
 use swap_slots::SwapSlot;
 
@@ -66,7 +66,7 @@ fn last_reply(last: Option<Slice>) -> Option<Reply>
 }
 
 fn slices_at<L: Ledger, S: SwapSlot>(
-    processes: &mut [ProcessSide<L, S>],
+    processes: &mut [Space<L, S>],
     process: usize,
     hart: u32,
     most: u32,
@@ -78,5 +78,5 @@ fn slices_at<L: Ledger, S: SwapSlot>(
     ensures all { IfNone result.last (result.ran ≡ most) }
     ensures short { IfSome result.last (λ _. result.ran < most) }
 {
-    processes[process].steps(hart, most)
+    run_steps(&mut processes[process], hart, most)
 }

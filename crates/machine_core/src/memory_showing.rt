@@ -9,7 +9,7 @@ use swap_slots::SwapSlot;
 impl<L: Ledger, S: SwapSlot, C: Clock> Core<L, S, C> {
     /// The memory of a process, to be looked at, where there is such a process.
     pub fn memory(&self, process: u32) -> Option<&PagedMemory<L, S>>
-        ensures { option_copied result ≡ option_map (λ process. process.space.memory)
+        ensures { option_copied result ≡ option_map (λ process. process.memory)
             (slice_get self.now.processes process) }
     {
         Some(self.processes.get(process as usize)?.memory())

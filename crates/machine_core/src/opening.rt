@@ -10,7 +10,8 @@ use crate::machine::Core;
 use clock_policy::Clock;
 use elf_image::Image;
 use machine_limits::{FEWEST_FRAMES, MOST_FRAMES, MOST_PROCESSES};
-use machine_sides::{PagerSide, ProcessSide};
+use machine_sides::{PagerSide, start};
+use space_core::Space;
 use std::alloc::{AllocError, Global};
 use std::sync::ledger::{Blank, Ledger};
 use swap_slots::{SlotPool, SwapSlot};
@@ -71,7 +72,7 @@ impl<L: Ledger, S: SwapSlot, C: Clock> Core<L, S, C> {
 fn begin_all<L: Ledger, S: SwapSlot>(
     alloc: Global,
     starts: Vec<(Image, Vec<u8>)>,
-) -> Result<Vec<ProcessSide<L, S>>, AllocError>
+) -> Result<Vec<Space<L, S>>, AllocError>
     requires { length starts.items ≤ most_processes }
     ensures { IfOk result (λ sides. AllBegin (map (λ start.
         start_of start.0 start.1.items) starts.items) sides.items) }
@@ -79,7 +80,7 @@ fn begin_all<L: Ledger, S: SwapSlot>(
     let mut sides = Vec::new(alloc);
     for (image, input) in starts {
         let number = sides.len() as u32;
-        sides.push(ProcessSide::new(alloc, number, image, input)?)?;
+        sides.push(start(alloc, number, image, input)?)?;
     }
     Ok(sides)
 }

@@ -4,15 +4,16 @@ ghost use Rattle.machine_core.specs.PagingIn.{admit_reason, fault_reply, PagesIn
 use crate::error::EventRefusal;
 use crate::event::Reply;
 use clock_policy::{Clock, Key};
-use machine_sides::{NotAdmitted, PagerSide, ProcessSide, admit, undo};
+use machine_sides::{NotAdmitted, PagerSide, admit, load, undo};
 use paged_memory::PageInFault;
+use space_core::Space;
 use std::sync::ledger::Ledger;
 use swap_slots::SwapSlot;
 
 /// Brings a page of a process in: it is admitted and loaded, or else the admission is undone.
 pub(crate) fn page_in<L: Ledger, S: SwapSlot, C: Clock>(
     pager: &mut PagerSide<L, C>,
-    process: &mut ProcessSide<L, S>,
+    process: &mut Space<L, S>,
     key: Key,
 ) -> Reply
     requires { length pager.old.pager.free ≤ pager.old.pager.size }
@@ -23,7 +24,7 @@ pub(crate) fn page_in<L: Ledger, S: SwapSlot, C: Clock>(
         Ok(admission) => admission,
         Err(reason) => return Reply::Refused(admit_reason(reason)),
     };
-    let (admission, fault) = match process.load(admission) {
+    let (admission, fault) = match load(process, admission) {
         Ok(()) => return Reply::Mapped,
         Err(back) => back,
     };

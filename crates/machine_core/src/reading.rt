@@ -1,13 +1,12 @@
 //! What the machine shows of its processes.
 
-ghost use Rattle.std.specs.Prelude.{◌≡◌, ◌≢◌, ◌↔◌, ◌+◌, ◌*◌, ◌<◌, ◌≤◌, ◌^◌, Some, true, false, None, IsNone, IfNone, IfSome, length, slice_get, option_copied, option_map};
+ghost use Rattle.std.specs.Prelude.{◌≡◌, ◌≢◌, ◌↔◌, ◌+◌, ◌*◌, ◌<◌, ◌≤◌, Some, true, false, None, IsNone, IfNone, IfSome, length, slice_get, option_copied, option_map, vec_len};
 ghost use Rattle.std.specs.Option.{option_and_then};
-ghost use Rattle.clock_policy.specs.Residents.{residents};
 ghost use Rattle.machine_limits.specs.Limits.{most_processes};
 ghost use Rattle.page_memory.specs.Words.{page_offset};
 ghost use Rattle.machine_sides.specs.Admitting.{stage_at};
 ghost use Rattle.machine_core.specs.MachineRun.{ChangesOne};
-ghost use Rattle.machine_core.specs.Reading.{holds_resident, is_live_in, HoldsPages, IfThere, PeeksAt};
+ghost use Rattle.machine_core.specs.Reading.{is_live_in, IfThere, PeeksAt};
 ghost use Rattle.machine_sides.specs.Showing.{Peeks};
 ghost use Rattle.space_core.specs.StandsFor.{own_ending};
 
@@ -15,10 +14,11 @@ use crate::machine::Core;
 use clock_policy::{Clock, EntryKind, Key};
 use elf_image::Image;
 use flat_machine::{End, Schedule};
-use machine_sides::{ProcessSide, SideCounts, resident_entries};
+use machine_sides::{PagerSide, SideCounts, peek, state};
 use page_store::PageState;
-use paged_memory::{HeldPages, PeekFault};
+use paged_memory::PeekFault;
 use rv_exec::Regs;
+use space_core::Space;
 use std::sync::ledger::Ledger;
 use swap_slots::SwapSlot;
 
@@ -26,7 +26,7 @@ impl<L: Ledger, S: SwapSlot, C: Clock> Core<L, S, C> {
     /// A hart's registers, where there is such a process and the hart was started.
     pub fn regs(&self, process: u32, hart: u32) -> Option<&Regs>
         ensures exact { option_copied result ≡ option_and_then (λ process.
-            slice_get process.space.running.harts hart) (slice_get self.now.processes process) }
+            slice_get process.running.harts hart) (slice_get self.now.processes process) }
         ensures flat { IfThere S.honest (λ flat. option_copied result ≡ slice_get flat.harts hart)
             (slice_get self.now.processes process) }
     {
@@ -36,7 +36,7 @@ impl<L: Ledger, S: SwapSlot, C: Clock> Core<L, S, C> {
     /// What a process has written so far, where there is such a process.
     pub fn output(&self, process: u32) -> Option<&[u8]>
         ensures exact { option_copied result ≡ option_map (λ process.
-            process.space.running.environment.output) (slice_get self.now.processes process) }
+            process.running.environment.output) (slice_get self.now.processes process) }
         ensures flat { IfThere S.honest (λ flat. option_copied result ≡
             Some flat.environment.output) (slice_get self.now.processes process) }
     {
@@ -45,7 +45,7 @@ impl<L: Ledger, S: SwapSlot, C: Clock> Core<L, S, C> {
 
     /// How a process ended, if it did, where there is such a process.
     pub fn end(&self, process: u32) -> Option<Option<End>>
-        ensures exact { result ≡ option_map (λ process. process.space.running.ending)
+        ensures exact { result ≡ option_map (λ process. process.running.ending)
             (slice_get self.now.processes process) }
         ensures flat { IfThere S.honest (λ flat. option_map own_ending result ≡ Some flat.ending)
             (slice_get self.now.processes process) }
@@ -55,7 +55,7 @@ impl<L: Ledger, S: SwapSlot, C: Clock> Core<L, S, C> {
 
     /// The instructions that a process ran, where there is such a process.
     pub fn schedule(&self, process: u32) -> Option<&Schedule>
-        ensures { option_copied result ≡ option_map (λ process. process.space.schedule)
+        ensures { option_copied result ≡ option_map (λ process. process.schedule)
             (slice_get self.now.processes process) }
     {
         Some(self.processes.get(process as usize)?.schedule())
@@ -81,20 +81,10 @@ impl<L: Ledger, S: SwapSlot, C: Clock> Core<L, S, C> {
 
     /// Where a page of a process is, or `None` where there is no such process or none is mapped.
     pub fn state(&self, process: u32, vpn: u32) -> Option<PageState>
-        ensures { result ≡ option_and_then (λ process. stage_at process.space vpn)
+        ensures { result ≡ option_and_then (λ process. stage_at process vpn)
             (slice_get self.now.processes process) }
     {
-        self.processes.get(process as usize)?.state(vpn)
-    }
-
-    /// Whether a page is resident, where there is its process.
-    pub fn is_resident(&self, key: Key) -> bool
-        ensures { result ≡ holds_resident self.now key }
-    {
-        match self.processes.get(key.process as usize) {
-            None => false,
-            Some(side) => side.is_resident(key.vpn),
-        }
+        state(self.processes.get(process as usize)?, vpn)
     }
 
     /// The entry of the list at a place, counted from the front.
@@ -108,22 +98,35 @@ impl<L: Ledger, S: SwapSlot, C: Clock> Core<L, S, C> {
         self.pager.entry(i)
     }
 
-    /// How many entries of the list are resident.
-    pub fn resident_entries(&self) -> usize
-        ensures { result ≡ residents self.now.pager.pager.list (λ _. true) }
+    /// The pager, with its counts.
+    pub fn pager(&self) -> &PagerSide<L, C>
+        ensures { result.now ≡ self.now.pager }
     {
-        // For the proof alone: a read tells its invariant.
-        let _ = &self.processes;
-        resident_entries(&self.pager)
+        &self.pager
     }
 
-    /// How many pages of a process are resident, and how many hold a frame, where there is such a process.
-    pub fn held_pages(&self, process: u32) -> Option<HeldPages>
-        ensures none { IfNone result (slice_get self.now.processes process ≡ None) }
-        ensures held { IfSome result (HoldsPages self.now process) }
-        ensures few { IfSome result (λ held. (held.resident ≤ 2 ^ 20) × (held.framed ≤ 2 ^ 20)) }
+    /// The processes by their numbers.
+    pub fn spaces(&self) -> &[Space<L, S>]
+        ensures spaces { result.now ≡ self.now.processes }
+        ensures few { length result.now ≤ most_processes }
     {
-        Some(self.processes.get(process as usize)?.held_pages())
+        self.processes.as_slice()
+    }
+
+    /// Gives up the machine: its pager, and its processes by their numbers.
+    pub fn into_spaces(self) -> (PagerSide<L, C>, Vec<Space<L, S>>)
+        ensures pager { result.0 ≡ self.pager }
+        ensures spaces { result.1.items ≡ self.processes }
+        ensures few { vec_len result.1 ≤ most_processes }
+    {
+        let Core {
+            pager,
+            slots: _,
+            processes,
+            jobs: _,
+            copies: _,
+        } = self;
+        (pager, processes)
     }
 
     /// How many frames are free, and what was counted.
@@ -147,9 +150,9 @@ impl<L: Ledger, S: SwapSlot, C: Clock> Core<L, S, C> {
     pub fn started_from(&self, process: u32, image: &Image, input: &[u8]) -> Option<bool>
         ensures there { IsNone result ↔ (slice_get self.now.processes process ≡ None) }
         ensures same { result ≡ Some true → IfSome (slice_get self.now.processes process)
-            (λ process. (image.now ≡ process.space.image) × (input.now ≡ process.space.input)) }
+            (λ process. (image.now ≡ process.image) × (input.now ≡ process.input)) }
         ensures different { result ≡ Some false → IfSome (slice_get self.now.processes process)
-            (λ process. image.now ≡ process.space.image → input.now ≢ process.space.input) }
+            (λ process. image.now ≡ process.image → input.now ≢ process.input) }
     {
         Some(
             self.processes
@@ -159,7 +162,7 @@ impl<L: Ledger, S: SwapSlot, C: Clock> Core<L, S, C> {
     }
 
     /// Reads the bytes that a process's memory shows from an address on, where there is such a process; see
-    /// [`ProcessSide::peek`].
+    /// [`machine_sides::peek`].
     pub fn peek(
         &mut self,
         process: u32,
@@ -184,7 +187,7 @@ impl<L: Ledger, S: SwapSlot, C: Clock> Core<L, S, C> {
 }
 
 fn peek_at<L: Ledger, S: SwapSlot>(
-    processes: &mut [ProcessSide<L, S>],
+    processes: &mut [Space<L, S>],
     process: usize,
     address: u32,
     bytes: &mut [Option<u8>],
@@ -194,5 +197,5 @@ fn peek_at<L: Ledger, S: SwapSlot>(
     ensures { ChangesOne (Peeks S.content S.honest S.failures address bytes.old bytes.new result)
         process processes.old processes.new }
 {
-    processes[process].peek(address, bytes)
+    peek(&mut processes[process], address, bytes)
 }

@@ -6,6 +6,7 @@ ghost use Rattle.machine_sides.specs.PageStatusAt.{status_at};
 
 use crate::machine::Core;
 use clock_policy::{Clock, Entry};
+use machine_sides::status;
 use paged_memory::PageStatus;
 use pager_core::Hands;
 use std::alloc::AllocError;
@@ -15,10 +16,10 @@ use swap_slots::SwapSlot;
 impl<L: Ledger, S: SwapSlot, C: Clock> Core<L, S, C> {
     /// What is shown of a page of a process, or `None` where there is no such process or none is mapped.
     pub fn status(&self, process: u32, vpn: u32) -> Option<PageStatus>
-        ensures { result ≡ option_and_then (λ process. status_at process.space vpn)
+        ensures { result ≡ option_and_then (λ process. status_at process vpn)
             (slice_get self.now.processes process) }
     {
-        self.processes.get(process as usize)?.status(vpn)
+        status(self.processes.get(process as usize)?, vpn)
     }
 
     /// Where the list's hands stand, and its two numbers.

@@ -42,7 +42,7 @@ use Rattle.machine_sides.specs.PurgeLaws.{neither, given_residents, unbarred}
 use Rattle.machine_sides.specs.Purging.{PurgesAll, Purges}
 use Rattle.machine_sides.specs.SavingBack.{EndsSave}
 use Rattle.machine_sides.specs.SavingLaws.{freed_ends, left_ends, returned_ends}
-use Rattle.machine_sides.specs.Sides.{PagerSideValue, ProcessSideValue}
+use Rattle.machine_sides.specs.Sides.{PagerSideValue}
 use Rattle.machine_sides.specs.StageLaws.{stage_below}
 use Rattle.machine_sides.specs.SweepLaws.{read_alike, answers_together}
 use Rattle.machine_sides.specs.Sweeping.{bit_of, bit_at, AnswersQuestion, Sweeps}
@@ -88,10 +88,10 @@ module _ {S : Type 0} where
   pub together_agree : (pager pager' : PagerState) (space space' : SpaceValue S) → Together pager pager' space space' → AgreeStill None pager pager' space space'
   together_agree pager pager' space space' together = listed_agree pager pager' space space' together.process together.listed
 
-  pub same_agree : (pager pager' : PagerSideValue) (process process' : ProcessSideValue S) → pager' ≡ pager → process' ≡ process → AgreeStill None pager.pager pager'.pager process.space process'.space
+  pub same_agree : (pager pager' : PagerSideValue) (process process' : SpaceValue S) → pager' ≡ pager → process' ≡ process → AgreeStill None pager.pager pager'.pager process process'
   same_agree pager pager' process process' same_pager same =
-      subst (λ (r : ProcessSideValue S). AgreeStill None pager.pager pager'.pager process.space r.space) (sym same)
-      (subst (λ (s : PagerSideValue). AgreeStill None pager.pager s.pager process.space process.space) (sym same_pager) (record { process = refl; agree = λ vpn out agreed. agreed }))
+      subst (λ (r : SpaceValue S). AgreeStill None pager.pager pager'.pager process r) (sym same)
+      (subst (λ (s : PagerSideValue). AgreeStill None pager.pager s.pager process process) (sym same_pager) (record { process = refl; agree = λ vpn out agreed. agreed }))
 
   -- ---- pages that are not resident
 
@@ -176,21 +176,21 @@ module _ {S : Type 0} where
         | false ↦ λ g. refl
       ] h
 
-  module _ (pager pager' : PagerSideValue) (process process' : ProcessSideValue S) (key : Key) (bit : Bit) (lawful : Lawful pager.pager.list) where
-    gone_agrees : is_gone bit ≡ true → AnswersQuestion pager pager' process process' key bit GoOn → AgreeStill None pager.pager pager'.pager process.space process'.space
+  module _ (pager pager' : PagerSideValue) (process process' : SpaceValue S) (key : Key) (bit : Bit) (lawful : Lawful pager.pager.list) where
+    gone_agrees : is_gone bit ≡ true → AnswersQuestion pager pager' process process' key bit GoOn → AgreeStill None pager.pager pager'.pager process process'
     unfolding pager_answered
-    gone_agrees gone answers = record { process = heeded_same ∙ alike.process; agree = λ vpn out agreed. at (key_of process.space.memory.process vpn) agreed }
+    gone_agrees gone answers = record { process = heeded_same ∙ alike.process; agree = λ vpn out agreed. at (key_of process.memory.process vpn) agreed }
       where
-        alike : CountsAlike process.space.memory answers.between.memory
-        alike = read_alike bit key.vpn process.space answers.between answers.read
+        alike : CountsAlike process.memory answers.between.memory
+        alike = read_alike bit key.vpn process answers.between answers.read
 
-        heeded_same : process'.space.memory.process ≡ answers.between.memory.process
+        heeded_same : process'.memory.process ≡ answers.between.memory.process
         heeded_same = ap (λ (s : SpaceValue S). s.memory.process) answers.heeded
 
-        kept : (k : Key) → residents_in process'.space (is_key k) ≡ residents_in process.space (is_key k)
-        kept k = ap (λ (s : SpaceValue S). residents_in s (is_key k)) answers.heeded ∙ alike_residents process.space answers.between alike (is_key k)
+        kept : (k : Key) → residents_in process' (is_key k) ≡ residents_in process (is_key k)
+        kept k = ap (λ (s : SpaceValue S). residents_in s (is_key k)) answers.heeded ∙ alike_residents process answers.between alike (is_key k)
 
-        at : (k : Key) → Agree pager.pager process.space k → Agree pager'.pager process'.space k
+        at : (k : Key) → Agree pager.pager process k → Agree pager'.pager process' k
         at k agreed =
             let now : residents pager'.pager.list (is_key k) ≡ residents (answered bit pager.pager.list).0 (is_key k) = ap (λ (p : PagerSideValue). residents p.pager.list (is_key k)) answers.pager_is in
             let fewer = answered_residents (is_key k) bit pager.pager.list key lawful answers.question in
@@ -198,10 +198,10 @@ module _ {S : Type 0} where
           where
             by_key : (t : Bool) → is_key k key ≡ t → residents pager'.pager.list (is_key k) ≡ residents (answered bit pager.pager.list).0 (is_key k)
                 → residents (answered bit pager.pager.list).0 (is_key k) + cond (takes bit (answered bit pager.pager.list).1 && is_key k key) 1 0 ≡ residents pager.pager.list (is_key k)
-                → residents pager'.pager.list (is_key k) ≡ residents_in process'.space (is_key k)
+                → residents pager'.pager.list (is_key k) ≡ residents_in process' (is_key k)
             by_key true is now fewer =
                 let this : k ≡ key = sym (key_tested k key is) in
-                let none : residents_in process.space (is_key k) ≡ 0 = ap (λ q. residents_in process.space (is_key q)) this ∙ absent_counts process.space key (gone_absent process.space key.vpn (ap is_gone answers.bit_is ∙ gone)) in
+                let none : residents_in process (is_key k) ≡ 0 = ap (λ q. residents_in process (is_key q)) this ∙ absent_counts process key (gone_absent process key.vpn (ap is_gone answers.bit_is ∙ gone)) in
                 let one : residents pager.pager.list (is_key k) ≡ 1 = ap (λ q. residents pager.pager.list (is_key q)) this ∙ asked_once key pager.pager.list lawful answers.question in
                 absurd (omega (arith, none, one, agreed))
             by_key false other now fewer =
@@ -209,68 +209,68 @@ module _ {S : Type 0} where
                 let same_pages = kept k in
                 omega (arith, now, fewer, agreed, e, same_pages)
 
-    pub answers_agree : (verdict : Verdict) → key.process ≡ process.space.memory.process → AnswersQuestion pager pager' process process' key bit verdict → AgreeStill None pager.pager pager'.pager process.space process'.space
+    pub answers_agree : (verdict : Verdict) → key.process ≡ process.memory.process → AnswersQuestion pager pager' process process' key bit verdict → AgreeStill None pager.pager pager'.pager process process'
     answers_agree verdict of_process answers = by_bit (is_gone bit) refl verdict answers
       where
-        by_bit : (t : Bool) → is_gone bit ≡ t → (verdict : Verdict) → AnswersQuestion pager pager' process process' key bit verdict → AgreeStill None pager.pager pager'.pager process.space process'.space
+        by_bit : (t : Bool) → is_gone bit ≡ t → (verdict : Verdict) → AnswersQuestion pager pager' process process' key bit verdict → AgreeStill None pager.pager pager'.pager process process'
         by_bit false there verdict answers =
-            together_agree pager.pager pager'.pager process.space process'.space
-            (answers_together pager pager' process process' key bit verdict lawful (read_resident process.space key.vpn (ap is_gone answers.bit_is ∙ there)).0 of_process there answers)
+            together_agree pager.pager pager'.pager process process'
+            (answers_together pager pager' process process' key bit verdict lawful (read_resident process key.vpn (ap is_gone answers.bit_is ∙ there)).0 of_process there answers)
         by_bit true gone GoOn answers = gone_agrees gone answers
         by_bit true gone (Victim k) answers = let there = victim_is_there bit pager.pager.list k answers.told in cc
 
-  pub sweep_agrees : (pager pager' : PagerSideValue) (process process' : ProcessSideValue S) (swept : Swept) → Lawful pager.pager.list → AsksOf pager.pager process.space → Sweeps pager pager' process process' swept → AgreeStill None pager.pager pager'.pager process.space process'.space
+  pub sweep_agrees : (pager pager' : PagerSideValue) (process process' : SpaceValue S) (swept : Swept) → Lawful pager.pager.list → AsksOf pager.pager process → Sweeps pager pager' process process' swept → AgreeStill None pager.pager pager'.pager process process'
   sweep_agrees pager pager' process process' swept.NothingResident lawful of_process sweeps = same_agree pager pager' process process' sweeps.1.0 sweeps.1.1
   sweep_agrees pager pager' process process' (swept.Asked key bit) lawful of_process sweeps = answers_agree pager pager' process process' key bit lawful GoOn (of_process key sweeps.question) sweeps
   sweep_agrees pager pager' process process' (swept.Victim key) lawful of_process sweeps = answers_agree pager pager' process process' key sweeps.0 lawful (Victim key) (of_process key sweeps.1.question) sweeps.1
 
   -- ---- a look at a page, and a save that comes back
 
-  module _ (vpn : ℕ) (pager pager' : PagerSideValue) (old new : ProcessSideValue S) (slots slots' : PoolValue S) where
-    looked_process : {L : Type 0} (result : Looked L S) → Looks vpn pager pager' old new slots slots' result → new.space.memory.process ≡ old.space.memory.process
-    looked_process looked.NotLeaving how = ap (λ (q : ProcessSideValue S). q.space.memory.process) how.1.process_stays
-    looked_process looked.NotYet how = ap (λ (q : ProcessSideValue S). q.space.memory.process) how.stays.process_stays
+  module _ (vpn : ℕ) (pager pager' : PagerSideValue) (old new : SpaceValue S) (slots slots' : PoolValue S) where
+    looked_process : {L : Type 0} (result : Looked L S) → Looks vpn pager pager' old new slots slots' result → new.memory.process ≡ old.memory.process
+    looked_process looked.NotLeaving how = ap (λ (q : SpaceValue S). q.memory.process) how.1.process_stays
+    looked_process looked.NotYet how = ap (λ (q : SpaceValue S). q.memory.process) how.stays.process_stays
     looked_process looked.Freed how = dropped_process vpn how.frame old new how.drops
     looked_process (looked.Dirty job) how = copied_process vpn job old new slots slots' how.saving
     looked_process looked.NoSlot how = how.returns.mapped.moves.process
-    looked_process (looked.NotRestored reason) how = ap (λ (q : ProcessSideValue S). q.space.memory.process) how.leaves.stays
+    looked_process (looked.NotRestored reason) how = ap (λ (q : SpaceValue S). q.memory.process) how.leaves.stays
     looked_process (looked.HandedBack frame) how = dropped_process vpn frame old new how.drops
 
-    pub looks_agree : {L : Type 0} (result : Looked L S) → Looks vpn pager pager' old new slots slots' result → AgreeStill None pager.pager pager'.pager old.space new.space
-    looks_agree result how = listed_agree pager.pager pager'.pager old.space new.space (looked_process result how) (looks_listed vpn pager pager' old new slots slots' result how)
+    pub looks_agree : {L : Type 0} (result : Looked L S) → Looks vpn pager pager' old new slots slots' result → AgreeStill None pager.pager pager'.pager old new
+    looks_agree result how = listed_agree pager.pager pager'.pager old new (looked_process result how) (looks_listed vpn pager pager' old new slots slots' result how)
 
-  module _ (job : SavedValue S) (pager pager' : PagerSideValue) (process process' : ProcessSideValue S) where
-    pub saved_agrees : {L : Type 0} (outcome : SaveOutcome L S) → EndsSave job pager pager' process process' outcome → AgreeStill None pager.pager pager'.pager process.space process'.space
-    saved_agrees saved.Freed how = together_agree pager.pager pager'.pager process.space process'.space (freed_ends job pager pager' process process' how).together
+  module _ (job : SavedValue S) (pager pager' : PagerSideValue) (process process' : SpaceValue S) where
+    pub saved_agrees : {L : Type 0} (outcome : SaveOutcome L S) → EndsSave job pager pager' process process' outcome → AgreeStill None pager.pager pager'.pager process process'
+    saved_agrees saved.Freed how = together_agree pager.pager pager'.pager process process' (freed_ends job pager pager' process process' how).together
     saved_agrees (saved.HandedBack frame) how =
-        let told = gone_away job frame process.space.memory process'.space.memory how.settles.moves in
-        listed_agree pager.pager pager'.pager process.space process'.space told.keeps.process
+        let told = gone_away job frame process.memory process'.memory how.settles.moves in
+        listed_agree pager.pager pager'.pager process process' told.keeps.process
         (λ test.
-        let pages = residents_same process.space process'.space told.keeps.process test told.residents in
+        let pages = residents_same process process' told.keeps.process test told.residents in
         let listed : residents pager'.pager.list test ≡ residents pager.pager.list test = ap (λ (p : PagerSideValue). residents p.pager.list test) how.stays in
         omega (arith, pages, listed))
     saved_agrees (saved.WrongPage back) how = same_agree pager pager' process process' how.pager_stays how.process_stays
-    saved_agrees (saved.ResidentAgain failure) how = together_agree pager.pager pager'.pager process.space process'.space (returned_ends job pager pager' process process' failure how).together
-    saved_agrees (saved.NotRestored failure refusal) how = together_agree pager.pager pager'.pager process.space process'.space (left_ends job pager pager' process process' failure refusal how).together
+    saved_agrees (saved.ResidentAgain failure) how = together_agree pager.pager pager'.pager process process' (returned_ends job pager pager' process process' failure how).together
+    saved_agrees (saved.NotRestored failure refusal) how = together_agree pager.pager pager'.pager process process' (left_ends job pager pager' process process' failure refusal how).together
 
   -- ---- a purge
 
-  pub purged_agree : (pager pager' : PagerSideValue) (process process' : ProcessSideValue S) (pool pool' : PoolValue S) → PurgesAll pager pager' process process' pool pool' → (vpn : ℕ)
-      → Agree pager'.pager process'.space (key_of process.space.memory.process vpn)
+  pub purged_agree : (pager pager' : PagerSideValue) (process process' : SpaceValue S) (pool pool' : PoolValue S) → PurgesAll pager pager' process process' pool pool' → (vpn : ℕ)
+      → Agree pager'.pager process' (key_of process.memory.process vpn)
   purged_agree pager pager' process process' pool pool' all vpn =
-      ap (λ (p : PagerSideValue). residents p.pager.list (is_key (key_of process.space.memory.process vpn))) all.pager_is
-      ∙ purged_residents (is_key (key_of process.space.memory.process vpn)) process.space.memory.process pager.pager.list
-      ∙ neither (λ q. q.process == process.space.memory.process) (λ q. q.vpn == vpn) pager.pager.list
-      ∙ sym (given_residents process.space process'.space all.space (unbarred process all.allowed).1.0 (is_key (key_of process.space.memory.process vpn)))
+      ap (λ (p : PagerSideValue). residents p.pager.list (is_key (key_of process.memory.process vpn))) all.pager_is
+      ∙ purged_residents (is_key (key_of process.memory.process vpn)) process.memory.process pager.pager.list
+      ∙ neither (λ q. q.process == process.memory.process) (λ q. q.vpn == vpn) pager.pager.list
+      ∙ sym (given_residents process process' all.moves (unbarred process all.allowed).1.0 (is_key (key_of process.memory.process vpn)))
 
-  pub purge_agrees : {L : Type 0} (pager pager' : PagerSideValue) (process process' : ProcessSideValue S) (pool pool' : PoolValue S) (purging : Purging L S)
-      → Purges pager pager' process process' pool pool' purging → AgreesPurged pager.pager pager'.pager process.space process'.space purging
-  purge_agrees pager pager' process process' pool pool' purge.Done how = record { process = how.space.moves.process; agree = λ vpn out agreed. purged_agree pager pager' process process' pool pool' how vpn }
+  pub purge_agrees : {L : Type 0} (pager pager' : PagerSideValue) (process process' : SpaceValue S) (pool pool' : PoolValue S) (purging : Purging L S)
+      → Purges pager pager' process process' pool pool' purging → AgreesPurged pager.pager pager'.pager process process' purging
+  purge_agrees pager pager' process process' pool pool' purge.Done how = record { process = how.moves.process; agree = λ vpn out agreed. purged_agree pager pager' process process' pool pool' how vpn }
   purge_agrees pager pager' process process' pool pool' (purge.Refused reason) how = same_agree pager pager' process process' how.pager_stays how.process_stays
   purge_agrees pager pager' process process' pool pool' (purge.HandedBack frame slot) how =
       λ vpn same agreed.
-      let listed : residents pager'.pager.list (is_key (key_of process.space.memory.process vpn)) ≡ residents pager.pager.list (is_key (key_of process.space.memory.process vpn)) = ap (λ (p : PagerState). residents p.list (is_key (key_of process.space.memory.process vpn))) how.stops.gave.pager_is in
-      listed ∙ agreed ∙ sym (left_counts process.space process'.space vpn how.stops.gave.process same)
+      let listed : residents pager'.pager.list (is_key (key_of process.memory.process vpn)) ≡ residents pager.pager.list (is_key (key_of process.memory.process vpn)) = ap (λ (p : PagerState). residents p.list (is_key (key_of process.memory.process vpn))) how.stops.gave.pager_is in
+      listed ∙ agreed ∙ sym (left_counts process process' vpn how.stops.gave.process same)
 
   -- ---- a load
 

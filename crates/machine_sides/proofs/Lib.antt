@@ -3,6 +3,7 @@ pub mod Agreements
 pub mod LoadAgreements
 pub mod Looking
 pub mod PurgeSteps
+pub mod Reported
 pub mod SlicesInARow
 pub mod Sweeps
 pub mod SpareSlots

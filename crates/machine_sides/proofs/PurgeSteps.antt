@@ -164,7 +164,7 @@ module _ {S : Type 0} where
     framed = λ test. let a = gave.framed test in omega (arith, a);
     slotted = let a = gave.slotted in omega (arith, a);
     named = all_gives_below gave.slots old.memory mid.memory gave.named none;
-    space = record {
+    gives = record {
       moves = record {
         process = gave.process;
         pages = all_pages old.memory mid.memory none gave.each;

@@ -2,7 +2,6 @@
 use Rattle.std.proofs.Common.{◌≡◌, ◌≢◌, ℕ, zero, suc, List, Option, Some, None, refl, subst, arith}
 use Rattle.std.specs.Prelude.{option_map}
 use Rattle.machine_sides.specs.ProcessCalls.{Slices, SlicesOn, SlicesMany}
-use Rattle.machine_sides.specs.Sides.{ProcessSideValue}
 use Rattle.space_core.specs.StandsFor.{SpaceValue}
 use Rattle.space_core.specs.StepByStep.{SlicesOne, SlicesEach, StepsOn, StepsEach}
 use Rattle.space_core.specs.declared.progress.Slice.{Slice}
@@ -64,13 +63,12 @@ unfolding StepsOn SlicesOn
 slices_on held honest hart zero old new on = on
 slices_on held honest hart (suc n) old new on = (on.0, (slices_on held honest hart n old on.0 on.1.0, one_slice held honest hart 1 Budget on.0 new on.1.1))
 
-pub many_of_steps : {S : Type 0} (held : S → List ℕ) (honest : Type 0) (hart count : ℕ) (last : Option Slice) (old new : ProcessSideValue S)
-    → StepsEach held honest hart count (option_map (λ slice. (slice.ran, slice.stop)) last) old.space new.space → new.purged ≡ old.purged
+pub many_of_steps : {S : Type 0} (held : S → List ℕ) (honest : Type 0) (hart count : ℕ) (last : Option Slice) (old new : SpaceValue S)
+    → StepsEach held honest hart count (option_map (λ slice. (slice.ran, slice.stop)) last) old new
     → SlicesMany held honest hart count (option_map (λ slice. slice.stop) last) old new
-many_of_steps held honest hart count None old new each purged = record { between = each.between; on = slices_on held honest hart count old.space each.between each.on; ends = each.at_last; purged = purged }
-many_of_steps held honest hart count (Some slice) old new each purged = record {
+many_of_steps held honest hart count None old new each = record { between = each.between; on = slices_on held honest hart count old each.between each.on; ends = each.at_last }
+many_of_steps held honest hart count (Some slice) old new each = record {
   between = each.between;
-  on = slices_on held honest hart count old.space each.between each.on;
-  ends = (slice.ran, one_slice held honest hart slice.ran slice.stop each.between new.space each.at_last);
-  purged = purged;
+  on = slices_on held honest hart count old each.between each.on;
+  ends = (slice.ran, one_slice held honest hart slice.ran slice.stop each.between new each.at_last);
 }

@@ -11,7 +11,6 @@ use Rattle.space_core.specs.StandsFor.{SpaceValue}
 use Rattle.swap_slots.specs.PoolValue.{PoolValue}
 use Rattle.machine_sides.specs.Cleaning.{SlotsAfter, PageCopied, SpareBack}
 use Rattle.machine_sides.specs.Collecting.{TakesSlot}
-use Rattle.machine_sides.specs.Sides.{ProcessSideValue}
 
 module _ {S : Type 0} where
   same_pool : (old new : PoolValue S) → new.free ≡ old.free → new.size ≡ old.size → new ≡ old
@@ -57,16 +56,13 @@ module _ {S : Type 0} where
     slots_after vpn old new copied.NoSlot came = unused (came.1.1 ∙ sym came.1.0)
     slots_after vpn old new (copied.Copied job) came = (slots_taken (slot_in old vpn) job.slot came.takes, sizes)
 
-  abbrev side : Bool → SpaceValue S → ProcessSideValue S
-  side purged space = record { space = space; purged = purged }
-
-  pub page_copied : (vpn : ℕ) (purged : Bool) (self : ProcessSideValue S) (space space' : SpaceValue S) (slots between slots' : PoolValue S) (spare spare' : Option S) (a : CleanCopy S) → side purged space ≡ self → vpn < 2 ^ 20
+  pub page_copied : (vpn : ℕ) (space space' : SpaceValue S) (slots between slots' : PoolValue S) (spare spare' : Option S) (a : CleanCopy S) → vpn < 2 ^ 20
       → CopiesPage vpn spare spare' a space.memory space'.memory → CopiesOut vpn a space.memory space'.memory → (settles a ≡ false → space' ≡ space) → space' ≡ record space { memory = with_pages space.memory space'.memory }
       → length slots.free ≤ slots.size → (IsNone spare ↔ (slots.free ≡ [])) → IfSome spare (λ slot. slots.free ≡ between.free ++ slot ∷ []) → IfNone spare (between.free ≡ slots.free) → between.size ≡ slots.size → SpareBack spare' between slots'
-      → PageCopied vpn a self (side purged space') slots slots'
-  page_copied vpn purged self space space' slots between slots' spare spare' a view small page copies same stays within empty taken none size back =
+      → PageCopied vpn a space space' slots slots'
+  page_copied vpn space space' slots between slots' spare spare' a small page copies same stays within empty taken none size back =
       let only : OnlyPages space.memory space'.memory = ap (λ (s : SpaceValue S). s.memory) stays in
-      subst (λ s. PageCopied vpn a s (side purged space') slots slots') view (record {
+      record {
         spare = spare;
         spare' = spare';
         lends = record {
@@ -74,9 +70,9 @@ module _ {S : Type 0} where
           page = page;
           only = only;
           copies = copies;
-          same = λ unsettled. ap (side purged) (same unsettled);
-          stays = ap (side purged) stays ∙ ap (λ (m : PagedValue S). record (side purged space) { space = record space { memory = m } }) (sym only);
+          same = same;
+          stays = stays ∙ ap (λ (m : PagedValue S). record space { memory = m }) (sym only);
         };
         empty = empty;
         slots_after = slots_after slots between slots' within spare spare' taken none size back vpn space.memory space'.memory a (copy_comes_to vpn spare spare' a space.memory space'.memory small only page);
-      })
+      }

@@ -20,7 +20,7 @@ use Rattle.paged_memory.specs.Stages.{is_resident_stage}
 use Rattle.paged_memory.specs.Whole.{stage_in, accessed_in}
 use Rattle.space_core.specs.StandsFor.{SpaceValue}
 use Rattle.pager_core.specs.Pager.{PagerState, pager_answered}
-use Rattle.machine_sides.specs.Sides.{PagerSideValue, ProcessSideValue}
+use Rattle.machine_sides.specs.Sides.{PagerSideValue}
 use Rattle.machine_sides.specs.Sweeping.{bit_of, bit_at, ReadsBit, Evicts, AnswersQuestion}
 
 -- a page that is gone is no victim
@@ -74,11 +74,11 @@ module _ {S : Type 0} where
       let resident = read_resident space vpn (ap is_gone (sym is) ∙ there) in
       (resident.0, ap is_resident_stage (same_stage space.memory between.memory vpn (read_pages bit vpn space between there read)) ∙ resident.1)
 
-  victim_answers : (pager pager' : PagerSideValue) (process process' : ProcessSideValue S) (between : SpaceValue S) (key k : Key) (bit : Bit)
+  victim_answers : (pager pager' : PagerSideValue) (process process' : SpaceValue S) (between : SpaceValue S) (key k : Key) (bit : Bit)
       → question_of pager.pager.list ≡ Some key → (answered bit pager.pager.list).1 ≡ Ok (Victim k) → pager' ≡ record pager { pager = pager_answered bit pager.pager }
-      → bit ≡ bit_at process.space key.vpn → ReadsBit bit key.vpn process.space between → Evicts key.vpn between process'.space → process'.purged ≡ process.purged
+      → bit ≡ bit_at process key.vpn → ReadsBit bit key.vpn process between → Evicts key.vpn between process'
       → AnswersQuestion pager pager' process process' key bit (Victim key)
-  victim_answers pager pager' process process' between key k bit asks told moved is read evicts purged =
+  victim_answers pager pager' process process' between key k bit asks told moved is read evicts =
       let same : k ≡ key = let e = victim_asked bit pager.pager.list k told in cc in
       record {
         question = asks;
@@ -88,16 +88,15 @@ module _ {S : Type 0} where
         between = between;
         read = read;
         heeded = evicts;
-        purged = purged;
       }
 
   -- the same of the pager as its caller sees it
-  pub victim_swept : (pager inside : PagerSideValue) (answering : PagerState) (process process' : ProcessSideValue S) (between : SpaceValue S) (key k : Key) (bit : Bit) → inside ≡ pager
+  pub victim_swept : (pager inside : PagerSideValue) (answering : PagerState) (process process' : SpaceValue S) (between : SpaceValue S) (key k : Key) (bit : Bit) → inside ≡ pager
       → question_of pager.pager.list ≡ Some key → (answered bit inside.pager.list).1 ≡ Ok (Victim k) → answering ≡ pager_answered bit inside.pager
-      → bit ≡ bit_at process.space key.vpn → ReadsBit bit key.vpn process.space between → Evicts key.vpn between process'.space → process'.purged ≡ process.purged
+      → bit ≡ bit_at process key.vpn → ReadsBit bit key.vpn process between → Evicts key.vpn between process'
       → AnswersQuestion pager (record inside { pager = answering }) process process' key bit (Victim key)
-  victim_swept pager inside answering process process' between key k bit seen asks told moved is read evicts purged =
+  victim_swept pager inside answering process process' between key k bit seen asks told moved is read evicts =
       victim_answers pager (record inside { pager = answering }) process process' between key k bit asks
       (ap (λ (p : PagerSideValue). (answered bit p.pager.list).1) (sym seen) ∙ told)
       (ap (λ (p : PagerState). record inside { pager = p }) moved ∙ ap (λ (p : PagerSideValue). record p { pager = pager_answered bit p.pager }) seen)
-      is read evicts purged
+      is read evicts

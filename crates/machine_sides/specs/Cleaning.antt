@@ -11,7 +11,6 @@ use Rattle.paged_memory.specs.Moving.{OnlyPages, slot_in}
 use Rattle.space_core.specs.StandsFor.{SpaceValue}
 use Rattle.swap_slots.specs.PoolValue.{PoolValue}
 use Rattle.machine_sides.specs.Collecting.{TakesSlot}
-use Rattle.machine_sides.specs.Sides.{ProcessSideValue}
 use Rattle.machine_sides.specs.declared.cleaning.CleanBar.{CleanBar}
 use Rattle.machine_sides.specs.declared.cleaning.CleanBar.TheVariants as bar
 use Rattle.machine_sides.specs.declared.cleaning.CopyBar.{CopyBar}
@@ -45,19 +44,19 @@ module _ {S : Type 0} where
   -- ---- what becomes of a process whose page is cleaned
 
   -- a page's cleaning begins
-  pub record StartsCleaning (vpn : ℕ) (old new : ProcessSideValue S) : Type 0 where
+  pub record StartsCleaning (vpn : ℕ) (old new : SpaceValue S) : Type 0 where
     pub small : vpn < 2 ^ 20
-    pub moves : BeginsCleaning (is_some old.space.running.ending) vpn old.space.memory new.space.memory
-    pub stays : new ≡ record old { space = record old.space { memory = new.space.memory } }
+    pub moves : BeginsCleaning (is_some old.running.ending) vpn old.memory new.memory
+    pub stays : new ≡ record old { memory = new.memory }
 
   -- its process alone changes, and of its memory the pages
-  pub record LendsSpare (vpn : ℕ) (spare spare' : Option S) (answer : CleanCopy S) (old new : ProcessSideValue S) : Type 0 where
+  pub record LendsSpare (vpn : ℕ) (spare spare' : Option S) (answer : CleanCopy S) (old new : SpaceValue S) : Type 0 where
     pub small : vpn < 2 ^ 20
-    pub page : CopiesPage vpn spare spare' answer old.space.memory new.space.memory
-    pub only : OnlyPages old.space.memory new.space.memory
-    pub copies : CopiesOut vpn answer old.space.memory new.space.memory
+    pub page : CopiesPage vpn spare spare' answer old.memory new.memory
+    pub only : OnlyPages old.memory new.memory
+    pub copies : CopiesOut vpn answer old.memory new.memory
     pub same : settles answer ≡ false → new ≡ old
-    pub stays : new ≡ record old { space = record old.space { memory = new.space.memory } }
+    pub stays : new ≡ record old { memory = new.memory }
 
   -- the free slots once a copy was asked for: one fewer where it takes one of them along
   abbrev pub SlotsAfter : Option S → PoolValue S → PoolValue S → CleanCopy S → Type 0
@@ -68,12 +67,12 @@ module _ {S : Type 0} where
   SlotsAfter own slots slots' (copied.Copied job) = TakesSlot own job.slot slots.free slots'.free × (slots'.size ≡ slots.size)
 
   -- the copy of a page, which is asked for with a free slot at hand if there is one; it goes back where it is not taken
-  pub record PageCopied (vpn : ℕ) (answer : CleanCopy S) (old new : ProcessSideValue S) (slots slots' : PoolValue S) : Type 0 where
+  pub record PageCopied (vpn : ℕ) (answer : CleanCopy S) (old new : SpaceValue S) (slots slots' : PoolValue S) : Type 0 where
     pub spare : Option S
     pub spare' : Option S
     pub lends : LendsSpare vpn spare spare' answer old new
     pub empty : IsNone spare ↔ (slots.free ≡ [])
-    pub slots_after : SlotsAfter (slot_in old.space.memory vpn) slots slots' answer
+    pub slots_after : SlotsAfter (slot_in old.memory vpn) slots slots' answer
 
   -- the answer of a page that is being cleaned
   abbrev pub copy_of_answer : Copying S → CleanCopy S
@@ -82,7 +81,7 @@ module _ {S : Type 0} where
   copy_of_answer NoSlot = copied.NoSlot
   copy_of_answer (Copied job) = copied.Copied job
 
-  abbrev pub Copies : ℕ → ProcessSideValue S → ProcessSideValue S → PoolValue S → PoolValue S → Copying S → Type 0
+  abbrev pub Copies : ℕ → SpaceValue S → SpaceValue S → PoolValue S → PoolValue S → Copying S → Type 0
   Copies vpn old new slots slots' answer = PageCopied vpn (copy_of_answer answer) old new slots slots'
 
   -- a slot that was not taken is in the pool again
@@ -92,8 +91,8 @@ module _ {S : Type 0} where
     pub size : slots'.size ≡ slots.size
 
   -- a copy comes back to its process
-  pub record TakesCopyBack (job : SavedValue S) (answer : Cleaned S) (old new : ProcessSideValue S) : Type 0 where
-    pub ends : EndsCleaningIn job answer old.space.memory new.space.memory
-    pub only : OnlyPages old.space.memory new.space.memory
-    pub copies : CopiesBack job answer old.space.memory new.space.memory
-    pub stays : new ≡ record old { space = record old.space { memory = new.space.memory } }
+  pub record TakesCopyBack (job : SavedValue S) (answer : Cleaned S) (old new : SpaceValue S) : Type 0 where
+    pub ends : EndsCleaningIn job answer old.memory new.memory
+    pub only : OnlyPages old.memory new.memory
+    pub copies : CopiesBack job answer old.memory new.memory
+    pub stays : new ≡ record old { memory = new.memory }

@@ -13,13 +13,12 @@ use Rattle.space_core.specs.StandsFor.{SpaceValue}
 use Rattle.swap_slots.specs.PoolValue.{PoolValue}
 use Rattle.machine_sides.specs.Cleaning.{StartsCleaning, PageCopied}
 use Rattle.machine_sides.specs.CollectLaws.{slot_taken}
-use Rattle.machine_sides.specs.Sides.{ProcessSideValue}
 use Rattle.machine_sides.specs.Together.{Together, savings_in, copies_in, key_of}
 use Rattle.machine_sides.specs.TogetherLaws.{residents_same, savings_same, copies_more, copies_fewer, frames_same}
 
 module _ {S : Type 0} where
-  pub starts_alike : (vpn : ℕ) (old new : ProcessSideValue S) → StartsCleaning vpn old new → CountsAlike old.space.memory new.space.memory
-  starts_alike vpn old new starts = begins_alike (is_some old.space.running.ending) vpn old.space.memory new.space.memory starts.small starts.moves
+  pub starts_alike : (vpn : ℕ) (old new : SpaceValue S) → StartsCleaning vpn old new → CountsAlike old.memory new.memory
+  starts_alike vpn old new starts = begins_alike (is_some old.running.ending) vpn old.memory new.memory starts.small starts.moves
 
   -- ---- a page stays in its frame
 
@@ -37,27 +36,27 @@ module _ {S : Type 0} where
 
   -- ---- a copy goes out
 
-  module _ (vpn : ℕ) (old new : ProcessSideValue S) (slots slots' : PoolValue S) where
+  module _ (vpn : ℕ) (old new : SpaceValue S) (slots slots' : PoolValue S) where
     -- what the answer comes to
-    pub copied_to : (a : CleanCopy S) (made : PageCopied vpn a old new slots slots') → CopyComesTo vpn made.spare made.spare' old.space.memory new.space.memory a
-    copied_to a made = copy_comes_to vpn made.spare made.spare' a old.space.memory new.space.memory made.lends.small made.lends.only made.lends.page
+    pub copied_to : (a : CleanCopy S) (made : PageCopied vpn a old new slots slots') → CopyComesTo vpn made.spare made.spare' old.memory new.memory a
+    copied_to a made = copy_comes_to vpn made.spare made.spare' a old.memory new.memory made.lends.small made.lends.only made.lends.page
 
     module _ (job : JobValue S) (made : PageCopied vpn (copied.Copied job) old new slots slots') where
-      pub has_copied : HasCopied vpn job made.spare made.spare' old.space.memory new.space.memory
+      pub has_copied : HasCopied vpn job made.spare made.spare' old.memory new.memory
       has_copied = copied_to (copied.Copied job) made
 
-      pub gone_copies : (test : Key → Bool) → copies_in new.space test ≡ copies_in old.space test + cond (test (key_of old.space.memory.process vpn)) 1 0
-      gone_copies test = copies_more old.space new.space has_copied.stays.keeps.process test vpn has_copied.copies
+      pub gone_copies : (test : Key → Bool) → copies_in new test ≡ copies_in old test + cond (test (key_of old.memory.process vpn)) 1 0
+      gone_copies test = copies_more old new has_copied.stays.keeps.process test vpn has_copied.copies
 
       -- the slot of the copy is one fewer of the page's and the free ones
-      pub gone_slots : length slots'.free + slots_within new.space.memory + 1 ≡ length slots.free + slots_within old.space.memory
+      pub gone_slots : length slots'.free + slots_within new.memory + 1 ≡ length slots.free + slots_within old.memory
       gone_slots =
           let own = has_copied.slots in
-          let taken = slot_taken (slot_in old.space.memory vpn) job.slot slots.free slots'.free made.slots_after.0 in
+          let taken = slot_taken (slot_in old.memory vpn) job.slot slots.free slots'.free made.slots_after.0 in
           omega (arith, own, taken)
 
   -- ---- a copy comes back
 
-  module _ (job : SavedValue S) (old new : ProcessSideValue S) (has : HasCleaned job old.space.memory new.space.memory) where
-    pub back_copies : (test : Key → Bool) → copies_in new.space test + cond (test (key_of old.space.memory.process job.vpn)) 1 0 ≡ copies_in old.space test
-    back_copies test = copies_fewer old.space new.space has.stays.keeps.process test job.vpn has.copies
+  module _ (job : SavedValue S) (old new : SpaceValue S) (has : HasCleaned job old.memory new.memory) where
+    pub back_copies : (test : Key → Bool) → copies_in new test + cond (test (key_of old.memory.process job.vpn)) 1 0 ≡ copies_in old test
+    back_copies test = copies_fewer old new has.stays.keeps.process test job.vpn has.copies

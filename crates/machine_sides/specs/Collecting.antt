@@ -12,7 +12,7 @@ use Rattle.space_core.specs.StandsFor.{SpaceValue}
 use Rattle.swap_slots.specs.PoolValue.{PoolValue}
 use Rattle.machine_sides.specs.Admitting.{stage_at}
 use Rattle.machine_sides.specs.Returning.{ComesBack, StaysLeaving}
-use Rattle.machine_sides.specs.Sides.{PagerSideValue, ProcessSideValue, MovesSide}
+use Rattle.machine_sides.specs.Sides.{PagerSideValue, MovesMemory}
 use Rattle.machine_sides.specs.declared.collecting.Looked.{Looked}
 use Rattle.machine_sides.specs.declared.collecting.Looked.TheVariants.{NotLeaving, NotYet, Freed, Dirty, NoSlot, NotRestored, HandedBack}
 
@@ -36,8 +36,8 @@ module _ {S : Type 0} where
     pub empty : slots.free ≡ []
 
   -- an unchanged page that no cache holds goes to its backing, and lets this frame go
-  abbrev pub Drops : ℕ → FrameValue → ProcessSideValue S → ProcessSideValue S → Type 0
-  Drops vpn frame old new = MovesSide (GoesToBacking vpn frame) old new
+  abbrev pub Drops : ℕ → FrameValue → SpaceValue S → SpaceValue S → Type 0
+  Drops vpn frame old new = MovesMemory (GoesToBacking vpn frame) old new
 
   -- which slot a job takes: the page's own, or else one that was free
   abbrev pub TakesSlot : Option S → S → List S → List S → Type 0
@@ -45,22 +45,22 @@ module _ {S : Type 0} where
   TakesSlot None slot free free' = free ≡ free' ++ slot ∷ []
 
   -- a changed page that no cache holds is copied into a job, with its slot or else a free one, and is being saved
-  pub record StartsSaving (vpn : ℕ) (job : JobValue S) (old new : ProcessSideValue S) (slots slots' : PoolValue S) : Type 0 where
-    pub moves : GoesToBeSaved vpn job old.space.memory new.space.memory
-    pub stays : new ≡ record old { space = record old.space { memory = new.space.memory } }
-    pub slot : TakesSlot (slot_in old.space.memory vpn) job.slot slots.free slots'.free
+  pub record StartsSaving (vpn : ℕ) (job : JobValue S) (old new : SpaceValue S) (slots slots' : PoolValue S) : Type 0 where
+    pub moves : GoesToBeSaved vpn job old.memory new.memory
+    pub stays : new ≡ record old { memory = new.memory }
+    pub slot : TakesSlot (slot_in old.memory vpn) job.slot slots.free slots'.free
     pub size : slots'.size ≡ slots.size
 
-  module _ {L : Type 0} (vpn : ℕ) (old new : ProcessSideValue S) (slots slots' : PoolValue S) where
+  module _ {L : Type 0} (vpn : ℕ) (old new : SpaceValue S) (slots slots' : PoolValue S) where
     -- what a look at a page comes to, before the pager has a part in it
     abbrev pub Finds : Collected L S → Type 0
-    Finds answer.NotLeaving = (is_leaving_at old.space vpn ≡ false) × ((new ≡ old) × (slots' ≡ slots))
-    Finds answer.NotYet = IsHeldYet vpn old.space × ((new ≡ old) × (slots' ≡ slots))
+    Finds answer.NotLeaving = (is_leaving_at old vpn ≡ false) × ((new ≡ old) × (slots' ≡ slots))
+    Finds answer.NotYet = IsHeldYet vpn old × ((new ≡ old) × (slots' ≡ slots))
     Finds (answer.Clean frame) = Drops vpn frame old new × (slots' ≡ slots)
     Finds (answer.Dirty job) = StartsSaving vpn job old new slots slots'
-    Finds answer.NoSlot = LacksSlot vpn old.space slots × ((new ≡ old) × (slots' ≡ slots))
+    Finds answer.NoSlot = LacksSlot vpn old slots × ((new ≡ old) × (slots' ≡ slots))
 
-  module _ (vpn : ℕ) (pager pager' : PagerSideValue) (old new : ProcessSideValue S) (slots slots' : PoolValue S) where
+  module _ (vpn : ℕ) (pager pager' : PagerSideValue) (old new : SpaceValue S) (slots slots' : PoolValue S) where
     -- nothing changes
     pub record StaysAll : Type 0 where
       pub pager_stays : pager' ≡ pager
@@ -69,7 +69,7 @@ module _ {S : Type 0} where
 
     -- a cache holds a translation of the page, or a copy of it is out: it stays
     pub record IsNotYet : Type 0 where
-      pub held : IsHeldYet vpn old.space
+      pub held : IsHeldYet vpn old
       pub stays : StaysAll
 
     -- the page goes to its backing, and its frame is free
@@ -93,19 +93,19 @@ module _ {S : Type 0} where
 
     -- no slot is there for the page: it is taken back by the list and resident again
     pub record LacksAndReturns : Type 0 where
-      pub lacks : LacksSlot vpn old.space slots
+      pub lacks : LacksSlot vpn old slots
       pub returns : ComesBack vpn pager pager' old new
       pub slots_stay : slots' ≡ slots
 
     -- no slot is there for the page, and it is leaving still, since the list does not take it back
     pub record LacksAndLeaves (reason : Refusal) : Type 0 where
-      pub lacks : LacksSlot vpn old.space slots
+      pub lacks : LacksSlot vpn old slots
       pub leaves : StaysLeaving vpn pager pager' old new reason
       pub slots_stay : slots' ≡ slots
 
     -- what a look at a page comes to, by its answer
     abbrev pub Looks : {L : Type 0} → Looked L S → Type 0
-    Looks NotLeaving = (is_leaving_at old.space vpn ≡ false) × StaysAll
+    Looks NotLeaving = (is_leaving_at old vpn ≡ false) × StaysAll
     Looks NotYet = IsNotYet
     Looks Freed = IsDropped
     Looks (Dirty job) = IsCopied job

@@ -1,9 +1,15 @@
 pub mod AdmitLaws
 pub mod Admitting
 pub mod Agreeing
+pub mod ApartLaws
+pub mod AuditLaws
+pub mod Auditing
 pub mod CollectLaws
 pub mod Collecting
 pub mod CountedLaws
+pub mod EntryLaws
+pub mod EverywhereLaws
+pub mod FlatLines
 pub mod Held
 pub mod Loading
 pub mod LookLaws
@@ -11,6 +17,7 @@ pub mod PageStatusAt
 pub mod ProcessCalls
 pub mod PurgeLaws
 pub mod Purging
+pub mod Reporting
 pub mod ReturnLaws
 pub mod Returning
 pub mod SavingBack

@@ -18,7 +18,6 @@ use Rattle.space_core.specs.StandsFor.{SpaceValue, StandsFor}
 use Rattle.space_core.specs.StepByStep.{SlicesEach}
 use Rattle.space_core.specs.declared.progress.SliceStop.{SliceStop}
 use Rattle.space_core.specs.declared.progress.SliceStop.TheVariants.{Budget}
-use Rattle.machine_sides.specs.Sides.{ProcessSideValue}
 
 module _ {S : Type 0} where
   -- a hart's slice: what ran is the flat run of so many of its instructions, and is recorded; why it stops; what is left; and
@@ -37,22 +36,19 @@ module _ {S : Type 0} where
     pub each : SlicesEach held honest hart budget ran why old new
 
   -- a process's hart runs one instruction, or does not
-  pub record StepsOnce (held : S → List ℕ) (honest : Type 0) (hart : ℕ) (why : SliceStop) (old new : ProcessSideValue S) : Type 0 where
+  pub record StepsOnce (held : S → List ℕ) (honest : Type 0) (hart : ℕ) (why : SliceStop) (old new : SpaceValue S) : Type 0 where
     pub ran : ℕ
-    pub slice : Slices held honest hart 1 old.space new.space ran why
-    pub purged : new.purged ≡ old.purged
+    pub slice : Slices held honest hart 1 old new ran why
 
   -- a hart drops its translations that are to be dropped
-  abbrev pub TakesNotices : ℕ → ProcessSideValue S → ProcessSideValue S → Type 0
-  TakesNotices hart old new = new ≡ record old { space = record old.space { memory = noticed hart old.space.memory } }
+  abbrev pub TakesNotices : ℕ → SpaceValue S → SpaceValue S → Type 0
+  TakesNotices hart old new = new ≡ record old { memory = noticed hart old.memory }
 
   -- the machine ends a process
-  abbrev pub IsKilled : KillCause → ProcessSideValue S → ProcessSideValue S → Type 0
+  abbrev pub IsKilled : KillCause → SpaceValue S → SpaceValue S → Type 0
   IsKilled cause old new = new ≡ record old {
-    space = record old.space {
-      running = record old.space.running { ending = option_or old.space.running.ending (Some (KilledBy cause)) };
-      memory = if_killed old.space.running.ending old.space.memory;
-    };
+    running = record old.running { ending = option_or old.running.ending (Some (KilledBy cause)) };
+    memory = if_killed old.running.ending old.memory;
   }
 
 module _ {S : Type 0} (held : S → List ℕ) (honest : Type 0) (hart : ℕ) where
@@ -66,8 +62,7 @@ module _ {S : Type 0} (held : S → List ℕ) (honest : Type 0) (hart : ℕ) whe
   SliceEnds None old new = new ≡ old
   SliceEnds (Some why) old new = (ran : ℕ) × Slices held honest hart 1 old new ran why
 
-  pub record SlicesMany (count : ℕ) (last : Option SliceStop) (old new : ProcessSideValue S) : Type 0 where
+  pub record SlicesMany (count : ℕ) (last : Option SliceStop) (old new : SpaceValue S) : Type 0 where
     pub between : SpaceValue S
-    pub on : SlicesOn count old.space between
-    pub ends : SliceEnds last between new.space
-    pub purged : new.purged ≡ old.purged
+    pub on : SlicesOn count old between
+    pub ends : SliceEnds last between new

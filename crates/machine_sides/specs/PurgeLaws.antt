@@ -1,5 +1,5 @@
 -- A purge keeps list and pages together, where they agreed on the process's pages.
-use Rattle.std.proofs.Common.{◌≡◌, ℕ, ◌+◌, ◌++◌, ◌==◌, Bool, true, false, ◌&&◌, not, cond, List, [], ◌∷◌, length, Option, Some, None, is_some, IsSome, inl, inr, refl, ap, ◌∙◌, arith, subst}
+use Rattle.std.proofs.Common.{sym, ◌≡◌, ℕ, ◌+◌, ◌++◌, ◌==◌, Bool, true, false, ◌&&◌, not, cond, List, [], ◌∷◌, length, Option, Some, None, is_some, IsSome, inl, inr, refl, ap, ◌∙◌, arith, subst}
 use Rattle.std.specs.Prelude.{if◌then◌else◌}
 use Rattle.std.proofs.lemmas.Bool.Decides.{eqb_tells}
 use Rattle.std.proofs.lemmas.List.{length-append}
@@ -14,15 +14,16 @@ use Rattle.paged_memory.specs.AlikeLaws.{SavingsStay}
 use Rattle.paged_memory.specs.Copies.{LeavesCopies}
 use Rattle.paged_memory.specs.GivenLaws.{HoldsNothing, bare_all, all_savings, all_stay, all_copies}
 use Rattle.paged_memory.specs.Moving.{SavesSome, SavesNone}
+use Rattle.paged_memory.specs.Moving as moving
 use Rattle.paged_memory.specs.Paged.{PagedValue}
 use Rattle.paged_memory.specs.SaveLaws.{some_save, none_save, none_saved}
 use Rattle.paged_memory.specs.Whole.{outs_within, slots_within}
 use Rattle.pager_core.specs.Pager.{PagerState, with_list}
 use Rattle.space_core.specs.StandsFor.{SpaceValue}
 use Rattle.swap_slots.specs.PoolValue.{PoolValue}
-use Rattle.machine_sides.specs.Purging.{is_saving_any, purge_bars, GivesAll, GivesToPools, PurgesAll}
+use Rattle.machine_sides.specs.Purging.{is_saving_any, purge_bars, GivesToPools, PurgesAll}
 use Rattle.machine_sides.specs.declared.purging.PurgeRefusal.TheVariants.{NotEnded, SavingStill, AlreadyPurged}
-use Rattle.machine_sides.specs.Sides.{PagerSideValue, ProcessSideValue}
+use Rattle.machine_sides.specs.Sides.{PagerSideValue}
 use Rattle.machine_sides.specs.Together.{Together, residents_in, savings_in, frames_in, frames_where, key_of}
 use Rattle.machine_sides.specs.TogetherLaws.{savings_same}
 
@@ -96,10 +97,10 @@ module _ {S : Type 0} where
 
   -- ---- what is left of pages that gave everything back
 
-  module _ (old new : SpaceValue S) (gives : GivesAll old new) where
+  module _ (old new : SpaceValue S) (moves : moving.GivesAll old.memory new.memory) where
     module _ (quiet : is_saving_any old.memory ≡ false) where
       abbrev bare : HoldsNothing new.memory
-      bare = bare_all old.memory new.memory gives.moves (none_saved old.memory (none_counted old.memory quiet))
+      bare = bare_all old.memory new.memory moves (none_saved old.memory (none_counted old.memory quiet))
 
       pub given_residents : (test : Key → Bool) → residents_in new test ≡ 0
       unfolding residents_in
@@ -114,54 +115,54 @@ module _ {S : Type 0} where
 
     -- as many pages are being saved, and they stay so
     pub given_savings : (test : Key → Bool) → savings_in new test ≡ savings_in old test
-    given_savings test = savings_same old new gives.moves.process test (all_savings old.memory new.memory gives.moves)
+    given_savings test = savings_same old new moves.process test (all_savings old.memory new.memory moves)
 
     pub given_stays : SavingsStay old.memory new.memory
-    given_stays = all_stay old.memory new.memory gives.moves
+    given_stays = all_stay old.memory new.memory moves
 
     -- and the same copies are out
     pub given_copies : LeavesCopies old.memory new.memory
-    given_copies = all_copies old.memory new.memory gives.moves
+    given_copies = all_copies old.memory new.memory moves
 
   -- ---- the whole call
 
   -- a process that may give back has ended, none of its pages is being saved, and it has not given back before
-  pub unbarred : (process : ProcessSideValue S) → purge_bars process ≡ None → (is_some process.space.running.ending ≡ true) × ((is_saving_any process.space.memory ≡ false) × (process.purged ≡ false))
+  pub unbarred : (process : SpaceValue S) → purge_bars process ≡ None → (is_some process.running.ending ≡ true) × ((is_saving_any process.memory ≡ false) × (process.purged ≡ false))
   unfolding purge_bars
-  unbarred process h = not_barred (is_some process.space.running.ending) (is_saving_any process.space.memory) process.purged h
+  unbarred process h = not_barred (is_some process.running.ending) (is_saving_any process.memory) process.purged h
 
   -- no page holds a slot
-  pub purged_slots : (pager pager' : PagerSideValue) (process process' : ProcessSideValue S) (pool pool' : PoolValue S) → PurgesAll pager pager' process process' pool pool' → slots_within process'.space.memory ≡ 0
-  purged_slots pager pager' process process' pool pool' all = given_slots process.space process'.space all.space (unbarred process all.allowed).1.0
+  pub purged_slots : (pager pager' : PagerSideValue) (process process' : SpaceValue S) (pool pool' : PoolValue S) → PurgesAll pager pager' process process' pool pool' → slots_within process'.memory ≡ 0
+  purged_slots pager pager' process process' pool pool' all = given_slots process process' all.moves (unbarred process all.allowed).1.0
 
   -- where list and pages agreed on the process's pages, nothing is counted on one side alone
-  pub purged_together : (pager pager' : PagerSideValue) (process process' : ProcessSideValue S) (pool pool' : PoolValue S) → PurgesAll pager pager' process process' pool pool'
-      → ((test : Key → Bool) → residents pager.pager.list (λ q. (q.process == process.space.memory.process) && test q) ≡ residents_in process.space test)
-      → Together pager.pager pager'.pager process.space process'.space
+  pub purged_together : (pager pager' : PagerSideValue) (process process' : SpaceValue S) (pool pool' : PoolValue S) → PurgesAll pager pager' process process' pool pool'
+      → ((test : Key → Bool) → residents pager.pager.list (λ q. (q.process == process.memory.process) && test q) ≡ residents_in process test)
+      → Together pager.pager pager'.pager process process'
   purged_together pager pager' process process' pool pool' all agree =
       let quiet = (unbarred process all.allowed).1.0 in
-      let now : pager'.pager ≡ record pager.pager { free = pager.pager.free ++ all.frames; list = purged process.space.memory.process pager.pager.list } = ap (λ (p : PagerSideValue). p.pager) all.pager_is in
+      let now : pager'.pager ≡ record pager.pager { free = pager.pager.free ++ all.frames; list = purged process.memory.process pager.pager.list } = ap (λ (p : PagerSideValue). p.pager) all.pager_is in
       record {
         listed = λ test.
-            let list : residents pager'.pager.list test ≡ residents pager.pager.list (λ q. not (q.process == process.space.memory.process) && test q) =
-            ap (λ (p : PagerState). residents p.list test) now ∙ purged_residents test process.space.memory.process pager.pager.list in
-            let parts = parted (λ q. q.process == process.space.memory.process) test pager.pager.list in
+            let list : residents pager'.pager.list test ≡ residents pager.pager.list (λ q. not (q.process == process.memory.process) && test q) =
+            ap (λ (p : PagerState). residents p.list test) now ∙ purged_residents test process.memory.process pager.pager.list in
+            let parts = parted (λ q. q.process == process.memory.process) test pager.pager.list in
             let own = agree test in
-            let none = given_residents process.space process'.space all.space quiet test in
+            let none = given_residents process process' all.moves quiet test in
             omega (arith, list, parts, own, none);
         framed = λ test.
             let free : frames_where test pager'.pager.free ≡ frames_where test (pager.pager.free ++ all.frames) = ap (λ (p : PagerState). frames_where test p.free) now in
             let both = frames_where-append test pager.pager.free all.frames in
             let gave = all.framed test in
-            let none = given_frames process.space process'.space all.space quiet test in
+            let none = given_frames process process' all.moves quiet test in
             omega (arith, free, both, gave, none);
         size = ap (λ (p : PagerState). p.size) now;
-        process = all.space.moves.process;
+        process = all.moves.process;
       }
 
   -- slots move from the pages to their pool
-  pub purged_pool : (pager pager' : PagerSideValue) (process process' : ProcessSideValue S) (pool pool' : PoolValue S) → PurgesAll pager pager' process process' pool pool'
-      → length pool'.free + slots_within process'.space.memory ≡ length pool.free + slots_within process.space.memory
+  pub purged_pool : (pager pager' : PagerSideValue) (process process' : SpaceValue S) (pool pool' : PoolValue S) → PurgesAll pager pager' process process' pool pool'
+      → length pool'.free + slots_within process'.memory ≡ length pool.free + slots_within process.memory
   purged_pool pager pager' process process' pool pool' all =
       let now : length pool'.free ≡ length (pool.free ++ all.slots) = ap (λ (p : PoolValue S). length p.free) all.pool_is in
       let none = purged_slots pager pager' process process' pool pool' all in
@@ -169,9 +170,9 @@ module _ {S : Type 0} where
 
   -- ---- how the parts of the call are the call
 
-  pub gave_all : (pager : PagerSideValue) (process : ProcessSideValue S) (pool pool' : PoolValue S) (between after : PagerState) (space : SpaceValue S) (number : ℕ)
-      → purge_bars process ≡ None → GivesToPools pager.pager between pool pool' process.space space → number ≡ space.memory.process → after ≡ with_list (purged number between.list) between
-      → PurgesAll pager (record pager { pager = after }) process (record { space = space; purged = true }) pool pool'
+  pub gave_all : (pager : PagerSideValue) (process : SpaceValue S) (pool pool' : PoolValue S) (between after : PagerState) (space : SpaceValue S) (number : ℕ)
+      → purge_bars process ≡ None → GivesToPools pager.pager between pool pool' process space → number ≡ space.memory.process → after ≡ with_list (purged number between.list) between
+      → PurgesAll pager (record pager { pager = after }) process (record space { purged = true }) pool pool'
   gave_all pager process pool pool' between after space number allowed gives is moved =
       let quiet = (unbarred process allowed).1.0 in
       record {
@@ -179,22 +180,22 @@ module _ {S : Type 0} where
         frames = gives.frames;
         slots = gives.slots;
         pager_is =
-            let of_process : number ≡ process.space.memory.process = is ∙ gives.space.moves.process in
+            let of_process : number ≡ process.memory.process = is ∙ gives.gives.moves.process in
             ap (λ (p : PagerState). record pager { pager = p }) (moved ∙ ap (λ (p : PagerState). with_list (purged number p.list) p) gives.pager_is)
             ∙ ap (λ n. record pager { pager = record pager.pager { free = pager.pager.free ++ gives.frames; list = purged n pager.pager.list } }) of_process;
         pool_is = gives.pool_is;
-        framed = λ test. let a = gives.framed test in let none = given_frames process.space space gives.space quiet test in omega (arith, a, none);
-        slotted = let a = gives.slotted in let none = given_slots process.space space gives.space quiet in omega (arith, a, none);
+        framed = λ test. let a = gives.framed test in let none = given_frames process space gives.gives.moves quiet test in omega (arith, a, none);
+        slotted = let a = gives.slotted in let none = given_slots process space gives.gives.moves quiet in omega (arith, a, none);
         named = gives.named;
-        space = gives.space;
-        purged = refl;
+        moves = gives.gives.moves;
+        is = ap (λ (s : SpaceValue S). record s { purged = true }) gives.gives.stays;
       }
 
-  -- the same where pager and process are known by these names
-  pub gave_told : (pager pager0 : PagerSideValue) (process process0 : ProcessSideValue S) (pool pool' : PoolValue S) (between after : PagerState) (space : SpaceValue S) (number : ℕ)
-      → pager ≡ pager0 → process ≡ process0 → purge_bars process0 ≡ None → GivesToPools pager.pager between pool pool' process.space space → number ≡ space.memory.process → after ≡ with_list (purged number between.list) between
-      → PurgesAll pager0 (record pager { pager = after }) process0 (record { space = space; purged = true }) pool pool'
-  gave_told pager pager0 process process0 pool pool' between after space number same_pager same_process allowed gives is moved =
-      subst (λ (q : PagerSideValue). PurgesAll q (record pager { pager = after }) process0 (record { space = space; purged = true }) pool pool') same_pager
-      (subst (λ (q : ProcessSideValue S). PurgesAll pager (record pager { pager = after }) q (record { space = space; purged = true }) pool pool') same_process
-      (gave_all pager process pool pool' between after space number (ap purge_bars same_process ∙ allowed) gives is moved))
+  -- the same where the pager is known by this name, and the process is marked
+  pub gave_told : (pager pager0 : PagerSideValue) (process process' : SpaceValue S) (pool pool' : PoolValue S) (between after : PagerState) (space : SpaceValue S) (number : ℕ)
+      → pager ≡ pager0 → purge_bars process ≡ None → GivesToPools pager.pager between pool pool' process space → number ≡ space.memory.process → after ≡ with_list (purged number between.list) between → process' ≡ record space { purged = true }
+      → PurgesAll pager0 (record pager { pager = after }) process process' pool pool'
+  gave_told pager pager0 process process' pool pool' between after space number same_pager allowed gives is moved marked =
+      subst (λ (q : PagerSideValue). PurgesAll q (record pager { pager = after }) process process' pool pool') same_pager
+      (subst (λ (q : SpaceValue S). PurgesAll pager (record pager { pager = after }) process q pool pool') (sym marked)
+      (gave_all pager process pool pool' between after space number allowed gives is moved))

@@ -10,7 +10,7 @@ use Rattle.paged_memory.specs.Paged.{PagedValue}
 use Rattle.paged_memory.specs.Whole.{outs_within, slots_within}
 use Rattle.pager_core.specs.Pager.{PagerState}
 use Rattle.space_core.specs.StandsFor.{SpaceValue}
-use Rattle.machine_sides.specs.Sides.{PagerSideValue, ProcessSideValue, MovesMemory}
+use Rattle.machine_sides.specs.Sides.{PagerSideValue, MovesMemory}
 use Rattle.machine_sides.specs.Together.{frames_where, frames_in}
 use Rattle.machine_sides.specs.declared.purging.PurgeRefusal.{PurgeRefusal}
 use Rattle.machine_sides.specs.declared.purging.PurgeRefusal.TheVariants.{NotEnded, SavingStill, AlreadyPurged}
@@ -38,10 +38,10 @@ module _ {S : Type 0} where
   is_saving_any memory = not (outs_within memory == 0)
 
   -- why a process gives nothing back: the first reason that holds
-  unfoldable pub purge_bars : ProcessSideValue S → Option PurgeRefusal
+  unfoldable pub purge_bars : SpaceValue S → Option PurgeRefusal
   purge_bars process =
-      if is_some process.space.running.ending
-      then (if is_saving_any process.space.memory then Some SavingStill else (if process.purged then Some AlreadyPurged else None))
+      if is_some process.running.ending
+      then (if is_saving_any process.memory then Some SavingStill else (if process.purged then Some AlreadyPurged else None))
       else Some NotEnded
 
   -- Some pages gave back what they had: the frames are free, behind those that were, and the slots are in the pool behind those that were: they are all that
@@ -82,7 +82,7 @@ module _ {S : Type 0} where
     pub framed : (test : ℕ → Bool) → frames_where test frames + frames_in new test ≡ frames_in old test
     pub slotted : length slots + slots_within new.memory ≡ slots_within old.memory
     pub named : slots ≡ slots_below old.memory (2 ^ 20)
-    pub space : GivesAll old new
+    pub gives : GivesAll old new
 
   -- all pages are asked for what they have
   abbrev pub GivesAllBack : Option (Option FrameValue × Option S) → PagerState → PagerState → PoolValue S → PoolValue S → SpaceValue S → SpaceValue S → Type 0
@@ -90,33 +90,32 @@ module _ {S : Type 0} where
   GivesAllBack (Some left) pager pager' pool pool' old new = StopsGiving left.0 left.1 pager pager' pool pool' old new
 
   -- the process has given everything back, its slots by rising number of their pages, and the list has none of its pages
-  pub record PurgesAll (pager pager' : PagerSideValue) (process process' : ProcessSideValue S) (pool pool' : PoolValue S) : Type 0 where
+  pub record PurgesAll (pager pager' : PagerSideValue) (process process' : SpaceValue S) (pool pool' : PoolValue S) : Type 0 where
     pub allowed : purge_bars process ≡ None
     pub frames : List FrameValue
     pub slots : List S
-    pub pager_is : pager' ≡ record pager { pager = record pager.pager { free = pager.pager.free ++ frames; list = purged process.space.memory.process pager.pager.list } }
+    pub pager_is : pager' ≡ record pager { pager = record pager.pager { free = pager.pager.free ++ frames; list = purged process.memory.process pager.pager.list } }
     pub pool_is : pool' ≡ record pool { free = pool.free ++ slots }
-    pub framed : (test : ℕ → Bool) → frames_where test frames ≡ frames_in process.space test
-    pub slotted : length slots ≡ slots_within process.space.memory
-    pub named : slots ≡ slots_below process.space.memory (2 ^ 20)
-    pub space : GivesAll process.space process'.space
-    pub purged : process'.purged ≡ true
+    pub framed : (test : ℕ → Bool) → frames_where test frames ≡ frames_in process test
+    pub slotted : length slots ≡ slots_within process.memory
+    pub named : slots ≡ slots_below process.memory (2 ^ 20)
+    pub moves : moving.GivesAll process.memory process'.memory
+    pub is : process' ≡ record process { memory = process'.memory; purged = true }
 
   -- nothing has changed
-  pub record DoesNotPurge (reason : PurgeRefusal) (pager pager' : PagerSideValue) (process process' : ProcessSideValue S) (pool pool' : PoolValue S) : Type 0 where
+  pub record DoesNotPurge (reason : PurgeRefusal) (pager pager' : PagerSideValue) (process process' : SpaceValue S) (pool pool' : PoolValue S) : Type 0 where
     pub why : purge_bars process ≡ Some reason
     pub pager_stays : pager' ≡ pager
     pub process_stays : process' ≡ process
     pub pool_stays : pool' ≡ pool
 
   -- it stops at a page whose frame or slot is handed back; the list is as it was
-  pub record StopsPurging (frame : Option FrameValue) (slot : Option S) (pager pager' : PagerSideValue) (process process' : ProcessSideValue S) (pool pool' : PoolValue S) : Type 0 where
+  pub record StopsPurging (frame : Option FrameValue) (slot : Option S) (pager pager' : PagerSideValue) (process process' : SpaceValue S) (pool pool' : PoolValue S) : Type 0 where
     pub allowed : purge_bars process ≡ None
     pub pager_is : pager' ≡ record pager { pager = pager'.pager }
-    pub stops : StopsGiving frame slot pager.pager pager'.pager pool pool' process.space process'.space
-    pub purged : process'.purged ≡ process.purged
+    pub stops : StopsGiving frame slot pager.pager pager'.pager pool pool' process process'
 
-  abbrev pub Purges : {L : Type 0} → PagerSideValue → PagerSideValue → ProcessSideValue S → ProcessSideValue S → PoolValue S → PoolValue S → Purging L S → Type 0
+  abbrev pub Purges : {L : Type 0} → PagerSideValue → PagerSideValue → SpaceValue S → SpaceValue S → PoolValue S → PoolValue S → Purging L S → Type 0
   Purges pager pager' process process' pool pool' Done = PurgesAll pager pager' process process' pool pool'
   Purges pager pager' process process' pool pool' (Refused reason) = DoesNotPurge reason pager pager' process process' pool pool'
   Purges pager pager' process process' pool pool' (HandedBack frame slot) = StopsPurging frame slot pager pager' process process' pool pool'

@@ -7,8 +7,9 @@ use Rattle.clock_policy.specs.ClockPro.{kind_of, restored}
 use Rattle.clock_policy.specs.Lawful.{Lawful}
 use Rattle.pager_core.specs.Pager.{with_list}
 use Rattle.paged_memory.specs.Moving as moving
-use Rattle.machine_sides.specs.Sides.{PagerSideValue, ProcessSideValue, MovesSide}
+use Rattle.machine_sides.specs.Sides.{PagerSideValue, MovesMemory}
 use Rattle.machine_sides.specs.Together.{key_of}
+use Rattle.space_core.specs.StandsFor.{SpaceValue}
 
 -- the list takes the page back, as one in its test
 pub record ListsAgain (key : Key) (old new : PagerSideValue) : Type 0 where
@@ -25,15 +26,15 @@ pub record DoesNotList (key : Key) (old new : PagerSideValue) (refusal : Refusal
 
 module _ {S : Type 0} where
   -- a page that is leaving is mapped again, in its frame
-  abbrev pub MapsAgain : ℕ → ProcessSideValue S → ProcessSideValue S → Type 0
-  MapsAgain vpn old new = MovesSide (moving.MapsAgain vpn) old new
+  abbrev pub MapsAgain : ℕ → SpaceValue S → SpaceValue S → Type 0
+  MapsAgain vpn old new = MovesMemory (moving.MapsAgain vpn) old new
 
   -- the page is resident again
-  pub record ComesBack (vpn : ℕ) (pager pager' : PagerSideValue) (old new : ProcessSideValue S) : Type 0 where
-    pub listed : ListsAgain (key_of old.space.memory.process vpn) pager pager'
+  pub record ComesBack (vpn : ℕ) (pager pager' : PagerSideValue) (old new : SpaceValue S) : Type 0 where
+    pub listed : ListsAgain (key_of old.memory.process vpn) pager pager'
     pub mapped : MapsAgain vpn old new
 
   -- the page is leaving still
-  pub record StaysLeaving (vpn : ℕ) (pager pager' : PagerSideValue) (old new : ProcessSideValue S) (refusal : Refusal) : Type 0 where
-    pub unlisted : DoesNotList (key_of old.space.memory.process vpn) pager pager' refusal
+  pub record StaysLeaving (vpn : ℕ) (pager pager' : PagerSideValue) (old new : SpaceValue S) (refusal : Refusal) : Type 0 where
+    pub unlisted : DoesNotList (key_of old.memory.process vpn) pager pager' refusal
     pub stays : new ≡ old

@@ -17,7 +17,7 @@ use Rattle.machine_sides.specs.declared.saving_back.SaveEnd.TheVariants as end
 use Rattle.machine_sides.specs.declared.saving_back.SaveOutcome.{SaveOutcome}
 use Rattle.machine_sides.specs.declared.saving_back.SaveOutcome.TheVariants.{Freed, HandedBack, WrongPage, ResidentAgain, NotRestored}
 use Rattle.machine_sides.specs.Returning.{ComesBack, DoesNotList}
-use Rattle.machine_sides.specs.Sides.{PagerSideValue, ProcessSideValue, MovesSide}
+use Rattle.machine_sides.specs.Sides.{PagerSideValue, MovesMemory}
 use Rattle.machine_sides.specs.Together.{key_of}
 
 -- the frame of a page that was saved is free, and counted
@@ -40,17 +40,17 @@ module _ {S : Type 0} where
   LeavesAgain failure job old new = moving.LeavesAgain (ShowsFailure failure job) job old new
 
   -- what a save that comes back does to its process: its memory moves so, and nothing else
-  abbrev pub Settles : (PagedValue S → PagedValue S → Type 0) → ProcessSideValue S → ProcessSideValue S → Type 0
-  Settles by old new = MovesSide by old new
+  abbrev pub Settles : (PagedValue S → PagedValue S → Type 0) → SpaceValue S → SpaceValue S → Type 0
+  Settles by old new = MovesMemory by old new
 
   module _ (job : SavedValue S) where
     -- what a save that comes back is to its process: it passed, or it is of no page that is being saved, or it failed
-    abbrev pub Ends : {L : Type 0} → ProcessSideValue S → ProcessSideValue S → SaveEnd L S → Type 0
+    abbrev pub Ends : {L : Type 0} → SpaceValue S → SpaceValue S → SaveEnd L S → Type 0
     Ends old new (end.Passed frame) = Settles (SavedAway job frame) old new
-    Ends old new (end.WrongPage back) = (back ≡ job) × ((new ≡ old) × (¬ IsOutOf job old.space.memory))
+    Ends old new (end.WrongPage back) = (back ≡ job) × ((new ≡ old) × (¬ IsOutOf job old.memory))
     Ends old new (end.Failed failure) = Settles (LeavesAgain failure job) old new
 
-    module _ (pager pager' : PagerSideValue) (process process' : ProcessSideValue S) where
+    module _ (pager pager' : PagerSideValue) (process process' : SpaceValue S) where
       -- the page is in its slot, and its frame, which holds what was saved, is free
       pub record IsFreed : Type 0 where
         pub frame : FrameValue
@@ -66,23 +66,23 @@ module _ {S : Type 0} where
       -- no save of this page is out in the process
       pub record IsOfNoPage (back : SavedValue S) : Type 0 where
         pub back_is : back ≡ job
-        pub why : ¬ IsOutOf job process.space.memory
+        pub why : ¬ IsOutOf job process.memory
         pub pager_stays : pager' ≡ pager
         pub process_stays : process' ≡ process
 
       -- the save failed, and the page is taken back by the list and resident again
       pub record FailsAndReturns (failure : SaveFailure) : Type 0 where
-        pub between : ProcessSideValue S
+        pub between : SpaceValue S
         pub settles : Settles (LeavesAgain failure job) process between
         pub returns : ComesBack job.vpn pager pager' between process'
 
       -- the save failed, and the page is leaving, since the list does not take it back
       pub record FailsAndLeaves (failure : SaveFailure) (refusal : Refusal) : Type 0 where
         pub settles : Settles (LeavesAgain failure job) process process'
-        pub unlisted : DoesNotList (key_of process.space.memory.process job.vpn) pager pager' refusal
+        pub unlisted : DoesNotList (key_of process.memory.process job.vpn) pager pager' refusal
 
     -- a save comes back to the pager and its process
-    abbrev pub EndsSave : {L : Type 0} → PagerSideValue → PagerSideValue → ProcessSideValue S → ProcessSideValue S → SaveOutcome L S → Type 0
+    abbrev pub EndsSave : {L : Type 0} → PagerSideValue → PagerSideValue → SpaceValue S → SpaceValue S → SaveOutcome L S → Type 0
     EndsSave pager pager' process process' Freed = IsFreed pager pager' process process'
     EndsSave pager pager' process process' (HandedBack frame) = IsHandedBack pager pager' process process' frame
     EndsSave pager pager' process process' (WrongPage back) = IsOfNoPage pager pager' process process' back

@@ -18,7 +18,7 @@ use Rattle.space_core.specs.StandsFor.{SpaceValue}
 use Rattle.machine_sides.specs.declared.saving_back.SaveFailure.{SaveFailure}
 use Rattle.machine_sides.specs.ReturnLaws.{returned_rest, listed_frames, back_together}
 use Rattle.machine_sides.specs.SavingBack.{Settles, LeavesAgain, ShowsFailure, IsFreed, FailsAndReturns, FailsAndLeaves}
-use Rattle.machine_sides.specs.Sides.{PagerSideValue, ProcessSideValue}
+use Rattle.machine_sides.specs.Sides.{PagerSideValue}
 use Rattle.machine_sides.specs.Together.{Together, savings_in, frames_where, key_of}
 use Rattle.machine_sides.specs.TogetherLaws.{residents_same, savings_fewer, frames_same, frames_fewer}
 
@@ -40,26 +40,26 @@ module _ {S : Type 0} where
     pub frames : pager'.list.frames ≡ pager.list.frames
     pub lawful : Lawful pager.list → Lawful pager'.list
 
-  module _ (job : SavedValue S) (pager pager' : PagerSideValue) (process process' : ProcessSideValue S) where
+  module _ (job : SavedValue S) (pager pager' : PagerSideValue) (process process' : SpaceValue S) where
     -- the page is in its slot, and its frame is free
-    pub freed_ends : IsFreed job pager pager' process process' → SaveEnds job.vpn pager.pager pager'.pager process.space process'.space
+    pub freed_ends : IsFreed job pager pager' process process' → SaveEnds job.vpn pager.pager pager'.pager process process'
     freed_ends freed =
-        let told = gone_away job freed.frame process.space.memory process'.space.memory freed.settles.moves in
+        let told = gone_away job freed.frame process.memory process'.memory freed.settles.moves in
         let list : pager'.pager.list ≡ pager.pager.list = ap (λ (p : PagerSideValue). p.pager.list) freed.frees.freed in
         record {
           together = record {
             listed = λ test.
-                let pages = residents_same process.space process'.space told.keeps.process test told.residents in
+                let pages = residents_same process process' told.keeps.process test told.residents in
                 let listed : residents pager'.pager.list test ≡ residents pager.pager.list test = ap (λ l. residents l test) list in
                 omega (arith, pages, listed);
             framed = λ test.
-                let pages = frames_fewer process.space process'.space freed.frame.number told.frames test in
+                let pages = frames_fewer process process' freed.frame.number told.frames test in
                 let free : frames_where test pager'.pager.free ≡ frames_where test pager.pager.free + cond (test freed.frame.number) 1 0 = ap (λ (p : PagerSideValue). frames_where test p.pager.free) freed.frees.freed ∙ one_more_free test pager.pager.free freed.frame in
                 omega (arith, pages, free);
             size = ap (λ (p : PagerSideValue). p.pager.size) freed.frees.freed;
             process = told.keeps.process;
           };
-          savings = λ test. savings_fewer process.space process'.space told.keeps.process test job.vpn told.savings;
+          savings = λ test. savings_fewer process process' told.keeps.process test job.vpn told.savings;
           slots = told.slots;
           stay = told.keeps.others;
           copies = told.copies;
@@ -69,23 +69,23 @@ module _ {S : Type 0} where
         }
 
     -- the page is leaving again, and the pager is as it was
-    failed_ends : (failure : SaveFailure) → Settles (LeavesAgain failure job) process process' → pager' ≡ pager → SaveEnds job.vpn pager.pager pager'.pager process.space process'.space
+    failed_ends : (failure : SaveFailure) → Settles (LeavesAgain failure job) process process' → pager' ≡ pager → SaveEnds job.vpn pager.pager pager'.pager process process'
     failed_ends failure settles stays =
-        let told = leaving_again (ShowsFailure failure job) job process.space.memory process'.space.memory settles.moves in
+        let told = leaving_again (ShowsFailure failure job) job process.memory process'.memory settles.moves in
         record {
           together = record {
             listed = λ test.
-                let pages = residents_same process.space process'.space told.keeps.process test told.residents in
+                let pages = residents_same process process' told.keeps.process test told.residents in
                 let listed : residents pager'.pager.list test ≡ residents pager.pager.list test = ap (λ (p : PagerSideValue). residents p.pager.list test) stays in
                 omega (arith, pages, listed);
             framed = λ test.
-                let pages = frames_same process.space process'.space told.frames test in
+                let pages = frames_same process process' told.frames test in
                 let free : frames_where test pager'.pager.free ≡ frames_where test pager.pager.free = ap (λ (p : PagerSideValue). frames_where test p.pager.free) stays in
                 omega (arith, pages, free);
             size = ap (λ (p : PagerSideValue). p.pager.size) stays;
             process = told.keeps.process;
           };
-          savings = λ test. savings_fewer process.space process'.space told.keeps.process test job.vpn told.savings;
+          savings = λ test. savings_fewer process process' told.keeps.process test job.vpn told.savings;
           slots = told.slots;
           stay = told.keeps.others;
           copies = told.copies;
@@ -95,15 +95,15 @@ module _ {S : Type 0} where
         }
 
     -- the save failed, and the list does not take the page back
-    pub left_ends : (failure : SaveFailure) (refusal : Refusal) → FailsAndLeaves job pager pager' process process' failure refusal → SaveEnds job.vpn pager.pager pager'.pager process.space process'.space
+    pub left_ends : (failure : SaveFailure) (refusal : Refusal) → FailsAndLeaves job pager pager' process process' failure refusal → SaveEnds job.vpn pager.pager pager'.pager process process'
     left_ends failure refusal fails = failed_ends failure fails.settles fails.unlisted.stays
 
   -- the save failed, and the page is resident again
-  module _ (job : SavedValue S) (pager pager' : PagerSideValue) (process process' : ProcessSideValue S) where
-    pub returned_ends : (failure : SaveFailure) → FailsAndReturns job pager pager' process process' failure → SaveEnds job.vpn pager.pager pager'.pager process.space process'.space
+  module _ (job : SavedValue S) (pager pager' : PagerSideValue) (process process' : SpaceValue S) where
+    pub returned_ends : (failure : SaveFailure) → FailsAndReturns job pager pager' process process' failure → SaveEnds job.vpn pager.pager pager'.pager process process'
     returned_ends failure fails =
         let first = failed_ends job pager pager process fails.between failure fails.settles refl in
-        let told = returned job.vpn fails.between.space.memory process'.space.memory fails.returns.mapped.moves in
+        let told = returned job.vpn fails.between.memory process'.memory fails.returns.mapped.moves in
         let second = back_together job.vpn pager pager' fails.between process' fails.returns in
         let rest = returned_rest job.vpn fails.between process' fails.returns.mapped in
         record {
@@ -116,8 +116,8 @@ module _ {S : Type 0} where
           savings = λ test. let a = first.savings test in let b = rest.savings test in omega (arith, a, b);
           slots = let a = first.slots in let b = rest.slots in omega (arith, a, b);
           stay = λ v apart. told.keeps.others v apart ∙ first.stay v apart;
-          copies = leaves_on process.space.memory fails.between.space.memory process'.space.memory first.copies told.copies;
+          copies = leaves_on process.memory fails.between.memory process'.memory first.copies told.copies;
           ended = ap is_saving_stage told.is;
-          frames = listed_frames (key_of fails.between.space.memory.process job.vpn) pager pager' fails.returns.listed;
+          frames = listed_frames (key_of fails.between.memory.process job.vpn) pager pager' fails.returns.listed;
           lawful = λ lawful. fails.returns.listed.lawful;
         }

@@ -1,5 +1,5 @@
--- What stands under one lock each: the pager with its counts, and a process.
-use Rattle.std.specs.Prelude.{◌≡◌, ℕ, Bool}
+-- The pager with its counts, and how a process's memory moves alone.
+use Rattle.std.specs.Prelude.{◌≡◌, ℕ}
 use Rattle.paged_memory.specs.Paged.{PagedValue}
 use Rattle.pager_core.specs.Pager.{PagerState}
 use Rattle.space_core.specs.StandsFor.{SpaceValue}
@@ -10,18 +10,8 @@ pub record PagerSideValue : Type 0 where
   pub saves : ℕ
   pub drops : ℕ
 
--- a process, and whether it has given its pages back
-pub record ProcessSideValue (S : Type 0) : Type 0 where
-  pub space : SpaceValue S
-  pub purged : Bool
-
 module _ {S : Type 0} where
   -- a process's memory moves so, and nothing else of the process
   pub record MovesMemory (by : PagedValue S → PagedValue S → Type 0) (old new : SpaceValue S) : Type 0 where
     pub moves : by old.memory new.memory
     pub stays : new ≡ record old { memory = new.memory }
-
-  -- the same beside whether it has given its pages back
-  pub record MovesSide (by : PagedValue S → PagedValue S → Type 0) (old new : ProcessSideValue S) : Type 0 where
-    pub moves : by old.space.memory new.space.memory
-    pub stays : new ≡ record old { space = record old.space { memory = new.space.memory } }

@@ -15,7 +15,7 @@ use Rattle.paged_memory.specs.AlikeLaws.{CountsAlike, same_memory, stay_on}
 use Rattle.paged_memory.specs.LeaveLaws.{forgets_alike, HasBegun, begun}
 use Rattle.pager_core.specs.Pager.{PagerState, pager_answered}
 use Rattle.space_core.specs.StandsFor.{SpaceValue}
-use Rattle.machine_sides.specs.Sides.{PagerSideValue, ProcessSideValue}
+use Rattle.machine_sides.specs.Sides.{PagerSideValue}
 use Rattle.machine_sides.specs.Sweeping.{ReadsBit, HeedsVerdict, Evicts, AnswersQuestion}
 use Rattle.machine_sides.specs.Together.{Together, residents_in, frames_in, frames_where, key_of}
 use Rattle.machine_sides.specs.TogetherLaws.{LeavesRest, residents_fewer, savings_same, frames_same, alike_rest, alike_residents, alike_frames}
@@ -58,12 +58,12 @@ module _ {S : Type 0} where
   heeded_process (Victim k) vpn old new h = h.moves.process
 
   -- an answer for a page that is resident keeps list and pages together
-  pub answers_together : (pager pager' : PagerSideValue) (process process' : ProcessSideValue S) (key : Key) (bit : Bit) (verdict : Verdict) → Lawful pager.pager.list
-      → key.vpn < 2 ^ 20 → key.process ≡ process.space.memory.process → is_gone bit ≡ false → AnswersQuestion pager pager' process process' key bit verdict
-      → Together pager.pager pager'.pager process.space process'.space
+  pub answers_together : (pager pager' : PagerSideValue) (process process' : SpaceValue S) (key : Key) (bit : Bit) (verdict : Verdict) → Lawful pager.pager.list
+      → key.vpn < 2 ^ 20 → key.process ≡ process.memory.process → is_gone bit ≡ false → AnswersQuestion pager pager' process process' key bit verdict
+      → Together pager.pager pager'.pager process process'
   unfolding pager_answered
   answers_together pager pager' process process' key bit verdict lawful small of_process there answers =
-      let same = read_alike bit key.vpn process.space answers.between answers.read in
+      let same = read_alike bit key.vpn process answers.between answers.read in
       let between_is : key.process ≡ answers.between.memory.process = of_process ∙ sym same.process in
       let now : pager'.pager ≡ pager_answered bit pager.pager = ap (λ (p : PagerSideValue). p.pager) answers.pager_is in
       record {
@@ -71,16 +71,16 @@ module _ {S : Type 0} where
             let list : residents pager'.pager.list test ≡ residents (answered bit pager.pager.list).0 test = ap (λ (p : PagerState). residents p.list test) now in
             let taken : cond {A = ℕ} (takes bit (answered bit pager.pager.list).1 && test key) 1 0 ≡ cond (takes bit (Ok verdict) && test key) 1 0 = ap (λ v. cond (takes bit v && test key) 1 0) answers.told in
             let a = answered_residents test bit pager.pager.list key lawful answers.question in
-            let b = heeded_residents verdict bit key answers.between process'.space test small between_is there answers.heeded in
-            let c = alike_residents process.space answers.between same test in
+            let b = heeded_residents verdict bit key answers.between process' test small between_is there answers.heeded in
+            let c = alike_residents process answers.between same test in
             omega (arith, list, taken, a, b, c);
         framed = λ test.
             let free : frames_where test pager'.pager.free ≡ frames_where test pager.pager.free = ap (λ (p : PagerState). frames_where test p.free) now in
-            let b = heeded_frames verdict key.vpn answers.between process'.space test small answers.heeded in
-            let c = alike_frames process.space answers.between same test in
+            let b = heeded_frames verdict key.vpn answers.between process' test small answers.heeded in
+            let c = alike_frames process answers.between same test in
             omega (arith, free, b, c);
         size = ap (λ (p : PagerState). p.size) now;
-        process = heeded_process verdict key.vpn answers.between process'.space answers.heeded ∙ same.process;
+        process = heeded_process verdict key.vpn answers.between process' answers.heeded ∙ same.process;
       }
 
   -- ---- what a sweep leaves of a process, beside which pages are resident
@@ -94,14 +94,14 @@ module _ {S : Type 0} where
   heeded_rest GoOn vpn old new small h = alike_rest old new (same_memory old.memory new.memory (ap (λ (s : SpaceValue S). s.memory) h))
   heeded_rest (Victim k) vpn old new small h = evicted_rest vpn old new small h
 
-  pub answers_rest : (pager pager' : PagerSideValue) (process process' : ProcessSideValue S) (key : Key) (bit : Bit) (verdict : Verdict) → key.vpn < 2 ^ 20
-      → AnswersQuestion pager pager' process process' key bit verdict → LeavesRest process.space process'.space
+  pub answers_rest : (pager pager' : PagerSideValue) (process process' : SpaceValue S) (key : Key) (bit : Bit) (verdict : Verdict) → key.vpn < 2 ^ 20
+      → AnswersQuestion pager pager' process process' key bit verdict → LeavesRest process process'
   answers_rest pager pager' process process' key bit verdict small answers =
-      let first = alike_rest process.space answers.between (read_alike bit key.vpn process.space answers.between answers.read) in
-      let second = heeded_rest verdict key.vpn answers.between process'.space small answers.heeded in
+      let first = alike_rest process answers.between (read_alike bit key.vpn process answers.between answers.read) in
+      let second = heeded_rest verdict key.vpn answers.between process' small answers.heeded in
       record {
         savings = λ test. second.savings test ∙ first.savings test;
         slots = second.slots ∙ first.slots;
-        stay = stay_on process.space.memory answers.between.memory process'.space.memory first.stay second.stay;
-        copies = leaves_on process.space.memory answers.between.memory process'.space.memory first.copies second.copies;
+        stay = stay_on process.memory answers.between.memory process'.memory first.stay second.stay;
+        copies = leaves_on process.memory answers.between.memory process'.memory first.copies second.copies;
       }

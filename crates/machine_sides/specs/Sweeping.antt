@@ -10,7 +10,7 @@ use Rattle.paged_memory.specs.Moving.{ForgetsUse, BeginsToLeave}
 use Rattle.paged_memory.specs.Whole.{accessed_in}
 use Rattle.pager_core.specs.Pager.{pager_answered}
 use Rattle.space_core.specs.StandsFor.{SpaceValue}
-use Rattle.machine_sides.specs.Sides.{PagerSideValue, ProcessSideValue, MovesMemory}
+use Rattle.machine_sides.specs.Sides.{PagerSideValue, MovesMemory}
 use Rattle.machine_sides.specs.declared.sweeping.Swept.{Swept}
 use Rattle.machine_sides.specs.declared.sweeping.Swept.TheVariants.{NothingResident, Asked, Victim}
 
@@ -45,17 +45,16 @@ module _ {S : Type 0} where
   HeedsVerdict (verdict.Victim key) vpn old new = Evicts vpn old new
 
   -- the question names a page, whose accessed bit is read and cleared and is the answer; at a victim the page leaves
-  pub record AnswersQuestion (pager pager' : PagerSideValue) (process process' : ProcessSideValue S) (key : Key) (bit : Bit) (verdict : Verdict) : Type 0 where
+  pub record AnswersQuestion (pager pager' : PagerSideValue) (process process' : SpaceValue S) (key : Key) (bit : Bit) (verdict : Verdict) : Type 0 where
     pub question : question_of pager.pager.list ≡ Some key
     pub told : (answered bit pager.pager.list).1 ≡ Ok verdict
     pub pager_is : pager' ≡ record pager { pager = pager_answered bit pager.pager }
-    pub bit_is : bit_at process.space key.vpn ≡ bit
+    pub bit_is : bit_at process key.vpn ≡ bit
     pub between : SpaceValue S
-    pub read : ReadsBit bit key.vpn process.space between
-    pub heeded : HeedsVerdict verdict key.vpn between process'.space
-    pub purged : process'.purged ≡ process.purged
+    pub read : ReadsBit bit key.vpn process between
+    pub heeded : HeedsVerdict verdict key.vpn between process'
 
-  abbrev pub Sweeps : PagerSideValue → PagerSideValue → ProcessSideValue S → ProcessSideValue S → Swept → Type 0
+  abbrev pub Sweeps : PagerSideValue → PagerSideValue → SpaceValue S → SpaceValue S → Swept → Type 0
   Sweeps pager pager' process process' NothingResident = (question_of pager.pager.list ≡ None) × ((pager' ≡ pager) × (process' ≡ process))
   Sweeps pager pager' process process' (Asked key bit) = AnswersQuestion pager pager' process process' key bit verdict.GoOn
   Sweeps pager pager' process process' (Victim key) = (bit : Bit) × AnswersQuestion pager pager' process process' key bit (verdict.Victim key)

@@ -4,10 +4,11 @@ ghost use Rattle.machine_sides.specs.Admitting.{Admits, DoesNotAdmit, page_bars,
 ghost use Rattle.machine_sides.specs.Agreeing.{Agree, AgreeStill};
 
 use crate::pager_side::PagerSide;
-use crate::process_side::ProcessSide;
+use crate::places::{is_absent, is_resident};
 use clock_policy::{Clock, Key};
 use frame_pool::Frame;
 use pager_core::AdmitRefusal;
+use space_core::Space;
 use std::marker::Model;
 use std::sync::ledger::Ledger;
 use swap_slots::SwapSlot;
@@ -56,15 +57,15 @@ pub enum NotAdmitted {
 #[tactic(auto, using(crate::proofs::Agreements::admitted_agree))]
 pub fn admit<L: Ledger, S: SwapSlot, C: Clock>(
     pager: &mut PagerSide<L, C>,
-    process: &ProcessSide<L, S>,
+    process: &Space<L, S>,
     key: Key,
 ) -> Result<Admission<L>, NotAdmitted>
     ensures admitted { IfOk result (λ admission.
-        Admits key pager.old pager.new process.now.space admission) }
+        Admits key pager.old pager.new process.now admission) }
     ensures refused { IfErr result (λ refusal.
-        DoesNotAdmit key pager.old pager.new process.now.space refusal) }
+        DoesNotAdmit key pager.old pager.new process.now refusal) }
     ensures agree { OnOk result (AgreeStill (Some key) pager.old.pager pager.new.pager
-        process.now.space process.now.space) }
+        process.now process.now) }
 {
     list_and_take(pager, process, key)
 }
@@ -72,13 +73,13 @@ pub fn admit<L: Ledger, S: SwapSlot, C: Clock>(
 /// The page is listed, and its frame taken.
 fn list_and_take<L: Ledger, S: SwapSlot, C: Clock>(
     pager: &mut PagerSide<L, C>,
-    process: &ProcessSide<L, S>,
+    process: &Space<L, S>,
     key: Key,
 ) -> Result<Admission<L>, NotAdmitted>
     ensures admitted { IfOk result (λ admission.
-        Admits key pager.old pager.new process.now.space admission) }
+        Admits key pager.old pager.new process.now admission) }
     ensures refused { IfErr result (λ refusal.
-        DoesNotAdmit key pager.old pager.new process.now.space refusal) }
+        DoesNotAdmit key pager.old pager.new process.now refusal) }
 {
     if let Some(reason) = page_bars(process, key.vpn) {
         return Err(reason);
@@ -92,13 +93,13 @@ fn list_and_take<L: Ledger, S: SwapSlot, C: Clock>(
 
 /// Why a page of a process is not admitted, as the process tells.
 #[tactic(auto, unfolding(crate::specs::Admitting::page_bars))]
-fn page_bars<L: Ledger, S: SwapSlot>(process: &ProcessSide<L, S>, vpn: u32) -> Option<NotAdmitted>
-    ensures { result ≡ page_bars process.now.space vpn }
+fn page_bars<L: Ledger, S: SwapSlot>(process: &Space<L, S>, vpn: u32) -> Option<NotAdmitted>
+    ensures { result ≡ page_bars process.now vpn }
 {
-    if process.space.end().is_some() {
+    if process.end().is_some() {
         return Some(NotAdmitted::Ended);
     }
-    if process.is_absent(vpn) {
+    if is_absent(process, vpn) {
         return None;
     }
     Some(NotAdmitted::NotAbsent)
@@ -121,11 +122,11 @@ fn pager_refusal(refusal: AdmitRefusal) -> NotAdmitted
 #[tactic(auto, using(crate::proofs::Agreements::undone_settles))]
 pub fn undo<L: Ledger, S: SwapSlot, C: Clock>(
     pager: &mut PagerSide<L, C>,
-    process: &ProcessSide<L, S>,
+    process: &Space<L, S>,
     admission: Admission<L>,
 ) -> Result<(), Frame<L>>
     ensures list { pager.new.pager.list ≡ taken_back
-        (is_resident_at process.now.space admission.key.vpn) admission.key pager.old.pager.list }
+        (is_resident_at process.now admission.key.vpn) admission.key pager.old.pager.list }
     ensures freed { OnOk result (pager.new ≡ record pager.old {
       pager = record pager.old.pager
           { list = pager.new.pager.list; free = pager.old.pager.free ++ admission.frame ∷ [] };
@@ -136,10 +137,10 @@ pub fn undo<L: Ledger, S: SwapSlot, C: Clock>(
       pager = record pager.old.pager
           { list = pager.new.pager.list };
     }) }
-    ensures agree { AgreeStill None pager.old.pager pager.new.pager process.now.space
-        process.now.space }
-    ensures settled { is_resident_at process.now.space admission.key.vpn ≡ false →
-        Agree pager.new.pager process.now.space admission.key }
+    ensures agree { AgreeStill None pager.old.pager pager.new.pager process.now
+        process.now }
+    ensures settled { is_resident_at process.now admission.key.vpn ≡ false →
+        Agree pager.new.pager process.now admission.key }
 {
     withdraw_and_free(pager, process, admission)
 }
@@ -147,11 +148,11 @@ pub fn undo<L: Ledger, S: SwapSlot, C: Clock>(
 /// The page is withdrawn, and its frame given back.
 fn withdraw_and_free<L: Ledger, S: SwapSlot, C: Clock>(
     pager: &mut PagerSide<L, C>,
-    process: &ProcessSide<L, S>,
+    process: &Space<L, S>,
     admission: Admission<L>,
 ) -> Result<(), Frame<L>>
     ensures list { pager.new.pager.list ≡ taken_back
-        (is_resident_at process.now.space admission.key.vpn) admission.key pager.old.pager.list }
+        (is_resident_at process.now admission.key.vpn) admission.key pager.old.pager.list }
     ensures freed { OnOk result (pager.new ≡ record pager.old {
       pager = record pager.old.pager
           { list = pager.new.pager.list; free = pager.old.pager.free ++ admission.frame ∷ [] };
@@ -167,7 +168,7 @@ fn withdraw_and_free<L: Ledger, S: SwapSlot, C: Clock>(
     // A question tells that the list is lawful, so that its entry of the page is the only one.
     let _ = pager.question();
     let Admission { key, frame } = admission;
-    if !process.is_resident(key.vpn) {
+    if !is_resident(process, key.vpn) {
         let _ = pager.pager.withdraw(key);
     }
     pager.pager.free(frame)

@@ -5,13 +5,14 @@ ghost use Rattle.machine_sides.specs.Agreeing.{AgreeStill};
 ghost use Rattle.machine_sides.specs.Collecting.{is_leaving_at, Finds, Looks};
 
 use crate::pager_side::PagerSide;
-use crate::process_side::ProcessSide;
+use crate::places::state;
 use crate::returning::bring_back;
 use clock_policy::{Clock, Refusal};
 use frame_pool::Frame;
 use page_memory::PAGE_COUNT;
 use page_store::{Collected, PageState, SaveJob};
 use pager_core::tally;
+use space_core::Space;
 use std::sync::ledger::Ledger;
 use swap_slots::{SlotPool, SwapSlot};
 
@@ -41,16 +42,16 @@ pub enum Looked<L: Ledger, S: SwapSlot> {
 #[tactic(auto, using(crate::proofs::Agreements::looks_agree))]
 pub fn collect<L: Ledger, S: SwapSlot, C: Clock>(
     pager: &mut PagerSide<L, C>,
-    process: &mut ProcessSide<L, S>,
+    process: &mut Space<L, S>,
     vpn: u32,
     slots: &mut SlotPool<S>,
 ) -> Looked<L, S>
     ensures looked { Looks vpn pager.old pager.new process.old process.new slots.old slots.new
         result }
-    ensures agree { AgreeStill None pager.old.pager pager.new.pager process.old.space
-        process.new.space }
-    ensures memory { S.honest → memory_of S.content process.new.space.memory ≡
-        memory_of S.content process.old.space.memory }
+    ensures agree { AgreeStill None pager.old.pager pager.new.pager process.old
+        process.new }
+    ensures memory { S.honest → memory_of S.content process.new.memory ≡
+        memory_of S.content process.old.memory }
 {
     look_at_page(pager, process, vpn, slots)
 }
@@ -58,16 +59,16 @@ pub fn collect<L: Ledger, S: SwapSlot, C: Clock>(
 /// The look itself, page by page.
 fn look_at_page<L: Ledger, S: SwapSlot, C: Clock>(
     pager: &mut PagerSide<L, C>,
-    process: &mut ProcessSide<L, S>,
+    process: &mut Space<L, S>,
     vpn: u32,
     slots: &mut SlotPool<S>,
 ) -> Looked<L, S>
     ensures looked { Looks vpn pager.old pager.new process.old process.new slots.old slots.new
         result }
-    ensures memory { S.honest → memory_of S.content process.new.space.memory ≡
-        memory_of S.content process.old.space.memory }
+    ensures memory { S.honest → memory_of S.content process.new.memory ≡
+        memory_of S.content process.old.memory }
 {
-    match process.look(vpn, slots, &mut pager.room) {
+    match look(process, vpn, slots, &mut pager.room) {
         Collected::NotLeaving => Looked::NotLeaving,
         Collected::NotYet => Looked::NotYet,
         Collected::Clean(frame) => match pager.free_dropped(frame) {
@@ -100,43 +101,41 @@ impl<L: Ledger, C: Clock> PagerSide<L, C> {
     }
 }
 
-impl<L: Ledger, S: SwapSlot> ProcessSide<L, S> {
-    /// Whether a page is on its way out of its frame.
-    pub fn is_leaving(&self, vpn: u32) -> bool
-        ensures { result ≡ is_leaving_at self.now.space vpn }
-    {
-        match self.state(vpn) {
-            Some(PageState::Leaving) => true,
-            Some(
-                PageState::Fresh
-                | PageState::Resident
-                | PageState::Saving
-                | PageState::Away
-                | PageState::Purged,
-            ) => false,
-            None => false,
-        }
+/// Whether a page is on its way out of its frame.
+pub fn is_leaving<L: Ledger, S: SwapSlot>(space: &Space<L, S>, vpn: u32) -> bool
+    ensures { result ≡ is_leaving_at space.now vpn }
+{
+    match state(space, vpn) {
+        Some(PageState::Leaving) => true,
+        Some(
+            PageState::Fresh
+            | PageState::Resident
+            | PageState::Saving
+            | PageState::Away
+            | PageState::Purged,
+        ) => false,
+        None => false,
     }
+}
 
-    /// Looks whether a page can leave its frame. A slot is taken from the free ones only for a changed page that has none.
-    pub(crate) fn look(
-        &mut self,
-        vpn: u32,
-        slots: &mut SlotPool<S>,
-        room: &mut Box<[u8; 4096]>,
-    ) -> Collected<L, S>
-        ensures found { Finds vpn self.old self.new slots.old slots.new result }
-        ensures memory { S.honest → memory_of S.content self.new.space.memory ≡
-            memory_of S.content self.old.space.memory }
-    {
-        if vpn >= PAGE_COUNT {
-            return Collected::NotLeaving;
-        }
-        let found = self.space.collect(vpn, &mut None, room);
-        if !matches!(found, Collected::NoSlot) {
-            return found;
-        }
-        let mut spare = slots.take();
-        self.space.collect(vpn, &mut spare, room)
+/// Looks whether a page can leave its frame. A slot is taken from the free ones only for a changed page that has none.
+pub(crate) fn look<L: Ledger, S: SwapSlot>(
+    space: &mut Space<L, S>,
+    vpn: u32,
+    slots: &mut SlotPool<S>,
+    room: &mut Box<[u8; 4096]>,
+) -> Collected<L, S>
+    ensures found { Finds vpn space.old space.new slots.old slots.new result }
+    ensures memory { S.honest → memory_of S.content space.new.memory ≡
+        memory_of S.content space.old.memory }
+{
+    if vpn >= PAGE_COUNT {
+        return Collected::NotLeaving;
     }
+    let found = space.collect(vpn, &mut None, room);
+    if !matches!(found, Collected::NoSlot) {
+        return found;
+    }
+    let mut spare = slots.take();
+    space.collect(vpn, &mut spare, room)
 }

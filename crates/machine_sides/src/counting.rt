@@ -5,13 +5,14 @@ ghost use Rattle.clock_policy.specs.Residents.{residents, in_frame};
 ghost use Rattle.machine_sides.specs.Held.{is_resident_of};
 
 use crate::pager_side::PagerSide;
-use crate::process_side::ProcessSide;
+use crate::places::is_resident;
 use clock_policy::{Clock, EntryKind, Key};
+use space_core::Space;
 use std::sync::ledger::Ledger;
 use swap_slots::SwapSlot;
 
 /// How many entries of the list are resident.
-pub fn resident_entries<L: Ledger, C: Clock>(pager: &PagerSide<L, C>) -> usize
+pub(crate) fn resident_entries<L: Ledger, C: Clock>(pager: &PagerSide<L, C>) -> usize
     ensures { result ≡ residents pager.now.pager.list (λ _. true) }
 {
     // For the proof alone: a read tells that what is read is lawful.
@@ -27,11 +28,11 @@ pub fn resident_entries<L: Ledger, C: Clock>(pager: &PagerSide<L, C>) -> usize
 }
 
 /// How many of them are of resident pages of a process.
-pub fn entries_of_resident_pages<L: Ledger, S: SwapSlot, C: Clock>(
+pub(crate) fn entries_of_resident_pages<L: Ledger, S: SwapSlot, C: Clock>(
     pager: &PagerSide<L, C>,
-    side: &ProcessSide<L, S>,
+    side: &Space<L, S>,
 ) -> usize
-    ensures { result ≡ residents pager.now.pager.list (is_resident_of side.now.space) }
+    ensures { result ≡ residents pager.now.pager.list (is_resident_of side.now) }
 {
     // For the proof alone: a read tells that what is read is lawful.
     let _ = pager.question();
@@ -47,11 +48,11 @@ pub fn entries_of_resident_pages<L: Ledger, S: SwapSlot, C: Clock>(
 
 /// Whether an entry is resident, and its page is one of the process that is too.
 fn is_of_resident_page<L: Ledger, S: SwapSlot>(
-    side: &ProcessSide<L, S>,
+    side: &Space<L, S>,
     key: Key,
     kind: EntryKind,
 ) -> bool
-    ensures { result ≡ in_frame kind && is_resident_of side.now.space key }
+    ensures { result ≡ in_frame kind && is_resident_of side.now key }
 {
     if !is_in_frame(kind) {
         return false;
@@ -59,7 +60,7 @@ fn is_of_resident_page<L: Ledger, S: SwapSlot>(
     if key.process != side.process() {
         return false;
     }
-    side.is_resident(key.vpn)
+    is_resident(side, key.vpn)
 }
 
 fn one_if(flag: bool) -> usize
@@ -70,7 +71,7 @@ fn one_if(flag: bool) -> usize
 }
 
 /// Whether an entry of this kind has its page in a frame.
-pub fn is_in_frame(kind: EntryKind) -> bool
+fn is_in_frame(kind: EntryKind) -> bool
     ensures { result ≡ in_frame kind }
 {
     match kind {

@@ -5,27 +5,37 @@
 #![tactic(auto)]
 
 mod admission;
+mod auditing;
 mod cleaning;
 mod collecting;
 mod counting;
 mod loading;
-mod memory_showing;
 mod pager_side;
+mod places;
 mod process_reading;
-mod process_side;
 mod purging;
+mod report;
+mod reporting;
 mod returning;
 mod saving_back;
 mod showing;
+mod slicing;
 mod starting;
 mod sweeping;
 
 pub use admission::{Admission, NotAdmitted, admit, undo};
-pub use cleaning::{CleanBar, CopyBar, Copying};
-pub use collecting::{Looked, collect};
-pub use counting::{entries_of_resident_pages, is_in_frame, resident_entries};
+pub use auditing::{audit, count_more, is_all};
+pub use cleaning::{CleanBar, CopyBar, Copying, begin_clean, cleaned, copy_clean};
+pub use collecting::{Looked, collect, is_leaving};
+pub use loading::load;
 pub use pager_side::{PagerSide, SideCounts};
-pub use process_side::ProcessSide;
+pub use places::{is_resident, state};
+pub use process_reading::{held_pages, peek};
 pub use purging::{PurgeRefusal, Purging, purge, purge_bars};
-pub use saving_back::{SaveFailure, SaveOutcome, saved};
+pub use report::{ProcessReport, Report};
+pub use reporting::{into_process_report, into_report, report_on};
+pub use saving_back::{SaveFailure, SaveOutcome, is_saving, saved};
+pub use showing::status;
+pub use slicing::{run_slice, run_step, run_steps};
+pub use starting::start;
 pub use sweeping::{Swept, sweep};

@@ -3,7 +3,6 @@ ghost use Rattle.machine_sides.specs.Agreeing.{AgreesPurged};
 ghost use Rattle.machine_sides.specs.Purging.{Purges, GivesAllBack, FreesAnyFrame, Pools, is_saving_any, purge_bars};
 
 use crate::pager_side::PagerSide;
-use crate::process_side::ProcessSide;
 use clock_policy::Clock;
 use frame_pool::Frame;
 use pager_core::Pager;
@@ -42,12 +41,12 @@ pub enum Purging<L: Ledger, S: SwapSlot> {
 #[tactic(auto, using(crate::proofs::Agreements::purge_agrees))]
 pub fn purge<L: Ledger, S: SwapSlot, C: Clock>(
     pager: &mut PagerSide<L, C>,
-    process: &mut ProcessSide<L, S>,
+    process: &mut Space<L, S>,
     slots: &mut SlotPool<S>,
 ) -> Purging<L, S>
     ensures purges { Purges pager.old pager.new process.old process.new slots.old slots.new result }
-    ensures agree { AgreesPurged pager.old.pager pager.new.pager process.old.space
-        process.new.space result }
+    ensures agree { AgreesPurged pager.old.pager pager.new.pager process.old
+        process.new result }
 {
     give_back_and_forget(pager, process, slots)
 }
@@ -55,7 +54,7 @@ pub fn purge<L: Ledger, S: SwapSlot, C: Clock>(
 /// The pages give back what they have, and then the list forgets them.
 fn give_back_and_forget<L: Ledger, S: SwapSlot, C: Clock>(
     pager: &mut PagerSide<L, C>,
-    process: &mut ProcessSide<L, S>,
+    process: &mut Space<L, S>,
     slots: &mut SlotPool<S>,
 ) -> Purging<L, S>
     ensures { Purges pager.old pager.new process.old process.new slots.old slots.new result }
@@ -63,27 +62,27 @@ fn give_back_and_forget<L: Ledger, S: SwapSlot, C: Clock>(
     if let Some(refusal) = purge_bars(process) {
         return Purging::Refused(refusal);
     }
-    let left = give_all_back(&mut pager.pager, &mut process.space, slots);
+    let left = give_all_back(&mut pager.pager, process, slots);
     if let Some((frame, slot)) = left {
         return Purging::HandedBack { frame, slot };
     }
-    pager.pager.purge(process.space.process());
-    process.purged = true;
+    pager.pager.purge(process.process());
+    process.mark_purged();
     Purging::Done
 }
 
 /// Why a process gives nothing back.
 #[tactic(auto, unfolding(crate::specs::Purging::purge_bars))]
-pub fn purge_bars<L: Ledger, S: SwapSlot>(process: &ProcessSide<L, S>) -> Option<PurgeRefusal>
+pub fn purge_bars<L: Ledger, S: SwapSlot>(process: &Space<L, S>) -> Option<PurgeRefusal>
     ensures { result ≡ purge_bars process.now }
 {
-    if process.space.end().is_none() {
+    if process.end().is_none() {
         return Some(PurgeRefusal::NotEnded);
     }
-    if is_saving(&process.space) {
+    if is_saving(process) {
         return Some(PurgeRefusal::SavingStill);
     }
-    if process.purged {
+    if process.is_purged() {
         return Some(PurgeRefusal::AlreadyPurged);
     }
     None

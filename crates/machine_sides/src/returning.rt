@@ -7,8 +7,8 @@ ghost use Rattle.paged_memory.specs.Whole.{stage_in};
 ghost use Rattle.machine_sides.specs.Returning.{ComesBack, StaysLeaving};
 
 use crate::pager_side::PagerSide;
-use crate::process_side::ProcessSide;
 use clock_policy::{Clock, Key, Refusal};
+use space_core::Space;
 use std::sync::ledger::Ledger;
 use swap_slots::SwapSlot;
 
@@ -16,22 +16,22 @@ use swap_slots::SwapSlot;
 #[tactic(auto, using(paged_memory::specs::MovingLaws::same_reserved))]
 pub(crate) fn bring_back<L: Ledger, S: SwapSlot, C: Clock>(
     pager: &mut PagerSide<L, C>,
-    process: &mut ProcessSide<L, S>,
+    process: &mut Space<L, S>,
     vpn: u32,
 ) -> Result<(), Refusal>
     requires small { vpn < 2 ^ 20 }
-    requires leaving { is_leaving_stage (stage_in process.old.space.memory vpn) ≡ true }
+    requires leaving { is_leaving_stage (stage_in process.old.memory vpn) ≡ true }
     ensures back { OnOk result (ComesBack vpn pager.old pager.new process.old process.new) }
     ensures refused { IfErr result (StaysLeaving vpn pager.old pager.new process.old process.new) }
-    ensures memory { memory_of S.content process.new.space.memory ≡
-        memory_of S.content process.old.space.memory }
+    ensures memory { memory_of S.content process.new.memory ≡
+        memory_of S.content process.old.memory }
 {
-    let process_number = process.space.process();
+    let process_number = process.process();
     pager.pager.restore(Key {
         process: process_number,
         vpn,
     })?;
-    if process.space.bring_back(vpn).is_err() {
+    if process.bring_back(vpn).is_err() {
         unreachable!()
     }
     Ok(())

@@ -4,12 +4,13 @@ ghost use Rattle.machine_sides.specs.Agreeing.{AgreeStill};
 ghost use Rattle.machine_sides.specs.SavingBack.{is_saving_at, EndsSave, Ends, FreesFrame};
 
 use crate::pager_side::PagerSide;
-use crate::process_side::ProcessSide;
+use crate::places::state;
 use crate::returning::bring_back;
 use clock_policy::{Clock, Refusal};
 use frame_pool::Frame;
 use page_store::{PageState, SaveRefusal, SavedJob};
 use pager_core::tally;
+use space_core::Space;
 use std::sync::ledger::Ledger;
 use swap_slots::SwapSlot;
 
@@ -47,14 +48,14 @@ pub enum SaveOutcome<L: Ledger, S: SwapSlot> {
 #[tactic(auto, using(crate::proofs::Agreements::saved_agrees))]
 pub fn saved<L: Ledger, S: SwapSlot, C: Clock>(
     pager: &mut PagerSide<L, C>,
-    process: &mut ProcessSide<L, S>,
+    process: &mut Space<L, S>,
     job: SavedJob<S>,
 ) -> SaveOutcome<L, S>
     ensures ends { EndsSave job pager.old pager.new process.old process.new result }
-    ensures agree { AgreeStill None pager.old.pager pager.new.pager process.old.space
-        process.new.space }
-    ensures memory { S.honest → memory_of S.content process.new.space.memory ≡
-        memory_of S.content process.old.space.memory }
+    ensures agree { AgreeStill None pager.old.pager pager.new.pager process.old
+        process.new }
+    ensures memory { S.honest → memory_of S.content process.new.memory ≡
+        memory_of S.content process.old.memory }
 {
     settle_save(pager, process, job)
 }
@@ -62,15 +63,15 @@ pub fn saved<L: Ledger, S: SwapSlot, C: Clock>(
 /// The page goes to its slot or back to the list.
 fn settle_save<L: Ledger, S: SwapSlot, C: Clock>(
     pager: &mut PagerSide<L, C>,
-    process: &mut ProcessSide<L, S>,
+    process: &mut Space<L, S>,
     job: SavedJob<S>,
 ) -> SaveOutcome<L, S>
     ensures ends { EndsSave job pager.old pager.new process.old process.new result }
-    ensures memory { S.honest → memory_of S.content process.new.space.memory ≡
-        memory_of S.content process.old.space.memory }
+    ensures memory { S.honest → memory_of S.content process.new.memory ≡
+        memory_of S.content process.old.memory }
 {
     let vpn = job.vpn();
-    match process.end_save(job, &mut pager.room) {
+    match end_save(process, job, &mut pager.room) {
         SaveEnd::Passed(frame) => match pager.free_saved(frame) {
             Ok(()) => SaveOutcome::Freed,
             Err(frame) => SaveOutcome::HandedBack(frame),
@@ -91,38 +92,40 @@ enum SaveEnd<L: Ledger, S: SwapSlot> {
     Failed(SaveFailure),
 }
 
-impl<L: Ledger, S: SwapSlot> ProcessSide<L, S> {
-    /// Whether a page is being saved.
-    pub fn is_saving(&self, vpn: u32) -> bool
-        ensures { result ≡ is_saving_at self.now.space vpn }
-    {
-        match self.state(vpn) {
-            Some(PageState::Saving) => true,
-            Some(
-                PageState::Fresh
-                | PageState::Resident
-                | PageState::Leaving
-                | PageState::Away
-                | PageState::Purged,
-            ) => false,
-            None => false,
-        }
+/// Whether a page is being saved.
+pub fn is_saving<L: Ledger, S: SwapSlot>(space: &Space<L, S>, vpn: u32) -> bool
+    ensures { result ≡ is_saving_at space.now vpn }
+{
+    match state(space, vpn) {
+        Some(PageState::Saving) => true,
+        Some(
+            PageState::Fresh
+            | PageState::Resident
+            | PageState::Leaving
+            | PageState::Away
+            | PageState::Purged,
+        ) => false,
+        None => false,
     }
+}
 
-    /// Ends the save of a page of this process.
-    fn end_save(&mut self, job: SavedJob<S>, room: &mut Box<[u8; 4096]>) -> SaveEnd<L, S>
-        ensures ends { Ends job self.old self.new result }
-        ensures memory { S.honest → memory_of S.content self.new.space.memory ≡
-            memory_of S.content self.old.space.memory }
-    {
-        match self.space.saved(job, room) {
-            Ok(frame) => SaveEnd::Passed(frame),
-            Err(refusal) => match refusal {
-                SaveRefusal::WrongPage(job) => SaveEnd::WrongPage(job),
-                SaveRefusal::Mismatch => SaveEnd::Failed(SaveFailure::Mismatch),
-                SaveRefusal::Device => SaveEnd::Failed(SaveFailure::Device),
-            },
-        }
+/// Ends the save of a page of this process.
+fn end_save<L: Ledger, S: SwapSlot>(
+    space: &mut Space<L, S>,
+    job: SavedJob<S>,
+    room: &mut Box<[u8; 4096]>,
+) -> SaveEnd<L, S>
+    ensures ends { Ends job space.old space.new result }
+    ensures memory { S.honest → memory_of S.content space.new.memory ≡
+        memory_of S.content space.old.memory }
+{
+    match space.saved(job, room) {
+        Ok(frame) => SaveEnd::Passed(frame),
+        Err(refusal) => match refusal {
+            SaveRefusal::WrongPage(job) => SaveEnd::WrongPage(job),
+            SaveRefusal::Mismatch => SaveEnd::Failed(SaveFailure::Mismatch),
+            SaveRefusal::Device => SaveEnd::Failed(SaveFailure::Device),
+        },
     }
 }
 

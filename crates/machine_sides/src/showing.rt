@@ -4,25 +4,23 @@ ghost use Rattle.std.specs.Prelude.{◌≡◌, ◌++◌, ◌+◌, ◌≤◌, len
 ghost use Rattle.machine_sides.specs.PageStatusAt.{status_at};
 
 use crate::pager_side::PagerSide;
-use crate::process_side::ProcessSide;
 use clock_policy::{Clock, Entry};
 use page_memory::PAGE_COUNT;
 use paged_memory::PageStatus;
 use pager_core::Hands;
+use space_core::Space;
 use std::alloc::AllocError;
 use std::sync::ledger::Ledger;
 use swap_slots::SwapSlot;
 
-impl<L: Ledger, S: SwapSlot> ProcessSide<L, S> {
-    /// What is shown of a page, or `None` where none is mapped.
-    pub fn status(&self, vpn: u32) -> Option<PageStatus>
-        ensures { result ≡ status_at self.now.space vpn }
-    {
-        if vpn >= PAGE_COUNT {
-            return None;
-        }
-        self.space.status(vpn)
+/// What is shown of a page, or `None` where none is mapped.
+pub fn status<L: Ledger, S: SwapSlot>(space: &Space<L, S>, vpn: u32) -> Option<PageStatus>
+    ensures { result ≡ status_at space.now vpn }
+{
+    if vpn >= PAGE_COUNT {
+        return None;
     }
+    space.status(vpn)
 }
 
 impl<L: Ledger, C: Clock> PagerSide<L, C> {

@@ -14,6 +14,7 @@ use Rattle.younger_policies.specs.Lirs.{lirs_misses}
 use Rattle.younger_policies.specs.Arc.{arc_misses}
 use Rattle.younger_policies.specs.Sieve.{sieve_misses}
 use Rattle.younger_policies.specs.S3Fifo.{s3_fifo_misses}
+use Rattle.tiny_lfu.specs.WTinyLfu.{w_tiny_lfu_misses}
 use Rattle.page_policies.specs.Random.{random_misses}
 use Rattle.page_policies.specs.Optimal.{optimal_misses}
 use Rattle.miss_counts.specs.FrameNumbers.{usual_numbers, page_count}
@@ -64,6 +65,7 @@ counted wanted string frames = record {
   arc = asked wanted.arc (arc_misses frames.number string);
   sieve = asked wanted.sieve (sieve_misses frames.number string);
   s3_fifo = asked wanted.s3_fifo (s3_fifo_misses frames.number string);
+  w_tiny_lfu = asked wanted.w_tiny_lfu (w_tiny_lfu_misses frames.number string);
   random = asked wanted.random (random_misses frames.number string);
   optimum = asked wanted.optimum (optimal_misses frames.number string);
 }
@@ -100,6 +102,7 @@ since all before = record {
   arc = left all.arc before.arc;
   sieve = left all.sieve before.sieve;
   s3_fifo = left all.s3_fifo before.s3_fifo;
+  w_tiny_lfu = left all.w_tiny_lfu before.w_tiny_lfu;
   random = left all.random before.random;
   optimum = left all.optimum before.optimum;
 }

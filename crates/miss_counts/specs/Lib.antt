@@ -1,3 +1,4 @@
 pub mod Counted
 pub mod FrameNumbers
 pub mod Playing
+pub mod ServingLaws

@@ -1,7 +1,8 @@
 //! CLOCK-Pro, as this machine plays it and as published, which count as references come.
 
-ghost use Rattle.std.specs.Prelude.{◌≡◌, ◌+◌, IfOk, OnOk};
+ghost use Rattle.std.specs.Prelude.{◌≡◌, ◌+◌, true, IfOk, OnOk};
 ghost use Rattle.younger_policies.specs.ClockProPlay.{clock_pro_used_misses, clock_pro_misses};
+ghost use Rattle.miss_counts.specs.Counted.{serves};
 ghost use Rattle.miss_counts.specs.Playing.{Opens, GoesOn};
 
 use crate::player::{Player, play_if, player_if};
@@ -20,7 +21,9 @@ pub(crate) struct ClockProPlayers {
 }
 
 impl ClockProPlayers {
+    #[tactic(auto, using(crate::specs::ServingLaws::used_is_served, crate::specs::ServingLaws::published_is_served))]
     pub(crate) fn new(alloc: Global, frames: Frames, wanted: PolicySet) -> Result<Self, AllocError>
+        requires { serves wanted frames.number ≡ true }
         ensures clock_pro_used { IfOk result (λ row. Opens wanted.clock_pro_used
             (λ p string. p.misses + ⟦<ClockProUsed<ClockRing> as Policy>⟧.to_miss p.policy string)
             (clock_pro_used_misses frames.number) row.clock_pro_used) }

@@ -1,18 +1,18 @@
 //! What each policy misses.
 
-ghost use Rattle.std.specs.Prelude.{◌≡◌, ◌↔◌, IfOk, Err, false, map};
+ghost use Rattle.std.specs.Prelude.{◌≡◌, ◌↔◌, IfOk, Err, true, false, map};
 ghost use Rattle.page_policies.specs.NextUses.{next_uses};
 ghost use Rattle.page_policies.specs.Optimal.{optimal_misses};
-ghost use Rattle.miss_counts.specs.Counted.{counted, asked, all_serve, since, left};
+ghost use Rattle.miss_counts.specs.Counted.{counted, asked, serves, all_serve, since, left};
 
 use crate::policy_set::PolicySet;
 use crate::progress::{Progress, Stage};
 use clock_policy::Key;
 use clock_ring::ClockRing;
-use page_policies::{
-    Fifo, Frames, Lru, Optimum, Policy, PolicyRefusal, Random, SecondChance, misses,
-};
+use page_policies::{Fifo, Frames, Lru, Policy, PolicyRefusal, Random, SecondChance, misses};
 use std::alloc::{AllocError, Global};
+use tiny_lfu::WTinyLfu;
+use whole_strings::Optimum;
 use younger_policies::{Arc, ClockPro, ClockProUsed, Lirs, S3Fifo, Sieve, TwoQueues};
 
 /// Misses with so many frames, of the policies that were asked for.
@@ -31,6 +31,7 @@ pub struct Counts {
     pub arc: Option<u64>,
     pub sieve: Option<u64>,
     pub s3_fifo: Option<u64>,
+    pub w_tiny_lfu: Option<u64>,
     pub random: Option<u64>,
     /// None also where the string was not known as a whole.
     pub optimum: Option<u64>,
@@ -54,6 +55,7 @@ impl Counts {
             arc: left(self.arc, before.arc),
             sieve: left(self.sieve, before.sieve),
             s3_fifo: left(self.s3_fifo, before.s3_fifo),
+            w_tiny_lfu: left(self.w_tiny_lfu, before.w_tiny_lfu),
             random: left(self.random, before.random),
             optimum: left(self.optimum, before.optimum),
         }
@@ -71,13 +73,14 @@ fn left(after: Option<u64>, before: Option<u64>) -> Option<u64>
     }
 }
 
-/// What a string misses under a policy, where that is asked for. The caller has seen that it serves so many frames.
+/// What a string misses under a policy, where that is asked for. It serves so many frames.
 fn misses_if<P: Policy>(
     alloc: Global,
     frames: Frames,
     string: &[Key],
     is_wanted: bool,
 ) -> Result<Option<u64>, AllocError>
+    requires { is_wanted ≡ true → P.refuses frames.number → ⊥ }
     ensures { IfOk result (λ count. count ≡ asked is_wanted (P.misses frames.number string.now)) }
 {
     if !is_wanted {
@@ -85,7 +88,8 @@ fn misses_if<P: Policy>(
     }
     match misses::<P>(alloc, frames, string) {
         Ok(count) => Ok(Some(count as u64)),
-        Err(_) => Err(AllocError),
+        Err(PolicyRefusal::NoMemory) => Err(AllocError),
+        Err(PolicyRefusal::BadSize) => unreachable!(),
     }
 }
 
@@ -110,6 +114,7 @@ fn floor_if(
 }
 
 /// What a string, which is also given as the optimum needs it, misses with so many frames.
+#[tactic(auto, using(crate::specs::ServingLaws::used_is_served, crate::specs::ServingLaws::published_is_served))]
 fn counts_of(
     alloc: Global,
     frames: Frames,
@@ -117,7 +122,8 @@ fn counts_of(
     optimum: &Optimum,
     wanted: PolicySet,
 ) -> Result<Counts, AllocError>
-    requires { optimum.now ≡ next_uses string.now }
+    requires served { serves wanted frames.number ≡ true }
+    requires optimum { optimum.now ≡ next_uses string.now }
     ensures { IfOk result (λ counts. counts ≡ counted wanted string.now frames) }
 {
     let fifo = misses_if::<Fifo>(alloc, frames, string, wanted.fifo)?;
@@ -135,6 +141,7 @@ fn counts_of(
     let arc = misses_if::<Arc>(alloc, frames, string, wanted.arc)?;
     let sieve = misses_if::<Sieve>(alloc, frames, string, wanted.sieve)?;
     let s3_fifo = misses_if::<S3Fifo>(alloc, frames, string, wanted.s3_fifo)?;
+    let w_tiny_lfu = misses_if::<WTinyLfu>(alloc, frames, string, wanted.w_tiny_lfu)?;
     let random = misses_if::<Random>(alloc, frames, string, wanted.random)?;
     let optimum = floor_if(alloc, frames, string, optimum, wanted.optimum)?;
     Ok(Counts {
@@ -150,6 +157,7 @@ fn counts_of(
         arc,
         sieve,
         s3_fifo,
+        w_tiny_lfu,
         random,
         optimum,
     })
@@ -173,7 +181,7 @@ pub fn rows_of<P: Progress>(
     Ok(count_rows(alloc, frames, string, wanted, progress)?)
 }
 
-/// The same rows. The caller has seen that each policy serves each number of frames.
+/// The same rows. Each policy serves each number of frames.
 pub(crate) fn count_rows<P: Progress>(
     alloc: Global,
     frames: &[Frames],
@@ -181,6 +189,7 @@ pub(crate) fn count_rows<P: Progress>(
     wanted: PolicySet,
     progress: &mut P,
 ) -> Result<Vec<Counts>, AllocError>
+    requires { all_serve wanted frames.now ≡ true }
     ensures { IfOk result (λ rows. rows.items ≡ map (counted wanted string.now) frames.now) }
 {
     let optimum = Optimum::new(alloc, string)?;

@@ -69,7 +69,7 @@ fn serves_asked(wanted: PolicySet, frames: &Option<Vec<Frames>>) -> bool
     }
 }
 
-/// What the string of guests misses. The caller has seen that each policy serves each number of frames.
+/// What the string of guests misses. Each policy serves each number of frames.
 fn counted_rows<P: Progress>(
     alloc: Global,
     processes: Vec<FlatProcess>,
@@ -79,7 +79,8 @@ fn counted_rows<P: Progress>(
     wanted: PolicySet,
     progress: &mut P,
 ) -> Result<Vec<Counts>, AllocError>
-    requires { length processes.items ≤ MOST_PROCESSES }
+    requires few { length processes.items ≤ MOST_PROCESSES }
+    requires served { all_asked_serve wanted (option_map (λ f. f.items) frames) ≡ true }
     ensures { IfOk result (λ rows. IsTable wanted (guest_pages slice limit processes.items)
         (option_map (λ f. f.items) frames) rows.items) }
 {
@@ -96,7 +97,8 @@ fn counted_rows<P: Progress>(
     )
 }
 
-/// What a string misses with the usual numbers of frames.
+/// What a string misses with the usual numbers of frames, which each policy serves.
+#[tactic(auto, using(crate::proofs::Serving::usual_served))]
 fn usual_rows<P: Progress>(
     alloc: Global,
     string: &[Key],

@@ -1,6 +1,6 @@
 //! A policy that plays a string piece by piece.
 
-ghost use Rattle.std.specs.Prelude.{◌≡◌, ◌+◌, ◌<◌, ◌≤◌, ◌^◌, ◌++◌, ◌↔◌, List, Err, IfOk, OnOk, length, option_map};
+ghost use Rattle.std.specs.Prelude.{◌≡◌, ◌+◌, ◌<◌, ◌≤◌, ◌^◌, ◌++◌, ◌↔◌, List, Err, true, IfOk, OnOk, length, option_map};
 ghost use Rattle.clock_policy.specs.declared.key.Key.{Key};
 ghost use Rattle.miss_counts.specs.Playing.{Opens, GoesOn};
 
@@ -45,12 +45,13 @@ impl<P: Policy> Player<P> {
     }
 }
 
-/// A policy that begins to count, where it is asked for. The caller has seen that it serves so many frames.
+/// A policy that begins to count, where it is asked for. It serves so many frames.
 pub(crate) fn player_if<P: Policy>(
     alloc: Global,
     frames: Frames,
     is_wanted: bool,
 ) -> Result<Option<Player<P>>, AllocError>
+    requires { is_wanted ≡ true → P.refuses frames.number → ⊥ }
     ensures { IfOk result (λ player. Opens is_wanted
         (λ p string. p.misses + P.to_miss p.policy string) (P.misses frames.number) player) }
 {
@@ -59,7 +60,8 @@ pub(crate) fn player_if<P: Policy>(
     }
     match Player::new(alloc, frames) {
         Ok(player) => Ok(Some(player)),
-        Err(_) => Err(AllocError),
+        Err(PolicyRefusal::NoMemory) => Err(AllocError),
+        Err(PolicyRefusal::BadSize) => unreachable!(),
     }
 }
 

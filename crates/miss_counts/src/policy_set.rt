@@ -18,6 +18,7 @@ pub struct PolicySet {
     pub arc: bool,
     pub sieve: bool,
     pub s3_fifo: bool,
+    pub w_tiny_lfu: bool,
     pub random: bool,
     /// Where the string is known as a whole.
     pub optimum: bool,

@@ -9,6 +9,7 @@ ghost use Rattle.younger_policies.specs.Lirs.{lirs_misses};
 ghost use Rattle.younger_policies.specs.Arc.{arc_misses};
 ghost use Rattle.younger_policies.specs.Sieve.{sieve_misses};
 ghost use Rattle.younger_policies.specs.S3Fifo.{s3_fifo_misses};
+ghost use Rattle.tiny_lfu.specs.WTinyLfu.{w_tiny_lfu_misses};
 ghost use Rattle.page_policies.specs.Random.{random_misses};
 ghost use Rattle.miss_counts.specs.Counted.{serves};
 ghost use Rattle.miss_counts.specs.Playing.{Opens, GoesOn};
@@ -23,6 +24,7 @@ use clock_policy::Key;
 use clock_ring::ClockRing;
 use page_policies::{Fifo, Frames, Lru, Policy, PolicyRefusal, Random, SecondChance};
 use std::alloc::{AllocError, Global};
+use tiny_lfu::WTinyLfu;
 use younger_policies::{Arc, ClockPro, ClockProUsed, Lirs, S3Fifo, Sieve, TwoQueues};
 
 /// The policies that are asked for with one number of frames, which count as references come. After an error nothing is said of them.
@@ -73,6 +75,9 @@ impl Row {
         ensures s3_fifo { IfOk result (λ row. Opens wanted.s3_fifo
             (λ p string. p.misses + ⟦<S3Fifo as Policy>⟧.to_miss p.policy string)
             (s3_fifo_misses frames.number) row.younger.s3_fifo) }
+        ensures w_tiny_lfu { IfOk result (λ row. Opens wanted.w_tiny_lfu
+            (λ p string. p.misses + ⟦<WTinyLfu as Policy>⟧.to_miss p.policy string)
+            (w_tiny_lfu_misses frames.number) row.younger.w_tiny_lfu) }
         ensures random { IfOk result (λ row. Opens wanted.random
             (λ p string. p.misses + ⟦<Random as Policy>⟧.to_miss p.policy string)
             (random_misses frames.number) row.older.random) }
@@ -124,6 +129,9 @@ impl Row {
         ensures s3_fifo { OnOk result (GoesOn (λ p. p.misses)
             (λ p string. p.misses + ⟦<S3Fifo as Policy>⟧.to_miss p.policy string)
             pages.now self.old.younger.s3_fifo self.new.younger.s3_fifo) }
+        ensures w_tiny_lfu { OnOk result (GoesOn (λ p. p.misses)
+            (λ p string. p.misses + ⟦<WTinyLfu as Policy>⟧.to_miss p.policy string)
+            pages.now self.old.younger.w_tiny_lfu self.new.younger.w_tiny_lfu) }
         ensures random { OnOk result (GoesOn (λ p. p.misses)
             (λ p string. p.misses + ⟦<Random as Policy>⟧.to_miss p.policy string)
             pages.now self.old.older.random self.new.older.random) }
@@ -149,6 +157,7 @@ impl Row {
           arc = option_map (λ p. p.misses) self.now.younger.arc;
           sieve = option_map (λ p. p.misses) self.now.younger.sieve;
           s3_fifo = option_map (λ p. p.misses) self.now.younger.s3_fifo;
+          w_tiny_lfu = option_map (λ p. p.misses) self.now.younger.w_tiny_lfu;
           random = option_map (λ p. p.misses) self.now.older.random;
           optimum = None;
         } }
@@ -166,6 +175,7 @@ impl Row {
             arc: misses_so_far(&self.younger.arc),
             sieve: misses_so_far(&self.younger.sieve),
             s3_fifo: misses_so_far(&self.younger.s3_fifo),
+            w_tiny_lfu: misses_so_far(&self.younger.w_tiny_lfu),
             random: misses_so_far(&self.older.random),
             optimum: None,
         }

@@ -6,6 +6,7 @@ ghost use Rattle.younger_policies.specs.Lirs.{lirs_misses};
 ghost use Rattle.younger_policies.specs.Arc.{arc_misses};
 ghost use Rattle.younger_policies.specs.Sieve.{sieve_misses};
 ghost use Rattle.younger_policies.specs.S3Fifo.{s3_fifo_misses};
+ghost use Rattle.tiny_lfu.specs.WTinyLfu.{w_tiny_lfu_misses};
 ghost use Rattle.miss_counts.specs.Playing.{Opens, GoesOn};
 
 use crate::player::{Player, play_if, player_if};
@@ -13,6 +14,7 @@ use crate::policy_set::PolicySet;
 use clock_policy::Key;
 use page_policies::{Frames, Policy};
 use std::alloc::{AllocError, Global};
+use tiny_lfu::WTinyLfu;
 use younger_policies::{Arc, Lirs, S3Fifo, Sieve, TwoQueues};
 
 /// The policies since 1994 but CLOCK-Pro, where they are asked for. After an error nothing is said of them.
@@ -23,6 +25,7 @@ pub(crate) struct YoungerPlayers {
     pub(crate) arc: Option<Player<Arc>>,
     pub(crate) sieve: Option<Player<Sieve>>,
     pub(crate) s3_fifo: Option<Player<S3Fifo>>,
+    pub(crate) w_tiny_lfu: Option<Player<WTinyLfu>>,
 }
 
 impl YoungerPlayers {
@@ -42,6 +45,9 @@ impl YoungerPlayers {
         ensures s3_fifo { IfOk result (λ row. Opens wanted.s3_fifo
             (λ p string. p.misses + ⟦<S3Fifo as Policy>⟧.to_miss p.policy string)
             (s3_fifo_misses frames.number) row.s3_fifo) }
+        ensures w_tiny_lfu { IfOk result (λ row. Opens wanted.w_tiny_lfu
+            (λ p string. p.misses + ⟦<WTinyLfu as Policy>⟧.to_miss p.policy string)
+            (w_tiny_lfu_misses frames.number) row.w_tiny_lfu) }
     {
         Ok(YoungerPlayers {
             two_queues: player_if(alloc, frames, wanted.two_queues)?,
@@ -49,6 +55,7 @@ impl YoungerPlayers {
             arc: player_if(alloc, frames, wanted.arc)?,
             sieve: player_if(alloc, frames, wanted.sieve)?,
             s3_fifo: player_if(alloc, frames, wanted.s3_fifo)?,
+            w_tiny_lfu: player_if(alloc, frames, wanted.w_tiny_lfu)?,
         })
     }
 
@@ -69,11 +76,15 @@ impl YoungerPlayers {
         ensures s3_fifo { OnOk result (GoesOn (λ p. p.misses)
             (λ p string. p.misses + ⟦<S3Fifo as Policy>⟧.to_miss p.policy string)
             pages.now self.old.s3_fifo self.new.s3_fifo) }
+        ensures w_tiny_lfu { OnOk result (GoesOn (λ p. p.misses)
+            (λ p string. p.misses + ⟦<WTinyLfu as Policy>⟧.to_miss p.policy string)
+            pages.now self.old.w_tiny_lfu self.new.w_tiny_lfu) }
     {
         play_if(&mut self.two_queues, pages)?;
         play_if(&mut self.lirs, pages)?;
         play_if(&mut self.arc, pages)?;
         play_if(&mut self.sieve, pages)?;
-        play_if(&mut self.s3_fifo, pages)
+        play_if(&mut self.s3_fifo, pages)?;
+        play_if(&mut self.w_tiny_lfu, pages)
     }
 }

@@ -1,5 +1,5 @@
 -- What is remembered of a page that was found: its first address, and where its bytes begin, which tells its place.
-use Rattle.std.specs.Prelude.{◌≡◌, ℕ, ◌+◌, ◌*◌, ◌/◌, ◌%◌, ◌<◌, ◌≤◌, Bool, true, List, All, length, Option, Some, option_map}
+use Rattle.std.specs.Prelude.{◌≡◌, ℕ, ◌*◌, ◌/◌, ◌%◌, ◌<◌, ◌≤◌, Bool, true, List, All, length, Option, Some, option_map}
 use Rattle.page_memory.specs.declared.words.Access.{Access}
 use Rattle.page_memory.specs.declared.words.Access.TheVariants.{Fetch, Load, Store}
 use Rattle.page_memory.specs.declared.hint.Hint.{Hint}

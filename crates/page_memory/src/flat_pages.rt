@@ -13,7 +13,7 @@ use crate::page_bytes::{number, number_from};
 use crate::page_row::PageRow;
 use crate::reply::Reply;
 use crate::rights::Rights;
-use crate::words::{Access, Width, offset_in_page, page_of};
+use crate::words::{Access, Width, offset_in_page, offset_past, page_of};
 use crate::zeroing::add_all_zeroed;
 use std::alloc::{AllocError, Global};
 use std::marker::Model;
@@ -89,7 +89,7 @@ impl FlatPages {
         ensures memory { self.new ≡ self.old }
     {
         let hint = self.hints.fetched;
-        match hint.past(address, Width::Word) {
+        match offset_past(hint.start, address, Width::Word) {
             Some(past) => {
                 let page = self.pages.bytes(hint.first);
                 Ok(number_from(page, Width::Word, past))
@@ -127,7 +127,7 @@ impl FlatPages {
         ensures memory { self.new ≡ self.old }
     {
         let hint = hint_for(&self.hints.loaded, address);
-        match hint.past(address, width) {
+        match offset_past(hint.start, address, width) {
             Some(past) => {
                 let page = self.pages.bytes(hint.first);
                 Ok(number_from(page, width, past))
@@ -180,7 +180,7 @@ impl FlatPages {
         ensures err { OnErr result (self.new ≡ self.old) }
     {
         let hint = hint_for(&self.hints.stored, address);
-        match hint.past(address, width) {
+        match offset_past(hint.start, address, width) {
             Some(past) => {
                 self.pages.put_number(hint.first, width, past, word);
                 Ok(())

@@ -1,9 +1,7 @@
-ghost use Rattle.std.specs.Prelude.{◌≡◌, ℕ, ◌+◌, ◌*◌, ◌/◌, ◌%◌, ◌<◌, ◌≤◌, List, Contains, IfSome, slice_set, replicate};
-ghost use Rattle.page_memory.specs.Words.{page_number, page_offset, bytes_in};
+ghost use Rattle.std.specs.Prelude.{◌≡◌, ℕ, ◌*◌, ◌/◌, ◌%◌, List, Contains, slice_set, replicate};
+ghost use Rattle.page_memory.specs.Words.{page_number};
 ghost use Rattle.page_memory.specs.Pages.{Page};
 ghost use Rattle.page_memory.specs.Hints.{Remembers};
-
-use crate::words::Width;
 
 /// What is remembered of a page that was found: its first address, and where its bytes begin in the row.
 #[derive(Clone, Copy, Debug, PartialEq, Eq)]
@@ -75,26 +73,6 @@ impl Hint {
         Hint {
             start: u64::from(address / 4096 * 4096),
             first,
-        }
-    }
-
-    /// How far an address is past the page's first one, where the page serves an access of this width there. The compiler
-    /// makes one comparison of the two.
-    #[inline(always)]
-    pub(crate) fn past(self, address: u32, width: Width) -> Option<usize>
-        requires multiple { self.start % 4096 ≡ 0 }
-        requires limit { self.start ≤ 4294967296 }
-        ensures served { IfSome result (λ _. address / 4096 * 4096 + address % bytes_in width ≡
-            self.start) }
-        ensures offset { IfSome result (λ past. past ≡ page_offset address) }
-        ensures aligned { IfSome result (λ past. past % bytes_in width ≡ 0) }
-        ensures small { IfSome result (λ past. past < 4096) }
-    {
-        let past = u64::from(address).wrapping_sub(self.start);
-        if past < 4096 && past % u64::from(width.bytes()) == 0 {
-            Some(past as usize)
-        } else {
-            None
         }
     }
 }

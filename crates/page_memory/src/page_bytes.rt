@@ -16,9 +16,9 @@ pub fn number(page: &[u8], width: Width, address: u32) -> u32
     number_from(page, width, offset_in_page(address))
 }
 
-/// The same at an offset.
+/// The little-endian number in a page's 4096 bytes at an offset that is aligned to its width.
 #[inline]
-pub(crate) fn number_from(page: &[u8], width: Width, offset: usize) -> u32
+pub fn number_from(page: &[u8], width: Width, offset: usize) -> u32
     requires whole { length page.now ≡ 4096 }
     requires aligned { offset % bytes_in width ≡ 0 }
     requires within { offset < 4096 }
@@ -34,7 +34,7 @@ pub(crate) fn number_from(page: &[u8], width: Width, offset: usize) -> u32
 
 /// Writes the low bytes of a word into a page's 4096 bytes at an address that is aligned to their width.
 #[inline]
-pub fn put_number(page: &mut [u8], width: Width, address: u32, word: u32)
+pub(crate) fn put_number(page: &mut [u8], width: Width, address: u32, word: u32)
     requires whole { length page.old ≡ 4096 }
     requires aligned { address % bytes_in width ≡ 0 }
     ensures { page.new ≡ overwritten page.old (page_offset address)
@@ -43,10 +43,10 @@ pub fn put_number(page: &mut [u8], width: Width, address: u32, word: u32)
     put_number_from(page, width, offset_in_page(address), word);
 }
 
-/// The same at an offset.
+/// Writes the low bytes of a word into a page's 4096 bytes at an offset that is aligned to their width.
 #[inline]
 #[tactic(auto, using(crate::proofs::Overwriting::one_byte))]
-pub(crate) fn put_number_from(page: &mut [u8], width: Width, offset: usize, word: u32)
+pub fn put_number_from(page: &mut [u8], width: Width, offset: usize, word: u32)
     requires whole { length page.old ≡ 4096 }
     requires aligned { offset % bytes_in width ≡ 0 }
     requires within { offset < 4096 }

@@ -70,7 +70,7 @@ impl Reservations {
     }
 
     /// So many bytes from an address on were written.
-    #[inline]
+    #[inline(always)]
     #[tactic(auto, using(crate::proofs::Reserving::nothing_left))]
     pub fn end(&mut self, address: u32, count: usize)
         ensures { self.new ≡ left_by address count self.old }

@@ -19,11 +19,6 @@ pub mod CountLaws
 pub mod DemandLaws
 pub mod PlayedLaws
 pub mod NextUses
-pub mod NextUseLaws
-pub mod NextPlaces
-pub mod NextPlaceLaws
-pub mod PlaceStepLaws
 pub mod SlotPlayLaws
 pub mod MoreFramesLaws
-pub mod LruDepths
-pub mod LruDepthLaws
+pub mod Spread

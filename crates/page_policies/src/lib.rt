@@ -4,16 +4,14 @@
 mod fifo_policy;
 mod frames;
 mod laws;
-mod lru_depths;
 mod lru_policy;
-mod optimum;
 mod policy;
 mod queue;
 mod random_policy;
 mod random_state;
 mod refusal;
 mod second_chance;
-mod string_uses;
+mod spreading;
 
 pub use fifo_policy::Fifo;
 pub use frames::{Frames, MOST_POLICY_FRAMES};
@@ -21,12 +19,10 @@ pub use laws::{
     fewer_frames_hold_fewer_pages, more_frames_never_miss_more, no_policy_misses_less,
     optimum_is_a_play,
 };
-pub use lru_depths::lru_curve;
 pub use lru_policy::Lru;
-pub use optimum::Optimum;
 pub use policy::{Outcome, Policy, misses};
 pub use queue::{Queue, cut};
 pub use random_state::Random;
 pub use refusal::PolicyRefusal;
 pub use second_chance::SecondChance;
-pub use string_uses::next_uses;
+pub use spreading::spread;

@@ -1,6 +1,6 @@
 //! Pages in an order.
 
-ghost use Rattle.std.specs.Prelude.{◌≡◌, ◌<◌, ◌^◌, [], length, OnOk, IfOk};
+ghost use Rattle.std.specs.Prelude.{◌≡◌, ◌<◌, ◌^◌, [], cond, length, OnOk, IfOk};
 ghost use Rattle.page_policies.specs.Strings.{holds, without};
 ghost use Rattle.page_policies.specs.Ordered.{to_front, last_of, but_last, at_most};
 
@@ -62,6 +62,14 @@ impl Queue {
             return Err(AllocError);
         };
         Ok(())
+    }
+
+    /// The page comes to the front where it is there, and answers whether it was.
+    pub fn touch(&mut self, page: Key) -> bool
+        ensures found { result ≡ holds page self.old }
+        ensures order { self.new ≡ cond (holds page self.old) (to_front page self.old) self.old }
+    {
+        self.pages.promote(&page)
     }
 
     /// The page at the tail.

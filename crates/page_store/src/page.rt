@@ -1,6 +1,8 @@
 ghost use Rattle.std.specs.Prelude.{◌≡◌, ◌≢◌, ◌+◌, ◌≤◌, ◌↔◌, length, ℕ, List, Ok, Err, Some, None, OnOk, OnErr, IfOk, IfErr, IsErr, IsTrue, false, OnSome, IfNone, option_copied, option_map, is_some};
+ghost use Rattle.page_store.specs.Cleaning.{is_being_cleaned};
+ghost use Rattle.page_store.specs.Keeping.{is_copy_out};
 ghost use Rattle.page_store.specs.Moves.{left, brought_back, given_back, collected, collect_leaving, with_spare, job_of, IfSaving, copy_of, RefusesSave, Filled, RefusesFill, RefusesRead, IfAway};
-ghost use Rattle.page_store.specs.PageValue.{Leaving, Saving, Away, Purged, Backed, BackedAt, shown, changed as counts_as_changed, Known, content, page_state_of, frame_of, writable, failures_at, kept_digest, Matches, is_out};
+ghost use Rattle.page_store.specs.PageValue.{Leaving, Saving, Away, Purged, Backed, BackedAt, shown, changed as counts_as_changed, Known, content, page_state_of, frame_of, writable, failures_at, kept_digest, Matches, is_out, slot_of};
 ghost use Rattle.page_store.specs.Reading.{some_from};
 ghost use Rattle.page_store.specs.View.{keeping_of, place_in_state};
 
@@ -108,6 +110,28 @@ impl<L: Ledger, S: SwapSlot> StoredPage<L, S> {
             State::Resident(_, slot) => dirty || slot.is_unbacked(),
             State::Leaving(_, slot, mark) => *mark || slot.is_unbacked(),
             State::ResidentOut(_) | State::LeavingOut(..) | State::Saving(..) => true,
+            State::Fresh | State::Away(_) | State::Purged => false,
+        }
+    }
+
+    /// Whether it is being cleaned, and no copy of it is out.
+    pub fn is_being_cleaned(&self) -> bool
+        ensures { result ≡ is_being_cleaned self.now.place }
+    {
+        match &self.state {
+            State::Resident(_, slot) => slot.is_cleaning(),
+            State::ResidentOut(_) | State::Leaving(..) | State::LeavingOut(..) => false,
+            State::Saving(..) | State::Fresh | State::Away(_) | State::Purged => false,
+        }
+    }
+
+    /// Whether a copy of it is out.
+    pub fn is_copied(&self) -> bool
+        ensures { result ≡ is_copy_out (slot_of self.now.place) }
+    {
+        match &self.state {
+            State::ResidentOut(_) | State::LeavingOut(..) => true,
+            State::Resident(..) | State::Leaving(..) | State::Saving(..) => false,
             State::Fresh | State::Away(_) | State::Purged => false,
         }
     }

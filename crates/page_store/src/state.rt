@@ -42,6 +42,7 @@ pub(crate) enum Keeping<S: SwapSlot> {
 
 impl<S: SwapSlot> Keeping<S> {
     ghost use Rattle.std.specs.Prelude.{◌≡◌};
+    ghost use Rattle.page_store.specs.Cleaning.{is_cleaning};
     ghost use Rattle.page_store.specs.Keeping.{is_unbacked, kept, settled};
     ghost use Rattle.page_store.specs.View.{keeping_of};
 
@@ -64,6 +65,16 @@ impl<S: SwapSlot> Keeping<S> {
         match self {
             Keeping::NoSlot | Keeping::Saved(_) => false,
             Keeping::Unbacked(_) | Keeping::Cleaning(_) => true,
+        }
+    }
+
+    /// Whether its page is being cleaned.
+    pub(crate) fn is_cleaning(&self) -> bool
+        ensures { result ≡ is_cleaning (keeping_of self.now) }
+    {
+        match self {
+            Keeping::Cleaning(_) => true,
+            Keeping::NoSlot | Keeping::Saved(_) | Keeping::Unbacked(_) => false,
         }
     }
 

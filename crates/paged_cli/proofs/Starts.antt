@@ -1,39 +1,41 @@
 -- What a report tells of what was handed in, by the processes' starts.
-use Rattle.std.proofs.Common.{◌≡◌, ◌∙◌, ℕ, All, List, Option, Some, None, Vec, true, length, map, option_map, slice_get, sym, ap, refl, subst, vec_len}
+use Rattle.std.proofs.Common.{◌≡◌, ◌∙◌, ℕ, List, Option, Some, None, Vec, true, length, map, option_map, slice_get, sym, ap, refl, subst, vec_len}
 use Rattle.std.specs.Prelude.{IfSome}
 use Rattle.std.proofs.lemmas.List.{length-map}
 use Rattle.std.proofs.lemmas.Option.{slice_get-map, none-some}
 use Rattle.elf_image.specs.Image.{ImageContent}
 use Rattle.hart_carriers.specs.Ending.{EndsSound, IsCrewOf}
-use Rattle.hart_carriers.specs.declared.report.Report.{Report}
+use Rattle.hart_carriers.specs.declared.report.RunReport.{RunReport}
 use Rattle.elf_image.specs.Start.{Start, start_of}
-use Rattle.hart_carriers.specs.FlatLines.{counts_of, HasLine, StandsForRuns}
-use Rattle.hart_carriers.specs.declared.line.Line.{Line}
-use Rattle.paged_cli.specs.Running.{CameTo, HaveLines, starts_of}
+use Rattle.hart_carriers.specs.FlatLines.{counts_of, StandsForRuns}
+use Rattle.machine_sides.specs.FlatLines.{HasLine, HaveLines}
+use Rattle.machine_sides.specs.Reporting.{told}
+use Rattle.machine_sides.specs.declared.report.ProcessReport.{ProcessReport}
+use Rattle.paged_cli.specs.Running.{CameTo, starts_of}
 
 -- what a function of an entry is, if there is one
 from_entry : {A B : Type 0} (f : A → B) (entry : Option A) (b : B) (P : B → Type 0) → option_map f entry ≡ Some b → ((a : A) → entry ≡ Some a → P (f a)) → P b
 from_entry f None b P e each = elim (none-some b e) [ ]
 from_entry f (Some a) b P e each = subst (λ found. IfSome found P) e (each a refl)
 
-lines_of_starts : {Z : Type 0} (handed : List (ImageContent × Vec ℕ Z)) (lines : List Line) → StandsForRuns handed lines → HaveLines (starts_of handed) lines
-lines_of_starts handed lines stands number start found =
-    from_entry (λ given. start_of given.0 given.1.items) (slice_get handed number) start (λ s. HasLine s number lines)
+lines_of_starts : {Z : Type 0} (handed : List (ImageContent × Vec ℕ Z)) (reports : List ProcessReport) → StandsForRuns handed reports → HaveLines (starts_of handed) (map told reports)
+lines_of_starts handed reports stands number start found =
+    from_entry (λ given. start_of given.0 given.1.items) (slice_get handed number) start (λ s. HasLine s number (map told reports))
     (sym (slice_get-map (λ given. start_of given.0 given.1.items) handed number) ∙ found) (λ given at. stands number given at)
 
-pub came_to : {S Y Z : Type 0} (honest : Type 0) (frames : ℕ) (slots : Vec S Y) (handed : List (ImageContent × Vec ℕ Z)) (workers slice : ℕ) (report : Report)
-    → (honest → report.audit ≡ true → StandsForRuns handed report.lines.items) → All (λ (line : Line). line.last ≡ counts_of line) report.lines.items
-    → (report.audit ≡ true → vec_len report.lines ≡ length handed) → report.frames ≡ frames → (report.audit ≡ true → report.slots ≡ vec_len slots) → IsCrewOf workers slice report.crew
-    → (report.audit ≡ true → EndsSound S (length handed) report) → CameTo honest frames slots.items (starts_of handed) workers slice report
+pub came_to : {S Y Z : Type 0} (honest : Type 0) (frames : ℕ) (slots : Vec S Y) (handed : List (ImageContent × Vec ℕ Z)) (workers slice : ℕ) (run : RunReport)
+    → (honest → run.report.audit ≡ true → StandsForRuns handed run.report.processes.items) → run.published.items ≡ map counts_of run.report.processes.items
+    → (run.report.audit ≡ true → vec_len run.report.processes ≡ length handed) → run.report.frames ≡ frames → (run.report.audit ≡ true → run.slots ≡ vec_len slots) → IsCrewOf workers slice run.crew
+    → (run.report.audit ≡ true → EndsSound S (length handed) run.report) → CameTo honest frames slots.items (starts_of handed) workers slice run
 unfolding CameTo
-came_to {S} honest frames slots handed workers slice report stands last many frames_are slots_are crew_is sound =
+came_to {S} honest frames slots handed workers slice run stands last many frames_are slots_are crew_is sound =
     let as_many = length-map handed (λ given. start_of given.0 given.1.items) in
     record {
-      stands = λ h audit. lines_of_starts handed report.lines.items (stands h audit);
+      stands = λ h audit. lines_of_starts handed run.report.processes.items (stands h audit);
       last = last;
       many = λ audit. many audit ∙ sym as_many;
       frames_are = frames_are;
       slots_are = λ audit. slots_are audit ∙ slots.ok.0;
       crew_is = crew_is;
-      sound = λ audit. subst (λ n. EndsSound S n report) (sym as_many) (sound audit);
+      sound = λ audit. subst (λ n. EndsSound S n run.report) (sym as_many) (sound audit);
     }

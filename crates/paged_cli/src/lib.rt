@@ -3,7 +3,6 @@
 
 mod machine;
 mod program;
-mod reports;
 mod run_command;
 mod status_lines;
 mod threads_command;

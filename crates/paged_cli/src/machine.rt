@@ -5,7 +5,7 @@ ghost use Rattle.paged_cli.specs.Running.{CameTo, starts_of};
 
 use clock_ring::ClockRing;
 use elf_image::Image;
-use hart_carriers::Report;
+use hart_carriers::RunReport;
 use reclaim_daemon::Gate;
 use std::alloc::{AllocError, Global};
 use std::sync::Wait;
@@ -23,7 +23,7 @@ pub(crate) fn run_machine<S: SwapSlot + Send, G: Gate + Sync, R: Threads + Wait 
     workers: u32,
     slice: u32,
     gate: &G,
-) -> Result<Report, AllocError>
+) -> Result<RunReport, AllocError>
     requires workers { 0 < workers }
     requires slice { 0 < slice }
     ensures { IfOk result (CameTo S.honest frames slots.items
@@ -33,7 +33,7 @@ pub(crate) fn run_machine<S: SwapSlot + Send, G: Gate + Sync, R: Threads + Wait 
         rt, alloc, frames, slots, handed, workers, slice, gate,
     );
     match ran {
-        Ok(report) => Ok(report),
+        Ok(run) => Ok(run),
         Err(_) => Err(AllocError),
     }
 }

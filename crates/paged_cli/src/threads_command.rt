@@ -5,11 +5,10 @@ ghost use Rattle.command_line.specs.Requests.{IsRunInRange};
 ghost use Rattle.paged_cli.specs.Running.{starts_of, IsRunAsAsked, RunsAsked};
 
 use crate::machine::run_machine;
-use crate::reports::report_of;
 use crate::status_lines::StatusLines;
 use command_line::RunRequest;
 use elf_image::Image;
-use hart_carriers::Report;
+use hart_carriers::RunReport;
 use image_files::{Fault, Folder, memory_slots, read_processes};
 use reclaim_daemon::{Gate, OpenGate};
 use report_text::{status_of_all, write_report};
@@ -41,11 +40,9 @@ where
         (O.contents out.old) (O.contents out.new) status) }
 {
     let processes = read_processes(rt, request.images.as_slice(), request.input)?;
-    let room = Vec::with_capacity(rt.alloc(), processes.len())?;
-    let report = run_told(rt, request, processes.as_slice(), workers, is_told, err)?;
-    let told = report_of(report, room)?;
-    write_report(&told, out)?;
-    Ok(status_of_all(told.processes.as_slice()))
+    let run = run_told(rt, request, processes.as_slice(), workers, is_told, err)?;
+    write_report(&run.report, out)?;
+    Ok(status_of_all(run.report.processes.as_slice()))
 }
 
 /// Runs processes on the machine that is asked for, and writes lines to `err` meanwhile, if they are wanted.
@@ -56,7 +53,7 @@ fn run_told<'a, R: Folder + AllocGlobal + Threads + Wait + Sync, E: Write + Send
     workers: u32,
     is_told: bool,
     err: &mut E,
-) -> Result<Report, Fault<'a>>
+) -> Result<RunReport, Fault<'a>>
 where
     R::File: Send,
     requires in_range { IsRunInRange request.now }
@@ -79,7 +76,7 @@ fn run_asked<'a, R: Folder + AllocGlobal + Threads + Wait + Sync, G: Gate + Sync
     handed: &[(Image, Vec<u8>)],
     workers: u32,
     gate: &G,
-) -> Result<Report, Fault<'a>>
+) -> Result<RunReport, Fault<'a>>
 where
     R::File: Send,
     requires in_range { IsRunInRange request.now }

@@ -1,5 +1,5 @@
 -- What the invariant of a process's memory tells of its pages, tables and caches.
-use Rattle.std.specs.Prelude.{◌≡◌, ◌≢◌, ℕ, ◌+◌, ◌*◌, ◌%◌, ◌^◌, ◌<◌, Bool, true, false, cond, ◌||◌, is_some, Option, Some, None, Ok, Err, List, All, refl}
+use Rattle.std.specs.Prelude.{◌≡◌, ◌≢◌, ℕ, ◌+◌, ◌*◌, ◌%◌, ◌^◌, ◌<◌, Bool, true, false, cond, ◌||◌, is_some, Option, Some, None, option_map, Ok, Err, List, All, refl}
 use Rattle.std.specs.Result.{result_map_both}
 use Rattle.std.proofs.Common.{sym, ap, ◌∙◌, true≢false, arith}
 use Rattle.std.proofs.lemmas.List.Elements.{All-weaker}
@@ -9,7 +9,9 @@ use Rattle.page_memory.specs.Rights.{may}
 use Rattle.page_memory.specs.declared.rights.Rights.{Rights}
 use Rattle.page_memory.specs.declared.words.Access.{Access}
 use Rattle.page_memory.specs.declared.words.Access.TheVariants.{Load, Store}
-use Rattle.page_store.specs.PageValue.{PageValue}
+use Rattle.page_store.specs.Keeping.{Keeping, NoSlot, Saved, Unbacked, Cleaning, CopyOut, is_loose}
+use Rattle.page_store.specs.PageValue as value
+use Rattle.page_store.specs.PageValue.{PageValue, Place}
 use Rattle.sv32_table.specs.Entry.{Entry, page_entry, word_of}
 use Rattle.sv32_table.specs.EntryAt.{entry_at, walk_entry}
 use Rattle.sv32_table.specs.Leading.{LeadsByEntry}
@@ -20,11 +22,12 @@ use Rattle.sv32_table.specs.declared.walk.Leaf.{Leaf}
 use Rattle.tlb_core.specs.declared.translation.Translation.{Translation}
 use Rattle.tlb_core.specs.Cache.{translation_of}
 use Rattle.tlb_core.specs.CacheLaws.{none-All}
-use Rattle.paged_memory.specs.Seen.{Seen, Standing, Resident, Leaving, Elsewhere, entry_seen, entry_standing, rights_seen, is_used, used_standing}
+use Rattle.paged_memory.specs.Seen.{Seen, Standing, Resident, Leaving, Elsewhere, entry_seen, entry_standing, rights_seen, takes_stores, dirty_standing, is_loose_standing, is_used, used_standing}
 use Rattle.paged_memory.specs.Soundness.{IsSound}
 use Rattle.paged_memory.specs.Access.{is_resident, is_resident_standing}
-use Rattle.paged_memory.specs.Paged.{seen_at, Holds}
-use Rattle.paged_memory.specs.Coherence.{led, led_standing, MarksClear, HoldsFramed, WalksLead}
+use Rattle.paged_memory.specs.Copies.{if_out, told_of_place, told_of_page}
+use Rattle.paged_memory.specs.Paged.{page_at, seen_at, seen_of, standing_of, Holds}
+use Rattle.paged_memory.specs.Coherence.{led, led_standing, MarksClear, HoldsFramed, CopiesUnmarked, WalksLead}
 use Rattle.paged_memory.proofs.SoundnessLaws.{unheld_elsewhere}
 
 -- a resident page's use is marked where its A is set
@@ -59,6 +62,38 @@ leads (Some seen) accessed dirty address access readable = by_standing seen.righ
     by_standing rights (Leaving frame mark loose) lawful = ap (result_map_both (λ (leaf : Leaf). leaf.physical) (λ (fault : WalkFault). fault)) (walk_entry-blank address access)
     by_standing rights Elsewhere lawful = ap (result_map_both (λ (leaf : Leaf). leaf.physical) (λ (fault : WalkFault). fault)) (walk_entry-blank address access)
 
+-- a mark is clear where it would tell that stores reach the page, and none do
+unmarked_by : (mark : Bool) → (mark ≡ true → ⊥) → mark ≡ false
+unmarked_by true none = absurd (none refl)
+unmarked_by false none = refl
+
+-- the bit that is told of a copy
+abbrev bit_told : Option (Bool × List ℕ) → Bool
+bit_told (Some told) = told.0
+bit_told None = false
+
+-- no store that is told of nowhere reaches a page of which a copy is out and whose bit tells of none
+module _ {S : Type 0} (bytes : List ℕ) (e : Entry) where
+  told_kept : (slot : Keeping S) (bit : Bool) (held : List ℕ) → if_out {A = Bool × List ℕ} slot (bit, held) ≡ Some (false, bytes) → (bit || is_loose slot) ≡ false
+  told_kept NoSlot bit held told = cc
+  told_kept (Saved copy) bit held told = cc
+  told_kept (Unbacked own) bit held told = cc
+  told_kept (Cleaning own) bit held told = cc
+  told_kept CopyOut true held told = absurd (true≢false (ap bit_told told))
+  told_kept CopyOut false held told = refl
+
+  told_place : (place : Place S) → told_of_place e.dirty place ≡ Some (false, bytes) → (dirty_standing (standing_of place) e || is_loose_standing (standing_of place)) ≡ false
+  told_place value.Fresh told = refl
+  told_place (value.Resident frame slot) told = told_kept slot e.dirty frame.bytes told
+  told_place (value.Leaving frame slot mark) told = told_kept slot mark frame.bytes told
+  told_place (value.Saving frame mark) told = refl
+  told_place (value.Away copy) told = refl
+  told_place value.Purged told = refl
+
+  told_page : (page : Option (PageValue S)) → told_of_page e.dirty page ≡ Some (false, bytes) → takes_stores (option_map seen_of page) e ≡ false
+  told_page None told = refl
+  told_page (Some page) told = told_place page.place told
+
 module _ {S : Type 0} {held : S → List ℕ} {honest : Type 0} {pages : List (ℕ × PageValue S)} {tables : List (List ℕ)} {caches : List (List Translation)} (holds : Holds held honest pages tables caches) where
   pub marks_clear : MarksClear pages tables caches
   marks_clear number small resident clear =
@@ -75,6 +110,17 @@ module _ {S : Type 0} {held : S → List ℕ} {honest : Type 0} {pages : List (�
   holds_framed number none =
       list_any_none (λ cache. is_some (translation_of number cache)) caches
       (All-weaker (λ cache. All (λ (t : Translation). t.page ≢ number) cache) (λ cache. is_some (translation_of number cache) ≡ false) (λ cache unheld. ap is_some (none-All number cache unheld)) caches (unheld_elsewhere caches number holds.agree none))
+
+  pub copies_unmarked : CopiesUnmarked pages tables caches
+  copies_unmarked number bytes small told =
+      All-weaker (λ cache. All (λ (t : Translation). IsSound (seen_at pages t.page) (entry_at tables t.page) t) cache) (λ cache. All (λ (t : Translation). t.page ≡ number → t.dirty ≡ false) cache)
+      (λ cache sound. All-weaker (λ (t : Translation). IsSound (seen_at pages t.page) (entry_at tables t.page) t) (λ (t : Translation). t.page ≡ number → t.dirty ≡ false) unmarked cache sound) caches holds.agree.cached
+    where
+      none : takes_stores (seen_at pages number) (entry_at tables number) ≡ false
+      none = told_page bytes (entry_at tables number) (page_at pages number) told
+
+      unmarked : (t : Translation) → IsSound (seen_at pages t.page) (entry_at tables t.page) t → t.page ≡ number → t.dirty ≡ false
+      unmarked t sound at = unmarked_by t.dirty (λ marked. true≢false (sym (sound.changed marked) ∙ ap (λ q. takes_stores (seen_at pages q) (entry_at tables q)) at ∙ none))
 
   pub walks_lead : LeadsByEntry tables → WalksLead pages tables
   walks_lead by_entry address access in_range =

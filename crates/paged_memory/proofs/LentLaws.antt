@@ -38,19 +38,22 @@ module _ {S : Type 0} (held : S → List ℕ) (pages : List (ℕ × PageValue S)
     written_to : (bytes : PageValue S → List ℕ) → now ≡ with_bytes lent (bytes lent) → flat_pages held (with_value pages place (with_bytes reached.page (bytes reached.page))) ≡ flat_pages held (with_value pages place now)
     written_to bytes is = ap (λ p. flat_pages held (with_value pages place p)) (sym (is ∙ ap (λ p. with_bytes p (bytes p)) (lent_is reached lent at)))
 
-    pub stored_lent : (width : Width) (word : ℕ) → address % bytes_in width ≡ 0 → now ≡ with_bytes lent (overwritten (content held lent) (page_offset address) (little_bytes (bytes_in width) word))
+    pub stored_lent : (width : Width) (word offset : ℕ) → address % bytes_in width ≡ 0 → offset ≡ page_offset address → now ≡ with_bytes lent (overwritten (content held lent) offset (little_bytes (bytes_in width) word))
         → stored (flat_pages held pages) width address word ≡ Ok (flat_pages held (with_value pages place now))
-    stored_lent width word aligned is =
-        stored_written held pages tables width address word place aligned reached ∙ ap Ok (written_to (λ p. overwritten (content held p) (page_offset address) (little_bytes (bytes_in width) word)) is)
+    stored_lent width word offset aligned offset_is is =
+        stored_written held pages tables width address word place aligned reached
+        ∙ ap Ok (written_to (λ p. overwritten (content held p) (page_offset address) (little_bytes (bytes_in width) word)) (is ∙ ap (λ o. with_bytes lent (overwritten (content held lent) o (little_bytes (bytes_in width) word))) offset_is))
 
     pub copied_lent : (from : List ℕ) (offset : ℕ) → offset ≡ page_offset address → now ≡ with_bytes lent (overwritten (content held lent) offset from) → copied_in (flat_pages held pages) address from ≡ Ok (flat_pages held (with_value pages place now))
     copied_lent from offset offset_is is =
         copied_written held pages tables address place from reached
         ∙ ap Ok (written_to (λ p. overwritten (content held p) (page_offset address) from) (is ∙ ap (λ o. with_bytes lent (overwritten (content held lent) o from)) offset_is))
 
-    pub replaced_lent : (update : ℕ → ℕ) (old : ℕ) → address % 4 ≡ 0 → old ≡ little_number 4 (drop (page_offset address) (content held lent)) → now ≡ with_bytes lent (overwritten (content held lent) (page_offset address) (little_bytes 4 (update old)))
+    pub replaced_lent : (update : ℕ → ℕ) (old offset : ℕ) → address % 4 ≡ 0 → offset ≡ page_offset address → old ≡ little_number 4 (drop offset (content held lent)) → now ≡ with_bytes lent (overwritten (content held lent) offset (little_bytes 4 (update old)))
         → replaced (flat_pages held pages) update address ≡ Ok (old, flat_pages held (with_value pages place now))
-    replaced_lent update old aligned old_is is =
+    replaced_lent update old offset aligned offset_is old_there there =
+        let old_is : old ≡ little_number 4 (drop (page_offset address) (content held lent)) = old_there ∙ ap (λ o. little_number 4 (drop o (content held lent))) offset_is in
+        let is : now ≡ with_bytes lent (overwritten (content held lent) (page_offset address) (little_bytes 4 (update old))) = there ∙ ap (λ o. with_bytes lent (overwritten (content held lent) o (little_bytes 4 (update old)))) offset_is in
         let word = ap (λ p. number_at 4 address (flat_page held p)) (lent_is reached lent at) in
         replaced_written held pages tables update address place aligned reached
         ∙ ap (λ m. Ok (number_at 4 address (flat_page held reached.page), m)) (written_to (λ p. overwritten (content held p) (page_offset address) (little_bytes 4 (update (number_at 4 address (flat_page held p))))) (is ∙ ap (λ n. with_bytes lent (overwritten (content held lent) (page_offset address) (little_bytes 4 (update n)))) old_is))

@@ -12,8 +12,9 @@ use Rattle.sv32_table.specs.declared.fault.WalkFault.TheVariants.{PageFault}
 use Rattle.tlb_core.specs.declared.translation.Translation.{Translation}
 use Rattle.paged_memory.specs.Seen.{Seen, Standing, Resident, Leaving, Elsewhere, frame_seen}
 use Rattle.paged_memory.specs.Access.{is_resident}
+use Rattle.paged_memory.specs.Copies.{told_of_page}
 use Rattle.paged_memory.specs.Soundness.{is_held}
-use Rattle.paged_memory.specs.Paged.{seen_at}
+use Rattle.paged_memory.specs.Paged.{page_at, seen_at}
 
 -- where a walk is to lead for an address: into the frame of a resident page that has the right, at the same offset; for every
 -- other page it is a page fault
@@ -35,6 +36,12 @@ module _ {S : Type 0} (pages : List (ℕ × PageValue S)) where
   -- no cache holds a translation of a page that is neither resident nor leaving, such as one that is being saved, or is away
   abbrev pub HoldsFramed : List (List Translation) → Type 0
   HoldsFramed caches = (number : ℕ) → frame_seen (seen_at pages number) ≡ None → is_held number caches ≡ false
+
+  -- while a copy of a page is out and its dirty bit, or the one that it took along, tells of no store since, no cache has a translation of it
+  -- through which a store would set no bit
+  abbrev pub CopiesUnmarked : List (List ℕ) → List (List Translation) → Type 0
+  CopiesUnmarked tables caches =
+      (number : ℕ) (bytes : List ℕ) → number < 2 ^ 20 → told_of_page (entry_at tables number).dirty (page_at pages number) ≡ Some (false, bytes) → All (λ cache. All (λ (t : Translation). t.page ≡ number → t.dirty ≡ false) cache) caches
 
   -- a walk in user mode, by the manual's process over the words that the tables stand for, leads where it is to
   abbrev pub WalksLead : List (List ℕ) → Type 0

@@ -51,6 +51,7 @@ pub mod ComeLaws
 pub mod StillLaws
 pub mod PeekLaws
 pub mod GivenLaws
+pub mod IntactLaws
 pub mod SlotsLaws
 pub mod LooksLaws
 pub mod CleanLaws

@@ -1,5 +1,5 @@
 ghost use Rattle.std.specs.Prelude.{◌≡◌, ◌↔◌, ℕ, ◌<◌, ◌^◌, ◌%◌, length, Some, None, IfSome, IfOk, IfErr, OnOk, true, OnErr};
-ghost use Rattle.page_memory.specs.Words.{page_number, bytes_in};
+ghost use Rattle.page_memory.specs.Words.{page_number, page_offset, bytes_in};
 ghost use Rattle.sv32_table.specs.Entry.{entry_of};
 ghost use Rattle.sv32_table.specs.EntryAt.{dirty_of, entry_at};
 ghost use Rattle.paged_memory.specs.Paged.{Holds, seen_at};
@@ -15,9 +15,9 @@ use rv_exec::BusError;
 use std::sync::ledger::Ledger;
 use sv32_table::{Leaf, PageTables, WalkFault};
 use swap_slots::SwapSlot;
-use tlb_core::Translation;
+use tlb_core::{Spot, Translation};
 
-/// The place of a page that is ready for an aligned access of a hart.
+/// Where an aligned access of a hart has its bytes, if the address's page is ready.
 #[inline]
 pub(crate) fn at_hand<L: Ledger, S: SwapSlot>(
     pages: &PageMap<StoredPage<L, S>>,
@@ -27,12 +27,13 @@ pub(crate) fn at_hand<L: Ledger, S: SwapSlot>(
     access: Access,
     width: Width,
     address: u32,
-) -> Option<usize>
+) -> Option<Spot>
     requires hart { hart < length caches.now }
     requires holds { Holds S.content S.honest pages.now tables.now caches.now }
     ensures aligned { IfSome result (λ _. address % bytes_in width ≡ 0) }
-    ensures reaches { IfSome result (λ place. Reaches pages.now tables.now access
-        (page_number address) place) }
+    ensures offset { IfSome result (λ spot. spot.offset ≡ page_offset address) }
+    ensures reaches { IfSome result (λ spot. Reaches pages.now tables.now access
+        (page_number address) spot.place) }
     ensures has { IfSome result (λ _. HasPage pages.now (cache_of caches.now hart)
         (page_number address)) }
     ensures marked { IfSome result (λ _. MarksUse pages.now tables.now

@@ -1,5 +1,5 @@
 ghost use Rattle.std.specs.Prelude.{◌≡◌, ◌<◌, ◌≤◌, ◌%◌, [], ◌∷◌, ◌++◌, None, map, length, is_some, IfSome, option_copied, slice_get, slice_index_or, slice_set};
-ghost use Rattle.page_memory.specs.Words.{page_number, bytes_in};
+ghost use Rattle.page_memory.specs.Words.{page_number, page_offset, bytes_in};
 ghost use Rattle.tlb_core.specs.Cache.{Hits, OnePerPage, doomed, undoomed, filled, holds_mark, translation_of};
 ghost use Rattle.paged_memory.specs.Soundness.{is_held, is_marked};
 ghost use Rattle.paged_memory.specs.declared.caches.Miss.{Miss};
@@ -8,7 +8,7 @@ use arrayvec::ArrayVec;
 use machine_limits::MOST_HARTS;
 use page_memory::{Access, Width};
 use std::marker::Model;
-use tlb_core::{Tlb, Translation};
+use tlb_core::{Spot, Tlb, Translation};
 
 /// Why a hart's cache does not serve an access.
 #[derive(Clone, Copy, PartialEq, Eq, Debug)]
@@ -84,13 +84,14 @@ impl Caches {
         Some(self.harts.as_slice().get(hart)?.entries())
     }
 
-    /// The place of an address's page that is ready for an aligned access of a hart.
+    /// Where an aligned access of a hart has its bytes, if the address's page is ready.
     #[inline]
-    pub fn ready(&self, hart: usize, access: Access, width: Width, address: u32) -> Option<usize>
+    pub fn ready(&self, hart: usize, access: Access, width: Width, address: u32) -> Option<Spot>
         requires { hart < length self.now }
         ensures aligned { IfSome result (λ _. address % bytes_in width ≡ 0) }
-        ensures hits { IfSome result (λ place. Hits (slice_index_or self.now hart []) access
-            (page_number address) place) }
+        ensures offset { IfSome result (λ spot. spot.offset ≡ page_offset address) }
+        ensures hits { IfSome result (λ spot. Hits (slice_index_or self.now hart []) access
+            (page_number address) spot.place) }
     {
         self.harts.as_slice()[hart].ready(access, width, address)
     }

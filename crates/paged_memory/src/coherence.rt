@@ -1,5 +1,5 @@
 ghost use Rattle.paged_memory.specs.Paged.{Holds};
-ghost use Rattle.paged_memory.specs.Coherence.{MarksClear, HoldsFramed, WalksLead};
+ghost use Rattle.paged_memory.specs.Coherence.{MarksClear, HoldsFramed, CopiesUnmarked, WalksLead};
 
 use crate::memory::PagedMemory;
 use std::sync::ledger::Ledger;
@@ -12,6 +12,7 @@ impl<L: Ledger, S: SwapSlot> PagedMemory<L, S> {
         ensures agree { Holds S.content S.honest self.now.pages self.now.tables self.now.caches }
         ensures accessed { MarksClear self.now.pages self.now.tables self.now.caches }
         ensures framed { HoldsFramed self.now.pages self.now.caches }
+        ensures unmarked { CopiesUnmarked self.now.pages self.now.tables self.now.caches }
         ensures walks { WalksLead self.now.pages self.now.tables }
     {
         // For the proof alone: a read tells its invariant.

@@ -10,9 +10,9 @@ ghost use Rattle.paged_memory.specs.Access.{cache_of};
 ghost use Rattle.paged_memory.specs.HartMemory.{InTurn, KeepsAccess};
 
 use crate::memory::PagedMemory;
-use crate::reading::{fetch_anew, load_anew, load_to_replace, read, read_ready};
+use crate::reading::{ReadyBytes, fetch_anew, load_anew, load_to_replace, read, read_ready};
 use crate::writing;
-use page_memory::{Access, Width, number, offset_in_page};
+use page_memory::{Access, Width, number_from, offset_in_page};
 use rv_exec::{Bus, BusError};
 use rv_isa::AmoKind;
 use std::alloc::AllocError;
@@ -119,7 +119,7 @@ impl<'a, L: Ledger, S: SwapSlot, O: Opening> Bus for HartMemory<'a, L, S, O> {
             Width::Word,
             address,
         ) {
-            Some(page) => Ok(number(page, Width::Word, address)),
+            Some(ReadyBytes { page, offset }) => Ok(number_from(page, Width::Word, offset)),
             None => fetch_anew(
                 &memory.pages,
                 &mut memory.tables,
@@ -152,7 +152,7 @@ impl<'a, L: Ledger, S: SwapSlot, O: Opening> Bus for HartMemory<'a, L, S, O> {
             width,
             address,
         ) {
-            Some(page) => Ok(number(page, width, address)),
+            Some(ReadyBytes { page, offset }) => Ok(number_from(page, width, offset)),
             None => load_anew(
                 &memory.pages,
                 &mut memory.tables,

@@ -1,5 +1,5 @@
 ghost use Rattle.std.specs.Prelude.{◌≡◌, ◌<◌, ◌%◌, length, is_some, Some, Ok, OnOk, true, IfOk, IfErr, IfSome, OnErr};
-ghost use Rattle.page_memory.specs.Words.{page_number, bytes_in};
+ghost use Rattle.page_memory.specs.Words.{page_number, page_offset, bytes_in};
 ghost use Rattle.page_memory.specs.Pages.{answer_by, number_at, aligned_page, usable, fetched, loaded};
 ghost use Rattle.page_memory.specs.declared.words.Access.{Access};
 ghost use Rattle.page_store.specs.PageValue.{content, writable};
@@ -35,7 +35,14 @@ pub(crate) fn bytes_of<L: Ledger, S: SwapSlot>(page: &StoredPage<L, S>) -> &[u8;
     }
 }
 
-/// The bytes of a page that is ready for an aligned access of a hart.
+/// The bytes of a page that is ready for an aligned access, and the access's offset in them.
+#[derive(Clone, Copy)]
+pub(crate) struct ReadyBytes<'a> {
+    pub(crate) page: &'a [u8; 4096],
+    pub(crate) offset: usize,
+}
+
+/// Where an aligned access of a hart reads, if the address's page is ready.
 #[inline]
 pub(crate) fn read_ready<'a, L: Ledger, S: SwapSlot>(
     pages: &'a PageMap<StoredPage<L, S>>,
@@ -45,20 +52,24 @@ pub(crate) fn read_ready<'a, L: Ledger, S: SwapSlot>(
     access: Access,
     width: Width,
     address: u32,
-) -> Option<&'a [u8; 4096]>
+) -> Option<ReadyBytes<'a>>
     requires hart { hart < length caches.now }
     requires holds { Holds S.content S.honest pages.now tables.now caches.now }
     ensures aligned { IfSome result (λ _. address % bytes_in width ≡ 0) }
-    ensures bytes { IfSome result (λ bytes. UsesBytes
-        (usable (flat_pages S.content pages.now) access address) bytes.now) }
-    ensures whole { IfSome result (λ bytes. length bytes.now ≡ 4096) }
+    ensures offset { IfSome result (λ ready. ready.offset ≡ page_offset address) }
+    ensures bytes { IfSome result (λ ready. UsesBytes
+        (usable (flat_pages S.content pages.now) access address) ready.page.now) }
+    ensures whole { IfSome result (λ ready. length ready.page.now ≡ 4096) }
     ensures has { IfSome result (λ _. HasPage pages.now (cache_of caches.now hart)
         (page_number address)) }
     ensures marked { IfSome result (λ _. MarksUse pages.now tables.now
         (cache_of caches.now hart) access (page_number address)) }
 {
     match at_hand(pages, tables, caches, hart, access, width, address) {
-        Some(place) => Some(bytes_of(pages.at(place))),
+        Some(spot) => Some(ReadyBytes {
+            page: bytes_of(pages.at(spot.place)),
+            offset: spot.offset,
+        }),
         None => None,
     }
 }

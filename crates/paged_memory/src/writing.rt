@@ -16,7 +16,7 @@ use crate::caches::Caches;
 use crate::reading::bytes_of;
 use crate::reply::StoreReply;
 use page_memory::{
-    Access, MemoryFault, PageMap, Width, number, offset_in_page, put_bytes, put_number,
+    Access, MemoryFault, PageMap, Width, number_from, offset_in_page, put_bytes, put_number_from,
 };
 use page_store::StoredPage;
 use rv_exec::{BusError, amo_word};
@@ -25,21 +25,22 @@ use std::sync::ledger::Ledger;
 use sv32_table::PageTables;
 use swap_slots::SwapSlot;
 
-/// Writes the low bytes of a word into a page that has a frame.
+/// Writes the low bytes of a word at an aligned offset of a page that has a frame.
 #[inline]
 fn put_number_in<L: Ledger, S: SwapSlot>(
     page: &mut StoredPage<L, S>,
     width: Width,
-    address: u32,
+    offset: usize,
     word: u32,
 )
     requires framed { is_some (writable page.old.place) ≡ true }
-    requires aligned { address % bytes_in width ≡ 0 }
+    requires aligned { offset % bytes_in width ≡ 0 }
+    requires small { offset < 4096 }
     ensures { page.new ≡ with_bytes page.old (overwritten (content S.content page.old)
-        (page_offset address) (little_bytes (bytes_in width) word)) }
+        offset (little_bytes (bytes_in width) word)) }
 {
     match page.bytes_mut() {
-        Some(bytes) => put_number(bytes, width, address, word),
+        Some(bytes) => put_number_from(bytes, width, offset, word),
         None => {
             // A byte of none of no pages: no test of the page's state is left, where `unreachable!()` leaves one.
             let mut none: [&mut [u8; 4096]; 0] = [];
@@ -61,24 +62,24 @@ fn put_bytes_in<L: Ledger, S: SwapSlot>(page: &mut StoredPage<L, S>, offset: usi
     }
 }
 
-/// Replaces a word of a page that has a frame by an operation's result, and answers the old word.
+/// Replaces the word at an aligned offset of a page that has a frame by an operation's result, and answers the old word.
 #[inline]
 fn replace_word_in<L: Ledger, S: SwapSlot>(
     page: &mut StoredPage<L, S>,
-    address: u32,
+    offset: usize,
     operation: AmoKind,
     operand: u32,
 ) -> u32
     requires framed { is_some (writable page.old.place) ≡ true }
-    requires aligned { address % 4 ≡ 0 }
-    ensures old { result ≡ little_number 4 (drop (page_offset address)
-        (content S.content page.old)) }
+    requires aligned { offset % 4 ≡ 0 }
+    requires small { offset < 4096 }
+    ensures old { result ≡ little_number 4 (drop offset (content S.content page.old)) }
     ensures page { page.new ≡ with_bytes page.old (overwritten (content S.content page.old)
-        (page_offset address) (little_bytes 4 (amo_result operation result operand))) }
+        offset (little_bytes 4 (amo_result operation result operand))) }
 {
-    let old = number(bytes_of(page), Width::Word, address);
+    let old = number_from(bytes_of(page), Width::Word, offset);
     let word = amo_word(operation, old, operand);
-    put_number_in(page, Width::Word, address, word);
+    put_number_in(page, Width::Word, offset, word);
     old
 }
 
@@ -110,8 +111,8 @@ pub(crate) fn store<L: Ledger, S: SwapSlot>(
     ensures takes { OnOk result (TakesStores pages.old tables.new (page_number address)) }
 {
     match at_hand(pages, tables, caches, hart, Access::Store, width, address) {
-        Some(place) => {
-            put_number_in(pages.at_mut(place), width, address, word);
+        Some(spot) => {
+            put_number_in(pages.at_mut(spot.place), width, spot.offset, word);
             Ok(())
         }
         None => match store_anew(pages, tables, caches, hart, width, address, word) {
@@ -158,7 +159,7 @@ fn store_anew<L: Ledger, S: SwapSlot>(
     }
     match reach(pages, tables, caches, hart, Access::Store, address) {
         Ok(place) => {
-            put_number_in(pages.at_mut(place), width, address, word);
+            put_number_in(pages.at_mut(place), width, offset_in_page(address), word);
             StoreReply::Done
         }
         Err(BusError::Absent(page)) => StoreReply::Absent(page),
@@ -240,7 +241,12 @@ pub(crate) fn amo<L: Ledger, S: SwapSlot>(
         Width::Word,
         address,
     ) {
-        Some(place) => Ok(replace_word_in(pages.at_mut(place), address, operation, operand)),
+        Some(spot) => Ok(replace_word_in(
+            pages.at_mut(spot.place),
+            spot.offset,
+            operation,
+            operand,
+        )),
         None => amo_anew(pages, tables, caches, hart, address, operation, operand),
     }
 }
@@ -278,7 +284,10 @@ fn amo_anew<L: Ledger, S: SwapSlot>(
         return Err(BusError::Fault(MemoryFault::Misaligned));
     }
     match reach(pages, tables, caches, hart, Access::Store, address) {
-        Ok(place) => Ok(replace_word_in(pages.at_mut(place), address, operation, operand)),
+        Ok(place) => {
+            let offset = offset_in_page(address);
+            Ok(replace_word_in(pages.at_mut(place), offset, operation, operand))
+        }
         Err(refusal) => Err(refusal),
     }
 }

@@ -9,8 +9,7 @@ use Rattle.paged_memory.specs.declared.peeking.PeekFault.{PeekFault}
 use Rattle.paged_memory.specs.declared.peeking.PeekFault.TheVariants as fault
 use Rattle.flat_machine.specs.Process.{Process, flat_run, opening}
 use Rattle.flat_machine.specs.Schedule.{written_out}
-use Rattle.space_core.specs.StandsFor.{flat_with}
-use Rattle.machine_sides.specs.Sides.{ProcessSideValue}
+use Rattle.space_core.specs.StandsFor.{SpaceValue, flat_with}
 use Rattle.machine_core.specs.Machine.{CoreValue}
 use Rattle.machine_core.specs.Reading.{PeeksAt}
 use Rattle.machine_core.specs.TotalLaws.{get_set_same}
@@ -40,21 +39,21 @@ module _ {S : Type 0} (held : S → List ℕ) (honest : Type 0) where
     left_at = ap (λ l. slice_get l 0) peeks.one.is ∙ get_set_same old.processes 0 peeks.one.process peeks.one.process' peeks.one.found
 
     flat_stays : flat_at new ≡ flat_at old
-    flat_stays = ap flat_in left_at ∙ ap (λ (p : ProcessSideValue S). flat_of p.space) peeks.one.how.stays ∙ ap flat_in (sym peeks.one.found)
+    flat_stays = ap flat_in left_at ∙ ap (λ (p : SpaceValue S). flat_of p) peeks.one.how.stays ∙ ap flat_in (sym peeks.one.found)
 
     recorded_stays : recorded new ≡ recorded old
-    recorded_stays = ap recorded_in left_at ∙ ap (λ (p : ProcessSideValue S). written_out p.space.schedule) peeks.one.how.stays ∙ ap recorded_in (sym peeks.one.found)
+    recorded_stays = ap recorded_in left_at ∙ ap (λ (p : SpaceValue S). written_out p.schedule) peeks.one.how.stays ∙ ap recorded_in (sym peeks.one.found)
 
     stage_stays : (number : ℕ) → stage_shown new number ≡ stage_shown old number
     stage_stays number =
-        ap (option_and_then (stage_of number)) left_at ∙ looked_stage held honest address peeks.one.process.space.memory peeks.one.process'.space.memory peeks.one.how.left number
+        ap (option_and_then (stage_of number)) left_at ∙ looked_stage held honest address peeks.one.process.memory peeks.one.process'.memory peeks.one.how.left number
         ∙ ap (option_and_then (stage_of number)) (sym peeks.one.found)
 
     pub peek_keeps : KeepsShown old new
     peek_keeps = record { there = subst IsSome (sym left_at) cc; flat = flat_stays; recorded = recorded_stays; purged = λ number e. sym (stage_stays number) ∙ e }
 
   module _ (failures : S → ℕ) (address : ℕ) (room bytes : List (Option ℕ)) (old new : CoreValue S) where
-    side_is : (shows : ShowsFlat held old) (side : ProcessSideValue S) → slice_get old.processes 0 ≡ Some side → shows.side ≡ side
+    side_is : (shows : ShowsFlat held old) (side : SpaceValue S) → slice_get old.processes 0 ≡ Some side → shows.side ≡ side
     side_is shows side at = let a = shows.found in cc
 
     -- the bytes are the flat process's
@@ -62,9 +61,9 @@ module _ {S : Type 0} (held : S → List ℕ) (honest : Type 0) where
         → PeeksAt held honest failures 0 address room bytes (Some answer) old new → bytes ≡ bytes_from (flat_at old).memory address (length room)
     bytes_are is_honest shows within size answer is given =
         let peeks = subst (λ r. PeeksAt held honest failures 0 address room bytes (Some r) old new) is given in
-        let ran = subst (λ (p : ProcessSideValue S). flat_run (written_out p.space.schedule) (opening p.space.image p.space.input) ≡ Some (flat_with shows.side.space.running shows.stands.memory))
+        let ran = subst (λ (p : SpaceValue S). flat_run (written_out p.schedule) (opening p.image p.input) ≡ Some (flat_with shows.side.running shows.stands.memory))
         (side_is shows peeks.one.process peeks.one.found) shows.stands.ran in
-        in_page (flat_with shows.side.space.running shows.stands.memory).memory address (length room) bytes within size (peeks.one.how.flat is_honest (flat_with shows.side.space.running shows.stands.memory) ran)
+        in_page (flat_with shows.side.running shows.stands.memory).memory address (length room) bytes within size (peeks.one.how.flat is_honest (flat_with shows.side.running shows.stands.memory) ran)
         ∙ ap (λ (p : Process). bytes_from p.memory address (length room)) (sym shows.flat)
 
     -- where none is mapped the flat process has none
@@ -72,8 +71,8 @@ module _ {S : Type 0} (held : S → List ℕ) (honest : Type 0) where
         → PeeksAt held honest failures 0 address room bytes (Some answer) old new → replicate (length room) None ≡ bytes_from (flat_at old).memory address (length room)
     none_are shows small within answer is given =
         let peeks = subst (λ r. PeeksAt held honest failures 0 address room bytes (Some r) old new) is given in
-        let none : stage_in shows.side.space.memory (page_number address) ≡ None = subst (λ (p : ProcessSideValue S). stage_in p.space.memory (page_number address) ≡ None)
-        (sym (side_is shows peeks.one.process peeks.one.found)) (not_mapped held honest failures address peeks.one.process.space.memory peeks.one.process'.space.memory peeks.one.how.refused) in
+        let none : stage_in shows.side.memory (page_number address) ≡ None = subst (λ (p : SpaceValue S). stage_in p.memory (page_number address) ≡ None)
+        (sym (side_is shows peeks.one.process peeks.one.found)) (not_mapped held honest failures address peeks.one.process.memory peeks.one.process'.memory peeks.one.how.refused) in
         let missing : is_some (byte_at (flat_at old).memory address) ≡ false =
         byte_shown held old shows address ∙ sym (page_shown held old shows (page_number address) small) ∙ ap is_some none in
         no_page (flat_at old).memory address (length room) within (no_byte (byte_at (flat_at old).memory address) missing)
@@ -86,11 +85,11 @@ module _ {S : Type 0} (held : S → List ℕ) (honest : Type 0) where
           offset = 0;
           within = some;
           purged = ap (λ a. stage_shown old (page_number a)) same ∙ ap (option_and_then (stage_of (page_number address))) peeks.one.found
-              ∙ was_given_up held honest failures address peeks.one.process.space.memory peeks.one.process'.space.memory peeks.one.how.refused;
+              ∙ was_given_up held honest failures address peeks.one.process.memory peeks.one.process'.memory peeks.one.how.refused;
         }
 
     pub process_there : IsSome (slice_get old.processes 0) → PeeksAt held honest failures 0 address room bytes None old new → ⊥
     process_there there peeks = missing_there (slice_get old.processes 0) there peeks.0
 
   pub device_fails_never : (address : ℕ) (room bytes : List (Option ℕ)) (old new : CoreValue S) → PeeksAt held honest (λ _. 0) 0 address room bytes (Some (Err fault.Device)) old new → ⊥
-  device_fails_never address room bytes old new peeks = never_fails held honest address peeks.one.process.space.memory peeks.one.process'.space.memory peeks.one.how.refused
+  device_fails_never address room bytes old new peeks = never_fails held honest address peeks.one.process.memory peeks.one.process'.memory peeks.one.how.refused

@@ -6,13 +6,13 @@ use Rattle.debug_core.specs.Limits.{CannotRecord, KeepsRoom, RecordsOne}
 use Rattle.flat_machine.specs.Schedule.{fits, room, written_out, IsJoined}
 use Rattle.flat_machine.specs.declared.schedule.Turn.{Turn}
 use Rattle.machine_core.specs.Machine.{CoreValue}
-use Rattle.machine_sides.specs.Sides.{ProcessSideValue}
 use Rattle.paged_target.specs.Lacks.{LacksOn, LeavesRoomFor}
 use Rattle.paged_target.specs.Recording.{recorded, recorded_in, IsFull}
 use Rattle.paged_target.specs.Serving.{added_by}
 use Rattle.serial_driver.specs.declared.serving.Served.{Served}
 use Rattle.serial_driver.specs.declared.serving.Served.TheVariants.{Ran, Absent, Full, NoMemory}
 use Rattle.paged_target.proofs.Joined.{one_schedule}
+use Rattle.space_core.specs.StandsFor.{SpaceValue}
 
 full_by : (turns : List Turn) (order : List ℕ) (hart : ℕ) → IsJoined turns → written_out turns ≡ order → room turns hart ≡ 0 → IsFull order hart
 full_by turns order hart joined is none other joined' is' = ap (λ t. room t hart) (one_schedule other turns joined' joined (is' ∙ sym is)) ∙ none
@@ -50,17 +50,17 @@ module _ {S : Type 0} where
   pub is_roomy : (core : CoreValue S) (turns : List Turn) (hart : ℕ) → IsJoined turns → written_out turns ≡ recorded core → 0 < room turns hart → ¬ LacksOn core (CannotRecord [] hart)
   is_roomy core turns hart joined is some = roomy_by turns (recorded core ++ []) hart joined (is ∙ sym (append-nil (recorded core))) some
 
-  recorded_by : (schedule : List Turn) (side : Option (ProcessSideValue S)) → Some schedule ≡ option_map (λ (p : ProcessSideValue S). p.space.schedule) side → written_out schedule ≡ recorded_in side
+  recorded_by : (schedule : List Turn) (side : Option (SpaceValue S)) → Some schedule ≡ option_map (λ (p : SpaceValue S). p.schedule) side → written_out schedule ≡ recorded_in side
   recorded_by schedule None e = cc
-  recorded_by schedule (Some side) e = let is : schedule ≡ side.space.schedule = cc in ap written_out is
+  recorded_by schedule (Some side) e = let is : schedule ≡ side.schedule = cc in ap written_out is
 
   -- what a machine's schedule tells of one more instruction
-  pub fits_by : (core : CoreValue S) (schedule : List Turn) (hart : ℕ) (told : Bool) → IsJoined schedule → Some schedule ≡ option_map (λ (p : ProcessSideValue S). p.space.schedule) (slice_get core.processes 0)
+  pub fits_by : (core : CoreValue S) (schedule : List Turn) (hart : ℕ) (told : Bool) → IsJoined schedule → Some schedule ≡ option_map (λ (p : SpaceValue S). p.schedule) (slice_get core.processes 0)
       → told ≡ fits schedule hart → told ≡ true → ¬ LacksOn core (CannotRecord [] hart)
   fits_by core schedule hart told joined at tells fit =
       is_roomy core schedule hart joined (recorded_by schedule (slice_get core.processes 0) at) (some_room (room schedule hart) (sym tells ∙ fit))
 
-  pub full_by_schedule : (core : CoreValue S) (schedule : List Turn) (hart : ℕ) (told : Bool) → IsJoined schedule → Some schedule ≡ option_map (λ (p : ProcessSideValue S). p.space.schedule) (slice_get core.processes 0)
+  pub full_by_schedule : (core : CoreValue S) (schedule : List Turn) (hart : ℕ) (told : Bool) → IsJoined schedule → Some schedule ≡ option_map (λ (p : SpaceValue S). p.schedule) (slice_get core.processes 0)
       → told ≡ fits schedule hart → told ≡ false → LacksOn core (CannotRecord [] hart)
   full_by_schedule core schedule hart told joined at tells unfit =
       is_full core schedule hart joined (recorded_by schedule (slice_get core.processes 0) at) (no_room (room schedule hart) (sym tells ∙ unfit))

@@ -16,9 +16,8 @@ use Rattle.flat_machine.specs.Process.{Process, IsWhole, hart_registers, is_live
 use Rattle.flat_machine.specs.StepLaws.{has_no_ending}
 use Rattle.flat_machine.specs.Schedule.{written_out}
 use Rattle.flat_machine.specs.declared.end.End.{End}
-use Rattle.space_core.specs.StandsFor.{StandsFor, flat_with, own_ending}
+use Rattle.space_core.specs.StandsFor.{SpaceValue, StandsFor, flat_with, own_ending}
 use Rattle.machine_sides.specs.Admitting.{stage_at}
-use Rattle.machine_sides.specs.Sides.{ProcessSideValue}
 use Rattle.elf_image.specs.Start.{Start, start_of}
 use Rattle.machine_sides.specs.Starting.{Begins}
 use Rattle.machine_core.specs.Coherent.{EachCoherent}
@@ -67,25 +66,25 @@ some_of (Some x) there = (x, refl)
 module _ {S : Type 0} (held : S → List ℕ) where
   -- a machine's one process, and the flat process that it stands for
   pub record ShowsFlat (core : CoreValue S) : Type 0 where
-    pub side : ProcessSideValue S
+    pub side : SpaceValue S
     pub found : slice_get core.processes 0 ≡ Some side
-    pub stands : StandsFor held side.space
-    pub flat : flat_at core ≡ flat_with side.space.running stands.memory
+    pub stands : StandsFor held side
+    pub flat : flat_at core ≡ flat_with side.running stands.memory
     pub whole : IsWhole (flat_at core)
 
-  stands_at : (honest : Type 0) (core : CoreValue S) (side : ProcessSideValue S) → honest → IsFaithful held honest core → slice_get core.processes 0 ≡ Some side → StandsFor held side.space
+  stands_at : (honest : Type 0) (core : CoreValue S) (side : SpaceValue S) → honest → IsFaithful held honest core → slice_get core.processes 0 ≡ Some side → StandsFor held side
   unfolding EachCoherent
   stands_at honest core side is_honest faithful at = (faithful.coherent 0 side at).stands is_honest
 
-  shows_by : (core : CoreValue S) (side : ProcessSideValue S) → slice_get core.processes 0 ≡ Some side → StandsFor held side.space → ShowsFlat core
+  shows_by : (core : CoreValue S) (side : SpaceValue S) → slice_get core.processes 0 ≡ Some side → StandsFor held side → ShowsFlat core
   shows_by core side at stands =
-      let flat : flat_at core ≡ flat_with side.space.running stands.memory = ap flat_in at ∙ ap (λ o. unwrap_or o no_process) stands.ran in
+      let flat : flat_at core ≡ flat_with side.running stands.memory = ap flat_in at ∙ ap (λ o. unwrap_or o no_process) stands.ran in
       record {
         side = side;
         found = at;
         stands = stands;
         flat = flat;
-        whole = subst IsWhole (sym flat) (whole_from_opening side.space.image side.space.input (written_out side.space.schedule) (flat_with side.space.running stands.memory) stands.ran);
+        whole = subst IsWhole (sym flat) (whole_from_opening side.image side.input (written_out side.schedule) (flat_with side.running stands.memory) stands.ran);
       }
 
   pub shows_flat : (honest : Type 0) (core : CoreValue S) → honest → IsFaithful held honest core → IsSome (slice_get core.processes 0) → ShowsFlat core
@@ -116,23 +115,23 @@ module _ {S : Type 0} (held : S → List ℕ) where
         no_turn None some e = true≢false (sym some)
         no_turn (Some x) some e = cc
 
-    pub harts_shown : (full : Bool) (hart : ℕ) → option_and_then (λ (side : ProcessSideValue S). slice_get side.space.running.harts hart) (slice_get core.processes 0) ≡ hart_registers hart (shown_as full (flat_at core))
+    pub harts_shown : (full : Bool) (hart : ℕ) → option_and_then (λ (side : SpaceValue S). slice_get side.running.harts hart) (slice_get core.processes 0) ≡ hart_registers hart (shown_as full (flat_at core))
     harts_shown full hart =
-        ap (option_and_then (λ (side : ProcessSideValue S). slice_get side.space.running.harts hart)) shows.found ∙ ap (hart_registers hart) (sym shows.flat) ∙ full_harts full hart (flat_at core)
+        ap (option_and_then (λ (side : SpaceValue S). slice_get side.running.harts hart)) shows.found ∙ ap (hart_registers hart) (sym shows.flat) ∙ full_harts full hart (flat_at core)
 
-    pub end_shown : (end : Option End) → Some end ≡ option_map (λ (side : ProcessSideValue S). side.space.running.ending) (slice_get core.processes 0) → own_ending end ≡ (flat_at core).ending
+    pub end_shown : (end : Option End) → Some end ≡ option_map (λ (side : SpaceValue S). side.running.ending) (slice_get core.processes 0) → own_ending end ≡ (flat_at core).ending
     end_shown end e =
-        let is = e ∙ ap (option_map (λ (side : ProcessSideValue S). side.space.running.ending)) shows.found in
-        let same : end ≡ shows.side.space.running.ending = cc in
+        let is = e ∙ ap (option_map (λ (side : SpaceValue S). side.running.ending)) shows.found in
+        let same : end ≡ shows.side.running.ending = cc in
         ap own_ending same ∙ ap (λ (p : Process). p.ending) (sym shows.flat)
 
-    pub end_there : option_map (λ (side : ProcessSideValue S). side.space.running.ending) (slice_get core.processes 0) ≡ None → ⊥
-    end_there e = let is = sym (ap (option_map (λ (side : ProcessSideValue S). side.space.running.ending)) shows.found) ∙ e in cc
+    pub end_there : option_map (λ (side : SpaceValue S). side.running.ending) (slice_get core.processes 0) ≡ None → ⊥
+    end_there e = let is = sym (ap (option_map (λ (side : SpaceValue S). side.running.ending)) shows.found) ∙ e in cc
 
     -- a page is mapped where the flat process has one
-    pub page_shown : (number : ℕ) → number < 2 ^ 20 → is_some (stage_in shows.side.space.memory number) ≡ is_some (mapped_page (flat_at core).memory number)
+    pub page_shown : (number : ℕ) → number < 2 ^ 20 → is_some (stage_in shows.side.memory number) ≡ is_some (mapped_page (flat_at core).memory number)
     page_shown number small =
-        sym (rights_staged shows.side.space.memory number)
+        sym (rights_staged shows.side.memory number)
         ∙ ap is_some (sym (shows.stands.shows.mapped number small))
         ∙ map_some (λ (p : Page). p.rights) (mapped_page shows.stands.memory number)
         ∙ ap (λ (p : Process). is_some (mapped_page p.memory number)) (sym shows.flat)
@@ -143,10 +142,10 @@ module _ {S : Type 0} (held : S → List ℕ) where
 
     -- whether a page is mapped at an address
     pub mapped_shown : (full : Bool) (address vpn : ℕ) → vpn ≡ page_number address → vpn < 2 ^ 20
-        → is_some (option_and_then (λ (side : ProcessSideValue S). stage_at side.space vpn) (slice_get core.processes 0)) ≡ is_some (byte_at (shown_as full (flat_at core)).memory address)
+        → is_some (option_and_then (λ (side : SpaceValue S). stage_at side vpn) (slice_get core.processes 0)) ≡ is_some (byte_at (shown_as full (flat_at core)).memory address)
     mapped_shown full address vpn at small =
-        ap (λ o. is_some (option_and_then (λ (side : ProcessSideValue S). stage_at side.space vpn) o)) shows.found
-        ∙ ap (λ b. is_some (if b then stage_in shows.side.space.memory vpn else None)) (lt-ltb vpn (2 ^ 20) small)
+        ap (λ o. is_some (option_and_then (λ (side : SpaceValue S). stage_at side vpn) o)) shows.found
+        ∙ ap (λ b. is_some (if b then stage_in shows.side.memory vpn else None)) (lt-ltb vpn (2 ^ 20) small)
         ∙ page_shown vpn small
         ∙ ap (λ n. is_some (mapped_page (flat_at core).memory n)) at
         ∙ sym (byte_shown address)
@@ -158,13 +157,13 @@ starts_alone : (image : ImageContent) (start : Start) → slice_get (start_of im
 starts_alone image start e = cc
 
 module _ {S : Type 0} where
-  begun_flat : (image : ImageContent) (start : Start) (side : ProcessSideValue S) → start_of image [] ≡ start → Begins 0 start side → flat_of side.space ≡ opening image []
+  begun_flat : (image : ImageContent) (start : Start) (side : SpaceValue S) → start_of image [] ≡ start → Begins 0 start side → flat_of side ≡ opening image []
   unfolding flat_run
   begun_flat image start side same begins =
-      let image_is : side.space.image ≡ image = begins.image ∙ ap (λ (s : Start). s.image) (sym same) in
-      let input_is : side.space.input ≡ [] = begins.input ∙ ap (λ (s : Start). s.input) (sym same) in
-      ap (λ l. unwrap_or (flat_run (written_out l) (opening side.space.image side.space.input)) no_process) begins.schedule
-      ∙ ap (λ (i : ImageContent). opening i side.space.input) image_is ∙ ap (opening image) input_is
+      let image_is : side.image ≡ image = begins.image ∙ ap (λ (s : Start). s.image) (sym same) in
+      let input_is : side.input ≡ [] = begins.input ∙ ap (λ (s : Start). s.input) (sym same) in
+      ap (λ l. unwrap_or (flat_run (written_out l) (opening side.image side.input)) no_process) begins.schedule
+      ∙ ap (λ (i : ImageContent). opening i side.input) image_is ∙ ap (opening image) input_is
 
   pub begins_flat : (image : ImageContent) (starts : List Start) (core : CoreValue S) → starts ≡ start_of image [] ∷ [] → AllBegin starts core.processes → flat_at core ≡ opening image []
   begins_flat image starts core alone all =

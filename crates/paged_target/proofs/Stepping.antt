@@ -6,7 +6,6 @@ use Rattle.flat_machine.specs.Process.{Process, opening, flat_run, flat_step}
 use Rattle.flat_machine.specs.RunLaws.{flat_run_append}
 use Rattle.flat_machine.specs.Schedule.{written_out}
 use Rattle.space_core.specs.StandsFor.{SpaceValue}
-use Rattle.machine_sides.specs.Sides.{ProcessSideValue}
 use Rattle.machine_core.specs.Faithful.{IsFaithful}
 use Rattle.machine_core.specs.Headline.{adds, has_run, GoesOn, Remains}
 use Rattle.machine_core.specs.Machine.{CoreValue}
@@ -51,35 +50,35 @@ module _ {S : Type 0} where
   }
 
   -- one process that remains twice
-  remains_then : (number : ℕ) (first second : List ℕ) (between new : List (ProcessSideValue S)) (old : ProcessSideValue S) → (one : Remains number first between old) → Remains number second new one.process → Remains number (first ++ second) new old
+  remains_then : (number : ℕ) (first second : List ℕ) (between new : List (SpaceValue S)) (old : SpaceValue S) → (one : Remains number first between old) → Remains number second new one.process → Remains number (first ++ second) new old
   remains_then number first second between new old one other =
-      record { process = other.process; found = other.found; goes_on = goes_then first second old.space one.process.space other.process.space one.goes_on other.goes_on }
+      record { process = other.process; found = other.found; goes_on = goes_then first second old one.process other.process one.goes_on other.goes_on }
 
-  pub remains_there : (added : List ℕ) (new : CoreValue S) (side : ProcessSideValue S) → Remains 0 added new.processes side → IsSome (slice_get new.processes 0)
+  pub remains_there : (added : List ℕ) (new : CoreValue S) (side : SpaceValue S) → Remains 0 added new.processes side → IsSome (slice_get new.processes 0)
   remains_there added new side remains = subst IsSome (sym remains.found) cc
 
   -- ---- the flat process
 
   module _ (held : S → List ℕ) where
-    ran_is : (core : CoreValue S) (shows : ShowsFlat held core) → flat_run (written_out shows.side.space.schedule) (opening shows.side.space.image shows.side.space.input) ≡ Some (flat_at core)
+    ran_is : (core : CoreValue S) (shows : ShowsFlat held core) → flat_run (written_out shows.side.schedule) (opening shows.side.image shows.side.input) ≡ Some (flat_at core)
     ran_is core shows = shows.stands.ran ∙ ap Some (sym shows.flat)
 
-    goes_runs : (added : List ℕ) (old new : CoreValue S) (shows : ShowsFlat held old) (shows' : ShowsFlat held new) → GoesOn added shows.side.space shows'.side.space
+    goes_runs : (added : List ℕ) (old new : CoreValue S) (shows : ShowsFlat held old) (shows' : ShowsFlat held new) → GoesOn added shows.side shows'.side
         → flat_run added (flat_at old) ≡ Some (flat_at new)
     goes_runs added old new shows shows' goes =
         let image = goes.image in
         let input = goes.input in
-        let same : flat_run (written_out shows'.side.space.schedule) (opening shows'.side.space.image shows'.side.space.input) ≡ flat_run (written_out shows.side.space.schedule ++ added) (opening shows.side.space.image shows.side.space.input) =
-        ap (λ l. flat_run l (opening shows'.side.space.image shows'.side.space.input)) goes.recorded
-        ∙ ap (λ (i : ImageContent). flat_run (written_out shows.side.space.schedule ++ added) (opening i shows'.side.space.input)) image
-        ∙ ap (λ l. flat_run (written_out shows.side.space.schedule ++ added) (opening shows.side.space.image l)) input in
-        sym (flat_run_append (written_out shows.side.space.schedule) added (opening shows.side.space.image shows.side.space.input) (flat_at old) (ran_is old shows))
+        let same : flat_run (written_out shows'.side.schedule) (opening shows'.side.image shows'.side.input) ≡ flat_run (written_out shows.side.schedule ++ added) (opening shows.side.image shows.side.input) =
+        ap (λ l. flat_run l (opening shows'.side.image shows'.side.input)) goes.recorded
+        ∙ ap (λ (i : ImageContent). flat_run (written_out shows.side.schedule ++ added) (opening i shows'.side.input)) image
+        ∙ ap (λ l. flat_run (written_out shows.side.schedule ++ added) (opening shows.side.image l)) input in
+        sym (flat_run_append (written_out shows.side.schedule) added (opening shows.side.image shows.side.input) (flat_at old) (ran_is old shows))
         ∙ sym same ∙ ran_is new shows'
 
     pub remains_runs : (added : List ℕ) (old new : CoreValue S) (shows : ShowsFlat held old) → ShowsFlat held new → Remains 0 added new.processes shows.side → flat_run added (flat_at old) ≡ Some (flat_at new)
     remains_runs added old new shows shows' remains =
         let same : remains.process ≡ shows'.side = let a = remains.found in let b = shows'.found in cc in
-        goes_runs added old new shows shows' (subst (λ (p : ProcessSideValue S). GoesOn added shows.side.space p.space) same remains.goes_on)
+        goes_runs added old new shows shows' (subst (λ (p : SpaceValue S). GoesOn added shows.side p) same remains.goes_on)
 
     pub remains_same : (old new : CoreValue S) (shows : ShowsFlat held old) → ShowsFlat held new → Remains 0 [] new.processes shows.side → flat_at new ≡ flat_at old
     remains_same old new shows shows' remains = none_of (flat_at old) (flat_at new) (remains_runs [] old new shows shows' remains)
@@ -93,7 +92,7 @@ module _ {S : Type 0} where
     ran_adds : (hart : ℕ) (answer : Reply) → has_run answer ≡ true → adds 0 (Step 0 hart) answer ≡ hart ∷ []
     ran_adds hart answer ran = ap (λ b. if b && (0 == 0) then hart ∷ [] else []) ran
 
-    serves_remains : (hart : ℕ) (what : Served) (old new : CoreValue S) (side : ProcessSideValue S) → Serves held honest failures 0 hart what old new → slice_get old.processes 0 ≡ Some side
+    serves_remains : (hart : ℕ) (what : Served) (old new : CoreValue S) (side : SpaceValue S) → Serves held honest failures 0 hart what old new → slice_get old.processes 0 ≡ Some side
         → Remains 0 (added_by what hart) new.processes side
     serves_remains hart served.Ran old new side serves at =
         let brought = serves.brings.remains 0 side at in
@@ -135,4 +134,4 @@ module _ {S : Type 0} where
     -- what an ending by the machine leaves to be recorded
     pub remains_room : (old new : CoreValue S) (shows : ShowsFlat held old) → Remains 0 [] new.processes shows.side → KeepsRoom (LacksOn old) (LacksOn new)
     remains_room old new shows remains =
-        keeps_room old new (ap recorded_in remains.found ∙ remains.goes_on.recorded ∙ append-nil (written_out shows.side.space.schedule) ∙ ap recorded_in (sym shows.found))
+        keeps_room old new (ap recorded_in remains.found ∙ remains.goes_on.recorded ∙ append-nil (written_out shows.side.schedule) ∙ ap recorded_in (sym shows.found))

@@ -5,14 +5,14 @@ use Rattle.std.specs.List.{position_from}
 use Rattle.env_calls.specs.Environment.{is_marked, least_live_from}
 use Rattle.machine_core.specs.Machine.{CoreValue}
 use Rattle.machine_core.specs.Reading.{is_live_in}
-use Rattle.machine_sides.specs.Sides.{ProcessSideValue}
 use Rattle.paged_target.specs.Marks.{marks_at, marks_in}
+use Rattle.space_core.specs.StandsFor.{SpaceValue}
 
 -- a mark that is not there is not set
 pub mark_is : {S : Type 0} (core : CoreValue S) (hart : ℕ) → is_live_in (slice_get core.processes 0) hart ≡ slice_index_or (marks_at core) hart false
 mark_is core hart = by (slice_get core.processes 0)
   where
-    by : {S : Type 0} (side : Option (ProcessSideValue S)) → is_live_in side hart ≡ slice_index_or (marks_in side) hart false
+    by : {S : Type 0} (side : Option (SpaceValue S)) → is_live_in side hart ≡ slice_index_or (marks_in side) hart false
     by None = refl
     by (Some side) = refl
 

@@ -3,12 +3,12 @@ use Rattle.std.specs.Prelude.{◌≡◌, ℕ, List, [], Option, None, Some, slic
 use Rattle.flat_machine.specs.Schedule.{room, written_out, IsJoined}
 use Rattle.flat_machine.specs.declared.schedule.Turn.{Turn}
 use Rattle.machine_core.specs.Machine.{CoreValue}
-use Rattle.machine_sides.specs.Sides.{ProcessSideValue}
+use Rattle.space_core.specs.StandsFor.{SpaceValue}
 
 module _ {S : Type 0} where
-  abbrev pub recorded_in : Option (ProcessSideValue S) → List ℕ
+  abbrev pub recorded_in : Option (SpaceValue S) → List ℕ
   recorded_in None = []
-  recorded_in (Some side) = written_out side.space.schedule
+  recorded_in (Some side) = written_out side.schedule
 
   -- the harts of its completed instructions, in order
   abbrev pub recorded : CoreValue S → List ℕ

@@ -7,7 +7,6 @@ use Rattle.paged_memory.specs.Whole.{stage_in}
 use Rattle.flat_machine.specs.Process.{Process, opening, flat_run}
 use Rattle.flat_machine.specs.Schedule.{written_out}
 use Rattle.space_core.specs.StandsFor.{SpaceValue}
-use Rattle.machine_sides.specs.Sides.{ProcessSideValue}
 use Rattle.machine_core.specs.Machine.{CoreValue}
 use Rattle.debug_core.specs.Progresses.{ended_full}
 
@@ -25,17 +24,17 @@ module _ {S : Type 0} where
   abbrev pub flat_of : SpaceValue S → Process
   flat_of space = unwrap_or (flat_run (written_out space.schedule) (opening space.image space.input)) no_process
 
-  abbrev pub flat_in : Option (ProcessSideValue S) → Process
+  abbrev pub flat_in : Option (SpaceValue S) → Process
   flat_in None = no_process
-  flat_in (Some side) = flat_of side.space
+  flat_in (Some side) = flat_of side
 
   -- the same of the process of number 0
   abbrev pub flat_at : CoreValue S → Process
   flat_at core = flat_in (slice_get core.processes 0)
 
   -- where a page of that process is
-  abbrev pub stage_of : ℕ → ProcessSideValue S → Option PageState
-  stage_of number side = stage_in side.space.memory number
+  abbrev pub stage_of : ℕ → SpaceValue S → Option PageState
+  stage_of number side = stage_in side.memory number
 
   abbrev pub stage_shown : CoreValue S → ℕ → Option PageState
   stage_shown core number = option_and_then (stage_of number) (slice_get core.processes 0)

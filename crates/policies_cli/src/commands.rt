@@ -11,6 +11,7 @@ pub(crate) fn policies<'a>(alloc: Global) -> Result<Command<'a>, AllocError> {
     let app = app.subcommand(trace(alloc)?)?;
     let app = app.subcommand(replay(alloc)?)?;
     let app = app.subcommand(curve(alloc)?)?;
+    let app = app.subcommand(write_backs(alloc)?)?;
     app.subcommand(totals(alloc)?)
 }
 
@@ -33,9 +34,17 @@ fn replay<'a>(alloc: Global) -> Result<Command<'a>, AllocError> {
 fn curve<'a>(alloc: Global) -> Result<Command<'a>, AllocError> {
     Command::new(alloc, "curve")
         .arg(option(alloc, "format"))?
+        .arg(option(alloc, "sample"))?
+        .arg(flag(alloc, "optimum"))?
         .arg(flag(alloc, "ratio"))?
         .arg(flag(alloc, "csv"))?
         .arg(flag(alloc, "progress"))?
+        .arg(Arg::new(alloc, "trace").required(true))
+}
+
+fn write_backs<'a>(alloc: Global) -> Result<Command<'a>, AllocError> {
+    table(alloc, Command::new(alloc, "write-backs"))?
+        .arg(option(alloc, "format"))?
         .arg(Arg::new(alloc, "trace").required(true))
 }
 

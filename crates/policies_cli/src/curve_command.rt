@@ -1,18 +1,33 @@
-//! `policies curve`: what a trace misses under LRU with every number of frames.
+//! `policies curve`: what a trace misses with every number of frames.
 
 use crate::request::CurveRequest;
-use crate::table::write_table;
+use crate::table::{write_curve, write_estimate};
 use crate::teller::Teller;
-use crate::trace_file::{open_trace, read_whole};
+use crate::trace_file::{open_trace, read_sample, read_whole};
 use crate::wrong::Wrong;
-use miss_counts::Counts;
-use page_policies::{Frames, lru_curve};
+use clock_policy::Key;
+use page_policies::Frames;
 use std::alloc::{AllocError, Global};
 use std::io::Write;
+use std::num::NonZeroU32;
 use std::rt::Files;
+use whole_strings::{lru_curve, optimum_curve};
 
-/// Counts a trace in one pass, and writes a row for each number of frames up to as many as it has pages.
+/// Counts a trace, and writes a row for each number of frames up to as many as it has pages.
 pub(crate) fn run_curve<'a, R: Files + AllocGlobal, W: Write, E: Write>(
+    rt: &R,
+    request: &CurveRequest<'a>,
+    out: &mut W,
+    err: &mut E,
+) -> Result<(), Wrong<'a>> {
+    match request.one_in {
+        Some(one_in) => estimate(rt, request, one_in, out, err),
+        None => count(rt, request, out, err),
+    }
+}
+
+/// Counts the whole trace: LRU in one pass, the optimum with each number of frames anew.
+fn count<'a, R: Files + AllocGlobal, W: Write, E: Write>(
     rt: &R,
     request: &CurveRequest<'a>,
     out: &mut W,
@@ -24,35 +39,52 @@ pub(crate) fn run_curve<'a, R: Files + AllocGlobal, W: Write, E: Write>(
     let read = read_whole(alloc, &mut trace, &mut teller);
     teller.erase();
     let string = read?;
-    let curve = lru_curve(alloc, string.as_slice())?;
-    let rows = rows_of(alloc, curve.as_slice(), string.len() as u64)?;
-    write_table(rows.as_slice(), request.printing, out)?;
+    let lru = lru_curve(alloc, string.as_slice())?;
+    let optimum = if request.has_optimum {
+        optimum_of(alloc, string.as_slice(), lru.len())?
+    } else {
+        Vec::new(alloc)
+    };
+    write_curve(
+        lru.as_slice(),
+        optimum.as_slice(),
+        string.len() as u64,
+        request.printing,
+        out,
+    )?;
     Ok(())
 }
 
-/// A row for 1 frame, for 2 and so on, of so many references.
-fn rows_of(alloc: Global, curve: &[usize], references: u64) -> Result<Vec<Counts>, AllocError> {
-    let mut rows = Vec::new(alloc);
-    for (at, misses) in curve.iter().enumerate() {
-        let Some(frames) = Frames::new(at.saturating_add(1)) else {
-            return Ok(rows);
-        };
-        rows.push(Counts {
-            frames,
-            references,
-            fifo: None,
-            clock: None,
-            lru: Some(*misses as u64),
-            clock_pro_used: None,
-            clock_pro: None,
-            two_queues: None,
-            lirs: None,
-            arc: None,
-            sieve: None,
-            s3_fifo: None,
-            random: None,
-            optimum: None,
-        })?;
+/// What the optimum misses with 1, 2 and more frames, up to so many.
+fn optimum_of(alloc: Global, string: &[Key], pages: usize) -> Result<Vec<usize>, AllocError> {
+    match Frames::new(pages) {
+        Some(most) => optimum_curve(alloc, string, most),
+        None => Ok(Vec::new(alloc)),
     }
-    Ok(rows)
+}
+
+/// Counts a sample of one page in so many, and writes what that says of the whole.
+fn estimate<'a, R: Files + AllocGlobal, W: Write, E: Write>(
+    rt: &R,
+    request: &CurveRequest<'a>,
+    one_in: NonZeroU32,
+    out: &mut W,
+    err: &mut E,
+) -> Result<(), Wrong<'a>> {
+    let alloc = rt.alloc();
+    let mut trace = open_trace(rt, request.trace, request.format)?;
+    let mut teller = Teller::new(err, request.printing.is_told);
+    let read = read_sample(alloc, &mut trace, one_in, &mut teller);
+    teller.erase();
+    let (sample, references) = read?;
+    let lru = lru_curve(alloc, sample.as_slice())?;
+    write_estimate(
+        lru.as_slice(),
+        sample.len() as u64,
+        references,
+        one_in.get(),
+        request.printing,
+        out,
+    )?;
+    Ok(())
 }

@@ -6,10 +6,10 @@ ghost use Rattle.std.specs.Prelude.{◌≤◌};
 use byteorder::{ByteOrder, LittleEndian, WriteBytesExt};
 use clock_policy::Key;
 use image_files::Fault;
-use page_policies::next_uses;
 use std::alloc::Global;
 use std::io;
 use std::io::Write;
+use whole_strings::next_uses;
 
 /// The columns of the text.
 pub(crate) const CSV_HEADER: &str = "time,id,size";
@@ -25,7 +25,7 @@ fn id_of(page: Key) -> u64 {
 }
 
 /// A page that stands for an object: each id has its own.
-fn page_of_id(id: u64) -> Key {
+pub(crate) fn page_of_id(id: u64) -> Key {
     Key {
         process: (id >> 32) as u32,
         vpn: (id % (1 << 32)) as u32,
@@ -77,7 +77,8 @@ fn id_in(number: &[u8]) -> Option<u64> {
     }
 }
 
-fn id_to(digits: &[u8], radix: u32) -> Option<u64>
+/// The number below 2^64 that digits write.
+pub(crate) fn id_to(digits: &[u8], radix: u32) -> Option<u64>
     requires least { 2 ≤ radix }
     requires most { radix ≤ 36 }
 {

@@ -1,6 +1,7 @@
 //! The program `policies`: how many references of a guest, or of a trace, miss under each replacement policy.
 #![tactic(auto)]
 
+mod address_lines;
 mod commands;
 mod curve_command;
 mod formats;
@@ -18,6 +19,7 @@ mod teller;
 mod totals_command;
 mod trace_command;
 mod trace_file;
+mod write_backs_command;
 mod wrong;
 
 pub use program::run_policies;

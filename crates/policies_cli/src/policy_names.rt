@@ -4,7 +4,7 @@ use miss_counts::PolicySet;
 
 /// What `--policies` may name.
 pub(crate) const NAMES: &str =
-    "fifo, clock, lru, clock-pro-used, clock-pro, 2q, lirs, arc, sieve, s3-fifo, random, optimum, parted by commas, or all";
+    "fifo, clock, lru, clock-pro-used, clock-pro, 2q, lirs, arc, sieve, s3-fifo, w-tinylfu, random, optimum, parted by commas, or all";
 
 /// None of them.
 const NONE: PolicySet = PolicySet {
@@ -18,6 +18,7 @@ const NONE: PolicySet = PolicySet {
     arc: false,
     sieve: false,
     s3_fifo: false,
+    w_tiny_lfu: false,
     random: false,
     optimum: false,
 };
@@ -34,6 +35,7 @@ pub(crate) const USUAL: PolicySet = PolicySet {
     arc: false,
     sieve: false,
     s3_fifo: false,
+    w_tiny_lfu: false,
     random: false,
     optimum: false,
 };
@@ -62,6 +64,7 @@ fn add(set: &mut PolicySet, word: &str) -> bool {
         "arc" => set.arc = true,
         "sieve" => set.sieve = true,
         "s3-fifo" => set.s3_fifo = true,
+        "w-tinylfu" => set.w_tiny_lfu = true,
         "random" => set.random = true,
         "optimum" => set.optimum = true,
         "all" => *set = all(),
@@ -82,6 +85,7 @@ fn all() -> PolicySet {
         arc: true,
         sieve: true,
         s3_fifo: true,
+        w_tiny_lfu: true,
         random: true,
         optimum: true,
     }

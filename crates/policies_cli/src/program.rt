@@ -7,6 +7,7 @@ use crate::request::Request;
 use crate::requests::read_request;
 use crate::totals_command::run_totals;
 use crate::trace_command::run_trace;
+use crate::write_backs_command::run_write_backs;
 use crate::wrong::Wrong;
 use command_shell::finish;
 use image_files::Fault;
@@ -69,6 +70,7 @@ fn run_words<'a, R: Files + AllocGlobal, S: AsStr, O: Write, E: Write>(
         Request::Trace(request) => Ok(run_trace(rt, &request, out)?),
         Request::Replay(request) => run_replay(rt, &request, out, err),
         Request::Curve(request) => run_curve(rt, &request, out, err),
+        Request::WriteBacks(request) => run_write_backs(rt, &request, out, err),
         Request::Totals(request) => run_totals(rt, &request, out, err),
     }
 }

@@ -2,6 +2,7 @@
 
 use miss_counts::PolicySet;
 use page_policies::Frames;
+use std::num::NonZeroU32;
 
 /// What is asked for on the command line.
 #[derive(Drop)]
@@ -10,6 +11,7 @@ pub enum Request<'a> {
     Trace(TraceRequest<'a>),
     Replay(ReplayRequest<'a>),
     Curve(CurveRequest<'a>),
+    WriteBacks(WriteBacksRequest<'a>),
     Totals(TotalsRequest<'a>),
 }
 
@@ -69,6 +71,20 @@ pub struct ReplayRequest<'a> {
 #[derive(Drop)]
 pub struct CurveRequest<'a> {
     pub format: Format,
+    /// Whether the optimum is counted too.
+    pub has_optimum: bool,
+    /// Where one page in so many is looked at: what is told is an estimate.
+    pub one_in: Option<NonZeroU32>,
+    pub printing: Printing,
+    pub trace: &'a str,
+}
+
+/// Count what a trace writes back.
+#[derive(Drop)]
+pub struct WriteBacksRequest<'a> {
+    pub frames: Vec<Frames>,
+    pub format: Format,
+    pub wanted: PolicySet,
     pub printing: Printing,
     pub trace: &'a str,
 }
@@ -91,4 +107,8 @@ pub enum Format {
     Csv,
     /// The binary format of libCacheSim whose records know the next use.
     OracleGeneral,
+    /// What valgrind's lackey writes: an access a line.
+    Lackey,
+    /// What DynamoRIO's clients write as text.
+    DynamoRio,
 }

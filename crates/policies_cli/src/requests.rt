@@ -5,7 +5,7 @@ use crate::frame_lists::{ListFault, frames_in};
 use crate::policy_names::{NAMES, USUAL, policies_in};
 use crate::request::{
     CurveRequest, Format, GuestRequest, MissesRequest, Printing, ReplayRequest, Request,
-    TotalsRequest, TraceRequest,
+    TotalsRequest, TraceRequest, WriteBacksRequest,
 };
 use crate::wrong::Wrong;
 use clap::ArgMatches;
@@ -16,6 +16,7 @@ use miss_counts::{PolicySet, usual_frames};
 use page_policies::Frames;
 use std::alloc::Global;
 use std::convert::AsStr;
+use std::num::NonZeroU32;
 use text_lines::numeral;
 
 /// The most frames that a trace is replayed with.
@@ -48,6 +49,9 @@ pub(crate) fn read_request<'a, S: AsStr>(
         Some(("trace", matches)) => Ok(Request::Trace(trace_request(alloc, matches)?)),
         Some(("replay", matches)) => Ok(Request::Replay(replay_request(alloc, matches)?)),
         Some(("curve", matches)) => Ok(Request::Curve(curve_request(matches)?)),
+        Some(("write-backs", matches)) => Ok(Request::WriteBacks(write_backs_request(
+            alloc, matches,
+        )?)),
         Some(("totals", matches)) => Ok(Request::Totals(totals_request(matches)?)),
         _ => Err(Wrong::Fault(Fault::BadUsage)),
     }
@@ -80,7 +84,12 @@ fn trace_request<'a>(
     matches: &ArgMatches<'a>,
 ) -> Result<TraceRequest<'a>, Wrong<'a>> {
     let guest = guest_request(alloc, matches)?;
-    let format = format(matches)?;
+    let format = match matches.get_str("format") {
+        Some(name @ ("lackey" | "dynamorio")) => {
+            return Err(Wrong::Value("format", name, WRITTEN_FORMATS));
+        }
+        _ => format(matches)?,
+    };
     Ok(TraceRequest { guest, format })
 }
 
@@ -93,11 +102,7 @@ fn replay_request<'a>(
         optimum: named.optimum || is_given(matches, "optimum"),
         ..named
     };
-    let frames = match matches.get_str("frames") {
-        Some(list) => replay_frames(alloc, list)?,
-        None => usual_frames(alloc, MOST_FRAMES as usize)?,
-    };
-    refuse_frames(frames.as_slice(), wanted)?;
+    let frames = trace_frames(alloc, matches, wanted)?;
     let skip = u64::from(number_from(matches, "skip", 0, 0, u32::MAX, SKIPPED)?);
     if skip > 0 && wanted.optimum {
         return Err(Wrong::Together(
@@ -118,9 +123,52 @@ fn replay_request<'a>(
     })
 }
 
+/// The numbers of frames that a trace is played with.
+fn trace_frames<'a>(
+    alloc: Global,
+    matches: &ArgMatches<'a>,
+    wanted: PolicySet,
+) -> Result<Vec<Frames>, Wrong<'a>> {
+    let frames = match matches.get_str("frames") {
+        Some(list) => replay_frames(alloc, list)?,
+        None => usual_frames(alloc, MOST_FRAMES as usize)?,
+    };
+    refuse_frames(frames.as_slice(), wanted)?;
+    Ok(frames)
+}
+
+fn write_backs_request<'a>(
+    alloc: Global,
+    matches: &ArgMatches<'a>,
+) -> Result<WriteBacksRequest<'a>, Wrong<'a>> {
+    let wanted = wanted_policies(matches, USUAL)?;
+    let wanted = PolicySet {
+        optimum: false,
+        ..wanted
+    };
+    Ok(WriteBacksRequest {
+        frames: trace_frames(alloc, matches, wanted)?,
+        format: format(matches)?,
+        wanted,
+        printing: printing(matches),
+        trace: trace(matches)?,
+    })
+}
+
 fn curve_request<'a>(matches: &ArgMatches<'a>) -> Result<CurveRequest<'a>, Wrong<'a>> {
+    let one_in = number_from(matches, "sample", 0, 1, u32::MAX, SAMPLES)?;
+    let has_optimum = is_given(matches, "optimum");
+    if one_in > 0 && has_optimum {
+        return Err(Wrong::Together(
+            "sample",
+            "optimum",
+            "a sample estimates what LRU misses alone",
+        ));
+    }
     Ok(CurveRequest {
         format: format(matches)?,
+        has_optimum,
+        one_in: NonZeroU32::new(one_in),
         printing: printing(matches),
         trace: trace(matches)?,
     })
@@ -145,6 +193,9 @@ fn trace<'a>(matches: &ArgMatches<'a>) -> Result<&'a str, Wrong<'a>> {
 /// What `--skip` may be.
 const SKIPPED: &str = "a number of references, from 0 to 4294967295";
 
+/// What `--sample` may be.
+const SAMPLES: &str = "one page in so many, from 1 to 4294967295";
+
 /// What `--slice` may be.
 const SLICES: &str = "a number of instructions, from 1 to 100000";
 
@@ -152,7 +203,10 @@ const SLICES: &str = "a number of instructions, from 1 to 100000";
 const LIMITS: &str = "a number of instructions, from 1 to 1000000000";
 
 /// What `--format` may be.
-const FORMATS: &str = "text, csv or oraclegeneral";
+const FORMATS: &str = "text, csv, oraclegeneral, lackey or dynamorio";
+
+/// What it may be for `trace`.
+const WRITTEN_FORMATS: &str = "text, csv or oraclegeneral";
 
 /// The policies that are named, or else those that are counted where none is.
 fn wanted_policies<'a>(matches: &ArgMatches<'a>, usual: PolicySet) -> Result<PolicySet, Wrong<'a>> {
@@ -180,6 +234,8 @@ fn format<'a>(matches: &ArgMatches<'a>) -> Result<Format, Wrong<'a>> {
         None | Some("text") => Ok(Format::Text),
         Some("csv") => Ok(Format::Csv),
         Some("oraclegeneral") => Ok(Format::OracleGeneral),
+        Some("lackey") => Ok(Format::Lackey),
+        Some("dynamorio") => Ok(Format::DynamoRio),
         Some(other) => Err(Wrong::Value("format", other, FORMATS)),
     }
 }

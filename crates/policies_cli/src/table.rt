@@ -2,6 +2,7 @@
 
 use crate::request::Printing;
 use miss_counts::Counts;
+use page_policies::Frames;
 use std::io;
 use std::io::Write;
 
@@ -14,7 +15,7 @@ const WIDER: usize = 18;
 /// A policy's name, and its misses where they were counted.
 type Column = (&'static str, Option<u64>);
 
-fn columns_of(counts: &Counts) -> [Column; 11] {
+fn columns_of(counts: &Counts) -> [Column; 12] {
     [
         ("fifo", counts.fifo),
         ("clock", counts.clock),
@@ -26,6 +27,7 @@ fn columns_of(counts: &Counts) -> [Column; 11] {
         ("arc", counts.arc),
         ("sieve", counts.sieve),
         ("s3-fifo", counts.s3_fifo),
+        ("w-tinylfu", counts.w_tiny_lfu),
         ("random", counts.random),
     ]
 }
@@ -37,20 +39,28 @@ pub(crate) fn write_table<W: Write>(
     out: &mut W,
 ) -> io::Result<()> {
     if let Some(counts) = rows.first() {
-        if printing.is_csv {
-            write_csv_head(counts, out)?;
-        } else {
-            write_head(counts, printing, out)?;
-        }
+        write_any_head(counts, printing, out)?;
     }
     for counts in rows {
-        if printing.is_csv {
-            write_csv_row(counts, printing, out)?;
-        } else {
-            write_row(counts, printing, out)?;
-        }
+        write_any_row(counts, printing, out)?;
     }
     Ok(())
+}
+
+fn write_any_head<W: Write>(counts: &Counts, printing: Printing, out: &mut W) -> io::Result<()> {
+    if printing.is_csv {
+        write_csv_head(counts, out)
+    } else {
+        write_head(counts, printing, out)
+    }
+}
+
+fn write_any_row<W: Write>(counts: &Counts, printing: Printing, out: &mut W) -> io::Result<()> {
+    if printing.is_csv {
+        write_csv_row(counts, printing, out)
+    } else {
+        write_row(counts, printing, out)
+    }
 }
 
 fn write_csv_head<W: Write>(counts: &Counts, out: &mut W) -> io::Result<()> {
@@ -191,4 +201,106 @@ fn part_of(count: u64, of: u64, parts: u64, of_none: u64) -> u64 {
         return of_none;
     }
     count.saturating_mul(parts).saturating_add(of / 2) / of
+}
+
+/// Writes a row for 1 frame, for 2 and so on: what LRU misses, and what the optimum does where that was counted.
+pub(crate) fn write_curve<W: Write>(
+    lru: &[usize],
+    optimum: &[usize],
+    references: u64,
+    printing: Printing,
+    out: &mut W,
+) -> io::Result<()> {
+    for (at, misses) in lru.iter().enumerate() {
+        let Some(frames) = Frames::new(at.saturating_add(1)) else {
+            return Ok(());
+        };
+        let counts = Counts {
+            references,
+            lru: Some(*misses as u64),
+            optimum: optimum.get(at).map(|misses| *misses as u64),
+            ..no_counts(frames)
+        };
+        if at == 0 {
+            write_any_head(&counts, printing, out)?;
+        }
+        write_any_row(&counts, printing, out)?;
+    }
+    Ok(())
+}
+
+/// Nothing was counted with so many frames.
+fn no_counts(frames: Frames) -> Counts {
+    Counts {
+        frames,
+        references: 0,
+        fifo: None,
+        clock: None,
+        lru: None,
+        clock_pro_used: None,
+        clock_pro: None,
+        two_queues: None,
+        lirs: None,
+        arc: None,
+        sieve: None,
+        s3_fifo: None,
+        w_tiny_lfu: None,
+        random: None,
+        optimum: None,
+    }
+}
+
+/// Writes what a sample of one page in so many says that LRU misses. Each frame of the sample stands for so many of the whole, and each
+/// miss for as many as the whole has references for one of the sample. First stands what it rests on.
+pub(crate) fn write_estimate<W: Write>(
+    lru: &[usize],
+    sampled: u64,
+    references: u64,
+    one_in: u32,
+    printing: Printing,
+    out: &mut W,
+) -> io::Result<()> {
+    let pages = lru.len();
+    writeln!(
+        out,
+        "# estimate: one page in {one_in}: {pages} pages and {sampled} of {references} references"
+    )?;
+    if printing.is_csv {
+        writeln!(out, "frames,lru-estimate")?;
+    } else {
+        writeln!(out, "    frames  lru-estimate")?;
+    }
+    for (at, misses) in lru.iter().enumerate() {
+        let frames = (at as u64)
+            .saturating_add(1)
+            .saturating_mul(u64::from(one_in));
+        write_estimated(frames, *misses as u64, sampled, references, printing, out)?;
+    }
+    Ok(())
+}
+
+fn write_estimated<W: Write>(
+    frames: u64,
+    misses: u64,
+    sampled: u64,
+    references: u64,
+    printing: Printing,
+    out: &mut W,
+) -> io::Result<()> {
+    if printing.is_csv {
+        write!(out, "{frames},")?;
+    } else {
+        write!(out, "{frames:>10}")?;
+        write_blanks(if printing.is_ratio { 8 } else { 1 }, out)?;
+    }
+    if printing.is_ratio {
+        write_ratio(misses, sampled, out)?;
+        return writeln!(out);
+    }
+    let estimate = part_of(misses, sampled, references, 0);
+    if printing.is_csv {
+        writeln!(out, "{estimate}")
+    } else {
+        writeln!(out, "{estimate:>13}")
+    }
 }

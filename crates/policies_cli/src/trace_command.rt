@@ -21,7 +21,7 @@ pub(crate) fn run_trace<'a, R: Files + AllocGlobal, W: Write>(
     let processes = read_guests(rt, guest)?;
     let mut guests = GuestString::new(processes, guest.slice, u64::from(guest.limit));
     match request.format {
-        Format::Text => write_text(&mut guests, out),
+        Format::Text | Format::Lackey | Format::DynamoRio => write_text(&mut guests, out),
         Format::Csv => write_all_csv(&mut guests, out),
         Format::OracleGeneral => write_all_oracle(rt.alloc(), guests, out),
     }

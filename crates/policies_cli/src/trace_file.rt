@@ -1,16 +1,20 @@
 //! Traces in files, read as they come.
 
-use crate::formats::{column_of_ids, page_of_csv, page_of_record};
+use crate::address_lines::{AddressLine, dynamorio_line, lackey_line};
+use crate::formats::{column_of_ids, page_of_csv, page_of_id, page_of_record};
 use crate::reference_line::{is_write, page_of};
 use crate::request::Format;
 use crate::wrong::Wrong;
 use clock_policy::Key;
+use guest_strings::Reference;
 use image_files::Fault;
 use miss_counts::{Progress, Stage};
 use std::alloc::{AllocError, Global};
 use std::io::{BufRead, BufReader, ErrorKind, Read};
+use std::num::NonZeroU32;
 use std::rt::Files;
 use std::{fs, io};
+use whole_strings::is_sampled;
 
 /// How many bytes of a trace are read at a time.
 const BYTES: usize = 1 << 16;
@@ -40,6 +44,10 @@ pub(crate) struct TraceFile<'a, B: BufRead> {
     column: usize,
     /// how many references say that they write
     writes: u64,
+    /// the page of an access's last byte, where it is another than that of its first
+    second: Option<Reference>,
+    /// the last reference of a trace of addresses: the next one may be to the same page
+    held: Option<Reference>,
 }
 
 impl<'a, B: BufRead + Drop> TraceFile<'a, B> {
@@ -53,10 +61,12 @@ impl<'a, B: BufRead + Drop> TraceFile<'a, B> {
             count: 0,
             column: 0,
             writes: 0,
+            second: None,
+            held: None,
         }
     }
 
-    /// How many references so far say that they write, which those of a text alone do.
+    /// How many references so far say that they write.
     pub(crate) fn writes(&self) -> u64 {
         self.writes
     }
@@ -65,41 +75,102 @@ impl<'a, B: BufRead + Drop> TraceFile<'a, B> {
     pub(crate) fn fill(&mut self, block: &mut Vec<Key>, most: usize) -> Result<(), Wrong<'a>> {
         block.clear();
         for _ in 0..most {
-            let Some(page) = self.next()? else {
+            let Some(reference) = self.next()? else {
                 return Ok(());
             };
-            if block.push(page).is_err() {
+            if block.push(reference.page).is_err() {
                 return Err(Wrong::Fault(Fault::NoMemory));
             }
         }
         Ok(())
     }
 
-    /// The next page, or `None` at the end.
-    fn next(&mut self) -> Result<Option<Key>, Wrong<'a>> {
+    /// The next reference, or `None` at the end. Those of `csv` and `oraclegeneral` never say that they write.
+    pub(crate) fn next(&mut self) -> Result<Option<Reference>, Wrong<'a>> {
+        let next = match self.format {
+            Format::Text | Format::Csv | Format::OracleGeneral => self.next_page()?,
+            Format::Lackey | Format::DynamoRio => self.next_joined()?,
+        };
+        if let Some(reference) = next {
+            let one = u64::from(reference.is_written);
+            self.writes = self.writes.saturating_add(one);
+        }
+        Ok(next)
+    }
+
+    /// The page of the next line or record.
+    fn next_page(&mut self) -> Result<Option<Reference>, Wrong<'a>> {
         if self.format == Format::Csv && self.count == 0 {
             self.read_names()?;
         }
-        let is_there = match self.format {
-            Format::OracleGeneral => self.read_record()?,
-            Format::Text | Format::Csv => self.read_line()?,
+        let is_there = if self.format == Format::OracleGeneral {
+            self.read_record()?
+        } else {
+            self.read_line()?
         };
         if !is_there {
             return Ok(None);
         }
         let line = self.line.as_slice();
         let page = match self.format {
-            Format::Text => page_of(line),
             Format::Csv => page_of_csv(line, self.column),
             Format::OracleGeneral if self.count == 1 && is_text(line) => None,
             Format::OracleGeneral => page_of_record(line),
+            _ => page_of(line),
         };
-        let is_write = self.format == Format::Text && is_write(line);
-        self.writes = self.writes.saturating_add(u64::from(is_write));
+        let is_written = self.format == Format::Text && is_write(line);
         match page {
-            Some(page) => Ok(Some(page)),
+            Some(page) => Ok(Some(Reference { page, is_written })),
             None => Err(self.bad_line()),
         }
+    }
+
+    /// The next reference of a trace of addresses, in which neighbours to one page are one reference.
+    fn next_joined(&mut self) -> Result<Option<Reference>, Wrong<'a>> {
+        for _ in 0..u64::MAX {
+            let Some(next) = self.next_access()? else {
+                break;
+            };
+            let held = self.held;
+            match joined(held, next) {
+                Some(both) => self.held = Some(both),
+                None => {
+                    self.held = Some(next);
+                    if held.is_some() {
+                        return Ok(held);
+                    }
+                }
+            }
+        }
+        Ok(self.held.take())
+    }
+
+    /// The page of the next access; where it lies in two, first the one and then the other.
+    fn next_access(&mut self) -> Result<Option<Reference>, Wrong<'a>> {
+        if let Some(second) = self.second.take() {
+            return Ok(Some(second));
+        }
+        for _ in 0..u64::MAX {
+            if !self.read_line()? {
+                return Ok(None);
+            }
+            let line = self.line.as_slice();
+            let read = match self.format {
+                Format::Lackey => lackey_line(line),
+                _ => dynamorio_line(line),
+            };
+            match read {
+                Some(AddressLine::Access(access)) => {
+                    if access.last != access.first {
+                        self.second = Some(reference_to(access.last, access.is_written));
+                    }
+                    return Ok(Some(reference_to(access.first, access.is_written)));
+                }
+                Some(AddressLine::Other) => {}
+                None => return Err(self.bad_line()),
+            }
+        }
+        Ok(None)
     }
 
     /// The names of the columns, one of which has the ids; a file with none has no references.
@@ -204,6 +275,60 @@ pub(crate) fn read_whole<'a, B: BufRead + Drop, P: Progress>(
     Ok(string)
 }
 
+/// All references of a trace. One with none is a fault.
+pub(crate) fn read_references<'a, B: BufRead + Drop, P: Progress>(
+    alloc: Global,
+    trace: &mut TraceFile<'a, B>,
+    progress: &mut P,
+) -> Result<Vec<Reference>, Wrong<'a>> {
+    let mut string = Vec::new(alloc);
+    for _ in 0..u64::MAX {
+        let Some(reference) = trace.next()? else {
+            break;
+        };
+        if string.push(reference).is_err() {
+            return Err(Wrong::Fault(Fault::NoMemory));
+        }
+        progress.tell(Stage::References(string.len() as u64));
+    }
+    if string.is_empty() {
+        return Err(Wrong::Empty(trace.name));
+    }
+    Ok(string)
+}
+
+/// The pages of a trace that are in a sample of one in so many, and how many references the whole trace has. One with none is a fault.
+pub(crate) fn read_sample<'a, B: BufRead + Drop, P: Progress>(
+    alloc: Global,
+    trace: &mut TraceFile<'a, B>,
+    one_in: NonZeroU32,
+    progress: &mut P,
+) -> Result<(Vec<Key>, u64), Wrong<'a>> {
+    let mut sample = Vec::new(alloc);
+    let mut references = 0u64;
+    for _ in 0..u64::MAX {
+        let Some(reference) = trace.next()? else {
+            break;
+        };
+        references = references.saturating_add(1);
+        progress.tell(Stage::References(references));
+        if is_sampled(reference.page, one_in) && sample.push(reference.page).is_err() {
+            return Err(Wrong::Fault(Fault::NoMemory));
+        }
+    }
+    if references == 0 {
+        return Err(Wrong::Empty(trace.name));
+    }
+    Ok((sample, references))
+}
+
+fn reference_to(page: u64, is_written: bool) -> Reference {
+    Reference {
+        page: page_of_id(page),
+        is_written,
+    }
+}
+
 /// Whether the bytes of a record are characters of a text, all of them: as a record it would tell of a next use more than 2^56 references
 /// ahead.
 fn is_text(record: &[u8]) -> bool {
@@ -225,4 +350,15 @@ fn shown(alloc: Global, line: &[u8]) -> Result<String, AllocError> {
 /// Reads so many bytes, or as many as there are, and answers how many.
 fn read_some<B: BufRead>(file: &mut B, to: &mut Vec<u8>, most: usize) -> io::Result<usize> {
     file.by_ref().take(most as u64).read_to_end(to)
+}
+
+/// One reference for two neighbours to one page.
+fn joined(held: Option<Reference>, next: Reference) -> Option<Reference> {
+    match held {
+        Some(held) if held.page == next.page => Some(Reference {
+            page: held.page,
+            is_written: held.is_written || next.is_written,
+        }),
+        _ => None,
+    }
 }

@@ -3,7 +3,7 @@ use std::fmt;
 
 /// How a process ended, as it is told.
 #[derive(Clone, Copy)]
-pub(crate) struct Ending(pub(crate) End);
+pub struct Ending(pub End);
 
 impl fmt::Display for Ending {
     ghost use Rattle.std.specs.Prelude.{Some};

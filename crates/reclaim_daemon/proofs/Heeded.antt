@@ -35,11 +35,11 @@ beside frame desk mid desk' e same k = record {
 
 module _ {L S : Type 0} (key : Key) (desk mid desk' : DeskValue) (held held' : HeldValue S) (slots slots' : PoolValue S) where
   pub collected : (looked : Looked L S) (reply : Collection S)
-      → held.side.space.memory.process ≡ key.process
+      → held.side.memory.process ≡ key.process
       → Looks key.vpn desk.pager mid.pager held.side held'.side slots slots' looked
       → mid ≡ record desk { pager = mid.pager }
       → held' ≡ record held { side = held'.side; tries = tried_if (look_failed looked) held.tries }
-      → AgreeStill None desk.pager.pager mid.pager.pager held.side.space held'.side.space
+      → AgreeStill None desk.pager.pager mid.pager.pager held.side held'.side
       → HeedsLook looked mid desk' reply
       → CollectsHeld key desk desk' held held' slots slots' (Some reply)
   collected look.NotLeaving reply own h e t agree k =
@@ -68,16 +68,16 @@ module _ {L S : Type 0} (key : Key) (desk mid desk' : DeskValue) (held held' : H
         looked = subst (λ (p : PagerSideValue). LookedBack key.vpn desk.pager p held.side held'.side slots slots' frame) (sym k.1.pager) h;
         beside = beside frame desk mid desk' e h.pager_stays k.1;
         held_is = t;
-        agree = subst (λ (p : PagerSideValue). AgreeStill None desk.pager.pager p.pager held.side.space held'.side.space) (sym k.1.pager) agree;
+        agree = subst (λ (p : PagerSideValue). AgreeStill None desk.pager.pager p.pager held.side held'.side) (sym k.1.pager) agree;
       })
 
 module _ {L S : Type 0} (job : SavedValue S) (desk mid desk' : DeskValue) (held held' : HeldValue S) where
   pub ended : (outcome : SaveOutcome L S) (reply : SaveReply S)
-      → held.side.space.memory.process ≡ job.process
+      → held.side.memory.process ≡ job.process
       → EndsSave job desk.pager mid.pager held.side held'.side outcome
       → mid ≡ record desk { pager = mid.pager }
       → held' ≡ record held { side = held'.side; tries = tried_if (save_failed outcome) held.tries }
-      → AgreeStill None desk.pager.pager mid.pager.pager held.side.space held'.side.space
+      → AgreeStill None desk.pager.pager mid.pager.pager held.side held'.side
       → HeedsSave outcome mid desk' reply
       → SavesHeld job desk desk' held held' (Some reply)
   ended save.Freed reply own h e t agree k =
@@ -90,7 +90,7 @@ module _ {L S : Type 0} (job : SavedValue S) (desk mid desk' : DeskValue) (held 
         ended = subst (λ (p : PagerSideValue). SavedBack job desk.pager p held.side held'.side frame) (sym k.1.pager) h;
         beside = beside frame desk mid desk' e h.stays k.1;
         held_is = t;
-        agree = subst (λ (p : PagerSideValue). AgreeStill None desk.pager.pager p.pager held.side.space held'.side.space) (sym k.1.pager) agree;
+        agree = subst (λ (p : PagerSideValue). AgreeStill None desk.pager.pager p.pager held.side held'.side) (sym k.1.pager) agree;
       })
   ended (save.WrongPage back) reply own h e t agree k =
       subst (λ r. SavesHeld job desk desk' held held' (Some r)) (sym k.0)

@@ -16,7 +16,7 @@ use Rattle.machine_sides.specs.Loading.{Loads, DoesNotLoad}
 use Rattle.machine_sides.specs.ProcessCalls.{Slices, TakesNotices, IsKilled}
 use Rattle.machine_sides.specs.Purging.{Purges}
 use Rattle.machine_sides.specs.SavingBack.{EndsSave}
-use Rattle.machine_sides.specs.Sides.{PagerSideValue, ProcessSideValue}
+use Rattle.machine_sides.specs.Sides.{PagerSideValue}
 use Rattle.elf_image.specs.Start.{Start}
 use Rattle.machine_sides.specs.Starting.{Begins}
 use Rattle.machine_sides.specs.Sweeping.{Sweeps, ReadsBit, HeedsVerdict}
@@ -69,12 +69,6 @@ module _ {S : Type 0} where
   by_same : (old new : SpaceValue S) → new ≡ old → status_of new ≡ status_of old
   by_same old new e = ap status_of e
 
-  by_side : (old new : ProcessSideValue S) → new ≡ old → status_of new.space ≡ status_of old.space
-  by_side old new e = ap (λ (s : ProcessSideValue S). status_of s.space) e
-
-  by_side_memory : (old new : ProcessSideValue S) → new ≡ record old { space = record old.space { memory = new.space.memory } } → status_of new.space ≡ status_of old.space
-  by_side_memory old new e = by_memory old.space new.space (ap (λ (s : ProcessSideValue S). s.space) e)
-
   reads : (bit : Bit) (vpn : ℕ) (old new : SpaceValue S) → ReadsBit bit vpn old new → status_of new ≡ status_of old
   reads Gone vpn old new e = by_same old new e
   reads Zero vpn old new c = by_memory old new c.stays
@@ -84,34 +78,34 @@ module _ {S : Type 0} where
   heeds verdict.GoOn vpn old new e = by_same old new e
   heeds (verdict.Victim key) vpn old new c = by_memory old new c.stays
 
-  pub sweep_leaves : (pager pager' : PagerSideValue) (old new : ProcessSideValue S) (swept : Swept) → Sweeps pager pager' old new swept → status_of new.space ≡ status_of old.space
-  sweep_leaves pager pager' old new NothingResident h = by_side old new h.1.1
-  sweep_leaves pager pager' old new (Asked key bit) h = heeds verdict.GoOn key.vpn h.between new.space h.heeded ∙ reads bit key.vpn old.space h.between h.read
-  sweep_leaves pager pager' old new (Victim key) h = heeds (verdict.Victim key) key.vpn h.1.between new.space h.1.heeded ∙ reads h.0 key.vpn old.space h.1.between h.1.read
+  pub sweep_leaves : (pager pager' : PagerSideValue) (old new : SpaceValue S) (swept : Swept) → Sweeps pager pager' old new swept → status_of new ≡ status_of old
+  sweep_leaves pager pager' old new NothingResident h = by_same old new h.1.1
+  sweep_leaves pager pager' old new (Asked key bit) h = heeds verdict.GoOn key.vpn h.between new h.heeded ∙ reads bit key.vpn old h.between h.read
+  sweep_leaves pager pager' old new (Victim key) h = heeds (verdict.Victim key) key.vpn h.1.between new h.1.heeded ∙ reads h.0 key.vpn old h.1.between h.1.read
 
-  pub look_leaves : {L : Type 0} (vpn : ℕ) (pager pager' : PagerSideValue) (old new : ProcessSideValue S) (slots slots' : PoolValue S) (looked : Looked L S)
-      → Looks vpn pager pager' old new slots slots' looked → status_of new.space ≡ status_of old.space
-  look_leaves vpn pager pager' old new slots slots' look.NotLeaving h = by_side old new h.1.process_stays
-  look_leaves vpn pager pager' old new slots slots' look.NotYet h = by_side old new h.stays.process_stays
-  look_leaves vpn pager pager' old new slots slots' look.Freed h = by_side_memory old new h.drops.stays
-  look_leaves vpn pager pager' old new slots slots' (look.Dirty job) h = by_side_memory old new h.saving.stays
-  look_leaves vpn pager pager' old new slots slots' look.NoSlot h = by_side_memory old new h.returns.mapped.stays
-  look_leaves vpn pager pager' old new slots slots' (look.NotRestored reason) h = by_side old new h.leaves.stays
-  look_leaves vpn pager pager' old new slots slots' (look.HandedBack frame) h = by_side_memory old new h.drops.stays
+  pub look_leaves : {L : Type 0} (vpn : ℕ) (pager pager' : PagerSideValue) (old new : SpaceValue S) (slots slots' : PoolValue S) (looked : Looked L S)
+      → Looks vpn pager pager' old new slots slots' looked → status_of new ≡ status_of old
+  look_leaves vpn pager pager' old new slots slots' look.NotLeaving h = by_same old new h.1.process_stays
+  look_leaves vpn pager pager' old new slots slots' look.NotYet h = by_same old new h.stays.process_stays
+  look_leaves vpn pager pager' old new slots slots' look.Freed h = by_memory old new h.drops.stays
+  look_leaves vpn pager pager' old new slots slots' (look.Dirty job) h = by_memory old new h.saving.stays
+  look_leaves vpn pager pager' old new slots slots' look.NoSlot h = by_memory old new h.returns.mapped.stays
+  look_leaves vpn pager pager' old new slots slots' (look.NotRestored reason) h = by_same old new h.leaves.stays
+  look_leaves vpn pager pager' old new slots slots' (look.HandedBack frame) h = by_memory old new h.drops.stays
 
-  pub save_leaves : {L : Type 0} (job : SavedValue S) (pager pager' : PagerSideValue) (old new : ProcessSideValue S) (outcome : SaveOutcome L S)
-      → EndsSave job pager pager' old new outcome → status_of new.space ≡ status_of old.space
-  save_leaves job pager pager' old new save.Freed h = by_side_memory old new h.settles.stays
-  save_leaves job pager pager' old new (save.HandedBack frame) h = by_side_memory old new h.settles.stays
-  save_leaves job pager pager' old new (save.WrongPage back) h = by_side old new h.process_stays
-  save_leaves job pager pager' old new (save.ResidentAgain failure) h = by_side_memory h.between new h.returns.mapped.stays ∙ by_side_memory old h.between h.settles.stays
-  save_leaves job pager pager' old new (save.NotRestored failure reason) h = by_side_memory old new h.settles.stays
+  pub save_leaves : {L : Type 0} (job : SavedValue S) (pager pager' : PagerSideValue) (old new : SpaceValue S) (outcome : SaveOutcome L S)
+      → EndsSave job pager pager' old new outcome → status_of new ≡ status_of old
+  save_leaves job pager pager' old new save.Freed h = by_memory old new h.settles.stays
+  save_leaves job pager pager' old new (save.HandedBack frame) h = by_memory old new h.settles.stays
+  save_leaves job pager pager' old new (save.WrongPage back) h = by_same old new h.process_stays
+  save_leaves job pager pager' old new (save.ResidentAgain failure) h = by_memory h.between new h.returns.mapped.stays ∙ by_memory old h.between h.settles.stays
+  save_leaves job pager pager' old new (save.NotRestored failure reason) h = by_memory old new h.settles.stays
 
-  pub purge_leaves : {L : Type 0} (pager pager' : PagerSideValue) (old new : ProcessSideValue S) (slots slots' : PoolValue S) (outcome : Purging L S)
-      → Purges pager pager' old new slots slots' outcome → status_of new.space ≡ status_of old.space
-  purge_leaves pager pager' old new slots slots' purging.Done h = by_memory old.space new.space h.space.stays
-  purge_leaves pager pager' old new slots slots' (purging.Refused reason) h = by_side old new h.process_stays
-  purge_leaves pager pager' old new slots slots' (purging.HandedBack frame slot) h = by_memory old.space new.space h.stops.gave.stays
+  pub purge_leaves : {L : Type 0} (pager pager' : PagerSideValue) (old new : SpaceValue S) (slots slots' : PoolValue S) (outcome : Purging L S)
+      → Purges pager pager' old new slots slots' outcome → status_of new ≡ status_of old
+  purge_leaves pager pager' old new slots slots' purging.Done h = by_both old new (ap (λ (s : SpaceValue S). s.schedule) h.is) (ap (λ (s : SpaceValue S). length s.running.environment.output) h.is)
+  purge_leaves pager pager' old new slots slots' (purging.Refused reason) h = by_same old new h.process_stays
+  purge_leaves pager pager' old new slots slots' (purging.HandedBack frame slot) h = by_memory old new h.stops.gave.stays
 
   pub load_leaves : (held : S → List ℕ) (honest : Type 0) (admission : AdmissionValue) (old new : SpaceValue S) → Loads held honest admission old new → status_of new ≡ status_of old
   load_leaves held honest admission old new h = by_memory old new h.stays
@@ -125,17 +119,17 @@ module _ {S : Type 0} where
   either_load_leaves held honest failures admission old new (Ok u) h k = load_leaves held honest admission old new h
   either_load_leaves held honest failures admission old new (Err back) h k = no_load_leaves held honest failures admission back.0 back.1 old new k
 
-  pub notice_leaves : (hart : ℕ) (old new : ProcessSideValue S) → TakesNotices hart old new → status_of new.space ≡ status_of old.space
+  pub notice_leaves : (hart : ℕ) (old new : SpaceValue S) → TakesNotices hart old new → status_of new ≡ status_of old
   notice_leaves hart old new e =
-      by_both old.space new.space (ap (λ (s : ProcessSideValue S). s.space.schedule) e) (ap (λ (s : ProcessSideValue S). length s.space.running.environment.output) e)
+      by_both old new (ap (λ (s : SpaceValue S). s.schedule) e) (ap (λ (s : SpaceValue S). length s.running.environment.output) e)
 
-  pub kill_leaves : (cause : KillCause) (old new : ProcessSideValue S) → IsKilled cause old new → status_of new.space ≡ status_of old.space
+  pub kill_leaves : (cause : KillCause) (old new : SpaceValue S) → IsKilled cause old new → status_of new ≡ status_of old
   kill_leaves cause old new e =
-      by_both old.space new.space (ap (λ (s : ProcessSideValue S). s.space.schedule) e) (ap (λ (s : ProcessSideValue S). length s.space.running.environment.output) e)
+      by_both old new (ap (λ (s : SpaceValue S). s.schedule) e) (ap (λ (s : SpaceValue S). length s.running.environment.output) e)
 
   -- ---- what it is at first, and what a slice adds
 
-  pub nothing_yet : (number : ℕ) (start : Start) (side : ProcessSideValue S) → Begins number start side → status_of side.space ≡ nothing
+  pub nothing_yet : (number : ℕ) (start : Start) (side : SpaceValue S) → Begins number start side → status_of side ≡ nothing
   unfolding status_of opening
   nothing_yet number start side h = λ i. record { steps = length (written_out (h.schedule i)); output = length (h.running i).environment.output }
 

@@ -21,12 +21,12 @@ module _ {S : Type 0} (key : Key) (desk desk' : DeskValue) (held held' : HeldVal
 
   -- the page has left its frame, which came back where no event gives it
   pub record CollectsStray : Type 0 where
-    pub process : held.side.space.memory.process ≡ key.process
+    pub process : held.side.memory.process ≡ key.process
     pub frame : FrameValue
     pub looked : IsHandedBack key.vpn desk.pager desk'.pager held.side held'.side slots slots' frame
     pub beside : KeepsBeside frame desk desk'
     pub held_is : held' ≡ record held { side = held'.side }
-    pub agree : AgreeStill None desk.pager.pager desk'.pager.pager held.side.space held'.side.space
+    pub agree : AgreeStill None desk.pager.pager desk'.pager.pager held.side held'.side
 
   -- what was done, in the words of the look itself
   abbrev pub Looked : ℕ → Bool → Type 0 → Type 0
@@ -35,7 +35,7 @@ module _ {S : Type 0} (key : Key) (desk desk' : DeskValue) (held held' : HeldVal
   -- a page that found no slot counts as tried for
   abbrev pub CollectsHeld : Option (Collection S) → Type 0
   CollectsHeld None = CollectsNone
-  CollectsHeld (Some NotLeaving) = Looked held.tries desk.sound ((is_leaving_at held.side.space key.vpn ≡ false) × StaysAll key.vpn desk.pager desk'.pager held.side held'.side slots slots')
+  CollectsHeld (Some NotLeaving) = Looked held.tries desk.sound ((is_leaving_at held.side key.vpn ≡ false) × StaysAll key.vpn desk.pager desk'.pager held.side held'.side slots slots')
   CollectsHeld (Some NotYet) = Looked held.tries desk.sound (IsNotYet key.vpn desk.pager desk'.pager held.side held'.side slots slots')
   CollectsHeld (Some Freed) = Looked held.tries desk.sound (IsDropped key.vpn desk.pager desk'.pager held.side held'.side slots slots')
   CollectsHeld (Some (Dirty job)) = Looked held.tries desk.sound (IsCopied key.vpn desk.pager desk'.pager held.side held'.side slots slots' job)

@@ -1,7 +1,6 @@
 -- What stands under a process's lock, and the pair that is published of it.
 use Rattle.std.specs.Prelude.{ℕ, Bool, true, false, length}
 use Rattle.flat_machine.specs.Schedule.{written_out}
-use Rattle.machine_sides.specs.Sides.{ProcessSideValue}
 use Rattle.pager_core.specs.Pager.{tallied}
 use Rattle.space_core.specs.StandsFor.{SpaceValue}
 use Rattle.status_cell.specs.WriterValue.{WriterValue}
@@ -9,7 +8,7 @@ use Rattle.status_cell.specs.declared.status.Status.{Status}
 
 -- the process; the writer of its counts; and how often its pages were tried for since its last completed instruction
 pub record HeldValue (S : Type 0) : Type 0 where
-  pub side : ProcessSideValue S
+  pub side : SpaceValue S
   pub writer : WriterValue
   pub tries : ℕ
 

@@ -17,7 +17,7 @@ module _ {S : Type 0} (number : ℕ) (desk desk' : DeskValue) (held held' : Held
 
   -- a page gave a frame, or a slot, that came back where no event gives it: the frame is kept beside the pager
   pub record PurgesStray : Type 0 where
-    pub process : held.side.space.memory.process ≡ number
+    pub process : held.side.memory.process ≡ number
     pub frame : Option FrameValue
     pub slot : Option S
     pub stops : StopsPurging frame slot desk.pager desk'.pager held.side held'.side slots slots'

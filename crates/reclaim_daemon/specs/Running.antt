@@ -1,10 +1,12 @@
 -- What is done to a process under its lock alone, and what is published of it then.
-use Rattle.std.specs.Prelude.{◌≡◌, ℕ, ◌==◌, List, Option, Some, None, Result, Ok, Err, if◌then◌else◌}
+use Rattle.std.specs.Prelude.{◌≡◌, ℕ, ◌==◌, Bool, true, false, List, Option, Some, None, Result, Ok, Err, if◌then◌else◌}
 use Rattle.clock_policy.specs.declared.key.Key.{Key}
 use Rattle.flat_machine.specs.declared.end.KillCause.{KillCause}
-use Rattle.machine_sides.specs.Admitting.{AdmissionValue}
+use Rattle.machine_sides.specs.Admitting.{AdmissionValue, is_resident_at}
 use Rattle.machine_sides.specs.declared.admission.NotAdmitted.{NotAdmitted}
+use Rattle.machine_sides.specs.declared.admission.NotAdmitted.TheVariants.{NotAbsent}
 use Rattle.machine_sides.specs.Loading.{Loads, DoesNotLoad}
+use Rattle.space_core.specs.StandsFor.{SpaceValue}
 use Rattle.machine_sides.specs.ProcessCalls.{Slices, TakesNotices, IsKilled}
 use Rattle.pager_core.specs.Pager.{tallied}
 use Rattle.paged_memory.specs.declared.filling.PageInFault.{PageInFault}
@@ -23,12 +25,13 @@ tries_after ran tries = if ran == 0 then tries else 0
 module _ {S : Type 0} where
   -- what is published is how far the process has come
   abbrev pub Publishes : HeldValue S → HeldValue S → Type 0
-  Publishes old new = new.writer ≡ record old.writer { last = status_of new.side.space }
+  Publishes old new = new.writer ≡ record old.writer { last = status_of new.side }
 
-  -- a hart's slice, which is published
+  -- a hart's slice, after which it drops its translations that are to be dropped; what it came to is published last
   pub record SlicesHeld (content : S → List ℕ) (honest : Type 0) (hart budget : ℕ) (old new : HeldValue S) (ran : ℕ) (why : SliceStop) : Type 0 where
-    pub slice : Slices content honest hart budget old.side.space new.side.space ran why
-    pub purged : new.side.purged ≡ old.side.purged
+    pub between : SpaceValue S
+    pub slice : Slices content honest hart budget old.side between ran why
+    pub notices : TakesNotices hart between new.side
     pub published : Publishes old new
     pub tries : new.tries ≡ tries_after ran old.tries
 
@@ -37,12 +40,10 @@ module _ {S : Type 0} where
     pub notices : TakesNotices hart old.side new.side
     pub held_is : new ≡ record old { side = new.side }
 
-  -- a slice of a hart of the process of this number, after which the hart drops its translations that are to be dropped
+  -- a slice of a hart of the process of this number
   pub record RunsHart (content : S → List ℕ) (honest : Type 0) (number hart budget : ℕ) (old new : HeldValue S) (ran : ℕ) (why : SliceStop) : Type 0 where
-    pub process : old.side.space.memory.process ≡ number
-    pub between : HeldValue S
-    pub slice : SlicesHeld content honest hart budget old between ran why
-    pub notices : NoticesHeld hart between new
+    pub process : old.side.memory.process ≡ number
+    pub slice : SlicesHeld content honest hart budget old new ran why
 
   -- the machine ends the process, which is published
   pub record KillsHeld (cause : KillCause) (old new : HeldValue S) : Type 0 where
@@ -52,13 +53,11 @@ module _ {S : Type 0} where
 
   -- an admitted page is loaded and mapped, or the admission comes back; either counts as a try
   pub record LoadsHeld (content : S → List ℕ) (honest : Type 0) (admission : AdmissionValue) (old new : HeldValue S) : Type 0 where
-    pub loads : Loads content honest admission old.side.space new.side.space
-    pub purged : new.side.purged ≡ old.side.purged
+    pub loads : Loads content honest admission old.side new.side
     pub held_is : new ≡ record old { side = new.side; tries = tallied old.tries }
 
   pub record DoesNotLoadHeld (content : S → List ℕ) (honest : Type 0) (failures : S → ℕ) (admission back : AdmissionValue) (fault : PageInFault) (old new : HeldValue S) : Type 0 where
-    pub refuses : DoesNotLoad content honest failures admission back fault old.side.space new.side.space
-    pub purged : new.side.purged ≡ old.side.purged
+    pub refuses : DoesNotLoad content honest failures admission back fault old.side new.side
     pub held_is : new ≡ record old { side = new.side; tries = tallied old.tries }
 
 module _ {S : Type 0} (content : S → List ℕ) (honest : Type 0) (failures : S → ℕ) (key : Key) (desk desk' : DeskValue) (held held' : HeldValue S) where
@@ -74,26 +73,42 @@ module _ {S : Type 0} (content : S → List ℕ) (honest : Type 0) (failures : S
     pub admits : AdmitsHeld desk desk' held key admission
     pub refuses : DoesNotLoadHeld content honest failures admission back fault held held'
 
+  -- it is resident already
+  pub record IsHere : Type 0 where
+    pub refuses : RefusesHeld desk desk' held key NotAbsent
+    pub held_stays : held' ≡ held
+    pub here : is_resident_at held.side key.vpn ≡ true
+
+  -- it is not admitted; where it is not absent, it is not resident either
   pub record IsRefused (reason : NotAdmitted) : Type 0 where
     pub refuses : RefusesHeld desk desk' held key reason
     pub held_stays : held' ≡ held
+    pub away : reason ≡ NotAbsent → is_resident_at held.side key.vpn ≡ false
 
   abbrev pub PagesInHeld : {L : Type 0} → Option (PagedIn L) → Type 0
   PagesInHeld None = IsOther key.process desk desk' held held'
   PagesInHeld (Some paged.Mapped) = PagesIn
+  PagesInHeld (Some paged.Here) = IsHere
   PagesInHeld (Some (paged.NotAdmitted reason)) = IsRefused reason
   PagesInHeld (Some (paged.Failed back fault)) = FailsToLoad back fault
 
-module _ {S : Type 0} (content : S → List ℕ) (honest : Type 0) (failures : S → ℕ) (held held' : HeldValue S) where
+-- what a page that is not admitted comes to, which may be resident
+unfoldable pub told_as : {L : Type 0} → Bool → NotAdmitted → PagedIn L
+told_as true NotAbsent = paged.Here
+told_as true reason = paged.NotAdmitted reason
+told_as false reason = paged.NotAdmitted reason
+
+module _ {S : Type 0} (content : S → List ℕ) (honest : Type 0) (failures : S → ℕ) (key : Key) (held held' : HeldValue S) where
   -- an admitted page is loaded, or its admission comes back
   abbrev pub LoadsOne : {L : Type 0} → AdmissionValue → Option (PagedIn L) → Type 0
   LoadsOne admission None = ⊥
   LoadsOne admission (Some paged.Mapped) = LoadsHeld content honest admission held held'
+  LoadsOne admission (Some paged.Here) = ⊥
   LoadsOne admission (Some (paged.NotAdmitted reason)) = ⊥
   LoadsOne admission (Some (paged.Failed back fault)) = DoesNotLoadHeld content honest failures admission back fault held held'
 
   -- the same of a page that may not have been admitted
   abbrev pub LoadsAdmitted : {L : Type 0} → Option (Result AdmissionValue NotAdmitted) → Option (PagedIn L) → Type 0
   LoadsAdmitted None reply = (reply ≡ None) × (held' ≡ held)
-  LoadsAdmitted (Some (Err reason)) reply = (reply ≡ Some (paged.NotAdmitted reason)) × (held' ≡ held)
+  LoadsAdmitted (Some (Err reason)) reply = (reply ≡ Some (told_as (is_resident_at held.side key.vpn) reason)) × (held' ≡ held)
   LoadsAdmitted (Some (Ok admission)) reply = LoadsOne admission reply

@@ -15,12 +15,12 @@ use Rattle.reclaim_daemon.specs.declared.replies.SaveReply.TheVariants.{Freed, S
 module _ {S : Type 0} (job : SavedValue S) (desk desk' : DeskValue) (held held' : HeldValue S) where
   -- the page is in its slot, and its frame came back where no event gives it
   pub record SavesStray : Type 0 where
-    pub process : held.side.space.memory.process ≡ job.process
+    pub process : held.side.memory.process ≡ job.process
     pub frame : FrameValue
     pub ended : IsHandedBack job desk.pager desk'.pager held.side held'.side frame
     pub beside : KeepsBeside frame desk desk'
     pub held_is : held' ≡ record held { side = held'.side }
-    pub agree : AgreeStill None desk.pager.pager desk'.pager.pager held.side.space held'.side.space
+    pub agree : AgreeStill None desk.pager.pager desk'.pager.pager held.side held'.side
 
   -- what was done, in the words of the save's end itself
   abbrev pub Ended : ℕ → Bool → Type 0 → Type 0

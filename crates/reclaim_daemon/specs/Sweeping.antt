@@ -1,5 +1,5 @@
 -- A question of the list under both locks.
-use Rattle.std.specs.Prelude.{◌≡◌, Option, Some, None}
+use Rattle.std.specs.Prelude.{◌≡◌, ℕ, ◌≤◌, Bool, true, false, Option, Some, None}
 use Rattle.clock_policy.specs.declared.key.Key.{Key}
 use Rattle.clock_policy.specs.ClockPro.{question_of}
 use Rattle.machine_sides.specs.Agreeing.{AgreeStill, AsksOf}
@@ -18,12 +18,25 @@ module _ {S : Type 0} (desk desk' : DeskValue) (held held' : HeldValue S) where
 
   -- the page that the list asks for, if it asks for one, is of this process, and the question was put and answered
   pub record DoesSweep (swept : Swept) : Type 0 where
-    pub own : AsksOf desk.pager.pager held.side.space
+    pub own : AsksOf desk.pager.pager held.side
     pub sweeps : Sweeps desk.pager desk'.pager held.side held'.side swept
     pub desk_is : desk' ≡ record desk { pager = desk'.pager }
     pub held_is : held' ≡ record held { side = held'.side }
-    pub agree : AgreeStill None desk.pager.pager desk'.pager.pager held.side.space held'.side.space
+    pub agree : AgreeStill None desk.pager.pager desk'.pager.pager held.side held'.side
 
   abbrev pub SweepsHeld : Option Swept → Type 0
   SweepsHeld None = AsksOther
   SweepsHeld (Some swept) = DoesSweep swept
+
+module _ (processes : ℕ) (desk desk' : DeskValue) where
+  -- the list asks for a page of none of so many processes: the machine counts as unsound from then on
+  pub record AsksNowhere : Type 0 where
+    pub key : Key
+    pub question : question_of desk.pager.pager.list ≡ Some key
+    pub none : processes ≤ key.process
+    pub desk_is : desk' ≡ record desk { sound = false }
+
+  -- no page is resident, or the page is of none of the processes
+  abbrev pub AsksNone : Bool → Type 0
+  AsksNone false = (question_of desk.pager.pager.list ≡ None) × (desk' ≡ desk)
+  AsksNone true = AsksNowhere

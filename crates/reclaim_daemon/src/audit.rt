@@ -1,14 +1,15 @@
 //! Whether the list and the pages agree, and no frame is lost.
 
-ghost use Rattle.std.specs.Prelude.{◌≡◌, ◌<◌, ◌≤◌, ◌*◌, ◌^◌, true, IfSome, IsNone};
-ghost use Rattle.reclaim_daemon.specs.Audit.{CountsMore, FindsSound, HoldsAll, IsListed};
+ghost use Rattle.std.specs.Prelude.{◌≡◌, ◌≤◌, ◌*◌, ◌^◌, true, vec_len, IfSome, IsNone};
+ghost use Rattle.machine_sides.specs.Auditing.{CountsMore, IsListed};
+ghost use Rattle.reclaim_daemon.specs.Audit.{AgreeEverywhere, FindsSound, HoldsAll, IsSound, space_in};
 ghost use Rattle.machine_limits.specs.Limits.{most_processes};
 
 use crate::desk::Desk;
 use crate::held::Held;
+use crate::parts::Parts;
 use crate::shared::Shared;
 use clock_policy::Clock;
-use machine_sides::{entries_of_resident_pages, resident_entries};
 use paged_memory::HeldPages;
 use std::sync::Wait;
 use std::sync::ledger::Ledger;
@@ -44,49 +45,54 @@ impl<L: Ledger, S: SwapSlot, C: Clock> Shared<L, S, C> {
     }
 }
 
-/// Counts the pages of one process more. There is `None` where it is not the one of its number, or where the list has not as many of its
-/// resident pages as resident ones as there are.
-pub(crate) fn count_more<L: Ledger, S: SwapSlot, C: Clock>(
+impl<L: Ledger, S: SwapSlot, C: Clock> Parts<L, S, C> {
+    /// Whether the list's resident entries are exactly the resident pages of the processes, each of which is the one of its number; the
+    /// frames that are free or in pages are as many as the machine was made with; and only what events of the machine give has happened.
+    pub fn audit(&self) -> bool
+        requires few { vec_len self.now.processes ≤ most_processes }
+        ensures sound { result ≡ true → IsSound self.now.desk self.now.processes.items }
+        ensures exact { IsSound self.now.desk self.now.processes.items → result ≡ true }
+        ensures agree { result ≡ true → AgreeEverywhere self.now.desk self.now.processes.items }
+    {
+        let mut found = HeldPages {
+            resident: 0,
+            framed: 0,
+        };
+        'processes: for number in 0..self.processes.len() {
+            match count_more(&self.desk, number as u32, &self.processes[number], found) {
+                Some(more) => found = more,
+                None => return false,
+            }
+        }
+        self.desk.pager().question();
+        is_all(&self.desk, found)
+    }
+}
+
+/// Counts the pages of one process more, as an audit of the machine's sides does.
+fn count_more<L: Ledger, S: SwapSlot, C: Clock>(
     desk: &Desk<L, C>,
     number: u32,
     held: &Held<L, S>,
     found: HeldPages,
 ) -> Option<HeldPages>
-    requires small { number < most_processes }
     requires resident { found.resident ≤ number * 2 ^ 20 }
     requires framed { found.framed ≤ number * 2 ^ 20 }
-    ensures some { IfSome result (CountsMore desk.now number held.now found) }
-    ensures none { IsNone result → IsListed desk.now number held.now → ⊥ }
+    ensures some { IfSome result (CountsMore desk.now.pager.pager number (space_in held.now)
+        found) }
+    ensures none { IsNone result →
+        IsListed desk.now.pager.pager number (space_in held.now) → ⊥ }
 {
-    if held.process() != number {
-        return None;
-    }
-    let pages = held.side().held_pages();
-    if entries_of_resident_pages(desk.pager(), held.side()) != pages.resident {
-        return None;
-    }
-    Some(HeldPages {
-        resident: found.resident + pages.resident,
-        framed: found.framed + pages.framed,
-    })
+    machine_sides::count_more(desk.pager(), number, held.side(), found)
 }
 
 /// Whether so many pages are all that the pager knows of, and it has known nothing but what events give.
-pub(crate) fn is_all<L: Ledger, C: Clock>(desk: &Desk<L, C>, found: HeldPages) -> bool
+fn is_all<L: Ledger, C: Clock>(desk: &Desk<L, C>, found: HeldPages) -> bool
     ensures all { result ≡ true → HoldsAll desk.now found }
     ensures exact { HoldsAll desk.now found → result ≡ true }
 {
     if !desk.is_sound() {
         return false;
     }
-    let pager = desk.pager();
-    if resident_entries(pager) != found.resident {
-        return false;
-    }
-    let size = pager.size() as usize;
-    let free = pager.counts().pager.free;
-    if free > size {
-        return false;
-    }
-    found.framed == size - free
+    machine_sides::is_all(desk.pager(), found)
 }

@@ -24,8 +24,8 @@ pub(crate) fn sweep<L: Ledger, S: SwapSlot, C: Clock>(
     held: &mut Held<L, S>,
 ) -> Swept
     ensures swept { Sweeps pager.old pager.new held.old.side held.new.side result }
-    ensures agree { AsksOf pager.old.pager held.old.side.space →
-        AgreeStill None pager.old.pager pager.new.pager held.old.side.space held.new.side.space }
+    ensures agree { AsksOf pager.old.pager held.old.side →
+        AgreeStill None pager.old.pager pager.new.pager held.old.side held.new.side }
     ensures held { held.new ≡ record held.old { side = held.new.side } }
 {
     machine_sides::sweep(pager, &mut held.side)
@@ -41,10 +41,10 @@ pub(crate) fn collect<L: Ledger, S: SwapSlot, C: Clock>(
 ) -> Looked<L, S>
     ensures looked { Looks vpn pager.old pager.new held.old.side held.new.side slots.old slots.new
         result }
-    ensures agree { AgreeStill None pager.old.pager pager.new.pager held.old.side.space
-        held.new.side.space }
-    ensures memory { S.honest → memory_of S.content held.new.side.space.memory ≡
-        memory_of S.content held.old.side.space.memory }
+    ensures agree { AgreeStill None pager.old.pager pager.new.pager held.old.side
+        held.new.side }
+    ensures memory { S.honest → memory_of S.content held.new.side.memory ≡
+        memory_of S.content held.old.side.memory }
     ensures held { held.new ≡ record held.old {
       side = held.new.side;
       tries = tried_if
@@ -66,10 +66,10 @@ pub(crate) fn saved<L: Ledger, S: SwapSlot, C: Clock>(
     job: SavedJob<S>,
 ) -> SaveOutcome<L, S>
     ensures ends { EndsSave job pager.old pager.new held.old.side held.new.side result }
-    ensures agree { AgreeStill None pager.old.pager pager.new.pager held.old.side.space
-        held.new.side.space }
-    ensures memory { S.honest → memory_of S.content held.new.side.space.memory ≡
-        memory_of S.content held.old.side.space.memory }
+    ensures agree { AgreeStill None pager.old.pager pager.new.pager held.old.side
+        held.new.side }
+    ensures memory { S.honest → memory_of S.content held.new.side.memory ≡
+        memory_of S.content held.old.side.memory }
     ensures held { held.new ≡ record held.old {
       side = held.new.side;
       tries = tried_if
@@ -92,8 +92,8 @@ pub(crate) fn purge<L: Ledger, S: SwapSlot, C: Clock>(
 ) -> Purging<L, S>
     ensures purges { Purges pager.old pager.new held.old.side held.new.side slots.old slots.new
         result }
-    ensures agree { AgreesPurged pager.old.pager pager.new.pager held.old.side.space
-        held.new.side.space result }
+    ensures agree { AgreesPurged pager.old.pager pager.new.pager held.old.side
+        held.new.side result }
     ensures held { held.new ≡ record held.old { side = held.new.side } }
 {
     machine_sides::purge(pager, &mut held.side, slots)

@@ -136,8 +136,8 @@ impl<L: Ledger, C: Clock> Desk<L, C> {
     ) -> Option<Collection<S>>
         ensures collects { CollectsHeld key self.old self.new held.old held.new slots.old slots.new
             result }
-        ensures memory { S.honest → memory_of S.content held.new.side.space.memory ≡
-            memory_of S.content held.old.side.space.memory }
+        ensures memory { S.honest → memory_of S.content held.new.side.memory ≡
+            memory_of S.content held.old.side.memory }
     {
         if held.process() != key.process {
             self.mark_unsound();
@@ -155,8 +155,8 @@ impl<L: Ledger, C: Clock> Desk<L, C> {
         job: SavedJob<S>,
     ) -> Option<SaveReply<S>>
         ensures saves { SavesHeld job self.old self.new held.old held.new result }
-        ensures memory { S.honest → memory_of S.content held.new.side.space.memory ≡
-            memory_of S.content held.old.side.space.memory }
+        ensures memory { S.honest → memory_of S.content held.new.side.memory ≡
+            memory_of S.content held.old.side.memory }
     {
         if held.process() != job.process() {
             self.mark_unsound();

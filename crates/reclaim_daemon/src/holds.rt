@@ -2,16 +2,16 @@
 //!
 //! Where a process is not the one of its lock's number no call is made, and the machine is not sound from then on.
 
-ghost use Rattle.std.specs.Prelude.{◌≡◌, ◌≤◌, nat_le, IfSome, Some};
+ghost use Rattle.std.specs.Prelude.{◌≡◌, ◌≤◌, ◌↔◌, nat_le, IfOk, IfErr, IfSome, IsNone, Some};
 ghost use Rattle.reclaim_daemon.specs.Collecting.{CollectsHeld};
-ghost use Rattle.reclaim_daemon.specs.Holding.{KillsNumber, KillsSpent, NoticesNumber};
+ghost use Rattle.reclaim_daemon.specs.Holding.{RunsWhere, NoticesWhere, KillsNumberWhere, KillsSpentWhere};
 ghost use Rattle.reclaim_daemon.specs.Purging.{PurgesHeld};
-ghost use Rattle.reclaim_daemon.specs.Running.{RunsHart};
 ghost use Rattle.reclaim_daemon.specs.SavingBack.{SavesHeld};
-ghost use Rattle.reclaim_daemon.specs.Sweeping.{SweepsHeld};
+ghost use Rattle.reclaim_daemon.specs.Sweeping.{SweepsHeld, AsksNone};
 
 use crate::desk::Desk;
 use crate::held::Held;
+use crate::locking::{ROUNDS, lock_held};
 use crate::replies::{Collection, PurgeReply, SaveReply};
 use crate::shared::Shared;
 use clock_policy::{Clock, Key};
@@ -46,6 +46,13 @@ pub struct HoldOfBoth<L: Ledger, S: SwapSlot, C: Clock, A: Drop> {
     pub reply: A,
 }
 
+/// A hold of the pager's lock alone. Where a page of no process was met, the machine is not sound from then on.
+#[derive(Drop)]
+pub struct HoldOfDesk<L: Ledger, C: Clock> {
+    pub desk: Change<Desk<L, C>>,
+    pub is_lost: bool,
+}
+
 /// A hold of the pager's lock, a process's and the slots'.
 #[derive(Drop)]
 pub struct HoldOfAll<L: Ledger, S: SwapSlot, C: Clock, A: Drop> {
@@ -58,153 +65,160 @@ pub struct HoldOfAll<L: Ledger, S: SwapSlot, C: Clock, A: Drop> {
 impl<L: Ledger, S: SwapSlot, C: Clock> Shared<L, S, C> {
     /// A slice of a hart, after which it drops its translations that are to be dropped; how far the process has come is published.
     ///
-    /// It does nothing where there is no such process.
+    /// There is none where there is no such process, and no reply where the process is another one.
     pub fn slice<R: Wait>(
         &self,
         rt: &R,
         number: u32,
         hart: u32,
         budget: u32,
-    ) -> Option<HoldOfProcess<L, S, Slice>>
-        ensures { IfSome result (λ hold. RunsHart S.content S.honest number hart budget
-            hold.process.before.value hold.process.after.value hold.reply.ran hold.reply.stop) }
+    ) -> Option<HoldOfProcess<L, S, Option<Slice>>>
+        ensures none { IsNone result ↔ (self.now.processes ≤ number) }
+        ensures some { IfSome result (λ hold. RunsWhere S.content S.honest number hart budget
+            hold.reply hold.process.before.value hold.process.after.value) }
     {
         let lock = self.processes.get(number as usize)?;
         let mut held = lock.lock(rt);
-        if held.process() != number {
-            self.misplace();
-            return None;
-        }
         let before = Snapshot::of(&*held);
         let had_ended = held.side().end().is_some();
-        let slice = held.slice(rt, hart, budget);
-        held.take_notices(hart);
-        self.count_harts(number, held.side());
-        if !had_ended && held.side().end().is_some() {
-            self.count_end();
+        let reply = held.slice_of(rt, number, hart, budget);
+        let after = Snapshot::of(&*held);
+        let news = self.news(number, &*held, had_ended);
+        drop(held);
+        if has_run(&reply) {
+            self.signals.tell_ran(number);
         }
+        self.tell(number, news);
         Some(HoldOfProcess {
-            process: Change {
-                before,
-                after: Snapshot::of(&*held),
-            },
-            reply: slice,
+            process: Change { before, after },
+            reply,
         })
     }
 
     /// A hart of a process drops its translations that are to be dropped.
-    pub fn notice<R: Wait>(&self, rt: &R, number: u32, hart: u32) -> Option<HoldOfProcess<L, S, ()>>
-        ensures { IfSome result (λ hold. NoticesNumber number hart hold.process.before.value
-            hold.process.after.value) }
+    ///
+    /// There is none where there is no such process; it answers whether the process is not another one.
+    pub fn notice<R: Wait>(
+        &self,
+        rt: &R,
+        number: u32,
+        hart: u32,
+    ) -> Option<HoldOfProcess<L, S, bool>>
+        ensures none { IsNone result ↔ (self.now.processes ≤ number) }
+        ensures some { IfSome result (λ hold. NoticesWhere number hart hold.reply
+            hold.process.before.value hold.process.after.value) }
     {
         let lock = self.processes.get(number as usize)?;
         let mut held = lock.lock(rt);
-        if held.process() != number {
-            self.misplace();
-            return None;
-        }
         let before = Snapshot::of(&*held);
-        held.take_notices(hart);
+        let reply = held.take_notices_of(number, hart);
+        let after = Snapshot::of(&*held);
+        drop(held);
+        if !reply {
+            self.misplace();
+        }
         Some(HoldOfProcess {
-            process: Change {
-                before,
-                after: Snapshot::of(&*held),
-            },
-            reply: (),
+            process: Change { before, after },
+            reply,
         })
     }
 
     /// The machine ends a process, unless it has ended; how far it has come is published.
+    ///
+    /// There is none where there is no such process; it answers whether the process is not another one.
     pub fn kill<R: Wait>(
         &self,
         rt: &R,
         number: u32,
         cause: KillCause,
-    ) -> Option<HoldOfProcess<L, S, ()>>
-        ensures { IfSome result (λ hold. KillsNumber number cause hold.process.before.value
-            hold.process.after.value) }
+    ) -> Option<HoldOfProcess<L, S, bool>>
+        ensures none { IsNone result ↔ (self.now.processes ≤ number) }
+        ensures some { IfSome result (λ hold. KillsNumberWhere number cause hold.reply
+            hold.process.before.value hold.process.after.value) }
     {
         let lock = self.processes.get(number as usize)?;
         let mut held = lock.lock(rt);
-        if held.process() != number {
-            self.misplace();
-            return None;
-        }
         let before = Snapshot::of(&*held);
         let had_ended = held.side().end().is_some();
-        held.kill(rt, cause);
-        self.count_harts(number, held.side());
-        if !had_ended {
-            self.count_end();
-        }
+        let reply = held.kill_number(rt, number, cause);
+        let after = Snapshot::of(&*held);
+        let news = self.news(number, &*held, had_ended);
+        drop(held);
+        self.tell(number, news);
         Some(HoldOfProcess {
-            process: Change {
-                before,
-                after: Snapshot::of(&*held),
-            },
-            reply: (),
+            process: Change { before, after },
+            reply,
         })
     }
 
     /// The machine ends a process for want of a place for its pages, where it was tried for as often as a process may be. Answers
     /// whether it was.
-    pub fn kill_if_spent<R: Wait>(&self, rt: &R, number: u32) -> Option<HoldOfProcess<L, S, bool>>
-        ensures { IfSome result (λ hold. KillsSpent number self.now.most_tries hold.reply
+    ///
+    /// There is none where there is no such process, and no reply where the process is another one.
+    pub fn kill_if_spent<R: Wait>(
+        &self,
+        rt: &R,
+        number: u32,
+    ) -> Option<HoldOfProcess<L, S, Option<bool>>>
+        ensures none { IsNone result ↔ (self.now.processes ≤ number) }
+        ensures some { IfSome result (λ hold. KillsSpentWhere number self.now.most_tries hold.reply
             hold.process.before.value hold.process.after.value) }
     {
         let lock = self.processes.get(number as usize)?;
         let mut held = lock.lock(rt);
-        if held.process() != number {
-            self.misplace();
-            return None;
-        }
         let before = Snapshot::of(&*held);
         let had_ended = held.side().end().is_some();
-        let spent = held.tries() >= self.most_tries();
-        if spent {
-            held.kill(rt, KillCause::NoSwap);
-            self.count_harts(number, held.side());
-        }
-        if spent && !had_ended {
-            self.count_end();
-        }
+        let reply = held.kill_spent(rt, number, self.most_tries());
+        let after = Snapshot::of(&*held);
+        let news = self.news(number, &*held, had_ended);
+        drop(held);
+        self.tell(number, news);
         Some(HoldOfProcess {
-            process: Change {
-                before,
-                after: Snapshot::of(&*held),
-            },
-            reply: spent,
+            process: Change { before, after },
+            reply,
         })
     }
 
     /// Asks the list, and answers with the accessed bit of the page that it names. A victim is unmapped.
     ///
-    /// There is none where no page is resident, or where the page is of no process that there is.
-    pub fn sweep<R: Wait>(&self, rt: &R) -> Option<HoldOfBoth<L, S, C, Option<Swept>>>
-        ensures { IfSome result (λ hold. SweepsHeld hold.desk.before.value hold.desk.after.value
+    /// No process is held where no page is resident, or where the page is of no process that there is.
+    pub fn sweep<R: Wait>(
+        &self,
+        rt: &R,
+    ) -> Result<HoldOfBoth<L, S, C, Option<Swept>>, HoldOfDesk<L, C>>
+        ensures held { IfOk result (λ hold.
+            SweepsHeld hold.desk.before.value hold.desk.after.value
             hold.process.before.value hold.process.after.value hold.reply) }
+        ensures none { IfErr result (λ hold. AsksNone self.now.processes hold.desk.before.value
+            hold.desk.after.value hold.is_lost) }
     {
-        let mut desk = self.desk.lock(rt);
-        let key = desk.pager().question()?;
-        let Some(lock) = self.processes.get(key.process as usize) else {
-            desk.mark_unsound();
-            return None;
-        };
-        let mut held = lock.lock(rt);
-        let desk_before = Snapshot::of(&*desk);
-        let held_before = Snapshot::of(&*held);
-        let reply = desk.sweep(&mut *held);
-        Some(HoldOfBoth {
-            desk: Change {
-                before: desk_before,
-                after: Snapshot::of(&*desk),
-            },
-            process: Change {
-                before: held_before,
-                after: Snapshot::of(&*held),
-            },
-            reply,
-        })
+        let mut rounds = ROUNDS;
+        for _ in rt.forever() {
+            let mut desk = self.desk.lock(rt);
+            let before = Snapshot::of(&*desk);
+            let Some(key) = desk.pager().question() else {
+                let after = Snapshot::of(&*desk);
+                return Err(HoldOfDesk {
+                    desk: Change { before, after },
+                    is_lost: false,
+                });
+            };
+            let Some(lock) = self.processes.get(key.process as usize) else {
+                desk.mark_unsound();
+                let after = Snapshot::of(&*desk);
+                return Err(HoldOfDesk {
+                    desk: Change { before, after },
+                    is_lost: true,
+                });
+            };
+            if let Some(mut held) = lock_held(rt, lock, rounds) {
+                return Ok(sweep_on(&mut *desk, &mut *held));
+            }
+            drop(desk);
+            drop(lock.lock(rt));
+            rounds = rounds.saturating_sub(1);
+        }
+        unreachable!()
     }
 
     /// Looks whether a leaving page can let its frame go.
@@ -215,31 +229,39 @@ impl<L: Ledger, S: SwapSlot, C: Clock> Shared<L, S, C> {
         rt: &R,
         key: Key,
     ) -> Option<HoldOfAll<L, S, C, Option<Collection<S>>>>
-        ensures { IfSome result (λ hold.
+        ensures none { IsNone result ↔ (self.now.processes ≤ key.process) }
+        ensures some { IfSome result (λ hold.
             CollectsHeld key hold.desk.before.value hold.desk.after.value hold.process.before.value
             hold.process.after.value hold.slots.before.value hold.slots.after.value hold.reply) }
     {
         let lock = self.processes.get(key.process as usize)?;
-        let mut desk = self.desk.lock(rt);
-        let mut held = lock.lock(rt);
+        let (mut desk, mut held) = self.lock_both(rt, lock);
         let mut slots = self.slots.lock(rt);
         let desk_before = Snapshot::of(&*desk);
         let held_before = Snapshot::of(&*held);
         let slots_before = Snapshot::of(&*slots);
         let reply = desk.collect(&mut *held, key, &mut *slots);
-        self.tell_change();
+        let slots_after = Snapshot::of(&*slots);
+        let held_after = Snapshot::of(&*held);
+        let desk_after = Snapshot::of(&*desk);
+        drop(slots);
+        drop(held);
+        drop(desk);
+        if has_settled(&reply) {
+            self.signals.tell_page(key.process);
+        }
         Some(HoldOfAll {
             desk: Change {
                 before: desk_before,
-                after: Snapshot::of(&*desk),
+                after: desk_after,
             },
             process: Change {
                 before: held_before,
-                after: Snapshot::of(&*held),
+                after: held_after,
             },
             slots: Change {
                 before: slots_before,
-                after: Snapshot::of(&*slots),
+                after: slots_after,
             },
             reply,
         })
@@ -253,24 +275,29 @@ impl<L: Ledger, S: SwapSlot, C: Clock> Shared<L, S, C> {
         rt: &R,
         job: SavedJob<S>,
     ) -> Option<HoldOfBoth<L, S, C, Option<SaveReply<S>>>>
-        ensures { IfSome result (λ hold. SavesHeld job hold.desk.before.value hold.desk.after.value
+        ensures none { IsNone result ↔ (self.now.processes ≤ job.process) }
+        ensures some { IfSome result (λ hold. SavesHeld job hold.desk.before.value hold.desk.after.value
             hold.process.before.value hold.process.after.value hold.reply) }
     {
-        let lock = self.processes.get(job.process() as usize)?;
-        let mut desk = self.desk.lock(rt);
-        let mut held = lock.lock(rt);
+        let process = job.process();
+        let lock = self.processes.get(process as usize)?;
+        let (mut desk, mut held) = self.lock_both(rt, lock);
         let desk_before = Snapshot::of(&*desk);
         let held_before = Snapshot::of(&*held);
         let reply = desk.saved(&mut *held, job);
-        self.tell_change();
+        let held_after = Snapshot::of(&*held);
+        let desk_after = Snapshot::of(&*desk);
+        drop(held);
+        drop(desk);
+        self.signals.tell_page(process);
         Some(HoldOfBoth {
             desk: Change {
                 before: desk_before,
-                after: Snapshot::of(&*desk),
+                after: desk_after,
             },
             process: Change {
                 before: held_before,
-                after: Snapshot::of(&*held),
+                after: held_after,
             },
             reply,
         })
@@ -284,20 +311,19 @@ impl<L: Ledger, S: SwapSlot, C: Clock> Shared<L, S, C> {
         rt: &R,
         number: u32,
     ) -> Option<HoldOfAll<L, S, C, Option<PurgeReply>>>
-        ensures { IfSome result (λ hold.
+        ensures none { IsNone result ↔ (self.now.processes ≤ number) }
+        ensures some { IfSome result (λ hold.
             PurgesHeld number hold.desk.before.value hold.desk.after.value
             hold.process.before.value hold.process.after.value hold.slots.before.value
             hold.slots.after.value hold.reply) }
     {
         let lock = self.processes.get(number as usize)?;
-        let mut desk = self.desk.lock(rt);
-        let mut held = lock.lock(rt);
+        let (mut desk, mut held) = self.lock_both(rt, lock);
         let mut slots = self.slots.lock(rt);
         let desk_before = Snapshot::of(&*desk);
         let held_before = Snapshot::of(&*held);
         let slots_before = Snapshot::of(&*slots);
         let reply = desk.purge(&mut *held, number, &mut *slots);
-        self.tell_change();
         Some(HoldOfAll {
             desk: Change {
                 before: desk_before,
@@ -314,4 +340,47 @@ impl<L: Ledger, S: SwapSlot, C: Clock> Shared<L, S, C> {
             reply,
         })
     }
+}
+
+/// Asks the list under both locks.
+fn sweep_on<L: Ledger, S: SwapSlot, C: Clock>(
+    desk: &mut Desk<L, C>,
+    held: &mut Held<L, S>,
+) -> HoldOfBoth<L, S, C, Option<Swept>>
+    ensures sweeps { SweepsHeld desk.old desk.new held.old held.new result.reply }
+    ensures desk { result.desk.before.value ≡ desk.old }
+    ensures desk_after { result.desk.after.value ≡ desk.new }
+    ensures process { result.process.before.value ≡ held.old }
+    ensures process_after { result.process.after.value ≡ held.new }
+{
+    let desk_before = Snapshot::of(&*desk);
+    let held_before = Snapshot::of(&*held);
+    let reply = desk.sweep(held);
+    HoldOfBoth {
+        desk: Change {
+            before: desk_before,
+            after: Snapshot::of(&*desk),
+        },
+        process: Change {
+            before: held_before,
+            after: Snapshot::of(&*held),
+        },
+        reply,
+    }
+}
+
+/// Whether an instruction ran.
+fn has_run(reply: &Option<Slice>) -> bool {
+    match reply {
+        Some(slice) => slice.ran != 0,
+        None => false,
+    }
+}
+
+/// Whether a page that was leaving has left its frame, or is resident again.
+fn has_settled<S: SwapSlot>(reply: &Option<Collection<S>>) -> bool {
+    matches!(
+        reply,
+        Some(Collection::Freed) | Some(Collection::NoSlot) | Some(Collection::Stray)
+    )
 }

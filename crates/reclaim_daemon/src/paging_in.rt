@@ -4,9 +4,10 @@
 //! kept. An admission that could not be loaded is undone under both locks again; between the two, other threads may find the page listed
 //! and not resident.
 
-ghost use Rattle.std.specs.Prelude.{◌≡◌, IfSome};
+ghost use Rattle.std.specs.Prelude.{◌≡◌, ◌≤◌, ◌↔◌, IfSome, IsNone};
 ghost use Rattle.reclaim_daemon.specs.PagingIn.{AdmitsOrNot, UndoesHeld};
-ghost use Rattle.reclaim_daemon.specs.Running.{LoadsAdmitted, PagesInHeld};
+ghost use Rattle.machine_sides.specs.Admitting.{is_resident_at};
+ghost use Rattle.reclaim_daemon.specs.Running.{LoadsAdmitted, PagesInHeld, told_as};
 
 use crate::desk::Desk;
 use crate::gate::Gate;
@@ -15,10 +16,10 @@ use crate::holds::{Change, HoldOfBoth};
 use crate::replies::{PagedIn, Undone};
 use crate::shared::Shared;
 use clock_policy::{Clock, Key};
-use machine_sides::{Admission, NotAdmitted};
+use machine_sides::{Admission, NotAdmitted, is_resident};
 use std::snapshot::Snapshot;
-use std::sync::Wait;
 use std::sync::ledger::Ledger;
+use std::sync::{Mutex, Wait};
 use swap_slots::SwapSlot;
 
 /// A hold of the pager's lock and a process's that leaves the process as it was.
@@ -38,21 +39,22 @@ impl<L: Ledger, S: SwapSlot, C: Clock> Shared<L, S, C> {
         rt: &R,
         key: Key,
     ) -> Option<HoldOfPager<L, S, C, Option<Result<Admission<L>, NotAdmitted>>>>
-        ensures { IfSome result (λ hold. AdmitsOrNot hold.desk.before.value hold.desk.after.value
+        ensures none { IsNone result ↔ (self.now.processes ≤ key.process) }
+        ensures some { IfSome result (λ hold. AdmitsOrNot hold.desk.before.value hold.desk.after.value
             hold.process.value key hold.reply) }
     {
         let lock = self.processes.get(key.process as usize)?;
-        let mut desk = self.desk.lock(rt);
-        let held = lock.lock(rt);
+        let (mut desk, held) = self.lock_both(rt, lock);
         let before = Snapshot::of(&*desk);
         let reply = desk.admit(&*held, key);
-        self.call();
+        let after = Snapshot::of(&*desk);
+        let process = Snapshot::of(&*held);
+        drop(held);
+        drop(desk);
+        self.signals.daemon().ring();
         Some(HoldOfPager {
-            desk: Change {
-                before,
-                after: Snapshot::of(&*desk),
-            },
-            process: Snapshot::of(&*held),
+            desk: Change { before, after },
+            process,
             reply,
         })
     }
@@ -65,21 +67,24 @@ impl<L: Ledger, S: SwapSlot, C: Clock> Shared<L, S, C> {
         rt: &R,
         admission: Admission<L>,
     ) -> Option<HoldOfPager<L, S, C, Undone<L>>>
-        ensures { IfSome result (λ hold. UndoesHeld hold.desk.before.value hold.desk.after.value
+        ensures none { IsNone result ↔ (self.now.processes ≤ admission.key.process) }
+        ensures some { IfSome result (λ hold. UndoesHeld hold.desk.before.value hold.desk.after.value
             hold.process.value admission hold.reply) }
     {
-        let lock = self.processes.get(admission.key().process as usize)?;
-        let mut desk = self.desk.lock(rt);
-        let held = lock.lock(rt);
+        let number = admission.key().process;
+        let lock = self.processes.get(number as usize)?;
+        let (mut desk, held) = self.lock_both(rt, lock);
         let before = Snapshot::of(&*desk);
         let reply = desk.undo(&*held, admission);
-        self.tell_change();
+        let after = Snapshot::of(&*desk);
+        let process = Snapshot::of(&*held);
+        drop(held);
+        drop(desk);
+        self.signals.tell_page(number);
+        self.signals.daemon().ring();
         Some(HoldOfPager {
-            desk: Change {
-                before,
-                after: Snapshot::of(&*desk),
-            },
-            process: Snapshot::of(&*held),
+            desk: Change { before, after },
+            process,
             reply,
         })
     }
@@ -87,20 +92,35 @@ impl<L: Ledger, S: SwapSlot, C: Clock> Shared<L, S, C> {
     /// Brings an absent page in: it is admitted, and then loaded once the pager is let go and the gate was told.
     ///
     /// It does nothing where there is no such process. An admission that comes back is to be undone: see [`Shared::undo`].
-    #[tactic(auto, using(crate::proofs::Brought::paged_in))]
     pub fn page_in<R: Wait, G: Gate>(
         &self,
         rt: &R,
         gate: &G,
         key: Key,
     ) -> Option<HoldOfBoth<L, S, C, Option<PagedIn<L>>>>
-        ensures { IfSome result (λ hold. PagesInHeld S.content S.honest S.failures key
+        ensures none { IsNone result ↔ (self.now.processes ≤ key.process) }
+        ensures some { IfSome result (λ hold. PagesInHeld S.content S.honest S.failures key
             hold.desk.before.value hold.desk.after.value hold.process.before.value
             hold.process.after.value hold.reply) }
     {
         let lock = self.processes.get(key.process as usize)?;
-        let mut desk = self.desk.lock(rt);
-        let mut held = lock.lock(rt);
+        Some(self.page_in_on(rt, gate, key, lock))
+    }
+
+    /// The same of the process under this lock.
+    #[tactic(auto, using(crate::proofs::Brought::paged_in))]
+    fn page_in_on<'a, R: Wait, G: Gate>(
+        &'a self,
+        rt: &R,
+        gate: &G,
+        key: Key,
+        lock: &'a Mutex<Held<L, S>>,
+    ) -> HoldOfBoth<L, S, C, Option<PagedIn<L>>>
+        ensures { PagesInHeld S.content S.honest S.failures key result.desk.before.value
+            result.desk.after.value result.process.before.value result.process.after.value
+            result.reply }
+    {
+        let (mut desk, mut held) = self.lock_both(rt, lock);
         let desk_before = Snapshot::of(&*desk);
         let held_before = Snapshot::of(&*held);
         let admitted = desk.admit(&*held, key);
@@ -109,7 +129,7 @@ impl<L: Ledger, S: SwapSlot, C: Clock> Shared<L, S, C> {
         drop(desk);
         self.heed_admission(&admitted, wants_frames);
         let reply = load_admitted(&mut *held, gate, key, admitted);
-        Some(HoldOfBoth {
+        HoldOfBoth {
             desk: Change {
                 before: desk_before,
                 after: desk_after,
@@ -119,23 +139,20 @@ impl<L: Ledger, S: SwapSlot, C: Clock> Shared<L, S, C> {
                 after: Snapshot::of(&*held),
             },
             reply,
-        })
+        }
     }
 
-    /// The daemon is to make room where few frames are free by now, or where none was.
+    /// A page was admitted: the daemon is to make room where few frames are free by now.
     fn heed_admission(
         &self,
         admitted: &Option<Result<Admission<L>, NotAdmitted>>,
         wants_frames: bool,
     ) {
-        match admitted {
-            Some(Err(NotAdmitted::NoFrame)) => self.want_frame(),
-            Some(_) => {
-                if wants_frames {
-                    self.call();
-                }
-            }
-            None => {}
+        if !wants_frames {
+            return;
+        }
+        if matches!(admitted, Some(Ok(_))) {
+            self.signals.daemon().ring();
         }
     }
 }
@@ -147,11 +164,12 @@ fn load_admitted<L: Ledger, S: SwapSlot, G: Gate>(
     key: Key,
     admitted: Option<Result<Admission<L>, NotAdmitted>>,
 ) -> Option<PagedIn<L>>
-    ensures { LoadsAdmitted S.content S.honest S.failures held.old held.new admitted result }
+    ensures { LoadsAdmitted S.content S.honest S.failures key held.old held.new admitted
+        result }
 {
     match admitted {
         None => None,
-        Some(Err(reason)) => Some(PagedIn::NotAdmitted(reason)),
+        Some(Err(reason)) => Some(refused(held, key, reason)),
         Some(Ok(admission)) => {
             gate.before_load(key);
             match held.load(admission) {
@@ -159,5 +177,22 @@ fn load_admitted<L: Ledger, S: SwapSlot, G: Gate>(
                 Err((admission, fault)) => Some(PagedIn::Failed { admission, fault }),
             }
         }
+    }
+}
+
+/// What a page comes to that was not admitted.
+#[tactic(auto, unfolding(crate::specs::Running::told_as))]
+fn refused<L: Ledger, S: SwapSlot>(held: &Held<L, S>, key: Key, reason: NotAdmitted) -> PagedIn<L>
+    ensures { result ≡ told_as (is_resident_at held.now.side key.vpn) reason }
+{
+    let is_here = is_resident(held.side(), key.vpn);
+    match reason {
+        NotAdmitted::NotAbsent => {
+            if is_here {
+                return PagedIn::Here;
+            }
+            PagedIn::NotAdmitted(reason)
+        }
+        _ => PagedIn::NotAdmitted(reason),
     }
 }

@@ -3,6 +3,9 @@
 //! Where few frames are free, or a page found none, it asks the list until that names a victim, lets the harts of the victim's
 //! process drop their translations, and collects the page; a changed one it saves. A process that has ended it purges.
 
+ghost use Rattle.std.specs.Prelude.{◌≡◌, ◌≤◌, IsTrue, IsFalse};
+ghost use Rattle.swap_slots.specs.Slot.{Rose};
+
 use crate::gate::Gate;
 use crate::holds::{HoldOfAll, HoldOfBoth};
 use crate::replies::{Collection, SaveReply};
@@ -11,11 +14,10 @@ use clock_policy::{Clock, Key};
 use flat_machine::KillCause;
 use machine_limits::{MOST_HARTS, MOST_PROCESSES};
 use machine_sides::Swept;
-use page_store::SaveJob;
+use page_store::{SaveJob, SavedJob};
 use status_cell::{Status, Viewer};
 use std::sync::Wait;
 use std::sync::ledger::Ledger;
-use std::thread::yield_now;
 use swap_slots::SwapSlot;
 
 /// Makes room in a machine until each of its processes has ended and given its pages back. `viewers` are those of its processes, by
@@ -30,49 +32,53 @@ pub fn daemon<L: Ledger, S: SwapSlot, C: Clock, G: Gate, R: Wait>(
     gate: &G,
 ) {
     for _ in rt.forever() {
-        let calls = shared.calls();
+        let calls = shared.signals.daemon().rings();
         let has_ended = shared.has_ended();
         purge_ended(rt, shared);
         if has_ended {
             return;
         }
-        if !is_short_of_frames(rt, shared) || !make_room(rt, shared, viewers, gate) {
+        if !make_room(rt, shared, viewers, gate, calls) {
             shared.wait_for_call(rt, calls);
         }
     }
 }
 
-/// Each process that has ended gives its pages back.
+/// Each process that has ended since gives its pages back.
 fn purge_ended<L: Ledger, S: SwapSlot, C: Clock, R: Wait>(rt: &R, shared: &Shared<L, S, C>) {
-    if !shared.take_ends() {
-        return;
-    }
     for number in 0..shared.processes() {
-        shared.purge(rt, number);
+        if shared.signals.take_end(number) {
+            shared.purge(rt, number);
+        }
     }
 }
 
-/// Whether fewer frames are free than are to be, or a page found none.
-fn is_short_of_frames<L: Ledger, S: SwapSlot, C: Clock, R: Wait>(
-    rt: &R,
-    shared: &Shared<L, S, C>,
-) -> bool {
-    let wanted = shared.take_want();
-    shared.wants_frames(rt) || wanted
-}
-
-/// Lets the page of a victim go. Answers whether there was a victim.
+/// Offers the frames that are free to who waits for one. Where they are fewer than are to be, lets the page of a victim go. Answers whether
+/// there may be more to do at once: a frame came free; or none did, but a hart waits for one, so that the next page is tried.
 fn make_room<L: Ledger, S: SwapSlot, C: Clock, G: Gate, R: Wait>(
     rt: &R,
     shared: &Shared<L, S, C>,
     viewers: &mut [Viewer],
     gate: &G,
+    calls: u64,
 ) -> bool {
+    let (free, wants_frames) = shared.free_frames(rt);
+    shared.signals.offer(free);
+    if !wants_frames {
+        return false;
+    }
     let Some(victim) = find_victim(rt, shared) else {
         return false;
     };
     if let_go(rt, shared, gate, victim) {
         tell_free(rt, viewers, gate);
+        return true;
+    }
+    if !shared.signals.is_hungry() {
+        return false;
+    }
+    if shared.signals.watch(victim.process) {
+        shared.wait_for_call(rt, calls);
     }
     true
 }
@@ -83,7 +89,10 @@ fn find_victim<L: Ledger, S: SwapSlot, C: Clock, R: Wait>(
     shared: &Shared<L, S, C>,
 ) -> Option<Key> {
     for _ in rt.forever() {
-        match shared.sweep(rt)?.reply? {
+        let Ok(hold) = shared.sweep(rt) else {
+            return None;
+        };
+        match hold.reply? {
             Swept::NothingResident => return None,
             Swept::Asked { .. } => {}
             Swept::Victim(key) => return Some(key),
@@ -100,8 +109,11 @@ fn let_go<L: Ledger, S: SwapSlot, C: Clock, G: Gate, R: Wait>(
     key: Key,
 ) -> bool {
     for _ in rt.forever() {
+        let calls = shared.signals.daemon().rings();
         for hart in 0..MOST_HARTS as u32 {
-            shared.notice(rt, key.process, hart);
+            if shared.signals.is_live(key.process, hart) {
+                shared.notice(rt, key.process, hart);
+            }
         }
         let Some(hold) = shared.collect(rt, key) else {
             return false;
@@ -111,11 +123,15 @@ fn let_go<L: Ledger, S: SwapSlot, C: Clock, G: Gate, R: Wait>(
             return false;
         };
         match found {
-            Collection::NotYet => yield_now(),
+            Collection::NotYet => {
+                // A hart that was started since may have it: it takes notice with its next slice.
+                shared.signals.watch(key.process);
+                shared.wait_for_call(rt, calls);
+            }
             Collection::Freed => return true,
             Collection::Dirty(job) => return save(rt, shared, gate, job),
             Collection::NoSlot => {
-                shared.kill_if_spent(rt, key.process);
+                kill_if_spent(rt, shared, key.process);
                 return false;
             }
             Collection::NotRestored(_) => {
@@ -128,6 +144,17 @@ fn let_go<L: Ledger, S: SwapSlot, C: Clock, G: Gate, R: Wait>(
     unreachable!()
 }
 
+/// A page of a process could not leave its frame. Where a hart waits for one, that may end the process.
+fn kill_if_spent<L: Ledger, S: SwapSlot, C: Clock, R: Wait>(
+    rt: &R,
+    shared: &Shared<L, S, C>,
+    process: u32,
+) {
+    if shared.signals.is_hungry() {
+        shared.kill_if_spent(rt, process);
+    }
+}
+
 /// Saves a page, with no lock held, and lets its frame go. Answers whether it came free.
 fn save<L: Ledger, S: SwapSlot, C: Clock, G: Gate, R: Wait>(
     rt: &R,
@@ -136,8 +163,7 @@ fn save<L: Ledger, S: SwapSlot, C: Clock, G: Gate, R: Wait>(
     job: SaveJob<S>,
 ) -> bool {
     let key = job.key();
-    gate.before_save(key);
-    let Some(hold) = shared.saved(rt, job.run()) else {
+    let Some(hold) = shared.saved(rt, write_slot(gate, job)) else {
         return false;
     };
     let HoldOfBoth { reply, .. } = hold;
@@ -147,7 +173,7 @@ fn save<L: Ledger, S: SwapSlot, C: Clock, G: Gate, R: Wait>(
     match reply {
         SaveReply::Freed => true,
         SaveReply::ResidentAgain(_) => {
-            shared.kill_if_spent(rt, key.process);
+            kill_if_spent(rt, shared, key.process);
             false
         }
         SaveReply::NotRestored { .. } => {
@@ -156,6 +182,20 @@ fn save<L: Ledger, S: SwapSlot, C: Clock, G: Gate, R: Wait>(
         }
         SaveReply::Stray | SaveReply::WrongPage(_) => false,
     }
+}
+
+/// Writes a page's copy to its slot, once the gate was told. It knows of no lock, so that none is held meanwhile.
+fn write_slot<S: SwapSlot, G: Gate>(gate: &G, job: SaveJob<S>) -> SavedJob<S>
+    ensures process { result.process ≡ job.process }
+    ensures vpn { result.vpn ≡ job.vpn }
+    ensures copy { result.copy ≡ job.copy }
+    ensures saved { S.honest → IsTrue result.passed → S.content result.slot ≡ job.copy }
+    ensures passed { IsTrue result.passed → S.failures result.slot ≡ S.failures job.slot }
+    ensures fault { IsFalse result.passed → Rose (S.failures job.slot) (S.failures result.slot) }
+    ensures counted { S.failures job.slot ≤ S.failures result.slot }
+{
+    gate.before_save(job.key());
+    job.run()
 }
 
 /// A frame has come free: tells how far each process has come.

@@ -60,7 +60,9 @@ pub enum Undone<L: Ledger> {
 pub enum PagedIn<L: Ledger> {
     /// It is mapped.
     Mapped,
-    /// It was not admitted. Nothing has changed.
+    /// It was resident. Nothing has changed.
+    Here,
+    /// It was not admitted. Nothing has changed. One that is not absent is on its way out.
     NotAdmitted(NotAdmitted),
     /// It was admitted and did not come in: the admission is to be undone.
     Failed {

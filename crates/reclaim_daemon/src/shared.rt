@@ -9,20 +9,16 @@ use crate::held::Held;
 use crate::parts::Parts;
 use clock_policy::Clock;
 use elf_image::Image;
-use machine_limits::{MOST_HARTS, MOST_PROCESSES, TRIES_PER_FRAME};
-use machine_sides::ProcessSide;
+use hart_signals::Signals;
+use machine_limits::{MOST_PROCESSES, TRIES_PER_FRAME};
 use status_cell::Viewer;
 use std::alloc::{AllocError, Global};
 use std::marker::Model;
+use std::sync::Mutex;
 use std::sync::atomic::{AtomicU64, Ordering};
 use std::sync::ledger::Ledger;
-use std::sync::{Mutex, Wait};
-use std::time::Duration;
 use swap_slots::{SlotPool, SwapSlot};
 use thiserror::Error;
-
-/// For how many milliseconds a thread sleeps at most before it looks again whether what it waits for has come.
-const NAP_MILLIS: u64 = 1;
 
 /// A machine whose processes, pager and slots have a lock each. They are taken in the order pager, process, slots.
 #[derive(Drop)]
@@ -32,21 +28,11 @@ pub struct Shared<L: Ledger, S: SwapSlot, C: Clock> {
     pub(crate) slots: Mutex<SlotPool<S>>,
     /// Of how many slots the machine was made.
     slot_count: usize,
-    /// Of each process, how many of its harts may run.
-    harts: Vec<AtomicU64>,
-    most_tries: u64,
-    /// How many processes have ended.
-    ended: AtomicU64,
-    /// Above 0 where a process has ended since the daemon looked last.
-    unpurged: AtomicU64,
+    /// Who waits for what.
+    pub(crate) signals: Signals,
     /// Above 0 where a process was not the one of its lock's number.
     misplaced: AtomicU64,
-    /// Above 0 where a page found no frame.
-    wanted: AtomicU64,
-    /// Rises with each thing that the daemon may have to do.
-    calls: AtomicU64,
-    /// Rises with each thing that whoever waits for a page may wait for.
-    changes: AtomicU64,
+    most_tries: u64,
 }
 
 impl<L: Ledger, S: SwapSlot, C: Clock> Model for Shared<L, S, C> {
@@ -84,13 +70,8 @@ impl<L: Ledger, S: SwapSlot, C: Clock> Shared<L, S, C> {
             processes: Vec::new(alloc),
             slot_count: pool.size(),
             slots: Mutex::new(pool),
-            harts: Vec::new(alloc),
-            ended: AtomicU64::new(0),
-            unpurged: AtomicU64::new(0),
+            signals: Signals::new(alloc),
             misplaced: AtomicU64::new(0),
-            wanted: AtomicU64::new(0),
-            calls: AtomicU64::new(0),
-            changes: AtomicU64::new(0),
         }
     }
 
@@ -111,8 +92,8 @@ impl<L: Ledger, S: SwapSlot, C: Clock> Shared<L, S, C> {
         let Ok((held, viewer)) = Held::new(alloc, number, image, input) else {
             return Err(AddRefusal::NoMemory);
         };
-        // Where the push behind this one is refused the count stays, and will do for the next process.
-        if self.harts.push(AtomicU64::new(1)).is_err() {
+        // Where the push behind this one is refused the signs stay, and will do for the next process.
+        if self.signals.add_process().is_err() {
             return Err(AddRefusal::NoMemory);
         }
         if self.processes.push(Mutex::new(held)).is_err() {
@@ -157,14 +138,9 @@ impl<L: Ledger, S: SwapSlot, C: Clock> Shared<L, S, C> {
             processes,
             slots,
             slot_count,
-            harts: _,
-            most_tries: _,
-            ended: _,
-            unpurged: _,
+            signals: _,
             misplaced,
-            wanted: _,
-            calls: _,
-            changes: _,
+            most_tries: _,
         } = self;
         let mut desk = desk.into_inner();
         if misplaced.into_inner() != 0 {
@@ -196,49 +172,6 @@ fn unlock_all<T: Drop>(locks: Vec<Mutex<T>>, room: Vec<T>) -> Vec<T>
 }
 
 impl<L: Ledger, S: SwapSlot, C: Clock> Shared<L, S, C> {
-    /// Whether each process has ended.
-    pub fn has_ended(&self) -> bool {
-        self.ended.load(Ordering::SeqCst) >= self.processes.len() as u64
-    }
-
-    /// Whether a hart of a process may run: it was started, and its process has not ended. No lock is taken to know that, so that nobody
-    /// waits for a process whose other harts run only to find that this one is not there.
-    pub fn may_run(&self, number: u32, hart: u32) -> bool {
-        match self.harts.get(number as usize) {
-            Some(harts) => u64::from(hart) < harts.load(Ordering::SeqCst),
-            None => false,
-        }
-    }
-
-    /// How many harts of a process may run by now: those that were started, or none once it has ended. Whoever waits is told of more.
-    pub(crate) fn count_harts(&self, number: u32, side: &ProcessSide<L, S>) {
-        if let Some(harts) = self.harts.get(number as usize) {
-            let now = harts_that_may_run(side);
-            if harts.swap(now, Ordering::SeqCst) < now {
-                self.tell_change();
-            }
-        }
-    }
-
-    /// Whether a process has ended since this was asked last.
-    pub(crate) fn take_ends(&self) -> bool {
-        self.unpurged.swap(0, Ordering::SeqCst) != 0
-    }
-
-    /// Whether fewer frames are free than are to be.
-    pub(crate) fn wants_frames<R: Wait>(&self, rt: &R) -> bool {
-        self.desk.lock(rt).wants_frames()
-    }
-
-    /// A process has ended: the daemon takes its pages back, and who waits for one of them waits no more.
-    pub(crate) fn count_end(&self) {
-        // In this order: who sees that each has ended sees also that one is to be purged.
-        self.unpurged.store(1, Ordering::SeqCst);
-        self.ended.fetch_add(1, Ordering::SeqCst);
-        self.call();
-        self.tell_change();
-    }
-
     /// A process was not the one of its lock's number.
     pub(crate) fn misplace(&self) {
         self.misplaced.store(1, Ordering::SeqCst);
@@ -247,68 +180,4 @@ impl<L: Ledger, S: SwapSlot, C: Clock> Shared<L, S, C> {
     pub(crate) fn is_misplaced(&self) -> bool {
         self.misplaced.load(Ordering::SeqCst) != 0
     }
-
-    /// A page found no frame.
-    pub(crate) fn want_frame(&self) {
-        self.wanted.store(1, Ordering::SeqCst);
-        self.call();
-    }
-
-    /// Whether a page has found no frame since this was asked last.
-    pub(crate) fn take_want(&self) -> bool {
-        self.wanted.swap(0, Ordering::SeqCst) != 0
-    }
-
-    /// The daemon has something to do.
-    pub(crate) fn call(&self) {
-        self.calls.fetch_add(1, Ordering::SeqCst);
-        self.calls.wake_all();
-    }
-
-    /// How often the daemon had something to do.
-    pub(crate) fn calls(&self) -> u64 {
-        self.calls.load(Ordering::SeqCst)
-    }
-
-    /// Sleeps for a while where nothing came for the daemon since `calls` was read.
-    pub(crate) fn wait_for_call<R: Wait>(&self, rt: &R, calls: u64) {
-        self.calls
-            .park_timeout(rt, low_half(calls), Duration::from_millis(NAP_MILLIS));
-    }
-
-    /// What whoever waits for a page may wait for has changed.
-    pub(crate) fn tell_change(&self) {
-        self.changes.fetch_add(1, Ordering::SeqCst);
-        self.changes.wake_all();
-    }
-
-    /// How often what whoever waits for a page may wait for has changed. Read it before the page is asked for.
-    pub fn changes(&self) -> u64 {
-        self.changes.load(Ordering::SeqCst)
-    }
-
-    /// Sleeps for a while where nothing has changed since `changes` was read: no frame came free, no page came or went, and no
-    /// process has ended.
-    pub fn wait_for_change<R: Wait>(&self, rt: &R, changes: u64) {
-        self.changes
-            .park_timeout(rt, low_half(changes), Duration::from_millis(NAP_MILLIS));
-    }
-}
-
-/// How many harts of a process may run.
-fn harts_that_may_run<L: Ledger, S: SwapSlot>(side: &ProcessSide<L, S>) -> u64 {
-    if side.end().is_some() {
-        return 0;
-    }
-    for hart in 0..MOST_HARTS as u32 {
-        if side.regs(hart).is_none() {
-            return u64::from(hart);
-        }
-    }
-    MOST_HARTS as u64
-}
-
-/// The low 32 bits of a word.
-fn low_half(word: u64) -> u32 {
-    (word & 0xffff_ffff) as u32
 }

@@ -3,11 +3,12 @@
 use clock_policy::Key;
 use clock_ring::ClockRing;
 use page_policies::{
-    Fifo, Frames, Lru, Optimum, Policy, Random, SecondChance, lru_curve, misses,
-    more_frames_never_miss_more, next_uses, no_policy_misses_less, optimum_is_a_play,
+    Fifo, Frames, Lru, Policy, Random, SecondChance, misses, more_frames_never_miss_more,
+    no_policy_misses_less, optimum_is_a_play,
 };
 use std::alloc::Global;
 use std::test::Fail;
+use whole_strings::{Optimum, lru_curve, next_uses};
 use younger_policies::{
     Arc, ClockPro, ClockProUsed, Lirs, S3Fifo, Sieve, TwoQueues, clock_pro_is_a_play,
     younger_policies_are_plays,

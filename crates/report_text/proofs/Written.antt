@@ -1,8 +1,8 @@
 -- What is written of processes one after another.
-use Rattle.std.proofs.Common.{◌≡◌, ◌∙◌, ◌++◌, ◌∷◌, ◌+◌, ℕ, zero, suc, List, [], Option, Some, map, drop, option_map, slice_get, ap, add-one, append_assoc, append-nil, refl, sym, subst}
+use Rattle.std.proofs.Common.{◌≡◌, ◌∙◌, ◌++◌, ◌∷◌, ◌+◌, ℕ, List, [], Option, ap, append_assoc, append-nil, refl, sym, subst}
 use Rattle.std.specs.Io.KnownBytes.{Appends}
 use Rattle.std.proofs.KnownBytes.{Appends-nil, Appends-trans}
-use Rattle.serial_driver.specs.Reporting.{Told}
+use Rattle.machine_sides.specs.Reporting.{Told}
 use Rattle.report_text.specs.ReportText.{line_text, processes_text}
 
 -- what was written of the processes so far, with the rest, is what is to be told of them all
@@ -29,12 +29,3 @@ pub tells_all : (first new : Option (List ℕ)) (all : List Told) (number : ℕ)
 unfolding processes_text
 tells_all first new all number rest tells none =
     subst (Appends first new) (sym (append-nil tells.written) ∙ ap (λ l. tells.written ++ processes_text number l) (sym none) ∙ tells.whole) tells.appended
-
--- the first of those that are left, under a function
-pub first_left : {A B : Type 0} (f : A → B) (xs : List A) (i : ℕ) (y : B) → Some y ≡ option_map f (slice_get xs i) → map f (drop i xs) ≡ y ∷ map f (drop (i + 1) xs)
-first_left {A} {B} f xs i y h = rw add-one (from xs i h)
-  where
-    from : (xs : List A) (i : ℕ) → Some y ≡ option_map f (slice_get xs i) → map f (drop i xs) ≡ y ∷ map f (drop (suc i) xs)
-    from [] i h = cc
-    from (z ∷ zs) zero h = let e : f z ≡ y = cc in ap (λ b. b ∷ map f zs) e
-    from (z ∷ zs) (suc i) h = from zs i h

@@ -1,3 +1,2 @@
-pub mod MachineText
 pub mod ReportText
 pub mod RunStatus

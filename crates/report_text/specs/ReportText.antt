@@ -1,10 +1,10 @@
 -- What is printed of machines that have run.
-use Rattle.std.specs.Prelude.{ℕ, ◌+◌, Bool, List, [], ◌∷◌, ◌++◌, codes, if◌then◌else◌}
+use Rattle.std.specs.Prelude.{ℕ, ◌+◌, Bool, List, [], ◌∷◌, ◌++◌, codes, map, if◌then◌else◌}
 use Rattle.std.specs.Fmt.{decimal}
-use Rattle.machine_core.specs.declared.report.Report.{Report}
+use Rattle.machine_sides.specs.Reporting.{Told, told}
+use Rattle.machine_sides.specs.declared.report.Report.{Report}
 use Rattle.process_text.specs.ExitStatus.{ending_of}
 use Rattle.process_text.specs.ProcessText.{line_end, process_text}
-use Rattle.serial_driver.specs.Reporting.{Told, MachineTold, told_by}
 
 -- what is told of a process of this number
 abbrev pub line_text : ℕ → Told → List ℕ
@@ -23,17 +23,13 @@ places_text frames page_ins victims = codes "frames " ++ decimal frames ++ codes
 unfoldable pub savings_text : (saves drops questions : ℕ) → List ℕ
 savings_text saves drops questions = codes " saves " ++ decimal saves ++ codes " drops " ++ decimal drops ++ codes " questions " ++ decimal questions ++ line_end
 
-abbrev pub counts_text : MachineTold → List ℕ
-counts_text machine = places_text machine.frames machine.page_ins machine.victims ++ savings_text machine.saves machine.drops machine.questions
+abbrev pub counts_text : Report → List ℕ
+counts_text report = places_text report.frames report.page_ins report.victims ++ savings_text report.saves report.drops report.questions
 
 -- whether an audit found nothing amiss
 abbrev pub audit_text : Bool → List ℕ
 audit_text is_sound = codes "audit " ++ (if is_sound then codes "ok" else codes "fault") ++ line_end
 
 -- all that is told of a machine: its processes, what was counted, and the audit
-abbrev pub machine_text : MachineTold → List ℕ
-machine_text machine = processes_text 0 machine.processes ++ (counts_text machine ++ audit_text machine.audit)
-
--- the same by its report
 abbrev pub report_text : Report → List ℕ
-report_text report = machine_text (told_by report)
+report_text report = processes_text 0 (map told report.processes.items) ++ (counts_text report ++ audit_text report.audit)

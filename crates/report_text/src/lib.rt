@@ -1,10 +1,8 @@
 //! What is printed of machines that have run, and the exit status that they come to.
 #![tactic(auto)]
 
-mod machine_lines;
 mod report_lines;
 mod run_status;
 
-pub use machine_lines::{status_of_machine, write_machine};
 pub use report_lines::write_report;
 pub use run_status::status_of_all;

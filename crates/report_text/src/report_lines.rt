@@ -2,10 +2,10 @@
 
 ghost use Rattle.std.specs.Prelude.{OnOk, map};
 ghost use Rattle.std.specs.Io.KnownBytes.{Appends};
-ghost use Rattle.serial_driver.specs.Reporting.{told, told_by};
+ghost use Rattle.machine_sides.specs.Reporting.{told};
 ghost use Rattle.report_text.specs.ReportText.{report_text, processes_text, line_text, counts_text, places_text, savings_text, audit_text};
 
-use machine_core::{ProcessReport, Report};
+use machine_sides::{ProcessReport, Report};
 use process_text::{end_of, write_process};
 use std::io;
 use std::io::Write;
@@ -46,7 +46,7 @@ fn write_line<W: Write>(number: usize, process: &ProcessReport, out: &mut W) -> 
 /// Writes the count line.
 fn write_counts<W: Write>(report: &Report, out: &mut W) -> io::Result<()>
     ensures { OnOk result (Appends (W.contents out.old) (W.contents out.new)
-        (counts_text (told_by report.now))) }
+        (counts_text report.now)) }
 {
     write_places(report.frames, report.page_ins, report.victims, out)?;
     write_savings(report.saves, report.drops, report.questions, out)
@@ -54,12 +54,7 @@ fn write_counts<W: Write>(report: &Report, out: &mut W) -> io::Result<()>
 
 /// Writes its first half: frames, and pages that came and that were to go.
 #[tactic(auto, unfolding(crate::specs::ReportText::places_text))]
-pub(crate) fn write_places<W: Write>(
-    frames: u32,
-    page_ins: u64,
-    victims: u64,
-    out: &mut W,
-) -> io::Result<()>
+fn write_places<W: Write>(frames: u32, page_ins: u64, victims: u64, out: &mut W) -> io::Result<()>
     ensures { OnOk result (Appends (W.contents out.old) (W.contents out.new)
         (places_text frames page_ins victims)) }
 {
@@ -68,12 +63,7 @@ pub(crate) fn write_places<W: Write>(
 
 /// Writes its second half: pages that went, and questions of the list.
 #[tactic(auto, unfolding(crate::specs::ReportText::savings_text))]
-pub(crate) fn write_savings<W: Write>(
-    saves: u64,
-    drops: u64,
-    questions: u64,
-    out: &mut W,
-) -> io::Result<()>
+fn write_savings<W: Write>(saves: u64, drops: u64, questions: u64, out: &mut W) -> io::Result<()>
     ensures { OnOk result (Appends (W.contents out.old) (W.contents out.new)
         (savings_text saves drops questions)) }
 {
@@ -81,7 +71,7 @@ pub(crate) fn write_savings<W: Write>(
 }
 
 /// Writes whether an audit found nothing amiss.
-pub(crate) fn write_audit<W: Write>(is_sound: bool, out: &mut W) -> io::Result<()>
+fn write_audit<W: Write>(is_sound: bool, out: &mut W) -> io::Result<()>
     ensures { OnOk result (Appends (W.contents out.old) (W.contents out.new)
         (audit_text is_sound)) }
 {

@@ -3,7 +3,7 @@
 ghost use Rattle.std.specs.Prelude.{◌≡◌, map, max};
 ghost use Rattle.report_text.specs.RunStatus.{worst_status};
 
-use machine_core::ProcessReport;
+use machine_sides::ProcessReport;
 use process_text::{end_of, status_of_end};
 
 /// The exit status of a run: the highest of its processes' statuses.
@@ -19,7 +19,7 @@ pub fn status_of_all(processes: &[ProcessReport]) -> u8
     status
 }
 
-pub(crate) fn worse(status: u8, other: u8) -> u8
+fn worse(status: u8, other: u8) -> u8
     ensures { result ≡ max status other }
 {
     if other > status { other } else { status }

@@ -1,2 +1,4 @@
 mod Filming
+mod Harts
+mod Numbering
 mod Telling

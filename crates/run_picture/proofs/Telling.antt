@@ -21,3 +21,8 @@ module _ {A B : Type 0} (f : A → B) where
   told_next xs i x told y small before is =
       ap (λ (l : List B). l ++ y ∷ []) before ∙ ap (λ (b : B). map f (take i xs) ++ b ∷ []) is
       ∙ sym (ap (map f) (take_more xs i x small) ∙ map_push (take i xs) (get_or xs i x))
+
+module _ {A B C : Type 0} (f : A → B) (g : C → B) where
+  -- one more of what is shown of a list, by its place
+  pub shown_next : (xs : List A) (i : ℕ) (x : A) (shown : List C) (y : C) → i < length xs → map g shown ≡ map f (take i xs) → g y ≡ f (get_or xs i x) → map g (shown ++ y ∷ []) ≡ map f (take (i + 1) xs)
+  shown_next xs i x shown y small before is = map_push g shown y ∙ told_next f xs i x (map g shown) (g y) small before is

@@ -1,2 +1,3 @@
 pub mod Films
 pub mod Pictures
+pub mod Processes

@@ -5,7 +5,8 @@ ghost use Rattle.run_picture.specs.Films.{IsFilm};
 ghost use Rattle.run_picture.specs.Pictures.{IsPictureOf, bytes_in, output_by};
 
 use crate::named::Named;
-use crate::scene::{Film, next_scene, opening, outputs_of};
+use crate::output::outputs_of;
+use crate::scene::{Film, next_scene, opening};
 use clock_policy::Clock;
 use machine_core::{Core, Event};
 use std::alloc::{AllocError, Global};

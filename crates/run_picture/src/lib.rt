@@ -5,15 +5,28 @@
 
 mod drive;
 mod event_line;
-mod json;
+mod film_json;
+mod hart_json;
+mod json_text;
 mod named;
+mod output;
 mod picture;
+mod picture_json;
+mod process_json;
 mod program;
 mod scene;
-mod text;
+mod shown_hart;
+mod shown_page;
+mod shown_process;
+mod shown_table;
 
 pub use drive::film;
-pub use json::write_film;
-pub use picture::{Picture, ShownPage, picture_of};
+pub use film_json::write_film;
+pub use output::Output;
+pub use picture::{Picture, picture_of};
 pub use program::run_show;
-pub use scene::{Film, Output, Scene};
+pub use scene::{Film, Scene};
+pub use shown_hart::ShownHart;
+pub use shown_page::ShownPage;
+pub use shown_process::ShownProcess;
+pub use shown_table::{ShownTable, TableWord};

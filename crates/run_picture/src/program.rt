@@ -5,7 +5,7 @@ ghost use Rattle.command_line.specs.Requests.{IsDriveInRange};
 ghost use Rattle.machine_limits.specs.Limits.{most_processes};
 
 use crate::drive::film;
-use crate::json::write_film;
+use crate::film_json::write_film;
 use crate::scene::Film;
 use command_line::{DriveRequest, Request, read_request};
 use command_shell::finish;

@@ -1,10 +1,11 @@
 //! What happened, with a picture of the machine that it left.
 
-ghost use Rattle.std.specs.Prelude.{◌≡◌, ◌<◌, [], IfOk, Some, length, map, option_map, slice_get};
+ghost use Rattle.std.specs.Prelude.{[], IfOk};
 ghost use Rattle.run_picture.specs.Films.{IsScene};
-ghost use Rattle.run_picture.specs.Pictures.{IsPictureOf, output_by, bytes_in};
+ghost use Rattle.run_picture.specs.Pictures.{IsPictureOf};
 
 use crate::named::Named;
+use crate::output::Output;
 use crate::picture::{Picture, picture_of};
 use clock_policy::Clock;
 use machine_core::{Core, Event, Reply};
@@ -27,12 +28,6 @@ pub struct Film {
     pub first: Picture,
     pub scenes: Vec<Scene>,
     pub outputs: Vec<Output>,
-}
-
-/// What a process has written.
-#[derive(Drop)]
-pub struct Output {
-    pub bytes: Vec<u8>,
 }
 
 /// The picture of a machine of which no page was named yet.
@@ -62,36 +57,4 @@ pub(crate) fn next_scene<L: Ledger, S: SwapSlot, C: Clock>(
         reply,
         picture,
     })
-}
-
-/// What each process has written.
-pub(crate) fn outputs_of<L: Ledger, S: SwapSlot, C: Clock>(
-    alloc: Global,
-    core: &Core<L, S, C>,
-) -> Result<Vec<Output>, AllocError>
-    ensures { IfOk result (λ outputs. map bytes_in outputs.items ≡
-        map output_by core.now.processes) }
-{
-    let mut outputs = Vec::new(alloc);
-    'processes: for process in 0..core.processes() as u32 {
-        let output = output_at(alloc, core, process)?;
-        outputs.push(output)?;
-    }
-    Ok(outputs)
-}
-
-fn output_at<L: Ledger, S: SwapSlot, C: Clock>(
-    alloc: Global,
-    core: &Core<L, S, C>,
-    process: u32,
-) -> Result<Output, AllocError>
-    requires { process < length core.now.processes }
-    ensures { IfOk result (λ output. Some (bytes_in output) ≡ option_map output_by
-        (slice_get core.now.processes process)) }
-{
-    let Some(output) = core.output(process) else {
-        unreachable!()
-    };
-    let bytes = Vec::from_slice(alloc, output)?;
-    Ok(Output { bytes })
 }

@@ -7,8 +7,8 @@ use Rattle.command_line.specs.declared.request.RunRequest.{RunRequest}
 use Rattle.machine_core.specs.declared.event.Reply.{Reply}
 use Rattle.elf_image.specs.Start.{Start}
 use Rattle.report_text.specs.RunStatus.{worst_status}
-use Rattle.report_text.specs.ReportText.{machine_text}
-use Rattle.serial_driver.specs.Reporting.{Told, MachineTold}
+use Rattle.machine_sides.specs.declared.report.Report.{Report}
+use Rattle.report_text.specs.ReportText.{report_text}
 use Rattle.text_lines.specs.Text.{lines_of}
 use Rattle.serial_commands.specs.Playing.{Plays, ReportsAsked}
 use Rattle.image_files.specs.Reading.{AreGiven}
@@ -17,15 +17,15 @@ use Rattle.serial_commands.specs.Replies.{replies_text}
 module _ (gives : List ℕ → List ℕ → Type 0) where
   -- A machine of the frames and slots that were asked for, in memory or in files of the names that were asked for, with a process
   -- for each image, the first on the input, ran in slices of the length
-  -- that was asked for, until each process had ended or as many events had happened as were asked for; what is told of it is written, and
-  -- the status is that of what is told.
+  -- that was asked for, until each process had ended or as many events had happened as were asked for; its report is written, and the
+  -- status is that of its processes.
   pub record RunsAsAsked {F : Type 0} (makes : List ℕ → F → Type 0) (request : RunRequest) (old new : Option (List ℕ)) (status : ℕ) : Type 0 where
     pub starts : List Start
-    pub machine : MachineTold
+    pub report : Report
     pub given : AreGiven gives (option_map (λ s. s.now) request.input) (map (λ s. s.now) request.images.items) starts
-    pub ran : ReportsAsked makes (option_map (λ s. s.now) request.swap) request.frames request.slots starts request.slice request.limit machine
-    pub told : Appends old new (machine_text machine)
-    pub status_is : status ≡ worst_status 0 (map (λ (process : Told). process.end) machine.processes)
+    pub ran : ReportsAsked makes (option_map (λ s. s.now) request.swap) request.frames request.slots starts request.slice request.limit report
+    pub told : Appends old new (report_text report)
+    pub status_is : status ≡ worst_status 0 (map (λ process. process.end) report.processes.items)
 
   -- a machine likewise played a script, to its end or to its first bad line, with these replies
   pub record IsPlayedAsAsked (request : DriveRequest) (replies : List Reply) (bad_line : Option ℕ) : Type 0 where

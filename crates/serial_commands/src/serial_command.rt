@@ -11,8 +11,9 @@ use crate::machine::machine_on;
 use command_line::RunRequest;
 use elf_image::Image;
 use image_files::{Fault, Folder, memory_slots, read_processes};
-use report_text::{status_of_machine, write_machine};
-use serial_driver::play;
+use machine_limits::MOST_PROCESSES;
+use report_text::{status_of_all, write_report};
+use serial_driver::{into_report, play};
 use std::alloc::Global;
 use std::io::Write;
 use std::marker::Brand;
@@ -20,8 +21,8 @@ use std::sync::ledger::{Blank, Ledger};
 use swap_slots::SwapSlot;
 
 /// Runs a process for each image on a new machine until all have ended, on one thread, writes how it went, and answers the exit
-/// status. Files for the slots are made once images and input are read. What the machine has come to is written as it
-/// stands in it: once the run is done no more memory is taken.
+/// status. Files for the slots are made once images and input are read. Room for the report is taken before the run: once that is done no
+/// more memory is taken.
 pub fn run_serially<'a, R: Folder + AllocGlobal, W: Write>(
     rt: &R,
     request: &RunRequest<'a>,
@@ -98,8 +99,10 @@ fn run_with<'a, L: Ledger, S: SwapSlot, W: Write>(
         slots.items (map (λ start. start_of start.0 start.1.items) processes.items)
         request.now.slice request.now.limit) (W.contents out.old) (W.contents out.new)) }
 {
+    let room = Vec::with_capacity(alloc, MOST_PROCESSES)?;
     let mut machine = machine_on::<L, S>(alloc, request.frames, blank, slots, processes)?;
     play(&mut machine, request.slice, u64::from(request.limit));
-    write_machine(&machine, out)?;
-    Ok(status_of_machine(&machine))
+    let report = into_report(machine, room);
+    write_report(&report, out)?;
+    Ok(status_of_all(report.processes.as_slice()))
 }

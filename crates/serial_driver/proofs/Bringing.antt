@@ -12,11 +12,11 @@ use Rattle.machine_core.specs.declared.event.Event.{Event}
 use Rattle.machine_core.specs.declared.event.Event.TheVariants.{Step}
 use Rattle.machine_core.specs.declared.event.Reply.{Reply}
 use Rattle.machine_core.specs.declared.event.Reply.TheVariants as reply
-use Rattle.machine_sides.specs.Sides.{ProcessSideValue}
 use Rattle.serial_driver.specs.Owing.{is_full, is_no_memory, is_out_of_memory}
 use Rattle.serial_driver.specs.Serving.{is_paging, BringsIn, Serves, ServesHart}
 use Rattle.serial_driver.specs.declared.serving.Served.{Served}
 use Rattle.serial_driver.specs.declared.serving.Served.TheVariants as served
+use Rattle.space_core.specs.StandsFor.{SpaceValue}
 
 -- ---- what replies tell
 
@@ -42,18 +42,18 @@ paging_quiet (Step process hart) answer number h = cc
 paging_quiet _ answer number h = refl
 
 module _ {S : Type 0} where
-  quiet : (number : ℕ) (added : List ℕ) (new : List (ProcessSideValue S)) (side : ProcessSideValue S) → added ≡ [] → Remains number added new side → Remains number [] new side
+  quiet : (number : ℕ) (added : List ℕ) (new : List (SpaceValue S)) (side : SpaceValue S) → added ≡ [] → Remains number added new side → Remains number [] new side
   quiet number added new side none remains = subst (λ l. Remains number l new side) none remains
 
   -- a process remains twice
-  still_on : (number : ℕ) (between new : List (ProcessSideValue S)) (side : ProcessSideValue S) → (first : Remains number [] between side) → Remains number [] new first.process → Remains number [] new side
+  still_on : (number : ℕ) (between new : List (SpaceValue S)) (side : SpaceValue S) → (first : Remains number [] between side) → Remains number [] new first.process → Remains number [] new side
   still_on number between new side first second = record {
     process = second.process;
     found = second.found;
     goes_on = record {
       image = second.goes_on.image ∙ first.goes_on.image;
       input = second.goes_on.input ∙ first.goes_on.input;
-      recorded = second.goes_on.recorded ∙ ap (λ l. l ++ []) first.goes_on.recorded ∙ append_assoc (written_out side.space.schedule) [] [];
+      recorded = second.goes_on.recorded ∙ ap (λ l. l ++ []) first.goes_on.recorded ∙ append_assoc (written_out side.schedule) [] [];
     };
   }
 

@@ -7,20 +7,20 @@ use Rattle.machine_core.specs.declared.event.Reply.{Reply}
 use Rattle.machine_core.specs.Applying.{Applies, Runs}
 use Rattle.machine_core.specs.ApplyingLaws.{runs_none, runs_one, runs_on, runs_more}
 use Rattle.machine_core.specs.Machine.{CoreValue}
-use Rattle.machine_sides.specs.Sides.{ProcessSideValue}
 use Rattle.serial_driver.specs.Closing.{goes_on, kill_of, closing_below}
 use Rattle.serial_driver.specs.Limit.{ClosesBelow, EndsOne}
 use Rattle.serial_driver.proofs.Endings.{kill_others, purge_others}
+use Rattle.space_core.specs.StandsFor.{SpaceValue}
 
 module _ {S : Type 0} where
-  killed : (number : ℕ) (process : Option (ProcessSideValue S)) → true ≡ goes_on process → kill_of number process ≡ Kill number cause.Limit ∷ []
+  killed : (number : ℕ) (process : Option (SpaceValue S)) → true ≡ goes_on process → kill_of number process ≡ Kill number cause.Limit ∷ []
   killed number process on = by_test (goes_on process) on
     where
       by_test : (b : Bool) → true ≡ b → (if b then Kill number cause.Limit ∷ [] else []) ≡ Kill number cause.Limit ∷ []
       by_test true h = refl
       by_test false h = cc
 
-  not_killed : (number : ℕ) (process : Option (ProcessSideValue S)) → false ≡ goes_on process → kill_of number process ≡ []
+  not_killed : (number : ℕ) (process : Option (SpaceValue S)) → false ≡ goes_on process → kill_of number process ≡ []
   not_killed number process off = by_test (goes_on process) off
     where
       by_test : (b : Bool) → false ≡ b → (if b then Kill number cause.Limit ∷ [] else []) ≡ []

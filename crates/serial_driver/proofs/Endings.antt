@@ -9,7 +9,6 @@ use Rattle.flat_machine.specs.declared.end.KillCause.{KillCause}
 use Rattle.machine_core.specs.Applying.{Applies}
 use Rattle.machine_core.specs.Machine.{CoreValue}
 use Rattle.machine_core.specs.MachineRun.{of_process, end_reason}
-use Rattle.machine_sides.specs.Sides.{ProcessSideValue}
 use Rattle.machine_core.specs.declared.error.EventRefusal.{EventRefusal}
 use Rattle.machine_core.specs.declared.event.Event.TheVariants.{Kill, Purge}
 use Rattle.machine_core.specs.declared.event.Reply.{Reply}
@@ -58,19 +57,19 @@ refused_ended (Some x) reason refusal h = refl
 
 module _ {S : Type 0} where
   -- one process changes, and goes on no more if it did not
-  keeps_one : (old new : CoreValue S) (p : ℕ) (q q' : ProcessSideValue S) → slice_get old.processes p ≡ Some q → new.processes ≡ slice_set old.processes p q'
-      → (IsSome q.space.running.ending → IsSome q'.space.running.ending) → (number : ℕ) → HasEnded old number → HasEnded new number
+  keeps_one : (old new : CoreValue S) (p : ℕ) (q q' : SpaceValue S) → slice_get old.processes p ≡ Some q → new.processes ≡ slice_set old.processes p q'
+      → (IsSome q.running.ending → IsSome q'.running.ending) → (number : ℕ) → HasEnded old number → HasEnded new number
   keeps_one old new p q q' found is keeps number ended process at =
       elim (got_set old.processes p number q' process (ap (λ l. slice_get l number) (sym is) ∙ at)) [
-        | inl here ↦ subst (λ (x : ProcessSideValue S). IsSome x.space.running.ending) (sym here.1) (keeps (ended q (ap (slice_get old.processes) here.0 ∙ found)))
+        | inl here ↦ subst (λ (x : SpaceValue S). IsSome x.running.ending) (sym here.1) (keeps (ended q (ap (slice_get old.processes) here.0 ∙ found)))
         | inr there ↦ ended process there
       ]
 
   same_ended : (old new : CoreValue S) → new ≡ old → (number : ℕ) → HasEnded old number → HasEnded new number
   same_ended old new is number ended process at = ended process (ap (λ (c : CoreValue S). slice_get c.processes number) (sym is) ∙ at)
 
-  refused_process : (o : Option (ProcessSideValue S)) (process : ProcessSideValue S) (refusal : EventRefusal) → o ≡ Some process → of_process end_reason o ≡ Some refusal → IsSome process.space.running.ending
-  refused_process o process refusal at why = refused_ended process.space.running.ending _ refusal (ap (of_process end_reason) (sym at) ∙ why)
+  refused_process : (o : Option (SpaceValue S)) (process : SpaceValue S) (refusal : EventRefusal) → o ≡ Some process → of_process end_reason o ≡ Some refusal → IsSome process.running.ending
+  refused_process o process refusal at why = refused_ended process.running.ending _ refusal (ap (of_process end_reason) (sym at) ∙ why)
 
   module _ (held : S → List ℕ) (honest : Type 0) (failures : S → ℕ) (old new : CoreValue S) (p : ℕ) (reply : Reply) where
     -- a process that the machine ends has ended
@@ -81,7 +80,7 @@ module _ {S : Type 0} where
           | inr kills ↦ λ process at.
               let now = ap (λ l. slice_get l p) kills.one.is ∙ get_set_same old.processes p kills.one.process kills.one.process' kills.one.found in
               let same : kills.one.process' ≡ process = same_some _ _ (slice_get new.processes p) now at in
-              subst (λ (x : ProcessSideValue S). IsSome x.space.running.ending) (sym kills.one.how ∙ same) (is_ended kills.one.process.space.running.ending _)
+              subst (λ (x : SpaceValue S). IsSome x.running.ending) (sym kills.one.how ∙ same) (is_ended kills.one.process.running.ending _)
         ]
 
     -- and what has ended stays so
@@ -90,7 +89,7 @@ module _ {S : Type 0} where
         elim applies.served [
           | inl refused ↦ same_ended old new refused.stays
           | inr kills ↦ keeps_one old new p kills.one.process kills.one.process' kills.one.found kills.one.is
-              (λ _. subst (λ (x : ProcessSideValue S). IsSome x.space.running.ending) (sym kills.one.how) (is_ended kills.one.process.space.running.ending _))
+              (λ _. subst (λ (x : SpaceValue S). IsSome x.running.ending) (sym kills.one.how) (is_ended kills.one.process.running.ending _))
         ]
 
     -- no other process changes
@@ -114,7 +113,7 @@ module _ {S : Type 0} where
         elim applies.served [
           | inl refused ↦ same_ended old new refused.stays
           | inr purges ↦ keeps_one old new p purges.process purges.process' purges.found purges.processes
-              (λ ended. subst (λ (x : SpaceValue S). IsSome x.running.ending) (sym purges.purges.space.stays) ended)
+              (λ ended. subst (λ (x : SpaceValue S). IsSome x.running.ending) (sym purges.purges.is) ended)
         ]
 
   -- one more process has ended
@@ -139,21 +138,21 @@ module _ {S : Type 0} where
       ]
 
   -- what is told of a process's ending tells whether it goes on
-  pub going : (process : Option (ProcessSideValue S)) → Some None ≡ option_map (λ (p : ProcessSideValue S). p.space.running.ending) process → true ≡ goes_on process
+  pub going : (process : Option (SpaceValue S)) → Some None ≡ option_map (λ (p : SpaceValue S). p.running.ending) process → true ≡ goes_on process
   going None told = cc
   going (Some process) told = sym (ap is_none (sym (same_Some _ _ told)))
 
-  pub gone : (process : Option (ProcessSideValue S)) (e : End) → Some (Some e) ≡ option_map (λ (p : ProcessSideValue S). p.space.running.ending) process → false ≡ goes_on process
+  pub gone : (process : Option (SpaceValue S)) (e : End) → Some (Some e) ≡ option_map (λ (p : SpaceValue S). p.running.ending) process → false ≡ goes_on process
   gone None e told = cc
   gone (Some process) e told = ap is_none (same_Some _ _ told)
 
-  pub not_there : (process : Option (ProcessSideValue S)) → None ≡ option_map (λ (p : ProcessSideValue S). p.space.running.ending) process → false ≡ goes_on process
+  pub not_there : (process : Option (SpaceValue S)) → None ≡ option_map (λ (p : SpaceValue S). p.running.ending) process → false ≡ goes_on process
   not_there None told = refl
   not_there (Some process) told = cc
 
   -- one that does not go on has ended, if it is there
   pub ended_off : (core : CoreValue S) (number : ℕ) → goes_on (slice_get core.processes number) ≡ false → HasEnded core number
-  ended_off core number off process at = some_ending process.space.running.ending (ap goes_on (sym at) ∙ off)
+  ended_off core number off process at = some_ending process.running.ending (ap goes_on (sym at) ∙ off)
     where
       some_ending : (o : Option End) → is_none o ≡ false → IsSome o
       some_ending None h = cc

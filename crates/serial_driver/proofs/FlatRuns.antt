@@ -2,7 +2,9 @@
 use Rattle.std.proofs.Common.{◌≡◌, ℕ, List, length, map, option_map, sym, ap, ◌∙◌, subst}
 use Rattle.std.proofs.lemmas.Option.{slice_get-map}
 use Rattle.flat_machine.specs.Schedule.{written_out}
-use Rattle.machine_core.specs.declared.report.Report.{Report}
+use Rattle.machine_sides.specs.FlatLines.{StandsForRun, HaveLines}
+use Rattle.machine_sides.specs.Reporting.{come_to, told}
+use Rattle.machine_sides.specs.declared.report.Report.{Report}
 use Rattle.machine_core.specs.Applying.{LeadsTo}
 use Rattle.machine_core.specs.Faithful.{IsFaithful}
 use Rattle.machine_core.specs.Headline.{ShowsFlatRun}
@@ -10,12 +12,11 @@ use Rattle.machine_core.specs.InvisibleLaws.{run_invisible}
 use Rattle.machine_core.specs.Machine.{CoreValue}
 use Rattle.machine_core.specs.Opening.{MachineBegins}
 use Rattle.elf_image.specs.Start.{Start}
-use Rattle.machine_sides.specs.Sides.{ProcessSideValue}
-use Rattle.serial_driver.specs.FlatLines.{StandsForRun, HaveLines, StandsForRuns}
-use Rattle.serial_driver.specs.Reporting.{come_to, Reports}
+use Rattle.space_core.specs.StandsFor.{SpaceValue}
+use Rattle.serial_driver.specs.FlatLines.{StandsForRuns}
 
 module _ {S : Type 0} (held : S → List ℕ) (honest : Type 0) (failures : S → ℕ) where
-  line_stands : (start : Start) (harts : List ℕ) (process : ProcessSideValue S) → written_out process.space.schedule ≡ harts → ShowsFlatRun held start.image start.input harts process.space
+  line_stands : (start : Start) (harts : List ℕ) (process : SpaceValue S) → written_out process.schedule ≡ harts → ShowsFlatRun held start.image start.input harts process
       → StandsForRun start (come_to process)
   line_stands start harts process recorded shows = record {
     harts = harts;
@@ -36,5 +37,5 @@ module _ {S : Type 0} (held : S → List ℕ) (honest : Type 0) (failures : S �
         stands = line_stands start _ shows.process shows.recorded shows.shows;
       }
 
-  pub report_stands : (starts : List Start) (new : CoreValue S) (report : Report) → Reports new report → HaveLines starts (map come_to new.processes) → StandsForRuns starts report
-  report_stands starts new report reports lines = subst (HaveLines starts) (sym reports.processes) lines
+  pub report_stands : (starts : List Start) (new : CoreValue S) (report : Report) → map told report.processes.items ≡ map come_to new.processes → HaveLines starts (map come_to new.processes) → StandsForRuns starts report
+  report_stands starts new report same lines = subst (HaveLines starts) (sym same) lines

@@ -12,7 +12,6 @@ use Rattle.space_core.specs.StandsFor.{SpaceValue}
 use Rattle.paged_memory.specs.Stages.{is_saving_stage}
 use Rattle.paged_memory.specs.Whole.{stage_in}
 use Rattle.machine_sides.specs.SavingBack.{is_saving_at}
-use Rattle.machine_sides.specs.Sides.{ProcessSideValue}
 use Rattle.machine_sides.specs.StageLaws.{stage_below}
 use Rattle.machine_sides.specs.Together.{key_of, savings_in}
 use Rattle.machine_core.specs.declared.error.EventRefusal.{EventRefusal}
@@ -20,14 +19,14 @@ use Rattle.machine_core.specs.declared.error.EventRefusal.TheVariants as refusal
 use Rattle.machine_core.specs.declared.event.Event.{Event}
 use Rattle.machine_core.specs.declared.event.Event.TheVariants.{Step, Notice, Sweep, Collect, Saved, PageIn, Kill, Purge}
 use Rattle.machine_core.specs.declared.event.Reply.{Reply}
-use Rattle.machine_core.specs.Applying.{Applies, Runs}
+use Rattle.machine_core.specs.Applying.{Applies}
 use Rattle.machine_core.specs.CollectEvent.{CollectsTo, not_yet, freed, dirty, no_slot, no_memory}
 use Rattle.machine_core.specs.Faithful.{IsFaithful}
 use Rattle.machine_core.specs.Machine.{CoreValue, IsMachine, IsSaveOut, jobs_where, total}
 use Rattle.machine_core.specs.MachineRun.{of_process}
 use Rattle.machine_core.specs.SavingOut.{saved_refusal, saving_reason}
 use Rattle.machine_core.specs.TotalLaws.{total_at}
-use Rattle.serial_driver.specs.Limit.{DoesSave, PlaysUpTo, SavesNone}
+use Rattle.serial_driver.specs.Limit.{ComeInTurn, DoesSave, PlaysUpTo, SavesNone}
 use Rattle.serial_driver.specs.Owing.{Duty, Pays, ArePaid, collect_owes, duty_after, duty_with, is_damaged, is_device, is_dirty, is_full, is_going_on, is_out_of_memory, load_owes, most_load_faults, next_owed, no_duty, owed_save, save_owes, step_owes, stop_owes}
 use Rattle.serial_driver.specs.Turning.{EndsProcess, IsInTurn}
 
@@ -100,18 +99,18 @@ module _ {S : Type 0} where
       let single : length jobs ≡ 1 = ap (λ (l : List (JobValue S)). length l) same in
       empty jobs' (omega (arith, count, single))
 
-  stage_saving : (processes : List (ProcessSideValue S)) (job : JobValue S) (out : IsSaveOut processes job) → is_saving_at out.process.space job.vpn ≡ true
-  stage_saving processes job out = ap is_saving_stage (stage_below out.process.space job.vpn out.small) ∙ out.saving
+  stage_saving : (processes : List (SpaceValue S)) (job : JobValue S) (out : IsSaveOut processes job) → is_saving_at out.process job.vpn ≡ true
+  stage_saving processes job out = ap is_saving_stage (stage_below out.process job.vpn out.small) ∙ out.saving
 
-  reason_none : (vpn : ℕ) (process : ProcessSideValue S) → is_saving_at process.space vpn ≡ true → saving_reason vpn process ≡ None
+  reason_none : (vpn : ℕ) (process : SpaceValue S) → is_saving_at process vpn ≡ true → saving_reason vpn process ≡ None
   reason_none vpn process saving = ap (λ (b : Bool). if b then None else Some refusal.NotSaving) saving
 
   -- the save that is out can come back
-  not_refused : (processes : List (ProcessSideValue S)) (job : JobValue S) → IsSaveOut processes job → saved_refusal (key_of job.process job.vpn) processes ≡ None
+  not_refused : (processes : List (SpaceValue S)) (job : JobValue S) → IsSaveOut processes job → saved_refusal (key_of job.process job.vpn) processes ≡ None
   not_refused processes job out =
       ap (of_process (saving_reason job.vpn)) out.found ∙ reason_none job.vpn out.process (stage_saving processes job out)
 
-  first_out : (processes : List (ProcessSideValue S)) (jobs : List (JobValue S)) (job : JobValue S) → All (IsSaveOut processes) jobs → jobs ≡ job ∷ [] → IsSaveOut processes job
+  first_out : (processes : List (SpaceValue S)) (jobs : List (JobValue S)) (job : JobValue S) → All (IsSaveOut processes) jobs → jobs ≡ job ∷ [] → IsSaveOut processes job
   first_out processes jobs job all same = All-head (IsSaveOut processes) job [] (subst (λ l. All (IsSaveOut processes) l) same all)
 
   -- where no page is being saved, no save is out
@@ -142,15 +141,15 @@ module _ {S : Type 0} where
   -- where no save is out, no page is being saved
   pub none_saving : (core : CoreValue S) → IsMachine core → core.jobs ≡ [] → SavesNone core
   none_saving core machine none = λ number process found q small.
-      let most = total_at (λ (p : ProcessSideValue S). savings_in p.space (λ _. true)) core.processes number process found in
+      let most = total_at (λ (p : SpaceValue S). savings_in p (λ _. true)) core.processes number process found in
       let same = machine.saved (λ _. true) in
       let zero = no_jobs core.jobs none in
-      nothing_saved process.space (omega (arith, most, same, zero)) q small
+      nothing_saved process (omega (arith, most, same, zero)) q small
 
 module _ {S : Type 0} (held : S → List ℕ) (honest : Type 0) (failures : S → ℕ) where
   -- ---- one event
 
-  collected_out : (key : Key) (old new : CoreValue S) (process process' : ProcessSideValue S) (answer : Reply) → process.space.memory.process ≡ key.process → old.jobs ≡ [] → CollectsTo key.vpn old new process process' answer
+  collected_out : (key : Key) (old new : CoreValue S) (process process' : SpaceValue S) (answer : Reply) → process.memory.process ≡ key.process → old.jobs ≡ [] → CollectsTo key.vpn old new process process' answer
       → AreOut (owed_save (collect_owes key answer)) new.jobs
   collected_out key old new process process' answer number none (not_yet how jobs told) =
       out_none _ old.jobs new.jobs (no_save_collected key answer (ap is_dirty told)) none jobs
@@ -180,7 +179,7 @@ module _ {S : Type 0} (held : S → List ℕ) (honest : Type 0) (failures : S �
   quiet_end _ answer old new duty ends applies none = absurd ends
 
   -- where none is out, one is after a look at a changed page alone
-  quiet : (event : Event) (answer : Reply) (old new : CoreValue S) (duty : Duty) → Applies held honest failures event old new answer → IsFaithful held honest old → IsInTurn duty.turn event → old.jobs ≡ []
+  quiet : (event : Event) (answer : Reply) (old new : CoreValue S) (duty : Duty) → Applies held honest failures event old new answer → IsFaithful held honest old → IsInTurn old duty.turn event → old.jobs ≡ []
       → AreOut (owed_save (duty_with event answer duty).owed) new.jobs
   quiet (Step process hart) answer old new duty applies faithful in_turn none =
       elim applies.served [
@@ -231,7 +230,7 @@ module _ {S : Type 0} (held : S → List ℕ) (honest : Type 0) (failures : S �
       some_none (Some x) why a b = cc
 
   out_after : (event : Event) (answer : Reply) (old new : CoreValue S) (duty : Duty) (spent : Option ℕ) → Applies held honest failures event old new answer → IsFaithful held honest old
-      → AreOut (owed_save duty.owed) old.jobs → Pays (next_owed duty.owed spent) event → IsInTurn duty.turn event → AreOut (owed_save (duty_with event answer duty).owed) new.jobs
+      → AreOut (owed_save duty.owed) old.jobs → Pays (next_owed duty.owed spent) event → IsInTurn old duty.turn event → AreOut (owed_save (duty_with event answer duty).owed) new.jobs
   out_after event answer old new duty spent applies faithful out pays in_turn = by_owed duty.owed out pays
     where
       by_owed : (owed : Option Event) → AreOut (owed_save owed) old.jobs → Pays (next_owed owed spent) event → AreOut (owed_save (duty_with event answer duty).owed) new.jobs
@@ -244,16 +243,16 @@ module _ {S : Type 0} (held : S → List ℕ) (honest : Type 0) (failures : S �
 
   -- ---- a run of events
 
-  played_out : (events : List Event) (replies : List Reply) (old new : CoreValue S) (most : ℕ) (tried : ℕ → ℕ) (duty : Duty) (spent : Option ℕ) → Runs held honest failures events replies old new
+  played_out : (events : List Event) (replies : List Reply) (old new : CoreValue S) (most : ℕ) (tried : ℕ → ℕ) (duty : Duty) (spent : Option ℕ) → ComeInTurn held honest failures duty events replies old new
       → ArePaid most tried duty spent events replies → IsFaithful held honest old → AreOut (owed_save duty.owed) old.jobs
       → AreOut (owed_save (duty_after events replies duty).owed) new.jobs × IsFaithful held honest new
-  unfolding Runs ArePaid duty_after
+  unfolding ComeInTurn ArePaid duty_after
   played_out [] [] old new most tried duty spent run paid faithful out =
       (subst (λ (c : CoreValue S). AreOut (owed_save duty.owed) c.jobs) (sym run) out, subst (λ c. IsFaithful held honest c) (sym run) faithful)
   played_out [] (r ∷ rs) old new most tried duty spent run paid faithful out = absurd run
   played_out (e ∷ es) [] old new most tried duty spent run paid faithful out = absurd run
   played_out (e ∷ es) (r ∷ rs) old new most tried duty spent run paid faithful out =
-      played_out es rs run.0 new most _ (duty_with e r duty) _ run.1.1 paid.2 run.1.0.faithful (out_after e r old run.0 duty spent run.1.0 faithful out paid.0 paid.1)
+      played_out es rs run.0 new most _ (duty_with e r duty) _ run.1.1.1 paid.1 run.1.0.faithful (out_after e r old run.0 duty spent run.1.0 faithful out paid.0 run.1.1.0)
 
   saved_out : (unsaved : Option Key) (old new : CoreValue S) → DoesSave held honest failures unsaved old new → IsFaithful held honest old → AreOut unsaved old.jobs → SavesNone new
   saved_out None old new is faithful out = subst (λ (c : CoreValue S). SavesNone c) (sym is) (none_saving old faithful.machine out)
@@ -263,5 +262,5 @@ module _ {S : Type 0} (held : S → List ℕ) (honest : Type 0) (failures : S �
   pub all_saved : (slice limit : ℕ) (unsaved : Option Key) (old played saved : CoreValue S) → PlaysUpTo held honest failures slice limit unsaved old played → DoesSave held honest failures unsaved played saved
       → IsFaithful held honest old → SavesNone old → SavesNone saved
   all_saved slice limit unsaved old played saved plays saves faithful none =
-      let after = played_out plays.plays.events plays.plays.replies old played _ _ (no_duty slice) None plays.plays.runs plays.plays.paid faithful (none_out old faithful.machine none) in
+      let after = played_out plays.plays.events plays.plays.replies old played _ _ (no_duty slice) None plays.plays.in_turn plays.plays.paid faithful (none_out old faithful.machine none) in
       saved_out unsaved played saved saves after.1 (subst (λ o. AreOut o played.jobs) (sym plays.unsaved_is) after.0)

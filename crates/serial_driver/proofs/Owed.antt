@@ -6,8 +6,8 @@ use Rattle.machine_core.specs.declared.event.Reply.{Reply}
 use Rattle.machine_core.specs.declared.event.Reply.TheVariants.{Ran}
 use Rattle.machine_core.specs.ManySteps.{steps_of, replies_of}
 use Rattle.serial_driver.specs.Owing.{Duty, Pays, ArePaid, duty_with, duty_after, next_owed, step_faults, step_owes}
-use Rattle.std.specs.Prelude.{◌==◌, IfSome, Bool, true, false, if◌then◌else◌}
-use Rattle.serial_driver.specs.Turning.{IsInTurn, MayStep, Rests, Runs, ran_turn, step_turn}
+use Rattle.std.specs.Prelude.{IfSome}
+use Rattle.serial_driver.specs.Turning.{ran_turn, step_turn}
 use Rattle.serial_driver.specs.Patience.{spent_after, spent_with, tried_after, tried_with}
 
 -- after events, and then others
@@ -28,7 +28,7 @@ paid_on most tried duty spent [] second [] replies' same a b = b
 paid_on most tried duty spent [] second (r ∷ rs) replies' same a b = absurd (omega (arith, same))
 paid_on most tried duty spent (e ∷ es) second [] replies' same a b = absurd (omega (arith, same))
 paid_on most tried duty spent (e ∷ es) second (r ∷ rs) replies' same a b =
-    (a.0, a.1, paid_on most (λ number. tried_with number e r (tried number)) (duty_with e r duty) (spent_with most tried e r) es second rs replies' (omega (arith, same)) a.2 b)
+    (a.0, paid_on most (λ number. tried_with number e r (tried number)) (duty_with e r duty) (spent_with most tried e r) es second rs replies' (omega (arith, same)) a.1 b)
 
 -- how many events steps of a hart are
 abbrev pub steps_many : Option Reply → ℕ → ℕ
@@ -39,35 +39,13 @@ same_count : (process hart count : ℕ) → length (replicate count (Step proces
 same_count process hart zero = refl
 same_count process hart (suc count) = ap suc (same_count process hart count)
 
-most_left : (most left : ℕ) → most ≤ max left 1 → 2 ≤ most → most ≤ left
-most_left most left few two = grind (arith, few, two)
-
--- with more than one instruction left of its slice a hart runs on
-runs_on : (process hart slice left : ℕ) → 1 ≤ left → IsInTurn (ran_turn process hart slice left) (Step process hart)
-runs_on process hart slice left some = by_test (left == 0) refl
-  where
-    by_test : (b : Bool) → (left == 0) ≡ b → MayStep (if b then Rests else Runs) (ran_turn process hart slice left) process hart
-    by_test true is = absurd (grind (arith, is, some))
-    by_test false is = (refl, refl)
-
-next_few : (count left : ℕ) → suc (suc count) ≤ max left 1 → suc count ≤ max (left - 1) 1
-next_few count left few = let most = most_left (suc (suc count)) left few (omega arith) in omega (arith, most)
-
-next_runs : (process hart slice count left : ℕ) → suc (suc count) ≤ max left 1 → IsInTurn (ran_turn process hart slice (left - 1)) (Step process hart)
-next_runs process hart slice count left few = let most = most_left (suc (suc count)) left few (omega arith) in runs_on process hart slice (left - 1) (omega (arith, most))
-
--- steps that go on settle nothing, and come in turn as long as the slice has instructions left
+-- steps that go on settle nothing
 ran_paid : (most : ℕ) (tried : ℕ → ℕ) (duty : Duty) (spent : Option ℕ) (process hart count : ℕ) → Pays (next_owed duty.owed spent) (Step process hart)
-    → IsInTurn duty.turn (Step process hart) → count ≤ max duty.turn.left 1 → ArePaid most tried duty spent (replicate count (Step process hart)) (replicate count Ran)
+    → ArePaid most tried duty spent (replicate count (Step process hart)) (replicate count Ran)
 unfolding ArePaid
-ran_paid most tried duty spent process hart zero pays in_turn few = tt {0}
-ran_paid most tried duty spent process hart (suc zero) pays in_turn few = (pays, in_turn, tt {0})
-ran_paid most tried duty spent process hart (suc (suc count)) pays in_turn few = (
-  pays,
-  in_turn,
-  ran_paid most (λ number. tried_with number (Step process hart) Ran (tried number)) (duty_with (Step process hart) Ran duty) None process hart (suc count) refl
-      (next_runs process hart duty.turn.slice count duty.turn.left few) (next_few count duty.turn.left few),
-)
+ran_paid most tried duty spent process hart zero pays = tt {0}
+ran_paid most tried duty spent process hart (suc count) pays =
+    (pays, ran_paid most (λ number. tried_with number (Step process hart) Ran (tried number)) (duty_with (Step process hart) Ran duty) None process hart count refl)
 
 -- the duty before the last of some steps
 before_last : (most : ℕ) (tried : ℕ → ℕ) (duty : Duty) (spent : Option ℕ) (process hart ran : ℕ) → Pays (next_owed duty.owed spent) (Step process hart)
@@ -77,23 +55,14 @@ before_last most tried duty spent process hart zero pays = pays
 before_last most tried duty spent process hart (suc count) pays =
     before_last most (λ number. tried_with number (Step process hart) Ran (tried number)) (duty_with (Step process hart) Ran duty) None process hart count refl
 
-turn_last : (duty : Duty) (process hart ran : ℕ) → IsInTurn duty.turn (Step process hart) → ran + 1 ≤ max duty.turn.left 1
-    → IsInTurn (duty_after (replicate ran (Step process hart)) (replicate ran Ran) duty).turn (Step process hart)
-unfolding duty_after
-turn_last duty process hart zero in_turn few = in_turn
-turn_last duty process hart (suc count) in_turn few =
-    let least : suc (suc count) ≤ max duty.turn.left 1 = omega (arith, few) in
-    turn_last (duty_with (Step process hart) Ran duty) process hart count (next_runs process hart duty.turn.slice count duty.turn.left least)
-    (let next = next_few count duty.turn.left least in omega (arith, next))
-
 pub steps_paid : (most : ℕ) (tried : ℕ → ℕ) (duty : Duty) (spent : Option ℕ) (process hart ran : ℕ) (last : Option Reply) → Pays (next_owed duty.owed spent) (Step process hart)
-    → IsInTurn duty.turn (Step process hart) → steps_many last ran ≤ max duty.turn.left 1 → ArePaid most tried duty spent (steps_of process hart ran last) (replies_of ran last)
+    → ArePaid most tried duty spent (steps_of process hart ran last) (replies_of ran last)
 unfolding ArePaid
-steps_paid most tried duty spent process hart ran None pays in_turn few = ran_paid most tried duty spent process hart ran pays in_turn few
-steps_paid most tried duty spent process hart ran (Some reply) pays in_turn few =
+steps_paid most tried duty spent process hart ran None pays = ran_paid most tried duty spent process hart ran pays
+steps_paid most tried duty spent process hart ran (Some reply) pays =
     paid_on most tried duty spent (replicate ran (Step process hart)) (Step process hart ∷ []) (replicate ran Ran) (reply ∷ []) (same_count process hart ran)
-    (ran_paid most tried duty spent process hart ran pays in_turn (omega (arith, few)))
-    (before_last most tried duty spent process hart ran pays, turn_last duty process hart ran in_turn few, tt {0})
+    (ran_paid most tried duty spent process hart ran pays)
+    (before_last most tried duty spent process hart ran pays, tt {0})
 
 -- what steps leave owed, by the last one's reply
 ran_faults : (process hart count : ℕ) (duty : Duty) → (duty_after (replicate count (Step process hart)) (replicate count Ran) duty).faults ≡ duty.faults

@@ -9,16 +9,16 @@ use Rattle.serial_driver.specs.Patience.{tries_per_frame}
 use Rattle.serial_driver.specs.declared.patience.Patience.{Patience}
 
 module _ {S : Type 0} (held : S → List ℕ) (honest : Type 0) (failures : S → ℕ) where
-  pub plays_to_end : (slice limit count left : ℕ) (duty duty' : Duty) (old new : CoreValue S) (patience : Patience) → count + left ≡ limit
+  pub plays_to_end : (slice limit count left : ℕ) (duty : Duty) (old new : CoreValue S) (patience : Patience) → count + left ≡ limit
       → PlaysWith held honest failures (tries_per_frame * old.pager.pager.size) (λ _. 0) (no_duty slice) None count old new patience duty
-      → duty' ≡ duty → duty'.owed ≡ None → ((number : ℕ) → HasEnded new number) → PlaysUpTo held honest failures slice limit None old new
-  plays_to_end slice limit count left duty duty' old new patience sum played same free ended = record {
+      → duty.owed ≡ None → ((number : ℕ) → HasEnded new number) → PlaysUpTo held honest failures slice limit None old new
+  plays_to_end slice limit count left duty old new patience sum played free ended = record {
     count = count;
     plays = played.plays;
     within = omega (arith, sum);
     short = λ less. ended;
     saves_late = λ some. absurd (cc);
-    unsaved_is = sym (ap (λ (d : Duty). owed_save d.owed) (sym played.owes ∙ sym same) ∙ ap owed_save free);
+    unsaved_is = sym (ap (λ (d : Duty). owed_save d.owed) (sym played.owes) ∙ ap owed_save free);
   }
 
   pub plays_to_limit : (slice limit count left : ℕ) (duty : Duty) (old new : CoreValue S) (patience : Patience) (unsaved : Option Key) → count + left ≡ limit → left ≤ 0

@@ -40,12 +40,12 @@ module _ {S : Type 0} (held : S → List ℕ) (honest : Type 0) (failures : S �
   }
 
   -- until each process has ended
-  pub played_out : (slice limit : ℕ) (first old new : CoreValue S) (before run : SerialRun) → HasPlayed held honest failures slice limit first old before → new ≡ old → duty_of run.turns ≡ duty_of before.turns
+  pub played_out : (slice limit : ℕ) (first old new : CoreValue S) (run : SerialRun) → HasPlayed held honest failures slice limit first old run → new ≡ old
       → stage_owes run.turns.stage ≡ None → ((number : ℕ) → HasEnded new number) → PlaysUpTo held honest failures slice limit (unsaved_of run) first new
-  played_out slice limit first old new before run played stays same settled ended =
-      let now : HasPlayed held honest failures slice limit first new before = subst (λ c. HasPlayed held honest failures slice limit first c before) (sym stays) played in
+  played_out slice limit first old new run played stays settled ended =
+      let now : HasPlayed held honest failures slice limit first new run = subst (λ c. HasPlayed held honest failures slice limit first c run) (sym stays) played in
       subst (λ (unsaved : Option Key). PlaysUpTo held honest failures slice limit unsaved first new) (sym (ap owed_save settled))
-      (plays_to_end held honest failures slice limit now.count before.left (duty_of before.turns) (duty_of run.turns) first new before.patience now.sum now.plays same settled ended)
+      (plays_to_end held honest failures slice limit now.count run.left (duty_of run.turns) first new run.patience now.sum now.plays settled ended)
 
   -- or until so many events have happened
   pub played_up : (slice limit : ℕ) (first old : CoreValue S) (run : SerialRun) → HasPlayed held honest failures slice limit first old run → run.left ≡ 0

@@ -1,31 +1,10 @@
 -- What is told of each process, by the flat run that it stands for.
-use Rattle.std.specs.Prelude.{◌≡◌, ℕ, List, length, Some, slice_get}
-use Rattle.flat_machine.specs.Process.{Process, opening, flat_run}
-use Rattle.machine_core.specs.declared.report.Report.{Report}
+use Rattle.std.specs.Prelude.{List, map}
 use Rattle.elf_image.specs.Start.{Start}
-use Rattle.serial_driver.specs.Reporting.{Told, told_by}
-use Rattle.space_core.specs.StandsFor.{own_ending}
+use Rattle.machine_sides.specs.FlatLines.{HaveLines}
+use Rattle.machine_sides.specs.Reporting.{told}
+use Rattle.machine_sides.specs.declared.report.Report.{Report}
 
--- A line tells of a flat run of this image on this input: some order of harts with as many steps as are told leads to a flat
--- process with the output that is told, and with the ending that is told, but that one whom the machine killed goes on there.
-pub record StandsForRun (start : Start) (line : Told) : Type 0 where
-  pub harts : List ℕ
-  pub flat : Process
-  pub ran : flat_run harts (opening start.image start.input) ≡ Some flat
-  pub steps : line.steps ≡ length harts
-  pub output : line.output ≡ flat.environment.output
-  pub ending : own_ending line.end ≡ flat.ending
-
--- the line of a number tells of the start of that number
-pub record HasLine (start : Start) (number : ℕ) (lines : List Told) : Type 0 where
-  pub line : Told
-  pub found : slice_get lines number ≡ Some line
-  pub stands : StandsForRun start line
-
--- and so for each start
-abbrev pub HaveLines : List Start → List Told → Type 0
-HaveLines starts lines = (number : ℕ) (start : Start) → slice_get starts number ≡ Some start → HasLine start number lines
-
--- the lines of a report do
+-- the lines of a report tell of flat runs of these starts
 abbrev pub StandsForRuns : List Start → Report → Type 0
-StandsForRuns starts report = HaveLines starts (told_by report).processes
+StandsForRuns starts report = HaveLines starts (map told report.processes.items)

@@ -7,8 +7,8 @@ pub mod Nexts
 pub mod Owing
 pub mod Patience
 pub mod Reporting
+pub mod Rounds
 pub mod Serving
-pub mod Stands
 pub mod Turning
 pub mod TurnsDuty
 pub mod Watched

@@ -1,9 +1,8 @@
 -- A run of so many events at most, and how it is closed.
-use Rattle.std.specs.Prelude.{◌≡◌, ◌≢◌, ℕ, ◌*◌, ◌^◌, ◌<◌, ◌≤◌, false, List, All, length, slice_get, Option, Some, None, IsSome}
+use Rattle.std.specs.Prelude.{◌≡◌, ◌≢◌, ℕ, ◌*◌, ◌^◌, ◌<◌, ◌≤◌, false, List, [], ◌∷◌, All, length, slice_get, Option, Some, None, IsSome}
 use Rattle.clock_policy.specs.declared.key.Key.{Key}
 use Rattle.paged_memory.specs.Stages.{is_saving_stage}
 use Rattle.paged_memory.specs.Whole.{stage_in}
-use Rattle.machine_sides.specs.Sides.{ProcessSideValue}
 use Rattle.machine_core.specs.declared.event.Event.{Event}
 use Rattle.machine_core.specs.declared.event.Event.TheVariants.{Saved}
 use Rattle.machine_core.specs.declared.event.Reply.{Reply}
@@ -11,22 +10,32 @@ use Rattle.machine_core.specs.Applying.{Applies, Runs}
 use Rattle.machine_core.specs.Machine.{CoreValue}
 use Rattle.serial_driver.specs.Closing.{is_limit_kill, kill_of, closing_below}
 use Rattle.serial_driver.specs.Endings.{HasEnded}
-use Rattle.serial_driver.specs.Owing.{Duty, no_duty, duty_after, owed_save, ArePaid}
+use Rattle.serial_driver.specs.Owing.{Duty, no_duty, duty_after, duty_with, owed_save, ArePaid}
 use Rattle.serial_driver.specs.Patience.{tries_per_frame, tried_after, spent_after, IsPatient}
+use Rattle.serial_driver.specs.Turning.{IsInTurn}
 use Rattle.serial_driver.specs.declared.patience.Patience.{Patience}
+use Rattle.space_core.specs.StandsFor.{SpaceValue}
 
 module _ {S : Type 0} where
   -- no page of the machine is being saved
   abbrev pub SavesNone : CoreValue S → Type 0
-  SavesNone core = (number : ℕ) (process : ProcessSideValue S) → slice_get core.processes number ≡ Some process → (q : ℕ) → q < 2 ^ 20 → is_saving_stage (stage_in process.space.memory q) ≡ false
+  SavesNone core = (number : ℕ) (process : SpaceValue S) → slice_get core.processes number ≡ Some process → (q : ℕ) → q < 2 ^ 20 → is_saving_stage (stage_in process.memory q) ≡ false
 
 module _ {S : Type 0} (held : S → List ℕ) (honest : Type 0) (failures : S → ℕ) where
+  -- events lead from one machine to the other, one after another, each with its reply and each in turn in the machine that it finds
+  unfoldable pub ComeInTurn : Duty → List Event → List Reply → CoreValue S → CoreValue S → Type 0
+  ComeInTurn duty [] [] old new = new ≡ old
+  ComeInTurn duty [] (answer ∷ answers) old new = ⊥
+  ComeInTurn duty (event ∷ events) [] old new = ⊥
+  ComeInTurn duty (event ∷ events) (answer ∷ answers) old new =
+      (between : CoreValue S) × (Applies held honest failures event old between answer × (IsInTurn old duty.turn event × ComeInTurn (duty_with event answer duty) events answers between new))
+
   -- So many events lead from one machine to the other, each in turn. None of them ends a process for the limit. Each event that is owed, for an answer
   -- or for a process that was tried for too often, is the next; and for no other reason one is ended.
   pub record PlaysOn (most : ℕ) (tried : ℕ → ℕ) (duty : Duty) (spent : Option ℕ) (count : ℕ) (old new : CoreValue S) : Type 0 where
     pub events : List Event
     pub replies : List Reply
-    pub runs : Runs held honest failures events replies old new
+    pub in_turn : ComeInTurn duty events replies old new
     pub many : length events ≡ count
     pub unlimited : All (λ event. is_limit_kill event ≡ false) events
     pub paid : ArePaid most tried duty spent events replies

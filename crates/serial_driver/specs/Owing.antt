@@ -9,7 +9,7 @@ use Rattle.machine_core.specs.declared.event.Event.TheVariants.{Step, Notice, Sw
 use Rattle.machine_core.specs.declared.event.Reply.{Reply}
 use Rattle.machine_core.specs.declared.event.Reply.TheVariants as reply
 use Rattle.serial_driver.specs.Patience.{tried_with, spent_with}
-use Rattle.serial_driver.specs.Turning.{Turn, IsInTurn, first_turn, noticed_in, paged_in, purged_in, step_turn, swept_turn, waiting}
+use Rattle.serial_driver.specs.Turning.{Turn, first_turn, noticed_in, paged_in, purged_in, step_turn, swept_turn, waiting}
 
 -- how many loads failed in a row within one absence, the event that the last answer settled, if it did, and whose turn it is
 pub record Duty : Type 0 where
@@ -105,7 +105,7 @@ duty_purged _ duty = duty
 abbrev pub duty_with : Event → Reply → Duty → Duty
 duty_with (Step process hart) answer duty =
     record { faults = step_faults answer duty.faults; owed = step_owes process answer; turn = step_turn process hart answer duty.turn.slice duty.turn.left }
-duty_with (Notice process hart) answer duty = record { faults = duty.faults; owed = None; turn = noticed_in duty.turn.phase duty.turn }
+duty_with (Notice process hart) answer duty = record { faults = duty.faults; owed = None; turn = noticed_in duty.turn.phase hart duty.turn }
 duty_with Sweep answer duty = record { faults = duty.faults; owed = None; turn = swept_turn answer duty.turn }
 duty_with (Collect key) answer duty = record { faults = duty.faults; owed = collect_owes key answer; turn = waiting duty.turn }
 duty_with (Saved key) answer duty = record { faults = duty.faults; owed = save_owes key.process answer; turn = waiting duty.turn }
@@ -137,13 +137,12 @@ abbrev pub Pays : Option Event → Event → Type 0
 Pays (Some owed) event = event ≡ owed
 Pays None event = is_ending event ≡ false
 
--- the same of events one after another, each in turn, where a process is spent by so many tries; the counts are those before the first
+-- the same of events one after another, where a process is spent by so many tries; the counts are those before the first
 unfoldable pub ArePaid : ℕ → (ℕ → ℕ) → Duty → Option ℕ → List Event → List Reply → Type 0
 ArePaid most tried duty spent [] answers = ⊤
 ArePaid most tried duty spent (event ∷ events) [] = ⊤
 ArePaid most tried duty spent (event ∷ events) (answer ∷ answers) =
     Pays (next_owed duty.owed spent) event
-    × IsInTurn duty.turn event
     × ArePaid most (λ number. tried_with number event answer (tried number)) (duty_with event answer duty) (spent_with most tried event answer) events answers
 
 -- the page whose save is owed

@@ -1,16 +1,25 @@
 -- One instruction of a hart, with the pages that it needs brought in.
-use Rattle.std.specs.Prelude.{◌≡◌, ◌⊎◌, ℕ, Bool, true, false, List, [], All, Option, Some, None, slice_get}
+use Rattle.std.specs.Prelude.{◌≡◌, ◌≢◌, ◌⊎◌, ℕ, ◌+◌, ◌*◌, ◌^◌, ⊤, Bool, true, false, List, [], ◌∷◌, ◌++◌, All, Option, Some, None, slice_get}
+use Rattle.flat_machine.specs.declared.end.KillCause.{KillCause}
+use Rattle.flat_machine.specs.declared.end.KillCause.TheVariants as cause
+use Rattle.machine_core.specs.declared.error.EventRefusal.{EventRefusal}
 use Rattle.machine_core.specs.declared.error.EventRefusal.TheVariants as refusal
 use Rattle.machine_core.specs.declared.event.Event.{Event}
-use Rattle.machine_core.specs.declared.event.Event.TheVariants.{Step, Notice, Sweep, Collect, Saved, PageIn}
+use Rattle.machine_core.specs.declared.event.Event.TheVariants.{Step, Notice, Sweep, Collect, Saved, PageIn, Kill, Purge}
 use Rattle.machine_core.specs.declared.event.Reply.{Reply}
 use Rattle.machine_core.specs.declared.event.Reply.TheVariants.{ScheduleFull, Refused}
 use Rattle.machine_core.specs.Applying.{Runs}
 use Rattle.machine_core.specs.Headline.{has_run, HappensInvisibly, Remains}
 use Rattle.machine_core.specs.Machine.{CoreValue}
-use Rattle.machine_sides.specs.Sides.{ProcessSideValue}
+use Rattle.serial_driver.specs.Endings.{HasEnded}
+use Rattle.serial_driver.specs.Limit.{PlaysOn, PlaysWith}
+use Rattle.serial_driver.specs.Owing.{Duty, duty_after, next_owed}
+use Rattle.serial_driver.specs.Patience.{spent_after, tries_per_frame}
+use Rattle.serial_driver.specs.Turning.{Phase, Turn, Begins, Clears, Rests, Runs as RunsOn, Waits}
+use Rattle.serial_driver.specs.declared.patience.Patience.{Patience}
 use Rattle.serial_driver.specs.declared.serving.Served.{Served}
 use Rattle.serial_driver.specs.declared.serving.Served.TheVariants as served
+use Rattle.space_core.specs.StandsFor.{SpaceValue}
 
 -- whether an event brings pages in, or makes room for them
 abbrev pub is_paging : Event → Bool
@@ -25,6 +34,79 @@ is_paging _ = false
 abbrev pub ServesHart : ℕ → ℕ → Event → Type 0
 ServesHart process hart event = (event ≡ Step process hart) ⊎ (is_paging event ≡ true)
 
+-- whether a process is ended for a page that can't be had, or for one of its own that can't leave
+abbrev pub is_of_pages : KillCause → Bool
+is_of_pages cause.NoSwap = true
+is_of_pages cause.LoadFailed = true
+is_of_pages cause.Damaged = true
+is_of_pages _ = false
+
+-- Whether an event that a run has come next is where the instruction is given up: a process is ended for such a page, or gives back what
+-- it has, since no such hart may step.
+abbrev pub is_giving_up : Event → Bool
+is_giving_up (Kill process cause) = is_of_pages cause
+is_giving_up (Purge process) = true
+is_giving_up _ = false
+
+-- what is owed, if anything is, is no ending but for such a page
+abbrev pub owes_pages : Option Event → Bool
+owes_pages (Some (Kill process cause)) = is_of_pages cause
+owes_pages _ = true
+
+-- the hart's turn lasts: it runs, or waits for a page
+abbrev pub Lasts : Phase → Type 0
+Lasts (Begins last) = ⊥
+Lasts RunsOn = ⊤
+Lasts Rests = ⊥
+Lasts Waits = ⊤
+Lasts (Clears victim last) = ⊤
+
+pub record IsServing (process hart : ℕ) (turn : Turn) : Type 0 where
+  pub process_is : turn.process ≡ process
+  pub hart_is : turn.hart ≡ hart
+  pub lasts : Lasts turn.phase
+
+-- the hart's turn, of one instruction
+abbrev pub serving : ℕ → ℕ → Duty
+serving process hart = record { faults = 0; owed = None; turn = record { slice = 1; process = process; hart = hart; left = 1; phase = RunsOn } }
+
+module _ {S : Type 0} (held : S → List ℕ) (honest : Type 0) (failures : S → ℕ) where
+  -- Why an instruction is given up behind events of a run with these replies, of which this is owed then: the run ends a process next for a
+  -- page that can't be had, or has one give back what it has; or the last event was refused, and not for want of memory; or each process
+  -- has ended.
+  pub data GivesUpFor (duty : Duty) (spent : Option ℕ) (replies : List Reply) (core : CoreValue S) : Type 0 where
+    ends : (event : Event) → next_owed duty.owed spent ≡ Some event → is_giving_up event ≡ true → GivesUpFor duty spent replies core
+    refuses : (before : List Reply) (why : EventRefusal) → replies ≡ before ++ Refused why ∷ [] → why ≢ refusal.NoMemory → GivesUpFor duty spent replies core
+    over : ((number : ℕ) → HasEnded core number) → GivesUpFor duty spent replies core
+
+  -- so many events of a run, from what is owed, behind which an instruction is given up
+  pub record GivesUpFrom (most : ℕ) (tried : ℕ → ℕ) (duty : Duty) (spent : Option ℕ) (old new : CoreValue S) : Type 0 where
+    pub count : ℕ
+    pub plays : PlaysOn held honest failures most tried duty spent count old new
+    pub why : GivesUpFor (duty_after plays.events plays.replies duty) (spent_after most tried plays.events plays.replies spent) plays.replies new
+
+  -- What comes of one event of a run: the instruction is served on, or given up.
+  abbrev pub Proceeds : ℕ → ℕ → Option Served → ℕ → (ℕ → ℕ) → Duty → Option ℕ → CoreValue S → CoreValue S → Patience → Duty → Type 0
+  Proceeds process hart None most tried duty spent old new patience left =
+      PlaysWith held honest failures most tried duty spent 1 old new patience left × (IsServing process hart left.turn × (owes_pages left.owed ≡ true))
+  Proceeds process hart (Some served.Ran) most tried duty spent old new patience left = ⊤
+  Proceeds process hart (Some served.Absent) most tried duty spent old new patience left = GivesUpFrom most tried duty spent old new
+  Proceeds process hart (Some served.Full) most tried duty spent old new patience left = ⊤
+  Proceeds process hart (Some served.NoMemory) most tried duty spent old new patience left = ⊤
+
+  -- as many events of a run as there may be
+  pub record GoesTooFar (most : ℕ) (tried : ℕ → ℕ) (duty : Duty) (spent : Option ℕ) (old new : CoreValue S) : Type 0 where
+    pub count : ℕ
+    pub plays : PlaysOn held honest failures most tried duty spent count old new
+    pub many : count + 1 ≡ 2 ^ 64
+
+  -- A hart's instruction is given up where a run of it alone would end its process for a page, or can't go on; or once 2^64 - 1 events
+  -- have happened.
+  abbrev pub GivesUp : ℕ → ℕ → CoreValue S → CoreValue S → Type 0
+  GivesUp process hart old new =
+      GivesUpFrom (tries_per_frame * old.pager.pager.size) (λ _. 0) (serving process hart) None old new
+      ⊎ GoesTooFar (tries_per_frame * old.pager.pager.size) (λ _. 0) (serving process hart) None old new
+
 module _ {S : Type 0} (held : S → List ℕ) (honest : Type 0) (failures : S → ℕ) where
   -- events that serve a hart lead from one machine to the other, and no instruction of any process ran
   pub record BringsIn (process hart : ℕ) (old new : CoreValue S) : Type 0 where
@@ -32,7 +114,7 @@ module _ {S : Type 0} (held : S → List ℕ) (honest : Type 0) (failures : S �
     pub replies : List Reply
     pub runs : Runs held honest failures events replies old new
     pub serve : All (ServesHart process hart) events
-    pub remains : (number : ℕ) (side : ProcessSideValue S) → slice_get old.processes number ≡ Some side → Remains number [] new.processes side
+    pub remains : (number : ℕ) (side : SpaceValue S) → slice_get old.processes number ≡ Some side → Remains number [] new.processes side
 
   -- an event that serves a hart, and is answered so
   pub record Happens (process hart : ℕ) (answers : Reply → Type 0) (old new : CoreValue S) : Type 0 where

@@ -1,18 +1,22 @@
 -- Whose turn it is among the harts, and how much of a slice is left of it.
-use Rattle.std.specs.Prelude.{◌≡◌, ℕ, ◌-◌, ◌==◌, ⊤, Bool, true, false, if◌then◌else◌}
+use Rattle.std.specs.Prelude.{◌≡◌, ℕ, ◌-◌, ◌<◌, ◌==◌, ⊤, Bool, true, false, length, Option, Some, None, if◌then◌else◌}
+use Rattle.clock_policy.specs.declared.key.Key.{Key}
+use Rattle.machine_core.specs.Machine.{CoreValue}
 use Rattle.machine_core.specs.declared.event.Event.{Event}
 use Rattle.machine_core.specs.declared.event.Event.TheVariants.{Step, Notice, Sweep, Collect, Saved, PageIn, Kill, Purge}
 use Rattle.machine_core.specs.declared.event.Reply.{Reply}
 use Rattle.machine_core.specs.declared.event.Reply.TheVariants as reply
+use Rattle.serial_driver.specs.Rounds.{IsLeastAbove, IsNextHart, NoneAbove}
 
--- A turn begins with the first instruction of some hart; that hart runs on; its turn is over, and it drops its translations; or it waits
--- for a page, or is gone. While it waits, the harts of a victim's process drop theirs, until the victim is looked at.
+-- A turn begins with the first instruction of a hart, the next one behind the last that had a turn, if one had; that hart runs on; its turn
+-- is over, and it drops its translations; or it waits for a page, or is gone. While it waits, the live harts of a victim's process drop theirs
+-- one after another, each told as the last, and then the victim is looked at.
 pub data Phase : Type 0 where
-  Begins : Phase
+  Begins : Option ℕ → Phase
   Runs : Phase
   Rests : Phase
   Waits : Phase
-  Clears : ℕ → Phase
+  Clears : Key → Option ℕ → Phase
 
 pub record Turn : Type 0 where
   pub slice : ℕ
@@ -23,19 +27,19 @@ pub record Turn : Type 0 where
 
 -- at first a whole slice is left to the hart that will run
 abbrev pub first_turn : ℕ → Turn
-first_turn slice = record { slice = slice; process = 0; hart = 0; left = slice; phase = Begins }
+first_turn slice = record { slice = slice; process = 0; hart = 0; left = slice; phase = Begins None }
 
 -- the turn of another hart begins
 abbrev pub begun : Turn → Turn
-begun turn = record { slice = turn.slice; process = turn.process; hart = turn.hart; left = turn.slice; phase = Begins }
+begun turn = record { slice = turn.slice; process = turn.process; hart = turn.hart; left = turn.slice; phase = Begins (Some turn.hart) }
 
 -- the hart waits
 abbrev pub waiting : Turn → Turn
 waiting turn = record { slice = turn.slice; process = turn.process; hart = turn.hart; left = turn.left; phase = Waits }
 
--- it waits, and a page of a process is to leave its frame
-abbrev pub clearing : ℕ → Turn → Turn
-clearing victim turn = record { slice = turn.slice; process = turn.process; hart = turn.hart; left = turn.left; phase = Clears victim }
+-- it waits, and a page is to leave its frame, whose process's harts drop their translations up to the last one
+abbrev pub clearing : Key → Option ℕ → Turn → Turn
+clearing victim last turn = record { slice = turn.slice; process = turn.process; hart = turn.hart; left = turn.left; phase = Clears victim last }
 
 -- with nothing left of its slice a hart rests
 abbrev pub resting : ℕ → Phase
@@ -50,18 +54,18 @@ ran_turn process hart slice left = record { slice = slice; process = process; ha
 abbrev pub step_turn : ℕ → ℕ → Reply → ℕ → ℕ → Turn
 step_turn process hart reply.Ran slice left = ran_turn process hart slice (left - 1)
 step_turn process hart reply.Yielded slice left = record { slice = slice; process = process; hart = hart; left = left - 1; phase = Rests }
-step_turn process hart reply.HartDone slice left = record { slice = slice; process = process; hart = hart; left = slice; phase = Begins }
+step_turn process hart reply.HartDone slice left = record { slice = slice; process = process; hart = hart; left = slice; phase = Begins (Some hart) }
 step_turn process hart _ slice left = record { slice = slice; process = process; hart = hart; left = left; phase = Waits }
 
--- a hart that rests and drops its translations makes room for another
-abbrev pub noticed_in : Phase → Turn → Turn
-noticed_in Waits turn = waiting turn
-noticed_in (Clears victim) turn = clearing victim turn
-noticed_in _ turn = begun turn
+-- a hart that rests and drops its translations makes room for another; one of a victim's process was the last that did
+abbrev pub noticed_in : Phase → ℕ → Turn → Turn
+noticed_in Waits hart turn = waiting turn
+noticed_in (Clears victim last) hart turn = clearing victim (Some hart) turn
+noticed_in _ hart turn = begun turn
 
 -- a question may name a victim
 abbrev pub swept_turn : Reply → Turn → Turn
-swept_turn (reply.Victim key) turn = clearing key.process turn
+swept_turn (reply.Victim key) turn = clearing key None turn
 swept_turn _ turn = waiting turn
 
 -- a hart whose page came in runs on
@@ -77,21 +81,30 @@ gone_if false turn = waiting turn
 abbrev pub purged_in : ℕ → Turn → Turn
 purged_in process turn = gone_if (process == turn.process) turn
 
--- which hart may run
-abbrev pub MayStep : Phase → Turn → ℕ → ℕ → Type 0
-MayStep Begins turn process hart = ⊤
-MayStep Runs turn process hart = (process ≡ turn.process) × (hart ≡ turn.hart)
-MayStep Rests turn process hart = ⊥
-MayStep Waits turn process hart = ⊥
-MayStep (Clears victim) turn process hart = ⊥
+module _ {S : Type 0} (core : CoreValue S) where
+  -- which hart may run
+  abbrev pub MayStep : Phase → Turn → ℕ → ℕ → Type 0
+  MayStep (Begins last) turn process hart = IsNextHart core turn.process last process hart
+  MayStep Runs turn process hart = (process ≡ turn.process) × (hart ≡ turn.hart)
+  MayStep Rests turn process hart = ⊥
+  MayStep Waits turn process hart = ⊥
+  MayStep (Clears victim last) turn process hart = ⊥
 
--- which may drop its translations: the one whose turn is over, or, while one waits, one of the victim's process
-abbrev pub MayNotice : Phase → Turn → ℕ → ℕ → Type 0
-MayNotice Begins turn process hart = ⊥
-MayNotice Runs turn process hart = ⊥
-MayNotice Rests turn process hart = (process ≡ turn.process) × (hart ≡ turn.hart)
-MayNotice Waits turn process hart = ⊥
-MayNotice (Clears victim) turn process hart = process ≡ victim
+  -- which may drop its translations: the one whose turn is over, or, while one waits, the next live one of the victim's process
+  abbrev pub MayNotice : Phase → Turn → ℕ → ℕ → Type 0
+  MayNotice (Begins last) turn process hart = ⊥
+  MayNotice Runs turn process hart = ⊥
+  MayNotice Rests turn process hart = (process ≡ turn.process) × (hart ≡ turn.hart)
+  MayNotice Waits turn process hart = ⊥
+  MayNotice (Clears victim last) turn process hart = (process ≡ victim.process) × IsLeastAbove core victim.process last hart
+
+  -- which page may be looked at: the victim, once each live hart of its process has dropped its translations
+  abbrev pub MayCollect : Phase → Key → Type 0
+  MayCollect (Begins last) key = ⊥
+  MayCollect Runs key = ⊥
+  MayCollect Rests key = ⊥
+  MayCollect Waits key = ⊥
+  MayCollect (Clears victim last) key = (key ≡ victim) × NoneAbove core victim.process last
 
 -- a process may be ended, and may give back what it has, at any time; no other event is a part of a run
 abbrev pub EndsProcess : Event → Type 0
@@ -99,13 +112,14 @@ EndsProcess (Kill process cause) = ⊤
 EndsProcess (Purge process) = ⊤
 EndsProcess _ = ⊥
 
--- An event comes in turn: a hart runs till nothing is left of its slice, or till it yields, and drops its translations then; victims are
--- sought while it waits, and a page comes in for its process.
-abbrev pub IsInTurn : Turn → Event → Type 0
-IsInTurn turn (Step process hart) = MayStep turn.phase turn process hart
-IsInTurn turn (Notice process hart) = MayNotice turn.phase turn process hart
-IsInTurn turn Sweep = turn.phase ≡ Waits
-IsInTurn turn (Collect key) = turn.phase ≡ Clears key.process
-IsInTurn turn (Saved key) = turn.phase ≡ Waits
-IsInTurn turn (PageIn key) = (turn.phase ≡ Waits) × (key.process ≡ turn.process)
-IsInTurn turn event = EndsProcess event
+module _ {S : Type 0} where
+  -- An event comes in turn, in the machine that it finds: a hart runs till nothing is left of its slice, or till it yields, and drops its
+  -- translations then; while it waits, victims are sought where no frame is free, and where one is a page comes in for its process.
+  abbrev pub IsInTurn : CoreValue S → Turn → Event → Type 0
+  IsInTurn core turn (Step process hart) = MayStep core turn.phase turn process hart
+  IsInTurn core turn (Notice process hart) = MayNotice core turn.phase turn process hart
+  IsInTurn core turn Sweep = (turn.phase ≡ Waits) × (length core.pager.pager.free ≡ 0)
+  IsInTurn core turn (Collect key) = MayCollect core turn.phase key
+  IsInTurn core turn (Saved key) = turn.phase ≡ Waits
+  IsInTurn core turn (PageIn key) = (turn.phase ≡ Waits) × ((key.process ≡ turn.process) × (0 < length core.pager.pager.free))
+  IsInTurn core turn event = EndsProcess event

@@ -20,21 +20,21 @@ cause_of failure.ScheduleFull = cause.ScheduleFull
 cause_of failure.NoMemory = cause.NoMemory
 
 abbrev pub stage_owes : Stage → Option machine.Event
-stage_owes (Choose from) = None
+stage_owes (Choose last) = None
 stage_owes Run = None
 stage_owes Rest = None
 stage_owes Wait = None
-stage_owes (Clear victim hart) = None
+stage_owes (Clear victim last) = None
 stage_owes (Save victim) = Some (event.Saved victim)
 stage_owes (Kill process failure) = Some (event.Kill process (cause_of failure))
 stage_owes (Purge process) = Some (event.Purge process)
 
 abbrev pub phase_of : Stage → Phase
-phase_of (Choose from) = Begins
+phase_of (Choose last) = Begins last
 phase_of Run = Runs
 phase_of Rest = Rests
 phase_of Wait = Waits
-phase_of (Clear victim hart) = Clears victim.process
+phase_of (Clear victim last) = Clears victim last
 phase_of (Save victim) = Waits
 phase_of (Kill process failure) = Waits
 phase_of (Purge process) = Waits

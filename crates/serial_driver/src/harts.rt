@@ -1,8 +1,9 @@
 //! Which hart is next.
 
-ghost use Rattle.std.specs.Prelude.{◌≡◌, ◌<◌, ◌≤◌, ℕ, IfNone, slice_get};
+ghost use Rattle.std.specs.Prelude.{◌≡◌, ◌<◌, ◌≤◌, ℕ, true, false, IfNone, IfSome, slice_get};
 ghost use Rattle.serial_driver.specs.Closing.{goes_on};
 ghost use Rattle.serial_driver.specs.Endings.{HasEnded};
+ghost use Rattle.serial_driver.specs.Rounds.{GoesOnFirst, IsAbove, IsFirst, IsLeastAbove, IsNextHart, IsNextProcess, NoneAbove, lives_in};
 
 use clock_policy::Clock;
 use machine_core::Core;
@@ -32,43 +33,101 @@ pub(crate) fn is_running<L: Ledger, S: SwapSlot, C: Clock>(
     }
 }
 
-/// The least live hart, from this one on, of a process that has not ended.
-pub(crate) fn live_hart_from<L: Ledger, S: SwapSlot, C: Clock>(
+/// The least live hart of a process that has not ended, above the last one, if there was one.
+pub(crate) fn live_hart_above<L: Ledger, S: SwapSlot, C: Clock>(
     core: &Core<L, S, C>,
     process: u32,
-    from: u32,
-) -> Option<u32> {
-    if !is_running(core, process) {
-        return None;
-    }
-    for hart in from..MOST_HARTS as u32 {
-        if core.is_live(process, hart) {
+    last: Option<u32>,
+) -> Option<u32>
+    ensures some { IfSome result (IsLeastAbove core.now process last) }
+    ensures none { IfNone result (NoneAbove core.now process last) }
+{
+    'harts: for hart in 0..MOST_HARTS as u32 {
+        if lives_above(core, process, last, hart) {
             return Some(hart);
         }
     }
     None
 }
 
-/// The next hart that may run: the least live one from this one on in its process, else the first one of the next process that
-/// goes on, in the processes above and then in those from the first on. There is none once each process has ended.
+/// Whether a hart is above the last one and live, and its process has not ended.
+fn lives_above<L: Ledger, S: SwapSlot, C: Clock>(
+    core: &Core<L, S, C>,
+    process: u32,
+    last: Option<u32>,
+    hart: u32,
+) -> bool
+    ensures above { result ≡ true → IsAbove last hart }
+    ensures live { result ≡ true → lives_in core.now process hart ≡ true }
+    ensures not { result ≡ false → IsAbove last hart → lives_in core.now process hart ≡ false }
+{
+    if !is_above(last, hart) {
+        return false;
+    }
+    if !is_running(core, process) {
+        return false;
+    }
+    core.is_live(process, hart)
+}
+
+/// Whether a number is above the last one, if there was one.
+fn is_above(last: Option<u32>, number: u32) -> bool
+    ensures yes { result ≡ true → IsAbove last number }
+    ensures no { result ≡ false → IsAbove last number → ⊥ }
+{
+    match last {
+        None => true,
+        Some(last) => last < number,
+    }
+}
+
+/// The hart whose turn is next behind the last one of a process, if there was one: the least live one above it there, else the
+/// least of the next process that goes on, in those above and then in those from the first on. There is none once each process
+/// has ended.
 pub(crate) fn next_hart<L: Ledger, S: SwapSlot, C: Clock>(
     core: &Core<L, S, C>,
-    from: HartOf,
+    process: u32,
+    last: Option<u32>,
 ) -> Option<HartOf>
-    ensures { IfNone result ((number : ℕ) → HasEnded core.now number) }
+    ensures some { IfSome result (λ of. IsNextHart core.now process last of.process of.hart) }
+    ensures none { IfNone result ((number : ℕ) → HasEnded core.now number) }
 {
-    let HartOf { process, hart } = from;
-    if let Some(hart) = live_hart_from(core, process, hart) {
-        return Some(HartOf { process, hart });
+    match live_hart_above(core, process, last) {
+        Some(hart) => Some(HartOf { process, hart }),
+        None => first_of_next(core, process),
     }
-    let process = next_running(core, process)?;
-    let hart = live_hart_from(core, process, 0).unwrap_or(0);
-    Some(HartOf { process, hart })
+}
+
+/// The least live hart of the next process that goes on.
+fn first_of_next<L: Ledger, S: SwapSlot, C: Clock>(
+    core: &Core<L, S, C>,
+    process: u32,
+) -> Option<HartOf>
+    ensures some { IfSome result (λ of. IsNextProcess core.now process of.process ×
+        IsFirst core.now of.process of.hart) }
+    ensures none { IfNone result ((number : ℕ) → HasEnded core.now number) }
+{
+    let next = next_running(core, process)?;
+    Some(HartOf {
+        process: next,
+        hart: first_hart(core, next),
+    })
+}
+
+/// The least live hart of a process that goes on, or the first where it has none.
+fn first_hart<L: Ledger, S: SwapSlot, C: Clock>(core: &Core<L, S, C>, process: u32) -> u32
+    ensures { IsFirst core.now process result }
+{
+    match live_hart_above(core, process, None) {
+        Some(hart) => hart,
+        None => 0,
+    }
 }
 
 /// The next process that goes on: above this one, and then from the first on.
 fn next_running<L: Ledger, S: SwapSlot, C: Clock>(core: &Core<L, S, C>, process: u32) -> Option<u32>
-    ensures { IfNone result ((number : ℕ) → HasEnded core.now number) }
+    ensures some { IfSome result (IsNextProcess core.now process) }
+    ensures none { IfNone result ((number : ℕ) → HasEnded core.now number) }
 {
     let count = core.processes() as u32;
     let above = process.saturating_add(1);
@@ -84,7 +143,9 @@ fn first_running<L: Ledger, S: SwapSlot, C: Clock>(
     from: u32,
     below: u32,
 ) -> Option<u32>
-    ensures { IfNone result ((number : ℕ) → from ≤ number → number < below →
+    ensures some { IfSome result (λ process. (from ≤ process) × ((process < below) ×
+        GoesOnFirst core.now from process)) }
+    ensures none { IfNone result ((number : ℕ) → from ≤ number → number < below →
         HasEnded core.now number) }
 {
     'processes: for process in from..below {

@@ -6,19 +6,16 @@
 //! drops its translations, the page is collected, and a changed one is saved.
 #![tactic(auto)]
 
-mod auditing;
 mod failure;
 mod harts;
 mod patience;
 mod reporting;
 mod serial;
 mod serving;
-mod standing;
 mod turns;
 mod watched;
 
-pub use auditing::audit;
-pub use serial::{play, run_serial};
+pub use reporting::{NoReport, audit, into_report, run_serial};
+pub use serial::play;
 pub use serving::{Served, serve_step};
-pub use standing::{Standing, standing_of};
 pub use watched::SerialRun;

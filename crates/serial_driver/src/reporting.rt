@@ -1,67 +1,85 @@
-//! What a machine has come to.
+//! A machine that is played and told: whether it is sound, and its report.
 
-ghost use Rattle.std.specs.Prelude.{◌≡◌, ◌<◌, [], IfOk, length, map, option_map, slice_get, Some};
-ghost use Rattle.serial_driver.specs.Reporting.{told, come_to, Reports};
+ghost use Rattle.std.specs.Prelude.{◌≡◌, ◌↔◌, ◌≤◌, ℕ, [], IfOk, IsErrOf, IsTrue, List, max, true, vec_capacity};
+ghost use Rattle.elf_image.specs.Start.{Start};
+ghost use Rattle.machine_core.specs.Applying.{LeadsTo};
+ghost use Rattle.machine_core.specs.Opening.{MachineBegins};
+ghost use Rattle.machine_sides.specs.Auditing.{AgreeEverywhere};
+ghost use Rattle.machine_limits.specs.Limits.{most_processes};
+ghost use Rattle.serial_driver.specs.Audit.{IsSoundMachine};
+ghost use Rattle.serial_driver.specs.Endings.{HasEnded};
+ghost use Rattle.serial_driver.specs.FlatLines.{StandsForRuns};
+ghost use Rattle.serial_driver.specs.Limit.{EndsByLimit};
+ghost use Rattle.serial_driver.specs.Reporting.{IfDone, Reports};
 
-use crate::auditing::audit;
-use crate::standing::{Standing, standing_of};
+use crate::serial::play;
 use clock_policy::Clock;
-use machine_core::{Core, ProcessReport, Report};
+use machine_core::Core;
+use machine_sides::{ProcessReport, Report, report_on};
 use std::alloc::{AllocError, Global};
 use std::sync::ledger::Ledger;
 use swap_slots::SwapSlot;
+use thiserror::Error;
 
-/// The report of a machine, in a list whose room is there.
-pub(crate) fn report<L: Ledger, S: SwapSlot, C: Clock>(
-    alloc: Global,
-    core: &Core<L, S, C>,
-    room: Vec<ProcessReport>,
-) -> Result<Report, AllocError>
-    requires empty { room.items ≡ [] }
-    ensures { IfOk result (λ report. Reports core.now report) }
-{
-    let processes = process_reports(alloc, core, room)?;
-    let counts = core.counts();
-    Ok(Report {
-        processes,
-        frames: core.size(),
-        page_ins: counts.pager.tallies.page_ins,
-        victims: counts.pager.tallies.victims,
-        saves: counts.saves,
-        drops: counts.drops,
-        questions: counts.pager.tallies.questions,
-        audit: audit(core),
-    })
+/// Why there is no report of a run: memory is wanting.
+#[derive(Clone, Copy, PartialEq, Eq, Debug, Error)]
+pub enum NoReport {
+    /// For the report's list: nothing was done.
+    #[error("out of memory, before the run")]
+    NothingDone,
+    /// For a copy of what a process wrote: the run is done, and the machine is what it has come to.
+    #[error("out of memory for the report, once the run was done")]
+    RunDone,
 }
 
-/// The reports of a machine's processes, by rising number.
-fn process_reports<L: Ledger, S: SwapSlot, C: Clock>(
+/// Plays a machine as [`play`] does, and tells what it has come to.
+#[tactic(auto, using(machine_core::specs::ApplyingLaws::reaches_same))]
+pub fn run_serial<L: Ledger, S: SwapSlot, C: Clock>(
     alloc: Global,
-    core: &Core<L, S, C>,
-    room: Vec<ProcessReport>,
-) -> Result<Vec<ProcessReport>, AllocError>
-    requires empty { room.items ≡ [] }
-    ensures { IfOk result (λ reports. map told reports.items ≡ map come_to core.now.processes) }
+    core: &mut Core<L, S, C>,
+    slice: u32,
+    limit: u64,
+) -> Result<Report, NoReport>
+    ensures reached { LeadsTo S.content S.honest S.failures core.old core.new }
+    ensures limited { IfDone result (EndsByLimit S.content S.honest S.failures
+        (max slice 1) limit core.old core.new) }
+    ensures ended { IfDone result ((number : ℕ) → HasEnded core.new number) }
+    ensures kept { IsErrOf result NoReport.NothingDone → core.new ≡ core.old }
+    ensures report { IfOk result (λ report. Reports core.new report) }
+
+    // Of a machine that has just begun, each line tells of a flat run of the image and the input that its process was given.
+    ensures flat { IfOk result (λ report. (frames : ℕ) → (free : List S) → (starts : List Start) →
+        MachineBegins frames free starts core.old → S.honest → StandsForRuns starts report) }
 {
-    let mut reports = room;
-    'processes: for number in 0..core.processes() as u32 {
-        let report = process_report(alloc, core, number)?;
-        reports.push(report)?;
+    let Ok(room) = Vec::with_capacity(alloc, core.processes()) else {
+        return Err(NoReport::NothingDone);
+    };
+    play(core, slice, limit);
+    match report_on(alloc, core.pager(), core.spaces(), room) {
+        Ok(report) => Ok(report),
+        Err(AllocError) => Err(NoReport::RunDone),
     }
-    Ok(reports)
 }
 
-/// What a process has come to, with a copy of its output.
-fn process_report<L: Ledger, S: SwapSlot, C: Clock>(
-    alloc: Global,
-    core: &Core<L, S, C>,
-    number: u32,
-) -> Result<ProcessReport, AllocError>
-    requires there { number < length core.now.processes }
-    ensures { IfOk result (λ report. Some (told report) ≡ option_map come_to
-        (slice_get core.now.processes number)) }
+/// The report of a machine that is given up, in a list that has room for as many processes as a machine may run. It takes no memory.
+pub fn into_report<L: Ledger, S: SwapSlot, C: Clock>(
+    core: Core<L, S, C>,
+    room: Vec<ProcessReport>,
+) -> Report
+    requires empty { room.items ≡ [] }
+    requires room { most_processes ≤ vec_capacity room }
+    ensures { Reports core result }
 {
-    let Standing { output, end, steps } = standing_of(core, number);
-    let output = Vec::from_slice(alloc, output)?;
-    Ok(ProcessReport { output, end, steps })
+    let (pager, spaces) = core.into_spaces();
+    machine_sides::into_report(pager, spaces, room)
+}
+
+/// Whether the list's resident entries are exactly the resident pages, and the frames that are free or in pages are as many
+/// as the machine was made with. It takes no memory.
+pub fn audit<L: Ledger, S: SwapSlot, C: Clock>(core: &Core<L, S, C>) -> bool
+    ensures exact { IsTrue result ↔ IsSoundMachine core.now }
+    ensures agree { result ≡ true →
+        AgreeEverywhere core.now.pager.pager core.now.processes }
+{
+    machine_sides::audit(core.pager(), core.spaces())
 }

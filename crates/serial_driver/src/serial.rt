@@ -1,64 +1,33 @@
-ghost use Rattle.std.specs.Prelude.{◌≡◌, ◌<◌, ◌≤◌, ◌*◌, ℕ, map, max, List, false, None, IfNone, IfOk, IfSome};
+ghost use Rattle.std.specs.Prelude.{◌≡◌, ◌<◌, ◌≤◌, ◌*◌, ℕ, map, max, List, false, None, IfNone, IfSome};
 ghost use Rattle.machine_core.specs.Applying.{LeadsTo};
 ghost use Rattle.machine_core.specs.declared.event.Event.TheVariants.{Step};
 ghost use Rattle.serial_driver.specs.Closing.{is_limit_kill};
 ghost use Rattle.machine_core.specs.Opening.{MachineBegins};
 ghost use Rattle.elf_image.specs.Start.{Start};
 ghost use Rattle.serial_driver.specs.Endings.{HasEnded};
-ghost use Rattle.serial_driver.specs.FlatLines.{HaveLines, StandsForRuns};
+ghost use Rattle.machine_sides.specs.FlatLines.{HaveLines};
+ghost use Rattle.machine_sides.specs.Reporting.{come_to};
 ghost use Rattle.serial_driver.specs.Limit.{Closes, DoesSave, EndsByLimit, EndsOne, PlaysUpTo, PlaysWith};
-ghost use Rattle.serial_driver.specs.Nexts.{IsNext, MayCome, most_events};
+ghost use Rattle.serial_driver.specs.Nexts.{IsNext, IsNoStep, MayCome, most_events};
 ghost use Rattle.serial_driver.specs.Owing.{next_owed, no_duty, Pays};
 ghost use Rattle.serial_driver.specs.Turning.{IsInTurn};
 ghost use Rattle.serial_driver.specs.TurnsDuty.{duty_of, stage_owes, turn_of};
 ghost use Rattle.serial_driver.specs.Patience.{IsPatient, tries_per_frame, try_of};
-ghost use Rattle.serial_driver.specs.Reporting.{come_to, Reports};
 
 use crate::harts::is_running;
 use crate::patience::Patience;
-use crate::reporting::report;
 use crate::turns::{Next, Turns};
 use clock_policy::{Clock, Key};
 use flat_machine::KillCause;
-use machine_core::{Core, Event, Report};
-use std::alloc::{AllocError, Global};
+use machine_core::{Core, Event};
 use std::sync::ledger::Ledger;
 use swap_slots::SwapSlot;
 
-/// Plays a machine until each process has ended, or so many events have happened, and tells what it has come to. A slice is
-/// so many instructions of a hart (or one, for none).
+/// Plays a machine until each process has ended, or so many events have happened. A slice is so many instructions of a hart (or
+/// one, for none). What the machine has come to is left in it. It takes no memory but for the processes that run.
 ///
 /// Where the limit ends the run, a save that is out is done, and then each process that goes on is killed; for the limit
 /// none is killed before. Each process that ended is purged before anything else happens.
-///
-/// # Errors
-///
-/// Want of memory for the report. Where that is found at its end, the run is done all the same.
-#[tactic(auto, using(machine_core::specs::ApplyingLaws::reaches_same))]
-pub fn run_serial<L: Ledger, S: SwapSlot, C: Clock>(
-    alloc: Global,
-    core: &mut Core<L, S, C>,
-    slice: u32,
-    limit: u64,
-) -> Result<Report, AllocError>
-    ensures reached { LeadsTo S.content S.honest S.failures core.old core.new }
-    ensures limited { IfOk result (λ _. EndsByLimit S.content S.honest S.failures
-        (max slice 1) limit core.old core.new) }
-    ensures ended { IfOk result (λ _. (number : ℕ) → HasEnded core.new number) }
-    ensures report { IfOk result (λ report. Reports core.new report) }
-
-    // Of a machine that has just begun, each line tells of a flat run of the image and the input that its process was given.
-    ensures flat { IfOk result (λ report. (frames : ℕ) → (free : List S) → (starts : List Start) →
-        MachineBegins frames free starts core.old → S.honest → StandsForRuns starts report) }
-{
-    let room = Vec::with_capacity(alloc, core.processes())?;
-    play(core, slice, limit);
-    let told = report(alloc, core, room)?;
-    Ok(told)
-}
-
-/// Plays a machine as [`run_serial`] does, and leaves what it has come to in the machine: where no memory is left for a report,
-/// [`standing_of`](crate::standing_of) and the machine's own readers still tell it. It takes no memory but for the processes that run.
 pub fn play<L: Ledger, S: SwapSlot, C: Clock>(core: &mut Core<L, S, C>, slice: u32, limit: u64)
     ensures reached { LeadsTo S.content S.honest S.failures core.old core.new }
     ensures limited { EndsByLimit S.content S.honest S.failures
@@ -107,15 +76,15 @@ fn play_events<L: Ledger, S: SwapSlot, C: Clock>(
 /// tried for too often is ended, once what the last reply has settled is done.
 pub(crate) fn what_is_next<L: Ledger, S: SwapSlot, C: Clock>(
     core: &Core<L, S, C>,
-    turns: &mut Turns,
+    turns: &Turns,
     patience: &Patience,
     allowed: u64,
 ) -> Option<Next>
     requires { 0 < allowed }
-    ensures next { IfSome result (IsNext allowed patience.now.spent (duty_of turns.new)) }
+    ensures next { IfSome result (IsNext core.now allowed patience.now.spent (duty_of turns.now)) }
+    ensures no_step { IfSome result IsNoStep }
     ensures none { IfNone result ((number : ℕ) → HasEnded core.now number) }
-    ensures settled { IfNone result (stage_owes turns.new.stage ≡ None) }
-    ensures kept { duty_of turns.new ≡ duty_of turns.old }
+    ensures settled { IfNone result (stage_owes turns.now.stage ≡ None) }
 {
     if turns.is_settled() {
         return turns.next(core, allowed);
@@ -137,7 +106,7 @@ fn act<L: Ledger, S: SwapSlot, C: Clock>(
     next: Next,
 ) -> u64
     requires some { 0 < most_events next }
-    requires may_come { MayCome patience.old.spent (duty_of turns.old) next }
+    requires may_come { MayCome core.old patience.old.spent (duty_of turns.old) next }
     ensures plays { (most : ℕ) (tried : ℕ → ℕ) → IsPatient most tried patience.old →
         PlaysWith S.content S.honest S.failures most tried (duty_of turns.old) patience.old.spent
         result core.old core.new patience.new (duty_of turns.new) }
@@ -163,7 +132,7 @@ fn apply<L: Ledger, S: SwapSlot, C: Clock>(
 ) -> u64
     requires unlimited { is_limit_kill event ≡ false }
     requires pays { Pays (next_owed (stage_owes turns.old.stage) patience.old.spent) event }
-    requires in_turn { IsInTurn (turn_of turns.old) event }
+    requires in_turn { IsInTurn core.old (turn_of turns.old) event }
     ensures plays { (most : ℕ) (tried : ℕ → ℕ) → IsPatient most tried patience.old →
         PlaysWith S.content S.honest S.failures most tried (duty_of turns.old) patience.old.spent 1
         core.old core.new patience.new (duty_of turns.new) }
@@ -187,7 +156,7 @@ fn run<L: Ledger, S: SwapSlot, C: Clock>(
     requires some { 0 < most }
     requires pays { Pays (next_owed (stage_owes turns.old.stage) patience.old.spent)
         (Step process hart) }
-    requires in_turn { IsInTurn (turn_of turns.old) (Step process hart) }
+    requires in_turn { IsInTurn core.old (turn_of turns.old) (Step process hart) }
     requires few { most ≤ max turns.old.left 1 }
     ensures plays { (bound : ℕ) (tried : ℕ → ℕ) → IsPatient bound tried patience.old →
         PlaysWith S.content S.honest S.failures bound tried (duty_of turns.old) patience.old.spent

@@ -1,12 +1,19 @@
 //! One instruction of a hart, with the pages that it needs brought in as a run brings them. Nothing that fails ends the process.
 
-ghost use Rattle.std.specs.Prelude.{◌≡◌};
+ghost use Rattle.std.specs.Prelude.{◌≡◌, ℕ, false, true};
 ghost use Rattle.machine_core.specs.Headline.{HappensInvisibly};
-ghost use Rattle.serial_driver.specs.Owing.{is_absent, is_full};
-ghost use Rattle.serial_driver.specs.Serving.{is_paging, Goes, Serves};
+ghost use Rattle.machine_core.specs.declared.event.Event.TheVariants.{Step};
+ghost use Rattle.serial_driver.specs.Closing.{is_limit_kill};
+ghost use Rattle.serial_driver.specs.Nexts.{is_step};
+ghost use Rattle.serial_driver.specs.Owing.{Pays, duty_with, is_absent, is_full, next_owed};
+ghost use Rattle.serial_driver.specs.Patience.{IsPatient, spent_with, tried_with};
+ghost use Rattle.serial_driver.specs.Serving.{is_paging, owes_pages, GivesUp, Goes, IsServing, Proceeds, Serves};
+ghost use Rattle.serial_driver.specs.Turning.{IsInTurn};
+ghost use Rattle.serial_driver.specs.TurnsDuty.{duty_of, stage_owes, turn_of};
 
 use crate::harts::HartOf;
 use crate::patience::{Patience, has_run, is_served};
+use crate::serial::what_is_next;
 use crate::turns::{Next, Turns, is_out_of_memory};
 use clock_policy::Clock;
 use machine_core::{Core, Event, Reply};
@@ -36,7 +43,9 @@ pub fn serve_step<L: Ledger, S: SwapSlot, C: Clock>(
     process: u32,
     hart: u32,
 ) -> Served
-    ensures { Serves S.content S.honest S.failures process hart result core.old core.new }
+    ensures serves { Serves S.content S.honest S.failures process hart result core.old core.new }
+    ensures given_up { result ≡ Served.Absent →
+        GivesUp S.content S.honest S.failures process hart core.old core.new }
 {
     let mut turns = Turns::at(HartOf { process, hart });
     let mut patience = Patience::new(core.size());
@@ -59,12 +68,14 @@ fn serve_next<L: Ledger, S: SwapSlot, C: Clock>(
     process: u32,
     hart: u32,
 ) -> Option<Served>
-    ensures { Goes S.content S.honest S.failures process hart result core.old core.new }
+    requires serving { IsServing process hart (turn_of turns.old) }
+    requires owes { owes_pages (stage_owes turns.old.stage) ≡ true }
+    ensures goes { Goes S.content S.honest S.failures process hart result core.old core.new }
+    ensures proceeds { (most : ℕ) (tried : ℕ → ℕ) → IsPatient most tried patience.old →
+        Proceeds S.content S.honest S.failures process hart result most tried (duty_of turns.old)
+        patience.old.spent core.old core.new patience.new (duty_of turns.new) }
 {
-    if patience.spent().is_some() && !turns.is_settled() {
-        return Some(Served::Absent);
-    }
-    match turns.next(core, 1) {
+    match what_is_next(core, turns, patience, 1) {
         None => Some(Served::Absent),
         Some(Next::Steps { .. }) => step(core, turns, patience, process, hart),
         Some(Next::Event(event)) => bring(core, turns, patience, process, hart, event),
@@ -79,7 +90,13 @@ fn step<L: Ledger, S: SwapSlot, C: Clock>(
     process: u32,
     hart: u32,
 ) -> Option<Served>
-    ensures { Goes S.content S.honest S.failures process hart result core.old core.new }
+    requires pays { Pays (next_owed (stage_owes turns.old.stage) patience.old.spent)
+        (Step process hart) }
+    requires in_turn { IsInTurn core.old (turn_of turns.old) (Step process hart) }
+    ensures goes { Goes S.content S.honest S.failures process hart result core.old core.new }
+    ensures proceeds { (most : ℕ) (tried : ℕ → ℕ) → IsPatient most tried patience.old →
+        Proceeds S.content S.honest S.failures process hart result most tried (duty_of turns.old)
+        patience.old.spent core.old core.new patience.new (duty_of turns.new) }
 {
     let reply = happen(core, turns, patience, Event::Step { process, hart });
     if has_run(reply) {
@@ -107,7 +124,16 @@ fn bring<L: Ledger, S: SwapSlot, C: Clock>(
     hart: u32,
     event: Event,
 ) -> Option<Served>
-    ensures { Goes S.content S.honest S.failures process hart result core.old core.new }
+    requires serving { IsServing process hart (turn_of turns.old) }
+    requires owes { owes_pages (stage_owes turns.old.stage) ≡ true }
+    requires unlimited { is_limit_kill event ≡ false }
+    requires no_step { is_step event ≡ false }
+    requires pays { Pays (next_owed (stage_owes turns.old.stage) patience.old.spent) event }
+    requires in_turn { IsInTurn core.old (turn_of turns.old) event }
+    ensures goes { Goes S.content S.honest S.failures process hart result core.old core.new }
+    ensures proceeds { (most : ℕ) (tried : ℕ → ℕ) → IsPatient most tried patience.old →
+        Proceeds S.content S.honest S.failures process hart result most tried (duty_of turns.old)
+        patience.old.spent core.old core.new patience.new (duty_of turns.new) }
 {
     if !is_paging(event) {
         return Some(Served::Absent);
@@ -130,7 +156,12 @@ fn happen<L: Ledger, S: SwapSlot, C: Clock>(
     patience: &mut Patience,
     event: Event,
 ) -> Reply
-    ensures { HappensInvisibly S.content S.honest S.failures event result core.old core.new }
+    ensures happens { HappensInvisibly S.content S.honest S.failures event result core.old core.new }
+    ensures tries { (most : ℕ) (tried : ℕ → ℕ) → IsPatient most tried patience.old →
+        IsPatient most (λ number. tried_with number event result (tried number)) patience.new }
+    ensures spent { (most : ℕ) (tried : ℕ → ℕ) → IsPatient most tried patience.old →
+        patience.new.spent ≡ spent_with most tried event result }
+    ensures owes { duty_of turns.new ≡ duty_with event result (duty_of turns.old) }
 {
     let reply = core.apply(event);
     patience.heed(event, reply);

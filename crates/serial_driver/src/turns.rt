@@ -1,17 +1,17 @@
 //! Which event comes next.
 
-ghost use Rattle.std.specs.Prelude.{◌≡◌, ◌<◌, ◌≤◌, ◌+◌, ◌-◌, ℕ, max, min, nat_le, IfSome, IfNone, Option, Some, None, is_some, if◌then◌else◌};
+ghost use Rattle.std.specs.Prelude.{◌≡◌, ◌<◌, ◌≤◌, ◌+◌, ◌-◌, ℕ, max, min, nat_le, false, IfSome, IfNone, Option, Some, None, is_some, if◌then◌else◌};
 ghost use Rattle.serial_driver.specs.Endings.{HasEnded};
 ghost use Rattle.machine_core.specs.ManySteps.{steps_of, replies_of};
-ghost use Rattle.serial_driver.specs.Nexts.{IsNext, IsOrdinary};
+ghost use Rattle.serial_driver.specs.Nexts.{AreSteps, IsNext, IsNoStep, IsOrdinary, is_step};
 ghost use Rattle.serial_driver.specs.Owing.{no_duty, most_load_faults, duty_with, duty_after, duty_purged, owed_save, step_owes, step_faults, stop_owes, save_owes, collect_owes, load_owes, load_faults, next_owed, Duty, is_out_of_memory, is_no_memory, is_dirty, is_mapped};
-ghost use Rattle.serial_driver.specs.Turning.{IsInTurn, Clears, Runs, Waits, begun, noticed_in, paged_in, purged_in, ran_turn, step_turn, swept_turn, waiting};
+ghost use Rattle.serial_driver.specs.Turning.{IsInTurn, Turn, Clears, Runs, Waits, begun, noticed_in, paged_in, purged_in, ran_turn, step_turn, swept_turn, waiting};
 ghost use Rattle.serial_driver.specs.TurnsDuty.{cause_of, duty_of, phase_of, stage_owes, turn_of};
 ghost use Rattle.flat_machine.specs.declared.end.KillCause.TheVariants as cause;
 ghost use Rattle.machine_core.specs.declared.event.Event.TheVariants as machine;
 
 use crate::failure::Failure;
-use crate::harts::{HartOf, live_hart_from, next_hart};
+use crate::harts::{HartOf, live_hart_above, next_hart};
 use clock_policy::{Clock, Key};
 use machine_core::{Core, Event, EventRefusal, Reply, Steps};
 use machine_limits::MOST_LOAD_FAULTS;
@@ -21,16 +21,16 @@ use swap_slots::SwapSlot;
 /// What the driver is about to do.
 #[derive(Clone, Copy)]
 pub(crate) enum Stage {
-    /// The next live hart, from this one on, gets a slice.
-    Choose(HartOf),
+    /// The next hart gets a slice: behind this one of the process that had the last turn, if one has had a turn.
+    Choose(Option<u32>),
     /// The hart runs its next instruction.
     Run,
     /// The hart's slice is over.
     Rest,
     /// The hart waits for its page.
     Wait,
-    /// The live harts of the victim's process, from this one on, drop their translations; then the victim is collected.
-    Clear { victim: Key, hart: u32 },
+    /// The live harts of the victim's process, above the last that did, drop their translations; then the victim is collected.
+    Clear { victim: Key, last: Option<u32> },
     /// The victim was copied and is saved.
     Save(Key),
     Kill { process: u32, failure: Failure },
@@ -71,7 +71,7 @@ impl Turns {
         };
         let slice = slice.max(1);
         Turns {
-            stage: Stage::Choose(first),
+            stage: Stage::Choose(None),
             running: first,
             left: slice,
             wanted: 0,
@@ -101,26 +101,27 @@ impl Turns {
 
     /// What comes next where so many events may happen still, or `None` once each process has ended.
     pub(crate) fn next<L: Ledger, S: SwapSlot, C: Clock>(
-        &mut self,
+        &self,
         core: &Core<L, S, C>,
         allowed: u64,
     ) -> Option<Next>
         requires { 0 < allowed }
-        ensures next { (spent : Option ℕ) → next_owed (stage_owes self.old.stage) spent ≡
-            stage_owes self.old.stage → IfSome result (IsNext allowed spent (duty_of self.new)) }
+        ensures next { (spent : Option ℕ) → next_owed (stage_owes self.now.stage) spent ≡
+            stage_owes self.now.stage →
+            IfSome result (IsNext core.now allowed spent (duty_of self.now)) }
+        ensures no_step { IfSome result IsNoStep }
         ensures none { IfNone result ((number : ℕ) → HasEnded core.now number) }
-        ensures settled { IfNone result (stage_owes self.new.stage ≡ None) }
-        ensures kept { duty_of self.new ≡ duty_of self.old }
+        ensures settled { IfNone result (stage_owes self.now.stage ≡ None) }
     {
         let event = match self.stage {
             Stage::Run => return Some(self.steps(self.running, allowed)),
-            Stage::Choose(from) => {
-                let next = next_hart(core, from)?;
+            Stage::Choose(last) => {
+                let next = next_hart(core, self.running.process, last)?;
                 return Some(self.steps(next, allowed));
             }
             Stage::Rest => notice(self.running),
-            Stage::Wait => self.bring(core.counts().pager.free > 0),
-            Stage::Clear { victim, hart } => self.clear(core, victim, hart),
+            Stage::Wait => self.bring(core),
+            Stage::Clear { victim, last } => clear(core, victim, last),
             Stage::Save(victim) => Event::Saved(victim),
             Stage::Kill { process, failure } => Event::Kill {
                 process,
@@ -151,7 +152,7 @@ impl Turns {
     {
         match event {
             Event::Step { process, hart } => self.after_step(process, hart, reply),
-            Event::Notice { .. } => self.after_notice(),
+            Event::Notice { hart, .. } => self.after_notice(hart),
             Event::Sweep => self.after_sweep(reply),
             Event::Collect(key) => self.after_collect(key, reply),
             Event::Saved(key) => self.after_save(key.process, reply),
@@ -184,9 +185,7 @@ impl Turns {
     /// Steps of a hart, as many as its slice has left and as may happen still.
     fn steps(&self, of: HartOf, allowed: u64) -> Next
         requires { 0 < allowed }
-        ensures { (spent : Option ℕ) → next_owed (stage_owes self.now.stage) spent ≡ None →
-            IsInTurn (turn_of self.now) (machine.Step of.process of.hart) →
-            IsNext allowed spent (duty_of self.now) result }
+        ensures { AreSteps of.process of.hart allowed self.now.left result }
     {
         let HartOf { process, hart } = of;
         let most = u32::try_from(allowed)
@@ -199,11 +198,13 @@ impl Turns {
         }
     }
 
-    /// Brings the page in that the hart waits for, or asks the list for a victim.
-    fn bring(&self, is_free: bool) -> Event
-        ensures { phase_of self.now.stage ≡ Waits → IsOrdinary (turn_of self.now) result }
+    /// Brings the page in that the hart waits for, or asks the list for a victim where no frame is free.
+    fn bring<L: Ledger, S: SwapSlot, C: Clock>(&self, core: &Core<L, S, C>) -> Event
+        ensures ordinary { phase_of self.now.stage ≡ Waits →
+            IsOrdinary core.now (turn_of self.now) result }
+        ensures no_step { is_step result ≡ false }
     {
-        if is_free {
+        if core.counts().pager.free > 0 {
             Event::PageIn(Key {
                 process: self.running.process,
                 vpn: self.wanted,
@@ -211,28 +212,6 @@ impl Turns {
         } else {
             Event::Sweep
         }
-    }
-
-    /// The next live hart of the victim's process drops its translations, or the victim is collected.
-    fn clear<L: Ledger, S: SwapSlot, C: Clock>(
-        &mut self,
-        core: &Core<L, S, C>,
-        victim: Key,
-        hart: u32,
-    ) -> Event
-        requires { phase_of self.old.stage ≡ Clears victim.process }
-        ensures ordinary { IsOrdinary (turn_of self.old) result }
-        ensures kept { stage_owes self.old.stage ≡ None → duty_of self.new ≡ duty_of self.old }
-    {
-        let process = victim.process;
-        let Some(hart) = live_hart_from(core, process, hart) else {
-            return Event::Collect(victim);
-        };
-        self.stage = Stage::Clear {
-            victim,
-            hart: hart.saturating_add(1),
-        };
-        notice(HartOf { process, hart })
     }
 
     /// A step of a hart was replied with.
@@ -318,7 +297,7 @@ impl Turns {
         self.stage = Stage::Purge { process };
     }
 
-    /// The hart behind the one that had the slice is next, with a slice of its own.
+    /// The hart that is next behind the one that had the slice has a slice of its own.
     fn choose(&mut self)
         ensures { duty_of self.new ≡ record {
           faults = self.old.load_faults;
@@ -327,24 +306,24 @@ impl Turns {
               begun (turn_of self.old);
         } }
     {
-        let HartOf { process, hart } = self.running;
         self.left = self.slice;
-        self.stage = Stage::Choose(HartOf {
-            process,
-            hart: hart.saturating_add(1),
-        });
+        self.stage = Stage::Choose(Some(self.running.hart));
     }
 
-    fn after_notice(&mut self)
+    /// A hart of this number dropped its translations.
+    fn after_notice(&mut self, hart: u32)
         ensures { duty_of self.new ≡ record {
           faults = self.old.load_faults;
           owed = None;
           turn =
-              noticed_in (phase_of self.old.stage) (turn_of self.old);
+              noticed_in (phase_of self.old.stage) hart (turn_of self.old);
         } }
     {
         match self.stage {
-            Stage::Clear { .. } => {}
+            Stage::Clear { victim, .. } => self.stage = Stage::Clear {
+                victim,
+                last: Some(hart),
+            },
             Stage::Choose(_) => self.choose(),
             Stage::Run => self.choose(),
             Stage::Rest => self.choose(),
@@ -364,7 +343,7 @@ impl Turns {
         } }
     {
         self.stage = match reply {
-            Reply::Victim(victim) => Stage::Clear { victim, hart: 0 },
+            Reply::Victim(victim) => Stage::Clear { victim, last: None },
             _ => Stage::Wait,
         };
     }
@@ -499,6 +478,23 @@ fn is_dirty(reply: Reply) -> bool
     ensures { result ≡ is_dirty reply }
 {
     matches!(reply, Reply::Dirty)
+}
+
+/// The next live hart of the victim's process, behind the last that did, drops its translations, or the victim is collected.
+fn clear<L: Ledger, S: SwapSlot, C: Clock>(
+    core: &Core<L, S, C>,
+    victim: Key,
+    last: Option<u32>,
+) -> Event
+    ensures ordinary { (turn : Turn) → turn.phase ≡ Clears victim last →
+        IsOrdinary core.now turn result }
+    ensures no_step { is_step result ≡ false }
+{
+    let process = victim.process;
+    match live_hart_above(core, process, last) {
+        Some(hart) => notice(HartOf { process, hart }),
+        None => Event::Collect(victim),
+    }
 }
 
 fn notice(of: HartOf) -> Event

@@ -70,9 +70,10 @@ impl SerialRun {
         if self.left == 0 {
             return None;
         }
-        let Some(told) = play_one(core, &mut self.turns, &mut self.patience) else {
+        let Some(next) = what_is_next(core, &self.turns, &self.patience, 1) else {
             return None;
         };
+        let told = act_once(core, &mut self.turns, &mut self.patience, next);
         self.left -= 1;
         Some(told)
     }
@@ -92,27 +93,6 @@ impl SerialRun {
     }
 }
 
-/// Applies the event that comes next, if one does.
-fn play_one<L: Ledger, S: SwapSlot, C: Clock>(
-    core: &mut Core<L, S, C>,
-    turns: &mut Turns,
-    patience: &mut Patience,
-) -> Option<(Event, Reply)>
-    ensures applies { IfSome result (λ told. Applies S.content S.honest S.failures told.0 core.old
-        core.new told.1) }
-    ensures plays { OnSome result ((most : ℕ) (tried : ℕ → ℕ) → IsPatient most tried patience.old →
-        PlaysWith S.content S.honest S.failures most tried (duty_of turns.old) patience.old.spent 1
-        core.old core.new patience.new (duty_of turns.new)) }
-    ensures none { IfNone result (core.new ≡ core.old) }
-    ensures ended { IfNone result ((number : ℕ) → HasEnded core.new number) }
-    ensures settled { IfNone result (stage_owes turns.new.stage ≡ None) }
-    ensures kept { IfNone result (duty_of turns.new ≡ duty_of turns.old) }
-    ensures patient { IfNone result (patience.new ≡ patience.old) }
-{
-    let next = what_is_next(core, turns, patience, 1)?;
-    Some(act_once(core, turns, patience, next))
-}
-
 /// Does what comes next: of steps the first.
 fn act_once<L: Ledger, S: SwapSlot, C: Clock>(
     core: &mut Core<L, S, C>,
@@ -120,7 +100,7 @@ fn act_once<L: Ledger, S: SwapSlot, C: Clock>(
     patience: &mut Patience,
     next: Next,
 ) -> (Event, Reply)
-    requires may_come { MayCome patience.old.spent (duty_of turns.old) next }
+    requires may_come { MayCome core.old patience.old.spent (duty_of turns.old) next }
     ensures applies { Applies S.content S.honest S.failures result.0 core.old core.new result.1 }
     ensures plays { (most : ℕ) (tried : ℕ → ℕ) → IsPatient most tried patience.old →
         PlaysWith S.content S.honest S.failures most tried (duty_of turns.old) patience.old.spent 1
@@ -144,7 +124,7 @@ fn happen<L: Ledger, S: SwapSlot, C: Clock>(
 ) -> Reply
     requires unlimited { is_limit_kill event ≡ false }
     requires pays { Pays (next_owed (stage_owes turns.old.stage) patience.old.spent) event }
-    requires in_turn { IsInTurn (turn_of turns.old) event }
+    requires in_turn { IsInTurn core.old (turn_of turns.old) event }
     ensures applies { Applies S.content S.honest S.failures event core.old core.new result }
     ensures plays { (most : ℕ) (tried : ℕ → ℕ) → IsPatient most tried patience.old →
         PlaysWith S.content S.honest S.failures most tried (duty_of turns.old) patience.old.spent 1

@@ -162,6 +162,7 @@ module _ {S : Type 0} (held : S → List ℕ) (honest : Type 0) (hart : ℕ) whe
   kept_then why old between new first second = record {
     image = second.image ∙ first.image;
     input = second.input ∙ first.input;
+    purged = second.purged ∙ first.purged;
     process = second.process ∙ first.process;
     pages = kept_on old.memory between.memory new.memory first.pages second.pages;
     tabled = λ page small. second.tabled page small ∙ first.tabled page small;
@@ -201,6 +202,7 @@ module _ {S : Type 0} (held : S → List ℕ) (honest : Type 0) (hart : ℕ) whe
     kept = record {
       image = refl;
       input = refl;
+      purged = refl;
       process = refl;
       pages = kept_itself space.memory;
       tabled = λ page small. refl;

@@ -194,7 +194,7 @@ module _ {S : Type 0} (held : S → List ℕ) (honest : Type 0) (hart : ℕ) whe
 
   -- a process with another schedule and other parts
   abbrev pub with_parts : SpaceValue S → RunningValue → List Turn → PagedValue S → SpaceValue S
-  with_parts old running schedule memory = record { image = old.image; input = old.input; running = running; schedule = schedule; memory = memory }
+  with_parts old running schedule memory = record { image = old.image; input = old.input; running = running; schedule = schedule; memory = memory; purged = old.purged }
 
   -- an instruction that ended so is a slice, once it is recorded and the caches are settled
   pub slice_of : (ran : ℕ) (why : SliceStop) (old : SpaceValue S) (running : RunningValue) (schedule : List Turn) (after new : PagedValue S) → EndsOne held honest hart (room old.schedule hart) ran why old.running old.memory running after
@@ -219,6 +219,7 @@ module _ {S : Type 0} (held : S → List ℕ) (honest : Type 0) (hart : ℕ) whe
         kept = record {
           image = refl;
           input = refl;
+          purged = refl;
           process = ap (λ (m : PagedValue S). m.process) only ∙ ends.kept.process;
           pages = pages;
           tabled = subst (λ (m : PagedValue S). SameTablesIn old.memory m) (sym only) ends.kept.tabled;
@@ -269,7 +270,7 @@ module _ {S : Type 0} (held : S → List ℕ) (honest : Type 0) (hart : ℕ) whe
   each_on zero old regs regs' schedule new ready are each recorded left none =
       let harts : slice_set old.running.harts hart regs' ≡ old.running.harts = ap (slice_set old.running.harts hart) (each.0 ∙ are) ∙ set-get_or old.running.harts hart regs in
       let same : ran_as old regs' schedule new ≡ old =
-      λ i. record { image = old.image; input = old.input; running = record old.running { harts = harts i }; schedule = none refl i; memory = each.1 i } in
+      λ i. record { image = old.image; input = old.input; running = record old.running { harts = harts i }; schedule = none refl i; memory = each.1 i; purged = old.purged } in
       record { on = same; ready = subst Ready (sym same) ready }
   each_on (suc n) old regs regs' schedule new ready are each recorded left none =
       let now = each.0 in
@@ -281,7 +282,7 @@ module _ {S : Type 0} (held : S → List ℕ) (honest : Type 0) (hart : ℕ) whe
       let last = one_on between now.0 regs' schedule new before.ready (sym (get_or-set_same old.running.harts hart now.0 now.0 within)) each.1.1
       (written_last (written_out old.schedule) (written_out more.after) (written_out schedule) n hart more.recorded recorded) (omega (arith, left, fits)) in
       let same : ran_as between regs' schedule new ≡ ran_as old regs' schedule new =
-      ap (λ harts. record { image = old.image; input = old.input; running = record old.running { harts = harts }; schedule = schedule; memory = new }) (set-set old.running.harts hart now.0 regs') in
+      ap (λ harts. record { image = old.image; input = old.input; running = record old.running { harts = harts }; schedule = schedule; memory = new; purged = old.purged }) (set-set old.running.harts hart now.0 regs') in
       record {
         on = (between, (before.on, subst (SlicesOne held honest hart 1 Budget between) same last.one));
         ready = subst Ready same last.ready;

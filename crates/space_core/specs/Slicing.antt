@@ -48,12 +48,13 @@ LeavesCaches NoHart hart old new = SettlesCaches NoHart hart old new
 LeavesCaches ScheduleFull hart old new = SettlesCaches ScheduleFull hart old new
 LeavesCaches NoMemory hart old new = SettlesCaches NoMemory hart old new
 
--- what a slice keeps: the image and the input; the pages, but for the bytes in their frames and pages of zeros that were
+-- what a slice keeps: the image and the input, and whether pages were given back; the pages, but for the bytes in their frames and pages of zeros that were
 -- mapped; which pages have a table; no page's A or D falls; a copy of a page that is out and stood stands, unless the page's D tells
 -- of a store; and each hart has its cache
 pub record KeepsSpace {S : Type 0} (hart : ℕ) (stop : SliceStop) (old new : SpaceValue S) : Type 0 where
   pub image : new.image ≡ old.image
   pub input : new.input ≡ old.input
+  pub purged : new.purged ≡ old.purged
   pub process : new.memory.process ≡ old.memory.process
   pub pages : KeepsIn old.memory new.memory
   pub tabled : SameTablesIn old.memory new.memory

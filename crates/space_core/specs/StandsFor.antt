@@ -1,5 +1,5 @@
 -- A process on paged memory stands for a flat process: the one that the flat run of its schedule leaves.
-use Rattle.std.specs.Prelude.{◌≡◌, ℕ, Option, Some, None, List, length}
+use Rattle.std.specs.Prelude.{◌≡◌, ℕ, Bool, Option, Some, None, List, length}
 use Rattle.page_memory.specs.Memory.{Memory}
 use Rattle.elf_image.specs.Image.{ImageContent}
 use Rattle.paged_memory.specs.Paged.{PagedValue, memory_of}
@@ -13,13 +13,15 @@ use Rattle.flat_machine.specs.Process.{Process, opening, flat_run}
 use Rattle.flat_machine.specs.Schedule.{written_out}
 use Rattle.space_core.specs.RunningValue.{RunningValue, with_memory}
 
--- what it was started from, what it is beside its memory, the instructions that ran, and its memory
+-- what it was started from, what it is beside its memory, the instructions that ran, its memory, and whether it has given all its
+-- pages back
 pub record SpaceValue (S : Type 0) : Type 0 where
   pub image : ImageContent
   pub input : List ℕ
   pub running : RunningValue
   pub schedule : List Turn
   pub memory : PagedValue S
+  pub purged : Bool
 
 -- how a process ended by its own instructions, if it did: one that the machine ended did not
 abbrev pub own_ending : Option End → Option End

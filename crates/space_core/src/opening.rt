@@ -1,4 +1,4 @@
-ghost use Rattle.std.specs.Prelude.{◌≡◌, ◌≢◌, [], IfOk};
+ghost use Rattle.std.specs.Prelude.{◌≡◌, ◌≢◌, [], false, IfOk};
 ghost use Rattle.std.specs.Bool.{OnTrue, OnFalse};
 ghost use Rattle.page_memory.specs.Reservations.{none_reserved};
 ghost use Rattle.elf_image.specs.Image.{ArePages};
@@ -35,6 +35,7 @@ impl<L: Ledger, S: SwapSlot> Space<L, S> {
         ensures tables { IfOk result (λ space. HasNoEntry space.memory) }
         ensures caches { IfOk result (λ space. HasOneCache space.memory) }
         ensures reserved { IfOk result (λ space. space.memory.reserved ≡ none_reserved) }
+        ensures purged { IfOk result (λ space. space.purged ≡ false) }
     {
         let memory = opening_memory(alloc, process, image.pages())?;
         let input = SharedBytes::new(alloc, input)?;
@@ -44,6 +45,7 @@ impl<L: Ledger, S: SwapSlot> Space<L, S> {
             input,
             recorded,
             memory,
+            purged: false,
         })
     }
 

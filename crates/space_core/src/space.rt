@@ -25,6 +25,8 @@ pub struct Space<L: Ledger, S: SwapSlot> {
     pub(crate) input: SharedBytes,
     pub(crate) recorded: Recorded,
     pub(crate) memory: PagedMemory<L, S>,
+    /// Whether it has given all its pages back.
+    pub(crate) purged: bool,
 }
 
 impl<L: Ledger, S: SwapSlot> Model for Space<L, S> {
@@ -32,9 +34,9 @@ impl<L: Ledger, S: SwapSlot> Model for Space<L, S> {
 
     ghost Value = { SpaceValue S };
 
-    ghost view = { λ space. record { image = space.image; input = space.input; running = space.recorded.running; schedule = space.recorded.schedule; memory = space.memory } };
+    ghost view = { λ space. record { image = space.image; input = space.input; running = space.recorded.running; schedule = space.recorded.schedule; memory = space.memory; purged = space.purged } };
 
-    ghost invariant = { λ space. IsSpace S.content S.honest (record { image = space.image; input = space.input; running = space.recorded.running; schedule = space.recorded.schedule; memory = space.memory }) };
+    ghost invariant = { λ space. IsSpace S.content S.honest (record { image = space.image; input = space.input; running = space.recorded.running; schedule = space.recorded.schedule; memory = space.memory; purged = space.purged }) };
 }
 
 impl<L: Ledger, S: SwapSlot> Space<L, S> {

@@ -1,5 +1,5 @@
 ghost use Rattle.std.specs.Prelude.{◌≡◌, length};
-ghost use Rattle.paged_memory.specs.Coheres.{HoldsIn, MarksClearIn, HoldsFramedIn, WalksLeadIn};
+ghost use Rattle.paged_memory.specs.Coheres.{HoldsIn, MarksClearIn, HoldsFramedIn, CopiesUnmarkedIn, WalksLeadIn};
 ghost use Rattle.space_core.specs.StandsFor.{StandsFor};
 ghost use Rattle.paged_memory.specs.Whole.{harts_in};
 
@@ -16,6 +16,7 @@ impl<L: Ledger, S: SwapSlot> Space<L, S> {
         ensures agree { HoldsIn S.content S.honest self.now.memory }
         ensures accessed { MarksClearIn self.now.memory }
         ensures framed { HoldsFramedIn self.now.memory }
+        ensures unmarked { CopiesUnmarkedIn self.now.memory }
         ensures walks { WalksLeadIn self.now.memory }
     {
         // For the proof alone: a read tells its invariant.

@@ -1,4 +1,4 @@
-ghost use Rattle.std.specs.Prelude.{◌≡◌, ◌+◌, ◌<◌, ◌≤◌, ◌^◌, length, Some, IsSome, IfSome, IfNone, OnOk, OnErr, IfErr};
+ghost use Rattle.std.specs.Prelude.{◌≡◌, ◌+◌, ◌<◌, ◌≤◌, ◌^◌, length, true, Some, IsSome, IfSome, IfNone, OnOk, OnErr, IfErr};
 ghost use Rattle.std.specs.Bool.{OnTrue, OnFalse};
 ghost use Rattle.page_memory.specs.Words.{page_offset};
 ghost use Rattle.flat_machine.specs.Process.{Process, flat_run, opening};
@@ -21,6 +21,20 @@ impl<L: Ledger, S: SwapSlot> Space<L, S> {
         ensures { result ≡ self.now.memory.process }
     {
         self.memory.process()
+    }
+
+    /// Whether it has given all its pages back.
+    pub fn is_purged(&self) -> bool
+        ensures { result ≡ self.now.purged }
+    {
+        self.purged
+    }
+
+    /// It has given all its pages back.
+    pub fn mark_purged(&mut self)
+        ensures { self.new ≡ record self.old { purged = true } }
+    {
+        self.purged = true;
     }
 
     /// Brings a page into a frame, from its slot or as it began, and maps it with its rights, as used and not changed.

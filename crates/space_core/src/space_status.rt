@@ -1,4 +1,4 @@
-ghost use Rattle.std.specs.Prelude.{◌≡◌, ◌<◌, ◌^◌};
+ghost use Rattle.std.specs.Prelude.{◌≡◌, ◌<◌, ◌^◌, is_some};
 ghost use Rattle.paged_memory.specs.PageStatus.{status_in};
 
 use crate::space::Space;
@@ -10,8 +10,9 @@ impl<L: Ledger, S: SwapSlot> Space<L, S> {
     /// What is shown of a page, or `None` where none is mapped.
     pub fn status(&self, vpn: u32) -> Option<PageStatus>
         requires { vpn < 2 ^ 20 }
-        ensures { result ≡ status_in self.now.memory vpn }
+        ensures { result ≡ status_in (is_some self.now.running.ending) self.now.memory vpn }
     {
-        self.memory.status(vpn)
+        let ended = self.recorded.running().end().is_some();
+        self.memory.status(vpn, ended)
     }
 }

@@ -43,6 +43,7 @@ impl PageTables {
     }
 
     /// Translates an address for an access in user mode, as `Tables::walk` does.
+    #[inline(always)]
     #[tactic(auto, using(crate::proofs::TreeCalls::answer_of_walk, crate::proofs::TreeCalls::leaf_dirty, crate::proofs::TreeCalls::tree_after_walk, crate::proofs::TreeCalls::entries_after_walk, crate::proofs::TreeCalls::tables_after_walk))]
     pub fn walk(&mut self, address: u32, access: Access) -> Result<Leaf, WalkFault>
         ensures leaf { result ≡ walk_entry (entry_at self.old (address / 0x1000)) address access }

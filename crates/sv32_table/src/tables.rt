@@ -305,6 +305,7 @@ impl Tables {
     /// Translates an address for an access in user mode (privileged manual, Sv32 virtual address translation process).
     ///
     /// It sets the leaf's A, and D too for a store; a fault changes nothing. It takes no memory.
+    #[inline(always)]
     #[tactic(auto, using(crate::proofs::Translation::walk_translates))]
     pub fn walk(&mut self, address: u32, access: Access) -> Result<Leaf, WalkFault>
         ensures leaf { result ≡ (walked self.old address access).0 }

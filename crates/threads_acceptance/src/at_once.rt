@@ -1,6 +1,6 @@
 //! Two processes run at the same time, also while one of them loads a page: neither holds a lock that the other one needs.
 
-use crate::guests::{STORES_A_BYTE, WRITES_A_SUM};
+use crate::guests::{FITS, FITS_STEPS, STORES_A_BYTE, WRITES_A_SUM};
 use crate::machine::{Size, expect, played, sound_slots};
 use clock_policy::Key;
 use reclaim_daemon::Gate;
@@ -105,6 +105,52 @@ impl Gate for HeldLoad {
     fn after_free(&self, _statuses: &[Status]) {}
 }
 
+/// Process 1 waits after its first slice until a page of process 0 is about to be saved, and that save waits until process 1 has both
+/// brought a page in and run.
+#[derive(Drop)]
+struct HeldSave {
+    /// Above 0 once process 0 is about to save, once the first slice of process 1 is over, once it has begun a load since, and once a slice of
+    /// it has run after that.
+    saves: AtomicU64,
+    held: AtomicU64,
+    loads: AtomicU64,
+    ran: AtomicU64,
+    missed: AtomicU64,
+}
+
+impl Gate for HeldSave {
+    fn before_save(&self, key: Key) {
+        if key.process == 0 {
+            if is_first(&self.saves) {
+                if !is_seen(&self.ran) {
+                    self.missed.store(1, Ordering::SeqCst);
+                }
+            }
+        }
+    }
+
+    fn before_load(&self, key: Key) {
+        if key.process == 1 {
+            self.loads.store(1, Ordering::SeqCst);
+        }
+    }
+
+    fn after_slice(&self, process: u32, _hart: u32, ran: u32) {
+        if process == 0 {
+            return;
+        }
+        if is_first(&self.held) {
+            if !is_seen(&self.saves) {
+                self.missed.store(1, Ordering::SeqCst);
+            }
+        } else if ran > 0 && self.loads.load(Ordering::SeqCst) != 0 {
+            self.ran.store(1, Ordering::SeqCst);
+        }
+    }
+
+    fn after_free(&self, _statuses: &[Status]) {}
+}
+
 #[test]
 fn two_processes_run_at_the_same_time(rt: HostRuntime) -> Result<(), Fail> {
     let alloc = rt.alloc();
@@ -156,6 +202,30 @@ fn a_process_runs_while_another_loads(rt: HostRuntime) -> Result<(), Fail> {
         &gate,
     )?;
     expect(&rt, &report, &[(0, 114, b"B"), (0, 114, b"B")]);
+    assert_eq!(rt; gate.missed.load(Ordering::SeqCst), 0);
+    Ok(())
+}
+
+/// There is a frame for each page, so that process 1 finds one while the save of process 0 is held; but so few are free once process 0 has
+/// its pages that one of these is to leave.
+#[test]
+fn a_process_runs_while_a_page_of_another_is_saved(rt: HostRuntime) -> Result<(), Fail> {
+    let alloc = rt.alloc();
+    let gate = HeldSave {
+        saves: AtomicU64::new(0),
+        held: AtomicU64::new(0),
+        loads: AtomicU64::new(0),
+        ran: AtomicU64::new(0),
+        missed: AtomicU64::new(0),
+    };
+    let size = Size {
+        frames: 66,
+        workers: 2,
+        slice: 1000,
+    };
+    let slots = sound_slots(alloc, 70)?;
+    let report = played(&rt, alloc, size, slots, &[FITS, STORES_A_BYTE], &gate)?;
+    expect(&rt, &report, &[(0, FITS_STEPS, b""), (0, 7, b"")]);
     assert_eq!(rt; gate.missed.load(Ordering::SeqCst), 0);
     Ok(())
 }

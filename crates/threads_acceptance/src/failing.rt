@@ -1,11 +1,14 @@
 //! Processes on slots that fail once, or lie once.
 
-use crate::guests::WRITES_A_SUM;
-use crate::machine::{Size, expect, played};
+use crate::guests::{SPINS, WRITES_A_SUM};
+use crate::machine::{Size, expect, played, sound_slots};
 use file_slots::{BlinkSlot, FlipSlot};
 use flat_machine::{End, KillCause};
+use machine_sides::Report;
 use reclaim_daemon::OpenGate;
+use std::process::Abort;
 use std::test::Fail;
+use swap_slots::FuseSlot;
 
 const ON_FOUR_FRAMES: Size = Size {
     frames: 4,
@@ -23,7 +26,7 @@ fn slots_that_fail_once_end_no_process(rt: HostRuntime) -> Result<(), Fail> {
         for _ in 0..11 {
             slots.push(BlinkSlot::new(alloc, failing)?)?;
         }
-        let report = played(
+        let run = played(
             &rt,
             alloc,
             ON_FOUR_FRAMES,
@@ -31,8 +34,8 @@ fn slots_that_fail_once_end_no_process(rt: HostRuntime) -> Result<(), Fail> {
             &[WRITES_A_SUM],
             &OpenGate,
         )?;
-        expect(&rt, &report, &[(0, 114, b"B")]);
-        assert!(rt; report.saves >= 7, "call {failing}");
+        expect(&rt, &run, &[(0, 114, b"B")]);
+        assert!(rt; run.report.saves >= 7, "call {failing}");
     }
     Ok(())
 }
@@ -44,7 +47,7 @@ fn a_damaged_page_ends_its_process(rt: HostRuntime) -> Result<(), Fail> {
     for _ in 0..11 {
         slots.push(FlipSlot::new(alloc, 1)?)?;
     }
-    let report = played(
+    let run = played(
         &rt,
         alloc,
         ON_FOUR_FRAMES,
@@ -52,11 +55,73 @@ fn a_damaged_page_ends_its_process(rt: HostRuntime) -> Result<(), Fail> {
         &[WRITES_A_SUM],
         &OpenGate,
     )?;
+    expect_killed(&rt, &run.report, KillCause::Damaged);
+    Ok(())
+}
+
+/// The machine has ended the one process, which has written nothing.
+fn expect_killed(rt: &impl Abort, report: &Report, cause: KillCause) {
     assert!(rt; report.audit);
-    assert_eq!(rt; report.lines.len(), 1);
-    for line in report.lines.iter() {
-        assert_eq!(rt; line.end, Some(End::Killed(KillCause::Damaged)));
-        assert!(rt; line.output.is_empty());
+    assert_eq!(rt; report.processes.len(), 1);
+    for process in report.processes.iter() {
+        assert_eq!(rt; process.end, Some(End::Killed(cause)));
+        assert!(rt; process.output.is_empty());
+    }
+}
+
+#[test]
+fn a_process_without_slots_is_ended(rt: HostRuntime) -> Result<(), Fail> {
+    let alloc = rt.alloc();
+    let slots = sound_slots(alloc, 0)?;
+    let run = played(
+        &rt,
+        alloc,
+        ON_FOUR_FRAMES,
+        slots,
+        &[WRITES_A_SUM],
+        &OpenGate,
+    )?;
+    expect_killed(&rt, &run.report, KillCause::NoSwap);
+    for process in run.report.processes.iter() {
+        assert_eq!(rt; process.steps, 16);
+    }
+    Ok(())
+}
+
+/// Each slot saves once and loads nothing.
+#[test]
+fn a_page_that_cannot_be_loaded_ends_its_process(rt: HostRuntime) -> Result<(), Fail> {
+    let alloc = rt.alloc();
+    let mut slots = Vec::new(alloc);
+    for _ in 0..11 {
+        slots.push(FuseSlot::new(alloc, 1)?)?;
+    }
+    let run = played(
+        &rt,
+        alloc,
+        ON_FOUR_FRAMES,
+        slots,
+        &[WRITES_A_SUM],
+        &OpenGate,
+    )?;
+    expect_killed(&rt, &run.report, KillCause::LoadFailed);
+    Ok(())
+}
+
+/// Two harts run by turns of one instruction, of which each is an entry of the schedule but those before the second hart starts.
+#[test]
+fn a_full_schedule_ends_its_process(rt: HostRuntime) -> Result<(), Fail> {
+    let alloc = rt.alloc();
+    let size = Size {
+        frames: 64,
+        workers: 1,
+        slice: 1,
+    };
+    let slots = sound_slots(alloc, 0)?;
+    let run = played(&rt, alloc, size, slots, &[SPINS], &OpenGate)?;
+    expect_killed(&rt, &run.report, KillCause::ScheduleFull);
+    for process in run.report.processes.iter() {
+        assert_eq!(rt; process.steps, 1_000_004);
     }
     Ok(())
 }

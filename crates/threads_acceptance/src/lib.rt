@@ -13,3 +13,5 @@ mod guests;
 mod machine;
 #[cfg(test)]
 mod sharing;
+#[cfg(test)]
+mod waiting;

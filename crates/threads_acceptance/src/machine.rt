@@ -5,7 +5,7 @@ ghost use Rattle.std.specs.Prelude.{◌<◌};
 use clock_ring::ClockRing;
 use elf_image::Image;
 use flat_machine::End;
-use hart_carriers::{Report, run_machine};
+use hart_carriers::{RunReport, run_machine};
 use reclaim_daemon::Gate;
 use rv_asm::assemble;
 use std::alloc::{AllocError, Global};
@@ -49,7 +49,7 @@ pub(crate) fn played<S: SwapSlot + Send, G: Gate + Sync, R: Threads + Wait + Syn
     slots: Vec<S>,
     sources: &[&str],
     gate: &G,
-) -> Result<Report, Fail>
+) -> Result<RunReport, Fail>
     requires workers { 0 < size.workers }
     requires slice { 0 < size.slice }
 {
@@ -75,12 +75,12 @@ pub(crate) fn played<S: SwapSlot + Send, G: Gate + Sync, R: Threads + Wait + Syn
 }
 
 /// Each process has ended by itself as is told.
-pub(crate) fn expect(rt: &impl Abort, report: &Report, told: &[Told<'_>]) {
-    assert!(rt; report.audit);
-    assert_eq!(rt; report.lines.len(), told.len());
-    for (line, (status, steps, output)) in report.lines.iter().zip(told.iter()) {
-        assert_eq!(rt; line.end, Some(End::Exited(*status)));
-        assert_eq!(rt; line.steps, *steps);
-        assert_eq!(rt; line.output.as_slice(), *output);
+pub(crate) fn expect(rt: &impl Abort, run: &RunReport, told: &[Told<'_>]) {
+    assert!(rt; run.report.audit);
+    assert_eq!(rt; run.report.processes.len(), told.len());
+    for (process, (status, steps, output)) in run.report.processes.iter().zip(told.iter()) {
+        assert_eq!(rt; process.end, Some(End::Exited(*status)));
+        assert_eq!(rt; process.steps, *steps);
+        assert_eq!(rt; process.output.as_slice(), *output);
     }
 }

@@ -19,7 +19,7 @@ fn a_process_pages_on_four_frames(rt: HostRuntime) -> Result<(), Fail> {
     let alloc = rt.alloc();
     for _ in 0..RUNS {
         let slots = sound_slots(alloc, 12)?;
-        let report = played(
+        let run = played(
             &rt,
             alloc,
             ON_FOUR_FRAMES,
@@ -27,8 +27,8 @@ fn a_process_pages_on_four_frames(rt: HostRuntime) -> Result<(), Fail> {
             &[WRITES_A_SUM],
             &OpenGate,
         )?;
-        expect(&rt, &report, &[(0, 114, b"B")]);
-        assert!(rt; report.page_ins >= 12 && report.victims >= 8);
+        expect(&rt, &run, &[(0, 114, b"B")]);
+        assert!(rt; run.report.page_ins >= 12 && run.report.victims >= 8);
     }
     Ok(())
 }
@@ -39,13 +39,13 @@ fn processes_share_four_frames(rt: HostRuntime) -> Result<(), Fail> {
     let sources = [COUNTS, COUNTS, WRITES_A_SUM];
     for _ in 0..RUNS {
         let slots = sound_slots(alloc, 32)?;
-        let report = played(&rt, alloc, ON_FOUR_FRAMES, slots, &sources, &OpenGate)?;
+        let run = played(&rt, alloc, ON_FOUR_FRAMES, slots, &sources, &OpenGate)?;
         expect(
             &rt,
-            &report,
+            &run,
             &[(2000, 6027, b""), (2000, 6027, b""), (0, 114, b"B")],
         );
-        assert!(rt; report.page_ins >= 16 && report.victims >= 8);
+        assert!(rt; run.report.page_ins >= 16 && run.report.victims >= 8);
     }
     Ok(())
 }

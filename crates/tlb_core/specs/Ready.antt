@@ -1,5 +1,5 @@
 -- The pages of a translation cache that are ready: an access uses them by one comparison, without a look-up.
-use Rattle.std.specs.Prelude.{◌≡◌, ℕ, ◌+◌, ◌*◌, ◌/◌, ◌%◌, ◌<◌, ◌==◌, if◌then◌else◌, List, slice_index_or, slice_set}
+use Rattle.std.specs.Prelude.{◌≡◌, ℕ, ◌*◌, ◌/◌, ◌%◌, ◌<◌, ◌≤◌, ◌==◌, if◌then◌else◌, List, slice_index_or, slice_set}
 use Rattle.page_memory.specs.declared.words.Access.{Access}
 use Rattle.page_memory.specs.declared.words.Access.TheVariants.{Fetch, Load, Store}
 use Rattle.page_memory.specs.Words.{page_number}
@@ -9,9 +9,9 @@ use Rattle.tlb_core.specs.declared.ready.Ready.{Ready}
 use Rattle.tlb_core.specs.Cache.{Hits, OnePerPage}
 use Rattle.tlb_core.specs.Crowds.{Counts, pages_of}
 
--- no page
+-- no page: past all addresses
 abbrev pub nowhere : Known
-nowhere = record { start = 4; place = 0 }
+nowhere = record { start = 4294967296; place = 0 }
 
 -- what may serve an access to a page: the one that is fetched from, or that of the page number's low bits
 abbrev pub known_for : Access → ℕ → Ready → Known
@@ -39,11 +39,11 @@ forgotten page ready = record {
   stored = slice_set ready.stored (page % 32) nowhere;
 }
 
--- what is ready the cache shows: an address whose offset past its page's start is below 4 is the start that is known only
--- where it is the page's start, and the cache shows the page at the place for the access
+-- what is ready starts where a page does, or past all addresses; and the cache shows the page at the place for the access
 pub record IsReady (cache : List Translation) (ready : Ready) : Type 0 where
-  pub aligned : (access : Access) (page past : ℕ) → past < 4 → page * 4096 + past ≡ (known_for access page ready).start → past ≡ 0
-  pub shown : (access : Access) (page past : ℕ) → past < 4 → page * 4096 + past ≡ (known_for access page ready).start → Hits cache access page (known_for access page ready).place
+  pub multiple : (access : Access) (page : ℕ) → (known_for access page ready).start % 4096 ≡ 0
+  pub limit : (access : Access) (page : ℕ) → (known_for access page ready).start ≤ 4294967296
+  pub shown : (access : Access) (page : ℕ) → page * 4096 < 4294967296 → page * 4096 ≡ (known_for access page ready).start → Hits cache access page (known_for access page ready).place
 
 -- a cache has at most one entry for a page, and shows what is ready; and its pages are counted
 pub record IsCache (cache : List Translation) (ready : Ready) (counts : List ℕ) : Type 0 where

@@ -15,5 +15,5 @@ mod ready;
 mod tlb;
 mod translation;
 
-pub use tlb::{TLB_ENTRIES, Tlb};
+pub use tlb::{Spot, TLB_ENTRIES, Tlb};
 pub use translation::Translation;

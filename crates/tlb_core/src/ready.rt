@@ -1,19 +1,22 @@
-ghost use Rattle.std.specs.Prelude.{◌≡◌, ◌+◌, ◌*◌, ◌/◌, ◌%◌, ◌^◌, ◌<◌, List, slice_index_or, slice_set, replicate};
-ghost use Rattle.page_memory.specs.Words.{page_number, bytes_in};
+ghost use Rattle.std.specs.Prelude.{◌≡◌, ◌%◌, List, slice_index_or, slice_set, replicate};
+ghost use Rattle.page_memory.specs.Words.{page_number};
 ghost use Rattle.tlb_core.specs.declared.translation.Translation.{Translation};
 ghost use Rattle.tlb_core.specs.Ready.{IsReady, nowhere, known_for, learned, forgotten};
 
-use page_memory::{Access, Width, page_of};
+use page_memory::{Access, page_of};
 
 /// A page that is used without a look-up: its first address, and its place among its process's pages.
 #[derive(Clone, Copy)]
 pub(crate) struct Known {
-    pub(crate) start: u32,
+    pub(crate) start: u64,
     pub(crate) place: usize,
 }
 
-/// No page: none starts at 4, and no address less than 4 past its page's start is 4.
-const NOWHERE: Known = Known { start: 4, place: 0 };
+/// No page: it starts past all addresses.
+const NOWHERE: Known = Known {
+    start: 0x1_0000_0000,
+    place: 0,
+};
 
 /// How many pages are ready for loads, and for stores: one for each number that the low bits of a page number can have.
 const COUNT: usize = 32;
@@ -55,7 +58,7 @@ impl Ready {
         ensures { self.new ≡ learned access address place self.old }
     {
         let known = Known {
-            start: address / 4096 * 4096,
+            start: u64::from(address / 4096 * 4096),
             place,
         };
         match access {
@@ -69,7 +72,7 @@ impl Ready {
     pub(crate) fn forget(&mut self, page: u32)
         ensures { self.new ≡ forgotten page self.old }
     {
-        if self.fetched.start / 4096 == page {
+        if self.fetched.start / 4096 == u64::from(page) {
             self.fetched = NOWHERE;
         }
         put(&mut self.loaded, page, NOWHERE);
@@ -94,13 +97,4 @@ fn put(list: &mut [Known; COUNT], page: u32, known: Known)
     ensures { list.new ≡ slice_set list.old (page % 32) known }
 {
     list[(page as usize) % COUNT] = known;
-}
-
-/// The first address of an address's page, and what the address is past a multiple of an access's width:
-/// one comparison with a page's first address tells that it is this page's, and that the access is aligned.
-#[inline]
-pub(crate) fn start_if_aligned(address: u32, width: Width) -> u32
-    ensures { result ≡ address / 4096 * 4096 + address % bytes_in width }
-{
-    address / 4096 * 4096 + address % width.bytes()
 }

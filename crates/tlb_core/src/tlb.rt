@@ -1,19 +1,26 @@
 ghost use Rattle.std.specs.Prelude.{◌≡◌, ◌<◌, ◌≤◌, ◌%◌, ℕ, [], ◌∷◌, ◌++◌, length, is_some, Some, None, position, slice_set, IfSome};
 ghost use Rattle.std.specs.List.{list_any};
-ghost use Rattle.page_memory.specs.Words.{page_number, bytes_in};
+ghost use Rattle.page_memory.specs.Words.{page_number, page_offset, bytes_in};
 ghost use Rattle.tlb_core.specs.Ready.{IsReady};
 ghost use Rattle.tlb_core.specs.Cache.{OnePerPage, Hits, translation_of, holds_mark, is_of_page, filled, doomed, undoomed, with_room};
 
 use crate::crowds::{Crowds, crowds_of};
 use crate::entries::Entries;
 use crate::hints::Hints;
-use crate::ready::{Ready, start_if_aligned};
+use crate::ready::Ready;
 use crate::translation::Translation;
-use page_memory::{Access, Width};
+use page_memory::{Access, Width, offset_past};
 use std::marker::Model;
 
 /// The most entries that a cache has.
 pub const TLB_ENTRIES: usize = 16;
+
+/// Where an access has its bytes: the place of its page among its process's pages, and the offset in it.
+#[derive(Clone, Copy, PartialEq, Eq, Debug)]
+pub struct Spot {
+    pub place: usize,
+    pub offset: usize,
+}
 
 /// The translations that a hart has cached, the oldest first, at most one for each page.
 #[derive(Drop)]
@@ -78,17 +85,21 @@ impl Tlb {
         }
     }
 
-    /// The place of an address's page that is ready for an aligned access. One comparison tells it.
+    /// Where an aligned access has its bytes, if the address's page is ready. One comparison tells it.
     #[inline]
-    pub fn ready(&self, access: Access, width: Width, address: u32) -> Option<usize>
+    pub fn ready(&self, access: Access, width: Width, address: u32) -> Option<Spot>
         ensures aligned { IfSome result (λ _. address % bytes_in width ≡ 0) }
-        ensures hits { IfSome result (λ place. Hits self.now access (page_number address) place) }
+        ensures offset { IfSome result (λ spot. spot.offset ≡ page_offset address) }
+        ensures hits { IfSome result (λ spot. Hits self.now access (page_number address)
+            spot.place) }
     {
         let known = self.ready.known(access, address);
-        if start_if_aligned(address, width) == known.start {
-            Some(known.place)
-        } else {
-            None
+        match offset_past(known.start, address, width) {
+            Some(offset) => Some(Spot {
+                place: known.place,
+                offset,
+            }),
+            None => None,
         }
     }
 
@@ -142,6 +153,7 @@ impl Tlb {
     }
 
     /// The same where the cache is known to have none of the page, which is then not looked for.
+    #[inline(always)]
     pub fn add(&mut self, entry: Translation)
         requires { translation_of entry.page self.old ≡ None }
         ensures { self.new ≡ filled entry self.old }
@@ -173,6 +185,7 @@ impl Tlb {
     }
 
     /// Puts the entry of a page that has none behind the others.
+    #[inline(always)]
     fn append(&mut self, entry: Translation)
         requires { translation_of entry.page self.old ≡ None }
         ensures { self.new ≡ with_room self.old ++ entry ∷ [] }

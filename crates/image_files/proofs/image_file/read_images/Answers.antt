@@ -24,9 +24,9 @@ pub returns-in_err-image-clause-refused : goal.returns-in_err-image-clause-refus
 returns-in_err-image-clause-refused g c =
     let p = err_from_is_err_and c.from_residual.result c.from_residual.ensures.1 in
     rw (p.1, p.2)
-    (stops_at g.R.Folder.gives (λ s. s.now) (λ start. start_of start.0 start.1.items) c.args.images.now c.loop-name.name-index _ c.loop-name.processes.items _ c.loop-name-test.true c.loop-name.invariant
-    c.in_err-image.ensures.of_file)
+    (stops_at g.R.Folder.gives g.R.Folder.withholds (λ s. s.now) (λ start. start_of start.0 start.1.items) c.args.images.now c.loop-name.name-index _ c.loop-name.processes.items _ c.loop-name-test.true c.loop-name.invariant
+    c.in_err-image.ensures.refused)
 
 pub returns-then-is_err-clause-refused : goal.returns-then-is_err-clause-refused
 returns-then-is_err-clause-refused g c =
-    stops_scant g.R.Folder.gives (λ s. s.now) (λ start. start_of start.0 start.1.items) c.args.images.now c.loop-name.name-index c.loop-name.processes.items c.loop-name-test.true c.loop-name.invariant
+    stops_scant g.R.Folder.gives g.R.Folder.withholds (λ s. s.now) (λ start. start_of start.0 start.1.items) c.args.images.now c.loop-name.name-index c.loop-name.processes.items c.loop-name-test.true c.loop-name.invariant

@@ -18,8 +18,8 @@ overflow_cast-number g c =
 
 pub loop-image-preserved : goal.loop-image-preserved
 loop-image-preserved g c =
-    one_more_begins (λ start. start_of start.0 start.1.items) c.loop-image.yielded (c.in-Some.image, c.in-Some.input) c.loop-image.sides.items c.push.new.self.items c.len-number.result c.in_ok-new.field-0
-    c.loop-image.invariant (omega (arith, c.len-number.ensures, c.loop-image.sides.ok.0)) c.in_ok-push.ensures.items c.in_ok-new.ensures
+    one_more_begins (λ start. start_of start.0 start.1.items) c.loop-image.yielded (c.in-Some.image, c.in-Some.input) c.loop-image.sides.items c.push.new.self.items c.len-number.result c.in_ok-start.field-0
+    c.loop-image.invariant (omega (arith, c.len-number.ensures, c.loop-image.sides.ok.0)) c.in_ok-push.ensures.items c.in_ok-start.ensures
 
 pub returns : goal.returns
 returns g c =

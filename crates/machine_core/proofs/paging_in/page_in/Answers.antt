@@ -10,5 +10,5 @@ is_refused (Err e) h = search rules
 
 pub unreachable-requires : goal.unreachable-requires
 unreachable-requires g c =
-    not_full c.args.key c.args.pager.now c.admit.new.pager c.args.process.now.space c.in-Ok.admission c.in-Ok.ensures.admitted c.requires
+    not_full c.args.key c.args.pager.now c.admit.new.pager c.args.process.now c.in-Ok.admission c.in-Ok.ensures.admitted c.requires
     (c.undo.ensures.full.0 (is_refused c.undo.result (sym c.is_err.ensures.value ∙ c.if-is_err.true)))

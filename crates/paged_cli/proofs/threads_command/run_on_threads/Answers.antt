@@ -1,6 +1,6 @@
 -- What was asked for reaches the machine, and what it came to is written.
 use Rattle.std.proofs.Common.{List, map, ap, option_map, subst, sym, ◌∙◌}
-use Rattle.machine_core.specs.declared.report.ProcessReport.{ProcessReport}
+use Rattle.machine_sides.specs.declared.report.ProcessReport.{ProcessReport}
 use Rattle.elf_image.specs.Start.{Start}
 use Rattle.report_text.specs.RunStatus.{worst_status}
 use Rattle.image_files.specs.Reading.{AreGiven}
@@ -13,12 +13,10 @@ returns g c =
     let given = subst (λ l. AreGiven g.R.Folder.gives (option_map (λ s. s.now) c.args.request.now.input) (map (λ s. s.now) l) starts) c.as_slice.ensures.value c.in_ok-processes.ensures.given in
     record {
       starts = starts_of c.as_slice-2.result.now;
-      report = c.in_ok-report.report;
-      told = c.in_ok-told.told;
+      run = c.in_ok-run.run';
       given = subst (λ l. AreGiven g.R.Folder.gives (option_map (λ s. s.now) c.args.request.now.input) (map (λ s. s.now) c.args.request.now.images.items) (starts_of l))
           (sym c.as_slice-2.ensures.value) given;
-      ran_as = c.in_ok-report.ensures;
-      told_as = c.in_ok-told.ensures;
+      ran_as = c.in_ok-run.ensures;
       written = c.in_ok-write_report.ensures;
       status_is = c.status_of_all.ensures ∙ ap (λ (l : List ProcessReport). worst_status 0 (map (λ process. process.end) l)) c.as_slice-3.ensures.value;
     }

@@ -7,16 +7,16 @@ use Rattle.paged_memory.proofs.writing.amo.Goals as goal
 pub returns-in-Some-clause-holds : goal.returns-in-Some-clause-holds
 returns-in-Some-clause-holds g c =
     let small : page_number c.args.address < 2 ^ 20 = omega arith in
-    holds_lent (page_number c.args.address) c.in-Some.place small c.requires.holds c.in-Some.ensures.reaches c.at_mut.result.now c.replace_word_in.new.page c.at_mut.ensures.value _ c.replace_word_in.ensures.page
+    holds_lent (page_number c.args.address) c.in-Some.spot.place small c.requires.holds c.in-Some.ensures.reaches c.at_mut.result.now c.replace_word_in.new.page c.at_mut.ensures.value _ c.replace_word_in.ensures.page
 
 pub returns-in-Some-clause-answer : goal.returns-in-Some-clause-answer
 returns-in-Some-clause-answer g c = (
-  replaced_lent g.S.SwapSlot.content c.args.pages.now c.args.tables.now c.args.address c.in-Some.place c.in-Some.ensures.reaches c.at_mut.result.now c.replace_word_in.new.page c.at_mut.ensures.value
-      (λ old. amo_result c.args.operation old c.args.operand) c.replace_word_in.result c.in-Some.ensures.aligned c.replace_word_in.ensures.old c.replace_word_in.ensures.page,
+  replaced_lent g.S.SwapSlot.content c.args.pages.now c.args.tables.now c.args.address c.in-Some.spot.place c.in-Some.ensures.reaches c.at_mut.result.now c.replace_word_in.new.page c.at_mut.ensures.value
+      (λ old. amo_result c.args.operation old c.args.operand) c.replace_word_in.result c.in-Some.spot.offset c.in-Some.ensures.aligned c.in-Some.ensures.offset c.replace_word_in.ensures.old c.replace_word_in.ensures.page,
   (c.in-Some.ensures.has, c.in-Some.ensures.marked),
 )
 
 pub returns-in-Some-clause-bare : goal.returns-in-Some-clause-bare
 returns-in-Some-clause-bare g c =
     let small : page_number c.args.address < 2 ^ 20 = omega arith in
-    bare_lent (page_number c.args.address) c.in-Some.place small c.requires.holds c.in-Some.ensures.reaches c.at_mut.result.now c.replace_word_in.new.page c.at_mut.ensures.value _ c.replace_word_in.ensures.page
+    bare_lent (page_number c.args.address) c.in-Some.spot.place small c.requires.holds c.in-Some.ensures.reaches c.at_mut.result.now c.replace_word_in.new.page c.at_mut.ensures.value _ c.replace_word_in.ensures.page

@@ -20,7 +20,7 @@ returns-in-Ok-clause-holds g c =
 pub returns-in-Ok-clause-answer : goal.returns-in-Ok-clause-answer
 returns-in-Ok-clause-answer g c = (
   replaced_lent g.S.SwapSlot.content c.args.pages.now c.reach.new.tables c.args.address c.in-Ok.place c.in-Ok.ensures.reaches c.at_mut.result.now c.replace_word_in.new.page c.at_mut.ensures.value
-      (λ old. amo_result c.args.operation old c.args.operand) c.replace_word_in.result c.if-address-ne0.false c.replace_word_in.ensures.old c.replace_word_in.ensures.page,
+      (λ old. amo_result c.args.operation old c.args.operand) c.replace_word_in.result c.offset_in_page-offset.result c.if-address-ne0.false c.offset_in_page-offset.ensures.offset c.replace_word_in.ensures.old c.replace_word_in.ensures.page,
   (c.in-Ok.ensures.has, c.in-Ok.ensures.marked),
 )
 

@@ -6,16 +6,16 @@ use Rattle.paged_memory.proofs.writing.store.Goals as goal
 pub returns-in-Some-clause-holds : goal.returns-in-Some-clause-holds
 returns-in-Some-clause-holds g c =
     let small : page_number c.args.address < 2 ^ 20 = omega arith in
-    holds_lent (page_number c.args.address) c.in-Some.place small c.requires.holds c.in-Some.ensures.reaches c.at_mut.result.now c.put_number_in.new.page c.at_mut.ensures.value _ c.put_number_in.ensures
+    holds_lent (page_number c.args.address) c.in-Some.spot.place small c.requires.holds c.in-Some.ensures.reaches c.at_mut.result.now c.put_number_in.new.page c.at_mut.ensures.value _ c.put_number_in.ensures
 
 pub returns-in-Some-clause-answer : goal.returns-in-Some-clause-answer
 returns-in-Some-clause-answer g c = (
-  stored_lent g.S.SwapSlot.content c.args.pages.now c.args.tables.now c.args.address c.in-Some.place c.in-Some.ensures.reaches c.at_mut.result.now c.put_number_in.new.page c.at_mut.ensures.value c.args.width c.args.word c.in-Some.ensures.aligned
-      c.put_number_in.ensures,
+  stored_lent g.S.SwapSlot.content c.args.pages.now c.args.tables.now c.args.address c.in-Some.spot.place c.in-Some.ensures.reaches c.at_mut.result.now c.put_number_in.new.page c.at_mut.ensures.value c.args.width c.args.word
+      c.in-Some.spot.offset c.in-Some.ensures.aligned c.in-Some.ensures.offset c.put_number_in.ensures,
   (c.in-Some.ensures.has, c.in-Some.ensures.marked),
 )
 
 pub returns-in-Some-clause-bare : goal.returns-in-Some-clause-bare
 returns-in-Some-clause-bare g c =
     let small : page_number c.args.address < 2 ^ 20 = omega arith in
-    bare_lent (page_number c.args.address) c.in-Some.place small c.requires.holds c.in-Some.ensures.reaches c.at_mut.result.now c.put_number_in.new.page c.at_mut.ensures.value _ c.put_number_in.ensures
+    bare_lent (page_number c.args.address) c.in-Some.spot.place small c.requires.holds c.in-Some.ensures.reaches c.at_mut.result.now c.put_number_in.new.page c.at_mut.ensures.value _ c.put_number_in.ensures

@@ -27,8 +27,8 @@ returns-in-Ok-clause-holds g c =
 pub returns-in-Ok-clause-answer : goal.returns-in-Ok-clause-answer
 returns-in-Ok-clause-answer g c =
     let aligned : c.args.address % bytes_in c.args.width ≡ 0 = ap (λ w. c.args.address % w) (sym c.bytes.ensures) ∙ c.if-address-bytes-ne0.false in (
-      stored_lent g.S.SwapSlot.content c.args.pages.now c.reach.new.tables c.args.address c.in-Ok.place c.in-Ok.ensures.reaches c.at_mut.result.now c.put_number_in.new.page c.at_mut.ensures.value c.args.width c.args.word aligned
-          c.put_number_in.ensures,
+      stored_lent g.S.SwapSlot.content c.args.pages.now c.reach.new.tables c.args.address c.in-Ok.place c.in-Ok.ensures.reaches c.at_mut.result.now c.put_number_in.new.page c.at_mut.ensures.value c.args.width c.args.word c.offset_in_page.result
+          aligned c.offset_in_page.ensures.offset c.put_number_in.ensures,
       (c.in-Ok.ensures.has, c.in-Ok.ensures.marked),
     )
 

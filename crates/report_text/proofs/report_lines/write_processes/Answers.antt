@@ -1,7 +1,7 @@
 -- The first of the processes that are left is told.
 use Rattle.std.proofs.Common.{ap, arith, map}
 use Rattle.std.proofs.lemmas.List.{nil_from_length}
-use Rattle.serial_driver.specs.Reporting.{told}
+use Rattle.machine_sides.specs.Reporting.{told}
 use Rattle.report_text.proofs.Written.{tells_more, tells_all}
 use Rattle.report_text.proofs.report_lines.write_processes.Goals as goal
 

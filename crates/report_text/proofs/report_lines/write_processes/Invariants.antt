@@ -1,5 +1,5 @@
 use Rattle.std.proofs.Common.{◌≡◌, ◌+◌, length, map}
-use Rattle.serial_driver.specs.Reporting.{told}
+use Rattle.machine_sides.specs.Reporting.{told}
 use Rattle.report_text.proofs.Written.{Tells}
 use Rattle.report_text.proofs.report_lines.write_processes.Given as goal
 

@@ -10,7 +10,7 @@ returns g c =
     let wrote = c.in_ok-status.ensures in
     record {
       starts = starts;
-      machine = wrote.machine;
+      report = wrote.report;
       given = subst (λ l. AreGiven g.R.Folder.gives (option_map (λ s. s.now) c.args.request.now.input) (map (λ s. s.now) l) starts) c.as_slice.ensures.value c.in_ok-processes.ensures.given;
       ran = wrote.ran;
       told = wrote.told;

@@ -1,6 +1,6 @@
 -- As many events are left as the limit allows beyond those that happened.
 use Rattle.std.proofs.Common.{◌+◌, refl, arith}
-use Rattle.serial_driver.proofs.Limited.{plays_none, plays_from, plays_more}
+use Rattle.serial_driver.proofs.Limited.{plays_none, plays_more}
 use Rattle.serial_driver.proofs.Stopped.{plays_to_end, plays_to_limit}
 use Rattle.serial_driver.specs.TurnsDuty.{duty_of}
 use Rattle.serial_driver.proofs.serial.play_events.Goals as goal
@@ -18,14 +18,14 @@ turns-preserved g c =
       (
         omega (arith, sum, least, most),
         plays_more g.S.SwapSlot.content g.S.SwapSlot.honest g.S.SwapSlot.failures _ _ _ _ _ _ c.turns.invariant.0 c.act-left.result _ c.args.core.now c.turns.core c.act-left.new.core c.turns.patience c.act-left.new.patience
-            before (plays_from g.S.SwapSlot.content g.S.SwapSlot.honest g.S.SwapSlot.failures c.in-Some.ensures.kept (c.act-left.ensures.plays _ _ before.patient)) refl,
+            before (c.act-left.ensures.plays _ _ before.patient) refl,
       ),
     )
 
 pub returns-in_default : goal.returns-in_default
 returns-in_default g c =
-    plays_to_end g.S.SwapSlot.content g.S.SwapSlot.honest g.S.SwapSlot.failures c.args.turns.now.slice c.args.limit c.turns.invariant.0 c.turns.left (duty_of c.turns.turns) (duty_of c.what_is_next.new.turns) c.args.core.now c.turns.core c.turns.patience
-    c.turns.invariant.1.0 c.turns.invariant.1.1 c.in_default.ensures.kept c.in_default.ensures.settled c.in_default.ensures.none
+    plays_to_end g.S.SwapSlot.content g.S.SwapSlot.honest g.S.SwapSlot.failures c.args.turns.now.slice c.args.limit c.turns.invariant.0 c.turns.left (duty_of c.turns.turns) c.args.core.now c.turns.core c.turns.patience
+    c.turns.invariant.1.0 c.turns.invariant.1.1 c.in_default.ensures.settled c.in_default.ensures.none
 
 pub returns : goal.returns
 returns g c =

@@ -1,4 +1,4 @@
-use Rattle.std.proofs.Common.{◌≡◌, ◌<◌, ◌/◌, List, ℕ, Ok, drop, sym, ap, ◌∙◌, arith}
+use Rattle.std.proofs.Common.{◌≡◌, ◌/◌, List, ℕ, Ok, drop, sym, ap, ◌∙◌, arith}
 use Rattle.byteorder.specs.Endian.{little_number}
 use Rattle.page_memory.specs.declared.words.Access.TheVariants.{Load}
 use Rattle.page_memory.specs.Words.{bytes_in}
@@ -9,8 +9,8 @@ use Rattle.page_memory.specs.Hints.{LeadsTo}
 use Rattle.page_memory.specs.HintsLaws.{one_of, below_four, loaded_led, stands_led}
 use Rattle.page_memory.proofs.flat_pages.FlatPages.load.Goals as goal
 
-pub past-requires : goal.past-requires
-past-requires c =
+pub offset_past-requires : goal.offset_past-requires
+offset_past-requires c =
     let hint = c.hint_for-hint.result in
     let to : LeadsTo Load c.self.inside.pages hint = one_of Load c.self.inside.pages c.self.inside.hints.loaded hint c.self.invariant.loaded c.hint_for-hint.ensures in
     record { multiple = to.leads.multiple; limit = to.leads.limit }

@@ -1,4 +1,4 @@
-use Rattle.std.proofs.Common.{◌≡◌, ◌*◌, ◌/◌, ◌%◌, List, ℕ, Ok, Some, drop, sym, ap, ◌∙◌, refl, subst, rules, arith, ◌<◌}
+use Rattle.std.proofs.Common.{◌≡◌, ◌/◌, ◌%◌, List, ℕ, Ok, Some, drop, sym, ap, ◌∙◌, subst, rules, arith}
 use Rattle.byteorder.specs.Endian.{little_number}
 use Rattle.page_memory.specs.declared.words.Access.TheVariants.{Load}
 use Rattle.page_memory.specs.declared.hint.Hint.{Hint}

@@ -1,4 +1,4 @@
-use Rattle.std.proofs.Common.{◌≡◌, ◌<◌, ◌/◌, List, ℕ, Ok, sym, ap, ◌∙◌, arith, refl, subst}
+use Rattle.std.proofs.Common.{◌≡◌, ◌/◌, List, ℕ, Ok, sym, ap, ◌∙◌, arith, refl, subst}
 use Rattle.byteorder.specs.Endian.{little_bytes}
 use Rattle.std.specs.Ordering.{nat_cmp}
 use Rattle.std.specs.FinMap.{from_entries}
@@ -11,8 +11,8 @@ use Rattle.page_memory.proofs.PageRows.{had}
 use Rattle.page_memory.specs.HintsLaws.{one_of, below_four, stored_led, still_remembered, stands_led}
 use Rattle.page_memory.proofs.flat_pages.FlatPages.store.Goals as goal
 
-pub past-requires : goal.past-requires
-past-requires c =
+pub offset_past-requires : goal.offset_past-requires
+offset_past-requires c =
     let hint = c.hint_for-hint.result in
     let to : LeadsTo Store c.self.inside.pages hint = one_of Store c.self.inside.pages c.self.inside.hints.stored hint c.self.invariant.stored c.hint_for-hint.ensures in
     record { multiple = to.leads.multiple; limit = to.leads.limit }

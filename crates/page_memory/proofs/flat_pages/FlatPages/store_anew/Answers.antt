@@ -1,5 +1,5 @@
 use Rattle.byteorder.specs.Endian.{little_bytes}
-use Rattle.std.proofs.Common.{◌≡◌, ◌*◌, ◌/◌, ◌%◌, List, ℕ, refl, subst, sym, ap, ◌∙◌, Ok, Some, true, rules, arith, ◌<◌}
+use Rattle.std.proofs.Common.{◌≡◌, ◌/◌, ◌%◌, List, ℕ, refl, subst, sym, ap, ◌∙◌, Ok, Some, true, rules, arith}
 use Rattle.std.specs.Ordering.{nat_cmp}
 use Rattle.std.specs.FinMap.{from_entries}
 use Rattle.page_memory.specs.declared.words.Access.TheVariants.{Store}

@@ -1,4 +1,4 @@
-use Rattle.std.proofs.Common.{◌*◌, ◌/◌, ◌%◌, ◌+◌, ◌≤◌, ◌≡◌, ℕ, List, length, subst, sym, ap, ◌∙◌, arith}
+use Rattle.std.proofs.Common.{◌/◌, ◌+◌, ◌≤◌, ℕ, List, length, subst, sym, ap, ◌∙◌, arith}
 use Rattle.page_memory.specs.PageRow.{page_of_row}
 use Rattle.page_memory.proofs.PageRows.{lies_within, shows_bytes}
 use Rattle.page_memory.proofs.page_row.PageRow.bytes.Goals as goal

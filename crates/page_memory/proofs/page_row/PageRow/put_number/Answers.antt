@@ -1,4 +1,4 @@
-use Rattle.std.proofs.Common.{◌*◌, ◌/◌, ◌%◌, ◌+◌, ◌≤◌, ◌≡◌, ℕ, List, length, subst, sym, ap, ◌∙◌, rules, arith}
+use Rattle.std.proofs.Common.{◌/◌, ◌+◌, ◌≤◌, ℕ, List, length, subst, sym, ap, ◌∙◌, rules, arith}
 use Rattle.std.proofs.lemmas.List.{with_items_is, places}
 use Rattle.byteorder.specs.Endian.{little_bytes}
 use Rattle.page_memory.specs.Words.{bytes_in}

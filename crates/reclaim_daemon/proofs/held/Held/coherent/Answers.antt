@@ -4,4 +4,4 @@ use Rattle.reclaim_daemon.specs.HeldValue.{HeldValue}
 use Rattle.reclaim_daemon.proofs.held.Held.coherent.Goals as goal
 
 pub returns-clause-stands : goal.returns-clause-stands
-returns-clause-stands g c = λ honest. subst (λ (h : HeldValue _). StandsFor g.S.SwapSlot.content h.side.space) c.self.view_is (c.coherent.ensures.stands honest)
+returns-clause-stands g c = λ honest. subst (λ (h : HeldValue _). StandsFor g.S.SwapSlot.content h.side) c.self.view_is (c.coherent.ensures.stands honest)

@@ -11,13 +11,13 @@ pub invariant_of-self : goal.invariant_of-self
 invariant_of-self g c = record {
   published = c.self.invariant.published;
   told = c.self.invariant.told
-      ∙ sym (either_load_leaves g.S.SwapSlot.content g.S.SwapSlot.honest g.S.SwapSlot.failures c.args.admission c.self.inside.side.space c.load.new.self.space c.load.result c.load.ensures.loaded c.load.ensures.refused);
+      ∙ sym (either_load_leaves g.S.SwapSlot.content g.S.SwapSlot.honest g.S.SwapSlot.failures c.args.admission c.self.inside.side c.load.new.space c.load.result c.load.ensures.loaded c.load.ensures.refused);
 }
 
 pub returns-clause-agree : goal.returns-clause-agree
 returns-clause-agree g c =
-    subst (λ (h : HeldValue _). OnOk c.load.result ((pager : PagerState) → AgreeStill (Some (key_of h.side.space.memory.process c.args.admission.key.vpn)) pager pager h.side.space c.load.new.self.space)) c.self.view_is c.load.ensures.agree
+    subst (λ (h : HeldValue _). OnOk c.load.result ((pager : PagerState) → AgreeStill (Some (key_of h.side.memory.process c.args.admission.key.vpn)) pager pager h.side c.load.new.space)) c.self.view_is c.load.ensures.agree
 
 pub returns-clause-keeps : goal.returns-clause-keeps
 returns-clause-keeps g c =
-    subst (λ (h : HeldValue _). OnErr c.load.result ((pager : PagerState) → AgreeStill None pager pager h.side.space c.load.new.self.space)) c.self.view_is c.load.ensures.keeps
+    subst (λ (h : HeldValue _). OnErr c.load.result ((pager : PagerState) → AgreeStill None pager pager h.side c.load.new.space)) c.self.view_is c.load.ensures.keeps

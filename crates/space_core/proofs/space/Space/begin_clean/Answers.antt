@@ -9,7 +9,7 @@ use Rattle.space_core.proofs.space.Space.begin_clean.Goals as goal
 
 pub invariant_of-self : goal.invariant_of-self
 invariant_of-self g c =
-    let inside : SpaceValue g.row.S.Denot = record { image = c.self.inside.image; input = c.self.inside.input; running = c.self.inside.recorded.running; schedule = c.self.inside.recorded.schedule; memory = c.self.inside.memory } in
+    let inside : SpaceValue g.row.S.Denot = record { image = c.self.inside.image; input = c.self.inside.input; running = c.self.inside.recorded.running; schedule = c.self.inside.recorded.schedule; memory = c.self.inside.memory; purged = c.self.inside.purged } in
     let did = c.begin_clean.ensures in
     space_memory g.S.SwapSlot.content g.S.SwapSlot.honest inside c.begin_clean.new.self
     (begun_harts c.is_some-ended.result c.begin_clean.result c.args.vpn c.self.inside.memory c.begin_clean.new.self did.err did.ok) did.memory

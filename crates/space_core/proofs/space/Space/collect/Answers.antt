@@ -8,7 +8,7 @@ use Rattle.space_core.proofs.space.Space.collect.Goals as goal
 
 pub invariant_of-self : goal.invariant_of-self
 invariant_of-self g c =
-    let inside : SpaceValue g.row.S.Denot = record { image = c.self.inside.image; input = c.self.inside.input; running = c.self.inside.recorded.running; schedule = c.self.inside.recorded.schedule; memory = c.self.inside.memory } in
+    let inside : SpaceValue g.row.S.Denot = record { image = c.self.inside.image; input = c.self.inside.input; running = c.self.inside.recorded.running; schedule = c.self.inside.recorded.schedule; memory = c.self.inside.memory; purged = c.self.inside.purged } in
     pages_moved g.S.SwapSlot.content g.S.SwapSlot.honest inside c.collect.new.self c.collect.ensures.stays c.collect.ensures.memory
     (collected_given_up _ c.args.vpn c.args.spare.now c.collect.new.spare c.collect.result c.self.inside.memory c.collect.new.self c.collect.ensures.answer)
     c.self.invariant

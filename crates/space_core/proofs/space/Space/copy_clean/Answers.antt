@@ -8,7 +8,7 @@ use Rattle.space_core.proofs.space.Space.copy_clean.Goals as goal
 
 pub invariant_of-self : goal.invariant_of-self
 invariant_of-self g c =
-    let inside : SpaceValue g.row.S.Denot = record { image = c.self.inside.image; input = c.self.inside.input; running = c.self.inside.recorded.running; schedule = c.self.inside.recorded.schedule; memory = c.self.inside.memory } in
+    let inside : SpaceValue g.row.S.Denot = record { image = c.self.inside.image; input = c.self.inside.input; running = c.self.inside.recorded.running; schedule = c.self.inside.recorded.schedule; memory = c.self.inside.memory; purged = c.self.inside.purged } in
     let did = c.copy_clean.ensures in
     pages_moved g.S.SwapSlot.content g.S.SwapSlot.honest inside c.copy_clean.new.self did.stays (λ is_honest. did.memory)
     (copied_given_up c.args.vpn c.args.spare.now c.copy_clean.new.spare c.copy_clean.result c.self.inside.memory c.copy_clean.new.self did.answer)

@@ -9,7 +9,7 @@ use Rattle.space_core.proofs.space.Space.page_in.Goals as goal
 
 pub invariant_of-self : goal.invariant_of-self
 invariant_of-self g c =
-    let inside : SpaceValue g.row.S.Denot = record { image = c.self.inside.image; input = c.self.inside.input; running = c.self.inside.recorded.running; schedule = c.self.inside.recorded.schedule; memory = c.self.inside.memory } in
+    let inside : SpaceValue g.row.S.Denot = record { image = c.self.inside.image; input = c.self.inside.input; running = c.self.inside.recorded.running; schedule = c.self.inside.recorded.schedule; memory = c.self.inside.memory; purged = c.self.inside.purged } in
     let did = c.page_in.ensures in
     space_moved g.S.SwapSlot.content g.S.SwapSlot.honest inside c.page_in.new.self (same_harts inside.memory c.page_in.new.self did.caches) did.memory
     (paged_in_given_up g.S.SwapSlot.content g.S.SwapSlot.honest g.S.SwapSlot.failures c.args.frame c.args.vpn inside.memory c.page_in.new.self c.page_in.result did.ok did.refused) c.self.invariant

@@ -6,7 +6,7 @@ use Rattle.space_core.proofs.space.Space.refuse.Given.{Over}
 use Rattle.space_core.proofs.space.Space.refuse.Goals as goal
 
 abbrev inside : (g : Over) (c : goal.After-coherent g) → SpaceValue g.row.S.Denot
-inside g c = record { image = c.self.inside.image; input = c.self.inside.input; running = c.self.inside.recorded.running; schedule = c.self.inside.recorded.schedule; memory = c.self.inside.memory }
+inside g c = record { image = c.self.inside.image; input = c.self.inside.input; running = c.self.inside.recorded.running; schedule = c.self.inside.recorded.schedule; memory = c.self.inside.memory; purged = c.self.inside.purged }
 
 left : (g : Over) (c : goal.After-coherent g) → LeftOne g.S.SwapSlot.content g.S.SwapSlot.honest c.args.hart 0 c.stop_refused-stop.result (inside g c) (record (inside g c) { memory = c.settle_caches.new.memory })
 left g c =
@@ -14,7 +14,7 @@ left g c =
     let refused = c.stop_refused-stop.ensures in
     refused_one g.S.SwapSlot.content g.S.SwapSlot.honest c.args.hart c.stop_refused-stop.result (inside g c) c.settle_caches.new.memory refused.answers refused.begins refused.stop
     (record { stands = c.self.invariant.stands; cached = c.self.invariant.cached }) c.settle_caches.ensures.memory c.settle_caches.ensures.caches c.settle_caches.ensures.harts
-    (record { agree = now.agree; accessed = now.accessed; framed = now.framed; walks = now.walks })
+    (record { agree = now.agree; accessed = now.accessed; framed = now.framed; unmarked = now.unmarked; walks = now.walks })
 
 pub invariant_of-self : goal.invariant_of-self
 invariant_of-self g c = (left g c).is

@@ -14,7 +14,7 @@ use Rattle.space_core.proofs.space.Space.run.Goals as goal
 
 pub add_harts-requires-clause-more : goal.add_harts-requires-clause-more
 add_harts-requires-clause-more g c =
-    let inside : SpaceValue g.row.S.Denot = record { image = c.self.inside.image; input = c.self.inside.input; running = c.self.inside.recorded.running; schedule = c.self.inside.recorded.schedule; memory = c.self.inside.memory } in
+    let inside : SpaceValue g.row.S.Denot = record { image = c.self.inside.image; input = c.self.inside.input; running = c.self.inside.recorded.running; schedule = c.self.inside.recorded.schedule; memory = c.self.inside.memory; purged = c.self.inside.purged } in
     let more = no_fewer_harts g.S.SwapSlot.content g.S.SwapSlot.honest c.args.hart c.run-steps.result.ran c.run-steps.result.last c.in-Some.slice inside c.run-steps.new.self c.run-steps.new.memory c.in-Some.is c.self.invariant.cached c.run-steps.ensures.runs in
     let count = c.started.ensures.count in
     let same = ap (λ (r : RunningValue). length r.harts) c.running.ensures in
@@ -23,10 +23,10 @@ add_harts-requires-clause-more g c =
 -- all were done
 
 abbrev whole : (g : Over) (c : In_default g) → SpaceValue g.row.S.Denot
-whole g c = record { image = c.self.inside.image; input = c.self.inside.input; running = c.self.inside.recorded.running; schedule = c.self.inside.recorded.schedule; memory = c.self.inside.memory }
+whole g c = record { image = c.self.inside.image; input = c.self.inside.input; running = c.self.inside.recorded.running; schedule = c.self.inside.recorded.schedule; memory = c.self.inside.memory; purged = c.self.inside.purged }
 
 abbrev done : (g : Over) (c : In_default g) → SpaceValue g.row.S.Denot
-done g c = record { image = c.self.inside.image; input = c.self.inside.input; running = c.run-steps.new.self.running; schedule = c.run-steps.new.self.schedule; memory = c.run-steps.new.memory }
+done g c = record { image = c.self.inside.image; input = c.self.inside.input; running = c.run-steps.new.self.running; schedule = c.run-steps.new.self.schedule; memory = c.run-steps.new.memory; purged = c.self.inside.purged }
 
 all : (g : Over) (c : In_default g) → Left g.S.SwapSlot.content g.S.SwapSlot.honest c.args.hart c.run-steps.result.ran (option_map (λ slice. (slice.ran, slice.stop)) c.run-steps.result.last) (whole g c) (done g c)
 all g c =
@@ -44,10 +44,10 @@ returns-in_default-clause-each g c =
 -- the last one ended
 
 abbrev inside : (g : Over) (c : goal.After-coherent g) → SpaceValue g.row.S.Denot
-inside g c = record { image = c.self.inside.image; input = c.self.inside.input; running = c.self.inside.recorded.running; schedule = c.self.inside.recorded.schedule; memory = c.self.inside.memory }
+inside g c = record { image = c.self.inside.image; input = c.self.inside.input; running = c.self.inside.recorded.running; schedule = c.self.inside.recorded.schedule; memory = c.self.inside.memory; purged = c.self.inside.purged }
 
 abbrev left : (g : Over) (c : goal.After-coherent g) → SpaceValue g.row.S.Denot
-left g c = record { image = c.self.inside.image; input = c.self.inside.input; running = c.run-steps.new.self.running; schedule = c.run-steps.new.self.schedule; memory = c.settle_caches.new.memory }
+left g c = record { image = c.self.inside.image; input = c.self.inside.input; running = c.run-steps.new.self.running; schedule = c.run-steps.new.self.schedule; memory = c.settle_caches.new.memory; purged = c.self.inside.purged }
 
 last : (g : Over) (c : goal.After-coherent g) → Left g.S.SwapSlot.content g.S.SwapSlot.honest c.args.hart c.run-steps.result.ran (option_map (λ slice. (slice.ran, slice.stop)) c.run-steps.result.last) (inside g c) (left g c)
 last g c =
@@ -60,7 +60,7 @@ last g c =
     (caches_on c.run-steps.new.memory c.add_harts.new.memory c.settle_caches.new.memory c.add_harts.ensures.memory c.settle_caches.ensures.memory)
     (settled_after c.in-Some.slice.stop c.args.hart c.run-steps.new.memory c.add_harts.new.memory c.settle_caches.new.memory c.add_harts.ensures.caches c.settle_caches.ensures.caches)
     (c.settle_caches.ensures.harts ∙ c.add_harts.ensures.harts ∙ c.started.ensures.count ∙ ap (λ (r : RunningValue). length r.harts) c.running.ensures)
-    (record { agree = now.agree; accessed = now.accessed; framed = now.framed; walks = now.walks })
+    (record { agree = now.agree; accessed = now.accessed; framed = now.framed; unmarked = now.unmarked; walks = now.walks })
 
 pub invariant_of-self-2 : goal.invariant_of-self-2
 invariant_of-self-2 g c = (last g c).is

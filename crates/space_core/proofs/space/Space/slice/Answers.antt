@@ -11,7 +11,7 @@ all g c =
     together g.S.SwapSlot.content g.S.SwapSlot.honest c.args.hart c.args.budget c.slice_each.result.ran c.slice_each.result.stop c.args.self.now c.slice_each.new.self
     (subst (IsSpace g.S.SwapSlot.content g.S.SwapSlot.honest) c.self.view_is (record { stands = c.self.invariant.stands; cached = c.self.invariant.cached }))
     (subst (λ (s : SpaceValue g.row.S.Denot). Coheres g.S.SwapSlot.content g.S.SwapSlot.honest s.memory) c.self.view_is
-    (record { agree = c.coherent.ensures.agree; accessed = c.coherent.ensures.accessed; framed = c.coherent.ensures.framed; walks = c.coherent.ensures.walks }))
+    (record { agree = c.coherent.ensures.agree; accessed = c.coherent.ensures.accessed; framed = c.coherent.ensures.framed; unmarked = c.coherent.ensures.unmarked; walks = c.coherent.ensures.walks }))
     c.slice_each.ensures.each
 
 pub returns-clause-ran : goal.returns-clause-ran

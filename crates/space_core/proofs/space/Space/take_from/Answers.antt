@@ -18,7 +18,7 @@ take_from-requires g c = record {
 
 pub invariant_of-self : goal.invariant_of-self
 invariant_of-self g c =
-    let inside : SpaceValue g.row.S.Denot = record { image = c.self.inside.image; input = c.self.inside.input; running = c.self.inside.recorded.running; schedule = c.self.inside.recorded.schedule; memory = c.self.inside.memory } in
+    let inside : SpaceValue g.row.S.Denot = record { image = c.self.inside.image; input = c.self.inside.input; running = c.self.inside.recorded.running; schedule = c.self.inside.recorded.schedule; memory = c.self.inside.memory; purged = c.self.inside.purged } in
     let did = c.take_from.ensures in
     let ended : c.self.inside.recorded.running.ending ≡ Some c.in_ok-end.field-0 = ap (λ (r : RunningValue). r.ending) (sym c.running.ensures) ∙ sym c.end.ensures ∙ c.in_ok-end.was in
     space_given_up g.S.SwapSlot.content g.S.SwapSlot.honest inside c.take_from.new.self c.in_ok-end.field-0 ended c.clear_caches.new.self c.take_from.result c.clear_caches.ensures did.left did.given did.caches did.reserved c.self.invariant

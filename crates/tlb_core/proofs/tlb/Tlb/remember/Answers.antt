@@ -1,4 +1,4 @@
-use Rattle.std.proofs.Common.{sym, subst}
+use Rattle.std.proofs.Common.{sym, subst, arith}
 use Rattle.page_memory.specs.Words.{page_number}
 use Rattle.tlb_core.specs.Cache.{Hits}
 use Rattle.tlb_core.specs.Ready.{IsReady}
@@ -11,5 +11,5 @@ invariant_of-self c =
     record {
       one = c.self.invariant.one;
       counted = c.self.invariant.counted;
-      shows = subst (λ r. IsReady c.self.inside.entries r) (sym c.learn.ensures) (ready_learned c.self.inside.entries c.args.access c.args.address c.args.place c.self.inside.ready here c.self.invariant.shows);
+      shows = subst (λ r. IsReady c.self.inside.entries r) (sym c.learn.ensures) (ready_learned c.self.inside.entries c.args.access c.args.address c.args.place c.self.inside.ready (omega arith) here c.self.invariant.shows);
     }

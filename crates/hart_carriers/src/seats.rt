@@ -1,0 +1,39 @@
+//! What a worker remembers of the harts that it carries.
+
+use machine_limits::{MOST_HARTS, MOST_PROCESSES};
+
+/// A page that a hart lacks.
+#[derive(Clone, Copy)]
+pub(crate) struct Lack {
+    pub vpn: u32,
+    /// How often it could not be loaded, in a row.
+    pub faults: u32,
+    /// Whether others know that the hart waits for it.
+    pub told: bool,
+    /// How often the worker's bell had rung before the page was tried for last, where that has to be done again.
+    pub tried: Option<u64>,
+}
+
+/// A hart between two slices.
+#[derive(Clone, Copy)]
+pub(crate) struct Seat {
+    /// How many instructions its turn has left, or 0 where a turn is to begin.
+    pub left: u32,
+    pub lack: Option<Lack>,
+    /// Whether it waits for a frame.
+    pub hungry: bool,
+}
+
+/// The harts of a process.
+pub(crate) type Row = [Seat; MOST_HARTS];
+
+pub(crate) const EMPTY: Seat = Seat {
+    left: 0,
+    lack: None,
+    hungry: false,
+};
+
+/// A seat for each hart that a machine may have.
+pub(crate) fn seats() -> [Row; MOST_PROCESSES] {
+    [[EMPTY; MOST_HARTS]; MOST_PROCESSES]
+}

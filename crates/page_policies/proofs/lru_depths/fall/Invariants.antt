@@ -1,9 +1,0 @@
-use Rattle.std.proofs.Common.{◌≡◌, ◌++◌, take, drop, length}
-use Rattle.page_policies.specs.LruDepthLaws.{tails}
-use Rattle.page_policies.proofs.lru_depths.fall.Given as goal
-
-abbrev pub invariant-depths : goal.invariant-depths
-invariant-depths l = record {
-  curve : tails l.references l.initial.hits ≡ take l.at l.hits ++ tails l.left (drop l.at l.hits);
-  size : length l.hits ≡ length l.initial.hits;
-}

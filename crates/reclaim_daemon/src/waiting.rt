@@ -1,0 +1,145 @@
+//! Who waits for what, and is told.
+
+ghost use Rattle.std.specs.Prelude.{◌≡◌};
+
+use crate::held::Held;
+use crate::shared::Shared;
+use clock_policy::Clock;
+use hart_signals::Bell;
+use machine_limits::MOST_HARTS;
+use space_core::Space;
+use std::alloc::AllocError;
+use std::sync::Wait;
+use std::sync::ledger::Ledger;
+use std::time::Duration;
+use swap_slots::SwapSlot;
+
+/// For how many milliseconds a thread sleeps at most before it looks again. Nothing relies on it: each thing that a thread may wait for rings
+/// its bell.
+const NAP_MILLIS: u64 = 60_000;
+
+/// What a hold has seen of a process.
+#[derive(Clone, Copy)]
+pub(crate) struct News {
+    /// Other harts are live than before.
+    harts: bool,
+    /// It has ended.
+    ended: bool,
+}
+
+impl<L: Ledger, S: SwapSlot, C: Clock> Shared<L, S, C> {
+    /// So many workers more, of the next numbers: hart `h` of process `p` falls to worker `(p + h) % workers`, whose bell rings where that hart
+    /// may wait for something.
+    pub fn add_workers(&mut self, count: u32) -> Result<(), AllocError>
+        ensures { self.new ≡ self.old }
+    {
+        self.signals.add_workers(count)
+    }
+
+    /// Whether each process has ended.
+    pub fn has_ended(&self) -> bool {
+        self.signals.ended() >= u64::from(self.processes())
+    }
+
+    /// Whether a hart of a process is live, as far as is known without its lock.
+    pub fn is_live(&self, number: u32, hart: u32) -> bool {
+        self.signals.is_live(number, hart)
+    }
+
+    /// Whether a hart of a process may be carried: it is live, and where it yielded each other live hart of the process has had a turn since.
+    /// No lock is taken to know that, so that nobody waits for a process whose other harts run only to find that this one may not.
+    pub fn may_run(&self, number: u32, hart: u32) -> bool {
+        self.signals.may_run(number, hart)
+    }
+
+    /// A hart's turn is over, by a yield or otherwise.
+    pub fn end_turn(&self, number: u32, hart: u32, yielded: bool) {
+        self.signals.end_turn(number, hart, yielded);
+    }
+
+    /// A hart waits for a page, or does so no more.
+    pub fn set_paging(&self, number: u32, hart: u32, paging: bool) {
+        self.signals.set_paging(number, hart, paging);
+    }
+
+    /// A worker has a hart that waits for a frame, or none any more.
+    pub fn set_hungry(&self, worker: u32, hungry: bool) {
+        self.signals.set_hungry(worker, hungry);
+    }
+
+    /// How often a worker's bell has rung. Read it before you look for what there is to do.
+    pub fn rings(&self, worker: u32) -> u64 {
+        match self.signals.worker(worker) {
+            Some(bell) => bell.rings(),
+            None => 0,
+        }
+    }
+
+    /// Sleeps until a worker's bell has rung since `rings` was read.
+    pub fn wait_for_ring<R: Wait>(&self, rt: &R, worker: u32, rings: u64) {
+        if let Some(bell) = self.signals.worker(worker) {
+            sleep(rt, bell, rings);
+        }
+    }
+
+    /// The same of the daemon's bell.
+    pub(crate) fn wait_for_call<R: Wait>(&self, rt: &R, calls: u64) {
+        sleep(rt, self.signals.daemon(), calls);
+    }
+
+    /// How many frames are free, and whether they are fewer than are to be.
+    pub(crate) fn free_frames<R: Wait>(&self, rt: &R) -> (usize, bool) {
+        let desk = self.desk.lock(rt);
+        (desk.pager().counts().pager.free, desk.wants_frames())
+    }
+
+    /// What a hold has seen of a process under its lock, to be told once that is let go: nothing where the process is not the one of its lock's
+    /// number, which is noted.
+    pub(crate) fn news(&self, number: u32, held: &Held<L, S>, had_ended: bool) -> News {
+        if held.process() != number {
+            self.misplace();
+            return News {
+                harts: false,
+                ended: false,
+            };
+        }
+        let live = live_harts(held.side());
+        News {
+            harts: self.signals.set_live(number, &live),
+            ended: !had_ended && held.side().end().is_some(),
+        }
+    }
+
+    /// Tells who may wait for it.
+    pub(crate) fn tell(&self, number: u32, news: News) {
+        if news.harts {
+            self.signals.tell_harts(number);
+        }
+        if news.ended {
+            self.signals.tell_end(number, u64::from(self.processes()));
+        }
+    }
+}
+
+/// Sleeps until a bell has rung since `rings` was read.
+fn sleep<R: Wait>(rt: &R, bell: &Bell, rings: u64) {
+    bell.set_asleep(true)
+        .park_timeout(rt, low_half(rings), Duration::from_millis(NAP_MILLIS));
+    bell.set_asleep(false);
+}
+
+/// The live harts of a process that goes on.
+fn live_harts<L: Ledger, S: SwapSlot>(side: &Space<L, S>) -> [bool; MOST_HARTS] {
+    let mut live = [false; MOST_HARTS];
+    if side.end().is_none() {
+        for (number, hart) in live.iter_mut().enumerate() {
+            *hart = side.is_live(number as u32);
+        }
+    }
+    live
+}
+
+/// The low 32 bits of a word.
+fn low_half(word: u64) -> u32 {
+    (word & 0xffff_ffff) as u32
+}

@@ -1,0 +1,7 @@
+use Rattle.space_core.proofs.space.Space.mark_purged.Goals as goal
+
+pub invariant_of-self : goal.invariant_of-self
+invariant_of-self g c = record {
+  stands = λ honest. let stands = c.self.invariant.stands honest in record { memory = stands.memory; ran = stands.ran; shows = stands.shows; still = stands.still };
+  cached = c.self.invariant.cached;
+}

@@ -1,0 +1,5 @@
+pub mod Sketch
+pub mod SketchLaws
+pub mod WTinyLfu
+pub mod WTinyLfuLaws
+pub mod WTinyLfuPlayLaws

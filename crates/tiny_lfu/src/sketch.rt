@@ -1,0 +1,120 @@
+//! How often pages were used, in little memory.
+
+ghost use Rattle.std.specs.Prelude.{◌≡◌, ◌≤◌, ◌<◌, ◌+◌, ◌*◌, ◌/◌, length, map, replicate, IfOk};
+ghost use Rattle.page_policies.specs.PolicyFrames.{most_policy_frames};
+ghost use Rattle.tiny_lfu.specs.Sketch.{least_at, estimate, raised, all_raised, noted, counted, sample};
+ghost use Rattle.tiny_lfu.specs.SketchLaws.{sketch_of};
+
+use crate::places::{Places, places_of};
+use crate::sketch_state::Sketch;
+use clock_policy::Key;
+use page_policies::Frames;
+use std::alloc::{AllocError, Global};
+
+/// The greatest count.
+const MOST_COUNT: u8 = 15;
+
+/// The least of a page's counts.
+fn least_at(counts: &[u8], at: Places) -> u8
+    requires first { at.first < length counts.now }
+    requires second { at.second < length counts.now }
+    requires third { at.third < length counts.now }
+    requires fourth { at.fourth < length counts.now }
+    ensures { result ≡ least_at at counts.now }
+{
+    let (first, second) = (counts[at.first], counts[at.second]);
+    let (third, fourth) = (counts[at.third], counts[at.fourth]);
+    first.min(second).min(third.min(fourth))
+}
+
+/// A count that is the least one grows.
+fn raise(counts: &mut [u8], at: usize, least: u8)
+    requires inside { at < length counts.old }
+    requires few { least < 15 }
+    ensures counts { counts.new ≡ raised least at counts.old }
+    ensures size { length counts.new ≡ length counts.old }
+{
+    if counts[at] == least {
+        counts[at] = least + 1;
+    }
+}
+
+/// The least of a page's counts grow.
+fn raise_all(counts: &mut [u8], at: Places, least: u8)
+    requires first { at.first < length counts.old }
+    requires second { at.second < length counts.old }
+    requires third { at.third < length counts.old }
+    requires fourth { at.fourth < length counts.old }
+    requires few { least < 15 }
+    ensures counts { counts.new ≡ all_raised least at counts.old }
+    ensures size { length counts.new ≡ length counts.old }
+{
+    raise(counts, at.first, least);
+    raise(counts, at.second, least);
+    raise(counts, at.third, least);
+    raise(counts, at.fourth, least);
+}
+
+/// A page was used.
+fn note(counts: &mut [u8], at: Places)
+    requires first { at.first < length counts.old }
+    requires second { at.second < length counts.old }
+    requires third { at.third < length counts.old }
+    requires fourth { at.fourth < length counts.old }
+    ensures counts { counts.new ≡ noted at counts.old }
+    ensures size { length counts.new ≡ length counts.old }
+{
+    let least = least_at(counts, at);
+    if least < MOST_COUNT {
+        raise_all(counts, at, least);
+    }
+}
+
+/// Each count is halved.
+fn halve(counts: &mut [u8])
+    ensures counts { counts.new ≡ map (λ n. n / 2) counts.old }
+    ensures size { length counts.new ≡ length counts.old }
+{
+    'counts: for at in 0..counts.len() {
+        counts[at] /= 2;
+    }
+}
+
+impl Sketch {
+    /// With no use.
+    pub(crate) fn new(alloc: Global, frames: Frames) -> Result<Sketch, AllocError>
+        ensures width { IfOk result (λ sketch. sketch.width ≡ frames.number) }
+        ensures counts { IfOk result (λ sketch. sketch.counts.items ≡ replicate (4 * frames.number) 0) }
+        ensures added { IfOk result (λ sketch. sketch.added ≡ 0) }
+    {
+        let width = frames.number();
+        let counts = vec![in alloc; 0u8; 4 * width]?;
+        Ok(Sketch {
+            width,
+            counts,
+            added: 0,
+        })
+    }
+
+    /// How often a page was used, as far as its counts tell.
+    pub(crate) fn estimate(&self, page: Key) -> u8
+        ensures { result ≡ estimate self.now.width page self.now.counts.items }
+    {
+        least_at(self.counts.as_slice(), places_of(self.width, page))
+    }
+
+    /// A page was used.
+    pub(crate) fn add(&mut self, page: Key)
+        ensures sketch { sketch_of self.new ≡ counted self.old.width page (sketch_of self.old) }
+        ensures width { self.new.width ≡ self.old.width }
+    {
+        let at = places_of(self.width, page);
+        note(self.counts.as_mut_slice(), at);
+        if self.added + 1 < 10 * self.width {
+            self.added += 1;
+        } else {
+            halve(self.counts.as_mut_slice());
+            self.added = (self.added + 1) / 2;
+        }
+    }
+}

@@ -1,0 +1,17 @@
+//! What a sketch keeps.
+
+ghost use Rattle.std.specs.Prelude.{◌≡◌, ◌≤◌, ◌<◌, ◌*◌, length};
+ghost use Rattle.page_policies.specs.PolicyFrames.{most_policy_frames};
+ghost use Rattle.tiny_lfu.specs.Sketch.{sample};
+
+/// Four rows of counts, which age as uses are added.
+#[derive(Drop)]
+pub(crate) struct Sketch {
+    pub(crate) width: usize,
+    pub(crate) counts: Vec<u8>,
+    pub(crate) added: usize,
+    ghost some: { 1 ≤ width },
+    ghost most: { width ≤ most_policy_frames },
+    ghost size: { length counts.items ≡ 4 * width },
+    ghost few: { added < sample width },
+}

@@ -1,0 +1,5 @@
+use Rattle.whole_strings.specs.LruDepthLaws.{noted_set}
+use Rattle.whole_strings.proofs.lru_depths.note_hit.Goals as goal
+
+pub returns : goal.returns
+returns c = noted_set c.args.at c.args.hits.now

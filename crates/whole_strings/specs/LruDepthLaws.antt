@@ -1,0 +1,380 @@
+-- LRU with every number of frames at once: proofs.
+use Rattle.std.specs.Prelude.{◌≡◌, ℕ, zero, suc, ◌+◌, ◌-◌, ◌<◌, ◌≤◌, Bool, true, false, cond, nat_lt, List, [], ◌∷◌, ◌++◌, take, drop, length, slice_index_or, slice_set, ⊤, refl}
+use Rattle.std.proofs.Common.{arith, sym, ap, subst, ◌^◌, ◌∙◌}
+use Rattle.std.proofs.lemmas.Bool.Decides.{nat_tests}
+use Rattle.clock_policy.specs.declared.key.Key.{Key}
+use Rattle.page_policies.specs.Strings.{is_page, holds, without, misses}
+use Rattle.page_policies.specs.Queues.{lru, lru_misses}
+use Rattle.page_policies.specs.QueueLaws.{same}
+use Rattle.page_policies.specs.Ordered.{to_front}
+use Rattle.page_policies.specs.InclusionLaws.{cut_step, nothing}
+use Rattle.whole_strings.specs.LruDepths.{depth, hits_within, CountsLru, IsLruCurve}
+
+-- one more in this place
+abbrev pub noted : ℕ → List ℕ → List ℕ
+noted d [] = []
+noted zero (n ∷ ns) = suc n ∷ ns
+noted (suc d) (n ∷ ns) = n ∷ noted d ns
+
+next : (d m : ℕ) → nat_lt d m ≡ nat_lt (suc d) (suc m)
+next d m = grind (arith, nat_tests)
+
+first : (m : ℕ) → nat_lt 0 (suc m) ≡ true
+first m = grind (arith, nat_tests)
+
+pub noted_within : (m d : ℕ) (counts : List ℕ) → d < length counts → hits_within m (noted d counts) ≡ hits_within m counts + cond (nat_lt d m) 1 0
+noted_within zero d counts h = none d
+  where
+    none : (d : ℕ) → 0 ≡ 0 + cond (nat_lt d 0) 1 0
+    none d = grind (arith, nat_tests)
+noted_within (suc m) d [] h = absurd (omega (arith, h))
+noted_within (suc m) zero (n ∷ ns) h = let e : ◌≡◌ {A = ℕ} (cond (nat_lt 0 (suc m)) 1 0) 1 = ap (λ (b : Bool). let k : ℕ = cond b 1 0 in k) (first m) in omega (arith, e)
+noted_within (suc m) (suc d) (n ∷ ns) h =
+    let later : hits_within m (noted d ns) ≡ hits_within m ns + cond (nat_lt d m) 1 0 = noted_within m d ns (omega (arith, h)) in
+    let e : ◌≡◌ {A = ℕ} (cond (nat_lt d m) 1 0) (cond (nat_lt (suc d) (suc m)) 1 0) = ap (λ (b : Bool). let k : ℕ = cond b 1 0 in k) (next d m) in
+    omega (arith, later, e)
+
+pub new_within : (m : ℕ) (counts : List ℕ) → hits_within m (counts ++ 0 ∷ []) ≡ hits_within m counts
+new_within zero counts = refl
+new_within (suc zero) [] = refl
+new_within (suc (suc m)) [] = refl
+new_within (suc m) (n ∷ ns) = ap (λ (k : ℕ). n + k) (new_within m ns)
+
+-- whether a reference hits
+pub hit_depth : (m : ℕ) (p : Key) (s : List Key) → depth p s < length s → holds p (take m s) ≡ nat_lt (depth p s) m
+hit_depth m p [] h = absurd (omega (arith, h))
+hit_depth zero p (q ∷ qs) h = none (depth p (q ∷ qs))
+  where
+    none : (d : ℕ) → false ≡ nat_lt d 0
+    none d = grind (arith, nat_tests)
+hit_depth (suc m) p (q ∷ qs) h = elim (is_page p q) as (λ b. cond b 0 (suc (depth p qs)) < suc (length qs) → cond b true (holds p (take m qs)) ≡ nat_lt (cond b 0 (suc (depth p qs))) (suc m)) [
+  | true ↦ λ g. sym (first m)
+  | false ↦ λ g. hit_depth m p qs (omega (arith, g)) ∙ next (depth p qs) m
+] h
+
+-- where there is no such page, no number of frames has it
+pub cold_depth : (m : ℕ) (p : Key) (s : List Key) → length s ≤ depth p s → holds p (take m s) ≡ false
+cold_depth zero p s h = refl
+cold_depth (suc m) p [] h = refl
+cold_depth (suc m) p (q ∷ qs) h = elim (is_page p q) as (λ b. suc (length qs) ≤ cond b 0 (suc (depth p qs)) → cond b true (holds p (take m qs)) ≡ false) [
+  | true ↦ λ g. absurd (omega (arith, g))
+  | false ↦ λ g. cold_depth m p qs (omega (arith, g))
+] h
+
+pub cold_without : (p : Key) (s : List Key) → length s ≤ depth p s → without p s ≡ s
+cold_without p [] h = refl
+cold_without p (q ∷ qs) h = elim (is_page p q) as (λ b. suc (length qs) ≤ cond b 0 (suc (depth p qs)) → cond b qs (q ∷ without p qs) ≡ q ∷ qs) [
+  | true ↦ λ g. absurd (omega (arith, g))
+  | false ↦ λ g. ap (λ (l : List Key). q ∷ l) (cold_without p qs (omega (arith, g)))
+] h
+
+-- One reference: what it adds to the hits with m frames, and to the references.
+
+flip : (b : Bool) → ◌≡◌ {A = ℕ} (cond b 1 0 + cond b 0 1) 1
+flip true = refl
+flip false = refl
+
+pub counts_hit : (seen : ℕ) (counts : List ℕ) (p : Key) (stack rest string : List Key) → depth p stack < length stack → length counts ≡ length stack →
+    CountsLru seen counts stack (p ∷ rest) string → CountsLru (seen + 1) (noted (depth p stack) counts) (to_front p stack) rest string
+counts_hit seen counts p stack rest string h size before m =
+    let old : lru_misses m string + hits_within m counts ≡ seen + (cond (holds p (take m stack)) 0 1 + misses holds (lru m) (lru m p (take m stack)) rest) = before m in
+    let cut : misses holds (lru m) (lru m p (take m stack)) rest ≡ misses holds (lru m) (take m (to_front p stack)) rest = ap (λ (l : List Key). misses holds (lru m) l rest) (cut_step m p stack) in
+    let hit : ◌≡◌ {A = ℕ} (cond (holds p (take m stack)) 0 1) (cond (nat_lt (depth p stack) m) 0 1) = ap (λ (b : Bool). let n : ℕ = cond b 0 1 in n) (hit_depth m p stack h) in
+    let more : hits_within m (noted (depth p stack) counts) ≡ hits_within m counts + cond (nat_lt (depth p stack) m) 1 0 = noted_within m (depth p stack) counts (omega (arith, h, size)) in
+    let one : ◌≡◌ {A = ℕ} (cond (nat_lt (depth p stack) m) 1 0 + cond (nat_lt (depth p stack) m) 0 1) 1 = flip (nat_lt (depth p stack) m) in
+    omega (arith, old, cut, hit, more, one)
+
+pub counts_cold : (seen : ℕ) (counts : List ℕ) (p : Key) (stack rest string : List Key) → length stack ≤ depth p stack →
+    CountsLru seen counts stack (p ∷ rest) string → CountsLru (seen + 1) (counts ++ 0 ∷ []) (p ∷ stack) rest string
+counts_cold seen counts p stack rest string h before m =
+    let old : lru_misses m string + hits_within m counts ≡ seen + (cond (holds p (take m stack)) 0 1 + misses holds (lru m) (lru m p (take m stack)) rest) = before m in
+    let cut : misses holds (lru m) (lru m p (take m stack)) rest ≡ misses holds (lru m) (take m (p ∷ without p stack)) rest = ap (λ (l : List Key). misses holds (lru m) l rest) (cut_step m p stack) in
+    let all : misses holds (lru m) (take m (p ∷ without p stack)) rest ≡ misses holds (lru m) (take m (p ∷ stack)) rest = ap (λ (l : List Key). misses holds (lru m) (take m (p ∷ l)) rest) (cold_without p stack h) in
+    let hit : ◌≡◌ {A = ℕ} (cond (holds p (take m stack)) 0 1) 1 = ap (λ (b : Bool). let n : ℕ = cond b 0 1 in n) (cold_depth m p stack h) in
+    let more : hits_within m (counts ++ 0 ∷ []) ≡ hits_within m counts = new_within m counts in
+    omega (arith, old, cut, all, hit, more)
+
+pub counts_open : (string : List Key) → CountsLru 0 [] [] string string
+unfolding lru_misses
+counts_open string m =
+    let none : hits_within m [] ≡ 0 = no_hits m in
+    let empty : misses holds (lru m) (take m []) string ≡ misses holds (lru m) [] string = ap (λ (l : List Key). misses holds (lru m) l string) (nothing m) in
+    omega (arith, none, empty)
+  where
+    no_hits : (m : ℕ) → hits_within m [] ≡ 0
+    no_hits zero = refl
+    no_hits (suc m) = refl
+
+-- at the end
+pub counts_end : (m n : ℕ) (counts : List ℕ) (stack string : List Key) → CountsLru n counts stack [] string → n - hits_within m counts ≡ lru_misses m string
+counts_end m n counts stack string all = let e : lru_misses m string + hits_within m counts ≡ n + 0 = all m in omega (arith, e)
+
+-- no count is above so many
+
+abbrev pub Few : ℕ → List ℕ → Type 0
+Few n [] = ⊤
+Few n (k ∷ ks) = (k ≤ n) × Few n ks
+
+few_more : (n : ℕ) (ks : List ℕ) → Few n ks → Few (n + 1) ks
+few_more n [] h = tt
+few_more n (k ∷ ks) h = let one : k ≤ n = h.0 in (omega (arith, one), few_more n ks h.1)
+
+pub few_noted : (n d : ℕ) (ks : List ℕ) → Few n ks → Few (n + 1) (noted d ks)
+few_noted n d [] h = tt
+few_noted n zero (k ∷ ks) h = let one : k ≤ n = h.0 in (omega (arith, one), few_more n ks h.1)
+few_noted n (suc d) (k ∷ ks) h = let one : k ≤ n = h.0 in (omega (arith, one), few_noted n d ks h.1)
+
+pub few_new : (n : ℕ) (ks : List ℕ) → Few n ks → Few (n + 1) (ks ++ 0 ∷ [])
+few_new n [] h = (omega arith, tt)
+few_new n (k ∷ ks) h = let one : k ≤ n = h.0 in (omega (arith, one), few_new n ks h.1)
+
+pub few_at : (n d : ℕ) (ks : List ℕ) → Few n ks → d < length ks → slice_index_or ks d 0 ≤ n
+few_at n d [] h some = absurd (omega (arith, some))
+few_at n zero (k ∷ ks) h some = h.0
+few_at n (suc d) (k ∷ ks) h some = few_at n d ks h.1 (omega (arith, some))
+
+pub length_noted : (d : ℕ) (ks : List ℕ) → length (noted d ks) ≡ length ks
+length_noted d [] = refl
+length_noted zero (k ∷ ks) = refl
+length_noted (suc d) (k ∷ ks) = ap suc (length_noted d ks)
+
+pub length_new : {A : Type 0} → (ks : List A) (a : A) → length (ks ++ a ∷ []) ≡ suc (length ks)
+length_new [] a = refl
+length_new (k ∷ ks) a = ap suc (length_new ks a)
+
+pub length_front_found : (p : Key) (s : List Key) → depth p s < length s → length (to_front p s) ≡ length s
+length_front_found p [] h = absurd (omega (arith, h))
+length_front_found p (q ∷ qs) h = elim (is_page p q) as (λ b. cond b 0 (suc (depth p qs)) < suc (length qs) → suc (length (cond b qs (q ∷ without p qs))) ≡ suc (length qs)) [
+  | true ↦ λ g. refl
+  | false ↦ λ g. ap suc (length_front_found p qs (omega (arith, g)))
+] h
+
+-- the page in a place comes to the front
+abbrev pub raised : ℕ → List Key → List Key
+raised d s = (drop d (take (d + 1) s) ++ take d (take (d + 1) s)) ++ drop (d + 1) s
+
+-- the misses with 1, 2, 3 and more frames, from those with none
+abbrev pub tails : ℕ → List ℕ → List ℕ
+tails n [] = []
+tails n (k ∷ ks) = (n - k) ∷ tails (n - k) ks
+
+pub length_tails : (n : ℕ) (ks : List ℕ) → length (tails n ks) ≡ length ks
+length_tails n [] = refl
+length_tails n (k ∷ ks) = ap suc (length_tails (n - k) ks)
+
+tail_at : (n m : ℕ) (ks : List ℕ) → m < length ks → slice_index_or (tails n ks) m 0 ≡ n - hits_within (suc m) ks
+tail_at n m [] h = absurd (omega (arith, h))
+tail_at n zero (k ∷ ks) h = omega arith
+tail_at n (suc m) (k ∷ ks) h = let later : slice_index_or (tails (n - k) ks) m 0 ≡ (n - k) - hits_within (suc m) ks = tail_at (n - k) m ks (omega (arith, h)) in omega (arith, later)
+
+hits_past : (m : ℕ) (ks : List ℕ) → length ks ≤ m → hits_within m ks ≡ hits_within (length ks) ks
+hits_past zero [] h = refl
+hits_past (suc m) [] h = refl
+hits_past zero (k ∷ ks) h = absurd (omega (arith, h))
+hits_past (suc m) (k ∷ ks) h = ap (λ (n : ℕ). k + n) (hits_past m ks (omega (arith, h)))
+
+pub curve_is : (n : ℕ) (counts : List ℕ) (stack string : List Key) → CountsLru n counts stack [] string → IsLruCurve (tails n counts) string
+curve_is n counts stack string all = record {
+  each = λ m h.
+      let l : length (tails n counts) ≡ length counts = length_tails n counts in
+      tail_at n m counts (omega (arith, h, l)) ∙ counts_end (suc m) n counts stack string all ∙ ap (λ (k : ℕ). lru_misses k string) (one m);
+  rest = λ m h.
+      let l : length (tails n counts) ≡ length counts = length_tails n counts in
+      let a : n - hits_within m counts ≡ lru_misses m string = counts_end m n counts stack string all in
+      let b : n - hits_within (length (tails n counts)) counts ≡ lru_misses (length (tails n counts)) string = counts_end (length (tails n counts)) n counts stack string all in
+      let c : hits_within m counts ≡ hits_within (length counts) counts = hits_past m counts (omega (arith, h, l)) in
+      let d : hits_within (length (tails n counts)) counts ≡ hits_within (length counts) counts = ap (λ (k : ℕ). hits_within k counts) l in
+      omega (arith, a, b, c, d);
+}
+  where
+    one : (m : ℕ) → suc m ≡ m + 1
+    one m = omega arith
+
+-- What the loops do.
+
+pub noted_set : (d : ℕ) (ks : List ℕ) → slice_set ks d (slice_index_or ks d 0 + 1) ≡ noted d ks
+noted_set d [] = refl
+noted_set zero (k ∷ ks) = ap (λ (n : ℕ). n ∷ ks) (one k)
+  where
+    one : (k : ℕ) → k + 1 ≡ suc k
+    one k = omega arith
+noted_set (suc d) (k ∷ ks) = ap (λ (l : List ℕ). k ∷ l) (noted_set d ks)
+
+falls : (at left : ℕ) (ks : List ℕ) → at < length ks →
+    take at ks ++ tails left (drop at ks) ≡ take (suc at) (slice_set ks at (left - slice_index_or ks at 0)) ++ tails (left - slice_index_or ks at 0) (drop (suc at) (slice_set ks at (left - slice_index_or ks at 0)))
+falls at left [] h = absurd (omega (arith, h))
+falls zero left (k ∷ ks) h = refl
+falls (suc at) left (k ∷ ks) h = ap (λ (l : List ℕ). k ∷ l) (falls at left ks (omega (arith, h)))
+
+pub falls_on : (at left next : ℕ) (ks all : List ℕ) → at < length ks → next ≡ left - slice_index_or ks at 0 → all ≡ take at ks ++ tails left (drop at ks) →
+    all ≡ take (at + 1) (slice_set ks at next) ++ tails next (drop (at + 1) (slice_set ks at next))
+falls_on at left next ks all h is before =
+    before ∙ falls at left ks h
+    ∙ ap (λ (k : ℕ). take (suc at) (slice_set ks at k) ++ tails k (drop (suc at) (slice_set ks at k))) (sym is)
+    ∙ ap (λ (k : ℕ). take k (slice_set ks at next) ++ tails next (drop k (slice_set ks at next))) (one at)
+  where
+    one : (k : ℕ) → suc k ≡ k + 1
+    one k = omega arith
+
+pub falls_end : (at left : ℕ) (ks all : List ℕ) → length ks ≤ at → all ≡ take at ks ++ tails left (drop at ks) → ks ≡ all
+falls_end at left ks all h before = sym (before ∙ whole at ks h)
+  where
+    whole : (at : ℕ) (ks : List ℕ) → length ks ≤ at → take at ks ++ tails left (drop at ks) ≡ ks
+    whole zero [] h = refl
+    whole (suc at) [] h = refl
+    whole zero (k ∷ ks) h = absurd (omega (arith, h))
+    whole (suc at) (k ∷ ks) h = ap (λ (l : List ℕ). k ∷ l) (whole at ks (omega (arith, h)))
+
+pub depth_found : (at : ℕ) (p other : Key) (s : List Key) → at < length s → is_page p (slice_index_or s at other) ≡ true → depth p s ≡ at + depth p (drop at s) → at ≡ depth p s
+depth_found at p other s h is before = let e : depth p (drop at s) ≡ 0 = here at s h is in omega (arith, before, e)
+  where
+    here : (at : ℕ) (s : List Key) → at < length s → is_page p (slice_index_or s at other) ≡ true → depth p (drop at s) ≡ 0
+    here at [] h is = absurd (omega (arith, h))
+    here zero (q ∷ qs) h is = ap (λ (b : Bool). let n : ℕ = cond b 0 (suc (depth p qs)) in n) is
+    here (suc at) (q ∷ qs) h is = here at qs (omega (arith, h)) is
+
+pub depth_on : (at : ℕ) (p other : Key) (s : List Key) → at < length s → is_page p (slice_index_or s at other) ≡ false → depth p s ≡ at + depth p (drop at s) → depth p s ≡ (at + 1) + depth p (drop (at + 1) s)
+depth_on at p other s h is before =
+    let e : depth p (drop at s) ≡ suc (depth p (drop (suc at) s)) = further at s h is in
+    let f : depth p (drop (suc at) s) ≡ depth p (drop (at + 1) s) = ap (λ (k : ℕ). depth p (drop k s)) (one at) in
+    omega (arith, before, e, f)
+  where
+    one : (k : ℕ) → suc k ≡ k + 1
+    one k = omega arith
+
+    further : (at : ℕ) (s : List Key) → at < length s → is_page p (slice_index_or s at other) ≡ false → depth p (drop at s) ≡ suc (depth p (drop (suc at) s))
+    further at [] h is = absurd (omega (arith, h))
+    further zero (q ∷ qs) h is = ap (λ (b : Bool). let n : ℕ = cond b 0 (suc (depth p qs)) in n) is
+    further (suc at) (q ∷ qs) h is = further at qs (omega (arith, h)) is
+
+pub depth_end : (at : ℕ) (p : Key) (s : List Key) → at ≡ length s → depth p s ≡ at + depth p (drop at s) → length s ≡ depth p s
+depth_end at p s h before = let e : depth p (drop at s) ≡ 0 = ap (depth p) (gone at s h) in omega (arith, before, e, h)
+  where
+    gone : (at : ℕ) (s : List Key) → at ≡ length s → drop at s ≡ []
+    gone zero s h = none s h
+      where
+        none : (s : List Key) → 0 ≡ length s → drop 0 s ≡ []
+        none [] h = refl
+        none (q ∷ qs) h = absurd (omega (arith, h))
+    gone (suc at) [] h = refl
+    gone (suc at) (q ∷ qs) h = gone at qs (omega (arith, h))
+
+pub raised_front : (p : Key) (s : List Key) → depth p s < length s → raised (depth p s) s ≡ to_front p s
+raised_front p s h =
+    ap (λ (k : ℕ). (drop (depth p s) (take k s) ++ take (depth p s) (take k s)) ++ drop k s) (one (depth p s))
+    ∙ ap (λ (l : List Key). (l ++ take (depth p s) (take (suc (depth p s)) s)) ++ drop (suc (depth p s)) s) (only s h)
+    ∙ ap (λ (l : List Key). p ∷ (l ++ drop (suc (depth p s)) s)) (upper (depth p s) s)
+    ∙ ap (λ (l : List Key). p ∷ l) (others s h)
+  where
+    one : (k : ℕ) → k + 1 ≡ suc k
+    one k = omega arith
+
+    upper : (d : ℕ) (s : List Key) → take d (take (suc d) s) ≡ take d s
+    upper zero s = refl
+    upper (suc d) [] = refl
+    upper (suc d) (q ∷ qs) = ap (λ (l : List Key). q ∷ l) (upper d qs)
+
+    only : (s : List Key) → depth p s < length s → drop (depth p s) (take (suc (depth p s)) s) ≡ p ∷ []
+    only [] h = absurd (omega (arith, h))
+    only (q ∷ qs) h = elim (is_page p q) as (λ b. is_page p q ≡ b → cond b 0 (suc (depth p qs)) < suc (length qs) → drop (cond b 0 (suc (depth p qs))) (take (suc (cond b 0 (suc (depth p qs)))) (q ∷ qs)) ≡ p ∷ []) [
+      | true ↦ λ e g. ap (λ (k : Key). k ∷ []) (sym (same p q e))
+      | false ↦ λ e g. only qs (omega (arith, g))
+    ] refl h
+
+    others : (s : List Key) → depth p s < length s → take (depth p s) s ++ drop (suc (depth p s)) s ≡ without p s
+    others [] h = absurd (omega (arith, h))
+    others (q ∷ qs) h = elim (is_page p q) as (λ b. cond b 0 (suc (depth p qs)) < suc (length qs) → take (cond b 0 (suc (depth p qs))) (q ∷ qs) ++ drop (suc (cond b 0 (suc (depth p qs)))) (q ∷ qs) ≡ cond b qs (q ∷ without p qs)) [
+      | true ↦ λ g. refl
+      | false ↦ λ g. ap (λ (l : List Key). q ∷ l) (others qs (omega (arith, g)))
+    ] h
+
+-- one reference, wherever its page is
+
+abbrev pub referred : ℕ → List ℕ → List ℕ
+referred d counts = cond (nat_lt d (length counts)) (noted d counts) (counts ++ 0 ∷ [])
+
+pub record Counting (seen : ℕ) (counts : List ℕ) (stack rest string : List Key) : Type 0 where
+  pub counts_lru : CountsLru seen counts stack rest string
+  pub few : Few seen counts
+  pub size : length counts ≡ length stack
+
+less : (a b : ℕ) → nat_lt a b ≡ true → a < b
+less a b h = grind (arith, nat_tests)
+
+most : (a b : ℕ) → nat_lt a b ≡ false → b ≤ a
+most a b h = grind (arith, nat_tests)
+
+pub counting_on : (seen : ℕ) (counts : List ℕ) (p : Key) (stack rest string : List Key) → Counting seen counts stack (p ∷ rest) string → Counting (seen + 1) (referred (depth p stack) counts) (to_front p stack) rest string
+counting_on seen counts p stack rest string before = elim (nat_lt (depth p stack) (length counts)) as (λ b. nat_lt (depth p stack) (length counts) ≡ b → Counting (seen + 1) (cond b (noted (depth p stack) counts) (counts ++ 0 ∷ [])) (to_front p stack) rest string) [
+  | true ↦ λ h.
+      let d : depth p stack < length counts = less (depth p stack) (length counts) h in
+      let size : length counts ≡ length stack = before.size in
+      let inside : depth p stack < length stack = omega (arith, d, size) in record {
+        counts_lru = counts_hit seen counts p stack rest string inside before.size before.counts_lru;
+        few = few_noted seen (depth p stack) counts before.few;
+        size = length_noted (depth p stack) counts ∙ before.size ∙ sym (length_front_found p stack inside);
+      }
+  | false ↦ λ h.
+      let d : length counts ≤ depth p stack = most (depth p stack) (length counts) h in
+      let size : length counts ≡ length stack = before.size in
+      let outside : length stack ≤ depth p stack = omega (arith, d, size) in record {
+        counts_lru = λ m. counts_cold seen counts p stack rest string outside before.counts_lru m ∙ ap (λ (l : List Key). (seen + 1) + misses holds (lru m) (take m (p ∷ l)) rest) (sym (cold_without p stack outside));
+        few = few_new seen counts before.few;
+        size = length_new counts 0 ∙ ap suc (before.size ∙ sym (ap length (cold_without p stack outside)));
+      }
+] refl
+
+pub counting_open : (string : List Key) → Counting 0 [] [] string string
+counting_open string = record { counts_lru = counts_open string; few = tt; size = refl }
+
+-- along a string, whose pages stand at their places
+pub counting_along : (seen : ℕ) (counts next : List ℕ) (p : Key) (stack after string : List Key) → seen < length string → p ≡ slice_index_or string seen p → next ≡ referred (depth p stack) counts → after ≡ to_front p stack →
+    Counting seen counts stack (drop seen string) string → Counting (seen + 1) next after (drop (seen + 1) string) string
+counting_along seen counts next p stack after string h at is to before =
+    subst (λ (l : List ℕ). Counting (seen + 1) l after (drop (seen + 1) string) string) (sym is)
+    (subst (λ (l : List Key). Counting (seen + 1) (referred (depth p stack) counts) l (drop (seen + 1) string) string) (sym to)
+    (counting_on seen counts p stack (drop (seen + 1) string) string (subst (λ (l : List Key). Counting seen counts stack l string) (split seen string h at ∙ ap (λ (k : ℕ). p ∷ drop k string) (one seen)) before)))
+  where
+    one : (k : ℕ) → suc k ≡ k + 1
+    one k = omega arith
+
+    split : (n : ℕ) (l : List Key) → n < length l → p ≡ slice_index_or l n p → drop n l ≡ p ∷ drop (suc n) l
+    split n [] h at = absurd (omega (arith, h))
+    split zero (q ∷ qs) h at = ap (λ (k : Key). k ∷ qs) (sym at)
+    split (suc n) (q ∷ qs) h at = split n qs (omega (arith, h)) at
+
+pub counting_end : (seen : ℕ) (counts : List ℕ) (stack string : List Key) → length string ≤ seen → seen ≤ length string → Counting seen counts stack (drop seen string) string → IsLruCurve (tails (length string) counts) string
+counting_end seen counts stack string past within before =
+    let e : seen ≡ length string = omega (arith, past, within) in
+    curve_is (length string) counts stack string (subst (λ (l : List Key). CountsLru (length string) counts stack l string) (gone (length string) string refl)
+    (subst (λ (n : ℕ). CountsLru n counts stack (drop n string) string) e before.counts_lru))
+  where
+    gone : (n : ℕ) (s : List Key) → n ≡ length s → drop n s ≡ []
+    gone zero [] h = refl
+    gone zero (q ∷ qs) h = absurd (omega (arith, h))
+    gone (suc n) [] h = refl
+    gone (suc n) (q ∷ qs) h = gone n qs (omega (arith, h))
+
+-- a count has room for one more
+pub count_small : (seen d : ℕ) (counts : List ℕ) (stack rest string : List Key) → Counting seen counts stack rest string → seen < 2 ^ 63 → d < length counts → slice_index_or counts d 0 < 2 ^ 63
+count_small seen d counts stack rest string c h inside = let f : slice_index_or counts d 0 ≤ seen = few_at seen d counts c.few inside in omega (arith, f, h)
+
+-- a slice that was lent comes back whole
+pub come_back : (n : ℕ) (a s t : List Key) → n ≡ length s → length a ≡ length s → a ≡ t → take n (a ++ drop (length a) s) ≡ t
+come_back n a s t is same_length to = ap (λ (k : ℕ). take k (a ++ drop (length a) s)) (is ∙ sym same_length) ∙ first a (drop (length a) s) ∙ to
+  where
+    first : (a b : List Key) → take (length a) (a ++ b) ≡ a
+    first [] b = refl
+    first (q ∷ qs) b = ap (λ (l : List Key). q ∷ l) (first qs b)
+
+pub counting_begins : (counts : List ℕ) (stack string : List Key) → counts ≡ [] → stack ≡ [] → Counting 0 counts stack string string
+counting_begins counts stack string c s = subst (λ (l : List ℕ). Counting 0 l stack string string) (sym c) (subst (λ (l : List Key). Counting 0 [] l string string) (sym s) (counting_open string))
+
+pub found_length : (p : Key) (s u : List Key) → depth p s < length s → u ≡ to_front p s → length u ≡ length s
+found_length p s u h is = ap length is ∙ length_front_found p s h
+
+-- an element that is there is what it is, whatever stands for those that are not
+pub same_default : (s : List Key) (n : ℕ) (p : Key) → n < length s → slice_index_or s n p ≡ slice_index_or s n (slice_index_or s n p)
+same_default [] n p h = absurd (omega (arith, h))
+same_default (q ∷ qs) zero p h = refl
+same_default (q ∷ qs) (suc n) p h = same_default qs n p (omega (arith, h))

@@ -1,0 +1,14 @@
+//! What is counted of a whole string of references: the optimum, and curves over every number of frames.
+#![tactic(auto)]
+
+mod each_optimum;
+mod lru_depths;
+mod optimum;
+mod sampling;
+mod string_uses;
+
+pub use each_optimum::optimum_curve;
+pub use lru_depths::lru_curve;
+pub use optimum::Optimum;
+pub use sampling::is_sampled;
+pub use string_uses::next_uses;

@@ -1,0 +1,3 @@
+pub mod WriteBacks
+pub mod WrittenBack
+pub mod WriteBackLaws

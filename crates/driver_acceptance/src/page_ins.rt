@@ -132,7 +132,7 @@ fn page_ins_with<L: Ledger>(
     Ok(report.page_ins)
 }
 
-/// The counts are those of `scripts/policies-model`.
+/// The counts are those of `tests/policies-model`.
 #[test]
 fn misses_are_page_ins(rt: HostRuntime) -> Result<(), Fail> {
     let alloc = rt.alloc();

@@ -1,5 +1,5 @@
 //! Guests on the replacement policies, and on the machine, and what each misses: the lines of `data/tables.txt`, whose words are parted by
-//! one blank each. What is to come out was counted by `scripts/policies-model`.
+//! one blank each. What is to come out was counted by `tests/policies-model`.
 
 use crate::run::text_of;
 use crate::table_runs::{Policies, show_page_ins, show_policies};

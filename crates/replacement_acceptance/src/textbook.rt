@@ -46,7 +46,7 @@ fn with_three_and_four<P: Policy>(alloc: Global) -> Result<(usize, usize), Fail>
     Ok((fewer, more))
 }
 
-/// The counts of `scripts/policies-model`.
+/// The counts of `tests/policies-model`.
 #[test]
 fn younger_policies_miss_as_in_the_model(rt: HostRuntime) -> Result<(), Fail> {
     assert_eq!(rt; with_three_and_four::<SecondChance>(rt.alloc())?, (9, 10));

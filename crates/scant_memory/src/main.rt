@@ -1,6 +1,6 @@
 //! Plays worked runs of the parts of the machine, and tells of each whether every answer was the right one. A call that is refused
 //! memory is made again: where the refusal left what it is to leave, all answers are the same as ever.
-//! `scripts/test-memory` plays this with each request for memory refused in turn.
+//! `tests/test-memory` plays this with each request for memory refused in turn.
 #![tactic(auto)]
 
 mod debugging;

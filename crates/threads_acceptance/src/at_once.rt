@@ -1,6 +1,6 @@
 //! Two processes run at the same time, also while one of them loads a page: neither holds a lock that the other one needs.
 
-use crate::guests::{FITS, FITS_STEPS, STORES_A_BYTE, WRITES_A_SUM};
+use crate::guests::{FITS, FITS_STEPS, FITS_STORED, STORES_A_BYTE, WRITES_A_SUM};
 use crate::machine::{Size, expect, played, sound_slots};
 use clock_policy::Key;
 use reclaim_daemon::Gate;
@@ -9,18 +9,16 @@ use std::sync::atomic::{AtomicU64, Ordering};
 use std::test::Fail;
 use std::thread::yield_now;
 
-/// How often a flag is looked at.
+/// How often a flag is looked at. With a yield at each look that takes longer than any thread is kept from running on a busy machine.
 const LOOKS: u32 = 100_000_000;
 
 /// Whether a flag was seen to be set.
 fn is_seen(flag: &AtomicU64) -> bool {
-    for look in 0..LOOKS {
+    for _ in 0..LOOKS {
         if flag.load(Ordering::SeqCst) != 0 {
             return true;
         }
-        if look % 1000 == 0 {
-            yield_now();
-        }
+        yield_now();
     }
     false
 }
@@ -105,17 +103,31 @@ impl Gate for HeldLoad {
     fn after_free(&self, _statuses: &[Status]) {}
 }
 
-/// Process 1 waits after its first slice until a page of process 0 is about to be saved, and that save waits until process 1 has both
-/// brought a page in and run.
+/// Process 0 waits once it has stored to each of its pages, and process 1 after its first slice, until a page of process 0 is about to be
+/// saved; and that save waits until process 1 has both brought a page in and run.
 #[derive(Drop)]
 struct HeldSave {
-    /// Above 0 once process 0 is about to save, once the first slice of process 1 is over, once it has begun a load since, and once a slice of
-    /// it has run after that.
+    /// How many instructions process 0 has run.
+    steps: AtomicU64,
+    /// Above 0 once process 0 has stored to each of its pages, once it is about to save, once the first slice of process 1 is over, once it has
+    /// begun a load since, and once a slice of it has run after that.
+    stored: AtomicU64,
     saves: AtomicU64,
     held: AtomicU64,
     loads: AtomicU64,
     ran: AtomicU64,
     missed: AtomicU64,
+}
+
+impl HeldSave {
+    /// Waits, where `own` was not set before, until a save has begun.
+    fn wait_for_save(&self, own: &AtomicU64) {
+        if is_first(own) {
+            if !is_seen(&self.saves) {
+                self.missed.store(1, Ordering::SeqCst);
+            }
+        }
+    }
 }
 
 impl Gate for HeldSave {
@@ -137,12 +149,12 @@ impl Gate for HeldSave {
 
     fn after_slice(&self, process: u32, _hart: u32, ran: u32) {
         if process == 0 {
-            return;
-        }
-        if is_first(&self.held) {
-            if !is_seen(&self.saves) {
-                self.missed.store(1, Ordering::SeqCst);
+            self.steps.fetch_add(u64::from(ran), Ordering::SeqCst);
+            if self.steps.load(Ordering::SeqCst) >= FITS_STORED {
+                self.wait_for_save(&self.stored);
             }
+        } else if self.held.load(Ordering::SeqCst) == 0 {
+            self.wait_for_save(&self.held);
         } else if ran > 0 && self.loads.load(Ordering::SeqCst) != 0 {
             self.ran.store(1, Ordering::SeqCst);
         }
@@ -206,12 +218,15 @@ fn a_process_runs_while_another_loads(rt: HostRuntime) -> Result<(), Fail> {
     Ok(())
 }
 
-/// There is a frame for each page, so that process 1 finds one while the save of process 0 is held; but so few are free once process 0 has
-/// its pages that one of these is to leave.
+/// There is a frame for each page, so that process 1 finds one while the save of process 0 is held. But once process 0 has stored to its 62
+/// pages of stack at most three frames are free, fewer than are to be, even where the page of its text has left its own, the only one that
+/// needs no save for that. So a save begins.
 #[test]
 fn a_process_runs_while_a_page_of_another_is_saved(rt: HostRuntime) -> Result<(), Fail> {
     let alloc = rt.alloc();
     let gate = HeldSave {
+        steps: AtomicU64::new(0),
+        stored: AtomicU64::new(0),
         saves: AtomicU64::new(0),
         held: AtomicU64::new(0),
         loads: AtomicU64::new(0),
@@ -219,7 +234,7 @@ fn a_process_runs_while_a_page_of_another_is_saved(rt: HostRuntime) -> Result<()
         missed: AtomicU64::new(0),
     };
     let size = Size {
-        frames: 66,
+        frames: 65,
         workers: 2,
         slice: 1000,
     };

@@ -82,7 +82,10 @@ count:  addi t0, t0, -1
         ecall
 ";
 
-/// How many instructions that is.
+/// After how many instructions it has stored to each of these pages.
+pub(crate) const FITS_STORED: u64 = 252;
+
+/// How many instructions it runs.
 pub(crate) const FITS_STEPS: u64 = 400_257;
 
 /// Eight harts that take a lock four hundred times each; who finds it taken yields. Under the lock each adds 1 to a word of one of thirty

@@ -7,18 +7,19 @@ use reclaim_daemon::Gate;
 use status_cell::Status;
 use std::sync::atomic::{AtomicU64, Ordering};
 use std::test::Fail;
-use std::thread::yield_now;
+use std::thread::sleep;
+use std::time::Duration;
 
-/// How often a flag is looked at. With a yield at each look that takes longer than any thread is kept from running on a busy machine.
-const LOOKS: u32 = 100_000_000;
+/// How often a flag is looked at, with a millisecond's sleep each time: longer than any thread is kept from running on a busy machine.
+const LOOKS: u32 = 30_000;
 
 /// Whether a flag was seen to be set.
-fn is_seen(flag: &AtomicU64) -> bool {
+fn is_seen(rt: &HostRuntime, flag: &AtomicU64) -> bool {
     for _ in 0..LOOKS {
         if flag.load(Ordering::SeqCst) != 0 {
             return true;
         }
-        yield_now();
+        sleep(rt, Duration::from_millis(1));
     }
     false
 }
@@ -30,24 +31,25 @@ fn is_first(flag: &AtomicU64) -> bool {
 
 /// After its first slice each of two processes waits for the other's.
 #[derive(Drop)]
-struct Meeting {
+struct Meeting<'a> {
+    rt: &'a HostRuntime,
     /// Above 0 once a slice of process 0 is over, and of process 1.
     zero: AtomicU64,
     one: AtomicU64,
     missed: AtomicU64,
 }
 
-impl Meeting {
+impl Meeting<'_> {
     fn meet(&self, own: &AtomicU64, other: &AtomicU64) {
         if is_first(own) {
-            if !is_seen(other) {
+            if !is_seen(self.rt, other) {
                 self.missed.store(1, Ordering::SeqCst);
             }
         }
     }
 }
 
-impl Gate for Meeting {
+impl Gate for Meeting<'_> {
     fn before_save(&self, _key: Key) {}
 
     fn before_load(&self, _key: Key) {}
@@ -66,7 +68,8 @@ impl Gate for Meeting {
 /// Process 1 waits after its first slice until process 0 is about to load its first page, and that load waits until a slice of
 /// process 1 has run.
 #[derive(Drop)]
-struct HeldLoad {
+struct HeldLoad<'a> {
+    rt: &'a HostRuntime,
     /// Above 0 once process 0 is about to load, once the first slice of process 1 is over, and once another one of it has run meanwhile.
     loads: AtomicU64,
     held: AtomicU64,
@@ -74,13 +77,13 @@ struct HeldLoad {
     missed: AtomicU64,
 }
 
-impl Gate for HeldLoad {
+impl Gate for HeldLoad<'_> {
     fn before_save(&self, _key: Key) {}
 
     fn before_load(&self, key: Key) {
         if key.process == 0 {
             if is_first(&self.loads) {
-                if !is_seen(&self.ran) {
+                if !is_seen(self.rt, &self.ran) {
                     self.missed.store(1, Ordering::SeqCst);
                 }
             }
@@ -92,7 +95,7 @@ impl Gate for HeldLoad {
             return;
         }
         if is_first(&self.held) {
-            if !is_seen(&self.loads) {
+            if !is_seen(self.rt, &self.loads) {
                 self.missed.store(1, Ordering::SeqCst);
             }
         } else if ran > 0 {
@@ -106,7 +109,8 @@ impl Gate for HeldLoad {
 /// Process 0 waits once it has stored to each of its pages, and process 1 after its first slice, until a page of process 0 is about to be
 /// saved; and that save waits until process 1 has both brought a page in and run.
 #[derive(Drop)]
-struct HeldSave {
+struct HeldSave<'a> {
+    rt: &'a HostRuntime,
     /// How many instructions process 0 has run.
     steps: AtomicU64,
     /// Above 0 once process 0 has stored to each of its pages, once it is about to save, once the first slice of process 1 is over, once it has
@@ -119,22 +123,22 @@ struct HeldSave {
     missed: AtomicU64,
 }
 
-impl HeldSave {
+impl HeldSave<'_> {
     /// Waits, where `own` was not set before, until a save has begun.
     fn wait_for_save(&self, own: &AtomicU64) {
         if is_first(own) {
-            if !is_seen(&self.saves) {
+            if !is_seen(self.rt, &self.saves) {
                 self.missed.store(1, Ordering::SeqCst);
             }
         }
     }
 }
 
-impl Gate for HeldSave {
+impl Gate for HeldSave<'_> {
     fn before_save(&self, key: Key) {
         if key.process == 0 {
             if is_first(&self.saves) {
-                if !is_seen(&self.ran) {
+                if !is_seen(self.rt, &self.ran) {
                     self.missed.store(1, Ordering::SeqCst);
                 }
             }
@@ -167,6 +171,7 @@ impl Gate for HeldSave {
 fn two_processes_run_at_the_same_time(rt: HostRuntime) -> Result<(), Fail> {
     let alloc = rt.alloc();
     let gate = Meeting {
+        rt: &rt,
         zero: AtomicU64::new(0),
         one: AtomicU64::new(0),
         missed: AtomicU64::new(0),
@@ -194,6 +199,7 @@ fn two_processes_run_at_the_same_time(rt: HostRuntime) -> Result<(), Fail> {
 fn a_process_runs_while_another_loads(rt: HostRuntime) -> Result<(), Fail> {
     let alloc = rt.alloc();
     let gate = HeldLoad {
+        rt: &rt,
         loads: AtomicU64::new(0),
         held: AtomicU64::new(0),
         ran: AtomicU64::new(0),
@@ -225,6 +231,7 @@ fn a_process_runs_while_another_loads(rt: HostRuntime) -> Result<(), Fail> {
 fn a_process_runs_while_a_page_of_another_is_saved(rt: HostRuntime) -> Result<(), Fail> {
     let alloc = rt.alloc();
     let gate = HeldSave {
+        rt: &rt,
         steps: AtomicU64::new(0),
         stored: AtomicU64::new(0),
         saves: AtomicU64::new(0),

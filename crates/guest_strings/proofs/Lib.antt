@@ -1,6 +1,7 @@
 pub mod Places
 pub mod Staying
 pub mod Joining
+pub mod Keeping
 pub mod SliceSteps
 pub mod AccessPages
 pub mod CallPages

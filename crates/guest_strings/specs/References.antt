@@ -1,5 +1,5 @@
 -- Strings of references: the pages that steps of guests use, in order.
-use Rattle.std.specs.Prelude.{ℕ, ◌/◌, ◌%◌, ◌==◌, ◌&&◌, ◌||◌, Bool, cond, List, [], ◌∷◌, ◌++◌, map, Option, Some, None, unwrap_or, slice_get, slice_set}
+use Rattle.std.specs.Prelude.{ℕ, ◌/◌, ◌%◌, ◌==◌, ◌&&◌, ◌||◌, Bool, false, cond, List, [], ◌∷◌, ◌++◌, map, take, drop, Option, Some, None, unwrap_or, slice_get, slice_set}
 use Rattle.std.specs.List.{list_any}
 use Rattle.clock_policy.specs.declared.key.Key.{Key}
 use Rattle.page_memory.specs.Memory.{Memory}
@@ -7,6 +7,8 @@ use Rattle.rv_exec.specs.Registers.{Registers}
 use Rattle.env_calls.specs.Environment.{most_harts}
 use Rattle.env_calls.specs.Step.{step_pages, step_stores}
 use Rattle.flat_machine.specs.Process.{Process, hart_registers, flat_step}
+use Rattle.guest_strings.specs.declared.access_kinds.AccessKinds.{AccessKinds}
+use Rattle.guest_strings.specs.declared.access_kinds.AccessKinds.TheVariants.{All, Instructions, Data}
 use Rattle.guest_strings.specs.declared.reference.Reference.{Reference}
 
 -- ---- one step
@@ -23,6 +25,16 @@ step_references number hart memory (Some registers) = map (referred number (step
 -- what the next step of a hart refers to
 abbrev pub references_of : ℕ → ℕ → Process → List Reference
 references_of number hart process = step_references number hart process.memory (hart_registers hart process)
+
+-- a fetch writes nothing, also where its page is that of a store
+abbrev pub of_fetch : Reference → Reference
+of_fetch reference = record { page = reference.page; is_written = false }
+
+-- what is kept of what a step refers to: all of it, the page of its instruction alone, which is the first, or that of its data alone
+abbrev pub kept : AccessKinds → List Reference → List Reference
+kept All references = references
+kept Instructions references = map of_fetch (take 1 references)
+kept Data references = drop 1 references
 
 -- the process after that step, or as it is where the hart may not step
 abbrev pub after_step : ℕ → Process → Process
@@ -54,10 +66,10 @@ moved place processes = moved_in place processes (slice_get processes (process_o
 
 -- ---- many steps
 
--- what the steps of these places' harts refer to, one step after another
-unfoldable pub used : List ℕ → List Process → List Reference
-used [] processes = []
-used (place ∷ places) processes = references_at place processes ++ used places (moved place processes)
+-- what is kept of what the steps of these places' harts refer to, one step after another
+unfoldable pub used : AccessKinds → List ℕ → List Process → List Reference
+used accesses [] processes = []
+used accesses (place ∷ places) processes = kept accesses (references_at place processes) ++ used accesses places (moved place processes)
 
 abbrev pub is_same_page : Key → Key → Bool
 is_same_page p q = (p.process == q.process) && (p.vpn == q.vpn)

@@ -7,6 +7,7 @@ use Rattle.env_calls.specs.Environment.{most_harts}
 use Rattle.machine_limits.specs.Limits.{most_processes}
 use Rattle.flat_machine.specs.Process.{Process, hart_registers, may_step}
 use Rattle.guest_strings.specs.Yields.{step_yields}
+use Rattle.guest_strings.specs.declared.access_kinds.AccessKinds.{AccessKinds}
 use Rattle.guest_strings.specs.declared.turns.Turn.{Turn}
 use Rattle.guest_strings.specs.declared.reference.Reference.{Reference}
 use Rattle.guest_strings.specs.References.{process_of, hart_of, moved, used, joined}
@@ -79,6 +80,6 @@ by_slices slice (suc count) None processes = []
 by_slices slice (suc count) (Some turn) processes =
     turn.place ∷ by_slices slice count (turn_after slice (yields_at turn.place processes) turn (moved turn.place processes)) (moved turn.place processes)
 
--- the string of references of processes by slices of so many instructions, of up to so many instructions in all
-unfoldable pub guest_string : ℕ → ℕ → List Process → List Reference
-guest_string slice limit processes = joined (used (by_slices slice limit (first_turn slice processes) processes) processes)
+-- the string of references of processes, of those that are kept, by slices of so many instructions, of up to so many instructions in all
+unfoldable pub guest_string : AccessKinds → ℕ → ℕ → List Process → List Reference
+guest_string accesses slice limit processes = joined (used accesses (by_slices slice limit (first_turn slice processes) processes) processes)

@@ -22,7 +22,7 @@ told_by (Some step) = told step
 
 -- what the instructions refer to that still run
 abbrev pub uses_to_come : Round → List Reference
-uses_to_come round = used (by_slices round.slice round.left round.turn round.processes.items) round.processes.items
+uses_to_come round = used round.accesses (by_slices round.slice round.left round.turn round.processes.items) round.processes.items
 
 -- and what the last of them refers to that is not yet taken
 abbrev pub all_uses : Uses → List Reference

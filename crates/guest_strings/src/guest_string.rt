@@ -7,6 +7,7 @@ ghost use Rattle.guest_strings.specs.Slices.{guest_string};
 ghost use Rattle.guest_strings.specs.ToCome.{all_uses, listed, to_come};
 ghost use Rattle.guest_strings.specs.Wanting.{StringWants};
 
+use crate::access_kinds::AccessKinds;
 use crate::reference::Reference;
 use crate::round::Round;
 use crate::uses::Uses;
@@ -23,14 +24,14 @@ pub struct GuestString {
 }
 
 impl GuestString {
-    /// The string of processes by slices of so many instructions, of up to so many instructions in all.
+    /// The string of processes, of the references that are kept, by slices of so many instructions, of up to so many instructions in all.
     #[tactic(auto, unfolding(crate::specs::Slices::guest_string))]
-    pub fn new(processes: Vec<FlatProcess>, slice: u32, limit: u64) -> Self
+    pub fn new(processes: Vec<FlatProcess>, accesses: AccessKinds, slice: u32, limit: u64) -> Self
         requires { length processes.items ≤ MOST_PROCESSES }
-        ensures string { to_come result ≡ guest_string slice limit processes.items }
+        ensures string { to_come result ≡ guest_string accesses slice limit processes.items }
     {
         GuestString {
-            uses: Uses::new(Round::new(processes, slice, limit)),
+            uses: Uses::new(Round::new(processes, accesses, slice, limit)),
             held: None,
         }
     }

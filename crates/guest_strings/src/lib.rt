@@ -3,6 +3,7 @@
 //! Live processes get slices by rising number, and in each its live harts by rising number.
 #![tactic(auto)]
 
+mod access_kinds;
 mod accesses;
 mod calls;
 mod guest_string;
@@ -16,6 +17,7 @@ mod stepping;
 mod turns;
 mod uses;
 
+pub use access_kinds::AccessKinds;
 pub use guest_string::GuestString;
 pub use reference::Reference;
 pub use step_pages::{PageUse, StepPages, step_pages_of};

@@ -6,6 +6,7 @@ ghost use Rattle.guest_strings.specs.Slices.{by_slices, first_turn};
 ghost use Rattle.guest_strings.specs.ToCome.{told_by, uses_to_come};
 ghost use Rattle.guest_strings.specs.Wanting.{RoundWants};
 
+use crate::access_kinds::AccessKinds;
 use crate::round::Round;
 use crate::step_use::StepUse;
 use crate::stepping::step_at;
@@ -15,21 +16,27 @@ use machine_limits::MOST_PROCESSES;
 use std::alloc::AllocError;
 
 impl Round {
-    pub(crate) fn new(processes: Vec<FlatProcess>, slice: u32, limit: u64) -> Self
+    pub(crate) fn new(
+        processes: Vec<FlatProcess>,
+        accesses: AccessKinds,
+        slice: u32,
+        limit: u64,
+    ) -> Self
         requires { length processes.items ≤ MOST_PROCESSES }
-        ensures { uses_to_come result ≡ used (by_slices slice limit
+        ensures { uses_to_come result ≡ used accesses (by_slices slice limit
             (first_turn slice processes.items) processes.items) processes.items }
     {
         let turn = first_turn(processes.as_slice(), slice);
         Round {
             processes,
             turn,
+            accesses,
             slice,
             left: limit,
         }
     }
 
-    /// Runs the next instruction, and tells what it refers to. There is none once no hart may step, or as many have run as may.
+    /// Runs the next instruction, and tells what is kept of what it refers to. There is none once no hart may step, or as many have run as may.
     pub(crate) fn step(&mut self) -> Result<Option<StepUse>, AllocError>
         ensures told { IfOk result (λ step. uses_to_come self.old ≡ told_by step ++
             uses_to_come self.new) }
@@ -44,7 +51,7 @@ impl Round {
         if self.left == 0 {
             return Ok(None);
         }
-        let step = step_at(self.processes.as_mut_slice(), turn.place)?;
+        let step = step_at(self.processes.as_mut_slice(), self.accesses, turn.place)?;
         self.left -= 1;
         self.turn = turn_after(self.processes.as_slice(), self.slice, step.yields, turn);
         Ok(Some(step))

@@ -1,5 +1,5 @@
 //! The pages of one step.
-ghost use Rattle.std.specs.Prelude.{◌≡◌, ℕ, [], Some, is_some, IfSome};
+ghost use Rattle.std.specs.Prelude.{◌≡◌, ℕ, [], None, Some, is_some, IfSome};
 ghost use Rattle.page_memory.specs.Memory.{fetched};
 ghost use Rattle.rv_exec.specs.Registers.{Registers};
 ghost use Rattle.env_calls.specs.Step.{step_pages, step_stores};
@@ -40,6 +40,7 @@ pub fn step_pages_of(process: &mut FlatProcess, hart: u32) -> Option<StepPages>
         → hart_registers hart process.old ≡ Some registers → stores_told told ≡ step_stores hart registers process.old.memory) }
     ensures yields { IfSome result (λ told. (registers : Registers)
         → hart_registers hart process.old ≡ Some registers → told.yields ≡ step_yields hart registers process.old.memory) }
+    ensures behind { IfSome result (λ told. told.fetched ≡ None → told.data ≡ None) }
     ensures started { is_some result ≡ is_some (hart_registers hart process.old) }
     ensures same { process.new ≡ process.old }
 {
@@ -54,6 +55,7 @@ fn pages_at(regs: &Regs, memory: &FlatMemory, word: Result<u32, MemoryFault>) ->
     ensures pages { (hart : ℕ) → pages_told result ≡ step_pages hart regs.now memory.now }
     ensures stores { (hart : ℕ) → stores_told result ≡ step_stores hart regs.now memory.now }
     ensures yields { (hart : ℕ) → result.yields ≡ step_yields hart regs.now memory.now }
+    ensures behind { result.fetched ≡ None → result.data ≡ None }
 {
     match word {
         Ok(word) => {

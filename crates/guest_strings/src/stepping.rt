@@ -2,12 +2,13 @@
 
 ghost use Rattle.std.specs.Prelude.{◌≡◌, ◌<◌, ◌≤◌, length, map, IfOk, OnOk, OnErr, Some, None};
 ghost use Rattle.flat_machine.specs.Refusals.{WantsMemory};
-ghost use Rattle.guest_strings.specs.References.{after_step, moved, references_at, references_of, referred};
+ghost use Rattle.guest_strings.specs.References.{after_step, kept, moved, references_at, references_of, referred};
 ghost use Rattle.guest_strings.specs.Slices.{yields, yields_at};
 ghost use Rattle.guest_strings.specs.ToCome.{told};
 ghost use Rattle.guest_strings.specs.Told.{pages_told, stored_page, stores_told};
 ghost use Rattle.guest_strings.specs.Wanting.{WantsAtPlace};
 
+use crate::access_kinds::AccessKinds;
 use crate::reference::Reference;
 use crate::step_pages::{PageUse, StepPages, step_pages_of};
 use crate::step_use::StepUse;
@@ -23,10 +24,16 @@ const NO_USE: StepUse = StepUse {
     yields: false,
 };
 
-/// Runs the next instruction of a place's hart, where it may step. Where memory is wanting, nothing has changed.
-pub(crate) fn step_at(processes: &mut [FlatProcess], place: usize) -> Result<StepUse, AllocError>
+/// Runs the next instruction of a place's hart, where it may step, and tells what is kept of what it refers to. Where memory is
+/// wanting, nothing has changed.
+#[tactic(auto, using(crate::proofs::Keeping::kept_none))]
+pub(crate) fn step_at(
+    processes: &mut [FlatProcess],
+    accesses: AccessKinds,
+    place: usize,
+) -> Result<StepUse, AllocError>
     requires few { length processes.old ≤ MOST_PROCESSES }
-    ensures used { IfOk result (λ step. told step ≡ references_at place processes.old) }
+    ensures used { IfOk result (λ step. told step ≡ kept accesses (references_at place processes.old)) }
     ensures yields { IfOk result (λ step. step.yields ≡ yields_at place processes.old) }
     ensures moved { OnOk result (processes.new ≡ moved place processes.old) }
     ensures wants { OnErr result (WantsAtPlace place processes.old) }
@@ -38,14 +45,22 @@ pub(crate) fn step_at(processes: &mut [FlatProcess], place: usize) -> Result<Ste
     }
     step_of(
         &mut processes[number],
+        accesses,
         number as u32,
         (place % MOST_HARTS) as u32,
     )
 }
 
 /// Runs the next instruction of a hart of a process by its number, where it may step.
-fn step_of(process: &mut FlatProcess, number: u32, hart: u32) -> Result<StepUse, AllocError>
-    ensures used { IfOk result (λ step. told step ≡ references_of number hart process.old) }
+#[tactic(auto, using(crate::proofs::Keeping::kept_none))]
+fn step_of(
+    process: &mut FlatProcess,
+    accesses: AccessKinds,
+    number: u32,
+    hart: u32,
+) -> Result<StepUse, AllocError>
+    ensures used { IfOk result (λ step. told step ≡
+        kept accesses (references_of number hart process.old)) }
     ensures yields { IfOk result (λ step. step.yields ≡ yields hart process.old) }
     ensures moved { OnOk result (process.new ≡ after_step hart process.old) }
     ensures wants { OnErr result (WantsMemory hart process.old) }
@@ -55,7 +70,7 @@ fn step_of(process: &mut FlatProcess, number: u32, hart: u32) -> Result<StepUse,
         return Ok(NO_USE);
     };
     step(process, hart)?;
-    Ok(use_of(number, pages))
+    Ok(use_of(number, pages).kept(accesses))
 }
 
 /// Runs the next instruction of a hart, where it may step.
@@ -74,8 +89,10 @@ fn step(process: &mut FlatProcess, hart: u32) -> Result<(), AllocError>
 
 /// The references of a step in a process, by the pages that it uses.
 fn use_of(number: u32, pages: StepPages) -> StepUse
+    requires behind { pages.fetched ≡ None → pages.data ≡ None }
     ensures used { told result ≡ map (referred number (stores_told pages)) (pages_told pages) }
     ensures yields { result.yields ≡ pages.yields }
+    ensures behind { result.fetched ≡ None → result.data ≡ None }
 {
     let data = match pages.data {
         Some(data) => Some(reference(number, data.page, pages.data)),

@@ -18,7 +18,7 @@ use Rattle.serial_driver.specs.Closing.{is_limit_kill}
 use Rattle.serial_driver.specs.Endings.{HasEnded}
 use Rattle.serial_driver.specs.Limit.{ComeInTurn, PlaysOn, PlaysWith}
 use Rattle.serial_driver.specs.Nexts.{is_step, IsNext}
-use Rattle.serial_driver.specs.Owing.{Duty, Pays, ArePaid, collect_owes, duty_after, duty_with, is_absent, is_damaged, is_device, is_dirty, is_ending, is_full, is_mapped, is_no_memory, is_out_of_memory, load_owes, most_load_faults, next_owed, save_owes, step_owes}
+use Rattle.serial_driver.specs.Owing.{Duty, Pays, ArePaid, collect_owes, duty_after, duty_with, is_absent, is_damaged, is_device, is_dirty, is_only_owed, is_full, is_mapped, is_no_memory, is_out_of_memory, load_owes, most_load_faults, next_owed, save_owes, step_owes}
 use Rattle.serial_driver.specs.Patience.{IsPatient, is_served, spent_after, spent_with, tried_after, tried_with}
 use Rattle.serial_driver.specs.Serving.{is_giving_up, is_paging, owes_pages, GivesUpFor, GivesUpFrom, GoesTooFar, IsServing, Lasts, Proceeds}
 use Rattle.serial_driver.specs.Serving.GivesUpFor.{ends, over, refuses}
@@ -33,12 +33,12 @@ use Rattle.serial_driver.proofs.Tried.{after_on, spent_on}
 
 -- ---- whose turn it is
 
-module _ {S : Type 0} (core : CoreValue S) (process hart : ℕ) where
+module _ {S : Type 0} (honest : Type 0) (core : CoreValue S) (process hart : ℕ) where
   -- only the hart that is served may run
-  pub own_step : (turn : Turn) (p h : ℕ) → IsServing process hart turn → IsInTurn core turn (Step p h) → (p ≡ process) × (h ≡ hart)
+  pub own_step : (turn : Turn) (p h : ℕ) → IsServing process hart turn → IsInTurn honest core turn (Step p h) → (p ≡ process) × (h ≡ hart)
   own_step turn p h serving may = by turn.phase serving.lasts may
     where
-      by : (phase : Phase) → Lasts phase → MayStep core phase turn p h → (p ≡ process) × (h ≡ hart)
+      by : (phase : Phase) → Lasts phase → MayStep honest core phase turn p h → (p ≡ process) × (h ≡ hart)
       by (Begins last) lasts may = absurd lasts
       by RunsOn lasts may = (may.0 ∙ serving.process_is, may.1 ∙ serving.hart_is)
       by Rests lasts may = absurd lasts
@@ -66,7 +66,7 @@ module _ {S : Type 0} (core : CoreValue S) (process hart : ℕ) where
   paged_on turn true serving = record { process_is = serving.process_is; hart_is = serving.hart_is; lasts = tt {0} }
   paged_on turn false serving = waits_on turn serving
 
-  paging_serves : (event : Event) (answer : Reply) (duty : Duty) → is_paging event ≡ true → IsInTurn core duty.turn event → IsServing process hart duty.turn → IsServing process hart (duty_with event answer duty).turn
+  paging_serves : (event : Event) (answer : Reply) (duty : Duty) → is_paging event ≡ true → IsInTurn honest core duty.turn event → IsServing process hart duty.turn → IsServing process hart (duty_with event answer duty).turn
   paging_serves (Notice p h) answer duty paging turn serving = noticed_on duty.turn duty.turn.phase p h serving.lasts turn serving
   paging_serves Sweep answer duty paging turn serving = swept_on duty.turn answer serving
   paging_serves (Collect key) answer duty paging turn serving = waits_on duty.turn serving
@@ -123,37 +123,37 @@ step_purges process (reply.Refused why) ran full out absent = ap (λ (b : Bool).
 step_purges process _ ran full out absent = refl
 
 -- an event that comes next and brings no page in ends a process for a page, or has one give back what it has
-ending_gives : {S : Type 0} (core : CoreValue S) (turn : Turn) (event : Event) → is_paging event ≡ false → is_step event ≡ false → IsInTurn core turn event → owes_pages (Some event) ≡ true → is_giving_up event ≡ true
-ending_gives core turn (Step p h) paging step in_turn pages = cc
-ending_gives core turn (Notice p h) paging step in_turn pages = cc
-ending_gives core turn Sweep paging step in_turn pages = cc
-ending_gives core turn (Collect key) paging step in_turn pages = cc
-ending_gives core turn (Saved key) paging step in_turn pages = cc
-ending_gives core turn (PageIn key) paging step in_turn pages = cc
-ending_gives core turn (Kill p why) paging step in_turn pages = pages
-ending_gives core turn (Purge p) paging step in_turn pages = refl
-ending_gives core turn (Clean key) paging step in_turn pages = absurd in_turn
-ending_gives core turn (Copy key) paging step in_turn pages = absurd in_turn
-ending_gives core turn (Cleaned key) paging step in_turn pages = absurd in_turn
+ending_gives : {S : Type 0} (honest : Type 0) (core : CoreValue S) (turn : Turn) (event : Event) → is_paging event ≡ false → is_step event ≡ false → IsInTurn honest core turn event → owes_pages (Some event) ≡ true → is_giving_up event ≡ true
+ending_gives honest core turn (Step p h) paging step in_turn pages = cc
+ending_gives honest core turn (Notice p h) paging step in_turn pages = cc
+ending_gives honest core turn Sweep paging step in_turn pages = cc
+ending_gives honest core turn (Collect key) paging step in_turn pages = cc
+ending_gives honest core turn (Saved key) paging step in_turn pages = cc
+ending_gives honest core turn (PageIn key) paging step in_turn pages = cc
+ending_gives honest core turn (Kill p why) paging step in_turn pages = pages
+ending_gives honest core turn (Purge p) paging step in_turn pages = refl
+ending_gives honest core turn (Clean key) paging step in_turn pages = absurd in_turn
+ending_gives honest core turn (Copy key) paging step in_turn pages = absurd in_turn
+ending_gives honest core turn (Cleaned key) paging step in_turn pages = absurd in_turn
 
-no_other : {S : Type 0} (core : CoreValue S) (turn : Turn) (event : Event) → is_paging event ≡ false → is_step event ≡ false → IsInTurn core turn event → is_ending event ≡ false → ⊥
-no_other core turn (Step p h) paging step in_turn ending = cc
-no_other core turn (Notice p h) paging step in_turn ending = cc
-no_other core turn Sweep paging step in_turn ending = cc
-no_other core turn (Collect key) paging step in_turn ending = cc
-no_other core turn (Saved key) paging step in_turn ending = cc
-no_other core turn (PageIn key) paging step in_turn ending = cc
-no_other core turn (Kill p why) paging step in_turn ending = cc
-no_other core turn (Purge p) paging step in_turn ending = cc
-no_other core turn (Clean key) paging step in_turn ending = absurd in_turn
-no_other core turn (Copy key) paging step in_turn ending = absurd in_turn
-no_other core turn (Cleaned key) paging step in_turn ending = absurd in_turn
+no_other : {S : Type 0} (honest : Type 0) (core : CoreValue S) (turn : Turn) (event : Event) → is_paging event ≡ false → is_step event ≡ false → IsInTurn honest core turn event → is_only_owed event ≡ false → ⊥
+no_other honest core turn (Step p h) paging step in_turn ending = cc
+no_other honest core turn (Notice p h) paging step in_turn ending = cc
+no_other honest core turn Sweep paging step in_turn ending = cc
+no_other honest core turn (Collect key) paging step in_turn ending = cc
+no_other honest core turn (Saved key) paging step in_turn ending = cc
+no_other honest core turn (PageIn key) paging step in_turn ending = cc
+no_other honest core turn (Kill p why) paging step in_turn ending = cc
+no_other honest core turn (Purge p) paging step in_turn ending = cc
+no_other honest core turn (Clean key) paging step in_turn ending = absurd in_turn
+no_other honest core turn (Copy key) paging step in_turn ending = absurd in_turn
+no_other honest core turn (Cleaned key) paging step in_turn ending = absurd in_turn
 
-next_gives : {S : Type 0} (core : CoreValue S) (owed : Option Event) (spent : Option ℕ) (turn : Turn) (event : Event) → owes_pages owed ≡ true → is_paging event ≡ false → is_step event ≡ false → Pays (next_owed owed spent) event → IsInTurn core turn event
+next_gives : {S : Type 0} (honest : Type 0) (core : CoreValue S) (owed : Option Event) (spent : Option ℕ) (turn : Turn) (event : Event) → owes_pages owed ≡ true → is_paging event ≡ false → is_step event ≡ false → Pays (next_owed owed spent) event → IsInTurn honest core turn event
     → (next_owed owed spent ≡ Some event) × (is_giving_up event ≡ true)
-next_gives core None None turn event pages paging step pays in_turn = absurd (no_other core turn event paging step in_turn pays)
-next_gives core None (Some process) turn event pages paging step pays in_turn = (ap Some (sym pays), ap is_giving_up pays)
-next_gives core (Some owed) spent turn event pages paging step pays in_turn = (ap Some (sym pays), ending_gives core turn event paging step in_turn (ap (λ e. owes_pages (Some e)) pays ∙ pages))
+next_gives honest core None None turn event pages paging step pays in_turn = absurd (no_other honest core turn event paging step in_turn pays)
+next_gives honest core None (Some process) turn event pages paging step pays in_turn = (ap Some (sym pays), ap is_giving_up pays)
+next_gives honest core (Some owed) spent turn event pages paging step pays in_turn = (ap Some (sym pays), ending_gives honest core turn event paging step in_turn (ap (λ e. owes_pages (Some e)) pays ∙ pages))
 
 refused_why : (answer : Reply) → is_out_of_memory answer ≡ false → is_served answer ≡ false → (why : EventRefusal) × ((answer ≡ reply.Refused why) × (why ≢ refusal.NoMemory))
 refused_why (reply.Refused why) out unserved = (why, (refl, λ is. let e = ap is_no_memory is in cc))
@@ -182,7 +182,7 @@ module _ {S : Type 0} (held : S → List ℕ) (honest : Type 0) (failures : S �
   }
 
   pub gives_one : (tried : ℕ → ℕ) (duty : Duty) (spent : Option ℕ) (old new : CoreValue S) (event : Event) (answer : Reply) → Applies held honest failures event old new answer → is_limit_kill event ≡ false
-      → Pays (next_owed duty.owed spent) event → IsInTurn old duty.turn event → GivesUpFor held honest failures (duty_with event answer duty) (spent_with most tried event answer) (answer ∷ []) new
+      → Pays (next_owed duty.owed spent) event → IsInTurn honest old duty.turn event → GivesUpFor held honest failures (duty_with event answer duty) (spent_with most tried event answer) (answer ∷ []) new
       → GivesUpFrom held honest failures most tried duty spent old new
   unfolding ArePaid duty_after spent_after
   gives_one tried duty spent old new event answer applies unlimited pays in_turn why = record {
@@ -238,7 +238,7 @@ module _ {S : Type 0} (held : S → List ℕ) (honest : Type 0) (failures : S �
   -- one event, behind which the instruction is served on
   pub proceeds_on : (process hart : ℕ) (tried : ℕ → ℕ) (duty left : Duty) (spent : Option ℕ) (old new : CoreValue S) (patience : Patience) (event : Event) (answer : Reply) → Applies held honest failures event old new answer
       → is_limit_kill event ≡ false → IsPatient most (λ number. tried_with number event answer (tried number)) patience → patience.spent ≡ spent_with most tried event answer
-      → Pays (next_owed duty.owed spent) event → IsInTurn old duty.turn event → left ≡ duty_with event answer duty
+      → Pays (next_owed duty.owed spent) event → IsInTurn honest old duty.turn event → left ≡ duty_with event answer duty
       → IsServing process hart (duty_with event answer duty).turn → owes_pages (duty_with event answer duty).owed ≡ true → Proceeds held honest failures process hart None most tried duty spent old new patience left
   proceeds_on process hart tried duty left spent old new patience event answer applies unlimited patient spends pays in_turn owes serving pages = (
     plays_one held honest failures most tried duty left spent old new patience event answer applies unlimited patient spends pays in_turn owes,
@@ -248,13 +248,13 @@ module _ {S : Type 0} (held : S → List ℕ) (honest : Type 0) (failures : S �
   -- a step that is answered with a page, or otherwise
   pub step_on : (process hart : ℕ) (tried : ℕ → ℕ) (duty left : Duty) (spent : Option ℕ) (old new : CoreValue S) (patience : Patience) (answer : Reply) → Applies held honest failures (Step process hart) old new answer
       → IsPatient most (λ number. tried_with number (Step process hart) answer (tried number)) patience → patience.spent ≡ spent_with most tried (Step process hart) answer
-      → Pays (next_owed duty.owed spent) (Step process hart) → IsInTurn old duty.turn (Step process hart) → left ≡ duty_with (Step process hart) answer duty → is_absent answer ≡ true
+      → Pays (next_owed duty.owed spent) (Step process hart) → IsInTurn honest old duty.turn (Step process hart) → left ≡ duty_with (Step process hart) answer duty → is_absent answer ≡ true
       → Proceeds held honest failures process hart None most tried duty spent old new patience left
   step_on process hart tried duty left spent old new patience answer applies patient spends pays in_turn owes absent =
-      proceeds_on process hart tried duty left spent old new patience (Step process hart) answer applies refl patient spends pays in_turn owes (absent_serves old process hart answer duty absent) (absent_pages process answer absent)
+      proceeds_on process hart tried duty left spent old new patience (Step process hart) answer applies refl patient spends pays in_turn owes (absent_serves honest old process hart answer duty absent) (absent_pages process answer absent)
 
   pub step_gives_up : (process hart : ℕ) (tried : ℕ → ℕ) (duty : Duty) (spent : Option ℕ) (old new : CoreValue S) (answer : Reply) → Applies held honest failures (Step process hart) old new answer
-      → Pays (next_owed duty.owed spent) (Step process hart) → IsInTurn old duty.turn (Step process hart)
+      → Pays (next_owed duty.owed spent) (Step process hart) → IsInTurn honest old duty.turn (Step process hart)
       → has_run answer ≡ false → is_full answer ≡ false → is_out_of_memory answer ≡ false → is_absent answer ≡ false → GivesUpFrom held honest failures most tried duty spent old new
   step_gives_up process hart tried duty spent old new answer applies pays in_turn ran full out absent =
       gives_one tried duty spent old new (Step process hart) answer applies refl pays in_turn
@@ -263,40 +263,40 @@ module _ {S : Type 0} (held : S → List ℕ) (honest : Type 0) (failures : S �
   -- an event that brings pages in
   pub paging_on : (process hart : ℕ) (tried : ℕ → ℕ) (duty left : Duty) (spent : Option ℕ) (old new : CoreValue S) (patience : Patience) (event : Event) (answer : Reply) → Applies held honest failures event old new answer
       → is_limit_kill event ≡ false → IsPatient most (λ number. tried_with number event answer (tried number)) patience → patience.spent ≡ spent_with most tried event answer
-      → Pays (next_owed duty.owed spent) event → IsInTurn old duty.turn event → left ≡ duty_with event answer duty
+      → Pays (next_owed duty.owed spent) event → IsInTurn honest old duty.turn event → left ≡ duty_with event answer duty
       → is_paging event ≡ true → IsServing process hart duty.turn → is_out_of_memory answer ≡ false → Proceeds held honest failures process hart None most tried duty spent old new patience left
   paging_on process hart tried duty left spent old new patience event answer applies unlimited patient spends pays in_turn owes paging serving out =
-      proceeds_on process hart tried duty left spent old new patience event answer applies unlimited patient spends pays in_turn owes (paging_serves old process hart event answer duty paging in_turn serving) (paging_pages event answer duty paging out)
+      proceeds_on process hart tried duty left spent old new patience event answer applies unlimited patient spends pays in_turn owes (paging_serves honest old process hart event answer duty paging in_turn serving) (paging_pages event answer duty paging out)
 
   pub refused_gives_up : (tried : ℕ → ℕ) (duty : Duty) (spent : Option ℕ) (old new : CoreValue S) (event : Event) (answer : Reply) → Applies held honest failures event old new answer → is_limit_kill event ≡ false
-      → Pays (next_owed duty.owed spent) event → IsInTurn old duty.turn event → is_out_of_memory answer ≡ false → is_served answer ≡ false → GivesUpFrom held honest failures most tried duty spent old new
+      → Pays (next_owed duty.owed spent) event → IsInTurn honest old duty.turn event → is_out_of_memory answer ≡ false → is_served answer ≡ false → GivesUpFrom held honest failures most tried duty spent old new
   refused_gives_up tried duty spent old new event answer applies unlimited pays in_turn out unserved =
       let why = refused_why answer out unserved in
       gives_one tried duty spent old new event answer applies unlimited pays in_turn (refuses [] why.0 (ap (λ (r : Reply). r ∷ []) why.1.0) why.1.1)
 
   -- what comes next brings no page in
   pub ending_gives_up : (tried : ℕ → ℕ) (duty : Duty) (spent : Option ℕ) (core : CoreValue S) (event : Event) → owes_pages duty.owed ≡ true → is_paging event ≡ false → is_step event ≡ false
-      → Pays (next_owed duty.owed spent) event → IsInTurn core duty.turn event → GivesUpFrom held honest failures most tried duty spent core core
+      → Pays (next_owed duty.owed spent) event → IsInTurn honest core duty.turn event → GivesUpFrom held honest failures most tried duty spent core core
   ending_gives_up tried duty spent core event pages paging step pays in_turn =
-      let next = next_gives core duty.owed spent duty.turn event pages paging step pays in_turn in gives_none tried duty spent core (ends event next.0 next.1)
+      let next = next_gives honest core duty.owed spent duty.turn event pages paging step pays in_turn in gives_none tried duty spent core (ends event next.0 next.1)
 
   pub over_gives_up : (tried : ℕ → ℕ) (duty : Duty) (spent : Option ℕ) (core : CoreValue S) → ((number : ℕ) → HasEnded core number) → GivesUpFrom held honest failures most tried duty spent core core
   over_gives_up tried duty spent core ended = gives_none tried duty spent core (over ended)
 
 -- ---- what may come next
 
-pub step_may : {S : Type 0} (core : CoreValue S) (process hart allowed : ℕ) (spent : Option ℕ) (duty : Duty) (next : Next) (p h most : ℕ) → next ≡ Steps p h most → IsNext core allowed spent duty next → IsServing process hart duty.turn
-    → Pays (next_owed duty.owed spent) (Step process hart) × IsInTurn core duty.turn (Step process hart)
-step_may core process hart allowed spent duty next p h most is may serving =
-    let steps = subst (IsNext core allowed spent duty) is may in
-    let own = own_step core process hart duty.turn p h serving steps.1.1.1 in (
+pub step_may : {S : Type 0} (honest : Type 0) (core : CoreValue S) (process hart allowed : ℕ) (spent : Option ℕ) (duty : Duty) (next : Next) (p h most : ℕ) → next ≡ Steps p h most → IsNext honest core allowed spent duty next → IsServing process hart duty.turn
+    → Pays (next_owed duty.owed spent) (Step process hart) × IsInTurn honest core duty.turn (Step process hart)
+step_may honest core process hart allowed spent duty next p h most is may serving =
+    let steps = subst (IsNext honest core allowed spent duty) is may in
+    let own = own_step honest core process hart duty.turn p h serving steps.1.1.1 in (
       subst (λ (e : Event). Pays (next_owed duty.owed spent) e) (same_step p h process hart own.0 own.1) steps.1.1.0,
-      subst (λ (e : Event). IsInTurn core duty.turn e) (same_step p h process hart own.0 own.1) steps.1.1.1,
+      subst (λ (e : Event). IsInTurn honest core duty.turn e) (same_step p h process hart own.0 own.1) steps.1.1.1,
     )
   where
     same_step : (p h process hart : ℕ) → p ≡ process → h ≡ hart → Step p h ≡ Step process hart
     same_step p h process hart a b = ap (λ n. Step n h) a ∙ ap (Step process) b
 
-pub event_may : {S : Type 0} (core : CoreValue S) (allowed : ℕ) (spent : Option ℕ) (duty : Duty) (next : Next) (event : Event) → next ≡ Alone event → IsNext core allowed spent duty next
-    → (is_limit_kill event ≡ false) × Pays (next_owed duty.owed spent) event × IsInTurn core duty.turn event
-event_may core allowed spent duty next event is may = let alone = subst (IsNext core allowed spent duty) is may in alone.1.1
+pub event_may : {S : Type 0} (honest : Type 0) (core : CoreValue S) (allowed : ℕ) (spent : Option ℕ) (duty : Duty) (next : Next) (event : Event) → next ≡ Alone event → IsNext honest core allowed spent duty next
+    → (is_limit_kill event ≡ false) × Pays (next_owed duty.owed spent) event × IsInTurn honest core duty.turn event
+event_may honest core allowed spent duty next event is may = let alone = subst (IsNext honest core allowed spent duty) is may in alone.1.1

@@ -19,17 +19,17 @@ most_left most left few two = grind (arith, few, two)
 next_few : (count left : ℕ) → suc (suc count) ≤ max left 1 → suc count ≤ max (left - 1) 1
 next_few count left few = let most = most_left (suc (suc count)) left few (omega arith) in omega (arith, most)
 
-module _ {S : Type 0} where
+module _ {S : Type 0} (honest : Type 0) where
   -- with more than one instruction left of its slice a hart runs on
-  runs_on : (core : CoreValue S) (process hart slice left : ℕ) → 1 ≤ left → IsInTurn core (ran_turn process hart slice left) (Step process hart)
-  runs_on core process hart slice left some = by_test (left == 0) refl
+  runs_on : (core : CoreValue S) (process hart slice left wanted : ℕ) → 1 ≤ left → IsInTurn honest core (ran_turn process hart slice left wanted) (Step process hart)
+  runs_on core process hart slice left wanted some = by_test (left == 0) refl
     where
-      by_test : (b : Bool) → (left == 0) ≡ b → MayStep core (if b then Rests else running) (ran_turn process hart slice left) process hart
+      by_test : (b : Bool) → (left == 0) ≡ b → MayStep honest core (if b then Rests else running) (ran_turn process hart slice left wanted) process hart
       by_test true is = absurd (grind (arith, is, some))
       by_test false is = (refl, refl)
 
-  next_runs : (core : CoreValue S) (process hart slice count left : ℕ) → suc (suc count) ≤ max left 1 → IsInTurn core (ran_turn process hart slice (left - 1)) (Step process hart)
-  next_runs core process hart slice count left few = let most = most_left (suc (suc count)) left few (omega arith) in runs_on core process hart slice (left - 1) (omega (arith, most))
+  next_runs : (core : CoreValue S) (process hart slice count left wanted : ℕ) → suc (suc count) ≤ max left 1 → IsInTurn honest core (ran_turn process hart slice (left - 1) wanted) (Step process hart)
+  next_runs core process hart slice count left wanted few = let most = most_left (suc (suc count)) left few (omega arith) in runs_on core process hart slice (left - 1) wanted (omega (arith, most))
 
 module _ {S : Type 0} (held : S → List ℕ) (honest : Type 0) (failures : S → ℕ) where
   -- such events are a run
@@ -44,7 +44,7 @@ module _ {S : Type 0} (held : S → List ℕ) (honest : Type 0) (failures : S �
   unfolding ComeInTurn
   in_turn_none duty core = refl
 
-  pub in_turn_one : (duty : Duty) (event : Event) (reply : Reply) (old new : CoreValue S) → Applies held honest failures event old new reply → IsInTurn old duty.turn event
+  pub in_turn_one : (duty : Duty) (event : Event) (reply : Reply) (old new : CoreValue S) → Applies held honest failures event old new reply → IsInTurn honest old duty.turn event
       → ComeInTurn held honest failures duty (event ∷ []) (reply ∷ []) old new
   unfolding ComeInTurn
   in_turn_one duty event reply old new applies turn = (new, (applies, (turn, refl)))
@@ -61,7 +61,7 @@ module _ {S : Type 0} (held : S → List ℕ) (honest : Type 0) (failures : S �
 
   -- steps that go on come in turn as long as the slice has instructions left
   ran_in_turn : (duty : Duty) (process hart count : ℕ) (old new : CoreValue S) → Runs held honest failures (replicate count (Step process hart)) (replicate count Ran) old new
-      → IsInTurn old duty.turn (Step process hart) → count ≤ max duty.turn.left 1
+      → IsInTurn honest old duty.turn (Step process hart) → count ≤ max duty.turn.left 1
       → ComeInTurn held honest failures duty (replicate count (Step process hart)) (replicate count Ran) old new
   unfolding ComeInTurn Runs
   ran_in_turn duty process hart zero old new runs turn few = runs
@@ -73,14 +73,14 @@ module _ {S : Type 0} (held : S → List ℕ) (honest : Type 0) (failures : S �
       (
         turn,
         ran_in_turn (duty_with (Step process hart) Ran duty) process hart (suc count) runs.0 new runs.1.1
-            (next_runs runs.0 process hart duty.turn.slice count duty.turn.left few) (next_few count duty.turn.left few),
+            (next_runs honest runs.0 process hart duty.turn.slice count duty.turn.left duty.turn.wanted few) (next_few count duty.turn.left few),
       ),
     ),
   )
 
   -- and so does a further one
   told_in_turn : (duty : Duty) (process hart count : ℕ) (reply : Reply) (old new : CoreValue S) → Runs held honest failures (replicate count (Step process hart) ++ Step process hart ∷ []) (replicate count Ran ++ reply ∷ []) old new
-      → IsInTurn old duty.turn (Step process hart) → suc count ≤ max duty.turn.left 1
+      → IsInTurn honest old duty.turn (Step process hart) → suc count ≤ max duty.turn.left 1
       → ComeInTurn held honest failures duty (replicate count (Step process hart) ++ Step process hart ∷ []) (replicate count Ran ++ reply ∷ []) old new
   unfolding ComeInTurn Runs
   told_in_turn duty process hart zero reply old new runs turn few = (runs.0, (runs.1.0, (turn, runs.1.1)))
@@ -91,13 +91,13 @@ module _ {S : Type 0} (held : S → List ℕ) (honest : Type 0) (failures : S �
       (
         turn,
         told_in_turn (duty_with (Step process hart) Ran duty) process hart count reply runs.0 new runs.1.1
-            (next_runs runs.0 process hart duty.turn.slice count duty.turn.left few) (next_few count duty.turn.left few),
+            (next_runs honest runs.0 process hart duty.turn.slice count duty.turn.left duty.turn.wanted few) (next_few count duty.turn.left few),
       ),
     ),
   )
 
   pub steps_in_turn : (duty : Duty) (process hart ran : ℕ) (last : Option Reply) (old new : CoreValue S) → Runs held honest failures (steps_of process hart ran last) (replies_of ran last) old new
-      → IsInTurn old duty.turn (Step process hart) → steps_many last ran ≤ max duty.turn.left 1
+      → IsInTurn honest old duty.turn (Step process hart) → steps_many last ran ≤ max duty.turn.left 1
       → ComeInTurn held honest failures duty (steps_of process hart ran last) (replies_of ran last) old new
   steps_in_turn duty process hart ran None old new runs turn few = ran_in_turn duty process hart ran old new runs turn few
   steps_in_turn duty process hart ran (Some reply) old new runs turn few = told_in_turn duty process hart ran reply old new runs turn (omega (arith, few))

@@ -5,6 +5,7 @@ pub mod FlatRuns
 pub mod GivingUp
 pub mod InTurn
 pub mod Limited
+pub mod LiveHarts
 pub mod Next
 pub mod Owed
 pub mod Reached

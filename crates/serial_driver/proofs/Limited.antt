@@ -59,7 +59,7 @@ module _ {S : Type 0} (held : S → List ℕ) (honest : Type 0) (failures : S �
 
   pub plays_one : (most : ℕ) (tried : ℕ → ℕ) (duty left : Duty) (spent : Option ℕ) (old new : CoreValue S) (patience : Patience) (event : Event) (reply : Reply) → Applies held honest failures event old new reply
       → is_limit_kill event ≡ false → IsPatient most (λ number. tried_with number event reply (tried number)) patience → patience.spent ≡ spent_with most tried event reply
-      → Pays (next_owed duty.owed spent) event → IsInTurn old duty.turn event → left ≡ duty_with event reply duty → PlaysWith held honest failures most tried duty spent 1 old new patience left
+      → Pays (next_owed duty.owed spent) event → IsInTurn honest old duty.turn event → left ≡ duty_with event reply duty → PlaysWith held honest failures most tried duty spent 1 old new patience left
   unfolding tried_after spent_after ArePaid duty_after
   plays_one most tried duty left spent old new patience event reply applies unlimited patient spends pays in_turn owes = record {
     plays = record {
@@ -100,7 +100,7 @@ module _ {S : Type 0} (held : S → List ℕ) (honest : Type 0) (failures : S �
       → Runs held honest failures (steps_of process hart ran last) (replies_of ran last) old new
       → IsPatient most (λ number. tried_after number (steps_of process hart ran last) (replies_of ran last) (tried number)) patience
       → patience.spent ≡ spent_after most tried (steps_of process hart ran last) (replies_of ran last) spent
-      → Pays (next_owed duty.owed spent) (Step process hart) → IsInTurn old duty.turn (Step process hart) → steps_many last ran ≤ max duty.turn.left 1 → left ≡ duty_after (steps_of process hart ran last) (replies_of ran last) duty
+      → Pays (next_owed duty.owed spent) (Step process hart) → IsInTurn honest old duty.turn (Step process hart) → steps_many last ran ≤ max duty.turn.left 1 → left ≡ duty_after (steps_of process hart ran last) (replies_of ran last) duty
       → (reply : Reply) → last ≡ Some reply → (count : ℕ) → count ≡ ran → PlaysWith held honest failures most tried duty spent (count + 1) old new patience left
   plays_last most tried duty left spent old new patience process hart ran last runs patient spends pays in_turn few owes reply is count same =
       subst (λ n. PlaysWith held honest failures most tried duty spent n old new patience left) (ap (λ (l : Option Reply). steps_many l ran) is ∙ ap (λ n. n + 1) (sym same))
@@ -112,7 +112,7 @@ module _ {S : Type 0} (held : S → List ℕ) (honest : Type 0) (failures : S �
       → Runs held honest failures (steps_of process hart ran last) (replies_of ran last) old new
       → IsPatient most (λ number. tried_after number (steps_of process hart ran last) (replies_of ran last) (tried number)) patience
       → patience.spent ≡ spent_after most tried (steps_of process hart ran last) (replies_of ran last) spent
-      → Pays (next_owed duty.owed spent) (Step process hart) → IsInTurn old duty.turn (Step process hart) → steps_many last ran ≤ max duty.turn.left 1 → left ≡ duty_after (steps_of process hart ran last) (replies_of ran last) duty
+      → Pays (next_owed duty.owed spent) (Step process hart) → IsInTurn honest old duty.turn (Step process hart) → steps_many last ran ≤ max duty.turn.left 1 → left ≡ duty_after (steps_of process hart ran last) (replies_of ran last) duty
       → last ≡ None → (count : ℕ) → count ≡ ran → PlaysWith held honest failures most tried duty spent count old new patience left
   plays_all most tried duty left spent old new patience process hart ran last runs patient spends pays in_turn few owes is count same =
       subst (λ n. PlaysWith held honest failures most tried duty spent n old new patience left) (ap (λ (l : Option Reply). steps_many l ran) is ∙ sym same)

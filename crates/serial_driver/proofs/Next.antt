@@ -8,7 +8,7 @@ use Rattle.machine_core.specs.declared.event.Event.TheVariants.{Collect, Kill, N
 use Rattle.machine_core.specs.Machine.{CoreValue}
 use Rattle.serial_driver.specs.Nexts.{AreSteps, IsNext, IsOrdinary}
 use Rattle.serial_driver.specs.Rounds.{IsLeastAbove, IsNextHart, NoneAbove}
-use Rattle.serial_driver.specs.Owing.{Duty, Pays, is_ending, next_owed}
+use Rattle.serial_driver.specs.Owing.{Duty, Pays, is_only_owed, next_owed}
 use Rattle.serial_driver.specs.Turning.{Clears, IsInTurn, MayCollect, MayNotice, MayStep, Turn}
 use Rattle.serial_driver.specs.TurnsDuty.{phase_of, turn_of}
 use Rattle.serial_driver.specs.declared.turns.Next.{Next}
@@ -16,29 +16,29 @@ use Rattle.serial_driver.specs.declared.turns.Next.TheVariants.{Event, Steps}
 use Rattle.serial_driver.specs.declared.turns.Stage.TheVariants.{Choose, Run, Rest}
 use Rattle.serial_driver.specs.declared.turns.Turns.{Turns}
 
-free_pays : (owed : Option machine.Event) (event : machine.Event) → owed ≡ None → is_ending event ≡ false → Pays owed event
+free_pays : (owed : Option machine.Event) (event : machine.Event) → owed ≡ None → is_only_owed event ≡ false → Pays owed event
 free_pays owed event is none = subst (λ o. Pays o event) (sym is) none
 
-pub ordinary_next : {S : Type 0} (core : CoreValue S) (allowed : ℕ) (event : machine.Event) → 0 < allowed → (spent : Option ℕ) (duty : Duty) → IsOrdinary core duty.turn event → next_owed duty.owed spent ≡ None
-    → IsNext core allowed spent duty (Event event)
-ordinary_next core allowed event some spent duty ordinary free =
+pub ordinary_next : {S : Type 0} (honest : Type 0) (core : CoreValue S) (allowed : ℕ) (event : machine.Event) → 0 < allowed → (spent : Option ℕ) (duty : Duty) → IsOrdinary honest core duty.turn event → next_owed duty.owed spent ≡ None
+    → IsNext honest core allowed spent duty (Event event)
+ordinary_next honest core allowed event some spent duty ordinary free =
     (omega arith, (omega (arith, some), (ordinary.0, free_pays (next_owed duty.owed spent) event free ordinary.1, ordinary.2)))
 
 -- steps of a hart that may run
-pub steps_next : {S : Type 0} (core : CoreValue S) (process hart allowed : ℕ) (next : Next) (spent : Option ℕ) (duty : Duty) → AreSteps process hart allowed duty.turn.left next → next_owed duty.owed spent ≡ None
-    → IsInTurn core duty.turn (Step process hart) → IsNext core allowed spent duty next
-steps_next core process hart allowed (Steps process' hart' most) spent duty are free turn = (
+pub steps_next : {S : Type 0} (honest : Type 0) (core : CoreValue S) (process hart allowed : ℕ) (next : Next) (spent : Option ℕ) (duty : Duty) → AreSteps process hart allowed duty.turn.left next → next_owed duty.owed spent ≡ None
+    → IsInTurn honest core duty.turn (Step process hart) → IsNext honest core allowed spent duty next
+steps_next honest core process hart allowed (Steps process' hart' most) spent duty are free turn = (
   are.1.1.0,
   (
     are.1.1.1.0,
     (
       free_pays (next_owed duty.owed spent) (Step process' hart') free refl,
-      subst (λ h. IsInTurn core duty.turn (Step process' h)) (sym are.1.0) (subst (λ p. IsInTurn core duty.turn (Step p hart)) (sym are.0) turn),
+      subst (λ h. IsInTurn honest core duty.turn (Step process' h)) (sym are.1.0) (subst (λ p. IsInTurn honest core duty.turn (Step p hart)) (sym are.0) turn),
       are.1.1.1.1,
     ),
   ),
 )
-steps_next core process hart allowed (Event event) spent duty are free turn = absurd are
+steps_next honest core process hart allowed (Event event) spent duty are free turn = absurd are
 
 -- an event that is settled is all that is owed
 pub settled_first : (owed : Option machine.Event) (spent : Option ℕ) → is_some owed ≡ true → next_owed owed spent ≡ owed
@@ -57,29 +57,29 @@ spent_pays : (process : ℕ) (owed : Option machine.Event) → is_some owed ≡ 
 spent_pays process None h = refl
 spent_pays process (Some event) h = cc
 
-pub spent_next : {S : Type 0} (core : CoreValue S) (allowed process : ℕ) (spent : Option ℕ) (duty : Duty) → 0 < allowed → spent ≡ Some process → is_some duty.owed ≡ false
-    → IsNext core allowed spent duty (Event (Kill process cause.NoSwap))
-spent_next core allowed process spent duty some at free =
+pub spent_next : {S : Type 0} (honest : Type 0) (core : CoreValue S) (allowed process : ℕ) (spent : Option ℕ) (duty : Duty) → 0 < allowed → spent ≡ Some process → is_some duty.owed ≡ false
+    → IsNext honest core allowed spent duty (Event (Kill process cause.NoSwap))
+spent_next honest core allowed process spent duty some at free =
     (omega arith, (omega (arith, some), (refl, subst (λ s. Pays (next_owed duty.owed s) (Kill process cause.NoSwap)) (sym at) (spent_pays process duty.owed free), tt {0})))
 
-module _ {S : Type 0} (core : CoreValue S) where
+module _ {S : Type 0} (honest : Type 0) (core : CoreValue S) where
   -- the hart that has the slice may run, the next one where a turn begins, and one whose turn is over may drop its translations
-  pub may_run : (turns : Turns) → turns.stage ≡ Run → IsInTurn core (turn_of turns) (Step turns.running.process turns.running.hart)
-  may_run turns is = subst (λ p. MayStep core p (turn_of turns) turns.running.process turns.running.hart) (sym (ap phase_of is)) (refl, refl)
+  pub may_run : (turns : Turns) → turns.stage ≡ Run → IsInTurn honest core (turn_of turns) (Step turns.running.process turns.running.hart)
+  may_run turns is = subst (λ p. MayStep honest core p (turn_of turns) turns.running.process turns.running.hart) (sym (ap phase_of is)) (refl, refl)
 
-  pub may_begin : (turns : Turns) (last : Option ℕ) (process hart : ℕ) → turns.stage ≡ Choose last → IsNextHart core turns.running.process last process hart → IsInTurn core (turn_of turns) (Step process hart)
-  may_begin turns last process hart is next = subst (λ p. MayStep core p (turn_of turns) process hart) (sym (ap phase_of is)) next
+  pub may_begin : (turns : Turns) (last : Option ℕ) (process hart : ℕ) → turns.stage ≡ Choose last → IsNextHart honest core turns.running.process last process hart → IsInTurn honest core (turn_of turns) (Step process hart)
+  may_begin turns last process hart is next = subst (λ p. MayStep honest core p (turn_of turns) process hart) (sym (ap phase_of is)) next
 
-  pub may_rest : (turns : Turns) (event : machine.Event) → turns.stage ≡ Rest → event ≡ Notice turns.running.process turns.running.hart → IsOrdinary core (turn_of turns) event
+  pub may_rest : (turns : Turns) (event : machine.Event) → turns.stage ≡ Rest → event ≡ Notice turns.running.process turns.running.hart → IsOrdinary honest core (turn_of turns) event
   may_rest turns event is same =
-      subst (IsOrdinary core (turn_of turns)) (sym same)
+      subst (IsOrdinary honest core (turn_of turns)) (sym same)
       (refl, refl, subst (λ p. MayNotice core p (turn_of turns) turns.running.process turns.running.hart) (sym (ap phase_of is)) (refl, refl))
 
   -- where a victim's process has dropped its translations up to one hart, the next one may, and where there is none the victim is looked at
   pub may_clear : (turn : Turn) (victim : Key) (last : Option ℕ) (hart : ℕ) (event : machine.Event) → turn.phase ≡ Clears victim last → event ≡ Notice victim.process hart → IsLeastAbove core victim.process last hart
-      → IsOrdinary core turn event
+      → IsOrdinary honest core turn event
   may_clear turn victim last hart event is same least =
-      subst (IsOrdinary core turn) (sym same) (refl, refl, subst (λ p. MayNotice core p turn victim.process hart) (sym is) (refl, least))
+      subst (IsOrdinary honest core turn) (sym same) (refl, refl, subst (λ p. MayNotice core p turn victim.process hart) (sym is) (refl, least))
 
-  pub may_collect : (turn : Turn) (victim : Key) (last : Option ℕ) → turn.phase ≡ Clears victim last → NoneAbove core victim.process last → IsOrdinary core turn (Collect victim)
+  pub may_collect : (turn : Turn) (victim : Key) (last : Option ℕ) → turn.phase ≡ Clears victim last → NoneAbove core victim.process last → IsOrdinary honest core turn (Collect victim)
   may_collect turn victim last is none = (refl, refl, subst (λ p. MayCollect core p victim) (sym is) (refl, none))

@@ -179,7 +179,7 @@ module _ {S : Type 0} (held : S → List ℕ) (honest : Type 0) (failures : S �
   quiet_end _ answer old new duty ends applies none = absurd ends
 
   -- where none is out, one is after a look at a changed page alone
-  quiet : (event : Event) (answer : Reply) (old new : CoreValue S) (duty : Duty) → Applies held honest failures event old new answer → IsFaithful held honest old → IsInTurn old duty.turn event → old.jobs ≡ []
+  quiet : (event : Event) (answer : Reply) (old new : CoreValue S) (duty : Duty) → Applies held honest failures event old new answer → IsFaithful held honest old → IsInTurn honest old duty.turn event → old.jobs ≡ []
       → AreOut (owed_save (duty_with event answer duty).owed) new.jobs
   quiet (Step process hart) answer old new duty applies faithful in_turn none =
       elim applies.served [
@@ -230,7 +230,7 @@ module _ {S : Type 0} (held : S → List ℕ) (honest : Type 0) (failures : S �
       some_none (Some x) why a b = cc
 
   out_after : (event : Event) (answer : Reply) (old new : CoreValue S) (duty : Duty) (spent : Option ℕ) → Applies held honest failures event old new answer → IsFaithful held honest old
-      → AreOut (owed_save duty.owed) old.jobs → Pays (next_owed duty.owed spent) event → IsInTurn old duty.turn event → AreOut (owed_save (duty_with event answer duty).owed) new.jobs
+      → AreOut (owed_save duty.owed) old.jobs → Pays (next_owed duty.owed spent) event → IsInTurn honest old duty.turn event → AreOut (owed_save (duty_with event answer duty).owed) new.jobs
   out_after event answer old new duty spent applies faithful out pays in_turn = by_owed duty.owed out pays
     where
       by_owed : (owed : Option Event) → AreOut (owed_save owed) old.jobs → Pays (next_owed owed spent) event → AreOut (owed_save (duty_with event answer duty).owed) new.jobs

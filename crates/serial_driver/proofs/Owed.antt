@@ -75,6 +75,11 @@ unfolding duty_after
 ran_slice process hart zero duty = refl
 ran_slice process hart (suc count) duty = ran_slice process hart count (duty_with (Step process hart) Ran duty)
 
+ran_wanted : (process hart count : ℕ) (duty : Duty) → (duty_after (replicate count (Step process hart)) (replicate count Ran) duty).turn.wanted ≡ duty.turn.wanted
+unfolding duty_after
+ran_wanted process hart zero duty = refl
+ran_wanted process hart (suc count) duty = ran_wanted process hart count (duty_with (Step process hart) Ran duty)
+
 less_one : (left count : ℕ) → left - 1 - count ≡ left - suc count
 less_one left count = omega arith
 
@@ -85,25 +90,26 @@ ran_left process hart (suc count) duty = ran_left process hart count (duty_with 
 
 pub steps_told : (process hart ran : ℕ) (reply : Reply) (duty : Duty)
     → duty_after (steps_of process hart ran (Some reply)) (replies_of ran (Some reply)) duty
-    ≡ record { faults = step_faults reply duty.faults; owed = step_owes process reply; turn = step_turn process hart reply duty.turn.slice (duty.turn.left - ran) }
+    ≡ record { faults = step_faults reply duty.faults; owed = step_owes process reply; turn = step_turn process hart reply duty.turn.slice (duty.turn.left - ran) duty.turn.wanted }
 unfolding duty_after
 steps_told process hart ran reply duty =
     let before : Duty = duty_after (replicate ran (Step process hart)) (replicate ran Ran) duty in
     duty_on duty (replicate ran (Step process hart)) (Step process hart ∷ []) (replicate ran Ran) (reply ∷ []) (same_count process hart ran)
-    ∙ ap (λ n. record { faults = step_faults reply n; owed = step_owes process reply; turn = step_turn process hart reply before.turn.slice before.turn.left }) (ran_faults process hart ran duty)
-    ∙ ap (λ n. record { faults = step_faults reply duty.faults; owed = step_owes process reply; turn = step_turn process hart reply n before.turn.left }) (ran_slice process hart ran duty)
-    ∙ ap (λ n. record { faults = step_faults reply duty.faults; owed = step_owes process reply; turn = step_turn process hart reply duty.turn.slice n }) (ran_left process hart ran duty)
+    ∙ ap (λ n. record { faults = step_faults reply n; owed = step_owes process reply; turn = step_turn process hart reply before.turn.slice before.turn.left before.turn.wanted }) (ran_faults process hart ran duty)
+    ∙ ap (λ n. record { faults = step_faults reply duty.faults; owed = step_owes process reply; turn = step_turn process hart reply n before.turn.left before.turn.wanted }) (ran_slice process hart ran duty)
+    ∙ ap (λ n. record { faults = step_faults reply duty.faults; owed = step_owes process reply; turn = step_turn process hart reply duty.turn.slice n before.turn.wanted }) (ran_left process hart ran duty)
+    ∙ ap (λ n. record { faults = step_faults reply duty.faults; owed = step_owes process reply; turn = step_turn process hart reply duty.turn.slice (duty.turn.left - ran) n }) (ran_wanted process hart ran duty)
 
 ran_duty : (process hart count : ℕ) (duty : Duty) → duty_after (replicate (suc count) (Step process hart)) (replicate (suc count) Ran) duty
-    ≡ record { faults = duty.faults; owed = None; turn = ran_turn process hart duty.turn.slice (duty.turn.left - suc count) }
+    ≡ record { faults = duty.faults; owed = None; turn = ran_turn process hart duty.turn.slice (duty.turn.left - suc count) duty.turn.wanted }
 unfolding duty_after
 ran_duty process hart zero duty = refl
 ran_duty process hart (suc count) duty =
     ran_duty process hart count (duty_with (Step process hart) Ran duty)
-    ∙ ap (λ n. record { faults = duty.faults; owed = None; turn = ran_turn process hart duty.turn.slice n }) (less_one duty.turn.left (suc count))
+    ∙ ap (λ n. record { faults = duty.faults; owed = None; turn = ran_turn process hart duty.turn.slice n duty.turn.wanted }) (less_one duty.turn.left (suc count))
 
 pub steps_all : (process hart ran : ℕ) (duty : Duty) → 0 < ran → duty_after (steps_of process hart ran None) (replies_of ran None) duty
-    ≡ record { faults = duty.faults; owed = None; turn = ran_turn process hart duty.turn.slice (duty.turn.left - ran) }
+    ≡ record { faults = duty.faults; owed = None; turn = ran_turn process hart duty.turn.slice (duty.turn.left - ran) duty.turn.wanted }
 steps_all process hart zero duty some = absurd (omega (arith, some))
 steps_all process hart (suc count) duty some = ran_duty process hart count duty
 

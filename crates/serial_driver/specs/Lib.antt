@@ -12,3 +12,4 @@ pub mod Serving
 pub mod Turning
 pub mod TurnsDuty
 pub mod Watched
+pub mod WholeLaws

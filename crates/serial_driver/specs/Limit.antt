@@ -28,7 +28,7 @@ module _ {S : Type 0} (held : S → List ℕ) (honest : Type 0) (failures : S �
   ComeInTurn duty [] (answer ∷ answers) old new = ⊥
   ComeInTurn duty (event ∷ events) [] old new = ⊥
   ComeInTurn duty (event ∷ events) (answer ∷ answers) old new =
-      (between : CoreValue S) × (Applies held honest failures event old between answer × (IsInTurn old duty.turn event × ComeInTurn (duty_with event answer duty) events answers between new))
+      (between : CoreValue S) × (Applies held honest failures event old between answer × (IsInTurn honest old duty.turn event × ComeInTurn (duty_with event answer duty) events answers between new))
 
   -- So many events lead from one machine to the other, each in turn. None of them ends a process for the limit. Each event that is owed, for an answer
   -- or for a process that was tried for too often, is the next; and for no other reason one is ended.

@@ -104,7 +104,7 @@ duty_purged _ duty = duty
 -- what is owed after an event with its reply: a process that was ended gives back what it has
 abbrev pub duty_with : Event → Reply → Duty → Duty
 duty_with (Step process hart) answer duty =
-    record { faults = step_faults answer duty.faults; owed = step_owes process answer; turn = step_turn process hart answer duty.turn.slice duty.turn.left }
+    record { faults = step_faults answer duty.faults; owed = step_owes process answer; turn = step_turn process hart answer duty.turn.slice duty.turn.left duty.turn.wanted }
 duty_with (Notice process hart) answer duty = record { faults = duty.faults; owed = None; turn = noticed_in duty.turn.phase hart duty.turn }
 duty_with Sweep answer duty = record { faults = duty.faults; owed = None; turn = swept_turn answer duty.turn }
 duty_with (Collect key) answer duty = record { faults = duty.faults; owed = collect_owes key answer; turn = waiting duty.turn }
@@ -120,11 +120,12 @@ duty_after [] answers duty = duty
 duty_after (event ∷ events) [] duty = duty
 duty_after (event ∷ events) (answer ∷ answers) duty = duty_after events answers (duty_with event answer duty)
 
--- whether an event ends a process, or has one give back what it has
-abbrev pub is_ending : Event → Bool
-is_ending (Kill process cause) = true
-is_ending (Purge process) = true
-is_ending _ = false
+-- whether an event comes only where it is owed: the save of a page, the end of a process, and that one gives back what it has
+abbrev pub is_only_owed : Event → Bool
+is_only_owed (Saved key) = true
+is_only_owed (Kill process cause) = true
+is_only_owed (Purge process) = true
+is_only_owed _ = false
 
 -- What comes next: the event that is settled; else the end of the process that is spent, at once, for want of a place for its pages.
 abbrev pub next_owed : Option Event → Option ℕ → Option Event
@@ -132,10 +133,10 @@ next_owed (Some owed) spent = Some owed
 next_owed None (Some process) = Some (Kill process cause.NoSwap)
 next_owed None None = None
 
--- an event that is owed is the next; where none is, no process is ended, and none gives back what it has
+-- an event that is owed is the next; where none is, no page is saved, no process is ended, and none gives back what it has
 abbrev pub Pays : Option Event → Event → Type 0
 Pays (Some owed) event = event ≡ owed
-Pays None event = is_ending event ≡ false
+Pays None event = is_only_owed event ≡ false
 
 -- the same of events one after another, where a process is spent by so many tries; the counts are those before the first
 unfoldable pub ArePaid : ℕ → (ℕ → ℕ) → Duty → Option ℕ → List Event → List Reply → Type 0

@@ -26,10 +26,6 @@ module _ {S : Type 0} where
     pub live : lives_in core process hart ≡ true
     pub least : (other : ℕ) → other < hart → IsAbove last other → lives_in core process other ≡ false
 
-  -- a hart is the least live one of its process; or the process has none, and it is the first
-  abbrev pub IsFirst : CoreValue S → ℕ → ℕ → Type 0
-  IsFirst core process hart = IsLeastAbove core process None hart ⊎ ((hart ≡ 0) × NoneAbove core process None)
-
   -- a process goes on, and none does that stands from one number on and below it
   pub record GoesOnFirst (core : CoreValue S) (from process : ℕ) : Type 0 where
     pub goes : goes_on (slice_get core.processes process) ≡ true
@@ -39,6 +35,11 @@ module _ {S : Type 0} where
   abbrev pub IsNextProcess : CoreValue S → ℕ → ℕ → Type 0
   IsNextProcess core last process =
       ((last < process) × GoesOnFirst core (last + 1) process) ⊎ (((other : ℕ) → last < other → HasEnded core other) × GoesOnFirst core 0 process)
+
+module _ {S : Type 0} (honest : Type 0) where
+  -- a hart is the least live one of its process; only where slots are not honest may the process have none, and then it is the first
+  abbrev pub IsFirst : CoreValue S → ℕ → ℕ → Type 0
+  IsFirst core process hart = IsLeastAbove core process None hart ⊎ ((honest → ⊥) × ((hart ≡ 0) × NoneAbove core process None))
 
   -- The hart whose turn is next behind the last one of a process, if there was one: the least live one above it there. Where none is, it is the
   -- least live one of the next process that goes on.

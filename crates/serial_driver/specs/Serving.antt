@@ -68,7 +68,7 @@ pub record IsServing (process hart : ℕ) (turn : Turn) : Type 0 where
 
 -- the hart's turn, of one instruction
 abbrev pub serving : ℕ → ℕ → Duty
-serving process hart = record { faults = 0; owed = None; turn = record { slice = 1; process = process; hart = hart; left = 1; phase = RunsOn } }
+serving process hart = record { faults = 0; owed = None; turn = record { slice = 1; process = process; hart = hart; left = 1; wanted = 0; phase = RunsOn } }
 
 module _ {S : Type 0} (held : S → List ℕ) (honest : Type 0) (failures : S → ℕ) where
   -- Why an instruction is given up behind events of a run with these replies, of which this is owed then: the run ends a process next for a

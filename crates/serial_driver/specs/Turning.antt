@@ -9,8 +9,8 @@ use Rattle.machine_core.specs.declared.event.Reply.TheVariants as reply
 use Rattle.serial_driver.specs.Rounds.{IsLeastAbove, IsNextHart, NoneAbove}
 
 -- A turn begins with the first instruction of a hart, the next one behind the last that had a turn, if one had; that hart runs on; its turn
--- is over, and it drops its translations; or it waits for a page, or is gone. While it waits, the live harts of a victim's process drop theirs
--- one after another, each told as the last, and then the victim is looked at.
+-- is over, and it drops its translations; or it waits for the page that its last step found absent, or is gone. While it waits, the live
+-- harts of a victim's process drop theirs one after another, each told as the last, and then the victim is looked at.
 pub data Phase : Type 0 where
   Begins : Option ℕ → Phase
   Runs : Phase
@@ -23,39 +23,46 @@ pub record Turn : Type 0 where
   pub process : ℕ
   pub hart : ℕ
   pub left : ℕ
+  -- the page that a step found absent last, which is the one that a hart waits for
+  pub wanted : ℕ
   pub phase : Phase
 
 -- at first a whole slice is left to the hart that will run
 abbrev pub first_turn : ℕ → Turn
-first_turn slice = record { slice = slice; process = 0; hart = 0; left = slice; phase = Begins None }
+first_turn slice = record { slice = slice; process = 0; hart = 0; left = slice; wanted = 0; phase = Begins None }
 
 -- the turn of another hart begins
 abbrev pub begun : Turn → Turn
-begun turn = record { slice = turn.slice; process = turn.process; hart = turn.hart; left = turn.slice; phase = Begins (Some turn.hart) }
+begun turn = record { slice = turn.slice; process = turn.process; hart = turn.hart; left = turn.slice; wanted = turn.wanted; phase = Begins (Some turn.hart) }
+
+-- the page that its hart waits for
+abbrev pub wanted_of : Turn → Key
+wanted_of turn = record { process = turn.process; vpn = turn.wanted }
 
 -- the hart waits
 abbrev pub waiting : Turn → Turn
-waiting turn = record { slice = turn.slice; process = turn.process; hart = turn.hart; left = turn.left; phase = Waits }
+waiting turn = record { slice = turn.slice; process = turn.process; hart = turn.hart; left = turn.left; wanted = turn.wanted; phase = Waits }
 
 -- it waits, and a page is to leave its frame, whose process's harts drop their translations up to the last one
 abbrev pub clearing : Key → Option ℕ → Turn → Turn
-clearing victim last turn = record { slice = turn.slice; process = turn.process; hart = turn.hart; left = turn.left; phase = Clears victim last }
+clearing victim last turn = record { slice = turn.slice; process = turn.process; hart = turn.hart; left = turn.left; wanted = turn.wanted; phase = Clears victim last }
 
 -- with nothing left of its slice a hart rests
 abbrev pub resting : ℕ → Phase
 resting left = if left == 0 then Rests else Runs
 
 -- a hart's turn, of which so much is left
-abbrev pub ran_turn : ℕ → ℕ → ℕ → ℕ → Turn
-ran_turn process hart slice left = record { slice = slice; process = process; hart = hart; left = left; phase = resting left }
+abbrev pub ran_turn : ℕ → ℕ → ℕ → ℕ → ℕ → Turn
+ran_turn process hart slice left wanted = record { slice = slice; process = process; hart = hart; left = left; wanted = wanted; phase = resting left }
 
 -- The same after a step of a hart, from what was left of a slice: an instruction that ran is one of the slice, and one that yields or that
--- ends the hart ends the turn. Where a page is absent the hart waits for it.
-abbrev pub step_turn : ℕ → ℕ → Reply → ℕ → ℕ → Turn
-step_turn process hart reply.Ran slice left = ran_turn process hart slice (left - 1)
-step_turn process hart reply.Yielded slice left = record { slice = slice; process = process; hart = hart; left = left - 1; phase = Rests }
-step_turn process hart reply.HartDone slice left = record { slice = slice; process = process; hart = hart; left = slice; phase = Begins (Some hart) }
-step_turn process hart _ slice left = record { slice = slice; process = process; hart = hart; left = left; phase = Waits }
+-- ends the hart ends the turn. Where a page is absent the hart waits for this one.
+abbrev pub step_turn : ℕ → ℕ → Reply → ℕ → ℕ → ℕ → Turn
+step_turn process hart reply.Ran slice left wanted = ran_turn process hart slice (left - 1) wanted
+step_turn process hart reply.Yielded slice left wanted = record { slice = slice; process = process; hart = hart; left = left - 1; wanted = wanted; phase = Rests }
+step_turn process hart reply.HartDone slice left wanted = record { slice = slice; process = process; hart = hart; left = slice; wanted = wanted; phase = Begins (Some hart) }
+step_turn process hart (reply.Absent page) slice left wanted = record { slice = slice; process = process; hart = hart; left = left; wanted = page; phase = Waits }
+step_turn process hart _ slice left wanted = record { slice = slice; process = process; hart = hart; left = left; wanted = wanted; phase = Waits }
 
 -- a hart that rests and drops its translations makes room for another; one of a victim's process was the last that did
 abbrev pub noticed_in : Phase → ℕ → Turn → Turn
@@ -70,7 +77,7 @@ swept_turn _ turn = waiting turn
 
 -- a hart whose page came in runs on
 abbrev pub paged_in : Bool → Turn → Turn
-paged_in true turn = record { slice = turn.slice; process = turn.process; hart = turn.hart; left = turn.left; phase = Runs }
+paged_in true turn = record { slice = turn.slice; process = turn.process; hart = turn.hart; left = turn.left; wanted = turn.wanted; phase = Runs }
 paged_in false turn = waiting turn
 
 -- one whose process is gone makes room
@@ -81,15 +88,16 @@ gone_if false turn = waiting turn
 abbrev pub purged_in : ℕ → Turn → Turn
 purged_in process turn = gone_if (process == turn.process) turn
 
-module _ {S : Type 0} (core : CoreValue S) where
+module _ {S : Type 0} (honest : Type 0) (core : CoreValue S) where
   -- which hart may run
   abbrev pub MayStep : Phase → Turn → ℕ → ℕ → Type 0
-  MayStep (Begins last) turn process hart = IsNextHart core turn.process last process hart
+  MayStep (Begins last) turn process hart = IsNextHart honest core turn.process last process hart
   MayStep Runs turn process hart = (process ≡ turn.process) × (hart ≡ turn.hart)
   MayStep Rests turn process hart = ⊥
   MayStep Waits turn process hart = ⊥
   MayStep (Clears victim last) turn process hart = ⊥
 
+module _ {S : Type 0} (core : CoreValue S) where
   -- which may drop its translations: the one whose turn is over, or, while one waits, the next live one of the victim's process
   abbrev pub MayNotice : Phase → Turn → ℕ → ℕ → Type 0
   MayNotice (Begins last) turn process hart = ⊥
@@ -112,14 +120,14 @@ EndsProcess (Kill process cause) = ⊤
 EndsProcess (Purge process) = ⊤
 EndsProcess _ = ⊥
 
-module _ {S : Type 0} where
+module _ {S : Type 0} (honest : Type 0) where
   -- An event comes in turn, in the machine that it finds: a hart runs till nothing is left of its slice, or till it yields, and drops its
-  -- translations then; while it waits, victims are sought where no frame is free, and where one is a page comes in for its process.
+  -- translations then; while it waits, victims are sought where no frame is free, and where one is the page that it waits for comes in.
   abbrev pub IsInTurn : CoreValue S → Turn → Event → Type 0
-  IsInTurn core turn (Step process hart) = MayStep core turn.phase turn process hart
+  IsInTurn core turn (Step process hart) = MayStep honest core turn.phase turn process hart
   IsInTurn core turn (Notice process hart) = MayNotice core turn.phase turn process hart
   IsInTurn core turn Sweep = (turn.phase ≡ Waits) × (length core.pager.pager.free ≡ 0)
   IsInTurn core turn (Collect key) = MayCollect core turn.phase key
   IsInTurn core turn (Saved key) = turn.phase ≡ Waits
-  IsInTurn core turn (PageIn key) = (turn.phase ≡ Waits) × ((key.process ≡ turn.process) × (0 < length core.pager.pager.free))
+  IsInTurn core turn (PageIn key) = (turn.phase ≡ Waits) × ((key ≡ wanted_of turn) × (0 < length core.pager.pager.free))
   IsInTurn core turn event = EndsProcess event

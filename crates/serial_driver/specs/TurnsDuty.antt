@@ -40,7 +40,7 @@ phase_of (Kill process failure) = Waits
 phase_of (Purge process) = Waits
 
 abbrev pub turn_of : Turns → Turn
-turn_of turns = record { slice = turns.slice; process = turns.running.process; hart = turns.running.hart; left = turns.left; phase = phase_of turns.stage }
+turn_of turns = record { slice = turns.slice; process = turns.running.process; hart = turns.running.hart; left = turns.left; wanted = turns.wanted; phase = phase_of turns.stage }
 
 abbrev pub duty_of : Turns → Duty
 duty_of turns = record { faults = turns.load_faults; owed = stage_owes turns.stage; turn = turn_of turns }

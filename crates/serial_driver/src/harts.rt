@@ -89,7 +89,7 @@ pub(crate) fn next_hart<L: Ledger, S: SwapSlot, C: Clock>(
     process: u32,
     last: Option<u32>,
 ) -> Option<HartOf>
-    ensures some { IfSome result (λ of. IsNextHart core.now process last of.process of.hart) }
+    ensures some { IfSome result (λ of. IsNextHart S.honest core.now process last of.process of.hart) }
     ensures none { IfNone result ((number : ℕ) → HasEnded core.now number) }
 {
     match live_hart_above(core, process, last) {
@@ -99,12 +99,13 @@ pub(crate) fn next_hart<L: Ledger, S: SwapSlot, C: Clock>(
 }
 
 /// The least live hart of the next process that goes on.
+#[tactic(auto, using(crate::proofs::LiveHarts::next_goes))]
 fn first_of_next<L: Ledger, S: SwapSlot, C: Clock>(
     core: &Core<L, S, C>,
     process: u32,
 ) -> Option<HartOf>
     ensures some { IfSome result (λ of. IsNextProcess core.now process of.process ×
-        IsFirst core.now of.process of.hart) }
+        IsFirst S.honest core.now of.process of.hart) }
     ensures none { IfNone result ((number : ℕ) → HasEnded core.now number) }
 {
     let next = next_running(core, process)?;
@@ -114,10 +115,13 @@ fn first_of_next<L: Ledger, S: SwapSlot, C: Clock>(
     })
 }
 
-/// The least live hart of a process that goes on, or the first where it has none.
+/// The least live hart of a process that goes on. Where slots are not honest the process may have none: then the first.
+#[tactic(auto, using(crate::proofs::LiveHarts::first_of_none))]
 fn first_hart<L: Ledger, S: SwapSlot, C: Clock>(core: &Core<L, S, C>, process: u32) -> u32
-    ensures { IsFirst core.now process result }
+    requires goes { goes_on (slice_get core.now.processes process) ≡ true }
+    ensures { IsFirst S.honest core.now process result }
 {
+    core.coherent();
     match live_hart_above(core, process, None) {
         Some(hart) => hart,
         None => 0,

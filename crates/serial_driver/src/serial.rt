@@ -81,7 +81,7 @@ pub(crate) fn what_is_next<L: Ledger, S: SwapSlot, C: Clock>(
     allowed: u64,
 ) -> Option<Next>
     requires { 0 < allowed }
-    ensures next { IfSome result (IsNext core.now allowed patience.now.spent (duty_of turns.now)) }
+    ensures next { IfSome result (IsNext S.honest core.now allowed patience.now.spent (duty_of turns.now)) }
     ensures no_step { IfSome result IsNoStep }
     ensures none { IfNone result ((number : ℕ) → HasEnded core.now number) }
     ensures settled { IfNone result (stage_owes turns.now.stage ≡ None) }
@@ -106,7 +106,7 @@ fn act<L: Ledger, S: SwapSlot, C: Clock>(
     next: Next,
 ) -> u64
     requires some { 0 < most_events next }
-    requires may_come { MayCome core.old patience.old.spent (duty_of turns.old) next }
+    requires may_come { MayCome S.honest core.old patience.old.spent (duty_of turns.old) next }
     ensures plays { (most : ℕ) (tried : ℕ → ℕ) → IsPatient most tried patience.old →
         PlaysWith S.content S.honest S.failures most tried (duty_of turns.old) patience.old.spent
         result core.old core.new patience.new (duty_of turns.new) }
@@ -132,7 +132,7 @@ fn apply<L: Ledger, S: SwapSlot, C: Clock>(
 ) -> u64
     requires unlimited { is_limit_kill event ≡ false }
     requires pays { Pays (next_owed (stage_owes turns.old.stage) patience.old.spent) event }
-    requires in_turn { IsInTurn core.old (turn_of turns.old) event }
+    requires in_turn { IsInTurn S.honest core.old (turn_of turns.old) event }
     ensures plays { (most : ℕ) (tried : ℕ → ℕ) → IsPatient most tried patience.old →
         PlaysWith S.content S.honest S.failures most tried (duty_of turns.old) patience.old.spent 1
         core.old core.new patience.new (duty_of turns.new) }
@@ -156,7 +156,7 @@ fn run<L: Ledger, S: SwapSlot, C: Clock>(
     requires some { 0 < most }
     requires pays { Pays (next_owed (stage_owes turns.old.stage) patience.old.spent)
         (Step process hart) }
-    requires in_turn { IsInTurn core.old (turn_of turns.old) (Step process hart) }
+    requires in_turn { IsInTurn S.honest core.old (turn_of turns.old) (Step process hart) }
     requires few { most ≤ max turns.old.left 1 }
     ensures plays { (bound : ℕ) (tried : ℕ → ℕ) → IsPatient bound tried patience.old →
         PlaysWith S.content S.honest S.failures bound tried (duty_of turns.old) patience.old.spent

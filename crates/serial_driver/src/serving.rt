@@ -92,7 +92,7 @@ fn step<L: Ledger, S: SwapSlot, C: Clock>(
 ) -> Option<Served>
     requires pays { Pays (next_owed (stage_owes turns.old.stage) patience.old.spent)
         (Step process hart) }
-    requires in_turn { IsInTurn core.old (turn_of turns.old) (Step process hart) }
+    requires in_turn { IsInTurn S.honest core.old (turn_of turns.old) (Step process hart) }
     ensures goes { Goes S.content S.honest S.failures process hart result core.old core.new }
     ensures proceeds { (most : ℕ) (tried : ℕ → ℕ) → IsPatient most tried patience.old →
         Proceeds S.content S.honest S.failures process hart result most tried (duty_of turns.old)
@@ -129,7 +129,7 @@ fn bring<L: Ledger, S: SwapSlot, C: Clock>(
     requires unlimited { is_limit_kill event ≡ false }
     requires no_step { is_step event ≡ false }
     requires pays { Pays (next_owed (stage_owes turns.old.stage) patience.old.spent) event }
-    requires in_turn { IsInTurn core.old (turn_of turns.old) event }
+    requires in_turn { IsInTurn S.honest core.old (turn_of turns.old) event }
     ensures goes { Goes S.content S.honest S.failures process hart result core.old core.new }
     ensures proceeds { (most : ℕ) (tried : ℕ → ℕ) → IsPatient most tried patience.old →
         Proceeds S.content S.honest S.failures process hart result most tried (duty_of turns.old)

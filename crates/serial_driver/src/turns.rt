@@ -86,7 +86,7 @@ impl Turns {
           faults = 0;
           owed = None;
           turn = record
-              { slice = 1; process = running.process; hart = running.hart; left = 1; phase = Runs };
+              { slice = 1; process = running.process; hart = running.hart; left = 1; wanted = 0; phase = Runs };
         } }
     {
         Turns {
@@ -108,7 +108,7 @@ impl Turns {
         requires { 0 < allowed }
         ensures next { (spent : Option ℕ) → next_owed (stage_owes self.now.stage) spent ≡
             stage_owes self.now.stage →
-            IfSome result (IsNext core.now allowed spent (duty_of self.now)) }
+            IfSome result (IsNext S.honest core.now allowed spent (duty_of self.now)) }
         ensures no_step { IfSome result IsNoStep }
         ensures none { IfNone result ((number : ℕ) → HasEnded core.now number) }
         ensures settled { IfNone result (stage_owes self.now.stage ≡ None) }
@@ -201,7 +201,7 @@ impl Turns {
     /// Brings the page in that the hart waits for, or asks the list for a victim where no frame is free.
     fn bring<L: Ledger, S: SwapSlot, C: Clock>(&self, core: &Core<L, S, C>) -> Event
         ensures ordinary { phase_of self.now.stage ≡ Waits →
-            IsOrdinary core.now (turn_of self.now) result }
+            IsOrdinary S.honest core.now (turn_of self.now) result }
         ensures no_step { is_step result ≡ false }
     {
         if core.counts().pager.free > 0 {
@@ -221,7 +221,7 @@ impl Turns {
           owed
               = step_owes process reply;
           turn = step_turn process hart reply self.old.slice
-              self.old.left;
+              self.old.left self.old.wanted;
         } }
     {
         self.running = HartOf { process, hart };
@@ -257,7 +257,7 @@ impl Turns {
           faults = self.old.load_faults;
           owed = None;
           turn =
-              ran_turn process hart self.old.slice self.old.left;
+              ran_turn process hart self.old.slice self.old.left self.old.wanted;
         } }
     {
         self.running = HartOf { process, hart };
@@ -487,7 +487,7 @@ fn clear<L: Ledger, S: SwapSlot, C: Clock>(
     last: Option<u32>,
 ) -> Event
     ensures ordinary { (turn : Turn) → turn.phase ≡ Clears victim last →
-        IsOrdinary core.now turn result }
+        IsOrdinary S.honest core.now turn result }
     ensures no_step { is_step result ≡ false }
 {
     let process = victim.process;

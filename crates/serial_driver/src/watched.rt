@@ -100,7 +100,7 @@ fn act_once<L: Ledger, S: SwapSlot, C: Clock>(
     patience: &mut Patience,
     next: Next,
 ) -> (Event, Reply)
-    requires may_come { MayCome core.old patience.old.spent (duty_of turns.old) next }
+    requires may_come { MayCome S.honest core.old patience.old.spent (duty_of turns.old) next }
     ensures applies { Applies S.content S.honest S.failures result.0 core.old core.new result.1 }
     ensures plays { (most : ℕ) (tried : ℕ → ℕ) → IsPatient most tried patience.old →
         PlaysWith S.content S.honest S.failures most tried (duty_of turns.old) patience.old.spent 1
@@ -124,7 +124,7 @@ fn happen<L: Ledger, S: SwapSlot, C: Clock>(
 ) -> Reply
     requires unlimited { is_limit_kill event ≡ false }
     requires pays { Pays (next_owed (stage_owes turns.old.stage) patience.old.spent) event }
-    requires in_turn { IsInTurn core.old (turn_of turns.old) event }
+    requires in_turn { IsInTurn S.honest core.old (turn_of turns.old) event }
     ensures applies { Applies S.content S.honest S.failures event core.old core.new result }
     ensures plays { (most : ℕ) (tried : ℕ → ℕ) → IsPatient most tried patience.old →
         PlaysWith S.content S.honest S.failures most tried (duty_of turns.old) patience.old.spent 1

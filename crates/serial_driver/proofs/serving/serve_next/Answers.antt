@@ -12,12 +12,12 @@ returns-in-None-clause-proceeds g c = λ most tried patient. over_gives_up g.S.S
 
 pub step-requires : goal.step-requires
 step-requires g c =
-    let may = step_may c.args.core.now c.args.process c.args.hart 1 c.args.patience.now.spent (duty_of c.args.turns.now) _ _ _ _ c.in-Some-Steps.field-0-is c.in-Some-Steps.ensures.next c.requires.serving in
+    let may = step_may g.S.SwapSlot.honest c.args.core.now c.args.process c.args.hart 1 c.args.patience.now.spent (duty_of c.args.turns.now) _ _ _ _ c.in-Some-Steps.field-0-is c.in-Some-Steps.ensures.next c.requires.serving in
     record { pays = may.0; in_turn = may.1 }
 
 pub bring-requires : goal.bring-requires
 bring-requires g c =
-    let may = event_may c.args.core.now 1 c.args.patience.now.spent (duty_of c.args.turns.now) _ _ c.in-Some-Event.field-0-is c.in-Some-Event.ensures.next in
+    let may = event_may g.S.SwapSlot.honest c.args.core.now 1 c.args.patience.now.spent (duty_of c.args.turns.now) _ _ c.in-Some-Event.field-0-is c.in-Some-Event.ensures.next in
     record {
       serving = c.requires.serving;
       owes = c.requires.owes;

@@ -4,7 +4,7 @@ use Rattle.std.specs.List.{position_from}
 use Rattle.std.specs.FinMap as map
 use Rattle.flat_machine.specs.ByTurns.{turn_after}
 use Rattle.flat_machine.specs.Process.{Process, is_live, may_step, flat_step}
-use Rattle.debug_core.specs.Limits.{CannotHave, CannotRead, CannotRecord, Limit}
+use Rattle.debug_core.specs.Limits.{CanRead, CannotHave, CannotRead, CannotRecord, Limit}
 use Rattle.debug_core.specs.Progresses.{ended_full}
 use Rattle.debug_core.specs.Stops.{Moment}
 use Rattle.page_memory.specs.Memory.{Memory, unreserved}
@@ -55,7 +55,7 @@ RefusesStep limits Device hart old new = ⊥
 RefusesStep limits NoMemory hart old new = (may_step hart old ≡ true) × (new ≡ old) × (¬ limits (CannotRecord [] hart))
 
 -- Why a look at so many bytes from an address on is refused: they are no range, or no page is mapped at one of them, or the target
--- can't read them, or memory is wanting.
+-- can't read them, or memory is wanting for those that it can read.
 abbrev pub RefusesLook : (Limit → Type 0) → DebugRefusal → ℕ → ℕ → Memory → Type 0
 RefusesLook limits Full address count memory = ⊥
 RefusesLook limits BadRange address count memory = ¬ IsRange 4096 address count
@@ -64,5 +64,5 @@ RefusesLook limits NoHart address count memory = ⊥
 RefusesLook limits Ended address count memory = ⊥
 RefusesLook limits NotMapped address count memory = IsRange 4096 address count × (all_there (bytes_from memory address count) ≡ false)
 RefusesLook limits Purged address count memory = IsRange 4096 address count × ((all_there (bytes_from memory address count) ≡ true) × limits (CannotRead address count fault.Purged))
-RefusesLook limits Device address count memory = IsRange 4096 address count × ((all_there (bytes_from memory address count) ≡ true) × limits (CannotRead address count fault.Device))
-RefusesLook limits NoMemory address count memory = IsRange 4096 address count × (all_there (bytes_from memory address count) ≡ true)
+RefusesLook limits Device address count memory = IsRange 4096 address count × ((all_there (bytes_from memory address count) ≡ true) × (limits (CannotRead address count fault.Device) × (¬ limits (CannotRead address count fault.Purged))))
+RefusesLook limits NoMemory address count memory = IsRange 4096 address count × ((all_there (bytes_from memory address count) ≡ true) × CanRead limits address count)

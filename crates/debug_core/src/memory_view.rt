@@ -1,7 +1,8 @@
 //! Looks at memory.
 
-ghost use Rattle.std.specs.Prelude.{◌≡◌, ℕ, ◌+◌, ◌^◌, ◌≤◌, true, map, Some, IfOk, IfErr, length};
+ghost use Rattle.std.specs.Prelude.{◌≡◌, ℕ, ◌+◌, ◌^◌, ◌≤◌, true, map, Some, IfOk, IfErr, OnOk, length};
 ghost use Rattle.debug_core.specs.Debugging.{RefusesLook};
+ghost use Rattle.debug_core.specs.Limits.{CanRead};
 ghost use Rattle.debug_core.specs.Points.{all_there, bytes_from, IsRange};
 
 use crate::debugger::{Debugger, is_range};
@@ -17,6 +18,7 @@ impl<T: Target> Debugger<T> {
     pub fn mem(&mut self, alloc: Global, address: u32, length: u32) -> Result<Vec<u8>, DebugRefusal>
         ensures ok { IfOk result (λ bytes. IsRange 4096 address length ×
             (map Some bytes.items ≡ bytes_from (T.shown self.old.target).memory address length)) }
+        ensures readable { OnOk result (CanRead (T.limits self.old.target) address length) }
         ensures refused { IfErr result (λ why.
             RefusesLook (T.limits self.old.target) why address length
             (T.shown self.old.target).memory) }

@@ -5,7 +5,7 @@ ghost use Rattle.flat_machine.specs.ByTurns.{turn_after};
 ghost use Rattle.flat_machine.specs.Process.{Process, hart_registers, is_live, may_step};
 ghost use Rattle.page_memory.specs.Memory.{byte_at};
 ghost use Rattle.debug_core.specs.Points.{bytes_from};
-ghost use Rattle.debug_core.specs.Limits.{CannotRead, CannotRecord, HeedsLimits, KeepsRoom, LeavesRoom, Limit};
+ghost use Rattle.debug_core.specs.Limits.{CanRead, CannotRead, CannotRecord, HeedsLimits, IsFirstFault, KeepsRoom, LeavesRoom, Limit};
 ghost use Rattle.debug_core.specs.Progresses.{Progresses};
 
 use flat_machine::End;
@@ -86,8 +86,10 @@ pub trait Target: Drop {
         requires { address + length bytes.old ≤ 2 ^ 32 }
         ensures ok { OnOk result (bytes.new ≡ bytes_from (shown self.old).memory address
             (length bytes.old)) }
+        ensures readable { OnOk result (CanRead (limits self.old) address (length bytes.old)) }
         ensures refused { IfErr result (λ why.
             limits self.old (CannotRead address (length bytes.old) why)) }
+        ensures first { IfErr result (IsFirstFault (limits self.old) address (length bytes.old)) }
         ensures shown { shown self.new ≡ shown self.old }
         ensures kept { KeepsRoom (limits self.old) (limits self.new) };
 }

@@ -1,5 +1,5 @@
 -- An order of instructions is recorded in one schedule at most.
-use Rattle.std.proofs.Common.{◌≡◌, ℕ, zero, suc, ◌+◌, ◌<◌, ◌≤◌, List, [], ◌∷◌, ◌++◌, length, replicate, slice_index_or, refl, sym, ap, ◌∙◌, subst, inl, inr, arith}
+use Rattle.std.proofs.Common.{◌≡◌, ℕ, zero, suc, ◌+◌, ◌<◌, List, [], ◌∷◌, ◌++◌, replicate, slice_index_or, refl, sym, ap, ◌∙◌, subst, inl, inr, arith}
 use Rattle.std.specs.Prelude.{◌⊎◌, ◌^◌, ◌-◌}
 use Rattle.flat_machine.specs.Schedule.{written_out, IsJoined}
 use Rattle.flat_machine.specs.declared.schedule.Turn.{Turn}

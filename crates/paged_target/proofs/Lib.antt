@@ -1,9 +1,12 @@
+pub mod GivingUp
 pub mod Joined
 pub mod PageBytes
 pub mod Peeked
 pub mod ReadsOn
 pub mod Recorded
 pub mod Showing
+pub mod Staying
 pub mod Stepping
 pub mod Turning
+pub mod Unkilled
 pub mod Whole

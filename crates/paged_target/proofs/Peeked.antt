@@ -7,16 +7,18 @@ use Rattle.paged_memory.specs.PeekLaws.{looked_stage, never_fails, not_mapped, w
 use Rattle.paged_memory.specs.Whole.{stage_in}
 use Rattle.paged_memory.specs.declared.peeking.PeekFault.{PeekFault}
 use Rattle.paged_memory.specs.declared.peeking.PeekFault.TheVariants as fault
+use Rattle.page_store.specs.declared.state.PageState.TheVariants.{Purged}
 use Rattle.flat_machine.specs.Process.{Process, flat_run, opening}
 use Rattle.flat_machine.specs.Schedule.{written_out}
-use Rattle.space_core.specs.StandsFor.{SpaceValue, flat_with}
+use Rattle.space_core.specs.StandsFor.{SpaceValue, flat_with, own_ending}
 use Rattle.machine_core.specs.Machine.{CoreValue}
 use Rattle.machine_core.specs.Reading.{PeeksAt}
 use Rattle.machine_core.specs.TotalLaws.{get_set_same}
 use Rattle.debug_core.specs.Points.{bytes_from}
+use Rattle.paged_target.specs.Intact.{IsIntact, IsUnkilled, IsUnkilledIn}
 use Rattle.paged_target.specs.Reads.{KeepsShown}
 use Rattle.paged_target.specs.Recording.{recorded, recorded_in}
-use Rattle.paged_target.specs.Shown.{flat_at, flat_in, flat_of, stage_of, stage_shown, IsGivenBack}
+use Rattle.paged_target.specs.Shown.{flat_at, flat_in, flat_of, stage_of, stage_shown}
 use Rattle.paged_target.proofs.PageBytes.{in_page, no_page}
 use Rattle.paged_target.proofs.Showing.{ShowsFlat, page_shown, byte_shown}
 
@@ -49,8 +51,19 @@ module _ {S : Type 0} (held : S → List ℕ) (honest : Type 0) where
         ap (option_and_then (stage_of number)) left_at ∙ looked_stage held honest address peeks.one.process.memory peeks.one.process'.memory peeks.one.how.left number
         ∙ ap (option_and_then (stage_of number)) (sym peeks.one.found)
 
+    unkilled_stays : IsUnkilled old → IsUnkilled new
+    unkilled_stays unkilled =
+        let own : own_ending peeks.one.process.running.ending ≡ peeks.one.process.running.ending = subst IsUnkilledIn peeks.one.found unkilled in
+        subst IsUnkilledIn (sym left_at) (subst (λ (p : SpaceValue S). own_ending p.running.ending ≡ p.running.ending) (sym peeks.one.how.stays) own)
+
     pub peek_keeps : KeepsShown old new
-    peek_keeps = record { there = subst IsSome (sym left_at) cc; flat = flat_stays; recorded = recorded_stays; purged = λ number e. sym (stage_stays number) ∙ e }
+    peek_keeps = record {
+      there = subst IsSome (sym left_at) cc;
+      flat = flat_stays;
+      recorded = recorded_stays;
+      purged = λ number e. sym (stage_stays number) ∙ e;
+      unkilled = unkilled_stays;
+    }
 
   module _ (failures : S → ℕ) (address : ℕ) (room bytes : List (Option ℕ)) (old new : CoreValue S) where
     side_is : (shows : ShowsFlat held old) (side : SpaceValue S) → slice_get old.processes 0 ≡ Some side → shows.side ≡ side
@@ -78,15 +91,13 @@ module _ {S : Type 0} (held : S → List ℕ) (honest : Type 0) where
         no_page (flat_at old).memory address (length room) within (no_byte (byte_at (flat_at old).memory address) missing)
 
     -- the page was given back
-    pub given_back_is : 0 < length room → PeeksAt held honest failures 0 address room bytes (Some (Err fault.Purged)) old new → IsGivenBack address (length room) old
-    given_back_is some peeks =
-        let same : address + 0 ≡ address = omega arith in
-        record {
-          offset = 0;
-          within = some;
-          purged = ap (λ a. stage_shown old (page_number a)) same ∙ ap (option_and_then (stage_of (page_number address))) peeks.one.found
-              ∙ was_given_up held honest failures address peeks.one.process.memory peeks.one.process'.memory peeks.one.how.refused;
-        }
+    given_back_is : PeeksAt held honest failures 0 address room bytes (Some (Err fault.Purged)) old new → stage_shown old (page_number address) ≡ Some Purged
+    given_back_is peeks =
+        ap (option_and_then (stage_of (page_number address))) peeks.one.found
+        ∙ was_given_up held honest failures address peeks.one.process.memory peeks.one.process'.memory peeks.one.how.refused
+
+    pub given_back_never : IsIntact old → (answer : Result (Unit {0}) PeekFault) → answer ≡ Err fault.Purged → PeeksAt held honest failures 0 address room bytes (Some answer) old new → ⊥
+    given_back_never intact answer is given = intact (page_number address) (given_back_is (subst (λ r. PeeksAt held honest failures 0 address room bytes (Some r) old new) is given))
 
     pub process_there : IsSome (slice_get old.processes 0) → PeeksAt held honest failures 0 address room bytes None old new → ⊥
     process_there there peeks = missing_there (slice_get old.processes 0) there peeks.0

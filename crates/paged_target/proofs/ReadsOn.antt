@@ -1,15 +1,12 @@
 -- Reads one after another.
-use Rattle.std.proofs.Common.{◌≡◌, ◌≤◌, ℕ, ◌+◌, IsSome, slice_get, refl, ap, ◌∙◌, arith}
-use Rattle.page_memory.specs.Words.{page_number}
+use Rattle.std.proofs.Common.{IsSome, slice_get, refl, ◌∙◌}
 use Rattle.machine_core.specs.Machine.{CoreValue}
-use Rattle.debug_core.specs.declared.target.ReadFault.{ReadFault}
-use Rattle.debug_core.specs.declared.target.ReadFault.TheVariants as fault
-use Rattle.paged_target.specs.Reads.{FailsToReadFrom, KeepsShown}
-use Rattle.paged_target.specs.Shown.{stage_shown}
+use Rattle.paged_target.specs.Intact.{IsIntact}
+use Rattle.paged_target.specs.Reads.{KeepsShown}
 
 module _ {S : Type 0} where
   pub keeps_same : (core : CoreValue S) → IsSome (slice_get core.processes 0) → KeepsShown core core
-  keeps_same core there = record { there = there; flat = refl; recorded = refl; purged = λ number e. e }
+  keeps_same core there = record { there = there; flat = refl; recorded = refl; purged = λ number e. e; unkilled = λ unkilled. unkilled }
 
   pub keeps_then : (old between new : CoreValue S) → KeepsShown old between → KeepsShown between new → KeepsShown old new
   keeps_then old between new first second = record {
@@ -17,16 +14,8 @@ module _ {S : Type 0} where
     flat = second.flat ∙ first.flat;
     recorded = second.recorded ∙ first.recorded;
     purged = λ number e. first.purged number (second.purged number e);
+    unkilled = λ unkilled. second.unkilled (first.unkilled unkilled);
   }
 
-  -- bytes among others that can't be read
-  pub fails_among : (address count i some : ℕ) (old now : CoreValue S) (why : ReadFault) → i + some ≤ count → KeepsShown old now → FailsToReadFrom (address + i) some now why → FailsToReadFrom address count old why
-  fails_among address count i some old now fault.Purged within keeps fails =
-      let first = fails.within in
-      let same : address + (i + fails.offset) ≡ address + i + fails.offset = omega arith in
-      record {
-        offset = i + fails.offset;
-        within = omega (arith, first, within);
-        purged = keeps.purged (page_number (address + (i + fails.offset))) (ap (λ a. stage_shown now (page_number a)) same ∙ fails.purged);
-      }
-  fails_among address count i some old now fault.Device within keeps fails = absurd fails
+  pub keeps_intact : (old new : CoreValue S) → KeepsShown old new → IsIntact old → IsIntact new
+  keeps_intact old new kept intact number given = intact number (kept.purged number given)

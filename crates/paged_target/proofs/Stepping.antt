@@ -1,5 +1,5 @@
 -- What events that serve a hart make of the flat process.
-use Rattle.std.proofs.Common.{◌≡◌, ℕ, Bool, true, false, ◌&&◌, List, [], ◌∷◌, ◌++◌, Option, Some, None, IsSome, slice_get, refl, sym, ap, ◌∙◌, subst, append_assoc, append-nil}
+use Rattle.std.proofs.Common.{◌≡◌, ℕ, true, ◌&&◌, List, [], ◌∷◌, ◌++◌, Some, None, IsSome, slice_get, refl, sym, ap, ◌∙◌, subst, append_assoc, append-nil}
 use Rattle.std.specs.Prelude.{◌==◌, if◌then◌else◌, option_and_then}
 use Rattle.elf_image.specs.Image.{ImageContent}
 use Rattle.flat_machine.specs.Process.{Process, opening, flat_run, flat_step}
@@ -131,7 +131,7 @@ module _ {S : Type 0} where
         let remains = serves_remains hart what old new shows.side serves shows.found in
         ap recorded_in remains.found ∙ remains.goes_on.recorded ∙ ap (λ o. recorded_in o ++ added_by what hart) (sym shows.found)
 
-    -- what an ending by the machine leaves to be recorded
-    pub remains_room : (old new : CoreValue S) (shows : ShowsFlat held old) → Remains 0 [] new.processes shows.side → KeepsRoom (LacksOn old) (LacksOn new)
-    remains_room old new shows remains =
-        keeps_room old new (ap recorded_in remains.found ∙ remains.goes_on.recorded ∙ append-nil (written_out shows.side.schedule) ∙ ap recorded_in (sym shows.found))
+-- what an ending by the machine leaves to be recorded
+pub remains_room : (held : List ℕ → List ℕ) (old new : CoreValue (List ℕ)) (shows : ShowsFlat held old) → Remains 0 [] new.processes shows.side → KeepsRoom (LacksOn old) (LacksOn new)
+remains_room held old new shows remains =
+    keeps_room old new (ap recorded_in remains.found ∙ remains.goes_on.recorded ∙ append-nil (written_out shows.side.schedule) ∙ ap recorded_in (sym shows.found))

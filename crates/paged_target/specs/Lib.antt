@@ -1,3 +1,5 @@
+pub mod GivenUp
+pub mod Intact
 pub mod Lacks
 pub mod Marks
 pub mod Reads

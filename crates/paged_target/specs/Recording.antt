@@ -14,6 +14,14 @@ module _ {S : Type 0} where
   abbrev pub recorded : CoreValue S → List ℕ
   recorded core = recorded_in (slice_get core.processes 0)
 
+  abbrev pub room_in : ℕ → Option (SpaceValue S) → ℕ
+  room_in hart None = 0
+  room_in hart (Some side) = room side.schedule hart
+
+  -- how many more instructions of a hart its schedule takes
+  abbrev pub room_left : ℕ → CoreValue S → ℕ
+  room_left hart core = room_in hart (slice_get core.processes 0)
+
 -- The schedule in which this order is recorded has no room for one more instruction of a hart. There is one such schedule at most, since
 -- neighbours of one hart are joined.
 abbrev pub IsFull : List ℕ → ℕ → Type 0

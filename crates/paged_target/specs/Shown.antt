@@ -1,8 +1,6 @@
 -- What a machine of one process shows of it: the flat process that its recorded instructions leave.
-use Rattle.std.specs.Prelude.{◌≡◌, ℕ, ◌+◌, ◌<◌, Bool, true, false, List, [], slice_get, option_and_then, Option, Some, None, unwrap_or}
-use Rattle.page_memory.specs.Words.{page_number}
+use Rattle.std.specs.Prelude.{ℕ, Bool, true, false, List, [], slice_get, option_and_then, Option, Some, None, unwrap_or}
 use Rattle.page_store.specs.declared.state.PageState.{PageState}
-use Rattle.page_store.specs.declared.state.PageState.TheVariants.{Purged}
 use Rattle.paged_memory.specs.Whole.{stage_in}
 use Rattle.flat_machine.specs.Process.{Process, opening, flat_run}
 use Rattle.flat_machine.specs.Schedule.{written_out}
@@ -38,12 +36,6 @@ module _ {S : Type 0} where
 
   abbrev pub stage_shown : CoreValue S → ℕ → Option PageState
   stage_shown core number = option_and_then (stage_of number) (slice_get core.processes 0)
-
-  -- one of so many bytes from an address on lies in a page that was given back
-  pub record IsGivenBack (address count : ℕ) (core : CoreValue S) : Type 0 where
-    pub offset : ℕ
-    pub within : offset < count
-    pub purged : stage_shown core (page_number (address + offset)) ≡ Some Purged
 
 abbrev pub shown_as : Bool → Process → Process
 shown_as false flat = flat

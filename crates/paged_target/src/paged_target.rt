@@ -1,11 +1,13 @@
-ghost use Rattle.std.specs.Prelude.{◌≡◌, ◌≢◌, ◌+◌, ◌<◌, ◌≤◌, ◌↔◌, ◌⊎◌, [], ◌∷◌, ◌++◌, false, true, None, Some, IfOk, IsErrOf, IsSome, slice_get};
-ghost use Rattle.debug_core.specs.declared.target.Progress.TheVariants.{Ran as HasRun};
-ghost use Rattle.flat_machine.specs.Process.{flat_step, opening};
+ghost use Rattle.std.specs.Prelude.{◌≡◌, ◌+◌, ◌<◌, ◌≤◌, [], ◌∷◌, false, true, None, Some, IfOk, IsSome, slice_get};
+ghost use Rattle.flat_machine.specs.Process.{opening};
 ghost use Rattle.space_core.specs.StandsFor.{own_ending};
 ghost use Rattle.elf_image.specs.Start.{start_of};
 ghost use Rattle.machine_core.specs.Opening.{MachineBegins};
 ghost use Rattle.debug_core.specs.Limits.{CannotRecord, KeepsRoom};
+ghost use Rattle.paged_target.specs.GivenUp.{IsGivenUp};
+ghost use Rattle.paged_target.specs.Intact.{IsIntact, IsUnkilled};
 ghost use Rattle.paged_target.specs.Lacks.{Lacks, LacksOn, LeavesRoomFor};
+ghost use Rattle.paged_target.specs.Recording.{room_left};
 ghost use Rattle.paged_target.specs.Serving.{ServesFlat};
 ghost use Rattle.paged_target.specs.Shown.{flat_at, shown_of, TargetValue};
 
@@ -33,14 +35,19 @@ pub struct PagedTarget<L: Ledger, C: Clock> {
 }
 
 impl<L: Ledger, C: Clock> Model for PagedTarget<L, C> {
-    ghost use Rattle.std.specs.Prelude.{IsSome, slice_get};
+    ghost use Rattle.std.specs.Prelude.{◌≡◌, false, IsSome, slice_get};
+    ghost use Rattle.paged_target.specs.Intact.{IsIntact, IsUnkilled};
     ghost use Rattle.paged_target.specs.Shown.{TargetValue};
 
     ghost Value = { TargetValue };
 
     ghost view = { λ target. record { core = target.core; full = target.full } };
 
-    ghost invariant = { λ target. IsSome (slice_get target.core.processes 0) };
+    ghost invariant = { λ target. record {
+      there : IsSome (slice_get target.core.processes 0);
+      intact : IsIntact target.core;
+      unkilled : target.full ≡ false → IsUnkilled target.core;
+    } };
 }
 
 impl<L: Ledger, C: Clock> PagedTarget<L, C> {
@@ -134,21 +141,29 @@ impl<L: Ledger, C: Clock> Target for PagedTarget<L, C> {
             Served::Absent => Ok(Progress::Absent),
             Served::NoMemory => Err(AllocError),
             // It was seen that the instruction fits.
-            Served::Full => Ok(Progress::Absent),
+            Served::Full => unreachable!(),
         }
     }
 
     fn read(&mut self, address: u32, bytes: &mut [Option<u8>]) -> Result<(), ReadFault> {
-        read(&mut self.core, address, bytes)
+        read(&mut self.core, address, bytes);
+        Ok(())
     }
 }
 
 /// Runs one instruction of a hart of process 0.
 fn serve<L: Ledger, C: Clock>(core: &mut Core<L, MemorySlot, C>, hart: u32) -> Served
     requires there { IsSome (slice_get core.old.processes 0) }
+    requires intact { IsIntact core.old }
+    requires unkilled { IsUnkilled core.old }
+    requires goes_on { (flat_at core.old).ending ≡ None }
     ensures serves { ServesFlat result hart (flat_at core.old) (flat_at core.new) }
     ensures room { LeavesRoomFor result hart core.old core.new }
+    ensures given_up { result ≡ Served.Absent → IsGivenUp hart core.old }
+    ensures full { result ≡ Served.Full → room_left hart core.old ≡ 0 }
     ensures there { IsSome (slice_get core.new.processes 0) }
+    ensures intact { IsIntact core.new }
+    ensures unkilled { IsUnkilled core.new }
 {
     core.faithful();
     let served = serve_step(core, 0, hart);
@@ -161,6 +176,7 @@ fn fits<L: Ledger, C: Clock>(core: &Core<L, MemorySlot, C>, hart: u32) -> bool
     requires there { IsSome (slice_get core.now.processes 0) }
     ensures roomy { result ≡ true → ¬ LacksOn core.now (CannotRecord [] hart) }
     ensures full { result ≡ false → LacksOn core.now (CannotRecord [] hart) }
+    ensures room { result ≡ true → 0 < room_left hart core.now }
 {
     let Some(schedule) = core.schedule(0) else {
         unreachable!()

@@ -8,4 +8,4 @@ pub returns : goal.returns
 returns g c =
     subst (λ t. c.is_some.result ≡ is_some (byte_at (shown_of t).memory c.args.address)) c.self.view_is
     (c.is_some.ensures ∙ ap is_some c.state.ensures
-    ∙ mapped_shown _ c.self.inside.core (shows_flat _ _ c.self.inside.core (tt {0}) c.faithful.ensures c.self.invariant) c.self.inside.full c.args.address c.page_of.result c.page_of.ensures.number c.page_of.ensures.small)
+    ∙ mapped_shown _ c.self.inside.core (shows_flat _ _ c.self.inside.core (tt {0}) c.faithful.ensures c.self.invariant.there) c.self.inside.full c.args.address c.page_of.result c.page_of.ensures.number c.page_of.ensures.small)

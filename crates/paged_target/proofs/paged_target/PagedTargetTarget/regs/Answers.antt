@@ -8,4 +8,4 @@ use Rattle.paged_target.proofs.paged_target.PagedTargetTarget.regs.Goals as goal
 pub returns : goal.returns
 returns g c =
     subst (λ t. option_copied c.regs.result ≡ hart_registers c.args.hart (shown_of t)) c.self.view_is
-    (c.regs.ensures.exact ∙ harts_shown _ c.self.inside.core (shows_flat _ _ c.self.inside.core (tt {0}) c.faithful.ensures c.self.invariant) c.self.inside.full c.args.hart)
+    (c.regs.ensures.exact ∙ harts_shown _ c.self.inside.core (shows_flat _ _ c.self.inside.core (tt {0}) c.faithful.ensures c.self.invariant.there) c.self.inside.full c.args.hart)

@@ -75,21 +75,21 @@ module _ {S : Type 0} (hart : ℕ) where
 
   -- a process gives no page back, and is not ended by the machine; only what is recorded takes room
   record Stays (old new : SpaceValue S) : Type 0 where
-    pub pages : GivesNone old.memory new.memory
+    pub none : GivesNone old.memory new.memory
     pub own : own_ending old.running.ending ≡ old.running.ending → own_ending new.running.ending ≡ new.running.ending
     pub all : all_of new ≡ all_of old
 
   stays_same : (old new : SpaceValue S) → new ≡ old → Stays old new
-  stays_same old new same = subst (λ (p : SpaceValue S). Stays old p) (sym same) (record { pages = λ number given. given; own = λ own. own; all = refl })
+  stays_same old new same = subst (λ (p : SpaceValue S). Stays old p) (sym same) (record { none = λ number given. given; own = λ own. own; all = refl })
 
   stays_then : (old between new : SpaceValue S) → Stays old between → Stays between new → Stays old new
   stays_then old between new first second =
-      record { pages = λ number given. first.pages number (second.pages number given); own = λ own. second.own (first.own own); all = second.all ∙ first.all }
+      record { none = λ number given. first.none number (second.none number given); own = λ own. second.own (first.own own); all = second.all ∙ first.all }
 
   -- its memory moves alone
   beside : (old new : SpaceValue S) → GivesNone old.memory new.memory → new ≡ record old { memory = new.memory } → Stays old new
   beside old new none stays = record {
-    pages = none;
+    none = none;
     own = λ own. subst (λ (p : SpaceValue S). own_ending p.running.ending ≡ p.running.ending) (sym stays) own;
     all = ap all_of stays;
   }
@@ -135,7 +135,7 @@ module _ {S : Type 0} (hart : ℕ) where
 
   noticed_stays : (h : ℕ) (old new : SpaceValue S) → new ≡ record old { memory = noticed h old.memory } → Stays old new
   noticed_stays h old new is =
-      subst (λ (p : SpaceValue S). Stays old p) (sym is) (record { pages = noticed_none h old.memory; own = λ own. own; all = refl })
+      subst (λ (p : SpaceValue S). Stays old p) (sym is) (record { none = noticed_none h old.memory; own = λ own. own; all = refl })
 
   bit_stays : (bit : Bit) (vpn : ℕ) (old new : SpaceValue S) → ReadsBit bit vpn old new → Stays old new
   bit_stays Gone vpn old new read = stays_same old new read
@@ -168,7 +168,7 @@ module _ {S : Type 0} (hart : ℕ) where
         let left = once.slice.left in
         let more = ap length once.slice.recorded ∙ length-append (written_out old.schedule) (replicate once.ran hart) ∙ ap (λ n. length (written_out old.schedule) + n) (length-replicate once.ran hart) in
         record {
-          pages = used_none old.memory new.memory once.slice.kept.pages;
+          none = used_none old.memory new.memory once.slice.kept.pages;
           own = own_run (replicate once.ran hart) (shown_process held old) (shown_process held new) once.slice.ran_is;
           all = same_sum (room old.schedule hart) (length (written_out old.schedule)) (room new.schedule hart) (length (written_out new.schedule)) once.ran left more;
         }
@@ -312,7 +312,7 @@ module _ {S : Type 0} (hart : ℕ) where
   intact_by old new first there intact number given =
       let at = there_is old there in
       let stays = first at.0 at.1 in
-      intact number (ap (option_and_then (stage_of number)) at.1 ∙ stays.stays.pages number (sym (ap (option_and_then (stage_of number)) stays.found) ∙ given))
+      intact number (ap (option_and_then (stage_of number)) at.1 ∙ stays.stays.none number (sym (ap (option_and_then (stage_of number)) stays.found) ∙ given))
 
   unkilled_by : (old new : CoreValue S) → FirstStays old.processes new.processes → IsSome (slice_get old.processes 0) → IsUnkilled old → IsUnkilled new
   unkilled_by old new first there unkilled =

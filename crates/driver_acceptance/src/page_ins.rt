@@ -6,7 +6,7 @@ use clock_policy::Key;
 use clock_ring::ClockRing;
 use elf_image::Image;
 use flat_machine::FlatProcess;
-use guest_strings::GuestString;
+use guest_strings::{AccessKinds, GuestString};
 use machine_core::Core;
 use page_policies::{Frames, misses};
 use rv_asm::assemble;
@@ -91,7 +91,7 @@ fn misses_of(alloc: Global, frames: Frames, source: &str) -> Result<usize, Fail>
     let mut processes = Vec::new(alloc);
     let image = image_of(alloc, source)?;
     processes.push(FlatProcess::new(alloc, &image, Vec::new(alloc))?)?;
-    let mut guest = GuestString::new(processes, 1000, 100_000);
+    let mut guest = GuestString::new(processes, AccessKinds::All, 1000, 100_000);
     let mut string: Vec<Key> = Vec::new(alloc);
     for _ in 0..100_000 {
         match guest.next()? {

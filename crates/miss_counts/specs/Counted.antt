@@ -3,6 +3,7 @@ use Rattle.std.specs.Prelude.{◌≡◌, ℕ, ◌-◌, ◌&&◌, ◌||◌, Bool,
 use Rattle.clock_policy.specs.FrameCounts.{least_frames, most_frames}
 use Rattle.clock_policy.specs.declared.key.Key.{Key}
 use Rattle.flat_machine.specs.Process.{Process}
+use Rattle.guest_strings.specs.declared.access_kinds.AccessKinds.{AccessKinds}
 use Rattle.guest_strings.specs.declared.reference.Reference.{Reference}
 use Rattle.guest_strings.specs.Slices.{guest_string}
 use Rattle.page_policies.specs.declared.frames.Frames.{Frames}
@@ -24,9 +25,10 @@ use Rattle.miss_counts.specs.declared.policy_set.PolicySet.{PolicySet}
 abbrev pub pages_of : List Reference → List Key
 pages_of references = map (λ reference. reference.page) references
 
--- the pages of the string of references of guests by slices of so many instructions, of up to so many instructions in all
-abbrev pub guest_pages : ℕ → ℕ → List Process → List Key
-guest_pages slice limit processes = pages_of (guest_string slice limit processes)
+-- the pages of the string of references of guests, of those that are kept, by slices of so many instructions, of up to so many
+-- instructions in all
+abbrev pub guest_pages : AccessKinds → ℕ → ℕ → List Process → List Key
+guest_pages accesses slice limit processes = pages_of (guest_string accesses slice limit processes)
 
 -- whether so many frames are what a machine may have, and the list of CLOCK-Pro
 abbrev pub is_machines : ℕ → Bool

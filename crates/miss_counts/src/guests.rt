@@ -14,7 +14,7 @@ use crate::policy_set::PolicySet;
 use crate::progress::{Progress, Stage};
 use clock_policy::Key;
 use flat_machine::FlatProcess;
-use guest_strings::GuestString;
+use guest_strings::{AccessKinds, GuestString};
 use machine_limits::MOST_PROCESSES;
 use page_policies::{Frames, PolicyRefusal};
 use std::alloc::{AllocError, Global};
@@ -36,11 +36,12 @@ pub fn pages_of<P: Progress>(
     Ok(pages)
 }
 
-/// What the string of guests misses by slices of so many instructions, of up to so many instructions in all: a row for each of these
-/// numbers of frames, or for the usual ones up to the guests' pages.
+/// What the string of guests misses, of the references that are kept, by slices of so many instructions, of up to so many
+/// instructions in all: a row for each of these numbers of frames, or for the usual ones up to the guests' pages.
 pub fn guest_rows<P: Progress>(
     alloc: Global,
     processes: Vec<FlatProcess>,
+    accesses: AccessKinds,
     slice: u32,
     limit: u64,
     frames: Option<Vec<Frames>>,
@@ -48,7 +49,7 @@ pub fn guest_rows<P: Progress>(
     progress: &mut P,
 ) -> Result<Vec<Counts>, PolicyRefusal>
     requires { length processes.items ≤ MOST_PROCESSES }
-    ensures rows { IfOk result (λ rows. IsTable wanted (guest_pages slice limit processes.items)
+    ensures rows { IfOk result (λ rows. IsTable wanted (guest_pages accesses slice limit processes.items)
         (option_map (λ f. f.items) frames) rows.items) }
     ensures bad_size { (result ≡ Err PolicyRefusal.BadSize) ↔ (all_asked_serve wanted
         (option_map (λ f. f.items) frames) ≡ false) }
@@ -56,7 +57,9 @@ pub fn guest_rows<P: Progress>(
     if !serves_asked(wanted, &frames) {
         return Err(PolicyRefusal::BadSize);
     }
-    Ok(counted_rows(alloc, processes, slice, limit, frames, wanted, progress)?)
+    Ok(counted_rows(
+        alloc, processes, accesses, slice, limit, frames, wanted, progress,
+    )?)
 }
 
 /// Whether each of the policies serves each of these numbers of frames, or the usual ones.
@@ -73,6 +76,7 @@ fn serves_asked(wanted: PolicySet, frames: &Option<Vec<Frames>>) -> bool
 fn counted_rows<P: Progress>(
     alloc: Global,
     processes: Vec<FlatProcess>,
+    accesses: AccessKinds,
     slice: u32,
     limit: u64,
     frames: Option<Vec<Frames>>,
@@ -81,10 +85,14 @@ fn counted_rows<P: Progress>(
 ) -> Result<Vec<Counts>, AllocError>
     requires few { length processes.items ≤ MOST_PROCESSES }
     requires served { all_asked_serve wanted (option_map (λ f. f.items) frames) ≡ true }
-    ensures { IfOk result (λ rows. IsTable wanted (guest_pages slice limit processes.items)
+    ensures { IfOk result (λ rows. IsTable wanted (guest_pages accesses slice limit processes.items)
         (option_map (λ f. f.items) frames) rows.items) }
 {
-    let string = pages_of(alloc, GuestString::new(processes, slice, limit), progress)?;
+    let string = pages_of(
+        alloc,
+        GuestString::new(processes, accesses, slice, limit),
+        progress,
+    )?;
     let Some(frames) = frames else {
         return usual_rows(alloc, string.as_slice(), wanted, progress);
     };

@@ -6,3 +6,5 @@ pub mod LruDepths
 pub mod LruDepthLaws
 pub mod OptimumCurve
 pub mod Sampling
+pub mod WorkingSets
+pub mod WorkingSetLaws

@@ -115,7 +115,7 @@ abbrev pub Few : ℕ → List ℕ → Type 0
 Few n [] = ⊤
 Few n (k ∷ ks) = (k ≤ n) × Few n ks
 
-few_more : (n : ℕ) (ks : List ℕ) → Few n ks → Few (n + 1) ks
+pub few_more : (n : ℕ) (ks : List ℕ) → Few n ks → Few (n + 1) ks
 few_more n [] h = tt
 few_more n (k ∷ ks) h = let one : k ≤ n = h.0 in (omega (arith, one), few_more n ks h.1)
 
@@ -360,12 +360,12 @@ pub count_small : (seen d : ℕ) (counts : List ℕ) (stack rest string : List K
 count_small seen d counts stack rest string c h inside = let f : slice_index_or counts d 0 ≤ seen = few_at seen d counts c.few inside in omega (arith, f, h)
 
 -- a slice that was lent comes back whole
-pub come_back : (n : ℕ) (a s t : List Key) → n ≡ length s → length a ≡ length s → a ≡ t → take n (a ++ drop (length a) s) ≡ t
-come_back n a s t is same_length to = ap (λ (k : ℕ). take k (a ++ drop (length a) s)) (is ∙ sym same_length) ∙ first a (drop (length a) s) ∙ to
+pub come_back : {A : Type 0} (n : ℕ) (a s t : List A) → n ≡ length s → length a ≡ length s → a ≡ t → take n (a ++ drop (length a) s) ≡ t
+come_back {A = A} n a s t is same_length to = ap (λ (k : ℕ). take k (a ++ drop (length a) s)) (is ∙ sym same_length) ∙ first a (drop (length a) s) ∙ to
   where
-    first : (a b : List Key) → take (length a) (a ++ b) ≡ a
+    first : (a b : List A) → take (length a) (a ++ b) ≡ a
     first [] b = refl
-    first (q ∷ qs) b = ap (λ (l : List Key). q ∷ l) (first qs b)
+    first (q ∷ qs) b = ap (λ (l : List A). q ∷ l) (first qs b)
 
 pub counting_begins : (counts : List ℕ) (stack string : List Key) → counts ≡ [] → stack ≡ [] → Counting 0 counts stack string string
 counting_begins counts stack string c s = subst (λ (l : List ℕ). Counting 0 l stack string string) (sym c) (subst (λ (l : List Key). Counting 0 [] l string string) (sym s) (counting_open string))

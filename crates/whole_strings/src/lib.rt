@@ -1,4 +1,4 @@
-//! What is counted of a whole string of references: the optimum, and curves over every number of frames.
+//! What is counted of a whole string of references: the optimum, curves over every number of frames, and working sets.
 #![tactic(auto)]
 
 mod each_optimum;
@@ -6,9 +6,11 @@ mod lru_depths;
 mod optimum;
 mod sampling;
 mod string_uses;
+mod working_sets;
 
 pub use each_optimum::optimum_curve;
 pub use lru_depths::lru_curve;
 pub use optimum::Optimum;
 pub use sampling::is_sampled;
 pub use string_uses::next_uses;
+pub use working_sets::{WindowCounts, window_curve};

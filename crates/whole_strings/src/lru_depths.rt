@@ -30,7 +30,7 @@ fn raise(stack: &mut [Key], at: usize)
 }
 
 /// One hit more at this depth.
-fn note_hit(hits: &mut [usize], at: usize)
+pub(crate) fn note_hit(hits: &mut [usize], at: usize)
     requires inside { at < length hits.old }
     requires small { slice_index_or hits.old at 0 < 2 ^ 63 }
     ensures { hits.new ≡ noted at hits.old }

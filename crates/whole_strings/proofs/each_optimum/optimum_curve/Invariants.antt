@@ -1,6 +1,5 @@
 use Rattle.std.proofs.Common.{◌≡◌, ℕ, ◌+◌, ◌<◌, length, slice_index_or}
 use Rattle.page_policies.specs.Optimal.{optimal_misses}
-use Rattle.page_policies.specs.NextUses.{next_uses}
 use Rattle.whole_strings.proofs.each_optimum.optimum_curve.Given as goal
 
 abbrev pub invariant-numbers : goal.invariant-numbers

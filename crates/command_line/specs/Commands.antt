@@ -42,11 +42,12 @@ with_size app = with_rule (with_rule app (option_rule (codes "frames"))) (option
 unfoldable pub drive_app : App
 drive_app = with_rule (with_rule (with_size (new_app (codes "drive"))) (file_rule (codes "script"))) (files_rule (codes "image"))
 
--- `run [--frames M] [--slots N] [--workers W] [--slice B] [--limit N] [--input FILE] [--swap PREFIX] [--serial] [--status] IMAGE...`
+-- `run [--frames M] [--slots N] [--workers W] [--slice B] [--limit N] [--input FILE] [--swap PREFIX] [--serial] [--status] [--ahead] IMAGE...`
 unfoldable pub run_app : App
-run_app = with_rule (with_rule (with_rule (with_rule (with_rule (with_rule (with_rule (with_rule (with_size (new_app (codes "run")))
+run_app = with_rule (with_rule (with_rule (with_rule (with_rule (with_rule (with_rule (with_rule (with_rule (with_size (new_app (codes "run")))
     (option_rule (codes "workers"))) (option_rule (codes "slice"))) (option_rule (codes "limit"))) (option_rule (codes "input")))
-    (option_rule (codes "swap"))) (flag_rule (codes "serial"))) (flag_rule (codes "status"))) (files_rule (codes "image"))
+    (option_rule (codes "swap"))) (flag_rule (codes "serial"))) (flag_rule (codes "status"))) (flag_rule (codes "ahead")))
+    (files_rule (codes "image"))
 
 -- `debug [--frames M] IMAGE`
 unfoldable pub debug_app : App

@@ -81,11 +81,11 @@ abbrev pub AreWorkers : List Row → ℕ → Type 0
 AreWorkers rows workers = IsOption usual_workers 1 most_workers workers (first_of (codes "workers") rows)
 
 -- One thread is asked for, or else so many workers. A number of workers may stand beside the flag for one thread, and has to lie in its
--- range; lines that tell how far the processes are may not.
+-- range; lines that tell how far the processes are may not, nor may pages be written ahead.
 abbrev pub AsksThreading : List Row → Threading → Type 0
-AsksThreading rows Serial = IsSet (codes "serial") rows × ((¬ IsSet (codes "status") rows) × ((workers : ℕ) × AreWorkers rows workers))
-AsksThreading rows (Workers workers status) =
-    (¬ IsSet (codes "serial") rows) × (AreWorkers rows workers × (IsTrue status ↔ IsSet (codes "status") rows))
+AsksThreading rows Serial = IsSet (codes "serial") rows × ((¬ IsSet (codes "status") rows) × ((¬ IsSet (codes "ahead") rows) × ((workers : ℕ) × AreWorkers rows workers)))
+AsksThreading rows (Workers workers status ahead) =
+    (¬ IsSet (codes "serial") rows) × (AreWorkers rows workers × ((IsTrue status ↔ IsSet (codes "status") rows) × (IsTrue ahead ↔ IsSet (codes "ahead") rows)))
 
 abbrev pub AsksAsm : List Row → AsmRequest → Type 0
 AsksAsm rows request = (first_of (codes "source") rows ≡ Some request.source.now)
@@ -148,7 +148,7 @@ IsDriveInRange request = IsFrom least_frames most_frames request.frames × (requ
 
 abbrev pub IsThreadingInRange : Threading → Type 0
 IsThreadingInRange Serial = ⊤
-IsThreadingInRange (Workers workers status) = IsFrom 1 most_workers workers
+IsThreadingInRange (Workers workers status ahead) = IsFrom 1 most_workers workers
 
 abbrev pub IsRunInRange : RunRequest → Type 0
 IsRunInRange request = IsFrom least_frames most_frames request.frames × (request.slots ≤ most_slots) × IsFrom 1 longest_slice request.slice

@@ -79,6 +79,7 @@ fn run<'a>(alloc: Global) -> Result<Command<'a>, AllocError>
         .arg(option(alloc, "swap"))?
         .arg(flag(alloc, "serial"))?
         .arg(flag(alloc, "status"))?
+        .arg(flag(alloc, "ahead"))?
         .arg(files(alloc, "image"))
 }
 

@@ -69,8 +69,12 @@ pub enum Threading {
     /// On one, one event after another.
     Serial,
     /// Its harts on so many workers, while another thread makes room for pages. With or without lines that tell how far the
-    /// processes are.
-    Workers { workers: u32, status: bool },
+    /// processes are; and that thread writes changed pages ahead, or does not.
+    Workers {
+        workers: u32,
+        status: bool,
+        ahead: bool,
+    },
 }
 
 /// Converse with a debugger of an image.

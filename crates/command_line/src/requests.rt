@@ -134,10 +134,18 @@ fn threading(matches: &ArgMatches<'_>) -> Result<Threading, UsageError>
 {
     let workers = number_or(matches, "workers", 4, 1, 64)?;
     let status = is_given(matches, "status");
+    let ahead = is_given(matches, "ahead");
     if !is_given(matches, "serial") {
-        return Ok(Threading::Workers { workers, status });
+        return Ok(Threading::Workers {
+            workers,
+            status,
+            ahead,
+        });
     }
     if status {
+        return Err(UsageError::BadUsage);
+    }
+    if ahead {
         return Err(UsageError::BadUsage);
     }
     Ok(Threading::Serial)

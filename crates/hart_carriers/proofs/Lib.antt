@@ -1,3 +1,4 @@
 pub mod SameStatus
+pub mod Cleans
 pub mod FlatRuns
 pub mod Growing

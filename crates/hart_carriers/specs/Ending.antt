@@ -1,24 +1,35 @@
 -- What a machine has come to once its threads are joined.
-use Rattle.std.specs.Prelude.{◌≡◌, ◌≤◌, ℕ, true, List, length}
+use Rattle.std.specs.Prelude.{◌≡◌, ◌≤◌, ◌-◌, ◌^◌, ℕ, Bool, true, Option, Some, None, List, length, min, sum_by, if◌then◌else◌}
 use Rattle.reclaim_daemon.specs.Audit.{IsSound, AgreeEverywhere}
 use Rattle.reclaim_daemon.specs.DeskValue.{DeskValue}
 use Rattle.reclaim_daemon.specs.HeldValue.{HeldValue}
 use Rattle.hart_carriers.specs.declared.crew.Crew.{Crew}
+use Rattle.hart_carriers.specs.declared.report.RunReport.{RunReport}
 use Rattle.machine_sides.specs.Reporting.{Counts}
-use Rattle.machine_sides.specs.declared.report.Report.{Report}
+
+-- how many pages of these processes were cleaned ahead, as a count that stays at 2^64 - 1 tells it
+unfoldable pub cleans_of : {S : Type 0} → List (HeldValue S) → ℕ
+cleans_of held = min (sum_by (λ h. h.cleans) held) (2 ^ 64 - 1)
+
+-- what is told of it: nothing where no page was to be
+abbrev pub told_cleans : {S : Type 0} → Bool → List (HeldValue S) → Option ℕ
+told_cleans ahead held = if ahead then Some (cleans_of held) else None
 
 -- a pager and so many processes, as their locks kept them, on which an audit finds nothing amiss: list and pages agree, page by page
-pub record EndsSound (S : Type 0) (processes : ℕ) (report : Report) : Type 0 where
+pub record EndsSound (S : Type 0) (processes : ℕ) (run : RunReport) : Type 0 where
   pub desk : DeskValue
   pub held : List (HeldValue S)
   pub many : length held ≡ processes
   pub sound : IsSound desk held
   pub agree : AgreeEverywhere desk held
-  pub size : desk.pager.pager.size ≡ report.frames
-  pub counts : Counts desk.pager report
+  pub size : desk.pager.pager.size ≡ run.report.frames
+  pub counts : Counts desk.pager run.report
+  pub cleans : run.cleans ≡ told_cleans run.crew.ahead held
 
--- a crew of so many workers, who give slices of so many instructions, or of those that could be started
-pub record IsCrewOf (workers slice : ℕ) (crew : Crew) : Type 0 where
+-- a crew of so many workers, who give slices of so many instructions, or of those that could be started; the daemon writes pages ahead, or
+-- does not
+pub record IsCrewOf (workers slice : ℕ) (ahead : Bool) (crew : Crew) : Type 0 where
   pub slice_is : crew.slice ≡ slice
+  pub ahead_is : crew.ahead ≡ ahead
   pub few : crew.workers ≤ workers
   pub all : crew.is_whole ≡ true → crew.workers ≡ workers

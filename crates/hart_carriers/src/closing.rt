@@ -4,6 +4,7 @@ ghost use Rattle.std.specs.Prelude.{◌≡◌, ◌+◌, ◌≤◌, length, map, 
 ghost use Rattle.machine_sides.specs.Reporting.{Counts};
 ghost use Rattle.reclaim_daemon.specs.Audit.{IsSound, AgreeEverywhere};
 ghost use Rattle.machine_limits.specs.Limits.{most_processes};
+ghost use Rattle.hart_carriers.specs.Ending.{cleans_of, told_cleans};
 ghost use Rattle.hart_carriers.specs.FlatLines.{counts_of, StandsForRuns};
 
 use crate::crew::Crew;
@@ -42,6 +43,7 @@ pub(crate) fn close<L: Ledger, S: SwapSlot, C: Clock>(
         vec_len result.0.report.processes ≡ length handed.entry.now }
     ensures frames { result.0.report.frames ≡ frames }
     ensures slots { result.0.slots ≡ parts.slots.size }
+    ensures cleans { result.0.cleans ≡ told_cleans crew.ahead parts.processes.items }
     ensures crew { result.0.crew ≡ crew }
     ensures shares { result.0.report.audit ≡ true → result.1.parts ≡ frames + 1 }
     ensures counts { Counts parts.desk.pager result.0.report }
@@ -54,6 +56,7 @@ pub(crate) fn close<L: Ledger, S: SwapSlot, C: Clock>(
     let counts = parts.desk.pager().counts();
     let sized = parts.desk.pager().size() == frames;
     let slots = parts.slots.size();
+    let cleans = told_cleans(crew.ahead, parts.processes.as_slice());
     let (desk, processes) = purged(parts);
     let sound = desk.is_sound();
     let (pager, _strays) = desk.into_parts();
@@ -73,9 +76,35 @@ pub(crate) fn close<L: Ledger, S: SwapSlot, C: Clock>(
         report,
         published: told.published,
         slots,
+        cleans,
         crew,
     };
     (run, share)
+}
+
+/// How many pages of these processes were cleaned, where they were written ahead.
+fn told_cleans<L: Ledger, S: SwapSlot>(ahead: bool, processes: &[Held<L, S>]) -> Option<u64>
+    ensures { result ≡ told_cleans ahead processes.now }
+{
+    if ahead {
+        Some(cleans_of(processes))
+    } else {
+        None
+    }
+}
+
+/// How many pages of these processes were cleaned. The count stays at its type's largest number.
+#[tactic(auto, using(crate::proofs::Cleans::with_all, crate::proofs::Cleans::with_one, crate::proofs::Cleans::with_none))]
+fn cleans_of<L: Ledger, S: SwapSlot>(processes: &[Held<L, S>]) -> u64
+    ensures { result ≡ cleans_of processes.now }
+{
+    let mut cleans: u64 = 0;
+    let mut rest = processes;
+    while let Some((held, others)) = rest.split_first() {
+        cleans = cleans.saturating_add(held.cleans());
+        rest = others;
+    }
+    cleans
 }
 
 /// The pager's desk and the processes, each of which has given back what the daemon has left it.

@@ -20,13 +20,23 @@ impl Promise<Shift> for Carries {
     ghost kept_by = { λ promise shift. shift ≡ promise.0 };
 }
 
-/// The threads that were started to carry the harts of a machine.
+/// That the daemon's thread writes changed pages ahead, or does not.
+#[derive(Clone, Copy)]
+pub(crate) struct Writes(pub(crate) bool);
+
+impl Promise<bool> for Writes {
+    ghost kept_by = { λ promise ahead. ahead ≡ promise.0 };
+}
+
+/// The threads that were started to run a machine.
 #[derive(Clone, Copy, Debug, PartialEq, Eq)]
 pub struct Crew {
     /// How many workers were started.
     pub workers: u32,
     /// Of how many instructions, at most, a slice is that they give.
     pub slice: u32,
+    /// Whether the daemon writes changed pages ahead.
+    pub ahead: bool,
     /// Whether the daemon and each worker that was wanted could be started. Where one could not, each process that went on was killed for
     /// want of memory.
     pub is_whole: bool,

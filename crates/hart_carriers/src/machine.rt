@@ -1,6 +1,6 @@
 //! Whole runs of machines by threads.
 
-ghost use Rattle.std.specs.Prelude.{◌≡◌, ◌+◌, ◌<◌, ◌≤◌, ◌⊎◌, ◌↔◌, length, map, vec_len, true, IfOk, OnOk, IsErrOf};
+ghost use Rattle.std.specs.Prelude.{◌≡◌, ◌+◌, ◌<◌, ◌≤◌, ◌⊎◌, ◌↔◌, length, map, vec_len, true, is_some, IfOk, OnOk, IsErrOf};
 ghost use Rattle.hart_carriers.specs.Ending.{EndsSound, IsCrewOf};
 ghost use Rattle.machine_limits.specs.Limits.{most_processes};
 ghost use Rattle.hart_carriers.specs.FlatLines.{counts_of, StandsForRuns};
@@ -25,6 +25,7 @@ use swap_slots::SwapSlot;
 
 /// Runs a machine of 4 to 4096 frames on these slots by so many worker threads, each hart by slices of so many instructions, until each of
 /// its processes has ended: these images, which it shares, on copies of these inputs, numbered from 0 in their order. There are at most 64.
+/// Changed pages may be written ahead, so that they can leave their frames with no save.
 ///
 /// Where a thread can't be started, each process that goes on is killed for want of memory.
 pub fn run_machine<S: SwapSlot + Send, C: Clock + Send, G: Gate + Sync, R: Threads + Wait + Sync>(
@@ -35,6 +36,7 @@ pub fn run_machine<S: SwapSlot + Send, C: Clock + Send, G: Gate + Sync, R: Threa
     handed: &[(Image, Vec<u8>)],
     workers: u32,
     slice: u32,
+    ahead: bool,
     gate: &G,
 ) -> Result<RunReport, RunRefusal>
     requires workers { 0 < workers }
@@ -47,16 +49,17 @@ pub fn run_machine<S: SwapSlot + Send, C: Clock + Send, G: Gate + Sync, R: Threa
         vec_len run.report.processes ≡ length handed.now) }
     ensures frames { IfOk result (λ run. run.report.frames ≡ frames) }
     ensures slots { IfOk result (λ run. run.report.audit ≡ true → run.slots ≡ vec_len slots) }
-    ensures crew { IfOk result (λ run. IsCrewOf workers slice run.crew) }
+    ensures crew { IfOk result (λ run. IsCrewOf workers slice ahead run.crew) }
+    ensures cleans { IfOk result (λ run. is_some run.cleans ≡ ahead) }
     ensures sound { IfOk result (λ run. run.report.audit ≡ true →
-        EndsSound S (length handed.now) run.report) }
+        EndsSound S (length handed.now) run) }
     ensures bad_size { IsErrOf result RunRefusal.BadSize ↔ ((frames < 4) ⊎ (4096 < frames)) }
     ensures too_many { IsErrOf result RunRefusal.TooManyProcesses ↔ ((4 ≤ frames) ×
         ((frames ≤ 4096) × (most_processes < length handed.now))) }
 {
     let blank = Blank::new(u64::from(frames) + 1);
     report_over::<Brand, S, C, G, R>(
-        rt, alloc, frames, blank, slots, handed, workers, slice, gate,
+        rt, alloc, frames, blank, slots, handed, workers, slice, ahead, gate,
     )
 }
 
@@ -76,6 +79,7 @@ fn report_over<
     handed: &[(Image, Vec<u8>)],
     workers: u32,
     slice: u32,
+    ahead: bool,
     gate: &G,
 ) -> Result<RunReport, RunRefusal>
     requires name { blank.name ≡ L.name }
@@ -91,15 +95,16 @@ fn report_over<
         vec_len run.report.processes ≡ length handed.now) }
     ensures frames { IfOk result (λ run. run.report.frames ≡ frames) }
     ensures slots { IfOk result (λ run. run.report.audit ≡ true → run.slots ≡ vec_len slots) }
-    ensures crew { IfOk result (λ run. IsCrewOf workers slice run.crew) }
+    ensures crew { IfOk result (λ run. IsCrewOf workers slice ahead run.crew) }
+    ensures cleans { IfOk result (λ run. is_some run.cleans ≡ ahead) }
     ensures sound { IfOk result (λ run. run.report.audit ≡ true →
-        EndsSound S (length handed.now) run.report) }
+        EndsSound S (length handed.now) run) }
     ensures bad_size { IsErrOf result RunRefusal.BadSize ↔ ((frames < 4) ⊎ (4096 < frames)) }
     ensures too_many { IsErrOf result RunRefusal.TooManyProcesses ↔ ((4 ≤ frames) ×
         ((frames ≤ 4096) × (most_processes < length handed.now))) }
 {
     match run_over::<L, S, C, G, R>(
-        rt, alloc, frames, blank, slots, handed, workers, slice, gate,
+        rt, alloc, frames, blank, slots, handed, workers, slice, ahead, gate,
     ) {
         Ok((report, _)) => Ok(report),
         Err(refusal) => Err(refusal),
@@ -123,6 +128,7 @@ pub fn run_over<
     handed: &[(Image, Vec<u8>)],
     workers: u32,
     slice: u32,
+    ahead: bool,
     gate: &G,
 ) -> Result<(RunReport, Share<L>), RunRefusal>
     requires name { blank.name ≡ L.name }
@@ -139,16 +145,19 @@ pub fn run_over<
     ensures frames { IfOk result (λ ran. ran.0.report.frames ≡ frames) }
     ensures slots { IfOk result (λ ran. ran.0.report.audit ≡ true →
         ran.0.slots ≡ vec_len slots) }
-    ensures crew { IfOk result (λ ran. IsCrewOf workers slice ran.0.crew) }
+    ensures crew { IfOk result (λ ran. IsCrewOf workers slice ahead ran.0.crew) }
+    ensures cleans { IfOk result (λ ran. is_some ran.0.cleans ≡ ahead) }
     ensures sound { IfOk result (λ ran. ran.0.report.audit ≡ true →
-        EndsSound S (length handed.now) ran.0.report) }
+        EndsSound S (length handed.now) ran.0) }
     ensures shares { IfOk result (λ ran. ran.0.report.audit ≡ true → ran.1.parts ≡ L.parts) }
     ensures bad_size { IsErrOf result RunRefusal.BadSize ↔ ((frames < 4) ⊎ (4096 < frames)) }
     ensures too_many { IsErrOf result RunRefusal.TooManyProcesses ↔ ((4 ≤ frames) ×
         ((frames ≤ 4096) × (most_processes < length handed.now))) }
 {
     let desk: Desk<L, C> = make_desk(alloc, frames, handed.len(), blank)?;
-    match run_on::<L, S, C, G, R>(rt, alloc, desk, frames, slots, handed, workers, slice, gate) {
+    match run_on::<L, S, C, G, R>(
+        rt, alloc, desk, frames, slots, handed, workers, slice, ahead, gate,
+    ) {
         Ok(ran) => Ok(ran),
         Err(AllocError) => Err(RunRefusal::NoMemory),
     }
@@ -198,6 +207,7 @@ fn run_on<
     handed: &[(Image, Vec<u8>)],
     workers: u32,
     slice: u32,
+    ahead: bool,
     gate: &G,
 ) -> Result<(RunReport, Share<L>), AllocError>
     requires { length handed.now ≤ most_processes }
@@ -210,9 +220,10 @@ fn run_on<
     ensures frames { IfOk result (λ ran. ran.0.report.frames ≡ frames) }
     ensures slots { IfOk result (λ ran. ran.0.report.audit ≡ true →
         ran.0.slots ≡ vec_len slots) }
-    ensures crew { IfOk result (λ ran. IsCrewOf workers slice ran.0.crew) }
+    ensures crew { IfOk result (λ ran. IsCrewOf workers slice ahead ran.0.crew) }
+    ensures cleans { IfOk result (λ ran. is_some ran.0.cleans ≡ ahead) }
     ensures sound { IfOk result (λ ran. ran.0.report.audit ≡ true →
-        EndsSound S (length handed.now) ran.0.report) }
+        EndsSound S (length handed.now) ran.0) }
     ensures shares { IfOk result (λ ran. ran.0.report.audit ≡ true → ran.1.parts ≡ frames + 1) }
 {
     let room: Vec<ProcessReport> = Vec::with_capacity(alloc, handed.len())?;
@@ -222,6 +233,7 @@ fn run_on<
     let mut shared: Shared<L, S, C> = Shared::new(alloc, desk, slots);
     let mut viewers = begin_all(alloc, &mut shared, handed)?;
     shared.add_workers(workers)?;
+    shared.set_ahead(ahead);
     let crew = run_threads(rt, &shared, viewers.as_mut_slice(), workers, slice, gate);
     Ok(close(
         shared.into_parts(held),

@@ -16,7 +16,9 @@ pub struct RunReport {
     pub published: Vec<Status>,
     /// Of how many slots the machine's pool was in the end.
     pub slots: usize,
-    /// Who carried the harts.
+    /// How many changed pages were cleaned, where they are written ahead.
+    pub cleans: Option<u64>,
+    /// Which threads ran it.
     pub crew: Crew,
 }
 

@@ -3,7 +3,7 @@
 ghost use Rattle.std.specs.Prelude.{◌≡◌, ◌≤◌, true};
 
 use crate::carrying::carrier;
-use crate::crew::{Carries, Crew, Shift};
+use crate::crew::{Carries, Crew, Shift, Writes};
 use clock_policy::Clock;
 use flat_machine::KillCause;
 use reclaim_daemon::{Gate, Shared, daemon};
@@ -32,6 +32,7 @@ pub(crate) fn run_threads<
     gate: &G,
 ) -> Crew
     ensures slice { result.slice ≡ slice }
+    ensures ahead { result.ahead ≡ shared.now.ahead }
     ensures few { result.workers ≤ workers }
     ensures all { result.is_whole ≡ true → result.workers ≡ workers }
 {
@@ -40,15 +41,17 @@ pub(crate) fn run_threads<
         rt,
         |scope| -> Crew
             ensures slice { result.slice ≡ slice }
+            ensures ahead { result.ahead ≡ shared.entry.now.ahead }
             ensures few { result.workers ≤ workers }
             ensures all { result.is_whole ≡ true → result.workers ≡ workers }
         {
+            let ahead = shared.is_ahead();
+            let makes_room = move || daemon(rt, shared, viewers, gate);
             let mut crew = Crew {
                 workers: 0,
                 slice,
-                is_whole: scope
-                    .spawn(move || daemon(rt, shared, viewers, gate))
-                    .is_ok(),
+                ahead,
+                is_whole: scope.spawn_with(Writes(ahead), makes_room).is_ok(),
             };
             for worker in 0..workers {
                 if crew.is_whole {

@@ -1,5 +1,5 @@
 -- What a report tells of what was handed in, by the processes' starts.
-use Rattle.std.proofs.Common.{◌≡◌, ◌∙◌, ℕ, List, Option, Some, None, Vec, true, length, map, option_map, slice_get, sym, ap, refl, subst, vec_len}
+use Rattle.std.proofs.Common.{◌≡◌, ◌∙◌, ℕ, Bool, is_some, List, Option, Some, None, Vec, true, length, map, option_map, slice_get, sym, ap, refl, subst, vec_len}
 use Rattle.std.specs.Prelude.{IfSome}
 use Rattle.std.proofs.lemmas.List.{length-map}
 use Rattle.std.proofs.lemmas.Option.{slice_get-map, none-some}
@@ -23,12 +23,12 @@ lines_of_starts handed reports stands number start found =
     from_entry (λ given. start_of given.0 given.1.items) (slice_get handed number) start (λ s. HasLine s number (map told reports))
     (sym (slice_get-map (λ given. start_of given.0 given.1.items) handed number) ∙ found) (λ given at. stands number given at)
 
-pub came_to : {S Y Z : Type 0} (honest : Type 0) (frames : ℕ) (slots : Vec S Y) (handed : List (ImageContent × Vec ℕ Z)) (workers slice : ℕ) (run : RunReport)
+pub came_to : {S Y Z : Type 0} (honest : Type 0) (frames : ℕ) (slots : Vec S Y) (handed : List (ImageContent × Vec ℕ Z)) (workers slice : ℕ) (ahead : Bool) (run : RunReport)
     → (honest → run.report.audit ≡ true → StandsForRuns handed run.report.processes.items) → run.published.items ≡ map counts_of run.report.processes.items
-    → (run.report.audit ≡ true → vec_len run.report.processes ≡ length handed) → run.report.frames ≡ frames → (run.report.audit ≡ true → run.slots ≡ vec_len slots) → IsCrewOf workers slice run.crew
-    → (run.report.audit ≡ true → EndsSound S (length handed) run.report) → CameTo honest frames slots.items (starts_of handed) workers slice run
+    → (run.report.audit ≡ true → vec_len run.report.processes ≡ length handed) → run.report.frames ≡ frames → (run.report.audit ≡ true → run.slots ≡ vec_len slots) → IsCrewOf workers slice ahead run.crew
+    → is_some run.cleans ≡ ahead → (run.report.audit ≡ true → EndsSound S (length handed) run) → CameTo honest frames slots.items (starts_of handed) workers slice ahead run
 unfolding CameTo
-came_to {S} honest frames slots handed workers slice run stands last many frames_are slots_are crew_is sound =
+came_to {S} honest frames slots handed workers slice ahead run stands last many frames_are slots_are crew_is cleans_are sound =
     let as_many = length-map handed (λ given. start_of given.0 given.1.items) in
     record {
       stands = λ h audit. lines_of_starts handed run.report.processes.items (stands h audit);
@@ -37,5 +37,6 @@ came_to {S} honest frames slots handed workers slice run stands last many frames
       frames_are = frames_are;
       slots_are = λ audit. slots_are audit ∙ slots.ok.0;
       crew_is = crew_is;
-      sound = λ audit. subst (λ n. EndsSound S n run.report) (sym as_many) (sound audit);
+      cleans_are = cleans_are;
+      sound = λ audit. subst (λ n. EndsSound S n run) (sym as_many) (sound audit);
     }

@@ -8,7 +8,7 @@ use Rattle.serial_commands.specs.Asked.{RunsAsAsked}
 use Rattle.paged_cli.specs.Running.{IsRunAsAsked}
 
 module _ (gives : List ℕ → List ℕ → Type 0) where
-  -- on one thread, or by as many workers as were asked for
+  -- on one thread, or by as many workers as were asked for, with pages written ahead where that was asked for
   abbrev pub RunsByThreading : {F : Type 0} → (List ℕ → F → Type 0) → Threading → RunRequest → Option (List ℕ) → Option (List ℕ) → ℕ → Type 0
   RunsByThreading makes Serial request old new status = RunsAsAsked gives makes request old new status
-  RunsByThreading makes (Workers workers told) request old new status = IsRunAsAsked gives makes request workers old new status
+  RunsByThreading makes (Workers workers told ahead) request old new status = IsRunAsAsked gives makes request workers ahead old new status

@@ -13,7 +13,7 @@ use std::thread::Threads;
 use swap_slots::SwapSlot;
 
 /// Runs copies of these images on copies of these inputs by so many workers, until each process has ended, on a machine that has its
-/// list on a ring.
+/// list on a ring. Changed pages may be written ahead.
 pub(crate) fn run_machine<S: SwapSlot + Send, G: Gate + Sync, R: Threads + Wait + Sync>(
     rt: &R,
     alloc: Global,
@@ -22,15 +22,16 @@ pub(crate) fn run_machine<S: SwapSlot + Send, G: Gate + Sync, R: Threads + Wait 
     handed: &[(Image, Vec<u8>)],
     workers: u32,
     slice: u32,
+    ahead: bool,
     gate: &G,
 ) -> Result<RunReport, AllocError>
     requires workers { 0 < workers }
     requires slice { 0 < slice }
     ensures { IfOk result (CameTo S.honest frames slots.items
-        (starts_of handed.now) workers slice) }
+        (starts_of handed.now) workers slice ahead) }
 {
     let ran = hart_carriers::run_machine::<S, ClockRing, G, R>(
-        rt, alloc, frames, slots, handed, workers, slice, gate,
+        rt, alloc, frames, slots, handed, workers, slice, ahead, gate,
     );
     match ran {
         Ok(run) => Ok(run),

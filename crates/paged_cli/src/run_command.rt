@@ -28,8 +28,10 @@ where
 {
     match request.threading {
         Threading::Serial => run_serially(rt, request, out),
-        Threading::Workers { workers, status } => {
-            run_on_threads(rt, request, workers, status, out, err)
-        }
+        Threading::Workers {
+            workers,
+            status,
+            ahead,
+        } => run_on_threads(rt, request, workers, status, ahead, out, err),
     }
 }

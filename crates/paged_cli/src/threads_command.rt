@@ -18,7 +18,7 @@ use std::thread::Threads;
 
 /// Runs a process for each image on a new machine by so many workers until all have ended, writes how it went, and answers the exit
 /// status. Files for the slots are made once images and input are read. While the processes run, lines that tell how far they are may
-/// be written to `err`.
+/// be written to `err`. Changed pages may be written to their slots ahead.
 pub fn run_on_threads<
     'a,
     R: Folder + AllocGlobal + Threads + Wait + Sync,
@@ -29,6 +29,7 @@ pub fn run_on_threads<
     request: &RunRequest<'a>,
     workers: u32,
     is_told: bool,
+    ahead: bool,
     out: &mut O,
     err: &mut E,
 ) -> Result<u8, Fault<'a>>
@@ -36,12 +37,20 @@ where
     R::File: Send,
     requires in_range { IsRunInRange request.now }
     requires workers { 0 < workers }
-    ensures { IfOk result (λ status. IsRunAsAsked R.gives R.makes request.now workers
+    ensures { IfOk result (λ status. IsRunAsAsked R.gives R.makes request.now workers ahead
         (O.contents out.old) (O.contents out.new) status) }
 {
     let processes = read_processes(rt, request.images.as_slice(), request.input)?;
-    let run = run_told(rt, request, processes.as_slice(), workers, is_told, err)?;
-    write_report(&run.report, out)?;
+    let run = run_told(
+        rt,
+        request,
+        processes.as_slice(),
+        workers,
+        is_told,
+        ahead,
+        err,
+    )?;
+    write_report(&run.report, run.cleans, out)?;
     Ok(status_of_all(run.report.processes.as_slice()))
 }
 
@@ -52,6 +61,7 @@ fn run_told<'a, R: Folder + AllocGlobal + Threads + Wait + Sync, E: Write + Send
     handed: &[(Image, Vec<u8>)],
     workers: u32,
     is_told: bool,
+    ahead: bool,
     err: &mut E,
 ) -> Result<RunReport, Fault<'a>>
 where
@@ -60,13 +70,13 @@ where
     requires workers { 0 < workers }
     ensures { IfOk result (RunsAsked R.makes (option_map (λ s.
         s.now) request.now.swap) request.now.frames request.now.slots
-        (starts_of handed.now) workers request.now.slice) }
+        (starts_of handed.now) workers request.now.slice ahead) }
 {
     if !is_told {
-        return run_asked(rt, request, handed, workers, &OpenGate);
+        return run_asked(rt, request, handed, workers, ahead, &OpenGate);
     }
     let lines = StatusLines::new(rt, err);
-    run_asked(rt, request, handed, workers, &lines)
+    run_asked(rt, request, handed, workers, ahead, &lines)
 }
 
 /// Runs processes on the machine that is asked for, and tells what it has come to.
@@ -75,6 +85,7 @@ fn run_asked<'a, R: Folder + AllocGlobal + Threads + Wait + Sync, G: Gate + Sync
     request: &RunRequest<'a>,
     handed: &[(Image, Vec<u8>)],
     workers: u32,
+    ahead: bool,
     gate: &G,
 ) -> Result<RunReport, Fault<'a>>
 where
@@ -83,17 +94,21 @@ where
     requires workers { 0 < workers }
     ensures { IfOk result (RunsAsked R.makes (option_map (λ s.
         s.now) request.now.swap) request.now.frames request.now.slots
-        (starts_of handed.now) workers request.now.slice) }
+        (starts_of handed.now) workers request.now.slice ahead) }
 {
     let (alloc, frames, slice) = (rt.alloc(), request.frames, request.slice);
     match request.swap {
         None => {
             let slots = memory_slots(alloc, request.slots)?;
-            Ok(run_machine(rt, alloc, frames, slots, handed, workers, slice, gate)?)
+            Ok(run_machine(
+                rt, alloc, frames, slots, handed, workers, slice, ahead, gate,
+            )?)
         }
         Some(prefix) => {
             let slots = rt.make_slots(prefix, request.slots)?;
-            Ok(run_machine(rt, alloc, frames, slots, handed, workers, slice, gate)?)
+            Ok(run_machine(
+                rt, alloc, frames, slots, handed, workers, slice, ahead, gate,
+            )?)
         }
     }
 }

@@ -11,6 +11,7 @@ use Rattle.flat_machine.specs.declared.schedule.Turn.{Turn}
 use Rattle.flat_machine.specs.Process.{opening}
 use Rattle.flat_machine.specs.Schedule.{written_out, IsJoined}
 use Rattle.machine_sides.specs.Admitting.{AdmissionValue}
+use Rattle.machine_sides.specs.Cleaning.{TakesCopyBack}
 use Rattle.machine_sides.specs.Collecting.{Looks}
 use Rattle.machine_sides.specs.Loading.{Loads, DoesNotLoad}
 use Rattle.machine_sides.specs.ProcessCalls.{Slices, TakesNotices, IsKilled}
@@ -20,6 +21,8 @@ use Rattle.machine_sides.specs.Sides.{PagerSideValue}
 use Rattle.elf_image.specs.Start.{Start}
 use Rattle.machine_sides.specs.Starting.{Begins}
 use Rattle.machine_sides.specs.Sweeping.{Sweeps, ReadsBit, HeedsVerdict}
+use Rattle.machine_sides.specs.declared.cleaning.CopyBar.{CopyBar}
+use Rattle.machine_sides.specs.declared.cleaning.Copying.{Copying}
 use Rattle.machine_sides.specs.declared.collecting.Looked.{Looked}
 use Rattle.machine_sides.specs.declared.collecting.Looked.TheVariants as look
 use Rattle.machine_sides.specs.declared.purging.Purging.{Purging}
@@ -29,13 +32,17 @@ use Rattle.machine_sides.specs.declared.saving_back.SaveOutcome.TheVariants as s
 use Rattle.machine_sides.specs.declared.sweeping.Swept.{Swept}
 use Rattle.machine_sides.specs.declared.sweeping.Swept.TheVariants.{NothingResident, Asked, Victim}
 use Rattle.page_store.specs.JobValue.{SavedValue}
+use Rattle.page_store.specs.declared.answer.Cleaned.{Cleaned}
 use Rattle.paged_memory.specs.declared.filling.PageInFault.{PageInFault}
 use Rattle.space_core.specs.Slicing.{shown_process}
 use Rattle.space_core.specs.StandsFor.{SpaceValue}
 use Rattle.space_core.specs.declared.progress.SliceStop.{SliceStop}
 use Rattle.status_cell.specs.Counts.{AtMost, nothing}
 use Rattle.swap_slots.specs.PoolValue.{PoolValue}
+use Rattle.reclaim_daemon.specs.Cleaning.{BeginsNext, CopiesOrNot}
 use Rattle.reclaim_daemon.specs.HeldValue.{status_of}
+use Rattle.reclaim_daemon.specs.declared.replies.Begun.{Begun}
+use Rattle.reclaim_daemon.specs.declared.replies.Begun.TheVariants as begun
 use Rattle.reclaim_daemon.proofs.Outputs.{run_keeps_output}
 
 -- ---- how many instructions a schedule can have
@@ -118,6 +125,18 @@ module _ {S : Type 0} where
       → OnOk result (Loads held honest admission old new) → IfErr result (λ back. DoesNotLoad held honest failures admission back.0 back.1 old new) → status_of new ≡ status_of old
   either_load_leaves held honest failures admission old new (Ok u) h k = load_leaves held honest admission old new h
   either_load_leaves held honest failures admission old new (Err back) h k = no_load_leaves held honest failures admission back.0 back.1 old new k
+
+  pub begin_leaves : (from : ℕ) (reply : Begun) (old new : SpaceValue S) → BeginsNext from reply old new → status_of new ≡ status_of old
+  begin_leaves from begun.NoPage old new h = by_same old new h.1
+  begin_leaves from (begun.Page vpn) old new h = by_memory old new h.starts.stays
+  begin_leaves from (begun.Barred vpn reason) old new h = by_same old new h.stays
+
+  pub copy_leaves : (vpn : ℕ) (answer : Result (Copying S) CopyBar) (old new : SpaceValue S) (slots slots' : PoolValue S) → CopiesOrNot vpn answer old new slots slots' → status_of new ≡ status_of old
+  copy_leaves vpn (Ok answer) old new slots slots' h = by_memory old new h.copies.lends.stays
+  copy_leaves vpn (Err reason) old new slots slots' h = by_same old new h.stays
+
+  pub back_leaves : (job : SavedValue S) (answer : Cleaned S) (old new : SpaceValue S) → TakesCopyBack job answer old new → status_of new ≡ status_of old
+  back_leaves job answer old new h = by_memory old new h.stays
 
   pub notice_leaves : (hart : ℕ) (old new : SpaceValue S) → TakesNotices hart old new → status_of new ≡ status_of old
   notice_leaves hart old new e =

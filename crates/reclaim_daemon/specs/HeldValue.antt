@@ -6,11 +6,13 @@ use Rattle.space_core.specs.StandsFor.{SpaceValue}
 use Rattle.status_cell.specs.WriterValue.{WriterValue}
 use Rattle.status_cell.specs.declared.status.Status.{Status}
 
--- the process; the writer of its counts; and how often its pages were tried for since its last completed instruction
+-- the process; the writer of its counts; how often its pages were tried for since its last completed instruction; and how many of its pages
+-- were cleaned ahead
 pub record HeldValue (S : Type 0) : Type 0 where
   pub side : SpaceValue S
   pub writer : WriterValue
   pub tries : ℕ
+  pub cleans : ℕ
 
 -- how many instructions a process has completed, and how many bytes it has written
 unfoldable pub status_of : {S : Type 0} → SpaceValue S → Status

@@ -12,4 +12,5 @@ pub mod Expected
 pub mod Heeding
 pub mod SharedValue
 pub mod Holding
+pub mod Cleaning
 pub mod Audit

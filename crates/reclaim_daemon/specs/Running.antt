@@ -34,6 +34,7 @@ module _ {S : Type 0} where
     pub notices : TakesNotices hart between new.side
     pub published : Publishes old new
     pub tries : new.tries ≡ tries_after ran old.tries
+    pub cleans : new.cleans ≡ old.cleans
 
   -- a hart drops its translations that are to be dropped
   pub record NoticesHeld (hart : ℕ) (old new : HeldValue S) : Type 0 where
@@ -50,6 +51,7 @@ module _ {S : Type 0} where
     pub killed : IsKilled cause old.side new.side
     pub published : Publishes old new
     pub tries : new.tries ≡ old.tries
+    pub cleans : new.cleans ≡ old.cleans
 
   -- an admitted page is loaded and mapped, or the admission comes back; either counts as a try
   pub record LoadsHeld (content : S → List ℕ) (honest : Type 0) (admission : AdmissionValue) (old new : HeldValue S) : Type 0 where

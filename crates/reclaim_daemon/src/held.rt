@@ -35,6 +35,8 @@ pub struct Held<L: Ledger, S: SwapSlot> {
     told: Status,
     /// Page-ins, and collects and saves that failed, of its pages since its last completed instruction.
     pub(crate) tries: u64,
+    /// Pages that were cleaned ahead.
+    pub(crate) cleans: u64,
 }
 
 impl<L: Ledger, S: SwapSlot> Model for Held<L, S> {
@@ -43,7 +45,7 @@ impl<L: Ledger, S: SwapSlot> Model for Held<L, S> {
 
     ghost Value = { HeldValue S };
 
-    ghost view = { λ h. record { side = h.side; writer = h.writer; tries = h.tries } };
+    ghost view = { λ h. record { side = h.side; writer = h.writer; tries = h.tries; cleans = h.cleans } };
 
     ghost invariant = { λ h. record {
       published : h.writer.last ≡ h.told;
@@ -63,6 +65,7 @@ impl<L: Ledger, S: SwapSlot> Held<L, S> {
         ensures begins { IfOk result (λ made.
             Begins number (start_of image input.items) made.0.side) }
         ensures tries { IfOk result (λ made. made.0.tries ≡ 0) }
+        ensures cleans { IfOk result (λ made. made.0.cleans ≡ 0) }
         ensures viewer { IfOk result (λ made. made.1 ≡ viewer_value made.0.writer.cell nothing) }
     {
         let side = start(alloc, number, image, input)?;
@@ -77,6 +80,7 @@ impl<L: Ledger, S: SwapSlot> Held<L, S> {
                 writer,
                 told,
                 tries: 0,
+                cleans: 0,
             },
             viewer,
         ))
@@ -127,6 +131,13 @@ impl<L: Ledger, S: SwapSlot> Held<L, S> {
         ensures { result ≡ self.now.tries }
     {
         self.tries
+    }
+
+    /// How many of its pages were cleaned ahead.
+    pub fn cleans(&self) -> u64
+        ensures { result ≡ self.now.cleans }
+    {
+        self.cleans
     }
 
     /// Runs up to so many instructions of a hart, which then drops its translations that are to be dropped, and publishes how far the process

@@ -7,9 +7,11 @@
 
 mod audit;
 mod calls;
+mod cleaning;
 mod desk;
 mod gate;
 mod held;
+mod held_cleaning;
 mod holds;
 mod locking;
 mod paging_in;
@@ -18,7 +20,9 @@ mod reclaiming;
 mod replies;
 mod shared;
 mod waiting;
+mod writing_ahead;
 
+pub use cleaning::HoldWithSlots;
 pub use desk::Desk;
 pub use gate::{Gate, OpenGate};
 pub use held::Held;
@@ -26,5 +30,5 @@ pub use holds::{Change, HoldOfAll, HoldOfBoth, HoldOfDesk, HoldOfProcess};
 pub use paging_in::HoldOfPager;
 pub use parts::Parts;
 pub use reclaiming::daemon;
-pub use replies::{Collection, PagedIn, PurgeReply, SaveReply, Undone};
+pub use replies::{Begun, Collection, PagedIn, PurgeReply, SaveReply, Undone};
 pub use shared::{AddRefusal, Shared};

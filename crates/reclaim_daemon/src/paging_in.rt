@@ -142,13 +142,13 @@ impl<L: Ledger, S: SwapSlot, C: Clock> Shared<L, S, C> {
         }
     }
 
-    /// A page was admitted: the daemon is to make room where few frames are free by now.
+    /// A page was admitted: the daemon is to make room where few frames are free by now, and may clean a page where it writes ahead.
     fn heed_admission(
         &self,
         admitted: &Option<Result<Admission<L>, NotAdmitted>>,
         wants_frames: bool,
     ) {
-        if !wants_frames {
+        if !wants_frames && !self.ahead {
             return;
         }
         if matches!(admitted, Some(Ok(_))) {

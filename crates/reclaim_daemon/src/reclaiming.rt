@@ -1,7 +1,8 @@
 //! The daemon that makes room in a machine whose processes run.
 //!
 //! Where few frames are free, or a page found none, it asks the list until that names a victim, lets the harts of the victim's
-//! process drop their translations, and collects the page; a changed one it saves. A process that has ended it purges.
+//! process drop their translations, and collects the page; a changed one it saves. A process that has ended it purges. While it has no room
+//! to make it may write changed pages ahead.
 
 ghost use Rattle.std.specs.Prelude.{◌≡◌, ◌≤◌, IsTrue, IsFalse};
 ghost use Rattle.swap_slots.specs.Slot.{Rose};
@@ -10,6 +11,8 @@ use crate::gate::Gate;
 use crate::holds::{HoldOfAll, HoldOfBoth};
 use crate::replies::{Collection, SaveReply};
 use crate::shared::Shared;
+use crate::waiting::Room;
+use crate::writing_ahead::{Ahead, Rest};
 use clock_policy::{Clock, Key};
 use flat_machine::KillCause;
 use machine_limits::{MOST_HARTS, MOST_PROCESSES};
@@ -24,24 +27,37 @@ use swap_slots::SwapSlot;
 /// rising number.
 ///
 /// It sleeps while there is nothing to do. After each frame that it lets go it looks at each viewer, with no lock held, and tells the
-/// gate.
+/// gate. Answers whether it has written changed pages ahead, where there were any.
 pub fn daemon<L: Ledger, S: SwapSlot, C: Clock, G: Gate, R: Wait>(
     rt: &R,
     shared: &Shared<L, S, C>,
     viewers: &mut [Viewer],
     gate: &G,
-) {
+) -> bool
+    ensures { result ≡ shared.now.ahead }
+{
+    let is_ahead = shared.is_ahead();
+    let mut ahead = Ahead::new();
     for _ in rt.forever() {
         let calls = shared.signals.daemon().rings();
         let has_ended = shared.has_ended();
         purge_ended(rt, shared);
         if has_ended {
-            return;
+            return is_ahead;
         }
-        if !make_room(rt, shared, viewers, gate, calls) {
+        let room = shared.room(rt);
+        shared.signals.offer(room.free);
+        if room.wants_frames {
+            if !make_room(rt, shared, viewers, gate, calls) {
+                shared.wait_for_call(rt, calls);
+            }
+        } else if is_ahead {
+            write_ahead(rt, shared, gate, &room, &mut ahead, calls);
+        } else {
             shared.wait_for_call(rt, calls);
         }
     }
+    unreachable!()
 }
 
 /// Each process that has ended since gives its pages back.
@@ -53,8 +69,8 @@ fn purge_ended<L: Ledger, S: SwapSlot, C: Clock, R: Wait>(rt: &R, shared: &Share
     }
 }
 
-/// Offers the frames that are free to who waits for one. Where they are fewer than are to be, lets the page of a victim go. Answers whether
-/// there may be more to do at once: a frame came free; or none did, but a hart waits for one, so that the next page is tried.
+/// Lets the page of a victim go. Answers whether there may be more to do at once: a frame came free; or none did, but a hart waits for one, so
+/// that the next page is tried.
 fn make_room<L: Ledger, S: SwapSlot, C: Clock, G: Gate, R: Wait>(
     rt: &R,
     shared: &Shared<L, S, C>,
@@ -62,11 +78,6 @@ fn make_room<L: Ledger, S: SwapSlot, C: Clock, G: Gate, R: Wait>(
     gate: &G,
     calls: u64,
 ) -> bool {
-    let (free, wants_frames) = shared.free_frames(rt);
-    shared.signals.offer(free);
-    if !wants_frames {
-        return false;
-    }
     let Some(victim) = find_victim(rt, shared) else {
         return false;
     };
@@ -81,6 +92,22 @@ fn make_room<L: Ledger, S: SwapSlot, C: Clock, G: Gate, R: Wait>(
         shared.wait_for_call(rt, calls);
     }
     true
+}
+
+/// Takes one step in writing changed pages ahead, or sleeps where none is to be taken.
+fn write_ahead<L: Ledger, S: SwapSlot, C: Clock, G: Gate, R: Wait>(
+    rt: &R,
+    shared: &Shared<L, S, C>,
+    gate: &G,
+    room: &Room,
+    ahead: &mut Ahead,
+    calls: u64,
+) {
+    match ahead.step(rt, shared, gate, room) {
+        Rest::Nothing => {}
+        Rest::Nap(millis) => shared.nap(rt, calls, millis),
+        Rest::UntilCalled => shared.wait_for_call(rt, calls),
+    }
 }
 
 /// Asks the list until it names a victim. There is none where no page is resident.
@@ -110,11 +137,7 @@ fn let_go<L: Ledger, S: SwapSlot, C: Clock, G: Gate, R: Wait>(
 ) -> bool {
     for _ in rt.forever() {
         let calls = shared.signals.daemon().rings();
-        for hart in 0..MOST_HARTS as u32 {
-            if shared.signals.is_live(key.process, hart) {
-                shared.notice(rt, key.process, hart);
-            }
-        }
+        give_notices(rt, shared, key.process);
         let Some(hold) = shared.collect(rt, key) else {
             return false;
         };
@@ -142,6 +165,19 @@ fn let_go<L: Ledger, S: SwapSlot, C: Clock, G: Gate, R: Wait>(
         }
     }
     unreachable!()
+}
+
+/// The harts of a process drop their translations that are to be dropped.
+pub(crate) fn give_notices<L: Ledger, S: SwapSlot, C: Clock, R: Wait>(
+    rt: &R,
+    shared: &Shared<L, S, C>,
+    process: u32,
+) {
+    for hart in 0..MOST_HARTS as u32 {
+        if shared.signals.is_live(process, hart) {
+            shared.notice(rt, process, hart);
+        }
+    }
 }
 
 /// A page of a process could not leave its frame. Where a hart waits for one, that may end the process.

@@ -1,7 +1,7 @@
 //! What calls under the locks come to, where a frame that came back where no event gives one stays beside the pager.
 
 use clock_policy::Refusal;
-use machine_sides::{Admission, NotAdmitted, PurgeRefusal, SaveFailure};
+use machine_sides::{Admission, CleanBar, NotAdmitted, PurgeRefusal, SaveFailure};
 use page_store::{SaveJob, SavedJob};
 use paged_memory::PageInFault;
 use std::sync::ledger::Ledger;
@@ -69,6 +69,17 @@ pub enum PagedIn<L: Ledger> {
         admission: Admission<L>,
         fault: PageInFault,
     },
+}
+
+/// What came of the cleaning of the next page of a process that is resident and changed.
+#[derive(Clone, Copy, PartialEq, Eq, Debug)]
+pub enum Begun {
+    /// There is no such page. Nothing has changed.
+    NoPage,
+    /// That of this page has begun.
+    Page(u32),
+    /// That of this page has not. Nothing has changed.
+    Barred(u32, CleanBar),
 }
 
 /// What came of the pages of an ended process.

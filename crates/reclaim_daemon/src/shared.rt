@@ -1,6 +1,6 @@
 //! The locks of a machine.
 
-ghost use Rattle.std.specs.Prelude.{◌≡◌, ◌+◌, ◌*◌, ◌≤◌, ◌↔◌, [], true, vec_len, vec_capacity, OnOk, OnErr, IsErrOf};
+ghost use Rattle.std.specs.Prelude.{◌≡◌, ◌+◌, ◌*◌, ◌≤◌, ◌↔◌, [], false, true, vec_len, vec_capacity, OnOk, OnErr, IsErrOf};
 ghost use Rattle.machine_limits.specs.Limits.{most_processes};
 ghost use Rattle.reclaim_daemon.specs.SharedValue.{tries_per_frame};
 
@@ -33,6 +33,8 @@ pub struct Shared<L: Ledger, S: SwapSlot, C: Clock> {
     /// Above 0 where a process was not the one of its lock's number.
     misplaced: AtomicU64,
     most_tries: u64,
+    /// Whether the daemon writes changed pages ahead.
+    pub(crate) ahead: bool,
 }
 
 impl<L: Ledger, S: SwapSlot, C: Clock> Model for Shared<L, S, C> {
@@ -42,7 +44,7 @@ impl<L: Ledger, S: SwapSlot, C: Clock> Model for Shared<L, S, C> {
 
     ghost Value = { SharedValue };
 
-    ghost view = { λ s. record { processes = vec_len s.processes; slots = s.slot_count; most_tries = s.most_tries } };
+    ghost view = { λ s. record { processes = vec_len s.processes; slots = s.slot_count; most_tries = s.most_tries; ahead = s.ahead } };
 
     ghost invariant = { λ s. vec_len s.processes ≤ most_processes };
 }
@@ -57,11 +59,12 @@ pub enum AddRefusal {
 }
 
 impl<L: Ledger, S: SwapSlot, C: Clock> Shared<L, S, C> {
-    /// A machine of this pager's frames and these slots, with no process.
+    /// A machine of this pager's frames and these slots, with no process. Its daemon writes no page ahead.
     pub fn new(alloc: Global, desk: Desk<L, C>, slots: Vec<S>) -> Self
         ensures processes { result.processes ≡ 0 }
         ensures slots { result.slots ≡ vec_len slots }
         ensures tries { result.most_tries ≡ tries_per_frame * desk.pager.pager.size }
+        ensures ahead { result.ahead ≡ false }
     {
         let pool = SlotPool::new(slots);
         Shared {
@@ -72,7 +75,22 @@ impl<L: Ledger, S: SwapSlot, C: Clock> Shared<L, S, C> {
             slots: Mutex::new(pool),
             signals: Signals::new(alloc),
             misplaced: AtomicU64::new(0),
+            ahead: false,
         }
+    }
+
+    /// The daemon is to write changed pages ahead while it has nothing else to do, or not to.
+    pub fn set_ahead(&mut self, ahead: bool)
+        ensures { self.new ≡ record self.old { ahead = ahead } }
+    {
+        self.ahead = ahead;
+    }
+
+    /// Whether the daemon writes changed pages ahead.
+    pub fn is_ahead(&self) -> bool
+        ensures { result ≡ self.now.ahead }
+    {
+        self.ahead
     }
 
     /// One more process, of the next number, that is to run an image on an input; and a viewer of its counts.
@@ -141,6 +159,7 @@ impl<L: Ledger, S: SwapSlot, C: Clock> Shared<L, S, C> {
             signals: _,
             misplaced,
             most_tries: _,
+            ahead: _,
         } = self;
         let mut desk = desk.into_inner();
         if misplaced.into_inner() != 0 {

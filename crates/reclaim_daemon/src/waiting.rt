@@ -18,6 +18,18 @@ use swap_slots::SwapSlot;
 /// its bell.
 const NAP_MILLIS: u64 = 60_000;
 
+/// What the daemon sees of the machine's frames.
+#[derive(Clone, Copy)]
+pub(crate) struct Room {
+    pub(crate) frames: u32,
+    /// How many of them are free.
+    pub(crate) free: usize,
+    /// Whether these are fewer than are to be.
+    pub(crate) wants_frames: bool,
+    /// How many pages were admitted so far.
+    pub(crate) page_ins: u64,
+}
+
 /// What a hold has seen of a process.
 #[derive(Clone, Copy)]
 pub(crate) struct News {
@@ -78,19 +90,30 @@ impl<L: Ledger, S: SwapSlot, C: Clock> Shared<L, S, C> {
     /// Sleeps until a worker's bell has rung since `rings` was read.
     pub fn wait_for_ring<R: Wait>(&self, rt: &R, worker: u32, rings: u64) {
         if let Some(bell) = self.signals.worker(worker) {
-            sleep(rt, bell, rings);
+            sleep(rt, bell, rings, NAP_MILLIS);
         }
     }
 
     /// The same of the daemon's bell.
     pub(crate) fn wait_for_call<R: Wait>(&self, rt: &R, calls: u64) {
-        sleep(rt, self.signals.daemon(), calls);
+        self.nap(rt, calls, NAP_MILLIS);
     }
 
-    /// How many frames are free, and whether they are fewer than are to be.
-    pub(crate) fn free_frames<R: Wait>(&self, rt: &R) -> (usize, bool) {
+    /// The same, for so many milliseconds at most.
+    pub(crate) fn nap<R: Wait>(&self, rt: &R, calls: u64, millis: u64) {
+        sleep(rt, self.signals.daemon(), calls, millis);
+    }
+
+    /// What room there is.
+    pub(crate) fn room<R: Wait>(&self, rt: &R) -> Room {
         let desk = self.desk.lock(rt);
-        (desk.pager().counts().pager.free, desk.wants_frames())
+        let counts = desk.pager().counts().pager;
+        Room {
+            frames: desk.pager().size(),
+            free: counts.free,
+            wants_frames: desk.wants_frames(),
+            page_ins: counts.tallies.page_ins,
+        }
     }
 
     /// What a hold has seen of a process under its lock, to be told once that is let go: nothing where the process is not the one of its lock's
@@ -121,10 +144,10 @@ impl<L: Ledger, S: SwapSlot, C: Clock> Shared<L, S, C> {
     }
 }
 
-/// Sleeps until a bell has rung since `rings` was read.
-fn sleep<R: Wait>(rt: &R, bell: &Bell, rings: u64) {
+/// Sleeps until a bell has rung since `rings` was read, or for so many milliseconds.
+fn sleep<R: Wait>(rt: &R, bell: &Bell, rings: u64, millis: u64) {
     bell.set_asleep(true)
-        .park_timeout(rt, low_half(rings), Duration::from_millis(NAP_MILLIS));
+        .park_timeout(rt, low_half(rings), Duration::from_millis(millis));
     bell.set_asleep(false);
 }
 

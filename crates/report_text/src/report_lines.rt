@@ -3,20 +3,21 @@
 ghost use Rattle.std.specs.Prelude.{OnOk, map};
 ghost use Rattle.std.specs.Io.KnownBytes.{Appends};
 ghost use Rattle.machine_sides.specs.Reporting.{told};
-ghost use Rattle.report_text.specs.ReportText.{report_text, processes_text, line_text, counts_text, places_text, savings_text, audit_text};
+ghost use Rattle.report_text.specs.ReportText.{report_text, processes_text, line_text, counts_text, places_text, savings_text, cleans_text, audit_text};
 
 use machine_sides::{ProcessReport, Report};
 use process_text::{end_of, write_process};
 use std::io;
 use std::io::Write;
 
-/// Writes what each process has come to, by their numbers, then what was counted, and whether an audit found nothing amiss.
-pub fn write_report<W: Write>(report: &Report, out: &mut W) -> io::Result<()>
+/// Writes what each process has come to, by their numbers, then what was counted, and whether an audit found nothing amiss. How many pages were
+/// cleaned is told where they were to be.
+pub fn write_report<W: Write>(report: &Report, cleans: Option<u64>, out: &mut W) -> io::Result<()>
     ensures { OnOk result (Appends (W.contents out.old) (W.contents out.new)
-        (report_text report.now)) }
+        (report_text report.now cleans)) }
 {
     write_processes(report.processes.as_slice(), out)?;
-    write_counts(report, out)?;
+    write_counts(report, cleans, out)?;
     write_audit(report.audit, out)
 }
 
@@ -44,15 +45,16 @@ fn write_line<W: Write>(number: usize, process: &ProcessReport, out: &mut W) -> 
 }
 
 /// Writes the count line.
-fn write_counts<W: Write>(report: &Report, out: &mut W) -> io::Result<()>
+fn write_counts<W: Write>(report: &Report, cleans: Option<u64>, out: &mut W) -> io::Result<()>
     ensures { OnOk result (Appends (W.contents out.old) (W.contents out.new)
-        (counts_text report.now)) }
+        (counts_text report.now cleans)) }
 {
     write_places(report.frames, report.page_ins, report.victims, out)?;
-    write_savings(report.saves, report.drops, report.questions, out)
+    write_savings(report.saves, report.drops, report.questions, out)?;
+    write_cleans(cleans, out)
 }
 
-/// Writes its first half: frames, and pages that came and that were to go.
+/// Writes its first part: frames, and pages that came and that were to go.
 #[tactic(auto, unfolding(crate::specs::ReportText::places_text))]
 fn write_places<W: Write>(frames: u32, page_ins: u64, victims: u64, out: &mut W) -> io::Result<()>
     ensures { OnOk result (Appends (W.contents out.old) (W.contents out.new)
@@ -61,13 +63,25 @@ fn write_places<W: Write>(frames: u32, page_ins: u64, victims: u64, out: &mut W)
     write!(out, "frames {frames} page-ins {page_ins} victims {victims}")
 }
 
-/// Writes its second half: pages that went, and questions of the list.
+/// Writes its second part: pages that went, and questions of the list.
 #[tactic(auto, unfolding(crate::specs::ReportText::savings_text))]
 fn write_savings<W: Write>(saves: u64, drops: u64, questions: u64, out: &mut W) -> io::Result<()>
     ensures { OnOk result (Appends (W.contents out.old) (W.contents out.new)
         (savings_text saves drops questions)) }
 {
-    writeln!(out, " saves {saves} drops {drops} questions {questions}")
+    write!(out, " saves {saves} drops {drops} questions {questions}")
+}
+
+/// Writes its end: pages that were cleaned, where they were to be.
+#[tactic(auto, unfolding(crate::specs::ReportText::cleans_text))]
+fn write_cleans<W: Write>(cleans: Option<u64>, out: &mut W) -> io::Result<()>
+    ensures { OnOk result (Appends (W.contents out.old) (W.contents out.new)
+        (cleans_text cleans)) }
+{
+    match cleans {
+        Some(cleans) => writeln!(out, " cleans {cleans}"),
+        None => writeln!(out),
+    }
 }
 
 /// Writes whether an audit found nothing amiss.

@@ -23,7 +23,7 @@ use Rattle.serial_commands.specs.Playing.{Slot, page_of, never, unknown, failure
 pub run_written : {S : Type 0} (held : S → List ℕ) (honest : Type 0) (failures : S → ℕ) (frames slice limit : ℕ) (free : List S) (starts : List Start) (start end : CoreValue S) (report : Report) (old new : Option (List ℕ)) (status : ℕ)
     → MachineBegins frames free starts start → LeadsTo held honest failures start end → EndsByLimit held honest failures (max slice 1) limit start end
     → ((frames : ℕ) (free : List S) (starts : List Start) → MachineBegins frames free starts start → honest → HaveLines starts (map come_to end.processes))
-    → Reports end report → Appends old new (report_text report) → status ≡ worst_status 0 (map (λ process. process.end) report.processes.items)
+    → Reports end report → Appends old new (report_text report None) → status ≡ worst_status 0 (map (λ process. process.end) report.processes.items)
     → WritesRun (ReportsOver held honest failures frames free starts slice limit) old new status
 run_written held honest failures frames slice limit free starts start end report old new status begins reached limited flat reports writes status_is = record {
   report = report;

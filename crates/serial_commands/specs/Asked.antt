@@ -24,7 +24,7 @@ module _ (gives : List ℕ → List ℕ → Type 0) where
     pub report : Report
     pub given : AreGiven gives (option_map (λ s. s.now) request.input) (map (λ s. s.now) request.images.items) starts
     pub ran : ReportsAsked makes (option_map (λ s. s.now) request.swap) request.frames request.slots starts request.slice request.limit report
-    pub told : Appends old new (report_text report)
+    pub told : Appends old new (report_text report None)
     pub status_is : status ≡ worst_status 0 (map (λ process. process.end) report.processes.items)
 
   -- a machine likewise played a script, to its end or to its first bad line, with these replies

@@ -80,5 +80,5 @@ ReportsAsked makes (Some prefix) frames slots starts slice limit report = Report
 pub record WritesRun (Came : Report → Type 0) (old new : Option (List ℕ)) (status : ℕ) : Type 0 where
   pub report : Report
   pub ran : Came report
-  pub told : Appends old new (report_text report)
+  pub told : Appends old new (report_text report None)
   pub status_is : status ≡ worst_status 0 (map (λ process. process.end) report.processes.items)

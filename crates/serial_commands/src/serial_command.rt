@@ -103,6 +103,6 @@ fn run_with<'a, L: Ledger, S: SwapSlot, W: Write>(
     let mut machine = machine_on::<L, S>(alloc, request.frames, blank, slots, processes)?;
     play(&mut machine, request.slice, u64::from(request.limit));
     let report = into_report(machine, room);
-    write_report(&report, out)?;
+    write_report(&report, None, out)?;
     Ok(status_of_all(report.processes.as_slice()))
 }

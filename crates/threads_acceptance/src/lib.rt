@@ -4,6 +4,8 @@
 #[cfg(test)]
 mod admissions;
 #[cfg(test)]
+mod ahead;
+#[cfg(test)]
 mod at_once;
 #[cfg(test)]
 mod failing;

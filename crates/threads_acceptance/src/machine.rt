@@ -41,13 +41,43 @@ pub(crate) fn sound_slots(alloc: Global, count: u32) -> Result<Vec<MemorySlot>, 
     Ok(slots)
 }
 
-/// What a machine has come to whose processes run these sources, on no input.
+/// What a machine has come to whose processes run these sources, on no input, and which writes no page ahead.
 pub(crate) fn played<S: SwapSlot + Send, G: Gate + Sync, R: Threads + Wait + Sync>(
     rt: &R,
     alloc: Global,
     size: Size,
     slots: Vec<S>,
     sources: &[&str],
+    gate: &G,
+) -> Result<RunReport, Fail>
+    requires workers { 0 < size.workers }
+    requires slice { 0 < size.slice }
+{
+    played_by(rt, alloc, size, slots, sources, false, gate)
+}
+
+/// The same of one that writes changed pages ahead.
+pub(crate) fn played_ahead<S: SwapSlot + Send, G: Gate + Sync, R: Threads + Wait + Sync>(
+    rt: &R,
+    alloc: Global,
+    size: Size,
+    slots: Vec<S>,
+    sources: &[&str],
+    gate: &G,
+) -> Result<RunReport, Fail>
+    requires workers { 0 < size.workers }
+    requires slice { 0 < size.slice }
+{
+    played_by(rt, alloc, size, slots, sources, true, gate)
+}
+
+fn played_by<S: SwapSlot + Send, G: Gate + Sync, R: Threads + Wait + Sync>(
+    rt: &R,
+    alloc: Global,
+    size: Size,
+    slots: Vec<S>,
+    sources: &[&str],
+    ahead: bool,
     gate: &G,
 ) -> Result<RunReport, Fail>
     requires workers { 0 < size.workers }
@@ -70,6 +100,7 @@ pub(crate) fn played<S: SwapSlot + Send, G: Gate + Sync, R: Threads + Wait + Syn
         handed.as_slice(),
         workers,
         slice,
+        ahead,
         gate,
     )?)
 }

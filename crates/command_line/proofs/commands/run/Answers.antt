@@ -18,8 +18,9 @@ returns-clause-read_as c =
     let with_5 = c.in_ok-arg-5.ensures.shape c.option-5.ensures.local ∙ ap₂ with_rule with_4 c.option-5.ensures.read_as in
     let with_6 = c.in_ok-arg-6.ensures.shape c.flag.ensures.local ∙ ap₂ with_rule with_5 c.flag.ensures.read_as in
     let with_7 = c.in_ok-arg-7.ensures.shape c.flag-2.ensures.local ∙ ap₂ with_rule with_6 c.flag-2.ensures.read_as in
-    IfOk-weaker c.arg-8.result _ _
-    (λ _ added. added.shape c.files.ensures.local ∙ ap₂ with_rule with_7 c.files.ensures.read_as) c.arg-8.ensures
+    let with_8 = c.in_ok-arg-8.ensures.shape c.flag-3.ensures.local ∙ ap₂ with_rule with_7 c.flag-3.ensures.read_as in
+    IfOk-weaker c.arg-9.result _ _
+    (λ _ added. added.shape c.files.ensures.local ∙ ap₂ with_rule with_8 c.files.ensures.read_as) c.arg-9.ensures
 
 pub returns-clause-local : goal.returns-clause-local
 returns-clause-local c =
@@ -30,4 +31,5 @@ returns-clause-local c =
     let local_5 = c.in_ok-arg-5.ensures.globals ∙ ap₂ either local_4 c.option-5.ensures.local in
     let local_6 = c.in_ok-arg-6.ensures.globals ∙ ap₂ either local_5 c.flag.ensures.local in
     let local_7 = c.in_ok-arg-7.ensures.globals ∙ ap₂ either local_6 c.flag-2.ensures.local in
-    IfOk-weaker c.arg-8.result _ _ (λ _ added. added.globals ∙ ap₂ either local_7 c.files.ensures.local) c.arg-8.ensures
+    let local_8 = c.in_ok-arg-8.ensures.globals ∙ ap₂ either local_7 c.flag-3.ensures.local in
+    IfOk-weaker c.arg-9.result _ _ (λ _ added. added.globals ∙ ap₂ either local_8 c.files.ensures.local) c.arg-9.ensures

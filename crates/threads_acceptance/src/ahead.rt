@@ -1,0 +1,105 @@
+//! Machines that write changed pages ahead.
+
+use crate::guests::{COUNTS, WRITES_A_SUM};
+use crate::machine::{Size, expect, played, played_ahead, sound_slots};
+use clock_policy::Key;
+use reclaim_daemon::{Gate, OpenGate};
+use status_cell::Status;
+use std::sync::atomic::{AtomicU64, Ordering};
+use std::test::Fail;
+use std::thread::sleep;
+use std::time::Duration;
+
+/// How often a flag is looked at after a slice, with a millisecond's sleep each time.
+const LOOKS: u32 = 200;
+
+/// After each slice its process waits for a while until a page is about to be written.
+#[derive(Drop)]
+struct Written<'a> {
+    rt: &'a HostRuntime,
+    /// Above 0 once one is.
+    saves: AtomicU64,
+}
+
+impl Gate for Written<'_> {
+    fn before_save(&self, _key: Key) {
+        self.saves.store(1, Ordering::SeqCst);
+    }
+
+    fn before_load(&self, _key: Key) {}
+
+    fn after_slice(&self, _process: u32, _hart: u32, _ran: u32) {
+        for _ in 0..LOOKS {
+            if self.saves.load(Ordering::SeqCst) != 0 {
+                return;
+            }
+            sleep(self.rt, Duration::from_millis(1));
+        }
+    }
+
+    fn after_free(&self, _statuses: &[Status]) {}
+}
+
+/// There is a frame for each page, so that none is to leave its own.
+#[test]
+fn a_page_is_written_while_it_stays(rt: HostRuntime) -> Result<(), Fail> {
+    let alloc = rt.alloc();
+    let gate = Written {
+        rt: &rt,
+        saves: AtomicU64::new(0),
+    };
+    let size = Size {
+        frames: 64,
+        workers: 1,
+        slice: 10,
+    };
+    let slots = sound_slots(alloc, 100)?;
+    let run = played_ahead(&rt, alloc, size, slots, &[WRITES_A_SUM], &gate)?;
+    expect(&rt, &run, &[(0, 114, b"B")]);
+    assert!(rt; gate.saves.load(Ordering::SeqCst) != 0);
+    assert_eq!(rt; run.report.victims, 0);
+    Ok(())
+}
+
+/// How often a machine is run, since its threads meet otherwise each time.
+const RUNS: u32 = 25;
+
+const ON_FOUR_FRAMES: Size = Size {
+    frames: 4,
+    workers: 4,
+    slice: 1000,
+};
+
+#[test]
+fn processes_share_four_frames_that_are_cleaned(rt: HostRuntime) -> Result<(), Fail> {
+    let alloc = rt.alloc();
+    let sources = [COUNTS, COUNTS, WRITES_A_SUM];
+    for _ in 0..RUNS {
+        let slots = sound_slots(alloc, 32)?;
+        let run = played_ahead(&rt, alloc, ON_FOUR_FRAMES, slots, &sources, &OpenGate)?;
+        expect(
+            &rt,
+            &run,
+            &[(2000, 6027, b""), (2000, 6027, b""), (0, 114, b"B")],
+        );
+        assert!(rt; run.report.page_ins >= 16 && run.report.victims >= 8);
+        assert!(rt; matches!(run.cleans, Some(cleans) if cleans <= run.report.page_ins));
+    }
+    Ok(())
+}
+
+#[test]
+fn no_page_is_cleaned_unasked(rt: HostRuntime) -> Result<(), Fail> {
+    let alloc = rt.alloc();
+    let slots = sound_slots(alloc, 32)?;
+    let run = played(
+        &rt,
+        alloc,
+        ON_FOUR_FRAMES,
+        slots,
+        &[WRITES_A_SUM],
+        &OpenGate,
+    )?;
+    assert_eq!(rt; run.cleans, None);
+    Ok(())
+}

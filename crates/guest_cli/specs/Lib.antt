@@ -1,1 +1,2 @@
+pub mod FlatRuns
 pub mod GuestStatus

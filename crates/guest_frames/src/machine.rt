@@ -1,6 +1,8 @@
 //! A machine of one process, played to its end.
 
-ghost use Rattle.std.specs.Prelude.{◌≡◌, ◌+◌, ◌≤◌};
+ghost use Rattle.std.specs.Prelude.{◌≡◌, ◌+◌, ◌≤◌, IfOk};
+ghost use Rattle.elf_image.specs.Start.{start_of};
+ghost use Rattle.guest_cli.specs.FlatRuns.{TellsFlatRun};
 
 use clock_ring::ClockRing;
 use elf_image::Image;
@@ -30,7 +32,10 @@ pub(crate) fn run_on_frames<'a, W: Write>(
     input: Vec<u8>,
     limit: u64,
     out: &mut W,
-) -> Result<(End, u64), Fault<'a>> {
+) -> Result<(End, u64), Fault<'a>>
+    ensures { IfOk result (λ done. TellsFlatRun (start_of image input.items)
+        (W.contents out.old) (W.contents out.new) done.0 done.1) }
+{
     let blank = Blank::new(u64::from(frames) + 1);
     run_machine::<Brand, W>(alloc, frames, blank, image, input, limit, out)
 }
@@ -47,6 +52,8 @@ fn run_machine<'a, L: Ledger, W: Write>(
     requires name { blank.name ≡ L.name }
     requires parts { blank.parts ≡ L.parts }
     requires one_each { L.parts ≡ frames + 1 }
+    ensures { IfOk result (λ done. TellsFlatRun (start_of image input.items)
+        (W.contents out.old) (W.contents out.new) done.0 done.1) }
 {
     let room = Vec::with_capacity(alloc, MOST_PROCESSES)?;
     let slots = memory_slots(alloc, SLOTS)?;

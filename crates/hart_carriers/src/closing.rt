@@ -1,10 +1,10 @@
 //! What a machine has come to whose threads were joined.
 
-ghost use Rattle.std.specs.Prelude.{◌≡◌, ◌+◌, ◌≤◌, length, map, vec_len, vec_capacity, [], true};
+ghost use Rattle.std.specs.Prelude.{◌≡◌, ◌+◌, ◌≤◌, ◌↔◌, length, map, vec_len, vec_capacity, [], true, IsTrue};
 ghost use Rattle.machine_sides.specs.Reporting.{Counts};
 ghost use Rattle.reclaim_daemon.specs.Audit.{IsSound, AgreeEverywhere};
 ghost use Rattle.machine_limits.specs.Limits.{most_processes};
-ghost use Rattle.hart_carriers.specs.Ending.{cleans_of, told_cleans};
+ghost use Rattle.hart_carriers.specs.Ending.{HaveEnded, cleans_of, told_cleans};
 ghost use Rattle.hart_carriers.specs.FlatLines.{counts_of, StandsForRuns};
 
 use crate::crew::Crew;
@@ -41,6 +41,8 @@ pub(crate) fn close<L: Ledger, S: SwapSlot, C: Clock>(
     ensures last { result.0.published.items ≡ map counts_of result.0.report.processes.items }
     ensures many { result.0.report.audit ≡ true →
         vec_len result.0.report.processes ≡ length handed.entry.now }
+    ensures ended { result.0.report.audit ≡ true →
+        HaveEnded result.0.report.processes.items }
     ensures frames { result.0.report.frames ≡ frames }
     ensures slots { result.0.slots ≡ parts.slots.size }
     ensures cleans { result.0.cleans ≡ told_cleans crew.ahead parts.processes.items }
@@ -62,6 +64,7 @@ pub(crate) fn close<L: Ledger, S: SwapSlot, C: Clock>(
     let (pager, _strays) = desk.into_parts();
     let (whole, share) = gather_all(pager, frames);
     let told = tell(all_ran(processes, ran), handed, room, statuses);
+    let ended = have_ended(told.processes.as_slice());
     let report = Report {
         processes: told.processes,
         frames,
@@ -70,7 +73,7 @@ pub(crate) fn close<L: Ledger, S: SwapSlot, C: Clock>(
         saves: counts.saves,
         drops: counts.drops,
         questions: counts.pager.tallies.questions,
-        audit: all_hold(agrees, sized, sound, whole, told.started),
+        audit: all_hold(agrees, sized, sound, whole, told.started, ended),
     };
     let run = RunReport {
         report,
@@ -122,14 +125,15 @@ fn purged<L: Ledger, S: SwapSlot, C: Clock>(parts: Parts<L, S, C>) -> (Desk<L, C
 }
 
 /// Whether all that an audit looks at is as it is to be.
-fn all_hold(agrees: bool, sized: bool, sound: bool, whole: bool, started: bool) -> bool
+fn all_hold(agrees: bool, sized: bool, sound: bool, whole: bool, started: bool, ended: bool) -> bool
     ensures agrees { result ≡ true → agrees ≡ true }
     ensures sized { result ≡ true → sized ≡ true }
     ensures sound { result ≡ true → sound ≡ true }
     ensures whole { result ≡ true → whole ≡ true }
     ensures started { result ≡ true → started ≡ true }
+    ensures ended { result ≡ true → ended ≡ true }
     ensures exact { agrees ≡ true → sized ≡ true → sound ≡ true → whole ≡ true → started ≡ true →
-        result ≡ true }
+        ended ≡ true → result ≡ true }
 {
     if !agrees || !sized {
         return false;
@@ -137,7 +141,22 @@ fn all_hold(agrees: bool, sized: bool, sound: bool, whole: bool, started: bool) 
     if !sound || !whole {
         return false;
     }
-    started
+    if !started {
+        return false;
+    }
+    ended
+}
+
+/// Whether each process has ended.
+fn have_ended(processes: &[ProcessReport]) -> bool
+    ensures { IsTrue result ↔ HaveEnded processes.now }
+{
+    for process in processes {
+        if process.end.is_none() {
+            return false;
+        }
+    }
+    true
 }
 
 /// Gives up a pager that is to have so many frames. Answers whether each of them was there, and the share that they make.

@@ -1,7 +1,7 @@
 //! Whole runs of machines by threads.
 
 ghost use Rattle.std.specs.Prelude.{◌≡◌, ◌+◌, ◌<◌, ◌≤◌, ◌⊎◌, ◌↔◌, length, map, vec_len, true, is_some, IfOk, OnOk, IsErrOf};
-ghost use Rattle.hart_carriers.specs.Ending.{EndsSound, IsCrewOf};
+ghost use Rattle.hart_carriers.specs.Ending.{EndsSound, HaveEnded, IsCrewOf};
 ghost use Rattle.machine_limits.specs.Limits.{most_processes};
 ghost use Rattle.hart_carriers.specs.FlatLines.{counts_of, StandsForRuns};
 
@@ -47,6 +47,8 @@ pub fn run_machine<S: SwapSlot + Send, C: Clock + Send, G: Gate + Sync, R: Threa
         run.published.items ≡ map counts_of run.report.processes.items) }
     ensures many { IfOk result (λ run. run.report.audit ≡ true →
         vec_len run.report.processes ≡ length handed.now) }
+    ensures ended { IfOk result (λ run. run.report.audit ≡ true →
+        HaveEnded run.report.processes.items) }
     ensures frames { IfOk result (λ run. run.report.frames ≡ frames) }
     ensures slots { IfOk result (λ run. run.report.audit ≡ true → run.slots ≡ vec_len slots) }
     ensures crew { IfOk result (λ run. IsCrewOf workers slice ahead run.crew) }
@@ -93,6 +95,8 @@ fn report_over<
         run.published.items ≡ map counts_of run.report.processes.items) }
     ensures many { IfOk result (λ run. run.report.audit ≡ true →
         vec_len run.report.processes ≡ length handed.now) }
+    ensures ended { IfOk result (λ run. run.report.audit ≡ true →
+        HaveEnded run.report.processes.items) }
     ensures frames { IfOk result (λ run. run.report.frames ≡ frames) }
     ensures slots { IfOk result (λ run. run.report.audit ≡ true → run.slots ≡ vec_len slots) }
     ensures crew { IfOk result (λ run. IsCrewOf workers slice ahead run.crew) }
@@ -142,6 +146,8 @@ pub fn run_over<
         ran.0.published.items ≡ map counts_of ran.0.report.processes.items) }
     ensures many { IfOk result (λ ran. ran.0.report.audit ≡ true →
         vec_len ran.0.report.processes ≡ length handed.now) }
+    ensures ended { IfOk result (λ ran. ran.0.report.audit ≡ true →
+        HaveEnded ran.0.report.processes.items) }
     ensures frames { IfOk result (λ ran. ran.0.report.frames ≡ frames) }
     ensures slots { IfOk result (λ ran. ran.0.report.audit ≡ true →
         ran.0.slots ≡ vec_len slots) }
@@ -217,6 +223,8 @@ fn run_on<
         ran.0.published.items ≡ map counts_of ran.0.report.processes.items) }
     ensures many { IfOk result (λ ran. ran.0.report.audit ≡ true →
         vec_len ran.0.report.processes ≡ length handed.now) }
+    ensures ended { IfOk result (λ ran. ran.0.report.audit ≡ true →
+        HaveEnded ran.0.report.processes.items) }
     ensures frames { IfOk result (λ ran. ran.0.report.frames ≡ frames) }
     ensures slots { IfOk result (λ ran. ran.0.report.audit ≡ true →
         ran.0.slots ≡ vec_len slots) }

@@ -10,7 +10,8 @@ use thiserror::Error;
 #[derive(Drop)]
 pub struct RunReport {
     /// What is told of any machine. Its audit is true where the list's resident entries are the resident pages, no frame is lost, the slots
-    /// are those of the machine, nothing has happened that no event of it gives, and each process was started from what was handed in.
+    /// are those of the machine, nothing has happened that no event of it gives, each process was started from what was handed in, and each
+    /// has ended.
     pub report: Report,
     /// What was published last of each process, by their numbers.
     pub published: Vec<Status>,

@@ -1,0 +1,23 @@
+-- What a run of a program comes to, by the flat machine.
+use Rattle.std.specs.Prelude.{◌≡◌, ℕ, List, Option, Some, None, length}
+use Rattle.std.specs.Io.KnownBytes.{Appends}
+use Rattle.elf_image.specs.Start.{Start}
+use Rattle.flat_machine.specs.Process.{Process, opening, flat_run}
+use Rattle.flat_machine.specs.declared.end.End.{End}
+use Rattle.flat_machine.specs.declared.end.End.TheVariants.{Exited, Trapped, Killed}
+
+-- a program ended as its flat process did, which goes on where the machine ended the program
+abbrev pub EndsLike : End → Option End → Type 0
+EndsLike (Exited status) own = own ≡ Some (Exited status)
+EndsLike (Trapped hart cause pc value) own = own ≡ Some (Trapped hart cause pc value)
+EndsLike (Killed cause) own = own ≡ None
+
+-- this ending behind so many steps, with what was written, is that of a flat run: some order of harts with as many steps leads to a flat process
+-- with that output and that ending
+pub record TellsFlatRun (start : Start) (old new : Option (List ℕ)) (end : End) (steps : ℕ) : Type 0 where
+  pub harts : List ℕ
+  pub flat : Process
+  pub ran : flat_run harts (opening start.image start.input) ≡ Some flat
+  pub counted : steps ≡ length harts
+  pub written : Appends old new flat.environment.output
+  pub ended : EndsLike end flat.ending

@@ -20,9 +20,9 @@ module _ (gives : List ℕ → List ℕ → Type 0) where
     pub given : AreGiven gives (option_map (λ s. s.now) request.input) (map (λ s. s.now) request.images.items) starts
     pub begin : processes ≡ map opened starts
 
-  -- Each row has the misses of the guests' string, by slices of so many instructions as were asked for, to the limit that was asked
-  -- for, of the policies that were asked for, for the numbers of frames that were asked for, or for the usual ones.
+  -- Each row has the misses of the guests' string, of the references that were asked for, by slices of so many instructions as were
+  -- asked for, to the limit that was asked for, of the policies that were asked for, for the numbers of frames that were asked for, or for the usual ones.
   pub record CountsAsAsked (request : MissesRequest) (rows : List Counts) : Type 0 where
     pub processes : List Process
     pub guests : AreGuests request.guest processes
-    pub table : IsTable request.wanted (guest_pages request.guest.slice request.guest.limit processes) (option_map (λ f. f.items) request.frames) rows
+    pub table : IsTable request.wanted (guest_pages request.guest.accesses request.guest.slice request.guest.limit processes) (option_map (λ f. f.items) request.frames) rows

@@ -35,6 +35,7 @@ fn curve<'a>(alloc: Global) -> Result<Command<'a>, AllocError> {
     Command::new(alloc, "curve")
         .arg(option(alloc, "format"))?
         .arg(option(alloc, "sample"))?
+        .arg(flag(alloc, "working-sets"))?
         .arg(flag(alloc, "optimum"))?
         .arg(flag(alloc, "ratio"))?
         .arg(flag(alloc, "csv"))?
@@ -71,6 +72,8 @@ fn guest<'a>(alloc: Global, command: Command<'a>) -> Result<Command<'a>, AllocEr
         .arg(option(alloc, "slice"))?
         .arg(option(alloc, "limit"))?
         .arg(option(alloc, "input"))?
+        .arg(flag(alloc, "data"))?
+        .arg(flag(alloc, "instructions"))?
         .arg(
             Arg::new(alloc, "image")
                 .required(true)

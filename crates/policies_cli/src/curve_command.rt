@@ -4,6 +4,7 @@ use crate::request::CurveRequest;
 use crate::table::{write_curve, write_estimate};
 use crate::teller::Teller;
 use crate::trace_file::{open_trace, read_sample, read_whole};
+use crate::windows_curve::run_windows;
 use crate::wrong::Wrong;
 use clock_policy::Key;
 use page_policies::Frames;
@@ -13,13 +14,16 @@ use std::num::NonZeroU32;
 use std::rt::Files;
 use whole_strings::{lru_curve, optimum_curve};
 
-/// Counts a trace, and writes a row for each number of frames up to as many as it has pages.
+/// Counts a trace, and writes a row for each number of frames up to as many as it has pages, or for each window.
 pub(crate) fn run_curve<'a, R: Files + AllocGlobal, W: Write, E: Write>(
     rt: &R,
     request: &CurveRequest<'a>,
     out: &mut W,
     err: &mut E,
 ) -> Result<(), Wrong<'a>> {
+    if request.is_of_windows {
+        return run_windows(rt, request, out, err);
+    }
     match request.one_in {
         Some(one_in) => estimate(rt, request, one_in, out, err),
         None => count(rt, request, out, err),

@@ -1,6 +1,7 @@
 //! The program `policies`: how many references of a guest, or of a trace, miss under each replacement policy.
 #![tactic(auto)]
 
+mod access_choice;
 mod address_lines;
 mod commands;
 mod curve_command;
@@ -19,6 +20,7 @@ mod teller;
 mod totals_command;
 mod trace_command;
 mod trace_file;
+mod windows_curve;
 mod write_backs_command;
 mod wrong;
 

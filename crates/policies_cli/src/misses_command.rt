@@ -38,10 +38,12 @@ pub fn count_misses<'a, R: Folder + AllocGlobal, P: Progress>(
     ensures { IfOk result (λ rows. CountsAsAsked R.gives request.entry rows.items) }
 {
     let processes = read_guests(rt, &request.guest)?;
+    let accesses = request.guest.accesses;
     let (slice, limit) = (request.guest.slice, u64::from(request.guest.limit));
     let rows = guest_rows(
         rt.alloc(),
         processes,
+        accesses,
         slice,
         limit,
         request.frames,

@@ -1,5 +1,6 @@
 //! What is asked for.
 
+use guest_strings::AccessKinds;
 use miss_counts::PolicySet;
 use page_policies::Frames;
 use std::num::NonZeroU32;
@@ -18,6 +19,8 @@ pub enum Request<'a> {
 /// Which guests run, and how.
 #[derive(Drop)]
 pub struct GuestRequest<'a> {
+    /// Which of their references are wanted.
+    pub accesses: AccessKinds,
     /// How many instructions a slice has.
     pub slice: u32,
     /// The most instructions that are run.
@@ -67,12 +70,14 @@ pub struct ReplayRequest<'a> {
     pub trace: &'a str,
 }
 
-/// Count what a trace misses under LRU with every number of frames.
+/// Count what a trace misses under LRU with every number of frames, or its working sets.
 #[derive(Drop)]
 pub struct CurveRequest<'a> {
     pub format: Format,
     /// Whether the optimum is counted too.
     pub has_optimum: bool,
+    /// Whether working sets are counted with every window, and nothing else.
+    pub is_of_windows: bool,
     /// Where one page in so many is looked at: what is told is an estimate.
     pub one_in: Option<NonZeroU32>,
     pub printing: Printing,

@@ -1,5 +1,6 @@
 //! From words to a request.
 
+use crate::access_choice::{accesses, is_given};
 use crate::commands::policies;
 use crate::frame_lists::{ListFault, frames_in};
 use crate::policy_names::{NAMES, USUAL, policies_in};
@@ -165,9 +166,15 @@ fn curve_request<'a>(matches: &ArgMatches<'a>) -> Result<CurveRequest<'a>, Wrong
             "a sample estimates what LRU misses alone",
         ));
     }
+    let is_of_windows = is_given(matches, "working-sets");
+    if is_of_windows && (one_in > 0 || has_optimum) {
+        let other = if has_optimum { "optimum" } else { "sample" };
+        return Err(Wrong::Together("working-sets", other, WORKING_SETS));
+    }
     Ok(CurveRequest {
         format: format(matches)?,
         has_optimum,
+        is_of_windows,
         one_in: NonZeroU32::new(one_in),
         printing: printing(matches),
         trace: trace(matches)?,
@@ -195,6 +202,9 @@ const SKIPPED: &str = "a number of references, from 0 to 4294967295";
 
 /// What `--sample` may be.
 const SAMPLES: &str = "one page in so many, from 1 to 4294967295";
+
+/// Why working sets go with no policy and no sample.
+const WORKING_SETS: &str = "a working set goes by a window, and by no number of frames";
 
 /// What `--slice` may be.
 const SLICES: &str = "a number of instructions, from 1 to 100000";
@@ -259,6 +269,7 @@ fn guest_request<'a>(
     };
     let images = images.to_vec(alloc)?;
     Ok(GuestRequest {
+        accesses: accesses(matches)?,
         slice,
         limit,
         input: matches.get_str("input"),
@@ -282,10 +293,6 @@ fn number_from<'a>(
         Some(number) if number >= least => Ok(number),
         _ => Err(Wrong::Value(name, text, allowed)),
     }
-}
-
-fn is_given(matches: &ArgMatches<'_>, name: &str) -> bool {
-    matches.get_str(name) == Some("true")
 }
 
 /// The numbers of frames of a machine that a list has.

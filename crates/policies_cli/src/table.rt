@@ -189,14 +189,14 @@ fn write_share<W: Write>(misses: u64, optimum: u64, out: &mut W) -> io::Result<(
 }
 
 /// Which part of the references missed, in parts of ten thousand that are rounded to the nearest; of none, none.
-fn write_ratio<W: Write>(misses: u64, references: u64, out: &mut W) -> io::Result<()> {
+pub(crate) fn write_ratio<W: Write>(misses: u64, references: u64, out: &mut W) -> io::Result<()> {
     let parts = part_of(misses, references, 10_000, 0);
     let (whole, rest) = (parts / 10_000, parts % 10_000);
     write!(out, "{whole}.{rest:0>4}")
 }
 
 /// The quotient of two counts in so small parts, rounded to the nearest.
-fn part_of(count: u64, of: u64, parts: u64, of_none: u64) -> u64 {
+pub(crate) fn part_of(count: u64, of: u64, parts: u64, of_none: u64) -> u64 {
     if of == 0 {
         return of_none;
     }

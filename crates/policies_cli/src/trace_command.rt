@@ -19,7 +19,8 @@ pub(crate) fn run_trace<'a, R: Files + AllocGlobal, W: Write>(
 ) -> Result<(), Fault<'a>> {
     let guest = &request.guest;
     let processes = read_guests(rt, guest)?;
-    let mut guests = GuestString::new(processes, guest.slice, u64::from(guest.limit));
+    let limit = u64::from(guest.limit);
+    let mut guests = GuestString::new(processes, guest.accesses, guest.slice, limit);
     match request.format {
         Format::Text | Format::Lackey | Format::DynamoRio => write_text(&mut guests, out),
         Format::Csv => write_all_csv(&mut guests, out),

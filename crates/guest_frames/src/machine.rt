@@ -57,10 +57,8 @@ fn run_machine<'a, L: Ledger, W: Write>(
 {
     let room = Vec::with_capacity(alloc, MOST_PROCESSES)?;
     let slots = memory_slots(alloc, SLOTS)?;
-    let mut processes = Vec::new(alloc);
-    if processes.push((image, input)).is_err() {
-        return Err(Fault::NoMemory);
-    }
+    let mut processes = Vec::with_capacity(alloc, 1)?;
+    processes.push_reserved((image, input));
     let made = Core::<L, MemorySlot, ClockRing>::new(alloc, frames, blank, slots, processes);
     let Ok(mut core) = made else {
         return Err(Fault::NoMemory);

@@ -2,8 +2,8 @@
 use Rattle.std.specs.Prelude.{◌≡◌, ℕ, Result, Err, ⊤}
 use Rattle.asm_lines.specs.declared.fault.FaultKind.{FaultKind}
 use Rattle.asm_lines.specs.declared.fault.FaultKind.TheVariants.{BadLine, UnknownName, Operand, Range, LabelTwice, NoLabel, TooLong, Empty}
-use Rattle.asm_lines.specs.declared.fault.Refusal.{Refusal}
-use Rattle.asm_lines.specs.declared.fault.Refusal.TheVariants.{Fault, NoMemory}
+use Rattle.asm_lines.specs.declared.fault.LineRefusal.{LineRefusal}
+use Rattle.asm_lines.specs.declared.fault.LineRefusal.TheVariants.{Fault, NoMemory}
 
 abbrev pub fault_number : FaultKind → ℕ
 fault_number BadLine = 1
@@ -16,6 +16,6 @@ fault_number TooLong = 7
 fault_number Empty = 8
 
 -- a refusal is the fault that the definition tells, or want of memory
-abbrev pub RefusesLine : {A : Type 0} → Result A FaultKind → Refusal → Type 0
+abbrev pub RefusesLine : {A : Type 0} → Result A FaultKind → LineRefusal → Type 0
 RefusesLine told (Fault kind) = told ≡ Err kind
 RefusesLine told NoMemory = ⊤

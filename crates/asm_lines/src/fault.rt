@@ -53,31 +53,31 @@ impl FaultKind {
 
 /// Why a line is not read.
 #[derive(Clone, Copy, Debug, PartialEq, Eq)]
-pub enum Refusal {
+pub enum LineRefusal {
     /// It has a fault.
     Fault(FaultKind),
     /// There is no memory for what it holds.
     NoMemory,
 }
 
-impl From<AllocError> for Refusal {
+impl From<AllocError> for LineRefusal {
     ghost use Rattle.std.specs.Prelude.{◌≡◌};
-    ghost use Rattle.asm_lines.specs.declared.fault.Refusal.TheVariants.{NoMemory};
+    ghost use Rattle.asm_lines.specs.declared.fault.LineRefusal.TheVariants.{NoMemory};
 
     ghost from_gives = { λ _ refusal. refusal ≡ NoMemory };
 
     fn from(_: AllocError) -> Self {
-        Refusal::NoMemory
+        LineRefusal::NoMemory
     }
 }
 
-impl<T: Drop> From<AllocFailed<T>> for Refusal {
+impl<T: Drop> From<AllocFailed<T>> for LineRefusal {
     ghost use Rattle.std.specs.Prelude.{◌≡◌};
-    ghost use Rattle.asm_lines.specs.declared.fault.Refusal.TheVariants.{NoMemory};
+    ghost use Rattle.asm_lines.specs.declared.fault.LineRefusal.TheVariants.{NoMemory};
 
     ghost from_gives = { λ _ refusal. refusal ≡ NoMemory };
 
     fn from(_: AllocFailed<T>) -> Self {
-        Refusal::NoMemory
+        LineRefusal::NoMemory
     }
 }

@@ -18,7 +18,7 @@ mod statement;
 mod token;
 mod tokens;
 
-pub use fault::{FaultKind, Refusal};
+pub use fault::{FaultKind, LineRefusal};
 pub use laws::{
     blanks_and_comments_give_no_tokens, numbers_stand_for_their_value, texts_reach_to_their_quote,
     words_reach_to_their_end,

@@ -7,7 +7,7 @@ ghost use Rattle.asm_lines.specs.Tokens.{tokens_of, followed};
 ghost use Rattle.asm_lines.specs.Readings.{operands_on, operands_behind, base_on};
 ghost use Rattle.asm_lines.specs.declared.token.Token.TheVariants as token;
 
-use crate::fault::{FaultKind, Refusal};
+use crate::fault::{FaultKind, LineRefusal};
 use crate::front::Front;
 use crate::operand::Operand;
 use crate::span::Span;
@@ -17,7 +17,7 @@ use std::alloc::Global;
 
 /// One operand or more, parted by commas, to the end of the line.
 #[tactic(auto, using(crate::proofs::OperandSteps::one_more))]
-pub fn operands<'a>(alloc: Global, text: &'a [u8]) -> Result<Vec<Operand<'a>>, Refusal>
+pub fn operands<'a>(alloc: Global, text: &'a [u8]) -> Result<Vec<Operand<'a>>, LineRefusal>
     ensures operands { IfOk result (λ operands. operands_on Due text.now ≡ Some operands.items) }
     ensures refusal { IfErr result (RefusesLine
         (ok_or (operands_on Due text.now) FaultKind.BadLine)) }
@@ -26,15 +26,15 @@ pub fn operands<'a>(alloc: Global, text: &'a [u8]) -> Result<Vec<Operand<'a>>, R
     let mut rest = text;
     loop {
         let Some((operand, behind)) = next_operand(rest) else {
-            return Err(Refusal::Fault(FaultKind::BadLine));
+            return Err(LineRefusal::Fault(FaultKind::BadLine));
         };
         if operands.push(operand).is_err() {
-            return Err(Refusal::NoMemory);
+            return Err(LineRefusal::NoMemory);
         }
         match next_token(behind) {
             Front::End => return Ok(operands),
             Front::Token(Token::Comma, more) => rest = more,
-            _ => return Err(Refusal::Fault(FaultKind::BadLine)),
+            _ => return Err(LineRefusal::Fault(FaultKind::BadLine)),
         }
     }
 }

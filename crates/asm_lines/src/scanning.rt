@@ -8,7 +8,7 @@ ghost use Rattle.asm_lines.specs.Tokens.{tokens_of, followed};
 ghost use Rattle.asm_lines.specs.Readings.{label_on};
 ghost use Rattle.asm_lines.specs.declared.token.Token.TheVariants as token;
 
-use crate::fault::Refusal;
+use crate::fault::LineRefusal;
 use crate::front::Front;
 use crate::source_line::SourceLine;
 use crate::span::Span;
@@ -20,7 +20,7 @@ use std::alloc::Global;
 /// Reads a line to its form: labels with a colon behind each, then perhaps a statement's name, and operands parted by
 /// commas. A line of no such form is a [`FaultKind::BadLine`](crate::FaultKind::BadLine).
 #[tactic(auto, unfolding(crate::specs::Lines::line_form))]
-pub fn scan_line<'a>(alloc: Global, text: &'a [u8]) -> Result<SourceLine<'a>, Refusal>
+pub fn scan_line<'a>(alloc: Global, text: &'a [u8]) -> Result<SourceLine<'a>, LineRefusal>
     ensures line { IfOk result (λ line. line_form text.now ≡ Ok (line_value line)) }
     ensures refusal { IfErr result (RefusesLine (line_form text.now)) }
 {
@@ -28,7 +28,7 @@ pub fn scan_line<'a>(alloc: Global, text: &'a [u8]) -> Result<SourceLine<'a>, Re
     let mut rest = text;
     while let Some((name, behind)) = label(rest) {
         if labels.push(name).is_err() {
-            return Err(Refusal::NoMemory);
+            return Err(LineRefusal::NoMemory);
         }
         rest = behind;
     }

@@ -6,7 +6,7 @@ ghost use Rattle.asm_lines.specs.Forms.{SourceLine};
 ghost use Rattle.asm_lines.specs.Lines.{unlabelled};
 ghost use Rattle.asm_lines.specs.Readings.{statement_on, arguments_on};
 
-use crate::fault::{FaultKind, Refusal};
+use crate::fault::{FaultKind, LineRefusal};
 use crate::front::Front;
 use crate::operand::Operand;
 use crate::operands::operands;
@@ -19,7 +19,7 @@ use std::alloc::Global;
 pub fn statement<'a>(
     alloc: Global,
     text: &'a [u8],
-) -> Result<(Option<Span<'a>>, Vec<Operand<'a>>), Refusal>
+) -> Result<(Option<Span<'a>>, Vec<Operand<'a>>), LineRefusal>
     ensures statement { IfOk result (λ read. statement_on text.now ≡
         Some (unlabelled read.0 read.1.items)) }
     ensures refusal { IfErr result (RefusesLine (ok_or (statement_on text.now) FaultKind.BadLine)) }
@@ -28,17 +28,17 @@ pub fn statement<'a>(
         Front::End => Ok((None, Vec::new(alloc))),
         Front::Token(token, rest) => {
             let Token::Name(name) = token else {
-                return Err(Refusal::Fault(FaultKind::BadLine));
+                return Err(LineRefusal::Fault(FaultKind::BadLine));
             };
             let operands = arguments(alloc, rest)?;
             Ok((Some(name), operands))
         }
-        Front::Bad => Err(Refusal::Fault(FaultKind::BadLine)),
+        Front::Bad => Err(LineRefusal::Fault(FaultKind::BadLine)),
     }
 }
 
 /// What stands behind a statement's name: nothing, or operands.
-fn arguments<'a>(alloc: Global, text: &'a [u8]) -> Result<Vec<Operand<'a>>, Refusal>
+fn arguments<'a>(alloc: Global, text: &'a [u8]) -> Result<Vec<Operand<'a>>, LineRefusal>
     ensures operands { IfOk result (λ operands. arguments_on text.now ≡ Some operands.items) }
     ensures refusal { IfErr result (RefusesLine (ok_or (arguments_on text.now) FaultKind.BadLine)) }
 {

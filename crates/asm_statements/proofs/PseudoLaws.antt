@@ -7,8 +7,8 @@ use Rattle.rv_isa.specs.declared.kinds.ImmediateKind.TheVariants.{Addi}
 use Rattle.rv_isa.specs.declared.instruction.Insn.TheVariants as insn
 use Rattle.asm_lines.specs.declared.operand.Operand.TheVariants.{Number, Name, Indexed}
 use Rattle.asm_lines.specs.declared.fault.FaultKind.{FaultKind}
-use Rattle.asm_statements.specs.declared.part.Code.{Code}
-use Rattle.asm_statements.specs.declared.part.Code.TheVariants as code
+use Rattle.asm_statements.specs.declared.part.CodePart.{CodePart}
+use Rattle.asm_statements.specs.declared.part.CodePart.TheVariants as code
 use Rattle.asm_statements.specs.declared.section.Section.TheVariants.{Text, Data}
 use Rattle.asm_statements.specs.Effects.{StatementEffect, Text as TextEffect}
 use Rattle.asm_statements.specs.Names.{named}
@@ -21,7 +21,7 @@ use Rattle.asm_statements.specs.Statements.{statement_effect, statement_of, mean
 use Rattle.asm_statements.specs.SameStatements.{DoesTheSame}
 
 -- what a part puts into the text
-abbrev one_part : Result Code FaultKind → Result StatementEffect FaultKind
+abbrev one_part : Result CodePart FaultKind → Result StatementEffect FaultKind
 one_part part = map_ok (λ one. TextEffect (one ∷ [])) part
 
 pub no_operation : DoesTheSame (codes "nop") [] (codes "addi") (Name (codes "zero") ∷ Name (codes "zero") ∷ Number (pos 0) ∷ [])

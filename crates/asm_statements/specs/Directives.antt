@@ -5,8 +5,8 @@ use Rattle.std.specs.List.{list_all}
 use Rattle.std.specs.Int.{w8, w16, w32}
 use Rattle.asm_lines.specs.declared.operand.Operand.{Operand}
 use Rattle.asm_lines.specs.declared.operand.Operand.TheVariants.{Number, Name}
-use Rattle.asm_statements.specs.declared.part.Code.{Code}
-use Rattle.asm_statements.specs.declared.part.Code.TheVariants as code
+use Rattle.asm_statements.specs.declared.part.CodePart.{CodePart}
+use Rattle.asm_statements.specs.declared.part.CodePart.TheVariants as code
 use Rattle.asm_statements.specs.declared.part.Datum.{Datum}
 use Rattle.asm_statements.specs.declared.part.Datum.TheVariants as datum
 use Rattle.asm_statements.specs.declared.data.Size.{Size}
@@ -26,7 +26,7 @@ is_value Word (Name name) = true
 is_value _ _ = false
 
 -- one word of the text
-unfoldable pub text_word : Operand → Result Code FaultKind
+unfoldable pub text_word : Operand → Result CodePart FaultKind
 text_word (Number n) = map_ok code.Number (bits_within w32 (negsuc 0x7FFF_FFFF) 0xFFFF_FFFF n)
 text_word (Name name) = Ok (code.Address name)
 text_word _ = Err BadOperand

@@ -1,6 +1,6 @@
 -- What a statement does, as a plain value.
 use Rattle.std.specs.Prelude.{List}
-use Rattle.asm_statements.specs.declared.part.Code.{Code}
+use Rattle.asm_statements.specs.declared.part.CodePart.{CodePart}
 use Rattle.asm_statements.specs.declared.part.Datum.{Datum}
 use Rattle.asm_statements.specs.declared.part.Effect.{Effect as EffectCode}
 use Rattle.asm_statements.specs.declared.part.Effect.TheVariants.{Enter as EnterCode, Text as TextCode, Data as DataCode}
@@ -9,7 +9,7 @@ use Rattle.asm_statements.specs.declared.section.Section.{Section}
 -- what a statement does: it enters a section, or puts something into the text or the data
 pub data StatementEffect : Type 0 where
   Enter : Section → StatementEffect
-  Text : List Code → StatementEffect
+  Text : List CodePart → StatementEffect
   Data : List Datum → StatementEffect
 
 abbrev pub effect_value : EffectCode → StatementEffect

@@ -15,8 +15,8 @@ use Rattle.rv_isa.specs.declared.kinds.ImmediateKind.TheVariants.{Addi}
 use Rattle.rv_isa.specs.declared.instruction.Insn.{Insn}
 use Rattle.rv_isa.specs.declared.instruction.Insn.TheVariants as insn
 use Rattle.asm_lines.specs.declared.operand.Operand.{Operand}
-use Rattle.asm_statements.specs.declared.part.Code.{Code}
-use Rattle.asm_statements.specs.declared.part.Code.TheVariants as code
+use Rattle.asm_statements.specs.declared.part.CodePart.{CodePart}
+use Rattle.asm_statements.specs.declared.part.CodePart.TheVariants as code
 use Rattle.asm_lines.specs.declared.fault.FaultKind.{FaultKind}
 use Rattle.asm_lines.specs.declared.fault.FaultKind.TheVariants.{Operand as BadOperand}
 use Rattle.asm_statements.specs.declared.mnemonic.Mnemonic.{Mnemonic}
@@ -111,28 +111,28 @@ jump_register operands = given (one_register operands) (λ rs1. Ok (insn.Jalr 0 
 -- ---- what goes to a label
 
 -- `la rd, label`
-unfoldable pub load_address : List Operand → Result Code FaultKind
+unfoldable pub load_address : List Operand → Result CodePart FaultKind
 load_address operands = given (register_label operands) (λ r. Ok (code.LoadAddress r.0 r.1))
 
 -- `jal rd, label`
-unfoldable pub jal : List Operand → Result Code FaultKind
+unfoldable pub jal : List Operand → Result CodePart FaultKind
 jal operands = given (register_label operands) (λ r. Ok (code.Jump r.0 r.1))
 
 -- `j label` and `call label`, which link to a register of their own
-unfoldable pub jump : ℕ → List Operand → Result Code FaultKind
+unfoldable pub jump : ℕ → List Operand → Result CodePart FaultKind
 jump link operands = given (one_label operands) (λ target. Ok (code.Jump link target))
 
 -- `beq rs1, rs2, label`
-unfoldable pub branch : BranchKind → List Operand → Result Code FaultKind
+unfoldable pub branch : BranchKind → List Operand → Result CodePart FaultKind
 branch kind operands = given (two_registers_label operands) (λ r. Ok (code.Branch kind r.0 r.1 r.2))
 
 -- `beqz rs1, label`
-unfoldable pub branch_zero : BranchKind → List Operand → Result Code FaultKind
+unfoldable pub branch_zero : BranchKind → List Operand → Result CodePart FaultKind
 branch_zero kind operands = given (register_label operands) (λ r. Ok (code.Branch kind r.0 0 r.1))
 
 -- ---- all of them
 
-unfoldable pub code_of : Mnemonic → List Operand → Result Code FaultKind
+unfoldable pub code_of : Mnemonic → List Operand → Result CodePart FaultKind
 code_of (Op kind) operands = map_ok code.Fixed (op kind operands)
 code_of (OpImmediate kind) operands = map_ok code.Fixed (op_immediate kind operands)
 code_of (Shift kind) operands = map_ok code.Fixed (shift kind operands)
@@ -160,14 +160,14 @@ code_of (BranchZero kind) operands = branch_zero kind operands
 -- ---- li
 
 -- one `addi` for a number that it takes, else `lui` and `addi`
-unfoldable pub constant : ℕ → ℤ → ℕ → List Code
+unfoldable pub constant : ℕ → ℤ → ℕ → List CodePart
 constant rd n word =
     if is_ok (within (negsuc 2047) (pos 2047) n)
     then code.Fixed (insn.OpImmediate Addi rd 0 n) ∷ []
     else code.Fixed (insn.Lui rd (high_part word)) ∷ code.Fixed (insn.OpImmediate Addi rd rd (low_part word)) ∷ []
 
 -- `li rd, n`: the number, or the word that it is modulo 2^32
-unfoldable pub load_immediate : List Operand → Result (List Code) FaultKind
+unfoldable pub load_immediate : List Operand → Result (List CodePart) FaultKind
 load_immediate operands =
     given (register_number operands)
     (λ r. map_ok (constant r.0 r.1) (bits_within w32 (negsuc 0x7FFF_FFFF) 0xFFFF_FFFF r.1))

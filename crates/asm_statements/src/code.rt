@@ -1,6 +1,6 @@
 ghost use Rattle.std.specs.Prelude.{◌≡◌};
 ghost use Rattle.asm_statements.specs.Instructions.{code_of, map_ok};
-ghost use Rattle.asm_statements.specs.declared.part.Code.TheVariants.{Fixed};
+ghost use Rattle.asm_statements.specs.declared.part.CodePart.TheVariants.{Fixed};
 
 use crate::instructions::{
     alone, amo, auipc, copy_register, fence, jalr, jump_register, jump_to, load, lui, no_operation,
@@ -8,7 +8,7 @@ use crate::instructions::{
 };
 use crate::labelled::{branch, branch_zero, jal, jump, load_address};
 use crate::mnemonic::Mnemonic;
-use crate::part::Code;
+use crate::part::CodePart;
 use asm_lines::{FaultKind, Operand};
 use rv_isa::{Insn, Reg};
 
@@ -17,7 +17,7 @@ use rv_isa::{Insn, Reg};
 pub(crate) fn read_code<'a>(
     mnemonic: Mnemonic,
     operands: &[Operand<'a>],
-) -> Result<Code<'a>, FaultKind>
+) -> Result<CodePart<'a>, FaultKind>
     ensures { result ≡ code_of mnemonic operands.now }
 {
     match mnemonic {
@@ -56,8 +56,8 @@ pub(crate) fn read_code<'a>(
 }
 
 /// An instruction, whole.
-fn fixed<'a>(insn: Result<Insn, FaultKind>) -> Result<Code<'a>, FaultKind>
+fn fixed<'a>(insn: Result<Insn, FaultKind>) -> Result<CodePart<'a>, FaultKind>
     ensures { result ≡ map_ok Fixed insn }
 {
-    Ok(Code::Fixed(insn?))
+    Ok(CodePart::Fixed(insn?))
 }

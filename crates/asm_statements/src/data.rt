@@ -3,9 +3,9 @@ ghost use Rattle.std.specs.List.{list_all};
 ghost use Rattle.asm_lines.specs.Faults.{RefusesLine};
 ghost use Rattle.asm_statements.specs.Directives as form;
 
-use crate::part::{Code, Datum};
+use crate::part::{CodePart, Datum};
 use crate::ranges::{byte, half, word};
-use asm_lines::{FaultKind, Operand, Refusal};
+use asm_lines::{FaultKind, Operand, LineRefusal};
 use std::alloc::{AllocError, Global};
 
 /// How large the values of a list are.
@@ -33,12 +33,12 @@ fn is_value(size: Size, operand: &Operand) -> bool
 
 /// One word of the text.
 #[tactic(auto, unfolding(crate::specs::Directives::text_word))]
-fn text_word<'a>(operand: &Operand<'a>) -> Result<Code<'a>, FaultKind>
+fn text_word<'a>(operand: &Operand<'a>) -> Result<CodePart<'a>, FaultKind>
     ensures { result ≡ form.text_word operand.now }
 {
     match operand {
-        Operand::Number(number) => Ok(Code::Number(word(*number)?)),
-        Operand::Name(name) => Ok(Code::Address(name.again())),
+        Operand::Number(number) => Ok(CodePart::Number(word(*number)?)),
+        Operand::Name(name) => Ok(CodePart::Address(name.again())),
         _ => Err(FaultKind::Operand),
     }
 }
@@ -73,14 +73,14 @@ fn is_list(size: Size, operands: &[Operand]) -> bool
 }
 
 /// Each word of a list, for the text.
-fn each_text_word<'a>(alloc: Global, operands: &[Operand<'a>]) -> Result<Vec<Code<'a>>, Refusal>
+fn each_text_word<'a>(alloc: Global, operands: &[Operand<'a>]) -> Result<Vec<CodePart<'a>>, LineRefusal>
     ensures words { IfOk result (λ words. form.each_of form.text_word operands.now ≡
         Ok words.items) }
     ensures refusal { IfErr result (RefusesLine (form.each_of form.text_word operands.now)) }
 {
     let mut words = Vec::new(alloc);
     for operand in operands {
-        let word = text_word(operand).map_err(Refusal::Fault)?;
+        let word = text_word(operand).map_err(LineRefusal::Fault)?;
         words.push(word).map_err(AllocError::from)?;
     }
     Ok(words)
@@ -91,7 +91,7 @@ fn each_data_value<'a>(
     alloc: Global,
     size: Size,
     operands: &[Operand<'a>],
-) -> Result<Vec<Datum<'a>>, Refusal>
+) -> Result<Vec<Datum<'a>>, LineRefusal>
     ensures values { IfOk result (λ values. form.each_of (form.data_value size) operands.now ≡
         Ok values.items) }
     ensures refusal { IfErr result (RefusesLine
@@ -99,7 +99,7 @@ fn each_data_value<'a>(
 {
     let mut values = Vec::new(alloc);
     for operand in operands {
-        let value = data_value(size, operand).map_err(Refusal::Fault)?;
+        let value = data_value(size, operand).map_err(LineRefusal::Fault)?;
         values.push(value).map_err(AllocError::from)?;
     }
     Ok(values)
@@ -110,7 +110,7 @@ fn each_data_value<'a>(
 pub(crate) fn text_values<'a>(
     alloc: Global,
     operands: &[Operand<'a>],
-) -> Result<Vec<Code<'a>>, Refusal>
+) -> Result<Vec<CodePart<'a>>, LineRefusal>
     ensures words { IfOk result (λ words. form.values Size.Word form.text_word operands.now ≡
         Ok words.items) }
     ensures refusal { IfErr result (RefusesLine
@@ -119,7 +119,7 @@ pub(crate) fn text_values<'a>(
     if is_list(Size::Word, operands) {
         each_text_word(alloc, operands)
     } else {
-        Err(Refusal::Fault(FaultKind::Operand))
+        Err(LineRefusal::Fault(FaultKind::Operand))
     }
 }
 
@@ -129,7 +129,7 @@ pub(crate) fn data_values<'a>(
     alloc: Global,
     size: Size,
     operands: &[Operand<'a>],
-) -> Result<Vec<Datum<'a>>, Refusal>
+) -> Result<Vec<Datum<'a>>, LineRefusal>
     ensures values { IfOk result (λ values. form.values size (form.data_value size) operands.now ≡
         Ok values.items) }
     ensures refusal { IfErr result (RefusesLine (form.values size
@@ -138,6 +138,6 @@ pub(crate) fn data_values<'a>(
     if is_list(size, operands) {
         each_data_value(alloc, size, operands)
     } else {
-        Err(Refusal::Fault(FaultKind::Operand))
+        Err(LineRefusal::Fault(FaultKind::Operand))
     }
 }

@@ -22,6 +22,6 @@ mod statements;
 mod text;
 
 pub use laws::{escapes_stand_for_their_bytes, loaded_word, pseudo_instructions_are_instructions};
-pub use part::{Code, Datum, Effect};
+pub use part::{CodePart, Datum, Effect};
 pub use section::Section;
 pub use statements::read_statement;

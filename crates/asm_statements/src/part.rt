@@ -7,7 +7,7 @@ use rv_isa::{BranchKind, Insn, Reg};
 
 /// What a statement puts into the text, once pseudo-instructions are gone: one word, or two for an address.
 #[derive(Drop)]
-pub enum Code<'a> {
+pub enum CodePart<'a> {
     /// One instruction, whole.
     Fixed(Insn),
     /// The two instructions that put a label's address into a register.
@@ -54,18 +54,18 @@ pub enum Effect<'a> {
     /// The statements that follow belong to this section.
     Enter(Section),
     /// It puts this into the text.
-    Text(Vec<Code<'a>>),
+    Text(Vec<CodePart<'a>>),
     /// It puts this into the data.
     Data(Vec<Datum<'a>>),
 }
 
-impl<'a> Code<'a> {
+impl<'a> CodePart<'a> {
     /// How many bytes of text the part takes.
     pub fn length(&self) -> u32
         ensures { result ≡ code_length self.now }
     {
         match self {
-            Code::LoadAddress { .. } => 8,
+            CodePart::LoadAddress { .. } => 8,
             _ => 4,
         }
     }

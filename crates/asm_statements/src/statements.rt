@@ -10,7 +10,7 @@ use crate::part::Effect;
 use crate::section::Section;
 use crate::statement::{Statement, read_name};
 use crate::text::{ascii, space};
-use asm_lines::{FaultKind, Operand, Refusal};
+use asm_lines::{FaultKind, Operand, LineRefusal};
 use std::alloc::{AllocError, Global};
 
 /// What a statement does in a section, by its name and its operands.
@@ -23,13 +23,13 @@ pub fn read_statement<'a>(
     section: Section,
     name: &[u8],
     operands: &[Operand<'a>],
-) -> Result<Effect<'a>, Refusal>
+) -> Result<Effect<'a>, LineRefusal>
     ensures effect { IfOk result (λ effect.
         spec.statement_effect section name.now operands.now ≡ Ok (effect_value effect)) }
     ensures refusal { IfErr result (RefusesLine
         (spec.statement_effect section name.now operands.now)) }
 {
-    let statement = read_name(name).ok_or(Refusal::Fault(FaultKind::UnknownName))?;
+    let statement = read_name(name).ok_or(LineRefusal::Fault(FaultKind::UnknownName))?;
     match section {
         Section::Text => in_text(alloc, statement, operands),
         Section::Data => in_data(alloc, statement, operands),
@@ -42,7 +42,7 @@ fn in_text<'a>(
     alloc: Global,
     statement: Statement,
     operands: &[Operand<'a>],
-) -> Result<Effect<'a>, Refusal>
+) -> Result<Effect<'a>, LineRefusal>
     ensures effect { IfOk result (λ effect. spec.in_text statement operands.now ≡
         Ok (effect_value effect)) }
     ensures refusal { IfErr result (RefusesLine (spec.in_text statement operands.now)) }
@@ -52,10 +52,10 @@ fn in_text<'a>(
         Statement::Values(Size::Word) => Ok(Effect::Text(text_values(alloc, operands)?)),
         Statement::LoadImmediate => Ok(Effect::Text(read_constant(alloc, operands)?)),
         Statement::Code(mnemonic) => {
-            let code = read_code(mnemonic, operands).map_err(Refusal::Fault)?;
+            let code = read_code(mnemonic, operands).map_err(LineRefusal::Fault)?;
             Ok(Effect::Text(vec![in alloc; code].map_err(AllocError::from)?))
         }
-        _ => Err(Refusal::Fault(FaultKind::Operand)),
+        _ => Err(LineRefusal::Fault(FaultKind::Operand)),
     }
 }
 
@@ -65,7 +65,7 @@ fn in_data<'a>(
     alloc: Global,
     statement: Statement,
     operands: &[Operand<'a>],
-) -> Result<Effect<'a>, Refusal>
+) -> Result<Effect<'a>, LineRefusal>
     ensures effect { IfOk result (λ effect. spec.in_data statement operands.now ≡
         Ok (effect_value effect)) }
     ensures refusal { IfErr result (RefusesLine (spec.in_data statement operands.now)) }
@@ -75,16 +75,16 @@ fn in_data<'a>(
         Statement::Values(size) => Ok(Effect::Data(data_values(alloc, size, operands)?)),
         Statement::Ascii => Ok(Effect::Data(ascii(alloc, operands)?)),
         Statement::Space => {
-            let zeros = space(operands).map_err(Refusal::Fault)?;
+            let zeros = space(operands).map_err(LineRefusal::Fault)?;
             Ok(Effect::Data(vec![in alloc; zeros].map_err(AllocError::from)?))
         }
-        _ => Err(Refusal::Fault(FaultKind::Operand)),
+        _ => Err(LineRefusal::Fault(FaultKind::Operand)),
     }
 }
 
 /// `.text` and `.data`.
 #[tactic(auto, unfolding(crate::specs::Statements::enter))]
-fn enter<'a>(into: Section, operands: &[Operand]) -> Result<Effect<'a>, Refusal>
+fn enter<'a>(into: Section, operands: &[Operand]) -> Result<Effect<'a>, LineRefusal>
     ensures effect { IfOk result (λ effect. spec.enter into operands.now ≡
         Ok (effect_value effect)) }
     ensures refusal { IfErr result (RefusesLine (spec.enter into operands.now)) }
@@ -92,6 +92,6 @@ fn enter<'a>(into: Section, operands: &[Operand]) -> Result<Effect<'a>, Refusal>
     if operands.is_empty() {
         Ok(Effect::Enter(into))
     } else {
-        Err(Refusal::Fault(FaultKind::Operand))
+        Err(LineRefusal::Fault(FaultKind::Operand))
     }
 }

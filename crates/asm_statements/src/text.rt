@@ -6,7 +6,7 @@ ghost use Rattle.asm_statements.specs.declared.part.Datum.TheVariants.{Byte};
 use crate::part::Datum;
 use crate::ranges::zero_count;
 use crate::shapes::{one_number, one_text};
-use asm_lines::{FaultKind, Operand, Refusal};
+use asm_lines::{FaultKind, Operand, LineRefusal};
 use std::alloc::{AllocError, Global};
 
 /// What a character stands for behind a backslash.
@@ -43,11 +43,11 @@ fn characters<'a>(alloc: Global, text: &[u8]) -> Result<Vec<Datum<'a>>, AllocErr
 
 /// `.ascii "text"`.
 #[tactic(auto, unfolding(crate::specs::Directives::ascii))]
-pub(crate) fn ascii<'a>(alloc: Global, operands: &[Operand]) -> Result<Vec<Datum<'a>>, Refusal>
+pub(crate) fn ascii<'a>(alloc: Global, operands: &[Operand]) -> Result<Vec<Datum<'a>>, LineRefusal>
     ensures bytes { IfOk result (λ bytes. form.ascii operands.now ≡ Ok bytes.items) }
     ensures refusal { IfErr result (RefusesLine (form.ascii operands.now)) }
 {
-    let text = one_text(operands).ok_or(Refusal::Fault(FaultKind::Operand))?;
+    let text = one_text(operands).ok_or(LineRefusal::Fault(FaultKind::Operand))?;
     Ok(characters(alloc, text.bytes())?)
 }
 

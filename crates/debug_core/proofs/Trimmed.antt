@@ -14,7 +14,7 @@ use Rattle.debug_core.specs.Stops.{break_at, moment_after, reason, watch_hit, Go
 use Rattle.debug_core.specs.declared.point.Point.{Point}
 use Rattle.debug_core.specs.declared.point.Why.{Why}
 use Rattle.debug_core.specs.declared.point.Why.TheVariants.{Ended, Watch, Break, Limit as Limited, Absent}
-use Rattle.debug_core.specs.declared.target.ReadFault.{ReadFault}
+use Rattle.debug_core.specs.declared.target.TargetFault.{TargetFault}
 use Rattle.page_memory.specs.Memory.{Memory}
 
 none_behind : (test : Option Point → Bool) → test None ≡ false → (n : ℕ) (points : List (Option Point)) → ((number : ℕ) → point_at points number ≡ None) → position_from test n points ≡ None
@@ -47,7 +47,7 @@ taken_below (suc used) zero (suc lower) (first ∷ points) point below at = absu
 taken_below (suc used) (suc number) (suc lower) (first ∷ points) point below at = taken_below used number lower points point (omega (arith, below)) at
 
 -- bytes that can't be read are those of a point
-seen_point : (limits : Limit → Type 0) (point : Option Point) (why : ReadFault) → CannotSee limits point why → (there : Point) × (point ≡ Some there)
+seen_point : (limits : Limit → Type 0) (point : Option Point) (why : TargetFault) → CannotSee limits point why → (there : Point) × (point ≡ Some there)
 seen_point limits None why unseen = absurd unseen
 seen_point limits (Some there) why unseen = (there, refl)
 

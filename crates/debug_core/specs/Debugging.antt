@@ -9,10 +9,10 @@ use Rattle.debug_core.specs.Progresses.{ended_full}
 use Rattle.debug_core.specs.Stops.{Moment}
 use Rattle.page_memory.specs.Memory.{Memory, unreserved}
 use Rattle.debug_core.specs.Points.{all_there, bytes_from, IsRange}
-use Rattle.debug_core.specs.declared.target.ReadFault.TheVariants as fault
+use Rattle.debug_core.specs.declared.target.TargetFault.TheVariants as fault
 use Rattle.debug_core.specs.declared.point.Point.{Point}
-use Rattle.debug_core.specs.declared.point.Stepped.{Stepped}
-use Rattle.debug_core.specs.declared.point.Stepped.TheVariants.{Ran, Absent}
+use Rattle.debug_core.specs.declared.point.DebugStep.{DebugStep}
+use Rattle.debug_core.specs.declared.point.DebugStep.TheVariants.{Ran, Absent}
 use Rattle.debug_core.specs.declared.refusal.DebugRefusal.{DebugRefusal}
 use Rattle.debug_core.specs.declared.refusal.DebugRefusal.TheVariants.{Full, BadRange, NoPoint, NoHart, Ended, NotMapped, Purged, Device, NoMemory}
 
@@ -37,7 +37,7 @@ first_moment process turn = record { process = process; turn = turn; was = unres
 
 -- One step of a hart, where the target that it is taken on has these limits: it is the flat step, and the turn goes on; or none was
 -- taken, though the hart may step, since a page that it needs can't be had. In both cases it could be recorded.
-abbrev pub StepsOnce : (Limit → Type 0) → Stepped → ℕ → Process → ℕ → Process → ℕ → Type 0
+abbrev pub StepsOnce : (Limit → Type 0) → DebugStep → ℕ → Process → ℕ → Process → ℕ → Type 0
 StepsOnce limits Ran hart old turn new next = (flat_step hart old ≡ Some new) × (next ≡ turn_after hart new) × (¬ limits (CannotRecord [] hart))
 StepsOnce limits Absent hart old turn new next = (new ≡ old) × (next ≡ turn) × (may_step hart old ≡ true) × (¬ limits (CannotRecord [] hart)) × limits (CannotHave hart)
 

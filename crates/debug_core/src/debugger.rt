@@ -7,10 +7,10 @@ ghost use Rattle.debug_core.specs.Stops.{Stops, Wants};
 ghost use Rattle.debug_core.specs.declared.point.Point.TheVariants as point;
 ghost use Rattle.debug_core.specs.declared.refusal.DebugRefusal.TheVariants as refusal;
 
-use crate::point::{MOST_POINTS, MOST_WATCHED, Point, Stepped, Why};
+use crate::point::{MOST_POINTS, MOST_WATCHED, Point, DebugStep, Why};
 use crate::refusal::DebugRefusal;
 use crate::running::run;
-use crate::target::{Progress, Target};
+use crate::target::{TargetStep, Target};
 use rv_exec::Regs;
 use std::alloc::AllocError;
 use std::marker::Model;
@@ -111,7 +111,7 @@ impl<T: Target> Debugger<T> {
     }
 
     /// Runs one instruction of a hart.
-    pub fn step(&mut self, hart: u32) -> Result<Stepped, DebugRefusal>
+    pub fn step(&mut self, hart: u32) -> Result<DebugStep, DebugRefusal>
         ensures ok { IfOk result (λ stepped. StepsOnce (T.limits self.old.target) stepped hart
             (T.shown self.old.target) self.old.turn (T.shown self.new.target) self.new.turn) }
         ensures refused { IfErr result (λ why. RefusesStep (T.limits self.old.target) why hart
@@ -126,12 +126,12 @@ impl<T: Target> Debugger<T> {
             return Err(DebugRefusal::Ended);
         }
         match self.target.step(hart) {
-            Ok(Progress::Ran) => {
+            Ok(TargetStep::Ran) => {
                 self.turn = self.target.turn_after(hart);
-                Ok(Stepped::Ran)
+                Ok(DebugStep::Ran)
             }
-            Ok(Progress::Absent) => Ok(Stepped::Absent),
-            Ok(Progress::Full) => Err(DebugRefusal::Ended),
+            Ok(TargetStep::Absent) => Ok(DebugStep::Absent),
+            Ok(TargetStep::Full) => Err(DebugRefusal::Ended),
             Err(AllocError) => Err(DebugRefusal::NoMemory),
         }
     }

@@ -5,7 +5,7 @@ ghost use Rattle.page_memory.specs.Memory.{Memory};
 ghost use Rattle.debug_core.specs.Points.{bytes_from};
 ghost use Rattle.flat_machine.specs.Process.{Process};
 
-use crate::target::{Progress, ReadFault, Target};
+use crate::target::{TargetStep, TargetFault, Target};
 use flat_machine::{End, FlatProcess, StepRefusal};
 use rv_exec::Regs;
 use std::alloc::AllocError;
@@ -35,15 +35,15 @@ impl Target for FlatProcess {
         FlatProcess::regs(self, hart)
     }
 
-    fn step(&mut self, hart: u32) -> Result<Progress, AllocError> {
+    fn step(&mut self, hart: u32) -> Result<TargetStep, AllocError> {
         match FlatProcess::step(self, hart) {
-            Ok(()) => Ok(Progress::Ran),
+            Ok(()) => Ok(TargetStep::Ran),
             Err(StepRefusal::NoMemory) => Err(AllocError),
             Err(_) => unreachable!(),
         }
     }
 
-    fn read(&mut self, address: u32, bytes: &mut [Option<u8>]) -> Result<(), ReadFault> {
+    fn read(&mut self, address: u32, bytes: &mut [Option<u8>]) -> Result<(), TargetFault> {
         read_all(self, address, bytes);
         Ok(())
     }

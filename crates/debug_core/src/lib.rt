@@ -12,6 +12,6 @@ mod running;
 mod target;
 
 pub use debugger::Debugger;
-pub use point::{MOST_POINTS, MOST_WATCHED, Point, Stepped, Why};
+pub use point::{MOST_POINTS, MOST_WATCHED, Point, DebugStep, Why};
 pub use refusal::DebugRefusal;
-pub use target::{Progress, ReadFault, Target};
+pub use target::{TargetStep, TargetFault, Target};

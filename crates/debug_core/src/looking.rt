@@ -8,7 +8,7 @@ ghost use Rattle.debug_core.specs.Limits.{KeepsRoom};
 ghost use Rattle.debug_core.specs.Seen.{AreSeen, CannotSee, IsSeen, IsUnread};
 
 use crate::point::{MOST_WATCHED, Point};
-use crate::target::{ReadFault, Target};
+use crate::target::{TargetFault, Target};
 
 /// The bytes of a watch, and nothing behind them.
 pub(crate) type Window = [Option<u8>; MOST_WATCHED as usize];
@@ -21,7 +21,7 @@ pub(crate) fn look<T: Target>(
     target: &mut T,
     points: &[Option<Point>],
     seen: &mut [Window],
-) -> Result<Option<u32>, ReadFault>
+) -> Result<Option<u32>, TargetFault>
     requires points { ArePoints points.now }
     requires room { length points.now ≤ length seen.old }
     requires few { length points.now ≤ 32 }
@@ -48,7 +48,7 @@ fn look_at<T: Target>(
     target: &mut T,
     point: Option<Point>,
     seen: &mut Window,
-) -> Result<bool, ReadFault>
+) -> Result<bool, TargetFault>
     requires point { IsPoint point }
     ensures hit { IfOk result (λ hit. (was : Memory) → IsSeen point seen.old was →
         hit ≡ is_hit was (T.shown target.old).memory point) }

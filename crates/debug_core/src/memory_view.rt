@@ -7,7 +7,7 @@ ghost use Rattle.debug_core.specs.Points.{all_there, bytes_from, IsRange};
 
 use crate::debugger::{Debugger, is_range};
 use crate::refusal::DebugRefusal;
-use crate::target::{ReadFault, Target};
+use crate::target::{TargetFault, Target};
 use std::alloc::{AllocError, Global};
 
 /// How many bytes a look may have.
@@ -35,8 +35,8 @@ impl<T: Target> Debugger<T> {
         let mut room = [None; MOST_BYTES as usize];
         let bytes = &mut room[..length as usize];
         match self.target.read(address, bytes) {
-            Err(ReadFault::Purged) => Err(DebugRefusal::Purged),
-            Err(ReadFault::Device) => Err(DebugRefusal::Device),
+            Err(TargetFault::Purged) => Err(DebugRefusal::Purged),
+            Err(TargetFault::Device) => Err(DebugRefusal::Device),
             Ok(()) => match copied(alloc, bytes) {
                 Ok(copy) => Ok(copy),
                 Err(AllocError) => Err(DebugRefusal::NoMemory),

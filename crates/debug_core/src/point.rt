@@ -30,7 +30,7 @@ pub enum Why {
 
 /// What has come of one step.
 #[derive(Clone, Copy, Debug, PartialEq, Eq)]
-pub enum Stepped {
+pub enum DebugStep {
     Ran,
     /// A page that it needs could not be had; it was not taken.
     Absent,

@@ -14,7 +14,7 @@ ghost use Rattle.debug_core.specs.declared.point.Why.TheVariants as why;
 
 use crate::looking::{NOTHING, Window, look};
 use crate::point::{MOST_POINTS, Point, Why};
-use crate::target::{Progress, ReadFault, Target};
+use crate::target::{TargetStep, TargetFault, Target};
 use std::alloc::AllocError;
 
 /// The number of the first break at which a hart stands.
@@ -58,7 +58,7 @@ fn reason_now<T: Target>(
     seen: &mut [Window],
     done: u64,
     limit: u64,
-) -> Result<Option<Why>, ReadFault>
+) -> Result<Option<Why>, TargetFault>
     requires points { ArePoints points.now }
     requires room { length points.now ≤ length seen.old }
     requires few { length points.now ≤ 32 }
@@ -140,12 +140,12 @@ fn advance<T: Target>(
         Ok(None) => {}
     }
     match target.step(*turn) {
-        Ok(Progress::Ran) => {
+        Ok(TargetStep::Ran) => {
             *turn = target.turn_after(*turn);
             Ok(None)
         }
-        Ok(Progress::Absent) => Ok(Some(Why::Absent)),
-        Ok(Progress::Full) => Ok(Some(Why::Ended)),
+        Ok(TargetStep::Absent) => Ok(Some(Why::Absent)),
+        Ok(TargetStep::Full) => Ok(Some(Why::Ended)),
         Err(AllocError) => Err(AllocError),
     }
 }

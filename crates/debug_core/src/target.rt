@@ -14,7 +14,7 @@ use std::alloc::AllocError;
 
 /// What has come of a step.
 #[derive(Clone, Copy, Debug, PartialEq, Eq)]
-pub enum Progress {
+pub enum TargetStep {
     /// It was taken.
     Ran,
     /// A page that it needs could not be had; it was not taken.
@@ -25,7 +25,7 @@ pub enum Progress {
 
 /// Why bytes can't be read, in the order in which it is tested.
 #[derive(Clone, Copy, Debug, PartialEq, Eq)]
-pub enum ReadFault {
+pub enum TargetFault {
     /// The process has ended, and a page was given back.
     Purged,
     /// A page could not be loaded.
@@ -69,7 +69,7 @@ pub trait Target: Drop {
     /// # Errors
     ///
     /// Want of memory, where the instruction could be recorded; the process is as before.
-    fn step(&mut self, hart: u32) -> Result<Progress, AllocError>
+    fn step(&mut self, hart: u32) -> Result<TargetStep, AllocError>
         requires { may_step hart (shown self.old) ≡ true }
         ensures ok { IfOk result (λ progress. Progresses progress hart (shown self.old)
             (shown self.new)) }
@@ -82,7 +82,7 @@ pub trait Target: Drop {
 
     /// Reads the bytes from an address on, as many as there are places; `None` where no page is mapped. What the process shows
     /// stays. Where it fails, what is in the places is open.
-    fn read(&mut self, address: u32, bytes: &mut [Option<u8>]) -> Result<(), ReadFault>
+    fn read(&mut self, address: u32, bytes: &mut [Option<u8>]) -> Result<(), TargetFault>
         requires { address + length bytes.old ≤ 2 ^ 32 }
         ensures ok { OnOk result (bytes.new ≡ bytes_from (shown self.old).memory address
             (length bytes.old)) }

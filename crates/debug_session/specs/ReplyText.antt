@@ -3,7 +3,7 @@ use Rattle.std.specs.Prelude.{ℕ, zero, suc, ◌/◌, ◌%◌, true, List, [], 
 use Rattle.std.specs.Fmt.{decimal, digit_glyph}
 use Rattle.rv_exec.specs.Registers.{Registers, register}
 use Rattle.debug_core.specs.RefusalNumber.{refusal_number}
-use Rattle.debug_core.specs.declared.point.Stepped.TheVariants.{Ran, Absent}
+use Rattle.debug_core.specs.declared.point.DebugStep.TheVariants.{Ran, Absent}
 use Rattle.debug_core.specs.declared.point.Why.{Why}
 use Rattle.debug_core.specs.declared.point.Why.TheVariants as why
 use Rattle.debug_session.specs.declared.reply.DebugReply.{DebugReply}

@@ -1,4 +1,4 @@
-use debug_core::{DebugRefusal, Stepped, Why};
+use debug_core::{DebugRefusal, DebugStep, Why};
 use rv_exec::Regs;
 
 /// What a debugger replies.
@@ -9,7 +9,7 @@ pub enum DebugReply {
     /// A point was removed.
     Removed,
     /// What came of one step.
-    Stepped(Stepped),
+    Stepped(DebugStep),
     /// Why it stopped, whose turn it is, and after how many steps.
     Stopped { why: Why, turn: u32, steps: u64 },
     Registers(Regs),

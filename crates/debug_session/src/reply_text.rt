@@ -2,7 +2,7 @@
 
 use crate::hexadecimal::{HexByte, HexWord};
 use crate::reply::DebugReply;
-use debug_core::{Stepped, Why};
+use debug_core::{DebugStep, Why};
 use rv_exec::Regs;
 use std::fmt;
 
@@ -16,8 +16,8 @@ impl fmt::Display for DebugReply {
         match self {
             DebugReply::Point(number) => write!(f, "point {number}"),
             DebugReply::Removed => f.write_str("removed"),
-            DebugReply::Stepped(Stepped::Ran) => f.write_str("ran"),
-            DebugReply::Stepped(Stepped::Absent) => f.write_str("absent"),
+            DebugReply::Stepped(DebugStep::Ran) => f.write_str("ran"),
+            DebugReply::Stepped(DebugStep::Absent) => f.write_str("absent"),
             DebugReply::Stopped { why, turn, steps } => {
                 let stop = Stop {
                     why: *why,

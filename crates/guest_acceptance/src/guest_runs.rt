@@ -1,7 +1,7 @@
 //! Runs of `guest`: the lines of `data/guest_runs.txt`, whose words are parted by one blank each; behind `<` stands the file of the input.
 //! What the guests of `examples/c` print and answer under `qemu-riscv32`, they are to print and answer here.
 
-use crate::run::{Run, show_run, text_of};
+use crate::run::{RunOutput, show_run, text_of};
 use guest_cli::run_guest;
 use guest_frames::PagedMachine;
 use image_files::Folder;
@@ -21,7 +21,7 @@ pub fn show_guest_runs<R: Folder + AllocGlobal, W: Write>(rt: &R, out: &mut W) -
     Ok(())
 }
 
-fn guest_run<R: Folder + AllocGlobal>(rt: &R, line: &str) -> io::Result<Run> {
+fn guest_run<R: Folder + AllocGlobal>(rt: &R, line: &str) -> io::Result<RunOutput> {
     let (words, input) = match line.split_once(" < ") {
         Some((words, file)) => (words, text_of(rt, file)?.into_bytes()),
         None => (line, Vec::new(rt.alloc())),
@@ -37,5 +37,5 @@ fn guest_run<R: Folder + AllocGlobal>(rt: &R, line: &str) -> io::Result<Run> {
         &mut out,
         &mut err,
     );
-    Ok(Run { out, err, status })
+    Ok(RunOutput { out, err, status })
 }

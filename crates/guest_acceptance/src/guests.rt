@@ -1,6 +1,6 @@
 //! Guests, each on flat memory and on four frames, on one thread and on several: what a process does is the same.
 
-use crate::run::{Run, run_line, show_end, show_run};
+use crate::run::{RunOutput, run_line, show_end, show_run};
 use image_files::Folder;
 use std::io;
 use std::io::Write;
@@ -65,7 +65,7 @@ where
 }
 
 /// The lines below the process lines, where those are the ones of a run on flat memory.
-fn counts_of<'a>(paged: &'a Run, flat: &Run) -> Option<&'a [u8]> {
+fn counts_of<'a>(paged: &'a RunOutput, flat: &RunOutput) -> Option<&'a [u8]> {
     if flat.out.is_empty() {
         return None;
     }
@@ -79,7 +79,7 @@ fn audit_of(counts: &[u8]) -> Option<&[u8]> {
 }
 
 /// Shows a run of the machine beside the one on flat memory: that its process lines are the same, and these lines below them.
-fn show_beside<W: Write>(paged: &Run, below: Option<&[u8]>, out: &mut W) -> io::Result<()> {
+fn show_beside<W: Write>(paged: &RunOutput, below: Option<&[u8]>, out: &mut W) -> io::Result<()> {
     match below {
         Some(lines) => {
             writeln!(out, "-- the same process lines")?;

@@ -11,12 +11,12 @@ use Rattle.machine_core.specs.SavingOut.{saved_refusal, SavesOnce}
 use Rattle.machine_core.specs.Faithful.{IsFaithful}
 use Rattle.machine_core.specs.Machine.{CoreValue}
 use Rattle.machine_core.specs.PagingIn.{page_in_refusal, PagesInOnce}
-use Rattle.machine_core.specs.MachineRun.{hart_refusal, kill_refusal, sweep_refusal, RefusesEvent, Steps, Notices, Kills, SweepsOnce}
+use Rattle.machine_core.specs.MachineRun.{hart_refusal, kill_refusal, sweep_refusal, RefusesEvent, StepsHart, Notices, Kills, SweepsOnce}
 
 module _ {S : Type 0} (held : S → List ℕ) (honest : Type 0) (failures : S → ℕ) where
   -- what an event does: it is refused for the first reason that holds, or it is served
   abbrev pub ServesEvent : Event → CoreValue S → CoreValue S → Reply → Type 0
-  ServesEvent (Step process hart) old new reply = RefusesEvent (hart_refusal process hart old.processes) old new reply ⊎ Steps held honest process hart old new reply
+  ServesEvent (Step process hart) old new reply = RefusesEvent (hart_refusal process hart old.processes) old new reply ⊎ StepsHart held honest process hart old new reply
   ServesEvent (Notice process hart) old new reply = RefusesEvent (hart_refusal process hart old.processes) old new reply ⊎ Notices process hart old new reply
   ServesEvent Sweep old new reply = RefusesEvent (sweep_refusal (question_of old.pager.pager.list)) old new reply ⊎ SweepsOnce old new reply
   ServesEvent (Collect key) old new reply = RefusesEvent (collect_refusal key old.processes) old new reply ⊎ CollectsOnce held honest key old new reply

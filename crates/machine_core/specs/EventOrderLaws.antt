@@ -13,7 +13,7 @@ use Rattle.flat_machine.specs.declared.end.End.{End}
 use Rattle.flat_machine.specs.declared.end.KillCause.{KillCause}
 use Rattle.machine_core.specs.Headline.{has_run, adds}
 use Rattle.machine_core.specs.Machine.{CoreValue}
-use Rattle.machine_core.specs.MachineRun.{step_reply, sweep_reply, hart_reason, of_process, Steps, Notices, Kills, SweepsOnce}
+use Rattle.machine_core.specs.MachineRun.{step_reply, sweep_reply, hart_reason, of_process, StepsHart, Notices, Kills, SweepsOnce}
 use Rattle.machine_sides.specs.ProcessCalls.{Slices}
 use Rattle.machine_sides.specs.Sweeping.{ReadsBit, HeedsVerdict, bit_at}
 use Rattle.machine_core.specs.declared.error.EventRefusal.TheVariants as refusal
@@ -89,7 +89,7 @@ module _ {S : Type 0} where
     other_added hart number p true apart = ap (λ b. if b then hart ∷ [] else []) (ne_eqb number p apart)
     other_added hart number p false apart = refl
 
-    pub step_tells : (p hart : ℕ) (old new : CoreValue S) (answer : Reply) → Steps held honest p hart old new answer → Tells (Step p hart) answer old new
+    pub step_tells : (p hart : ℕ) (old new : CoreValue S) (answer : Reply) → StepsHart held honest p hart old new answer → Tells (Step p hart) answer old new
     step_tells p hart old new answer steps =
         let one = steps.one in
         let slice = one.how.slice in

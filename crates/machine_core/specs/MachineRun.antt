@@ -98,7 +98,7 @@ module _ {S : Type 0} where
     pub is : new ≡ slice_set old number process'
 
   -- a process's hart runs one instruction, or does not
-  pub record Steps (held : S → List ℕ) (honest : Type 0) (process hart : ℕ) (old new : CoreValue S) (reply : Reply) : Type 0 where
+  pub record StepsHart (held : S → List ℕ) (honest : Type 0) (process hart : ℕ) (old new : CoreValue S) (reply : Reply) : Type 0 where
     pub allowed : hart_refusal process hart old.processes ≡ None
     pub why : SliceStop
     pub one : ChangesOne (StepsOnce held honest hart why) process old.processes new.processes

@@ -31,5 +31,5 @@ pub use machine_sides::{
     PurgeRefusal, Purging, Report, SaveFailure, SaveOutcome, SideCounts, Swept, admit, collect,
     purge, saved, sweep, undo,
 };
-pub use many_steps::Steps;
+pub use many_steps::StepsReply;
 pub use running::cut_run;

@@ -1,6 +1,6 @@
 ghost use Rattle.std.specs.Prelude.{◌≡◌, ◌⊎◌};
 ghost use Rattle.clock_policy.specs.ClockPro.{question_of};
-ghost use Rattle.machine_core.specs.MachineRun.{hart_refusal, kill_refusal, sweep_refusal, RefusesEvent, Steps, Notices, Kills, SweepsOnce};
+ghost use Rattle.machine_core.specs.MachineRun.{hart_refusal, kill_refusal, sweep_refusal, RefusesEvent, StepsHart, Notices, Kills, SweepsOnce};
 
 use crate::core_steps;
 use crate::error::EventRefusal;
@@ -55,7 +55,7 @@ impl<L: Ledger, S: SwapSlot, C: Clock> Core<L, S, C> {
     /// A hart runs one instruction.
     pub(crate) fn step(&mut self, process: u32, hart: u32) -> Reply
         ensures { RefusesEvent (hart_refusal process hart self.old.processes) self.old self.new
-            result ⊎ Steps S.content S.honest process hart self.old self.new result }
+            result ⊎ StepsHart S.content S.honest process hart self.old self.new result }
     {
         let refusal = core_steps::hart_refusal(self.processes.as_slice(), process, hart);
         if let Some(refusal) = refusal {

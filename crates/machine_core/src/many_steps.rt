@@ -18,7 +18,7 @@ use swap_slots::SwapSlot;
 
 /// What came of steps of a hart in a row.
 #[derive(Clone, Copy, PartialEq, Eq, Debug)]
-pub struct Steps {
+pub struct StepsReply {
     /// How many ran, and their hart went on.
     pub ran: u32,
     /// The reply to one more, after which the hart does not go on as it did.
@@ -28,7 +28,7 @@ pub struct Steps {
 impl<L: Ledger, S: SwapSlot, C: Clock> Core<L, S, C> {
     /// Steps of one hart, one after another, up to so many: they end with the first that is not answered with
     /// [`Reply::Ran`].
-    pub fn steps(&mut self, process: u32, hart: u32, most: u32) -> Steps
+    pub fn steps(&mut self, process: u32, hart: u32, most: u32) -> StepsReply
         ensures runs { Runs S.content S.honest S.failures
             (steps_of process hart result.ran result.last)
             (replies_of result.ran result.last) self.old self.new }
@@ -39,17 +39,17 @@ impl<L: Ledger, S: SwapSlot, C: Clock> Core<L, S, C> {
     {
         self.faithful();
         if most == 0 {
-            return Steps { ran: 0, last: None };
+            return StepsReply { ran: 0, last: None };
         }
         let refusal = hart_refusal(self.processes.as_slice(), process, hart);
         if let Some(refusal) = refusal {
-            return Steps {
+            return StepsReply {
                 ran: 0,
                 last: Some(Reply::Refused(refusal)),
             };
         }
         let slices = slices_at(self.processes.as_mut_slice(), process as usize, hart, most);
-        Steps {
+        StepsReply {
             ran: slices.ran,
             last: last_reply(slices.last),
         }

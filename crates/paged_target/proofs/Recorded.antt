@@ -9,8 +9,8 @@ use Rattle.machine_core.specs.Machine.{CoreValue}
 use Rattle.paged_target.specs.Lacks.{LacksOn, LeavesRoomFor}
 use Rattle.paged_target.specs.Recording.{recorded, recorded_in, room_in, room_left, IsFull}
 use Rattle.paged_target.specs.Serving.{added_by}
-use Rattle.serial_driver.specs.declared.serving.Served.{Served}
-use Rattle.serial_driver.specs.declared.serving.Served.TheVariants.{Ran, Absent, Full, NoMemory}
+use Rattle.serial_driver.specs.declared.serving.ServedStep.{ServedStep}
+use Rattle.serial_driver.specs.declared.serving.ServedStep.TheVariants.{Ran, Absent, Full, NoMemory}
 use Rattle.paged_target.proofs.Joined.{one_schedule}
 use Rattle.space_core.specs.StandsFor.{SpaceValue}
 
@@ -38,7 +38,7 @@ records_one : (ran : ℕ) (old new : CoreValue (List ℕ)) → recorded new ≡ 
 records_one ran old new more harts hart =
     same_way (λ l. IsFull l hart) (recorded new ++ harts) (recorded old ++ ran ∷ harts) (ap (λ l. l ++ harts) more ∙ append_assoc (recorded old) (ran ∷ []) harts)
 
-pub room_after : (what : Served) (hart : ℕ) (old new : CoreValue (List ℕ)) → recorded new ≡ recorded old ++ added_by what hart → LeavesRoomFor what hart old new
+pub room_after : (what : ServedStep) (hart : ℕ) (old new : CoreValue (List ℕ)) → recorded new ≡ recorded old ++ added_by what hart → LeavesRoomFor what hart old new
 room_after Ran hart old new is = records_one hart old new is
 room_after Absent hart old new is = keeps_room old new (is ∙ append-nil (recorded old))
 room_after Full hart old new is = keeps_room old new (is ∙ append-nil (recorded old))

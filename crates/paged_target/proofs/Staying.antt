@@ -17,7 +17,7 @@ use Rattle.flat_machine.specs.declared.end.KillCause.{KillCause}
 use Rattle.machine_core.specs.Applying.{Applies, Runs, ServesEvent}
 use Rattle.machine_core.specs.CollectEvent.{CollectsTo, CollectsOnce, not_yet, freed, dirty, no_slot, no_memory}
 use Rattle.machine_core.specs.Machine.{CoreValue}
-use Rattle.machine_core.specs.MachineRun.{step_reply, ChangesOne, RefusesEvent, Steps, SweepsOnce}
+use Rattle.machine_core.specs.MachineRun.{step_reply, ChangesOne, RefusesEvent, StepsHart, SweepsOnce}
 use Rattle.machine_core.specs.Opening.{AllBegin}
 use Rattle.machine_core.specs.PagingIn.{PagesInOnce}
 use Rattle.machine_core.specs.SavingOut.{EndsSaving, SavesOnce}
@@ -38,8 +38,8 @@ use Rattle.paged_memory.specs.Paged.{PagedValue}
 use Rattle.paged_memory.specs.Whole.{stage_in}
 use Rattle.paged_memory.specs.Using.{LacksIn}
 use Rattle.serial_driver.specs.Serving.{BringsIn, Serves, ServesHart}
-use Rattle.serial_driver.specs.declared.serving.Served.{Served}
-use Rattle.serial_driver.specs.declared.serving.Served.TheVariants as served
+use Rattle.serial_driver.specs.declared.serving.ServedStep.{ServedStep}
+use Rattle.serial_driver.specs.declared.serving.ServedStep.TheVariants as served
 use Rattle.space_core.specs.Caches.{if_killed}
 use Rattle.space_core.specs.RunningValue.{RunningValue}
 use Rattle.space_core.specs.Slices.{StopsRecorded}
@@ -173,7 +173,7 @@ module _ {S : Type 0} (hart : ℕ) where
           all = same_sum (room old.schedule hart) (length (written_out old.schedule)) (room new.schedule hart) (length (written_out new.schedule)) once.ran left more;
         }
 
-    ran_stays : (process : ℕ) (old new : CoreValue S) (reply : Reply) → Steps held honest process hart old new reply → FirstStays old.processes new.processes
+    ran_stays : (process : ℕ) (old new : CoreValue S) (reply : Reply) → StepsHart held honest process hart old new reply → FirstStays old.processes new.processes
     ran_stays process old new reply steps = first_changed process old.processes new.processes (λ p p' how. step_stays steps.why p p' how) steps.one
 
     collect_stays : (old new : CoreValue S) (reply : Reply) (key : Key) → CollectsOnce held honest key old new reply → FirstStays old.processes new.processes
@@ -218,7 +218,7 @@ module _ {S : Type 0} (hart : ℕ) where
       serving_stays process (Step p h) old new reply serves did =
           elim did [
             | inl refuses ↦ refused_stays _ old new reply refuses
-            | inr steps ↦ ran_stays p old new reply (subst (λ n. Steps held honest p n old new reply) (own_hart process p h serves) steps)
+            | inr steps ↦ ran_stays p old new reply (subst (λ n. StepsHart held honest p n old new reply) (own_hart process p h serves) steps)
           ]
       serving_stays process (Notice p h) old new reply serves did =
           elim did [
@@ -247,7 +247,7 @@ module _ {S : Type 0} (hart : ℕ) where
           (serving_stays process event old runs.0 reply (All-head (ServesHart process hart) event events serve) runs.1.0.served)
           (runs_stay process events replies runs.0 new (All-tail (ServesHart process hart) event events serve) runs.1.1)
 
-      last_stays : (what : Served) (old new : CoreValue S) (serves : Serves held honest failures 0 hart what old new) → FirstStays serves.between.processes new.processes
+      last_stays : (what : ServedStep) (old new : CoreValue S) (serves : Serves held honest failures 0 hart what old new) → FirstStays serves.between.processes new.processes
       last_stays served.Ran old new serves = serving_stays 0 (Step 0 hart) serves.between new serves.ends.0 (inl refl) serves.ends.1.1.applies.served
       last_stays served.Absent old new serves = first_same serves.between.processes new.processes (ap (λ (c : CoreValue S). c.processes) serves.ends)
       last_stays served.Full old new serves = serving_stays 0 (Step 0 hart) serves.between new _ (inl refl) serves.ends.applies.served
@@ -257,7 +257,7 @@ module _ {S : Type 0} (hart : ℕ) where
       brought_stays : (old new : CoreValue S) → BringsIn held honest failures 0 hart old new → FirstStays old.processes new.processes
       brought_stays old new brings = runs_stay 0 brings.events brings.replies old new brings.serve brings.runs
 
-      served_stays : (what : Served) (old new : CoreValue S) → Serves held honest failures 0 hart what old new → FirstStays old.processes new.processes
+      served_stays : (what : ServedStep) (old new : CoreValue S) → Serves held honest failures 0 hart what old new → FirstStays old.processes new.processes
       served_stays what old new serves =
           first_then old.processes serves.between.processes new.processes (brought_stays old serves.between serves.brings) (last_stays what old new serves)
 
@@ -321,14 +321,14 @@ module _ {S : Type 0} (hart : ℕ) where
       subst IsUnkilledIn (sym stays.found) (stays.stays.own (subst IsUnkilledIn at.1 unkilled))
 
   module _ (held : S → List ℕ) (honest : Type 0) (failures : S → ℕ) where
-    pub serves_intact : (what : Served) (old new : CoreValue S) → Serves held honest failures 0 hart what old new → IsSome (slice_get old.processes 0) → IsIntact old → IsIntact new
+    pub serves_intact : (what : ServedStep) (old new : CoreValue S) → Serves held honest failures 0 hart what old new → IsSome (slice_get old.processes 0) → IsIntact old → IsIntact new
     serves_intact what old new serves there intact = intact_by old new (served_stays held honest failures what old new serves) there intact
 
-    pub serves_unkilled : (what : Served) (old new : CoreValue S) → Serves held honest failures 0 hart what old new → IsSome (slice_get old.processes 0) → IsUnkilled old → IsUnkilled new
+    pub serves_unkilled : (what : ServedStep) (old new : CoreValue S) → Serves held honest failures 0 hart what old new → IsSome (slice_get old.processes 0) → IsUnkilled old → IsUnkilled new
     serves_unkilled what old new serves there unkilled = unkilled_by old new (served_stays held honest failures what old new serves) there unkilled
 
     -- where the schedule takes no further instruction, it took none before pages were brought in
-    pub serves_full : (what : Served) (old new : CoreValue S) → Serves held honest failures 0 hart what old new → IsSome (slice_get old.processes 0) → what ≡ served.Full → room_left hart old ≡ 0
+    pub serves_full : (what : ServedStep) (old new : CoreValue S) → Serves held honest failures 0 hart what old new → IsSome (slice_get old.processes 0) → what ≡ served.Full → room_left hart old ≡ 0
     serves_full what old new serves there full =
         let at = there_is old there in
         ap (room_in hart) at.1 ∙ full_room held honest failures old new (subst (λ w. Serves held honest failures 0 hart w old new) full serves) at.0 at.1

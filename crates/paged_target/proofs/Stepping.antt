@@ -15,8 +15,8 @@ use Rattle.machine_core.specs.declared.event.Event.TheVariants.{Step}
 use Rattle.machine_core.specs.declared.event.Reply.{Reply}
 use Rattle.machine_core.specs.declared.event.Reply.TheVariants as reply
 use Rattle.serial_driver.specs.Serving.{Serves}
-use Rattle.serial_driver.specs.declared.serving.Served.{Served}
-use Rattle.serial_driver.specs.declared.serving.Served.TheVariants as served
+use Rattle.serial_driver.specs.declared.serving.ServedStep.{ServedStep}
+use Rattle.serial_driver.specs.declared.serving.ServedStep.TheVariants as served
 use Rattle.debug_core.specs.Limits.{KeepsRoom}
 use Rattle.paged_target.specs.Lacks.{LacksOn}
 use Rattle.paged_target.specs.Recording.{recorded, recorded_in}
@@ -92,7 +92,7 @@ module _ {S : Type 0} where
     ran_adds : (hart : ℕ) (answer : Reply) → has_run answer ≡ true → adds 0 (Step 0 hart) answer ≡ hart ∷ []
     ran_adds hart answer ran = ap (λ b. if b && (0 == 0) then hart ∷ [] else []) ran
 
-    serves_remains : (hart : ℕ) (what : Served) (old new : CoreValue S) (side : SpaceValue S) → Serves held honest failures 0 hart what old new → slice_get old.processes 0 ≡ Some side
+    serves_remains : (hart : ℕ) (what : ServedStep) (old new : CoreValue S) (side : SpaceValue S) → Serves held honest failures 0 hart what old new → slice_get old.processes 0 ≡ Some side
         → Remains 0 (added_by what hart) new.processes side
     serves_remains hart served.Ran old new side serves at =
         let brought = serves.brings.remains 0 side at in
@@ -111,22 +111,22 @@ module _ {S : Type 0} where
         let quiet : adds 0 serves.ends.event serves.ends.reply ≡ [] = ap (adds 0 serves.ends.event) serves.ends.answer ∙ refused_quiet serves.ends.event 0 _ in
         remains_then 0 [] [] serves.between.processes new.processes side brought (subst (λ l. Remains 0 l new.processes brought.process) quiet last)
 
-    by_kind : (hart : ℕ) (what : Served) (old new : CoreValue S) (shows : ShowsFlat held old) → ShowsFlat held new → Remains 0 (added_by what hart) new.processes shows.side → ServesFlat what hart (flat_at old) (flat_at new)
+    by_kind : (hart : ℕ) (what : ServedStep) (old new : CoreValue S) (shows : ShowsFlat held old) → ShowsFlat held new → Remains 0 (added_by what hart) new.processes shows.side → ServesFlat what hart (flat_at old) (flat_at new)
     by_kind hart served.Ran old new shows shows' remains = remains_steps held hart old new shows shows' remains
     by_kind hart served.Absent old new shows shows' remains = remains_same held old new shows shows' remains
     by_kind hart served.Full old new shows shows' remains = remains_same held old new shows shows' remains
     by_kind hart served.NoMemory old new shows shows' remains = remains_same held old new shows shows' remains
 
-    pub serves_there : (hart : ℕ) (what : Served) (old new : CoreValue S) (shows : ShowsFlat held old) → Serves held honest failures 0 hart what old new → IsSome (slice_get new.processes 0)
+    pub serves_there : (hart : ℕ) (what : ServedStep) (old new : CoreValue S) (shows : ShowsFlat held old) → Serves held honest failures 0 hart what old new → IsSome (slice_get new.processes 0)
     serves_there hart what old new shows serves = remains_there (added_by what hart) new shows.side (serves_remains hart what old new shows.side serves shows.found)
 
-    pub serves_flat : (hart : ℕ) (what : Served) (old new : CoreValue S) (shows : ShowsFlat held old) → honest → IsFaithful held honest new → Serves held honest failures 0 hart what old new
+    pub serves_flat : (hart : ℕ) (what : ServedStep) (old new : CoreValue S) (shows : ShowsFlat held old) → honest → IsFaithful held honest new → Serves held honest failures 0 hart what old new
         → ServesFlat what hart (flat_at old) (flat_at new)
     serves_flat hart what old new shows is_honest faithful serves =
         by_kind hart what old new shows (shows_flat held honest new is_honest faithful (serves_there hart what old new shows serves))
         (serves_remains hart what old new shows.side serves shows.found)
 
-    pub serves_recorded : (hart : ℕ) (what : Served) (old new : CoreValue S) (shows : ShowsFlat held old) → Serves held honest failures 0 hart what old new → recorded new ≡ recorded old ++ added_by what hart
+    pub serves_recorded : (hart : ℕ) (what : ServedStep) (old new : CoreValue S) (shows : ShowsFlat held old) → Serves held honest failures 0 hart what old new → recorded new ≡ recorded old ++ added_by what hart
     serves_recorded hart what old new shows serves =
         let remains = serves_remains hart what old new shows.side serves shows.found in
         ap recorded_in remains.found ∙ remains.goes_on.recorded ∙ ap (λ o. recorded_in o ++ added_by what hart) (sym shows.found)

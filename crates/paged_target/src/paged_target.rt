@@ -14,13 +14,13 @@ ghost use Rattle.paged_target.specs.Shown.{flat_at, shown_of, TargetValue};
 use crate::harts::next_live;
 use crate::reading::read;
 use clock_policy::Clock;
-use debug_core::{Progress, ReadFault, Target};
+use debug_core::{TargetStep, TargetFault, Target};
 use elf_image::Image;
 use flat_machine::{End, KillCause};
 use machine_core::{Core, CoreError, Event};
 use page_memory::page_of;
 use rv_exec::Regs;
-use serial_driver::{Served, serve_step};
+use serial_driver::{ServedStep, serve_step};
 use std::alloc::{AllocError, Global};
 use std::marker::Model;
 use std::sync::ledger::{Blank, Ledger};
@@ -131,36 +131,36 @@ impl<L: Ledger, C: Clock> Target for PagedTarget<L, C> {
         self.core.regs(0, hart)
     }
 
-    fn step(&mut self, hart: u32) -> Result<Progress, AllocError> {
+    fn step(&mut self, hart: u32) -> Result<TargetStep, AllocError> {
         if !fits(&self.core, hart) {
             self.end_full();
-            return Ok(Progress::Full);
+            return Ok(TargetStep::Full);
         }
         match serve(&mut self.core, hart) {
-            Served::Ran => Ok(Progress::Ran),
-            Served::Absent => Ok(Progress::Absent),
-            Served::NoMemory => Err(AllocError),
+            ServedStep::Ran => Ok(TargetStep::Ran),
+            ServedStep::Absent => Ok(TargetStep::Absent),
+            ServedStep::NoMemory => Err(AllocError),
             // It was seen that the instruction fits.
-            Served::Full => unreachable!(),
+            ServedStep::Full => unreachable!(),
         }
     }
 
-    fn read(&mut self, address: u32, bytes: &mut [Option<u8>]) -> Result<(), ReadFault> {
+    fn read(&mut self, address: u32, bytes: &mut [Option<u8>]) -> Result<(), TargetFault> {
         read(&mut self.core, address, bytes);
         Ok(())
     }
 }
 
 /// Runs one instruction of a hart of process 0.
-fn serve<L: Ledger, C: Clock>(core: &mut Core<L, MemorySlot, C>, hart: u32) -> Served
+fn serve<L: Ledger, C: Clock>(core: &mut Core<L, MemorySlot, C>, hart: u32) -> ServedStep
     requires there { IsSome (slice_get core.old.processes 0) }
     requires intact { IsIntact core.old }
     requires unkilled { IsUnkilled core.old }
     requires goes_on { (flat_at core.old).ending ≡ None }
     ensures serves { ServesFlat result hart (flat_at core.old) (flat_at core.new) }
     ensures room { LeavesRoomFor result hart core.old core.new }
-    ensures given_up { result ≡ Served.Absent → IsGivenUp hart core.old }
-    ensures full { result ≡ Served.Full → room_left hart core.old ≡ 0 }
+    ensures given_up { result ≡ ServedStep.Absent → IsGivenUp hart core.old }
+    ensures full { result ≡ ServedStep.Full → room_left hart core.old ≡ 0 }
     ensures there { IsSome (slice_get core.new.processes 0) }
     ensures intact { IsIntact core.new }
     ensures unkilled { IsUnkilled core.new }

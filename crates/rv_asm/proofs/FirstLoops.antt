@@ -1,8 +1,8 @@
 -- Labels, parts and lines one after another.
 use Rattle.std.proofs.Common.{◌≡◌, ℕ, ◌+◌, List, [], ◌∷◌, Result, Ok, Err, sym, ap, ◌∙◌}
 use Rattle.asm_lines.specs.declared.fault.FaultKind.{FaultKind}
-use Rattle.asm_lines.specs.declared.fault.Refusal.{Refusal}
-use Rattle.asm_lines.specs.declared.fault.Refusal.TheVariants.{Fault, NoMemory}
+use Rattle.asm_lines.specs.declared.fault.LineRefusal.{LineRefusal}
+use Rattle.asm_lines.specs.declared.fault.LineRefusal.TheVariants.{Fault, NoMemory}
 use Rattle.rv_asm.specs.declared.item.Item.{Item}
 use Rattle.asm_lines.specs.Faults.{RefusesLine}
 use Rattle.rv_asm.specs.Errors.{error_on}
@@ -21,7 +21,7 @@ pub labels_end : (progress : Progress) (names : List (List ℕ)) → names ≡ [
 unfolding with_labels
 labels_end progress names none = ap (with_labels progress) none
 
-pub labels_refuse : (progress start : Progress) (name : List ℕ) (names rest all : List (List ℕ)) (refusal : Refusal) → rest ≡ name ∷ names → with_labels progress rest ≡ with_labels start all → RefusesLine (with_label progress name) refusal → RefusesLine (with_labels start all) refusal
+pub labels_refuse : (progress start : Progress) (name : List ℕ) (names rest all : List (List ℕ)) (refusal : LineRefusal) → rest ≡ name ∷ names → with_labels progress rest ≡ with_labels start all → RefusesLine (with_label progress name) refusal → RefusesLine (with_labels start all) refusal
 labels_refuse progress start name names rest all (Fault kind) are same is = sym same ∙ ap (with_labels progress) are ∙ labels_stop progress kind name names is
 labels_refuse progress start name names rest all NoMemory are same is = tt
 
@@ -37,7 +37,7 @@ pub items_end : (progress : Progress) (items : List Item) → items ≡ [] → w
 unfolding with_items
 items_end progress items none = ap (with_items progress) none
 
-pub items_refuse : (progress start : Progress) (item : Item) (items rest all : List Item) (refusal : Refusal) → rest ≡ item ∷ items → with_items progress rest ≡ with_items start all → RefusesLine (with_item progress item) refusal → RefusesLine (with_items start all) refusal
+pub items_refuse : (progress start : Progress) (item : Item) (items rest all : List Item) (refusal : LineRefusal) → rest ≡ item ∷ items → with_items progress rest ≡ with_items start all → RefusesLine (with_item progress item) refusal → RefusesLine (with_items start all) refusal
 items_refuse progress start item items rest all (Fault kind) are same is = sym same ∙ ap (with_items progress) are ∙ items_stop progress kind item items is
 items_refuse progress start item items rest all NoMemory are same is = tt
 
@@ -51,7 +51,7 @@ unfolding with_lines
 lines_stop before progress kind text below lines are is =
     ap (with_lines before progress) are ∙ ap (λ r. chained (λ p. with_lines (before + 1) p below) (on_line (before + 1) r)) is
 
-pub lines_refuse : (before : ℕ) (progress : Progress) (all : Result Progress FaultAt) (text : List ℕ) (below lines : List (List ℕ)) (refusal : Refusal) → lines ≡ text ∷ below → with_lines before progress lines ≡ all → RefusesLine (with_line (before + 1) progress text) refusal → Fails all (error_on (before + 1) refusal)
+pub lines_refuse : (before : ℕ) (progress : Progress) (all : Result Progress FaultAt) (text : List ℕ) (below lines : List (List ℕ)) (refusal : LineRefusal) → lines ≡ text ∷ below → with_lines before progress lines ≡ all → RefusesLine (with_line (before + 1) progress text) refusal → Fails all (error_on (before + 1) refusal)
 lines_refuse before progress all text below lines (Fault kind) are same is = sym same ∙ lines_stop before progress kind text below lines are is
 lines_refuse before progress all text below lines NoMemory are same is = tt
 

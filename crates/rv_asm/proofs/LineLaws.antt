@@ -7,7 +7,7 @@ use Rattle.asm_lines.specs.declared.fault.FaultKind.{FaultKind}
 use Rattle.asm_lines.specs.declared.fault.FaultKind.TheVariants.{LabelTwice, TooLong}
 use Rattle.asm_statements.specs.declared.section.Section.{Section}
 use Rattle.asm_statements.specs.declared.section.Section.TheVariants.{Text, Data}
-use Rattle.asm_statements.specs.declared.part.Code.{Code}
+use Rattle.asm_statements.specs.declared.part.CodePart.{CodePart}
 use Rattle.asm_statements.specs.declared.part.Datum.{Datum}
 use Rattle.rv_asm.specs.declared.item.Item.{Item}
 use Rattle.rv_asm.specs.declared.item.Item.TheVariants.{Label, InText, InData}
@@ -100,7 +100,7 @@ distinct_part (Label s first ∷ items) item part d = (lacks_part items item fir
 distinct_part (InText line code ∷ items) item part d = distinct_part items item part d
 distinct_part (InData line datum ∷ items) item part d = distinct_part items item part d
 
-text_parts : (line : ℕ) (parts : List Code) → Parts (map (InText line) parts)
+text_parts : (line : ℕ) (parts : List CodePart) → Parts (map (InText line) parts)
 text_parts line [] = tt
 text_parts line (code ∷ parts) = text_parts line parts
 

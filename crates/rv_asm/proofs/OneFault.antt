@@ -13,8 +13,8 @@ use Rattle.rv_asm.specs.declared.fault.AsmError.{AsmError}
 use Rattle.rv_asm.specs.declared.fault.AsmError.TheVariants.{Fault, NoMemory}
 use Rattle.asm_statements.specs.declared.section.Section.{Section}
 use Rattle.asm_statements.specs.declared.section.Section.TheVariants.{Text}
-use Rattle.asm_statements.specs.declared.part.Code.{Code}
-use Rattle.asm_statements.specs.declared.part.Code.TheVariants.{Fixed, LoadAddress, Jump, Branch, Number, Address}
+use Rattle.asm_statements.specs.declared.part.CodePart.{CodePart}
+use Rattle.asm_statements.specs.declared.part.CodePart.TheVariants.{Fixed, LoadAddress, Jump, Branch, Number, Address}
 use Rattle.asm_statements.specs.declared.part.Datum.{Datum}
 use Rattle.asm_statements.specs.declared.part.Datum.TheVariants.{Word, Pointer, Half, Byte, Zeros}
 use Rattle.rv_asm.specs.declared.item.Item.{Item}
@@ -63,7 +63,7 @@ no_address_of_lacking items name address lacks has = lacks_label has.front has.b
 
 -- ---- parts
 
-code_address : (items : List Item) (here : ℕ) (code : Code) (words : List TextWord) (name : List ℕ) → PutsWords items here code words → code_label code ≡ Some name → (address : ℕ) × HasAddress items name address
+code_address : (items : List Item) (here : ℕ) (code : CodePart) (words : List TextWord) (name : List ℕ) → PutsWords items here code words → code_label code ≡ Some name → (address : ℕ) × HasAddress items name address
 unfolding PutsWords
 code_address items here (Fixed insn) words name puts is = cc
 code_address items here (LoadAddress rd label) words name puts is = let e : label ≡ name = cc in (puts.0, subst (λ n. HasAddress items n puts.0) e puts.1.1.1.0)
@@ -72,7 +72,7 @@ code_address items here (Branch kind rs1 rs2 label) words name puts is = let e :
 code_address items here (Number number) words name puts is = cc
 code_address items here (Address label) words name puts is = let e : label ≡ name = cc in (puts.0, subst (λ n. HasAddress items n puts.0) e puts.1.0)
 
-far_address : (items : List Item) (here : ℕ) (code : Code) (name : List ℕ) → TooFar items here code → code_label code ≡ Some name → (address : ℕ) × HasAddress items name address
+far_address : (items : List Item) (here : ℕ) (code : CodePart) (name : List ℕ) → TooFar items here code → code_label code ≡ Some name → (address : ℕ) × HasAddress items name address
 unfolding TooFar
 far_address items here (Fixed insn) name beyond is = absurd beyond
 far_address items here (LoadAddress rd label) name beyond is = absurd beyond
@@ -81,7 +81,7 @@ far_address items here (Branch kind rs1 rs2 label) name beyond is = let e : labe
 far_address items here (Number number) name beyond is = absurd beyond
 far_address items here (Address label) name beyond is = absurd beyond
 
-far_or_put : (items : List Item) (here : ℕ) (code : Code) (words : List TextWord) → DistinctLabels items → PutsWords items here code words → TooFar items here code → ⊥
+far_or_put : (items : List Item) (here : ℕ) (code : CodePart) (words : List TextWord) → DistinctLabels items → PutsWords items here code words → TooFar items here code → ⊥
 unfolding PutsWords TooFar
 far_or_put items here (Fixed insn) words d puts beyond = beyond
 far_or_put items here (LoadAddress rd label) words d puts beyond = beyond

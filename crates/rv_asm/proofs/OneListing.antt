@@ -10,8 +10,8 @@ use Rattle.rv_isa.specs.FormatLaws.{agrees_once}
 use Rattle.rv_isa.specs.declared.instruction.Insn.TheVariants.{Lui, OpImmediate, Jal, Branch as BranchInsn}
 use Rattle.rv_isa.specs.declared.kinds.ImmediateKind.TheVariants.{Addi}
 use Rattle.asm_statements.specs.declared.section.Section.TheVariants.{Text, Data}
-use Rattle.asm_statements.specs.declared.part.Code.{Code}
-use Rattle.asm_statements.specs.declared.part.Code.TheVariants.{Fixed, LoadAddress, Jump, Branch, Number, Address}
+use Rattle.asm_statements.specs.declared.part.CodePart.{CodePart}
+use Rattle.asm_statements.specs.declared.part.CodePart.TheVariants.{Fixed, LoadAddress, Jump, Branch, Number, Address}
 use Rattle.asm_statements.specs.declared.part.Datum.{Datum}
 use Rattle.asm_statements.specs.declared.part.Datum.TheVariants.{Word, Pointer, Half, Byte, Zeros}
 use Rattle.rv_asm.specs.declared.item.Item.{Item}
@@ -39,7 +39,7 @@ one_split address high other low another a b =
     let low_most = b.signed.high in
     (omega (arith, ints), omega (arith, ints))
 
-one_putting : (items : List Item) (here : ℕ) (code : Code) (one other : List TextWord) → DistinctLabels items → PutsWords items here code one → PutsWords items here code other → one ≡ other
+one_putting : (items : List Item) (here : ℕ) (code : CodePart) (one other : List TextWord) → DistinctLabels items → PutsWords items here code one → PutsWords items here code other → one ≡ other
 unfolding PutsWords
 one_putting items here (Fixed insn) one other d a b = a ∙ sym b
 one_putting items here (LoadAddress rd label) one other d a b =
@@ -57,7 +57,7 @@ one_putting items here (Address label) one other d a b =
     let address = one_address items label a.0 b.0 d a.1.0 b.1.0 in
     a.1.1 ∙ (λ i. Plain (address i) ∷ []) ∙ sym b.1.1
 
-putting_length : (items : List Item) (here : ℕ) (code : Code) (words : List TextWord) → PutsWords items here code words → 4 * length words ≡ code_length code
+putting_length : (items : List Item) (here : ℕ) (code : CodePart) (words : List TextWord) → PutsWords items here code words → 4 * length words ≡ code_length code
 unfolding PutsWords
 putting_length items here (Fixed insn) words a = ap (λ (l : List TextWord). 4 * length l) a
 putting_length items here (LoadAddress rd label) words a = ap (λ (l : List TextWord). 4 * length l) a.1.1.1.2
@@ -88,8 +88,8 @@ putting_bytes items (Zeros count) bytes a = ap (λ (l : List ℕ). length l) a �
 
 -- two texts of one program that are the same up to an item are the same
 one_text : (items front back : List Item) (text other before rest more : List TextWord) → DistinctLabels items → items ≡ front ++ back
-    → ((f b : List Item) (line : ℕ) (code : Code) → items ≡ f ++ InText line code ∷ b → TextAt items f code text)
-    → ((f b : List Item) (line : ℕ) (code : Code) → items ≡ f ++ InText line code ∷ b → TextAt items f code other)
+    → ((f b : List Item) (line : ℕ) (code : CodePart) → items ≡ f ++ InText line code ∷ b → TextAt items f code text)
+    → ((f b : List Item) (line : ℕ) (code : CodePart) → items ≡ f ++ InText line code ∷ b → TextAt items f code other)
     → 4 * length text ≡ size Text items → 4 * length other ≡ size Text items
     → text ≡ before ++ rest → other ≡ before ++ more → 4 * length before ≡ size Text front → text ≡ other
 unfolding size

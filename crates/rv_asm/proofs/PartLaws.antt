@@ -13,8 +13,8 @@ use Rattle.rv_isa.specs.declared.instruction.Insn.TheVariants.{Jal, Branch as Br
 use Rattle.asm_lines.specs.declared.fault.FaultKind.{FaultKind}
 use Rattle.asm_lines.specs.declared.fault.FaultKind.TheVariants.{NoLabel, Range}
 use Rattle.asm_statements.specs.declared.section.Section.TheVariants.{Text, Data}
-use Rattle.asm_statements.specs.declared.part.Code.{Code}
-use Rattle.asm_statements.specs.declared.part.Code.TheVariants.{Fixed, LoadAddress, Jump, Branch, Number, Address}
+use Rattle.asm_statements.specs.declared.part.CodePart.{CodePart}
+use Rattle.asm_statements.specs.declared.part.CodePart.TheVariants.{Fixed, LoadAddress, Jump, Branch, Number, Address}
 use Rattle.asm_statements.specs.declared.part.Datum.{Datum}
 use Rattle.asm_statements.specs.declared.part.Datum.TheVariants.{Word, Pointer, Half, Byte, Zeros}
 use Rattle.rv_asm.specs.declared.item.Item.{Item}
@@ -87,15 +87,15 @@ address_splits address = record { whole = parts_are_whole; signed = low_part_fit
 
 -- ---- parts
 
-data CodeFault (items : List Item) (here : ℕ) (code : Code) (kind : FaultKind) : Type 0 where
+data CodeFault (items : List Item) (here : ℕ) (code : CodePart) (kind : FaultKind) : Type 0 where
   unlabelled : (name : List ℕ) → code_label code ≡ Some name → Lacks items name → kind ≡ NoLabel → CodeFault items here code kind
   far : TooFar items here code → kind ≡ Range → CodeFault items here code kind
 
-abbrev CodeSaid : List Item → ℕ → Code → Result (List TextWord) FaultKind → Type 0
+abbrev CodeSaid : List Item → ℕ → CodePart → Result (List TextWord) FaultKind → Type 0
 CodeSaid items here code (Ok words) = PutsWords items here code words
 CodeSaid items here code (Err kind) = CodeFault items here code kind
 
-code_said : (items : List Item) (here : ℕ) (code : Code) → CodeSaid items here code (code_words (address_of items) here code)
+code_said : (items : List Item) (here : ℕ) (code : CodePart) → CodeSaid items here code (code_words (address_of items) here code)
 unfolding code_words PutsWords TooFar
 code_said items here (Fixed insn) = refl
 code_said items here (LoadAddress rd label) = by_label (address_of items label) refl
@@ -192,7 +192,7 @@ record FillsItems (all front : List Item) (s : Sections) (items : List Item) (q 
   bytes : List ℕ
   text : q.text ≡ s.text ++ words
   more_bytes : q.bytes ≡ s.bytes ++ bytes
-  text_parts : (f b : List Item) (line : ℕ) (code : Code) → items ≡ f ++ InText line code ∷ b → TextAt all (front ++ f) code q.text
+  text_parts : (f b : List Item) (line : ℕ) (code : CodePart) → items ≡ f ++ InText line code ∷ b → TextAt all (front ++ f) code q.text
   data_parts : (f b : List Item) (line : ℕ) (datum : Datum) → items ≡ f ++ InData line datum ∷ b → DataAt all (front ++ f) datum q.bytes
 
 record Stuck (all front items : List Item) (fault : FaultAt) : Type 0 where
@@ -207,7 +207,7 @@ abbrev AllSaid : List Item → List Item → Sections → List Item → Result S
 AllSaid all front s items (Ok q) = FillsItems all front s items q
 AllSaid all front s items (Err fault) = Stuck all front items fault
 
-first_text : (all front : List Item) (s more q : Sections) (item : Item) (line : ℕ) (code : Code) (rest : List TextWord) → item ≡ InText line code → 4 * length s.text ≡ size Text front → PutStep all front s item more → q.text ≡ more.text ++ rest → TextAt all (front ++ []) code q.text
+first_text : (all front : List Item) (s more q : Sections) (item : Item) (line : ℕ) (code : CodePart) (rest : List TextWord) → item ≡ InText line code → 4 * length s.text ≡ size Text front → PutStep all front s item more → q.text ≡ more.text ++ rest → TextAt all (front ++ []) code q.text
 first_text all front s more q item line code rest is at step whole =
     let same : front ≡ front ++ [] = sym (append-nil front) in
     let has : Put all front (InText line code) step.words step.bytes = subst (λ i. Put all front i step.words step.bytes) is step.has_put in
@@ -247,7 +247,7 @@ filled_more all front s more q item rest at data_at step filled = record {
   data_parts = datas;
 }
   where
-    texts : (f b : List Item) (line : ℕ) (code : Code) → item ∷ rest ≡ f ++ InText line code ∷ b → TextAt all (front ++ f) code q.text
+    texts : (f b : List Item) (line : ℕ) (code : CodePart) → item ∷ rest ≡ f ++ InText line code ∷ b → TextAt all (front ++ f) code q.text
     texts [] b line code e = first_text all front s more q item line code filled.words (cons_head item (InText line code) rest b e) at step filled.text
     texts (one ∷ f) b line code e = subst (λ l. TextAt all l code q.text) (behind front item one f (cons_head item one rest (f ++ InText line code ∷ b) e)) (filled.text_parts f b line code (cons_tail item one rest (f ++ InText line code ∷ b) e))
 

@@ -10,8 +10,8 @@ use Rattle.rv_asm.specs.declared.fault.AsmError.{AsmError}
 use Rattle.rv_asm.specs.declared.fault.AsmError.TheVariants.{Fault, NoMemory}
 use Rattle.asm_statements.specs.declared.section.Section.{Section}
 use Rattle.asm_statements.specs.declared.section.Section.TheVariants.{Text, Data}
-use Rattle.asm_statements.specs.declared.part.Code.{Code}
-use Rattle.asm_statements.specs.declared.part.Code.TheVariants.{Fixed, LoadAddress, Jump, Branch, Number, Address}
+use Rattle.asm_statements.specs.declared.part.CodePart.{CodePart}
+use Rattle.asm_statements.specs.declared.part.CodePart.TheVariants.{Fixed, LoadAddress, Jump, Branch, Number, Address}
 use Rattle.asm_statements.specs.declared.part.Datum.{Datum}
 use Rattle.asm_statements.specs.declared.part.Datum.TheVariants.{Word, Pointer, Half, Byte, Zeros}
 use Rattle.rv_asm.specs.declared.item.Item.{Item}
@@ -58,7 +58,7 @@ reached_length : (b : Bool) (word : TextWord) → OfLength 4 (if_reached b word)
 reached_length true word = refl
 reached_length false word = tt
 
-code_words_length : (address : List ℕ → Option ℕ) (here : ℕ) (code : Code) → OfLength (code_length code) (code_words address here code)
+code_words_length : (address : List ℕ → Option ℕ) (here : ℕ) (code : CodePart) → OfLength (code_length code) (code_words address here code)
 unfolding code_words
 code_words_length address here (Fixed insn) = refl
 code_words_length address here (LoadAddress rd label) = label_length 8 (address label) (λ target. Ok (load_words rd target)) (λ target. refl)

@@ -12,8 +12,8 @@ use Rattle.rv_asm.specs.declared.fault.AsmError.{AsmError}
 use Rattle.rv_asm.specs.declared.fault.AsmError.TheVariants.{Fault, NoMemory}
 use Rattle.asm_statements.specs.declared.section.Section.{Section}
 use Rattle.asm_statements.specs.declared.section.Section.TheVariants.{Text, Data}
-use Rattle.asm_statements.specs.declared.part.Code.{Code}
-use Rattle.asm_statements.specs.declared.part.Code.TheVariants.{Fixed, LoadAddress, Jump, Branch, Number, Address}
+use Rattle.asm_statements.specs.declared.part.CodePart.{CodePart}
+use Rattle.asm_statements.specs.declared.part.CodePart.TheVariants.{Fixed, LoadAddress, Jump, Branch, Number, Address}
 use Rattle.asm_statements.specs.declared.part.Datum.{Datum}
 use Rattle.asm_statements.specs.declared.part.Datum.TheVariants.{Word, Pointer, Half, Byte, Zeros}
 use Rattle.rv_asm.specs.declared.item.Item.{Item}
@@ -104,7 +104,7 @@ pub record IsSplit (address high : ℕ) (low : ℤ) : Type 0 where
   pub signed : IsImmediate low
 
 -- the words of a part of the text that stands at an address
-unfoldable pub PutsWords : List Item → ℕ → Code → List TextWord → Type 0
+unfoldable pub PutsWords : List Item → ℕ → CodePart → List TextWord → Type 0
 PutsWords items here (Fixed insn) words = words ≡ Instruction insn ∷ []
 PutsWords items here (LoadAddress rd label) words =
     (address : ℕ) × ((high : ℕ) × ((low : ℤ) ×
@@ -125,7 +125,7 @@ PutsBytes items (Byte number) bytes = bytes ≡ number ∷ []
 PutsBytes items (Zeros count) bytes = bytes ≡ replicate count 0
 
 -- the words of a part, behind as many as the parts before it take
-pub record TextAt (items front : List Item) (code : Code) (text : List TextWord) : Type 0 where
+pub record TextAt (items front : List Item) (code : CodePart) (text : List TextWord) : Type 0 where
   pub before : List TextWord
   pub words : List TextWord
   pub after : List TextWord
@@ -144,7 +144,7 @@ pub record DataAt (items front : List Item) (datum : Datum) (data_bytes : List �
 
 -- the text and the data hold what the parts of a program put there, and nothing else
 pub record HoldsParts (items : List Item) (text : List TextWord) (bytes : List ℕ) : Type 0 where
-  pub text_parts : (front back : List Item) (line : ℕ) (code : Code) → items ≡ front ++ InText line code ∷ back → TextAt items front code text
+  pub text_parts : (front back : List Item) (line : ℕ) (code : CodePart) → items ≡ front ++ InText line code ∷ back → TextAt items front code text
   pub data_parts : (front back : List Item) (line : ℕ) (datum : Datum) → items ≡ front ++ InData line datum ∷ back → DataAt items front datum bytes
   pub text_size : 4 * length text ≡ size Text items
   pub data_size : length bytes ≡ size Data items
@@ -183,7 +183,7 @@ HasPut items front (InText line code) = (words : List TextWord) × PutsWords ite
 HasPut items front (InData line datum) = (bytes : List ℕ) × PutsBytes items datum bytes
 
 -- the label that a part of the text, or of the data, names
-abbrev pub code_label : Code → Option (List ℕ)
+abbrev pub code_label : CodePart → Option (List ℕ)
 code_label (Fixed insn) = None
 code_label (LoadAddress rd label) = Some label
 code_label (Jump rd label) = Some label
@@ -199,7 +199,7 @@ datum_label (Byte number) = None
 datum_label (Zeros count) = None
 
 -- a jump or a branch that does not reach its label
-unfoldable pub TooFar : List Item → ℕ → Code → Type 0
+unfoldable pub TooFar : List Item → ℕ → CodePart → Type 0
 TooFar items here (Fixed insn) = ⊥
 TooFar items here (LoadAddress rd label) = ⊥
 TooFar items here (Jump rd label) = (address : ℕ) × (HasAddress items label address × (IsJumpOffset (pos address -ℤ pos here) → ⊥))
@@ -209,9 +209,9 @@ TooFar items here (Address label) = ⊥
 
 -- what is wrong with a part at an address
 pub data PartFault (items : List Item) (here : ℕ) (item : Item) (line : ℕ) (kind : FaultKind) : Type 0 where
-  no_label : (code : Code) (name : List ℕ) → item ≡ InText line code → code_label code ≡ Some name → Lacks items name → kind ≡ NoLabel → PartFault items here item line kind
+  no_label : (code : CodePart) (name : List ℕ) → item ≡ InText line code → code_label code ≡ Some name → Lacks items name → kind ≡ NoLabel → PartFault items here item line kind
   no_datum_label : (datum : Datum) (name : List ℕ) → item ≡ InData line datum → datum_label datum ≡ Some name → Lacks items name → kind ≡ NoLabel → PartFault items here item line kind
-  too_far : (code : Code) → item ≡ InText line code → TooFar items here code → kind ≡ Range → PartFault items here item line kind
+  too_far : (code : CodePart) → item ≡ InText line code → TooFar items here code → kind ≡ Range → PartFault items here item line kind
 
 -- the first fault of a source: of the first line that has one by itself or by the lines above it; else, where there is no word
 -- of text, at line 0; else of the first part that has one by the addresses of labels

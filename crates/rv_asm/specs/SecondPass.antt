@@ -7,8 +7,8 @@ use Rattle.rv_isa.specs.declared.kinds.ImmediateKind.TheVariants.{Addi}
 use Rattle.rv_isa.specs.declared.kinds.BranchKind.{BranchKind}
 use Rattle.asm_lines.specs.declared.fault.FaultKind.{FaultKind}
 use Rattle.asm_lines.specs.declared.fault.FaultKind.TheVariants.{NoLabel, Range}
-use Rattle.asm_statements.specs.declared.part.Code.{Code}
-use Rattle.asm_statements.specs.declared.part.Code.TheVariants.{Fixed, LoadAddress, Jump, Branch, Number, Address}
+use Rattle.asm_statements.specs.declared.part.CodePart.{CodePart}
+use Rattle.asm_statements.specs.declared.part.CodePart.TheVariants.{Fixed, LoadAddress, Jump, Branch, Number, Address}
 use Rattle.asm_statements.specs.declared.part.Datum.{Datum}
 use Rattle.asm_statements.specs.declared.part.Datum.TheVariants.{Word, Pointer, Half, Byte, Zeros}
 use Rattle.rv_asm.specs.declared.item.Item.{Item}
@@ -58,7 +58,7 @@ branch_words kind rs1 rs2 here target =
     if_reached (reaches 4096 here target) (Instruction (BranchInsn kind rs1 rs2 (pos target -ℤ pos here)))
 
 -- the words of a part of the text that stands at an address
-unfoldable pub code_words : (List ℕ → Option ℕ) → ℕ → Code → Result (List TextWord) FaultKind
+unfoldable pub code_words : (List ℕ → Option ℕ) → ℕ → CodePart → Result (List TextWord) FaultKind
 code_words address here (Fixed insn) = Ok (Instruction insn ∷ [])
 code_words address here (LoadAddress rd label) = at_label (λ target. Ok (load_words rd target)) (address label)
 code_words address here (Jump rd label) = at_label (jump_words rd here) (address label)

@@ -9,7 +9,7 @@ ghost use Rattle.rv_asm.specs.SecondPass.{code_words, words_list, at_label, load
 use crate::program::Program;
 use crate::word::{TextWord, Words};
 use asm_lines::FaultKind;
-use asm_statements::Code;
+use asm_statements::CodePart;
 use rv_isa::{BranchKind, BranchOffset, ImmediateKind, Insn, JumpOffset, Reg, high_part, low_part};
 
 /// The words of a part of the text that stands at an address.
@@ -17,23 +17,23 @@ use rv_isa::{BranchKind, BranchOffset, ImmediateKind, Insn, JumpOffset, Reg, hig
 pub(crate) fn code_words(
     program: &Program<'_>,
     here: u32,
-    code: &Code<'_>,
+    code: &CodePart<'_>,
 ) -> Result<Words, FaultKind>
     requires { here < 2 ^ 31 }
     ensures { map_value words_list result ≡ code_words
         (address_of program.now.items) here code.now }
 {
     match code {
-        Code::Fixed(insn) => Ok(Words::One(TextWord::Instruction(*insn))),
-        Code::LoadAddress { rd, label } => match program.address_of(label.bytes()) {
+        CodePart::Fixed(insn) => Ok(Words::One(TextWord::Instruction(*insn))),
+        CodePart::LoadAddress { rd, label } => match program.address_of(label.bytes()) {
             Some(target) => Ok(load_words(*rd, target)),
             None => Err(FaultKind::NoLabel),
         },
-        Code::Jump { rd, label } => match program.address_of(label.bytes()) {
+        CodePart::Jump { rd, label } => match program.address_of(label.bytes()) {
             Some(target) => jump_words(*rd, here, target),
             None => Err(FaultKind::NoLabel),
         },
-        Code::Branch {
+        CodePart::Branch {
             kind,
             rs1,
             rs2,
@@ -42,8 +42,8 @@ pub(crate) fn code_words(
             Some(target) => branch_words(*kind, *rs1, *rs2, here, target),
             None => Err(FaultKind::NoLabel),
         },
-        Code::Number(number) => Ok(Words::One(TextWord::Plain(*number))),
-        Code::Address(label) => match program.address_of(label.bytes()) {
+        CodePart::Number(number) => Ok(Words::One(TextWord::Plain(*number))),
+        CodePart::Address(label) => match program.address_of(label.bytes()) {
             Some(target) => Ok(Words::One(TextWord::Plain(target))),
             None => Err(FaultKind::NoLabel),
         },

@@ -1,7 +1,7 @@
 ghost use Rattle.std.specs.Prelude.{◌≡◌};
 ghost use Rattle.rv_asm.specs.Errors.{error_on};
 
-use asm_lines::{FaultKind, Refusal};
+use asm_lines::{FaultKind, LineRefusal};
 use std::alloc::AllocError;
 use thiserror::Error;
 
@@ -17,12 +17,12 @@ pub enum AsmError {
 
 impl AsmError {
     /// The error of a line that is not read.
-    pub(crate) fn on_line(line: usize, refusal: Refusal) -> AsmError
+    pub(crate) fn on_line(line: usize, refusal: LineRefusal) -> AsmError
         ensures { result ≡ error_on line refusal }
     {
         match refusal {
-            Refusal::Fault(kind) => AsmError::Fault { line, kind },
-            Refusal::NoMemory => AsmError::NoMemory,
+            LineRefusal::Fault(kind) => AsmError::Fault { line, kind },
+            LineRefusal::NoMemory => AsmError::NoMemory,
         }
     }
 }

@@ -12,8 +12,8 @@ ghost use Rattle.rv_asm.specs.declared.item.Item.TheVariants.{InText, InData};
 use crate::fault::AsmError;
 use crate::item::Item;
 use crate::program::Program;
-use asm_lines::{Operand, Refusal, SourceLine, Span, scan_line};
-use asm_statements::{Code, Datum, Effect, Section, read_statement};
+use asm_lines::{Operand, LineRefusal, SourceLine, Span, scan_line};
+use asm_statements::{CodePart, Datum, Effect, Section, read_statement};
 use std::alloc::Global;
 use text_lines::next_line;
 
@@ -44,7 +44,7 @@ fn with_line<'a>(
     line: usize,
     program: Program<'a>,
     text: &'a [u8],
-) -> Result<Program<'a>, Refusal>
+) -> Result<Program<'a>, LineRefusal>
     ensures program { IfOk result (λ more. with_line line program.entry text.now ≡ Ok more) }
     ensures refusal { IfErr result (RefusesLine (with_line line program.entry text.now)) }
 {
@@ -64,7 +64,7 @@ fn read_effect<'a>(
     section: Section,
     name: Option<Span<'a>>,
     operands: &[Operand<'a>],
-) -> Result<Effect<'a>, Refusal>
+) -> Result<Effect<'a>, LineRefusal>
     ensures effect { IfOk result (λ effect. effect_of_name section operands.now name.entry ≡
         Ok (effect_value effect)) }
     ensures refusal { IfErr result (RefusesLine (effect_of_name section operands.now name.entry)) }
@@ -77,7 +77,7 @@ fn read_effect<'a>(
 
 /// The program with a line's labels.
 #[tactic(auto, using(crate::proofs::FirstLoops::labels_go_on, crate::proofs::FirstLoops::labels_end))]
-fn with_labels<'a>(mut program: Program<'a>, labels: Vec<Span<'a>>) -> Result<Program<'a>, Refusal>
+fn with_labels<'a>(mut program: Program<'a>, labels: Vec<Span<'a>>) -> Result<Program<'a>, LineRefusal>
     ensures program { IfOk result (λ more. with_labels program.entry labels.entry.items ≡ Ok more) }
     ensures refusal { IfErr result (RefusesLine (with_labels program.entry labels.entry.items)) }
 {
@@ -92,7 +92,7 @@ fn with_effect<'a>(
     line: usize,
     program: Program<'a>,
     effect: Effect<'a>,
-) -> Result<Program<'a>, Refusal>
+) -> Result<Program<'a>, LineRefusal>
     ensures program { IfOk result (λ more. with_effect line program.entry
         (effect_value effect.entry) ≡ Ok more) }
     ensures refusal { IfErr result (RefusesLine (with_effect line program.entry
@@ -110,8 +110,8 @@ fn with_effect<'a>(
 fn with_text<'a>(
     line: usize,
     mut program: Program<'a>,
-    parts: Vec<Code<'a>>,
-) -> Result<Program<'a>, Refusal>
+    parts: Vec<CodePart<'a>>,
+) -> Result<Program<'a>, LineRefusal>
     ensures program { IfOk result (λ more. with_items program.entry
         (map (InText line) parts.entry.items) ≡ Ok more) }
     ensures refusal { IfErr result (RefusesLine (with_items program.entry
@@ -129,7 +129,7 @@ fn with_data<'a>(
     line: usize,
     mut program: Program<'a>,
     parts: Vec<Datum<'a>>,
-) -> Result<Program<'a>, Refusal>
+) -> Result<Program<'a>, LineRefusal>
     ensures program { IfOk result (λ more. with_items program.entry
         (map (InData line) parts.entry.items) ≡ Ok more) }
     ensures refusal { IfErr result (RefusesLine (with_items program.entry

@@ -2,13 +2,13 @@ ghost use Rattle.std.specs.Prelude.{◌≡◌, ◌≤◌};
 ghost use Rattle.rv_asm.specs.Program.{item_length};
 
 use asm_lines::Span;
-use asm_statements::{Code, Datum, Section};
+use asm_statements::{CodePart, Datum, Section};
 
 /// A label of a source, or a part that it puts into a section, with the number of its line.
 #[derive(Drop)]
 pub(crate) enum Item<'a> {
     Label { section: Section, name: Span<'a> },
-    InText { line: usize, code: Code<'a> },
+    InText { line: usize, code: CodePart<'a> },
     InData { line: usize, datum: Datum<'a> },
 }
 

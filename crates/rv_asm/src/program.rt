@@ -9,8 +9,8 @@ ghost use Rattle.rv_asm.specs.declared.item.Item.TheVariants.{InText, InData};
 
 use crate::item::Item;
 use crate::label_place::LabelPlace;
-use asm_lines::{FaultKind, Refusal, Span};
-use asm_statements::{Code, Datum, Section};
+use asm_lines::{FaultKind, LineRefusal, Span};
+use asm_statements::{CodePart, Datum, Section};
 use elf_image::TEXT_START;
 use page_memory::PAGE_SIZE;
 use std::alloc::Global;
@@ -153,12 +153,12 @@ impl<'a> Program<'a> {
     }
 
     /// The program with one more label, at the end of the section.
-    pub(crate) fn with_label(mut self, name: Span<'a>) -> Result<Self, Refusal>
+    pub(crate) fn with_label(mut self, name: Span<'a>) -> Result<Self, LineRefusal>
         ensures program { IfOk result (λ program. with_label self.entry name.entry ≡ Ok program) }
         ensures refusal { IfErr result (RefusesLine (with_label self.entry name.entry)) }
     {
         if self.place(name.bytes()).is_some() {
-            return Err(Refusal::Fault(FaultKind::LabelTwice));
+            return Err(LineRefusal::Fault(FaultKind::LabelTwice));
         }
         let section = self.section;
         let place = self.end(section);
@@ -168,7 +168,7 @@ impl<'a> Program<'a> {
     }
 
     /// The program with one more part of its text, from a line.
-    pub(crate) fn with_code(self, line: usize, code: Code<'a>) -> Result<Self, Refusal>
+    pub(crate) fn with_code(self, line: usize, code: CodePart<'a>) -> Result<Self, LineRefusal>
         ensures program { IfOk result (λ program. with_item self.entry (InText line code.entry) ≡
             Ok program) }
         ensures refusal { IfErr result (RefusesLine (with_item self.entry
@@ -178,7 +178,7 @@ impl<'a> Program<'a> {
     }
 
     /// The program with one more part of its data, from a line.
-    pub(crate) fn with_datum(self, line: usize, datum: Datum<'a>) -> Result<Self, Refusal>
+    pub(crate) fn with_datum(self, line: usize, datum: Datum<'a>) -> Result<Self, LineRefusal>
         ensures program { IfOk result (λ program. with_item self.entry (InData line datum.entry) ≡
             Ok program) }
         ensures refusal { IfErr result (RefusesLine (with_item self.entry
@@ -188,7 +188,7 @@ impl<'a> Program<'a> {
     }
 
     /// The program with one more part, where there is room for it.
-    fn with_item(mut self, item: Item<'a>) -> Result<Self, Refusal>
+    fn with_item(mut self, item: Item<'a>) -> Result<Self, LineRefusal>
         requires { (name : List ℕ) → section_of_label name item ≡ None }
         ensures program { IfOk result (λ program. with_item self.entry item.entry ≡ Ok program) }
         ensures refusal { IfErr result (RefusesLine (with_item self.entry item.entry)) }
@@ -196,7 +196,7 @@ impl<'a> Program<'a> {
         let text = item.length(Section::Text);
         let data = item.length(Section::Data);
         if text > MOST_TEXT - self.text_size || data > MOST_DATA - self.data_size {
-            return Err(Refusal::Fault(FaultKind::TooLong));
+            return Err(LineRefusal::Fault(FaultKind::TooLong));
         }
         self.items.push(item)?;
         self.text_size += text;

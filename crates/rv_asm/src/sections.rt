@@ -11,7 +11,7 @@ use crate::item::Item;
 use crate::program::Program;
 use crate::word::{TextWord, Words};
 use asm_lines::FaultKind;
-use asm_statements::{Code, Datum};
+use asm_statements::{CodePart, Datum};
 use elf_image::TEXT_START;
 use rv_isa::Insn;
 use std::alloc::{AllocError, Global};
@@ -79,7 +79,7 @@ impl Sections {
         self,
         line: usize,
         program: &Program<'_>,
-        code: &Code<'_>,
+        code: &CodePart<'_>,
     ) -> Result<Self, AsmError>
         requires { length self.text ≤ 65536 }
         ensures sections { IfOk result (λ sections.

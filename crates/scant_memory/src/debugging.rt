@@ -1,7 +1,7 @@
 //! A debugger over a process on flat memory and over one on paged memory.
 
 use crate::programs::{STORES_A_BYTE, image_of};
-use debug_core::{DebugRefusal, Debugger, Stepped, Target, Why};
+use debug_core::{DebugRefusal, Debugger, DebugStep, Target, Why};
 use flat_machine::FlatProcess;
 use std::alloc::{AllocError, Global};
 
@@ -18,7 +18,7 @@ fn stops_as_told<T: Target>(alloc: Global, debugger: Debugger<T>) -> Result<bool
     if debugger.add_break(0x1_0000) != Ok(0) || go(&mut debugger, 100)? != Why::Break(0) {
         return Ok(false);
     }
-    if step(&mut debugger)? != Ok(Stepped::Ran) || debugger.add_watch(0x1_1000, 4) != Ok(1) {
+    if step(&mut debugger)? != Ok(DebugStep::Ran) || debugger.add_watch(0x1_1000, 4) != Ok(1) {
         return Ok(false);
     }
     if go(&mut debugger, 100)? != Why::Watch(1) || !is_stored(alloc, &mut debugger)? {
@@ -41,7 +41,7 @@ fn go<T: Target>(debugger: &mut Debugger<T>, limit: u64) -> Result<Why, AllocErr
 
 fn step<T: Target>(
     debugger: &mut Debugger<T>,
-) -> Result<Result<Stepped, DebugRefusal>, AllocError> {
+) -> Result<Result<DebugStep, DebugRefusal>, AllocError> {
     let mut answer = debugger.step(0);
     if answer == Err(DebugRefusal::NoMemory) {
         answer = debugger.step(0);

@@ -14,8 +14,8 @@ use Rattle.machine_core.specs.declared.event.Reply.{Reply}
 use Rattle.machine_core.specs.declared.event.Reply.TheVariants as reply
 use Rattle.serial_driver.specs.Owing.{is_full, is_no_memory, is_out_of_memory}
 use Rattle.serial_driver.specs.Serving.{is_paging, BringsIn, Serves, ServesHart}
-use Rattle.serial_driver.specs.declared.serving.Served.{Served}
-use Rattle.serial_driver.specs.declared.serving.Served.TheVariants as served
+use Rattle.serial_driver.specs.declared.serving.ServedStep.{ServedStep}
+use Rattle.serial_driver.specs.declared.serving.ServedStep.TheVariants as served
 use Rattle.space_core.specs.StandsFor.{SpaceValue}
 
 -- ---- what replies tell
@@ -86,7 +86,7 @@ module _ {S : Type 0} (held : S → List ℕ) (honest : Type 0) (failures : S �
     remains = λ number side at. still_on number between.processes new.processes side (first.remains number side at) (second.remains number (first.remains number side at).process (first.remains number side at).found);
   }
 
-  pub serves_on : (what : Served) (old between new : CoreValue S) → BringsIn held honest failures process hart old between → Serves held honest failures process hart what between new → Serves held honest failures process hart what old new
+  pub serves_on : (what : ServedStep) (old between new : CoreValue S) → BringsIn held honest failures process hart old between → Serves held honest failures process hart what between new → Serves held honest failures process hart what old new
   serves_on what old between new brings serves = record { between = serves.between; brings = brings_on old between serves.between brings serves.brings; ends = serves.ends }
 
   -- ---- what one event settles

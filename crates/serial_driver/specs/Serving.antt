@@ -17,8 +17,8 @@ use Rattle.serial_driver.specs.Owing.{Duty, duty_after, next_owed}
 use Rattle.serial_driver.specs.Patience.{spent_after, tries_per_frame}
 use Rattle.serial_driver.specs.Turning.{Phase, Turn, Begins, Clears, Rests, Runs as RunsOn, Waits}
 use Rattle.serial_driver.specs.declared.patience.Patience.{Patience}
-use Rattle.serial_driver.specs.declared.serving.Served.{Served}
-use Rattle.serial_driver.specs.declared.serving.Served.TheVariants as served
+use Rattle.serial_driver.specs.declared.serving.ServedStep.{ServedStep}
+use Rattle.serial_driver.specs.declared.serving.ServedStep.TheVariants as served
 use Rattle.space_core.specs.StandsFor.{SpaceValue}
 
 -- whether an event brings pages in, or makes room for them
@@ -86,7 +86,7 @@ module _ {S : Type 0} (held : S → List ℕ) (honest : Type 0) (failures : S �
     pub why : GivesUpFor (duty_after plays.events plays.replies duty) (spent_after most tried plays.events plays.replies spent) plays.replies new
 
   -- What comes of one event of a run: the instruction is served on, or given up.
-  abbrev pub Proceeds : ℕ → ℕ → Option Served → ℕ → (ℕ → ℕ) → Duty → Option ℕ → CoreValue S → CoreValue S → Patience → Duty → Type 0
+  abbrev pub Proceeds : ℕ → ℕ → Option ServedStep → ℕ → (ℕ → ℕ) → Duty → Option ℕ → CoreValue S → CoreValue S → Patience → Duty → Type 0
   Proceeds process hart None most tried duty spent old new patience left =
       PlaysWith held honest failures most tried duty spent 1 old new patience left × (IsServing process hart left.turn × (owes_pages left.owed ≡ true))
   Proceeds process hart (Some served.Ran) most tried duty spent old new patience left = ⊤
@@ -125,19 +125,19 @@ module _ {S : Type 0} (held : S → List ℕ) (honest : Type 0) (failures : S �
     pub answer : answers reply
 
   -- the last event: the hart's step, which ran, or found the schedule full; or one that was refused for want of memory; or there is none
-  abbrev pub EndsService : Served → ℕ → ℕ → CoreValue S → CoreValue S → Type 0
+  abbrev pub EndsService : ServedStep → ℕ → ℕ → CoreValue S → CoreValue S → Type 0
   EndsService served.Ran process hart old new = (reply : Reply) × ((has_run reply ≡ true) × HappensInvisibly held honest failures (Step process hart) reply old new)
   EndsService served.Full process hart old new = HappensInvisibly held honest failures (Step process hart) ScheduleFull old new
   EndsService served.NoMemory process hart old new = Happens process hart (λ reply. reply ≡ Refused refusal.NoMemory) old new
   EndsService served.Absent process hart old new = new ≡ old
 
   -- pages were brought in for a hart, and then its instruction ran, or did not
-  pub record Serves (process hart : ℕ) (what : Served) (old new : CoreValue S) : Type 0 where
+  pub record Serves (process hart : ℕ) (what : ServedStep) (old new : CoreValue S) : Type 0 where
     pub between : CoreValue S
     pub brings : BringsIn process hart old between
     pub ends : EndsService what process hart between new
 
   -- what is settled of a hart's instruction, or pages that were brought in for it
-  abbrev pub Goes : ℕ → ℕ → Option Served → CoreValue S → CoreValue S → Type 0
+  abbrev pub Goes : ℕ → ℕ → Option ServedStep → CoreValue S → CoreValue S → Type 0
   Goes process hart None old new = BringsIn process hart old new
   Goes process hart (Some what) old new = Serves process hart what old new

@@ -17,5 +17,5 @@ mod watched;
 
 pub use reporting::{NoReport, audit, into_report, run_serial};
 pub use serial::play;
-pub use serving::{Served, serve_step};
+pub use serving::{ServedStep, serve_step};
 pub use watched::SerialRun;

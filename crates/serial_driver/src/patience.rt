@@ -6,7 +6,7 @@ ghost use Rattle.machine_core.specs.ManySteps.{steps_of, replies_of};
 ghost use Rattle.machine_limits.specs.Limits.{most_processes};
 ghost use Rattle.serial_driver.specs.Patience.{IsPatient, any_ran, has_failed, is_served, renewed, run_of, spent_of, spent_with, tried_after, tried_again, tried_with, try_of, tries_per_frame};
 
-use machine_core::{Event, Reply, Steps};
+use machine_core::{Event, Reply, StepsReply};
 use machine_limits::{MOST_PROCESSES, TRIES_PER_FRAME};
 
 /// Counts of what was tried in vain.
@@ -52,7 +52,7 @@ impl Patience {
     }
 
     /// Heeds steps of a process's hart in a row.
-    pub(crate) fn heed_steps(&mut self, process: u32, steps: Steps)
+    pub(crate) fn heed_steps(&mut self, process: u32, steps: StepsReply)
         ensures tries { (most : ℕ) (tried : ℕ → ℕ) (hart : ℕ) → IsPatient most tried self.old →
             IsPatient most (λ number. tried_after number
             (steps_of process hart steps.ran steps.last) (replies_of steps.ran steps.last)
@@ -145,7 +145,7 @@ fn run_of(event: Event, reply: Reply) -> Option<u32>
 }
 
 /// Whether a step of some in a row ran.
-fn any_ran(steps: Steps) -> bool
+fn any_ran(steps: StepsReply) -> bool
     ensures { result ≡ any_ran steps.ran steps.last }
 {
     match steps.last {

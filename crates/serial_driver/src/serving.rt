@@ -22,7 +22,7 @@ use swap_slots::SwapSlot;
 
 /// What has come of an instruction that was served.
 #[derive(Clone, Copy, Debug, PartialEq, Eq)]
-pub enum Served {
+pub enum ServedStep {
     /// It ran.
     Ran,
     /// A page that it needs could not be had, or no such hart may step. It did not run.
@@ -42,9 +42,9 @@ pub fn serve_step<L: Ledger, S: SwapSlot, C: Clock>(
     core: &mut Core<L, S, C>,
     process: u32,
     hart: u32,
-) -> Served
+) -> ServedStep
     ensures serves { Serves S.content S.honest S.failures process hart result core.old core.new }
-    ensures given_up { result ≡ Served.Absent →
+    ensures given_up { result ≡ ServedStep.Absent →
         GivesUp S.content S.honest S.failures process hart core.old core.new }
 {
     let mut turns = Turns::at(HartOf { process, hart });
@@ -57,7 +57,7 @@ pub fn serve_step<L: Ledger, S: SwapSlot, C: Clock>(
             None => {}
         }
     }
-    Served::Absent
+    ServedStep::Absent
 }
 
 /// Does what comes next for a hart, and tells what has come of its instruction where that is settled.
@@ -67,7 +67,7 @@ fn serve_next<L: Ledger, S: SwapSlot, C: Clock>(
     patience: &mut Patience,
     process: u32,
     hart: u32,
-) -> Option<Served>
+) -> Option<ServedStep>
     requires serving { IsServing process hart (turn_of turns.old) }
     requires owes { owes_pages (stage_owes turns.old.stage) ≡ true }
     ensures goes { Goes S.content S.honest S.failures process hart result core.old core.new }
@@ -76,7 +76,7 @@ fn serve_next<L: Ledger, S: SwapSlot, C: Clock>(
         patience.old.spent core.old core.new patience.new (duty_of turns.new) }
 {
     match what_is_next(core, turns, patience, 1) {
-        None => Some(Served::Absent),
+        None => Some(ServedStep::Absent),
         Some(Next::Steps { .. }) => step(core, turns, patience, process, hart),
         Some(Next::Event(event)) => bring(core, turns, patience, process, hart, event),
     }
@@ -89,7 +89,7 @@ fn step<L: Ledger, S: SwapSlot, C: Clock>(
     patience: &mut Patience,
     process: u32,
     hart: u32,
-) -> Option<Served>
+) -> Option<ServedStep>
     requires pays { Pays (next_owed (stage_owes turns.old.stage) patience.old.spent)
         (Step process hart) }
     requires in_turn { IsInTurn S.honest core.old (turn_of turns.old) (Step process hart) }
@@ -100,18 +100,18 @@ fn step<L: Ledger, S: SwapSlot, C: Clock>(
 {
     let reply = happen(core, turns, patience, Event::Step { process, hart });
     if has_run(reply) {
-        return Some(Served::Ran);
+        return Some(ServedStep::Ran);
     }
     if is_full(reply) {
-        return Some(Served::Full);
+        return Some(ServedStep::Full);
     }
     if is_out_of_memory(reply) {
-        return Some(Served::NoMemory);
+        return Some(ServedStep::NoMemory);
     }
     if is_absent(reply) {
         None
     } else {
-        Some(Served::Absent)
+        Some(ServedStep::Absent)
     }
 }
 
@@ -123,7 +123,7 @@ fn bring<L: Ledger, S: SwapSlot, C: Clock>(
     process: u32,
     hart: u32,
     event: Event,
-) -> Option<Served>
+) -> Option<ServedStep>
     requires serving { IsServing process hart (turn_of turns.old) }
     requires owes { owes_pages (stage_owes turns.old.stage) ≡ true }
     requires unlimited { is_limit_kill event ≡ false }
@@ -136,16 +136,16 @@ fn bring<L: Ledger, S: SwapSlot, C: Clock>(
         patience.old.spent core.old core.new patience.new (duty_of turns.new) }
 {
     if !is_paging(event) {
-        return Some(Served::Absent);
+        return Some(ServedStep::Absent);
     }
     let reply = happen(core, turns, patience, event);
     if is_out_of_memory(reply) {
-        return Some(Served::NoMemory);
+        return Some(ServedStep::NoMemory);
     }
     if is_served(reply) {
         None
     } else {
-        Some(Served::Absent)
+        Some(ServedStep::Absent)
     }
 }
 

@@ -13,7 +13,7 @@ ghost use Rattle.machine_core.specs.declared.event.Event.TheVariants as machine;
 use crate::failure::Failure;
 use crate::harts::{HartOf, live_hart_above, next_hart};
 use clock_policy::{Clock, Key};
-use machine_core::{Core, Event, EventRefusal, Reply, Steps};
+use machine_core::{Core, Event, EventRefusal, Reply, StepsReply};
 use machine_limits::MOST_LOAD_FAULTS;
 use std::sync::ledger::Ledger;
 use swap_slots::SwapSlot;
@@ -134,7 +134,7 @@ impl Turns {
 
     /// Goes on by how many steps of a process's hart ran and went on, and by the reply to a further one.
     #[tactic(auto, using(crate::proofs::Owed::steps_told, crate::proofs::Owed::steps_all))]
-    pub(crate) fn heed_steps(&mut self, process: u32, hart: u32, steps: Steps)
+    pub(crate) fn heed_steps(&mut self, process: u32, hart: u32, steps: StepsReply)
         requires some { IfNone steps.last (0 < steps.ran) }
         ensures { duty_of self.new ≡ duty_after (steps_of process hart steps.ran steps.last)
             (replies_of steps.ran steps.last) (duty_of self.old) }

@@ -4,7 +4,7 @@ use Rattle.serial_driver.specs.Owing.{Duty}
 use Rattle.serial_driver.specs.Patience.{tried_after, tries_per_frame, IsPatient}
 use Rattle.serial_driver.specs.Serving.{owes_pages, serving, IsServing, Proceeds}
 use Rattle.serial_driver.specs.TurnsDuty.{duty_of}
-use Rattle.serial_driver.specs.declared.serving.Served.{Served}
+use Rattle.serial_driver.specs.declared.serving.ServedStep.{ServedStep}
 use Rattle.serial_driver.proofs.Bringing.{brings_none, brings_on, serves_on}
 use Rattle.serial_driver.proofs.GivingUp.{gives_behind, goes_too_far}
 use Rattle.serial_driver.proofs.Limited.{plays_more, plays_none}
@@ -53,7 +53,7 @@ returns-in-Some-clause-given_up g c absent =
     let before = c.events.invariant.plays.1.1 in
     let tried : ℕ → ℕ = λ number. tried_after number before.plays.events before.plays.replies 0 in
     let after =
-    subst (λ (s : Served). Proceeds g.S.SwapSlot.content g.S.SwapSlot.honest g.S.SwapSlot.failures c.args.process c.args.hart (Some s) most tried (duty_of c.events.turns) c.events.patience.spent c.events.core c.serve_next.new.core c.serve_next.new.patience (duty_of c.serve_next.new.turns)) absent
+    subst (λ (s : ServedStep). Proceeds g.S.SwapSlot.content g.S.SwapSlot.honest g.S.SwapSlot.failures c.args.process c.args.hart (Some s) most tried (duty_of c.events.turns) c.events.patience.spent c.events.core c.serve_next.new.core c.serve_next.new.patience (duty_of c.serve_next.new.turns)) absent
     (c.in-Some.ensures.proceeds most tried before.patient) in
     inl (gives_behind g.S.SwapSlot.content g.S.SwapSlot.honest g.S.SwapSlot.failures most (λ _. 0) _ _ None c.events.invariant.plays.0 c.args.core.now c.events.core c.serve_next.new.core c.events.patience before after)
 

@@ -1,12 +1,12 @@
 //! A guest over slots in files: on a disk that takes what is written, and on one that is full.
 
 use crate::endings::tells;
-use crate::guests::WRITES_A_SUM;
 use crate::machine::{played, processes};
 use file_slots::FileSlot;
 use flat_machine::{End, KillCause};
 use std::io::Cursor;
 use std::test::Fail;
+use test_guests::WRITES_A_SUM;
 
 /// More events than a run takes.
 const AMPLE: u64 = 100_000;

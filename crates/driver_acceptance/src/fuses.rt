@@ -3,7 +3,6 @@
 ghost use Rattle.std.specs.Prelude.{◌≡◌};
 
 use crate::endings::tells;
-use crate::guests::WRITES_A_SUM;
 use crate::machine::{fuses, processes};
 use clock_ring::ClockRing;
 use flat_machine::{End, FlatProcess, KillCause};
@@ -15,6 +14,7 @@ use std::process::Abort;
 use std::sync::ledger::{Blank, Ledger};
 use std::test::Fail;
 use swap_slots::FuseSlot;
+use test_guests::WRITES_A_SUM;
 
 /// Whether the process has the registers and the output of the flat run of its schedule.
 fn does_what_it_does_flat<L: Ledger>(

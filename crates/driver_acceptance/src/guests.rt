@@ -45,29 +45,3 @@ page:   lw   t0, 0(s0)
 data:   .space 24576
 ";
 
-/// Stores 11, 10 down to 1 in the first eleven pages of its stack, and writes the sum of what it loads from them as one byte, `B`.
-pub(crate) const WRITES_A_SUM: &str = "        lui  s0, 0x7FFC0
-        lui  s1, 1
-        li   t0, 11
-        mv   t1, s0
-store:  sw   t0, 0(t1)
-        add  t1, t1, s1
-        addi t0, t0, -1
-        bnez t0, store
-        li   t0, 11
-        mv   t1, s0
-        li   t2, 0
-load:   lw   t3, 0(t1)
-        add  t2, t2, t3
-        add  t1, t1, s1
-        addi t0, t0, -1
-        bnez t0, load
-        sb   t2, 0(s0)
-        mv   a1, s0
-        li   a2, 1
-        li   a7, 64
-        ecall
-        li   a0, 0
-        li   a7, 94
-        ecall
-";

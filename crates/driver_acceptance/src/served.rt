@@ -3,7 +3,6 @@
 
 ghost use Rattle.std.specs.Prelude.{◌≡◌};
 
-use crate::guests::WRITES_A_SUM;
 use crate::late_slots::{LateSlot, late_slots};
 use crate::machine::processes;
 use clock_ring::ClockRing;
@@ -15,6 +14,7 @@ use std::marker::Brand;
 use std::process::Abort;
 use std::sync::ledger::{Blank, Ledger};
 use std::test::Fail;
+use test_guests::WRITES_A_SUM;
 
 /// More instructions than the guest has.
 const MOST_STEPS: u32 = 200;

@@ -2,11 +2,7 @@
 use Rattle.std.proofs.Common.{◌≡◌, ◌<◌, ◌≤◌, ℕ, zero, suc, ◌+◌, Bool, true, false, cond, List, [], ◌∷◌, length, get_or, drop, take, set, Some, None, is_some, arith, refl, ap, sym, ◌∙◌, add-one, drop-cons}
 use Rattle.std.specs.List.{list_any, position_from}
 use Rattle.env_calls.specs.Environment.{is_marked, any_live, least_live_from}
-
-from_mark : (number : ℕ) (live : List Bool) → number < length live
-    → least_live_from number live ≡ cond (get_or live number false) (Some number) (position_from is_marked (number + 1) (drop (suc number) live))
-unfolding least_live_from
-from_mark number live h = ap (position_from is_marked number) (drop-cons live number false h)
+use Rattle.env_calls.specs.LiveLaws.{from_mark, least_none}
 
 pub least_here : (number : ℕ) (live : List Bool) → number < length live → get_or live number false ≡ true → least_live_from number live ≡ Some number
 least_here number live h marked = from_mark number live h ∙ ap (λ b. cond b (Some number) (position_from is_marked (number + 1) (drop (suc number) live))) marked
@@ -17,16 +13,6 @@ least_above number live h unmarked =
     from_mark number live h
     ∙ ap (λ b. cond b (Some number) (position_from is_marked (number + 1) (drop (suc number) live))) unmarked
     ∙ ap (λ n. position_from is_marked (number + 1) (drop n live)) (sym (add-one number))
-
-none_left : (n : ℕ) (xs : List Bool) → length xs ≤ n → drop n xs ≡ []
-none_left zero [] h = refl
-none_left (suc n) [] h = refl
-none_left zero (x ∷ xs) h = absurd (omega arith)
-none_left (suc n) (x ∷ xs) h = none_left n xs (omega arith)
-
-pub least_none : (number : ℕ) (live : List Bool) → length live ≤ number → least_live_from number live ≡ None
-unfolding least_live_from
-least_none number live h = ap (position_from is_marked number) (none_left number live h)
 
 pub ruleset looking_on = (least_here, least_above, least_none)
 

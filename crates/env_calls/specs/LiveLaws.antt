@@ -3,7 +3,7 @@ use Rattle.std.specs.Prelude.{◌≡◌, ℕ, zero, suc, ◌+◌, ◌-◌, ◌<�
 use Rattle.std.proofs.lemmas.List.{get_or-drop}
 use Rattle.std.specs.List.{list_any, position_from}
 use Rattle.std.specs.Option.{option_or}
-use Rattle.std.proofs.Common.{arith, refl, ap, sym, ◌∙◌, ltb-true, true≢false, inl, inr}
+use Rattle.std.proofs.Common.{arith, refl, ap, sym, ◌∙◌, ltb-true, true≢false, inl, inr, get_or, drop-cons}
 use Rattle.page_memory.specs.declared.fault.MemoryFault.{MemoryFault}
 use Rattle.page_memory.specs.Memory.{Memory}
 use Rattle.rv_exec.specs.Registers.{Registers, register}
@@ -166,3 +166,20 @@ unfolding any_live
 more_is_some [] = refl
 more_is_some (true ∷ live) = refl
 more_is_some (false ∷ live) = more_is_some live
+
+-- the least live hart from a number on, by that number's own mark
+pub from_mark : (number : ℕ) (live : List Bool) → number < length live
+    → least_live_from number live ≡ cond (get_or live number false) (Some number) (position_from is_marked (number + 1) (drop (suc number) live))
+unfolding least_live_from
+from_mark number live h = ap (position_from is_marked number) (drop-cons live number false h)
+
+none_left : (n : ℕ) (xs : List Bool) → length xs ≤ n → drop n xs ≡ []
+none_left zero [] h = refl
+none_left (suc n) [] h = refl
+none_left zero (x ∷ xs) h = absurd (omega arith)
+none_left (suc n) (x ∷ xs) h = none_left n xs (omega arith)
+
+-- none is live from a number on behind the last
+pub least_none : (number : ℕ) (live : List Bool) → length live ≤ number → least_live_from number live ≡ None
+unfolding least_live_from
+least_none number live h = ap (position_from is_marked number) (none_left number live h)

@@ -14,18 +14,7 @@ use std::process::Abort;
 use std::sync::ledger::{Blank, Ledger};
 use std::test::Fail;
 use swap_slots::{FuseSlot, SwapSlot};
-
-/// Stores a byte in its page of data, 0x11, with the fourth instruction, and ends with the seventh.
-const STORES_A_BYTE: &str = "        la   s0, buf
-        li   t0, 5
-        sb   t0, 3(s0)
-        li   a0, 0
-        li   a7, 94
-        ecall
-
-        .data
-buf:    .word 0
-";
+use test_guests::STORES_A_BYTE;
 
 const STEP: Event = Event::Step {
     process: 0,

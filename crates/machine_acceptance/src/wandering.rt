@@ -13,7 +13,7 @@ use std::process::Abort;
 use std::sync::ledger::{Blank, Ledger};
 use std::test::Fail;
 use swap_slots::MemorySlot;
-use wandering_guest::{Random, WANDERS};
+use test_guests::{Random, WANDERS};
 
 const PROCESSES: u32 = 3;
 

@@ -9,4 +9,3 @@ pub mod Staying
 pub mod Stepping
 pub mod Turning
 pub mod Unkilled
-pub mod Whole

@@ -28,7 +28,7 @@ use Rattle.machine_core.specs.Reading.{is_live_in}
 use Rattle.debug_core.specs.Progresses.{ended_full}
 use Rattle.paged_target.specs.Marks.{marks_at, marks_in}
 use Rattle.paged_target.specs.Shown.{flat_at, flat_in, flat_of, no_process, shown_as}
-use Rattle.paged_target.proofs.Whole.{whole_from_opening}
+use Rattle.serial_driver.specs.WholeLaws.{whole_from_opening}
 
 -- ---- a process that was ended because it is full
 

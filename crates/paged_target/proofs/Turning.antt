@@ -3,6 +3,7 @@ use Rattle.std.proofs.Common.{◌≡◌, ◌<◌, ◌≤◌, ℕ, zero, suc, ◌
 use Rattle.std.proofs.lemmas.Bool.Decides.{leb_tells}
 use Rattle.std.specs.List.{position_from}
 use Rattle.env_calls.specs.Environment.{is_marked, least_live_from}
+use Rattle.env_calls.specs.LiveLaws.{from_mark, least_none}
 use Rattle.machine_core.specs.Machine.{CoreValue}
 use Rattle.machine_core.specs.Reading.{is_live_in}
 use Rattle.paged_target.specs.Marks.{marks_at, marks_in}
@@ -15,21 +16,6 @@ mark_is core hart = by (slice_get core.processes 0)
     by : {S : Type 0} (side : Option (SpaceValue S)) → is_live_in side hart ≡ slice_index_or (marks_in side) hart false
     by None = refl
     by (Some side) = refl
-
-from_mark : (number : ℕ) (live : List Bool) → number < length live
-    → least_live_from number live ≡ cond (get_or live number false) (Some number) (position_from is_marked (number + 1) (drop (suc number) live))
-unfolding least_live_from
-from_mark number live h = ap (position_from is_marked number) (drop-cons live number false h)
-
-none_left : (n : ℕ) (xs : List Bool) → length xs ≤ n → drop n xs ≡ []
-none_left zero [] h = refl
-none_left (suc n) [] h = refl
-none_left zero (x ∷ xs) h = absurd (omega arith)
-none_left (suc n) (x ∷ xs) h = none_left n xs (omega arith)
-
-pub least_none : (number : ℕ) (live : List Bool) → length live ≤ number → least_live_from number live ≡ None
-unfolding least_live_from
-least_none number live h = ap (position_from is_marked number) (none_left number live h)
 
 marked_below : (live : List Bool) (number : ℕ) → slice_index_or live number false ≡ true → number < length live
 marked_below [] number e = cc

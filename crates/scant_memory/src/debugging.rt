@@ -1,9 +1,10 @@
 //! A debugger over a process on flat memory and over one on paged memory.
 
-use crate::programs::{STORES_A_BYTE, image_of};
+use crate::programs::image_of;
 use debug_core::{DebugRefusal, Debugger, DebugStep, Target, Why};
 use flat_machine::FlatProcess;
 use std::alloc::{AllocError, Global};
+use test_guests::STORES_A_BYTE;
 
 /// Whether a debugger over flat memory stops where it is told.
 pub(crate) fn debugs_on_flat_memory(alloc: Global) -> Result<bool, AllocError> {

@@ -18,18 +18,6 @@ const HELLO: [u32; 10] = [
     0x000A_6968,
 ];
 
-/// Stores a byte in its page of data, 0x11, with the fourth instruction, and ends with the seventh.
-pub(crate) const STORES_A_BYTE: &str = "        la   s0, buf
-        li   t0, 5
-        sb   t0, 3(s0)
-        li   a0, 0
-        li   a7, 94
-        ecall
-
-        .data
-buf:    .word 0
-";
-
 /// Numbers that one word loads, and such as take two.
 const LOADED: &str = "li t0,2047
 li t0,-2048

@@ -2,7 +2,7 @@
 
 ghost use Rattle.std.specs.Prelude.{◌≡◌, ◌<◌, ◌^◌};
 
-use crate::programs::{STORES_A_BYTE, image_of};
+use crate::programs::image_of;
 use flat_machine::End;
 use frame_pool::{Frame, FramePool};
 use page_store::{Collected, PageState};
@@ -11,6 +11,7 @@ use space_core::{SliceStop, Space};
 use std::alloc::{AllocError, Global};
 use std::sync::ledger::{Blank, Ledger};
 use swap_slots::{MemorySlot, SwapSlot};
+use test_guests::STORES_A_BYTE;
 
 /// Prints a page of zeros, moves its break up by a page, stores there, and ends: 15 instructions.
 const WRITES_AND_BREAKS: &str = "        la   a1, buf

@@ -3,7 +3,7 @@
 ghost use Rattle.std.specs.Prelude.{◌≡◌};
 
 use crate::bench::{Answer, Bench, Call, expect};
-use crate::paging::{STORES_A_BYTE, ran, slice};
+use crate::paging::{ran, slice};
 use page_store::{CleanRefusal, PageState};
 use space_core::SliceStop;
 use std::alloc::Global;
@@ -12,6 +12,7 @@ use std::process::Abort;
 use std::sync::ledger::{Blank, Ledger};
 use std::test::Fail;
 use swap_slots::{FuseSlot, MemorySlot, SwapSlot};
+use test_guests::STORES_A_BYTE;
 
 /// Stores a byte with each of three instructions, the first of which is the fourth.
 const STORES_THREE: &str = "        la   s0, buf

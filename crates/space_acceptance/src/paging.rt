@@ -12,18 +12,7 @@ use std::process::Abort;
 use std::sync::ledger::{Blank, Ledger};
 use std::test::Fail;
 use swap_slots::{FuseSlot, MemorySlot};
-
-/// Stores a byte in its page of data, 0x11, with the fourth instruction, and ends with the seventh.
-pub(crate) const STORES_A_BYTE: &str = "        la   s0, buf
-        li   t0, 5
-        sb   t0, 3(s0)
-        li   a0, 0
-        li   a7, 94
-        ecall
-
-        .data
-buf:    .word 0
-";
+use test_guests::STORES_A_BYTE;
 
 /// Starts hart 1, which stores 5 and then 7 in the page of data, 0x11, and loads the word.
 const STORES_TWICE: &str = "        la   a0, child

@@ -11,7 +11,7 @@ use std::process::Abort;
 use std::sync::ledger::{Blank, Ledger};
 use std::test::Fail;
 use swap_slots::MemorySlot;
-use wandering_guest::{Random, WANDERS};
+use test_guests::{Random, WANDERS};
 
 const CALLS: u32 = 20_000;
 

@@ -2,7 +2,6 @@
 
 ghost use Rattle.std.specs.Prelude.{◌≡◌};
 
-use crate::guests::STORES_A_BYTE;
 use crate::machine::{image_of, sound_slots};
 use clock_policy::{Clock, Key};
 use clock_ring::ClockRing;
@@ -20,6 +19,7 @@ use std::sync::Wait;
 use std::sync::ledger::{Blank, Ledger};
 use std::test::Fail;
 use swap_slots::{MemorySlot, SwapSlot};
+use test_guests::STORES_A_BYTE;
 
 const CODE: Key = Key {
     process: 0,

@@ -1,6 +1,6 @@
 //! Machines that write changed pages ahead.
 
-use crate::guests::{COUNTS, WRITES_A_SUM};
+use crate::guests::COUNTS;
 use crate::machine::{Size, expect, played, played_ahead, sound_slots};
 use clock_policy::Key;
 use reclaim_daemon::{Gate, OpenGate};
@@ -9,6 +9,7 @@ use std::sync::atomic::{AtomicU64, Ordering};
 use std::test::Fail;
 use std::thread::sleep;
 use std::time::Duration;
+use test_guests::WRITES_A_SUM;
 
 /// How often a flag is looked at after a slice, with a millisecond's sleep each time.
 const LOOKS: u32 = 200;

@@ -1,6 +1,6 @@
 //! Two processes run at the same time, also while one of them loads a page: neither holds a lock that the other one needs.
 
-use crate::guests::{FITS, FITS_STEPS, FITS_STORED, STORES_A_BYTE, WRITES_A_SUM};
+use crate::guests::{FITS, FITS_STEPS, FITS_STORED};
 use crate::machine::{Size, expect, played, sound_slots};
 use clock_policy::Key;
 use reclaim_daemon::Gate;
@@ -9,6 +9,7 @@ use std::sync::atomic::{AtomicU64, Ordering};
 use std::test::Fail;
 use std::thread::sleep;
 use std::time::Duration;
+use test_guests::{STORES_A_BYTE, WRITES_A_SUM};
 
 /// How often a flag is looked at, with a millisecond's sleep each time: longer than any thread is kept from running on a busy machine.
 const LOOKS: u32 = 30_000;

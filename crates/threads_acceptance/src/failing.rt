@@ -1,6 +1,6 @@
 //! Processes on slots that fail once, or lie once.
 
-use crate::guests::{SPINS, WRITES_A_SUM};
+use crate::guests::SPINS;
 use crate::machine::{Size, expect, played, sound_slots};
 use file_slots::{BlinkSlot, FlipSlot};
 use flat_machine::{End, KillCause};
@@ -9,6 +9,7 @@ use reclaim_daemon::OpenGate;
 use std::process::Abort;
 use std::test::Fail;
 use swap_slots::FuseSlot;
+use test_guests::WRITES_A_SUM;
 
 const ON_FOUR_FRAMES: Size = Size {
     frames: 4,

@@ -1,9 +1,10 @@
 //! Processes that need more pages than there are frames.
 
-use crate::guests::{COUNTS, WRITES_A_SUM};
+use crate::guests::COUNTS;
 use crate::machine::{Size, expect, played, sound_slots};
 use reclaim_daemon::OpenGate;
 use std::test::Fail;
+use test_guests::WRITES_A_SUM;
 
 /// How often a machine is run, since its threads meet otherwise each time.
 const RUNS: u32 = 25;

@@ -1,5 +1,4 @@
-//! What the acceptance tests of one process and of the whole machine share: a guest that wanders over its pages, and numbers that look
-//! random.
+//! What acceptance tests of several crates share: guests, and numbers that look random.
 #![tactic(auto)]
 
 ghost use Rattle.std.specs.Prelude.{◌<◌};
@@ -40,6 +39,45 @@ child:  la   s0, data
 
         .data
 data:   .space 32768
+";
+
+/// Stores a byte in its page of data, 0x11, with the fourth instruction, and ends with the seventh.
+pub const STORES_A_BYTE: &str = "        la   s0, buf
+        li   t0, 5
+        sb   t0, 3(s0)
+        li   a0, 0
+        li   a7, 94
+        ecall
+
+        .data
+buf:    .word 0
+";
+
+/// Stores 11, 10 down to 1 in the first eleven pages of its stack, and writes the sum of what it loads from them as one byte, `B`.
+pub const WRITES_A_SUM: &str = "        lui  s0, 0x7FFC0
+        lui  s1, 1
+        li   t0, 11
+        mv   t1, s0
+store:  sw   t0, 0(t1)
+        add  t1, t1, s1
+        addi t0, t0, -1
+        bnez t0, store
+        li   t0, 11
+        mv   t1, s0
+        li   t2, 0
+load:   lw   t3, 0(t1)
+        add  t2, t2, t3
+        add  t1, t1, s1
+        addi t0, t0, -1
+        bnez t0, load
+        sb   t2, 0(s0)
+        mv   a1, s0
+        li   a2, 1
+        li   a7, 64
+        ecall
+        li   a0, 0
+        li   a7, 94
+        ecall
 ";
 
 /// Numbers that look random, the same ones from the same seed.

@@ -6,7 +6,6 @@ use crate::scant::ScantList;
 use clock_policy::Clock;
 use clock_ring::ClockRing;
 use elf_image::Image;
-use file_slots::FlipSlot;
 use flat_machine::End;
 use machine_core::{Core, Report};
 use rv_asm::assemble;
@@ -16,6 +15,7 @@ use std::marker::Brand;
 use std::sync::ledger::{Blank, Ledger};
 use std::test::Fail;
 use swap_slots::{FuseSlot, SwapSlot};
+use test_slots::FlipSlot;
 
 /// Processes that all run this source, on no input.
 pub(crate) fn processes(

@@ -1,4 +1,4 @@
-use crate::{BlinkSlot, FileName, FileSlot, FilesFault, FlipSlot, make_file_slots};
+use crate::{FileName, FileSlot, FilesFault, make_file_slots};
 use std::alloc::Global;
 use std::io::{Cursor, ErrorKind, Read, Seek, SeekFrom, Write};
 use std::process::Abort;
@@ -192,45 +192,6 @@ fn fails_at_an_end_in_the_middle_of_a_page(rt: HostRuntime) -> Result<(), Fail> 
         assert_eq!(rt; slot.save(&page), Ok(()));
         assert!(rt; loaded(&mut slot) == Ok(page));
         assert_eq!(rt; slot.failures(), 1);
-    }
-    Ok(())
-}
-
-#[test]
-fn blinks_once(rt: HostRuntime) -> Result<(), Fail> {
-    let page = page_from(11);
-    for failing in 0..4 {
-        let mut slot = BlinkSlot::new(rt.alloc(), failing)?;
-        assert_eq!(rt; slot.save(&page).is_err(), failing == 1);
-        let kept = if failing == 1 { [0; 4096] } else { page };
-        for call in 2..5 {
-            let answer = loaded(&mut slot);
-            assert!(rt;
-                answer
-                    == if failing == call {
-                        Err(SlotFault)
-                    } else {
-                        Ok(kept)
-                    }
-            );
-        }
-        assert_eq!(rt; slot.failures(), failing.min(1));
-    }
-    Ok(())
-}
-
-#[test]
-fn lies_once(rt: HostRuntime) -> Result<(), Fail> {
-    for first in [12, 13] {
-        let page = page_from(first);
-        let mut lie = page;
-        lie[0] = if first == 12 { 13 } else { 12 };
-        let mut slot = FlipSlot::new(rt.alloc(), 2)?;
-        assert_eq!(rt; slot.save(&page), Ok(()));
-        for wanted in [page, lie, page] {
-            assert!(rt; loaded(&mut slot) == Ok(wanted));
-        }
-        assert_eq!(rt; slot.failures(), 0);
     }
     Ok(())
 }

@@ -5,7 +5,6 @@ ghost use Rattle.std.specs.Prelude.{◌≡◌};
 use crate::image::image_of;
 use clock_policy::Key;
 use clock_ring::ClockRing;
-use file_slots::BlinkSlot;
 use flat_machine::KillCause;
 use machine_core::{Core, Event, EventRefusal, Reply};
 use page_store::PageState;
@@ -15,6 +14,7 @@ use std::process::Abort;
 use std::sync::ledger::{Blank, Ledger};
 use std::test::Fail;
 use swap_slots::{FuseSlot, MemorySlot, SwapSlot};
+use test_slots::BlinkSlot;
 
 /// Stores a byte into each place of its word of data, in page 0x11, from the fourth instruction on, and then loops.
 const STORES_BYTES: &str = "        la   s0, buf

@@ -5,7 +5,6 @@ ghost use Rattle.std.specs.Prelude.{◌≡◌};
 use crate::image::image_of;
 use clock_policy::{EntryKind, Key};
 use clock_ring::ClockRing;
-use file_slots::{BlinkSlot, FlipSlot};
 use machine_core::{Core, Event, EventRefusal, Reply};
 use page_store::PageState;
 use std::alloc::Global;
@@ -15,6 +14,7 @@ use std::sync::ledger::{Blank, Ledger};
 use std::test::Fail;
 use swap_slots::{FuseSlot, SwapSlot};
 use test_guests::STORES_A_BYTE;
+use test_slots::{BlinkSlot, FlipSlot};
 
 const STEP: Event = Event::Step {
     process: 0,

@@ -4,7 +4,6 @@ ghost use Rattle.std.specs.Prelude.{◌≡◌};
 
 use crate::bench::{Answer, Bench, Call, expect};
 use crate::paging::{ran, slice};
-use file_slots::{BlinkSlot, FlipSlot};
 use page_store::PageState;
 use paged_memory::PageInFault;
 use space_core::SliceStop;
@@ -15,6 +14,7 @@ use std::sync::ledger::{Blank, Ledger};
 use std::test::Fail;
 use swap_slots::SwapSlot;
 use test_guests::STORES_A_BYTE;
+use test_slots::{BlinkSlot, FlipSlot};
 
 const IS_AWAY: (Call, Answer) = (Call::State(0x11), Answer::State(Some(PageState::Away)));
 

@@ -12,4 +12,6 @@ mod full;
 #[cfg(test)]
 mod paging;
 #[cfg(test)]
+mod slots;
+#[cfg(test)]
 mod wandering;

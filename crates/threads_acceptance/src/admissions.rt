@@ -5,7 +5,6 @@ ghost use Rattle.std.specs.Prelude.{◌≡◌};
 use crate::machine::{image_of, sound_slots};
 use clock_policy::{Clock, Key};
 use clock_ring::ClockRing;
-use file_slots::FlipSlot;
 use machine_sides::Swept;
 use paged_memory::PageInFault;
 use reclaim_daemon::{
@@ -20,6 +19,7 @@ use std::sync::ledger::{Blank, Ledger};
 use std::test::Fail;
 use swap_slots::{MemorySlot, SwapSlot};
 use test_guests::STORES_A_BYTE;
+use test_slots::FlipSlot;
 
 const CODE: Key = Key {
     process: 0,

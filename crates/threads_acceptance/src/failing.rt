@@ -2,7 +2,6 @@
 
 use crate::guests::SPINS;
 use crate::machine::{Size, expect, played, sound_slots};
-use file_slots::{BlinkSlot, FlipSlot};
 use flat_machine::{End, KillCause};
 use machine_sides::Report;
 use reclaim_daemon::OpenGate;
@@ -10,6 +9,7 @@ use std::process::Abort;
 use std::test::Fail;
 use swap_slots::FuseSlot;
 use test_guests::WRITES_A_SUM;
+use test_slots::{BlinkSlot, FlipSlot};
 
 const ON_FOUR_FRAMES: Size = Size {
     frames: 4,

@@ -1,5 +1,5 @@
 ghost use Rattle.std.specs.Prelude.{◌≡◌, ◌-◌, ◌≤◌, ◌==◌, if◌then◌else◌, IfOk, IsOk, OnOk, OnErr, false};
-ghost use Rattle.file_slots.specs.Flipped.{flipped};
+ghost use Rattle.test_slots.specs.Flipped.{flipped};
 ghost use Rattle.swap_slots.specs.Slot.{Rose, zero_content};
 
 use std::alloc::{AllocError, Global};
@@ -14,7 +14,7 @@ pub struct FlipSlot {
 }
 
 impl Model for FlipSlot {
-    ghost use Rattle.file_slots.specs.FlipValue.{FlipValue};
+    ghost use Rattle.test_slots.specs.FlipValue.{FlipValue};
 
     ghost Value = { FlipValue };
 

@@ -14,7 +14,7 @@ pub struct BlinkSlot {
 }
 
 impl Model for BlinkSlot {
-    ghost use Rattle.file_slots.specs.BlinkValue.{BlinkValue};
+    ghost use Rattle.test_slots.specs.BlinkValue.{BlinkValue};
 
     ghost Value = { BlinkValue };
 

@@ -1,0 +1,63 @@
+//! Slots for tests: the one call that fails, and the one load that lies.
+
+use std::process::Abort;
+use std::test::Fail;
+use swap_slots::{SlotFault, SwapSlot};
+use test_slots::{BlinkSlot, FlipSlot};
+
+/// A page of which no two neighbours are alike.
+fn page_from(first: u8) -> [u8; 4096] {
+    let mut page = [0; 4096];
+    let mut byte = first;
+    for place in &mut page {
+        *place = byte;
+        byte = byte.wrapping_add(7);
+    }
+    page
+}
+
+/// What a load answers.
+fn loaded<S: SwapSlot>(slot: &mut S) -> Result<[u8; 4096], SlotFault> {
+    let mut page = [0; 4096];
+    slot.load(&mut page)?;
+    Ok(page)
+}
+
+#[test]
+fn blinks_once(rt: HostRuntime) -> Result<(), Fail> {
+    let page = page_from(11);
+    for failing in 0..4 {
+        let mut slot = BlinkSlot::new(rt.alloc(), failing)?;
+        assert_eq!(rt; slot.save(&page).is_err(), failing == 1);
+        let kept = if failing == 1 { [0; 4096] } else { page };
+        for call in 2..5 {
+            let answer = loaded(&mut slot);
+            assert!(rt;
+                answer
+                    == if failing == call {
+                        Err(SlotFault)
+                    } else {
+                        Ok(kept)
+                    }
+            );
+        }
+        assert_eq!(rt; slot.failures(), failing.min(1));
+    }
+    Ok(())
+}
+
+#[test]
+fn lies_once(rt: HostRuntime) -> Result<(), Fail> {
+    for first in [12, 13] {
+        let page = page_from(first);
+        let mut lie = page;
+        lie[0] = if first == 12 { 13 } else { 12 };
+        let mut slot = FlipSlot::new(rt.alloc(), 2)?;
+        assert_eq!(rt; slot.save(&page), Ok(()));
+        for wanted in [page, lie, page] {
+            assert!(rt; loaded(&mut slot) == Ok(wanted));
+        }
+        assert_eq!(rt; slot.failures(), 0);
+    }
+    Ok(())
+}

@@ -1,0 +1,3 @@
+pub mod BlinkValue
+pub mod FlipValue
+pub mod Flipped

@@ -6,7 +6,7 @@ use crate::instructions::add_immediate;
 use crate::part::CodePart;
 use crate::ranges::{immediate, word};
 use crate::shapes::register_number;
-use asm_lines::{FaultKind, Operand, LineRefusal};
+use asm_lines::{FaultKind, LineRefusal, Operand};
 use rv_isa::{Insn, Reg, high_part, low_part};
 use std::alloc::{AllocError, Global};
 

@@ -5,7 +5,7 @@ ghost use Rattle.asm_statements.specs.Directives as form;
 
 use crate::part::{CodePart, Datum};
 use crate::ranges::{byte, half, word};
-use asm_lines::{FaultKind, Operand, LineRefusal};
+use asm_lines::{FaultKind, LineRefusal, Operand};
 use std::alloc::{AllocError, Global};
 
 /// How large the values of a list are.
@@ -73,7 +73,10 @@ fn is_list(size: Size, operands: &[Operand]) -> bool
 }
 
 /// Each word of a list, for the text.
-fn each_text_word<'a>(alloc: Global, operands: &[Operand<'a>]) -> Result<Vec<CodePart<'a>>, LineRefusal>
+fn each_text_word<'a>(
+    alloc: Global,
+    operands: &[Operand<'a>],
+) -> Result<Vec<CodePart<'a>>, LineRefusal>
     ensures words { IfOk result (λ words. form.each_of form.text_word operands.now ≡
         Ok words.items) }
     ensures refusal { IfErr result (RefusesLine (form.each_of form.text_word operands.now)) }

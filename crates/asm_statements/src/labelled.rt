@@ -36,7 +36,10 @@ pub(crate) fn jump<'a>(rd: Reg, operands: &[Operand<'a>]) -> Result<CodePart<'a>
 
 /// `beq rs1, rs2, label`.
 #[tactic(auto, unfolding(crate::specs::Instructions::branch))]
-pub(crate) fn branch<'a>(kind: BranchKind, operands: &[Operand<'a>]) -> Result<CodePart<'a>, FaultKind>
+pub(crate) fn branch<'a>(
+    kind: BranchKind,
+    operands: &[Operand<'a>],
+) -> Result<CodePart<'a>, FaultKind>
     ensures { result ≡ form.branch kind operands.now }
 {
     let (rs1, rs2, label) = two_registers_label(operands).ok_or(FaultKind::Operand)?;

@@ -10,7 +10,7 @@ use crate::part::Effect;
 use crate::section::Section;
 use crate::statement::{Statement, read_name};
 use crate::text::{ascii, space};
-use asm_lines::{FaultKind, Operand, LineRefusal};
+use asm_lines::{FaultKind, LineRefusal, Operand};
 use std::alloc::{AllocError, Global};
 
 /// What a statement does in a section, by its name and its operands.

@@ -6,7 +6,7 @@ ghost use Rattle.asm_statements.specs.declared.part.Datum.TheVariants.{Byte};
 use crate::part::Datum;
 use crate::ranges::zero_count;
 use crate::shapes::{one_number, one_text};
-use asm_lines::{FaultKind, Operand, LineRefusal};
+use asm_lines::{FaultKind, LineRefusal, Operand};
 use std::alloc::{AllocError, Global};
 
 /// What a character stands for behind a backslash.

@@ -7,10 +7,10 @@ ghost use Rattle.debug_core.specs.Stops.{Stops, Wants};
 ghost use Rattle.debug_core.specs.declared.point.Point.TheVariants as point;
 ghost use Rattle.debug_core.specs.declared.refusal.DebugRefusal.TheVariants as refusal;
 
-use crate::point::{MOST_POINTS, MOST_WATCHED, Point, DebugStep, Why};
+use crate::point::{DebugStep, MOST_POINTS, MOST_WATCHED, Point, Why};
 use crate::refusal::DebugRefusal;
 use crate::running::run;
-use crate::target::{TargetStep, Target};
+use crate::target::{Target, TargetStep};
 use rv_exec::Regs;
 use std::alloc::AllocError;
 use std::marker::Model;

@@ -5,7 +5,7 @@ ghost use Rattle.page_memory.specs.Memory.{Memory};
 ghost use Rattle.debug_core.specs.Points.{bytes_from};
 ghost use Rattle.flat_machine.specs.Process.{Process};
 
-use crate::target::{TargetStep, TargetFault, Target};
+use crate::target::{Target, TargetFault, TargetStep};
 use flat_machine::{End, FlatProcess, StepRefusal};
 use rv_exec::Regs;
 use std::alloc::AllocError;

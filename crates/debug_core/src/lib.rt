@@ -12,6 +12,6 @@ mod running;
 mod target;
 
 pub use debugger::Debugger;
-pub use point::{MOST_POINTS, MOST_WATCHED, Point, DebugStep, Why};
+pub use point::{DebugStep, MOST_POINTS, MOST_WATCHED, Point, Why};
 pub use refusal::DebugRefusal;
-pub use target::{TargetStep, TargetFault, Target};
+pub use target::{Target, TargetFault, TargetStep};

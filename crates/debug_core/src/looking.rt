@@ -8,7 +8,7 @@ ghost use Rattle.debug_core.specs.Limits.{KeepsRoom};
 ghost use Rattle.debug_core.specs.Seen.{AreSeen, CannotSee, IsSeen, IsUnread};
 
 use crate::point::{MOST_WATCHED, Point};
-use crate::target::{TargetFault, Target};
+use crate::target::{Target, TargetFault};
 
 /// The bytes of a watch, and nothing behind them.
 pub(crate) type Window = [Option<u8>; MOST_WATCHED as usize];

@@ -7,7 +7,7 @@ ghost use Rattle.debug_core.specs.Points.{all_there, bytes_from, IsRange};
 
 use crate::debugger::{Debugger, is_range};
 use crate::refusal::DebugRefusal;
-use crate::target::{TargetFault, Target};
+use crate::target::{Target, TargetFault};
 use std::alloc::{AllocError, Global};
 
 /// How many bytes a look may have.

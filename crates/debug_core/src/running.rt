@@ -14,7 +14,7 @@ ghost use Rattle.debug_core.specs.declared.point.Why.TheVariants as why;
 
 use crate::looking::{NOTHING, Window, look};
 use crate::point::{MOST_POINTS, Point, Why};
-use crate::target::{TargetStep, TargetFault, Target};
+use crate::target::{Target, TargetFault, TargetStep};
 use std::alloc::AllocError;
 
 /// The number of the first break at which a hart stands.

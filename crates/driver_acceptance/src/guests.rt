@@ -44,4 +44,3 @@ page:   lw   t0, 0(s0)
         .data
 data:   .space 24576
 ";
-

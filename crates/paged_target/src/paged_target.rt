@@ -14,7 +14,7 @@ ghost use Rattle.paged_target.specs.Shown.{flat_at, shown_of, TargetValue};
 use crate::harts::next_live;
 use crate::reading::read;
 use clock_policy::Clock;
-use debug_core::{TargetStep, TargetFault, Target};
+use debug_core::{Target, TargetFault, TargetStep};
 use elf_image::Image;
 use flat_machine::{End, KillCause};
 use machine_core::{Core, CoreError, Event};

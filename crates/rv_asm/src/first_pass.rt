@@ -12,7 +12,7 @@ ghost use Rattle.rv_asm.specs.declared.item.Item.TheVariants.{InText, InData};
 use crate::fault::AsmError;
 use crate::item::Item;
 use crate::program::Program;
-use asm_lines::{Operand, LineRefusal, SourceLine, Span, scan_line};
+use asm_lines::{LineRefusal, Operand, SourceLine, Span, scan_line};
 use asm_statements::{CodePart, Datum, Effect, Section, read_statement};
 use std::alloc::Global;
 use text_lines::next_line;
@@ -77,7 +77,10 @@ fn read_effect<'a>(
 
 /// The program with a line's labels.
 #[tactic(auto, using(crate::proofs::FirstLoops::labels_go_on, crate::proofs::FirstLoops::labels_end))]
-fn with_labels<'a>(mut program: Program<'a>, labels: Vec<Span<'a>>) -> Result<Program<'a>, LineRefusal>
+fn with_labels<'a>(
+    mut program: Program<'a>,
+    labels: Vec<Span<'a>>,
+) -> Result<Program<'a>, LineRefusal>
     ensures program { IfOk result (λ more. with_labels program.entry labels.entry.items ≡ Ok more) }
     ensures refusal { IfErr result (RefusesLine (with_labels program.entry labels.entry.items)) }
 {

@@ -1,7 +1,7 @@
 //! A debugger over a process on flat memory and over one on paged memory.
 
 use crate::programs::image_of;
-use debug_core::{DebugRefusal, Debugger, DebugStep, Target, Why};
+use debug_core::{DebugRefusal, DebugStep, Debugger, Target, Why};
 use flat_machine::FlatProcess;
 use std::alloc::{AllocError, Global};
 use test_guests::STORES_A_BYTE;

@@ -46,7 +46,9 @@ fn profile<'a>(alloc: Global) -> Result<Command<'a>, AllocError> {
 fn debug<'a>(alloc: Global) -> Result<Command<'a>, AllocError> {
     image(
         alloc,
-        Command::new(alloc, "debug").arg(option(alloc, "input"))?,
+        Command::new(alloc, "debug")
+            .arg(option(alloc, "frames"))?
+            .arg(option(alloc, "input"))?,
     )
 }
 

@@ -1,17 +1,27 @@
 //! Programs on frames.
 
-ghost use Rattle.std.specs.Prelude.{IfOk};
+ghost use Rattle.std.specs.Prelude.{◌≤◌, IfOk};
 ghost use Rattle.elf_image.specs.Start.{start_of};
 ghost use Rattle.guest_cli.specs.FlatRuns.{TellsFlatRun};
 
+use debug_session::SessionFault;
 use elf_image::Image;
 use flat_machine::End;
 use image_files::Fault;
 use std::alloc::Global;
-use std::io::Write;
+use std::io::{Read, Write};
 
 /// What runs a program on frames.
 pub trait FrameMachine {
+    ghost use Rattle.std.specs.Prelude.{ℕ, List, Option, Result};
+    ghost use Rattle.elf_image.specs.Image.{ImageContent};
+    ghost use Rattle.debug_session.specs.declared.conversation.SessionFault.{SessionFault};
+
+    /// What a debugger on so many frames, of an image on an input, answers lines with: with these lines to read, and this output before
+    /// and behind, it ends so.
+    ghost debugs: { ℕ → ImageContent → List ℕ → Option (List ℕ) → Option (List ℕ) → Option (List ℕ)
+        → Result (Unit {0}) SessionFault → Type 0 };
+
     /// Runs an image on an input on so many frames, 4 to 4096, up to so many steps, writes what the program wrote once it has ended, and
     /// tells how it ended and after how many steps: a run of the flat machine says the same.
     fn run<'a, W: Write>(
@@ -25,4 +35,19 @@ pub trait FrameMachine {
     ) -> Result<(End, u64), Fault<'a>>
         ensures { IfOk result (λ done. TellsFlatRun (start_of image input.items)
             (W.contents out.old) (W.contents out.new) done.0 done.1) };
+
+    /// Answers lines with a debugger of an image on an input, on so many frames.
+    fn debug<I: Read + Drop, W: Write>(
+        &self,
+        alloc: Global,
+        frames: u32,
+        image: Image,
+        input: Vec<u8>,
+        lines: I,
+        out: &mut W,
+    ) -> Result<(), SessionFault>
+        requires least { 4 ≤ frames }
+        requires most { frames ≤ 4096 }
+        ensures { debugs frames image input.items (I.remaining lines) (W.contents out.old)
+            (W.contents out.new) result };
 }

@@ -68,7 +68,7 @@ where
         Request::Run(request) => run_run(rt, machine, request, input, out, err),
         Request::Trace(request) => run_trace(rt, request, input, out),
         Request::Profile(request) => run_profile(rt, request, input, out),
-        Request::Debug(request) => run_debug(rt, request, input, out),
+        Request::Debug(request) => run_debug(rt, machine, request, input, out),
     }
 }
 

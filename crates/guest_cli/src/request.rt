@@ -46,6 +46,8 @@ pub(crate) struct ProfileRequest<'a> {
 /// Answer the lines of a debugger.
 #[derive(Clone, Copy, Debug)]
 pub(crate) struct DebugRequest<'a> {
+    /// How many frames, 4 to 4096; None: flat memory.
+    pub(crate) frames: Option<u32>,
     /// The file whose bytes the program reads, if there is one.
     pub(crate) input: Option<&'a str>,
     pub(crate) image: &'a str,

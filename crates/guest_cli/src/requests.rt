@@ -66,6 +66,7 @@ fn profile_request<'a>(matches: &ArgMatches<'a>) -> Result<ProfileRequest<'a>, F
 
 fn debug_request<'a>(matches: &ArgMatches<'a>) -> Result<DebugRequest<'a>, Fault<'a>> {
     Ok(DebugRequest {
+        frames: frames(matches)?,
         input: matches.get_str("input"),
         image: image(matches)?,
     })
@@ -78,7 +79,9 @@ fn image<'a>(matches: &ArgMatches<'a>) -> Result<&'a str, Fault<'a>> {
     }
 }
 
-fn frames<'a>(matches: &ArgMatches<'a>) -> Result<Option<u32>, Fault<'a>> {
+fn frames<'a>(matches: &ArgMatches<'a>) -> Result<Option<u32>, Fault<'a>>
+    ensures { IfOk result (λ found. IfSome found (λ frames. (4 ≤ frames) × (frames ≤ 4096))) }
+{
     number(matches, "frames", 4, 4096)
 }
 

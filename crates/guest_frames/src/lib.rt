@@ -4,18 +4,26 @@
 mod machine;
 
 use crate::machine::run_on_frames;
+use debug_session::SessionFault;
 use elf_image::Image;
 use flat_machine::End;
 use guest_cli::FrameMachine;
 use image_files::Fault;
+use serial_commands::debug_on;
 use std::alloc::Global;
-use std::io::Write;
+use std::io::{Read, Write};
 
 /// The machine that brings pages in and lets them go by CLOCK-Pro.
 #[derive(Clone, Copy, Debug)]
 pub struct PagedMachine;
 
 impl FrameMachine for PagedMachine {
+    ghost use Rattle.std.specs.Prelude.{Some};
+    ghost use Rattle.serial_commands.specs.Debugged.{ConversesOver, IfLinesEnd};
+
+    ghost debugs = { λ frames image given lines old new result.
+        IfLinesEnd result (ConversesOver (Some frames) image given lines old new) };
+
     fn run<'a, W: Write>(
         &self,
         alloc: Global,
@@ -26,5 +34,17 @@ impl FrameMachine for PagedMachine {
         out: &mut W,
     ) -> Result<(End, u64), Fault<'a>> {
         run_on_frames(alloc, frames, image, input, limit, out)
+    }
+
+    fn debug<I: Read + Drop, W: Write>(
+        &self,
+        alloc: Global,
+        frames: u32,
+        image: Image,
+        input: Vec<u8>,
+        lines: I,
+        out: &mut W,
+    ) -> Result<(), SessionFault> {
+        debug_on(alloc, Some(frames), image, input, lines, out)
     }
 }

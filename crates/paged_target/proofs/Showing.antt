@@ -153,26 +153,26 @@ module _ {S : Type 0} (held : S → List ℕ) where
 
 -- ---- a machine that begins
 
-starts_alone : (image : ImageContent) (start : Start) → slice_get (start_of image [] ∷ []) 0 ≡ Some start → start_of image [] ≡ start
-starts_alone image start e = cc
+starts_alone : (image : ImageContent) (input : List ℕ) (start : Start) → slice_get (start_of image input ∷ []) 0 ≡ Some start → start_of image input ≡ start
+starts_alone image input start e = cc
 
 module _ {S : Type 0} where
-  begun_flat : (image : ImageContent) (start : Start) (side : SpaceValue S) → start_of image [] ≡ start → Begins 0 start side → flat_of side ≡ opening image []
+  begun_flat : (image : ImageContent) (input : List ℕ) (start : Start) (side : SpaceValue S) → start_of image input ≡ start → Begins 0 start side → flat_of side ≡ opening image input
   unfolding flat_run
-  begun_flat image start side same begins =
+  begun_flat image input start side same begins =
       let image_is : side.image ≡ image = begins.image ∙ ap (λ (s : Start). s.image) (sym same) in
-      let input_is : side.input ≡ [] = begins.input ∙ ap (λ (s : Start). s.input) (sym same) in
+      let input_is : side.input ≡ input = begins.input ∙ ap (λ (s : Start). s.input) (sym same) in
       ap (λ l. unwrap_or (flat_run (written_out l) (opening side.image side.input)) no_process) begins.schedule
       ∙ ap (λ (i : ImageContent). opening i side.input) image_is ∙ ap (opening image) input_is
 
-  pub begins_flat : (image : ImageContent) (starts : List Start) (core : CoreValue S) → starts ≡ start_of image [] ∷ [] → AllBegin starts core.processes → flat_at core ≡ opening image []
-  begins_flat image starts core alone all =
+  pub begins_flat : (image : ImageContent) (input : List ℕ) (starts : List Start) (core : CoreValue S) → starts ≡ start_of image input ∷ [] → AllBegin starts core.processes → flat_at core ≡ opening image input
+  begins_flat image input starts core alone all =
       let is = subst (λ l. AllBegin l core.processes) alone all in
       let first = is.each 0 (omega arith) in
-      ap flat_in first.found ∙ begun_flat image first.start first.process (starts_alone image first.start first.given) first.begins
+      ap flat_in first.found ∙ begun_flat image input first.start first.process (starts_alone image input first.start first.given) first.begins
 
-  pub begins_there : (image : ImageContent) (starts : List Start) (core : CoreValue S) → starts ≡ start_of image [] ∷ [] → AllBegin starts core.processes → IsSome (slice_get core.processes 0)
-  begins_there image starts core alone all =
+  pub begins_there : (image : ImageContent) (input : List ℕ) (starts : List Start) (core : CoreValue S) → starts ≡ start_of image input ∷ [] → AllBegin starts core.processes → IsSome (slice_get core.processes 0)
+  begins_there image input starts core alone all =
       let is = subst (λ l. AllBegin l core.processes) alone all in
       let first = is.each 0 (omega arith) in
       subst IsSome (sym first.found) cc

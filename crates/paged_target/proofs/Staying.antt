@@ -362,13 +362,13 @@ module _ {S : Type 0} where
 
   -- ---- a machine that begins
 
-  pub begins_intact : (image : ImageContent) (starts : List Start) (core : CoreValue S) → starts ≡ start_of image [] ∷ [] → AllBegin starts core.processes → IsIntact core
-  begins_intact image starts core alone all number given =
+  pub begins_intact : (image : ImageContent) (input : List ℕ) (starts : List Start) (core : CoreValue S) → starts ≡ start_of image input ∷ [] → AllBegin starts core.processes → IsIntact core
+  begins_intact image input starts core alone all number given =
       let first = (subst (λ l. AllBegin l core.processes) alone all).each 0 (omega arith) in
       fresh_none (opening_pages first.start.image.pages) first.process.memory number first.begins.pages (sym (ap (option_and_then (stage_of number)) first.found) ∙ given)
 
-  pub begins_unkilled : (image : ImageContent) (starts : List Start) (core : CoreValue S) → starts ≡ start_of image [] ∷ [] → AllBegin starts core.processes → IsUnkilled core
-  begins_unkilled image starts core alone all =
+  pub begins_unkilled : (image : ImageContent) (input : List ℕ) (starts : List Start) (core : CoreValue S) → starts ≡ start_of image input ∷ [] → AllBegin starts core.processes → IsUnkilled core
+  begins_unkilled image input starts core alone all =
       let first = (subst (λ l. AllBegin l core.processes) alone all).each 0 (omega arith) in
       subst IsUnkilledIn (sym first.found)
       (own_none first.process.running.ending (ap (λ (r : RunningValue). r.ending) first.begins.running ∙ opens_unended first.start.image first.start.input))

@@ -51,7 +51,7 @@ impl<L: Ledger, C: Clock> Model for PagedTarget<L, C> {
 }
 
 impl<L: Ledger, C: Clock> PagedTarget<L, C> {
-    /// A process that is to run an image, without input, on 4 to 4096 frames and on these slots. The ledger has one part for each
+    /// A process that is to run an image on an input, on 4 to 4096 frames and on these slots. The ledger has one part for each
     /// frame, and one for the pager itself.
     pub fn new(
         alloc: Global,
@@ -59,18 +59,19 @@ impl<L: Ledger, C: Clock> PagedTarget<L, C> {
         blank: Blank,
         slots: Vec<MemorySlot>,
         image: Image,
+        input: Vec<u8>,
     ) -> Result<Self, AllocError>
         requires name { blank.name ≡ L.name }
         requires parts { blank.parts ≡ L.parts }
         requires one_each { L.parts ≡ frames + 1 }
         requires least { 4 ≤ frames }
         requires most { frames ≤ 4096 }
-        ensures opens { IfOk result (λ target. shown_of target ≡ opening image []) }
+        ensures opens { IfOk result (λ target. shown_of target ≡ opening image input.items) }
         ensures begins { IfOk result (λ target. MachineBegins frames slots.items
-            (start_of image [] ∷ []) target.core) }
+            (start_of image input.items ∷ []) target.core) }
     {
         let mut processes = Vec::new(alloc);
-        processes.push((image, Vec::new(alloc)))?;
+        processes.push((image, input))?;
         match Core::new(alloc, frames, blank, slots, processes) {
             Ok(core) => Ok(PagedTarget { core, full: false }),
             Err(_) => Err(AllocError),

@@ -40,7 +40,8 @@ pub fn run_debug<'a, R: Folder + AllocGlobal, I: Read + Drop, W: Write>(
         (W.contents out.new) (Err (BadLine number)))) }
 {
     let image = read_image(rt, request.image)?;
-    match debug_on(rt.alloc(), request.frames, image, input, out) {
+    let none = Vec::new(rt.alloc());
+    match debug_on(rt.alloc(), request.frames, image, none, input, out) {
         Ok(()) => Ok(()),
         Err(fault) => Err(fault_of(fault)),
     }
@@ -58,23 +59,25 @@ fn fault_of<'a>(fault: SessionFault) -> Fault<'a>
     }
 }
 
-/// On flat memory, or on so many frames.
-fn debug_on<I: Read + Drop, W: Write>(
+/// Answers the lines of an input with a debugger of a new process, which runs an image on an input of its own: on flat memory, or on so
+/// many frames. It ends with the lines, or at one that is bad, which is then the fault.
+pub fn debug_on<I: Read + Drop, W: Write>(
     alloc: Global,
     frames: Option<u32>,
     image: Image,
+    given: Vec<u8>,
     input: I,
     out: &mut W,
 ) -> Result<(), SessionFault>
     requires { IfSome frames (IsFrom least_frames most_frames) }
-    ensures { IfLinesEnd result (ConversesOver frames image (I.remaining input)
+    ensures { IfLinesEnd result (ConversesOver frames image given.items (I.remaining input)
         (W.contents out.old) (W.contents out.new)) }
 {
     match frames {
-        None => debug_flat(alloc, &image, input, out),
+        None => debug_flat(alloc, &image, given, input, out),
         Some(frames) => {
             let blank = Blank::new(u64::from(frames) + 1);
-            debug_paged::<Brand, I, W>(alloc, frames, blank, image, input, out)
+            debug_paged::<Brand, I, W>(alloc, frames, blank, image, given, input, out)
         }
     }
 }
@@ -82,13 +85,14 @@ fn debug_on<I: Read + Drop, W: Write>(
 fn debug_flat<I: Read + Drop, W: Write>(
     alloc: Global,
     image: &Image,
+    given: Vec<u8>,
     input: I,
     out: &mut W,
 ) -> Result<(), SessionFault>
-    ensures { IfLinesEnd result (ConversesOver None image.now (I.remaining input)
+    ensures { IfLinesEnd result (ConversesOver None image.now given.items (I.remaining input)
         (W.contents out.old) (W.contents out.new)) }
 {
-    let Ok(process) = FlatProcess::new(alloc, image, Vec::new(alloc)) else {
+    let Ok(process) = FlatProcess::new(alloc, image, given) else {
         return Err(SessionFault::NoMemory);
     };
     debug(alloc, process, input, out)
@@ -99,6 +103,7 @@ fn debug_paged<L: Ledger, I: Read + Drop, W: Write>(
     frames: u32,
     blank: Blank,
     image: Image,
+    given: Vec<u8>,
     input: I,
     out: &mut W,
 ) -> Result<(), SessionFault>
@@ -107,13 +112,14 @@ fn debug_paged<L: Ledger, I: Read + Drop, W: Write>(
     requires one_each { L.parts ≡ frames + 1 }
     requires least { 4 ≤ frames }
     requires most { frames ≤ 4096 }
-    ensures { IfLinesEnd result (ConversesOver (Some frames) image (I.remaining input)
+    ensures { IfLinesEnd result (ConversesOver (Some frames) image given.items (I.remaining input)
         (W.contents out.old) (W.contents out.new)) }
 {
     let Ok(slots) = memory_slots(alloc, SLOTS) else {
         return Err(SessionFault::NoMemory);
     };
-    let Ok(target) = PagedTarget::<L, ClockRing>::new(alloc, frames, blank, slots, image) else {
+    let Ok(target) = PagedTarget::<L, ClockRing>::new(alloc, frames, blank, slots, image, given)
+    else {
         return Err(SessionFault::NoMemory);
     };
     debug(alloc, target, input, out)

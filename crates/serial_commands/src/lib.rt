@@ -9,7 +9,7 @@ mod replies;
 mod serial_command;
 
 pub use clock_command::run_clock;
-pub use debug_command::run_debug;
+pub use debug_command::{debug_on, run_debug};
 pub use drive_command::run_drive;
 pub use machine::new_machine;
 pub use serial_command::run_serially;

@@ -1,6 +1,4 @@
--- The debugger's process is that of the image, on no input.
-use Rattle.std.proofs.Common.{◌∙◌, ap}
-use Rattle.flat_machine.specs.Process.{opening}
+-- The debugger's process is that of the image and its input.
 use Rattle.serial_commands.proofs.LinesEnd.{lines_end}
 use Rattle.serial_commands.proofs.debug_command.debug_flat.Goals as goal
 
@@ -10,7 +8,7 @@ returns g c =
     lines_end c.debug.result _ (record {
       target = c.in-Ok.process;
       begun = tt {0};
-      opens = c.in-Ok.ensures ∙ ap (opening c.args.image.now) c.new.ensures.items;
+      opens = c.in-Ok.ensures;
       end = conversed.0;
       conversed = conversed.1;
     })

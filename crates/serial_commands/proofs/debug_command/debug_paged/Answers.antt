@@ -1,4 +1,4 @@
--- The debugger's machine is as large as was asked for, and runs the image on no input.
+-- The debugger's machine is as large as was asked for, and runs the image on its input.
 use Rattle.serial_commands.proofs.Begun.{begins_on}
 use Rattle.serial_commands.proofs.LinesEnd.{lines_end}
 use Rattle.serial_commands.proofs.debug_command.debug_paged.Goals as goal

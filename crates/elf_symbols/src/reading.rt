@@ -1,34 +1,35 @@
 //! Numbers in the bytes of a file.
 
-ghost use Rattle.std.specs.Prelude.{◌≡◌, ◌<◌, ◌≤◌, ◌+◌, IfSome, None, length};
+ghost use Rattle.std.specs.Prelude.{◌≡◌, ◌+◌, ◌≤◌, ◌<◌, ◌^◌, length, option_copied};
+ghost use Rattle.elf_symbols.specs.Sections.{bytes_at, half_at, word_at};
 
 use byteorder::{ByteOrder, LittleEndian};
 
-/// So many bytes from a place on, if they are there.
-pub(crate) fn bytes_at(file: &[u8], at: u32, count: u32) -> Option<&[u8]>
-    ensures many { IfSome result (λ bytes. length bytes.now ≡ count) }
-    ensures none { result ≡ None → length file.now < at + count }
+/// So many bytes from an offset on, if all of them are there.
+#[tactic(auto, unfolding(crate::specs::Sections::bytes_at))]
+pub(crate) fn bytes_at(bytes: &[u8], offset: usize, count: usize) -> Option<&[u8]>
+    ensures { option_copied result ≡ bytes_at offset count bytes.now }
 {
-    let start = at as usize;
-    let end = start + count as usize;
-    if end > file.len() {
+    if offset > bytes.len() || count > bytes.len() - offset {
         return None;
     }
-    Some(&file[start..end])
+    Some(&bytes[offset..offset + count])
 }
 
-/// The word at a place, if it is there.
-pub(crate) fn word_at(file: &[u8], at: u32) -> Option<u32>
-    ensures none { result ≡ None → length file.now < at + 4 }
+/// The 32-bit number at an offset.
+#[tactic(auto, unfolding(crate::specs::Sections::word_at))]
+pub(crate) fn word_at(bytes: &[u8], offset: usize) -> u32
+    requires { offset + 4 ≤ length bytes.now }
+    ensures { result ≡ word_at offset bytes.now }
 {
-    let bytes = bytes_at(file, at, 4)?;
-    Some(LittleEndian::read_u32(bytes))
+    LittleEndian::read_u32(&bytes[offset..])
 }
 
-/// The half word at a place, if it is there.
-pub(crate) fn half_at(file: &[u8], at: u32) -> Option<u16>
-    ensures none { result ≡ None → length file.now < at + 2 }
+/// The 16-bit number at an offset.
+#[tactic(auto, unfolding(crate::specs::Sections::half_at))]
+pub(crate) fn half_at(bytes: &[u8], offset: usize) -> u16
+    requires { offset + 2 ≤ length bytes.now }
+    ensures { result ≡ half_at offset bytes.now }
 {
-    let bytes = bytes_at(file, at, 2)?;
-    Some(LittleEndian::read_u16(bytes))
+    LittleEndian::read_u16(&bytes[offset..])
 }

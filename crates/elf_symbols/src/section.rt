@@ -1,18 +1,22 @@
 //! Sections of a file.
 
-ghost use Rattle.std.specs.Prelude.{◌≡◌, IfSome, length};
+ghost use Rattle.std.specs.Prelude.{◌≡◌, ◌+◌, ◌*◌, ◌<◌, ◌≤◌, find, slice_get, option_copied, option_map, length};
+ghost use Rattle.elf_symbols.specs.Sections.{headers_offset, is_symbol_table, numbered, section_bytes, section_count, sections, symbol_tables};
 
 use crate::reading::{bytes_at, half_at, word_at};
 
-/// Where the file header tells where the section headers begin, how large each is and how many there are.
-const HEADERS_AT: u32 = 32;
+/// How many bytes the file header has.
+const FILE_HEADER_SIZE: usize = 52;
 
-const HEADER_SIZE_AT: u32 = 46;
+/// Where it tells where the section headers begin, how large each is and how many there are.
+const HEADERS_AT: usize = 32;
 
-const HEADER_COUNT_AT: u32 = 48;
+const HEADER_SIZE_AT: usize = 46;
+
+const HEADER_COUNT_AT: usize = 48;
 
 /// How many bytes a section header has.
-const HEADER_SIZE: u32 = 40;
+const HEADER_SIZE: usize = 40;
 
 /// What kind of section a table of symbols is.
 const SYMBOL_TABLE: u32 = 2;
@@ -29,25 +33,30 @@ pub(crate) struct Section {
 
 impl Section {
     /// The bytes of the section, if they are there.
-    pub(crate) fn bytes(self, file: &[u8]) -> Option<&[u8]>
-        ensures { IfSome result (λ bytes. length bytes.now ≡ self.size) }
+    fn bytes(self, file: &[u8]) -> Option<&[u8]>
+        ensures { option_copied result ≡ section_bytes file.now self }
     {
-        bytes_at(file, self.offset, self.size)
+        bytes_at(file, self.offset as usize, self.size as usize)
     }
 }
 
-/// The tables of symbols and of their names, if the file has both.
-pub(crate) fn symbol_tables(file: &[u8]) -> Option<(&[u8], &[u8])> {
+/// The first table of symbols and that of its names, if the file has both.
+pub(crate) fn symbol_tables(file: &[u8]) -> Option<(&[u8], &[u8])>
+    ensures { option_map (λ tables. (tables.0.now, tables.1.now)) result ≡
+        symbol_tables file.now }
+{
     let table = symbol_section(file)?;
-    let names = section_at(file, table.link)?;
+    let names = section_of(file, table.link as usize)?;
     Some((table.bytes(file)?, names.bytes(file)?))
 }
 
 /// The first section that is a table of symbols.
-fn symbol_section(file: &[u8]) -> Option<Section> {
-    let count = half_at(file, HEADER_COUNT_AT)?;
-    for number in 0..u32::from(count) {
-        let section = section_at(file, number)?;
+#[tactic(auto, using(crate::proofs::SectionHeaders::section_found, crate::proofs::SectionHeaders::section_passed, crate::proofs::SectionHeaders::none_left))]
+fn symbol_section(file: &[u8]) -> Option<Section>
+    ensures { result ≡ find is_symbol_table (sections file.now) }
+{
+    'sections: for number in 0..section_count(file) {
+        let section = read_section(file, number);
         if section.kind == SYMBOL_TABLE {
             return Some(section);
         }
@@ -55,18 +64,53 @@ fn symbol_section(file: &[u8]) -> Option<Section> {
     None
 }
 
-/// The section header of a number.
-fn section_at(file: &[u8], number: u32) -> Option<Section> {
-    if half_at(file, HEADER_SIZE_AT)? != HEADER_SIZE as u16 || number > u32::from(u16::MAX) {
+/// The section of a number, if the file has so many.
+#[tactic(auto, using(crate::proofs::SectionHeaders::section_there, crate::proofs::SectionHeaders::section_past))]
+fn section_of(file: &[u8], number: usize) -> Option<Section>
+    ensures { result ≡ slice_get (sections file.now) number }
+{
+    if number >= section_count(file) {
         return None;
     }
-    let headers = word_at(file, HEADERS_AT)?;
-    let at = headers.checked_add(number * HEADER_SIZE)?;
-    let header = bytes_at(file, at, HEADER_SIZE)?;
-    Some(Section {
-        kind: word_at(header, 4)?,
-        offset: word_at(header, 16)?,
-        size: word_at(header, 20)?,
-        link: word_at(header, 24)?,
-    })
+    Some(read_section(file, number))
+}
+
+/// The section of a number.
+#[tactic(auto, unfolding(crate::specs::Sections::section_at))]
+fn read_section(file: &[u8], number: usize) -> Section
+    requires { number < section_count file.now }
+    ensures { result ≡ numbered file.now number }
+{
+    let header = header_place(file, number);
+    Section {
+        kind: word_at(file, header + 4),
+        offset: word_at(file, header + 16),
+        size: word_at(file, header + 20),
+        link: word_at(file, header + 24),
+    }
+}
+
+/// Where the header of a section stands.
+fn header_place(file: &[u8], number: usize) -> usize
+    requires { number < section_count file.now }
+    ensures place { result ≡ headers_offset file.now + 40 * number }
+    ensures within { result + 40 ≤ length file.now }
+{
+    word_at(file, HEADERS_AT) as usize + HEADER_SIZE * number
+}
+
+/// How many sections the file has: none where their headers do not all lie in it.
+#[tactic(auto, unfolding(crate::specs::Sections::section_count))]
+fn section_count(file: &[u8]) -> usize
+    ensures { result ≡ section_count file.now }
+{
+    if file.len() < FILE_HEADER_SIZE {
+        return 0;
+    }
+    if half_at(file, HEADER_SIZE_AT) as usize != HEADER_SIZE {
+        return 0;
+    }
+    let count = half_at(file, HEADER_COUNT_AT) as usize;
+    let end = word_at(file, HEADERS_AT) as usize + HEADER_SIZE * count;
+    if end > file.len() { 0 } else { count }
 }

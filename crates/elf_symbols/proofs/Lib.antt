@@ -1,0 +1,3 @@
+pub mod LastSymbols
+pub mod SectionHeaders
+pub mod Standing

@@ -1,7 +1,7 @@
 //! Counts by instruction, by function and by call, in the order in which they are written.
 
 use elf_symbols::Symbols;
-use guest_profile::{Call, Counts, Profile};
+use guest_profile::{CallSite, InsnTally, Profile};
 use guest_steps::{Flow, flow_of};
 use rv_isa::{Insn, decode};
 use std::alloc::{AllocError, AllocFailed, Global};
@@ -31,7 +31,7 @@ pub(crate) struct Row {
 pub(crate) struct CallRow {
     pub(crate) inside: u64,
     pub(crate) times: u64,
-    pub(crate) call: Call,
+    pub(crate) call: CallSite,
 }
 
 /// The counts of a profile.
@@ -58,7 +58,7 @@ const NOTHING: Sums = Sums {
 
 impl Sums {
     /// The counts of an instruction.
-    fn of(counts: Counts) -> Self {
+    fn of(counts: InsnTally) -> Self {
         let mut sums = NOTHING;
         sums.steps = counts.steps;
         let Some(insn) = decode(counts.word) else {

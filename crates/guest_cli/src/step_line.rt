@@ -1,7 +1,7 @@
 //! Lines of a trace.
 
 use flat_machine::{End, FlatProcess};
-use guest_steps::{Access, ToldStep, access_of, destination_of};
+use guest_steps::{DataAccess, ToldStep, access_of, destination_of};
 use rv_exec::Regs;
 use rv_isa::{Insn, decode};
 use std::io;
@@ -69,7 +69,7 @@ fn write_register<O: Write>(insn: Insn, after: &Regs, out: &mut O) -> io::Result
 }
 
 /// The address of a load; of a store also the bytes that stand there then.
-fn write_access<O: Write>(access: Access, process: &FlatProcess, out: &mut O) -> io::Result<()> {
+fn write_access<O: Write>(access: DataAccess, process: &FlatProcess, out: &mut O) -> io::Result<()> {
     let address = access.address;
     write!(out, "  [0x{address:08X}]")?;
     if !access.is_store {

@@ -1,24 +1,27 @@
 -- How often instructions ran.
-use Rattle.std.specs.Prelude.{ℕ, ◌+◌, ◌-◌, ◌^◌, ◌==◌, min, Bool, cond, Option, Some, None, nat_eq, unwrap_or}
+use Rattle.std.specs.Prelude.{ℕ, ◌+◌, ◌-◌, ◌^◌, ◌==◌, min, Bool, cond, Option, Some, is_some, nat_eq, unwrap_or}
 use Rattle.std.specs.HashMap.{get}
-use Rattle.guest_profile.specs.declared.counts.Counts.{Counts}
-use Rattle.guest_profile.specs.declared.counts.InsnCounts.{InsnCounts}
+use Rattle.guest_profile.specs.declared.insn_counts.InsnTally.{InsnTally}
+use Rattle.guest_profile.specs.declared.insn_counts.InsnCounts.{InsnCounts}
 
 -- the counts of the instruction at an address, where it ran
-abbrev pub counts_of : InsnCounts → ℕ → Option Counts
+abbrev pub counts_of : InsnCounts → ℕ → Option InsnTally
 counts_of counts at = get nat_eq counts.counts at
+
+abbrev pub has_run : InsnCounts → ℕ → Bool
+has_run counts at = is_some (counts_of counts at)
 
 -- one more, up to the largest number that there is room for
 abbrev pub more : ℕ → ℕ → ℕ
 more count by = min (count + by) (2 ^ 64 - 1)
 
-abbrev pub one_more : Bool → Counts → Counts
+abbrev pub one_more : Bool → InsnTally → InsnTally
 one_more is_taken counts = record counts { steps = more counts.steps 1; taken = more counts.taken (cond is_taken 1 0) }
 
 -- the counts of an instruction that has not run
-abbrev pub none_yet : ℕ → Counts
+abbrev pub none_yet : ℕ → InsnTally
 none_yet word = record { steps = 0; taken = 0; word = word }
 
 -- the counts at an address after a step of the instruction at another one, or at this one
-abbrev pub counted : ℕ → ℕ → Bool → ℕ → Option Counts → Option Counts
+abbrev pub counted : ℕ → ℕ → Bool → ℕ → Option InsnTally → Option InsnTally
 counted address word is_taken at counts = cond (at == address) (Some (one_more is_taken (unwrap_or counts (none_yet word)))) counts

@@ -1,12 +1,14 @@
 //! How often each instruction of a program ran, and who called whom.
 #![tactic(auto)]
 
-mod call;
+mod call_counts;
+mod call_site;
 mod call_stack;
-mod counts;
-mod pages;
+mod insn_counts;
 mod profile;
+mod stacks;
+mod used_pages;
 
-pub use call::{Call, CallCount};
-pub use counts::{Counts, InsnCounts};
+pub use call_site::{CallCount, CallSite};
+pub use insn_counts::{InsnCounts, InsnTally};
 pub use profile::Profile;

@@ -8,7 +8,7 @@ use Rattle.rv_isa.specs.declared.kinds.StoreKind.{StoreKind}
 use Rattle.rv_exec.specs.Registers.{Registers, register}
 use Rattle.rv_exec.specs.Access.{load_width, store_width}
 use Rattle.rv_exec.specs.Line.{address_at}
-use Rattle.guest_steps.specs.declared.access.Access.{Access}
+use Rattle.guest_steps.specs.declared.access.DataAccess.{DataAccess}
 
 abbrev pub bytes_loaded : LoadKind → ℕ
 bytes_loaded kind = bytes_in (load_width kind)
@@ -17,11 +17,11 @@ abbrev pub bytes_stored : StoreKind → ℕ
 bytes_stored kind = bytes_in (store_width kind)
 
 -- the word to which a register leads
-abbrev pub word_at : Registers → ℕ → Bool → Access
+abbrev pub word_at : Registers → ℕ → Bool → DataAccess
 word_at regs rs1 is_store = record { address = register regs rs1; bytes = 4; is_store = is_store }
 
 -- the bytes that an instruction loads or stores
-abbrev pub accessed : Registers → Insn → Option Access
+abbrev pub accessed : Registers → Insn → Option DataAccess
 accessed regs (Load kind rd rs1 offset) = Some (record { address = address_at regs rs1 offset; bytes = bytes_loaded kind; is_store = false })
 accessed regs (Store kind rs1 rs2 offset) = Some (record { address = address_at regs rs1 offset; bytes = bytes_stored kind; is_store = true })
 accessed regs (Amo kind acquire release rd rs1 rs2) = Some (word_at regs rs1 true)

@@ -9,14 +9,14 @@ use rv_isa::{Immediate, Insn, LoadKind, Reg, StoreKind};
 
 /// A load or a store: so many bytes from an address on.
 #[derive(Clone, Copy, Debug, PartialEq, Eq)]
-pub struct Access {
+pub struct DataAccess {
     pub address: u32,
     pub bytes: u32,
     pub is_store: bool,
 }
 
 /// What an instruction loads or stores at these registers, if it may. An atomic operation and SC.W are stores.
-pub fn access_of(regs: &Regs, insn: Insn) -> Option<Access>
+pub fn access_of(regs: &Regs, insn: Insn) -> Option<DataAccess>
     ensures { result ≡ accessed regs.now insn }
 {
     match insn {
@@ -25,7 +25,7 @@ pub fn access_of(regs: &Regs, insn: Insn) -> Option<Access>
             rd: _,
             rs1,
             offset,
-        } => Some(Access {
+        } => Some(DataAccess {
             address: address_at(regs, rs1, offset),
             bytes: bytes_of_load(kind),
             is_store: false,
@@ -35,7 +35,7 @@ pub fn access_of(regs: &Regs, insn: Insn) -> Option<Access>
             rs1,
             rs2: _,
             offset,
-        } => Some(Access {
+        } => Some(DataAccess {
             address: address_at(regs, rs1, offset),
             bytes: bytes_of_store(kind),
             is_store: true,
@@ -90,10 +90,10 @@ pub fn destination_of(insn: Insn) -> Option<Reg>
 }
 
 /// The word to which a register leads.
-fn word_at(regs: &Regs, rs1: Reg, is_store: bool) -> Access
+fn word_at(regs: &Regs, rs1: Reg, is_store: bool) -> DataAccess
     ensures { result ≡ word_at regs.now rs1 is_store }
 {
-    Access {
+    DataAccess {
         address: regs.read(rs1),
         bytes: 4,
         is_store,

@@ -8,7 +8,7 @@ mod step;
 mod step_string;
 mod told_step;
 
-pub use access::{Access, access_of, destination_of};
+pub use access::{DataAccess, access_of, destination_of};
 pub use flow::{Flow, flow_of};
 pub use run::run_turns;
 pub use step_string::StepString;

@@ -2,7 +2,7 @@
 
 /// A place that calls, and where it jumps to.
 #[derive(Clone, Copy, Debug, PartialEq, Eq, PartialOrd, Ord, Hash)]
-pub struct Call {
+pub struct CallSite {
     pub site: u32,
     pub callee: u32,
 }
@@ -11,7 +11,8 @@ pub struct Call {
 #[derive(Clone, Copy, Debug, PartialEq, Eq)]
 pub struct CallCount {
     pub times: u64,
+    /// The steps of a call within the same call are counted once.
     pub inside: u64,
     /// How many of them have not returned.
-    pub(crate) open: u32,
+    pub(crate) pending: u32,
 }

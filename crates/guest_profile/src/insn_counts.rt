@@ -1,15 +1,18 @@
 //! How often instructions ran.
 
-ghost use Rattle.std.specs.Prelude.{◌≡◌, ℕ, Some, OnOk};
-ghost use Rattle.std.specs.HashMap.{get};
-ghost use Rattle.guest_profile.specs.Counting.{counted, counts_of, one_more};
+ghost use Rattle.std.specs.Prelude.{◌≡◌, ◌↔◌, ℕ, None, Some, IfOk, IsTrue, OnOk, nat_eq};
+ghost use Rattle.std.specs.HashMap.{IsUnique, keys};
+ghost use Rattle.std.specs.List.Sorted.{IsSorted};
+ghost use Rattle.std.specs.Ordering.{nat_cmp};
+ghost use Rattle.guest_profile.specs.Counting.{counted, counts_of, has_run, one_more};
+ghost use Rattle.guest_profile.specs.Listed.{AreAll, AreSoMany};
 
 use std::alloc::{AllocError, AllocFailed, Global};
 use std::collections::HashMap;
 
 /// What is counted of an instruction.
 #[derive(Clone, Copy, Debug, PartialEq, Eq)]
-pub struct Counts {
+pub struct InsnTally {
     /// How often it ran.
     pub steps: u64,
     /// How often the program went on elsewhere than behind it.
@@ -21,11 +24,13 @@ pub struct Counts {
 /// The counts of instructions, by their addresses.
 #[derive(Drop)]
 pub struct InsnCounts {
-    pub(crate) counts: HashMap<u32, Counts>,
+    counts: HashMap<u32, InsnTally>,
 }
 
 impl InsnCounts {
-    pub(crate) fn new(alloc: Global) -> Self {
+    pub(crate) fn new(alloc: Global) -> Self
+        ensures { (at : ℕ) → counts_of result at ≡ None }
+    {
         InsnCounts {
             counts: HashMap::new(alloc),
         }
@@ -43,7 +48,7 @@ impl InsnCounts {
     {
         let counts = match self.counts.get(&address) {
             Some(counts) => *counts,
-            None => Counts {
+            None => InsnTally {
                 steps: 0,
                 taken: 0,
                 word,
@@ -55,34 +60,48 @@ impl InsnCounts {
     }
 
     /// How many instructions ran, each counted once.
-    pub fn len(&self) -> usize {
+    pub fn len(&self) -> usize
+        ensures { AreSoMany nat_eq (has_run self.now) result }
+    {
         self.counts.len()
     }
 
     /// Whether none ran.
-    pub fn is_empty(&self) -> bool {
+    pub fn is_empty(&self) -> bool
+        ensures { IsTrue result ↔ ((at : ℕ) → counts_of self.now at ≡ None) }
+    {
         self.counts.is_empty()
     }
 
     /// The counts of an instruction that ran.
-    pub fn at(&self, address: u32) -> Option<Counts>
+    pub fn at(&self, address: u32) -> Option<InsnTally>
         ensures { result ≡ counts_of self.now address }
     {
         self.counts.get(&address).copied()
     }
 
     /// The addresses of the instructions that ran, by rising number.
-    pub fn addresses(&self, alloc: Global) -> Result<Vec<u32>, AllocError> {
-        let mut addresses: Vec<u32> = self.counts.keys().copied().collect(alloc)?;
+    pub fn addresses(&self, alloc: Global) -> Result<Vec<u32>, AllocError>
+        ensures rising { IfOk result (λ addresses. IsSorted nat_cmp addresses.items) }
+        ensures all { IfOk result (λ addresses. AreAll nat_eq (has_run self.now) addresses.items) }
+    {
+        let mut addresses = self.keys(alloc)?;
         addresses.sort_unstable();
         Ok(addresses)
     }
+
+    fn keys(&self, alloc: Global) -> Result<Vec<u32>, AllocError>
+        ensures keys { IfOk result (λ all. all.items ≡ keys self.now.counts) }
+        ensures unique { IsUnique nat_eq self.now.counts }
+    {
+        self.counts.keys().copied().collect(alloc)
+    }
 }
 
-fn one_more(counts: Counts, is_taken: bool) -> Counts
+fn one_more(counts: InsnTally, is_taken: bool) -> InsnTally
     ensures { result ≡ one_more is_taken counts }
 {
-    Counts {
+    InsnTally {
         steps: counts.steps.saturating_add(1),
         taken: counts.taken.saturating_add(u64::from(is_taken)),
         word: counts.word,

@@ -1,0 +1,5 @@
+pub mod CountedSteps
+pub mod EndedHarts
+pub mod FollowedHarts
+pub mod ListedKeys
+pub mod PendingCalls

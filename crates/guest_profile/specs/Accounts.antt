@@ -1,0 +1,78 @@
+-- What is counted of the steps of a process.
+use Rattle.std.specs.Prelude.{◌≡◌, ℕ, ◌==◌, Bool, not, List, [], ◌∷◌, map, replicate, slice_get, Option, Some, None, Result, Ok, Err}
+use Rattle.page_memory.specs.declared.fault.MemoryFault.{MemoryFault}
+use Rattle.rv_isa.specs.declared.instruction.Insn.{Insn}
+use Rattle.rv_isa.specs.Table.{insn_of}
+use Rattle.rv_exec.specs.Registers.{next_pc}
+use Rattle.guest_steps.specs.Accesses.{accessed}
+use Rattle.guest_steps.specs.Flows.{flow_of}
+use Rattle.guest_steps.specs.declared.told_step.ToldStep.{ToldStep}
+use Rattle.guest_profile.specs.Calls.{HartCalls, no_calls, hart_call_after, followed, all_ended, none_pending, calls_of, hart_calls}
+use Rattle.guest_profile.specs.Counting.{counted, counts_of}
+use Rattle.guest_profile.specs.Pages.{used_by}
+use Rattle.guest_profile.specs.UsedPagesOf.{use_of}
+use Rattle.guest_profile.specs.declared.call_site.CallCount.{CallCount}
+use Rattle.guest_profile.specs.declared.call_site.CallSite.{CallSite}
+use Rattle.guest_profile.specs.declared.insn_counts.InsnTally.{InsnTally}
+use Rattle.guest_profile.specs.declared.profile.Profile.{Profile}
+
+-- of each instruction by its address, of each call, of each page whether it was stored to, where it was used, and of each hart the calls
+-- that have not returned
+pub record Account : Type 0 where
+  pub insns : ℕ → Option InsnTally
+  pub calls : CallSite → Option CallCount
+  pub pages : ℕ → Option Bool
+  pub harts : List HartCalls
+
+-- before the first step
+abbrev pub nothing : Account
+nothing = record { insns = λ at. None; calls = λ site. None; pages = λ page. None; harts = replicate 8 no_calls }
+
+-- a step as a call: where it is, and where its hart goes on
+abbrev pub step_call : ToldStep → CallSite
+step_call told = record { site = told.before.pc; callee = told.after.pc }
+
+-- whether a hart goes on elsewhere than behind its instruction
+abbrev pub is_taken : ToldStep → Bool
+is_taken told = not (told.after.pc == next_pc told.before)
+
+-- a step of an instruction's word
+abbrev pub insns_after : ToldStep → ℕ → ℕ → Option InsnTally → Option InsnTally
+insns_after told word at tally = counted told.before.pc word (is_taken told) at tally
+
+-- A step of the instruction that the word is. A word that is none counts alone: its step is a trap.
+abbrev pub after_insn : Option Insn → ℕ → ToldStep → Account → Account
+after_insn None word told account =
+    record { insns = λ at. insns_after told word at (account.insns at); calls = account.calls; pages = account.pages; harts = account.harts }
+after_insn (Some insn) word told account =
+    record {
+      insns = λ at. insns_after told word at (account.insns at);
+      calls = λ site. hart_call_after (slice_get account.harts told.hart) (flow_of insn) (step_call told) site (account.calls site);
+      pages = λ page. used_by (accessed told.before insn) page (account.pages page);
+      harts = followed told.hart (flow_of insn) (step_call told) account.harts;
+    }
+
+-- a step, of which the fetch gave this; where it gave no word, none of an instruction
+abbrev pub after_fetch : Result ℕ MemoryFault → ToldStep → Account → Account
+after_fetch (Err fault) told account = account
+after_fetch (Ok word) told account = after_insn (insn_of word) word told account
+
+-- what is counted after one more step
+unfoldable pub after : ToldStep → Account → Account
+after told account = after_fetch told.word told account
+
+-- and when the run is over: all calls have returned
+unfoldable pub closed : Account → Account
+closed account = record { insns = account.insns; calls = λ site. all_ended account.harts site (account.calls site); pages = account.pages; harts = map none_pending account.harts }
+
+-- what is counted of some steps, one after the other, after what was counted before
+unfoldable pub after_all : List ToldStep → Account → Account
+after_all [] account = account
+after_all (told ∷ later) account = after_all later (after told account)
+
+-- a profile is this account
+pub record IsAccount (profile : Profile) (account : Account) : Type 0 where
+  pub insns : (at : ℕ) → counts_of profile.insns at ≡ account.insns at
+  pub calls : (site : CallSite) → calls_of profile.calls site ≡ account.calls site
+  pub pages : (page : ℕ) → use_of profile.pages page ≡ account.pages page
+  pub harts : map hart_calls profile.stacks.items ≡ account.harts

@@ -1,0 +1,120 @@
+//! What is counted of each call.
+
+ghost use Rattle.std.specs.Prelude.{◌≡◌, IfOk, None, OnOk, if◌then◌else◌};
+ghost use Rattle.std.specs.HashMap.{IsUnique, keys};
+ghost use Rattle.std.specs.List.Sorted.{IsSorted};
+ghost use Rattle.guest_profile.specs.declared.call_site.CallSite.{CallSite};
+ghost use Rattle.guest_profile.specs.Calls.{begun, begun_count, call_cmp, call_known, ended_call, ended_count, calls_of, is_call, was_made};
+ghost use Rattle.guest_profile.specs.Listed.{AreAll};
+
+use crate::call_site::{CallCount, CallSite};
+use crate::call_stack::PendingCall;
+use std::alloc::{AllocError, AllocFailed, Global};
+use std::collections::HashMap;
+
+/// What is counted of each call.
+#[derive(Drop)]
+pub(crate) struct CallCounts {
+    counts: HashMap<CallSite, CallCount>,
+}
+
+impl CallCounts {
+    pub(crate) fn new(alloc: Global) -> Self
+        ensures { (site : CallSite) → calls_of result site ≡ None }
+    {
+        CallCounts {
+            counts: HashMap::new(alloc),
+        }
+    }
+
+    /// A call is made.
+    pub(crate) fn begin(&mut self, call: CallSite) -> Result<(), AllocError>
+        ensures { OnOk result ((site : CallSite) → calls_of self.new site ≡
+            begun call site (calls_of self.old site)) }
+    {
+        let count = begun_count(self.known(call));
+        self.set(call, count)
+    }
+
+    /// A call has returned, after so many steps of its hart.
+    pub(crate) fn end(&mut self, ended: PendingCall, steps: u64) -> Result<(), AllocError>
+        ensures { OnOk result ((site : CallSite) → calls_of self.new site ≡
+            ended_call steps ended site (calls_of self.old site)) }
+    {
+        let inside = steps.saturating_sub(ended.begun);
+        let count = ended_count(inside, self.known(ended.call));
+        self.set(ended.call, count)
+    }
+
+    /// What is counted of a call that was made.
+    pub(crate) fn at(&self, call: CallSite) -> Option<CallCount>
+        ensures { result ≡ calls_of self.now call }
+    {
+        self.counts.get(&call).copied()
+    }
+
+    /// The calls that were made, by rising site.
+    pub(crate) fn sites(&self, alloc: Global) -> Result<Vec<CallSite>, AllocError>
+        ensures rising { IfOk result (λ sites. IsSorted call_cmp sites.items) }
+        ensures all { IfOk result (λ sites. AreAll is_call (was_made self.now) sites.items) }
+    {
+        let mut sites = self.keys(alloc)?;
+        sites.sort_unstable();
+        Ok(sites)
+    }
+
+    fn keys(&self, alloc: Global) -> Result<Vec<CallSite>, AllocError>
+        ensures keys { IfOk result (λ all. all.items ≡ keys self.now.counts) }
+        ensures unique { IsUnique is_call self.now.counts }
+    {
+        self.counts.keys().copied().collect(alloc)
+    }
+
+    /// What is counted of a call.
+    fn known(&self, call: CallSite) -> CallCount
+        ensures { result ≡ call_known (calls_of self.now call) }
+    {
+        match self.counts.get(&call) {
+            Some(count) => *count,
+            None => CallCount {
+                times: 0,
+                inside: 0,
+                pending: 0,
+            },
+        }
+    }
+
+    fn set(&mut self, call: CallSite, count: CallCount) -> Result<(), AllocError>
+        ensures { OnOk result ((site : CallSite) → calls_of self.new site ≡
+            (if is_call call site then Some count else calls_of self.old site)) }
+    {
+        match self.counts.insert(call, count) {
+            Ok(_) => Ok(()),
+            Err(_) => Err(AllocError),
+        }
+    }
+}
+
+/// One more of the same call.
+fn begun_count(count: CallCount) -> CallCount
+    ensures { result ≡ begun_count count }
+{
+    CallCount {
+        times: count.times.saturating_add(1),
+        inside: count.inside,
+        pending: count.pending.saturating_add(1),
+    }
+}
+
+/// One of the same calls has returned. The steps of one within another are the other's.
+fn ended_count(inside: u64, count: CallCount) -> CallCount
+    ensures { result ≡ ended_count inside count }
+{
+    let pending = count.pending.saturating_sub(1);
+    let added = if pending == 0 { inside } else { 0 };
+    CallCount {
+        times: count.times,
+        inside: count.inside.saturating_add(added),
+        pending,
+    }
+}

@@ -4,7 +4,12 @@ pub mod NextPlaceLaws
 pub mod PlaceStepLaws
 pub mod LruDepths
 pub mod LruDepthLaws
+pub mod LastPlaces
+pub mod LastPlaceLaws
 pub mod OptimumCurve
+pub mod OptimumStack
+pub mod OptimumInclusion
+pub mod OptimumStackLaws
 pub mod Sampling
 pub mod WorkingSets
 pub mod WorkingSetLaws

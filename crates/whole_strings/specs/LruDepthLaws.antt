@@ -5,7 +5,6 @@ use Rattle.std.proofs.lemmas.Bool.Decides.{nat_tests}
 use Rattle.clock_policy.specs.declared.key.Key.{Key}
 use Rattle.page_policies.specs.Strings.{is_page, holds, without, misses}
 use Rattle.page_policies.specs.Queues.{lru, lru_misses}
-use Rattle.page_policies.specs.QueueLaws.{same}
 use Rattle.page_policies.specs.Ordered.{to_front}
 use Rattle.page_policies.specs.InclusionLaws.{cut_step, nothing}
 use Rattle.whole_strings.specs.LruDepths.{depth, hits_within, CountsLru, IsLruCurve}
@@ -149,10 +148,6 @@ length_front_found p (q ∷ qs) h = elim (is_page p q) as (λ b. cond b 0 (suc (
   | false ↦ λ g. ap suc (length_front_found p qs (omega (arith, g)))
 ] h
 
--- the page in a place comes to the front
-abbrev pub raised : ℕ → List Key → List Key
-raised d s = (drop d (take (d + 1) s) ++ take d (take (d + 1) s)) ++ drop (d + 1) s
-
 -- the misses with 1, 2, 3 and more frames, from those with none
 abbrev pub tails : ℕ → List ℕ → List ℕ
 tails n [] = []
@@ -224,69 +219,6 @@ falls_end at left ks all h before = sym (before ∙ whole at ks h)
     whole (suc at) [] h = refl
     whole zero (k ∷ ks) h = absurd (omega (arith, h))
     whole (suc at) (k ∷ ks) h = ap (λ (l : List ℕ). k ∷ l) (whole at ks (omega (arith, h)))
-
-pub depth_found : (at : ℕ) (p other : Key) (s : List Key) → at < length s → is_page p (slice_index_or s at other) ≡ true → depth p s ≡ at + depth p (drop at s) → at ≡ depth p s
-depth_found at p other s h is before = let e : depth p (drop at s) ≡ 0 = here at s h is in omega (arith, before, e)
-  where
-    here : (at : ℕ) (s : List Key) → at < length s → is_page p (slice_index_or s at other) ≡ true → depth p (drop at s) ≡ 0
-    here at [] h is = absurd (omega (arith, h))
-    here zero (q ∷ qs) h is = ap (λ (b : Bool). let n : ℕ = cond b 0 (suc (depth p qs)) in n) is
-    here (suc at) (q ∷ qs) h is = here at qs (omega (arith, h)) is
-
-pub depth_on : (at : ℕ) (p other : Key) (s : List Key) → at < length s → is_page p (slice_index_or s at other) ≡ false → depth p s ≡ at + depth p (drop at s) → depth p s ≡ (at + 1) + depth p (drop (at + 1) s)
-depth_on at p other s h is before =
-    let e : depth p (drop at s) ≡ suc (depth p (drop (suc at) s)) = further at s h is in
-    let f : depth p (drop (suc at) s) ≡ depth p (drop (at + 1) s) = ap (λ (k : ℕ). depth p (drop k s)) (one at) in
-    omega (arith, before, e, f)
-  where
-    one : (k : ℕ) → suc k ≡ k + 1
-    one k = omega arith
-
-    further : (at : ℕ) (s : List Key) → at < length s → is_page p (slice_index_or s at other) ≡ false → depth p (drop at s) ≡ suc (depth p (drop (suc at) s))
-    further at [] h is = absurd (omega (arith, h))
-    further zero (q ∷ qs) h is = ap (λ (b : Bool). let n : ℕ = cond b 0 (suc (depth p qs)) in n) is
-    further (suc at) (q ∷ qs) h is = further at qs (omega (arith, h)) is
-
-pub depth_end : (at : ℕ) (p : Key) (s : List Key) → at ≡ length s → depth p s ≡ at + depth p (drop at s) → length s ≡ depth p s
-depth_end at p s h before = let e : depth p (drop at s) ≡ 0 = ap (depth p) (gone at s h) in omega (arith, before, e, h)
-  where
-    gone : (at : ℕ) (s : List Key) → at ≡ length s → drop at s ≡ []
-    gone zero s h = none s h
-      where
-        none : (s : List Key) → 0 ≡ length s → drop 0 s ≡ []
-        none [] h = refl
-        none (q ∷ qs) h = absurd (omega (arith, h))
-    gone (suc at) [] h = refl
-    gone (suc at) (q ∷ qs) h = gone at qs (omega (arith, h))
-
-pub raised_front : (p : Key) (s : List Key) → depth p s < length s → raised (depth p s) s ≡ to_front p s
-raised_front p s h =
-    ap (λ (k : ℕ). (drop (depth p s) (take k s) ++ take (depth p s) (take k s)) ++ drop k s) (one (depth p s))
-    ∙ ap (λ (l : List Key). (l ++ take (depth p s) (take (suc (depth p s)) s)) ++ drop (suc (depth p s)) s) (only s h)
-    ∙ ap (λ (l : List Key). p ∷ (l ++ drop (suc (depth p s)) s)) (upper (depth p s) s)
-    ∙ ap (λ (l : List Key). p ∷ l) (others s h)
-  where
-    one : (k : ℕ) → k + 1 ≡ suc k
-    one k = omega arith
-
-    upper : (d : ℕ) (s : List Key) → take d (take (suc d) s) ≡ take d s
-    upper zero s = refl
-    upper (suc d) [] = refl
-    upper (suc d) (q ∷ qs) = ap (λ (l : List Key). q ∷ l) (upper d qs)
-
-    only : (s : List Key) → depth p s < length s → drop (depth p s) (take (suc (depth p s)) s) ≡ p ∷ []
-    only [] h = absurd (omega (arith, h))
-    only (q ∷ qs) h = elim (is_page p q) as (λ b. is_page p q ≡ b → cond b 0 (suc (depth p qs)) < suc (length qs) → drop (cond b 0 (suc (depth p qs))) (take (suc (cond b 0 (suc (depth p qs)))) (q ∷ qs)) ≡ p ∷ []) [
-      | true ↦ λ e g. ap (λ (k : Key). k ∷ []) (sym (same p q e))
-      | false ↦ λ e g. only qs (omega (arith, g))
-    ] refl h
-
-    others : (s : List Key) → depth p s < length s → take (depth p s) s ++ drop (suc (depth p s)) s ≡ without p s
-    others [] h = absurd (omega (arith, h))
-    others (q ∷ qs) h = elim (is_page p q) as (λ b. cond b 0 (suc (depth p qs)) < suc (length qs) → take (cond b 0 (suc (depth p qs))) (q ∷ qs) ++ drop (suc (cond b 0 (suc (depth p qs)))) (q ∷ qs) ≡ cond b qs (q ∷ without p qs)) [
-      | true ↦ λ g. refl
-      | false ↦ λ g. ap (λ (l : List Key). q ∷ l) (others qs (omega (arith, g)))
-    ] h
 
 -- one reference, wherever its page is
 
@@ -369,9 +301,6 @@ come_back {A = A} n a s t is same_length to = ap (λ (k : ℕ). take k (a ++ dro
 
 pub counting_begins : (counts : List ℕ) (stack string : List Key) → counts ≡ [] → stack ≡ [] → Counting 0 counts stack string string
 counting_begins counts stack string c s = subst (λ (l : List ℕ). Counting 0 l stack string string) (sym c) (subst (λ (l : List Key). Counting 0 [] l string string) (sym s) (counting_open string))
-
-pub found_length : (p : Key) (s u : List Key) → depth p s < length s → u ≡ to_front p s → length u ≡ length s
-found_length p s u h is = ap length is ∙ length_front_found p s h
 
 -- an element that is there is what it is, whatever stands for those that are not
 pub same_default : (s : List Key) (n : ℕ) (p : Key) → n < length s → slice_index_or s n p ≡ slice_index_or s n (slice_index_or s n p)

@@ -39,7 +39,7 @@ use_apart p q (r ∷ rs) h e = elim (is_page r p) as (λ b. is_page r p ≡ b �
 ] refl h e
 
 -- the pages of one distance that is before the end are one page
-next_once : (p : Key) (ps s : List Key) → next_use p ps < length ps → near ps (suc (next_use p ps)) s ≡ near ps (next_use p ps) s + number (is_page p) s
+pub next_once : (p : Key) (ps s : List Key) → next_use p ps < length ps → near ps (suc (next_use p ps)) s ≡ near ps (next_use p ps) s + number (is_page p) s
 next_once p ps [] h = refl
 next_once p ps (q ∷ qs) h =
     let later : near ps (suc (next_use p ps)) qs ≡ near ps (next_use p ps) qs + number (is_page p) qs = next_once p ps qs h in
@@ -62,10 +62,10 @@ next_once p ps (q ∷ qs) h =
     alike a b h = grind (arith, nat_tests)
 
 -- a place is below another where the distance is
-place_near : (n at u l t x : ℕ) → n ≡ at + suc l → x ≡ at + 1 + t → t ≤ l → nat_lt (place n at u) x ≡ nat_lt u t
+pub place_near : (n at u l t x : ℕ) → n ≡ at + suc l → x ≡ at + 1 + t → t ≤ l → nat_lt (place n at u) x ≡ nat_lt u t
 place_near n at u l t x is e few = grind (arith, nat_tests)
 
-place_past : (n at u l : ℕ) → n ≡ at + suc l → nat_lt (place n at u) (suc (n + at)) ≡ true
+pub place_past : (n at u l : ℕ) → n ≡ at + suc l → nat_lt (place n at u) (suc (n + at)) ≡ true
 place_past n at u l is = grind (arith, nat_tests)
 
 near_level : (u t : ℕ) → nat_lt u u ≡ false
@@ -75,7 +75,7 @@ near_next : (u : ℕ) → nat_lt u (suc u) ≡ true
 near_next u = grind (arith, nat_tests)
 
 -- What is left when the referenced page's number is out, and the pages after the reference.
-record Left (m at n : ℕ) (p : Key) (ps : List Key) (keys : List ℕ) (r : List Key) : Type 0 where
+pub record Left (m at n : ℕ) (p : Key) (ps : List Key) (keys : List ℕ) (r : List Key) : Type 0 where
   pub once : Once r
   pub few : length r ≤ m
   pub there : holds p r ≡ true
@@ -83,7 +83,7 @@ record Left (m at n : ℕ) (p : Key) (ps : List Key) (keys : List ℕ) (r : List
   pub near_by : (t x : ℕ) → x ≡ at + 1 + t → t ≤ length ps → one (is_near ps t p) + under x keys ≡ near ps t r
   pub past : under (n + at) keys ≡ length keys
 
-past_more : (n at : ℕ) (keys : List ℕ) → under (n + at) keys ≡ length keys → under (suc (n + at)) keys ≡ length keys
+pub past_more : (n at : ℕ) (keys : List ℕ) → under (n + at) keys ≡ length keys → under (suc (n + at)) keys ≡ length keys
 past_more n at keys h =
     let more : under (n + at) keys ≤ under (suc (n + at)) keys = under_more (n + at) keys in
     let few : under (suc (n + at)) keys ≤ length keys = under_few (suc (n + at)) keys in omega (arith, h, more, few)
@@ -129,7 +129,7 @@ put_in m at n p ps keys r is left =
         ∙ (ap (λ (b : Bool). one b + under (suc (n + at)) keys) (place_past n at (next_use p ps) (length ps) is) ∙ (let e : under (suc (n + at)) keys ≡ length keys = past_more n at keys left.past in omega (arith, e))))
 
 -- a hit takes the page's number out
-hit_left : (m at n : ℕ) (p : Key) (ps : List Key) (old keys : List ℕ) (s : List Key) → n ≡ at + suc (length ps) → Stands m at n old (p ∷ ps) s → old ≡ at ∷ keys → holds p s ≡ true → Left m at n p ps keys s
+pub hit_left : (m at n : ℕ) (p : Key) (ps : List Key) (old keys : List ℕ) (s : List Key) → n ≡ at + suc (length ps) → Stands m at n old (p ∷ ps) s → old ≡ at ∷ keys → holds p s ≡ true → Left m at n p ps keys s
 hit_left m at n p ps old keys s is h gone there =
     let size : length old ≡ suc (length keys) = ap length gone in
     let past : under (n + at) old ≡ one (nat_lt at (n + at)) + under (n + at) keys = ap (under (n + at)) gone in
@@ -179,7 +179,7 @@ cut m l s a b x y some few is within e least most room_least room_most = elim (n
     above : (a b : ℕ) → nat_lt a b ≡ false → b ≤ a
     above a b h = grind (arith, nat_tests)
 
-miss_left : (m at n : ℕ) (p : Key) (ps : List Key) (old keys : List ℕ) (s : List Key) → 1 ≤ m → n ≡ at + suc (length ps) → Stands m at n old (p ∷ ps) s → Roomed m old keys → holds p s ≡ false → Left m at n p ps keys (p ∷ room_for m ps s)
+pub miss_left : (m at n : ℕ) (p : Key) (ps : List Key) (old keys : List ℕ) (s : List Key) → 1 ≤ m → n ≡ at + suc (length ps) → Stands m at n old (p ∷ ps) s → Roomed m old keys → holds p s ≡ false → Left m at n p ps keys (p ∷ room_for m ps s)
 miss_left m at n p ps old keys s some is h roomed gone =
     let room : Room m ps s (room_for m ps s) = room_is m ps s some h.few in
     let none : number (is_page p) s ≡ 0 = none_number p s gone in
@@ -219,10 +219,10 @@ miss_left m at n p ps old keys s some is h roomed gone =
     fewer_left false s k h = omega (arith, h)
 
 -- the least number is the reference's place exactly where its page is there
-there_now : (m at n : ℕ) (p : Key) (ps : List Key) (old : List ℕ) (s : List Key) → Stands m at n old (p ∷ ps) s → under (at + 1) old ≡ one (holds p s)
+pub there_now : (m at n : ℕ) (p : Key) (ps : List Key) (old : List ℕ) (s : List Key) → Stands m at n old (p ∷ ps) s → under (at + 1) old ≡ one (holds p s)
 there_now m at n p ps old s h = h.near_by 1 (at + 1) refl (omega arith) ∙ (near_now p ps s ∙ page_number p s (h.once p))
 
-none_yet : (m at n : ℕ) (p : Key) (ps : List Key) (old : List ℕ) (s : List Key) → Stands m at n old (p ∷ ps) s → under at old ≡ 0
+pub none_yet : (m at n : ℕ) (p : Key) (ps : List Key) (old : List ℕ) (s : List Key) → Stands m at n old (p ∷ ps) s → under at old ≡ 0
 none_yet m at n p ps old s h = h.near_by 0 at (omega arith) (omega arith) ∙ nothing s
   where
     nothing : (s : List Key) → near (p ∷ ps) 0 s ≡ 0
@@ -270,7 +270,7 @@ step m at n p ps old new s false some is h refers =
     lost false e g = e
 
 -- the reference at `at` and those after it
-record Uncovered (string : List Key) (at d : ℕ) : Type 0 where
+pub record Uncovered (string : List Key) (at d : ℕ) : Type 0 where
   pub page : Key
   pub rest : List Key
   pub now : drop at string ≡ page ∷ rest
@@ -278,7 +278,7 @@ record Uncovered (string : List Key) (at d : ℕ) : Type 0 where
   pub ahead : slice_index_or (next_uses string) at d ≡ next_use page rest
   pub size : length string ≡ at + suc (length rest)
 
-uncover : (string : List Key) (at d : ℕ) → at < length string → Uncovered string at d
+pub uncover : (string : List Key) (at d : ℕ) → at < length string → Uncovered string at d
 uncover [] at d h = absurd (omega (arith, h))
 uncover (q ∷ qs) zero d h = record { page = q; rest = qs; now = refl; later = refl; ahead = refl; size = omega arith }
 uncover (q ∷ qs) (suc at) d h =

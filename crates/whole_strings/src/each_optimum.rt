@@ -1,35 +1,136 @@
 //! What the optimum misses with every number of frames.
 
-ghost use Rattle.std.specs.Prelude.{◌≡◌, ◌+◌, ◌≤◌, ◌<◌, IfOk};
+ghost use Rattle.std.specs.Prelude.{◌≡◌, ◌+◌, ◌-◌, ◌<◌, ◌^◌, ◌++◌, ◌∷◌, [], ℕ, length, slice_index_or, slice_set, IfOk, OnOk, MatchOption};
 ghost use Rattle.page_policies.specs.NextUses.{next_uses};
-ghost use Rattle.page_policies.specs.Optimal.{optimal_misses};
-ghost use Rattle.page_policies.specs.PolicyFrames.{most_policy_frames};
+ghost use Rattle.whole_strings.specs.LruDepths.{hits_within};
+ghost use Rattle.whole_strings.specs.LruDepthLaws.{referred};
 ghost use Rattle.whole_strings.specs.OptimumCurve.{IsOptimumCurve};
+ghost use Rattle.whole_strings.specs.OptimumStack.{nearer, farther, place_depth, restacked, CountsOptimum};
+ghost use Rattle.whole_strings.specs.OptimumStackLaws.{FallsTo};
 
-use crate::optimum::Optimum;
+use crate::lru_depths::note_depth;
+use crate::optimum::next_place;
+use crate::string_uses::next_uses;
 use clock_policy::Key;
 use page_policies::Frames;
 use std::alloc::{AllocError, Global};
 
-/// One number of frames more than so many.
-fn one_more(number: usize) -> Frames
-    requires { number < most_policy_frames }
-    ensures { result.number ≡ number + 1 }
+/// Of two places the nearer one.
+fn nearer(a: usize, b: usize) -> usize
+    ensures { result ≡ nearer a b }
 {
-    match Frames::new(number + 1) {
-        Some(frames) => frames,
-        None => unreachable!(),
+    if b < a { b } else { a }
+}
+
+/// Of two places the farther one.
+fn farther(a: usize, b: usize) -> usize
+    ensures { result ≡ farther a b }
+{
+    if b < a { a } else { b }
+}
+
+/// Of the place that stands here and the one that is carried the nearer stays, and the farther is carried on.
+fn pass(places: &mut [usize], here: usize, carried: usize) -> usize
+    requires { here < length places.old }
+    ensures places { places.new ≡ slice_set places.old here (nearer carried (slice_index_or
+        places.old here 0)) }
+    ensures carried { result ≡ farther carried (slice_index_or places.old here 0) }
+{
+    let place = places[here];
+    places[here] = nearer(carried, place);
+    farther(carried, place)
+}
+
+/// The place comes first, and what stood first is carried down. How many stood before `at`, and what is carried past the end.
+fn carry_down(places: &mut [usize], at: usize, next: usize) -> (usize, Option<usize>)
+    requires { 0 < length places.old }
+    ensures depth { result.0 ≡ place_depth at places.old }
+    ensures places { MatchOption result.1 (restacked at next places.old ≡ places.new) (λ left.
+        restacked at next places.old ≡ places.new ++ left ∷ []) }
+    ensures size { length places.new ≡ length places.old }
+{
+    let mut carried = places[0];
+    places[0] = next;
+    if carried == at {
+        return (0, None);
+    }
+    'places: for here in 1..places.len() {
+        if places[here] == at {
+            places[here] = carried;
+            return (here, None);
+        }
+        carried = pass(places, here, carried);
+    }
+    (places.len(), Some(carried))
+}
+
+/// The reference at `at`, whose page is used next at `next`. How many places stood before its own.
+fn restack(stack: &mut Vec<usize>, at: usize, next: usize) -> Result<usize, AllocError>
+    ensures stack { OnOk result (stack.new.items ≡ restacked at next stack.old.items) }
+    ensures depth { IfOk result (λ depth. depth ≡ place_depth at stack.old.items) }
+{
+    if stack.is_empty() {
+        stack.push(next)?;
+        return Ok(0);
+    }
+    let (depth, left) = carry_down(stack.as_mut_slice(), at, next);
+    if let Some(place) = left {
+        stack.push(place)?;
+    }
+    Ok(depth)
+}
+
+/// How many references of a string find their place at each depth of the stack, from how far ahead each page is used again.
+fn count_hits(alloc: Global, string: &[Key], uses: &[usize]) -> Result<Vec<usize>, AllocError>
+    requires { uses.now ≡ next_uses string.now }
+    ensures { IfOk result (λ hits. CountsOptimum hits.items string.now) }
+{
+    let _ = string;
+    let mut stack = Vec::new(alloc);
+    let mut hits = Vec::new(alloc);
+    'references: for at in 0..uses.len() {
+        let next = next_place(uses.len(), at, uses[at]);
+        let depth = restack(&mut stack, at, next)?;
+        note_depth(&mut hits, depth)?;
+    }
+    Ok(hits)
+}
+
+/// How many hits there are at a depth; past the last one none.
+fn hits_at(hits: &[usize], depth: usize) -> usize
+    ensures { result ≡ slice_index_or hits.now depth 0 }
+{
+    match hits.get(depth) {
+        Some(count) => *count,
+        None => 0,
     }
 }
 
-/// What the optimum misses of a string with 1, 2, 3 and more frames, up to so many. Each is counted anew.
+/// From so many misses without frames those with 1, 2 and more, up to so many.
+fn falls(
+    alloc: Global,
+    hits: &[usize],
+    references: usize,
+    most: usize,
+) -> Result<Vec<usize>, AllocError>
+    ensures { IfOk result (λ curve. FallsTo most references hits.now curve.items) }
+{
+    let mut left = references;
+    let mut curve = Vec::new(alloc);
+    'depths: for depth in 0..most {
+        left = left.saturating_sub(hits_at(hits, depth));
+        curve.push(left)?;
+    }
+    Ok(curve)
+}
+
+/// What the optimum misses of a string with 1, 2, 3 and more frames, up to so many. It takes one pass over the string, and for each
+/// reference time in proportion to the pages before its own in the order of the optimum's stack.
+#[tactic(auto, using(crate::specs::OptimumStackLaws::falls_are))]
 pub fn optimum_curve(alloc: Global, string: &[Key], most: Frames) -> Result<Vec<usize>, AllocError>
     ensures { IfOk result (λ curve. IsOptimumCurve most.number curve.items string.now) }
 {
-    let optimum = Optimum::new(alloc, string)?;
-    let mut curve = Vec::new(alloc);
-    'numbers: for number in 0..most.number() {
-        curve.push(optimum.misses(alloc, one_more(number))?)?;
-    }
-    Ok(curve)
+    let uses = next_uses(alloc, string)?;
+    let hits = count_hits(alloc, string, uses.as_slice())?;
+    falls(alloc, hits.as_slice(), string.len(), most.number())
 }

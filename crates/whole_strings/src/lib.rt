@@ -2,6 +2,8 @@
 #![tactic(auto)]
 
 mod each_optimum;
+mod last_places;
+mod laws;
 mod lru_depths;
 mod optimum;
 mod sampling;
@@ -9,6 +11,7 @@ mod string_uses;
 mod working_sets;
 
 pub use each_optimum::optimum_curve;
+pub use laws::optimum_keeps_fewer_in_fewer_frames;
 pub use lru_depths::lru_curve;
 pub use optimum::Optimum;
 pub use sampling::is_sampled;

@@ -1,33 +1,19 @@
 //! LRU's misses with every number of frames.
 
-ghost use Rattle.std.specs.Prelude.{◌≡◌, ◌≤◌, ◌<◌, ◌+◌, ◌^◌, ◌++◌, ◌∷◌, [], ℕ, drop, length, slice_index_or, IfOk, OnOk};
-ghost use Rattle.page_policies.specs.Ordered.{to_front};
-ghost use Rattle.whole_strings.specs.LruDepths.{depth, IsLruCurve};
-ghost use Rattle.whole_strings.specs.LruDepthLaws.{noted, raised, referred, tails};
+ghost use Rattle.std.specs.Prelude.{◌≡◌, ◌<◌, ◌^◌, ℕ, None, length, slice_index_or, IfOk, OnOk};
+ghost use Rattle.clock_policy.specs.declared.key.Key.{Key};
+ghost use Rattle.std.specs.HashMap.{get};
+ghost use Rattle.page_policies.specs.Strings.{is_page};
+ghost use Rattle.whole_strings.specs.LruDepths.{IsLruCurve};
+ghost use Rattle.whole_strings.specs.LruDepthLaws.{noted, referred, tails};
+ghost use Rattle.whole_strings.specs.LastPlaces.{sum_from};
+ghost use Rattle.whole_strings.specs.LastPlaceLaws.{AreSummed, MayLeave, Left};
 
+use crate::last_places::LastPlaces;
+use crate::string_uses::note;
 use clock_policy::Key;
 use std::alloc::{AllocError, Global};
-
-/// How many pages of the stack are before it; where it is not there, how many there are.
-fn depth_of(stack: &[Key], page: Key) -> usize
-    ensures { result ≡ depth page stack.now }
-{
-    for at in 0..stack.len() {
-        if stack[at] == page {
-            return at;
-        }
-    }
-    stack.len()
-}
-
-/// The page in this place comes to the front, and those before it stay in their order.
-fn raise(stack: &mut [Key], at: usize)
-    requires { at < length stack.old }
-    ensures { stack.new ≡ raised at stack.old }
-{
-    let (upper, _) = stack.split_at_mut(at + 1);
-    upper.rotate_right(1);
-}
+use std::collections::HashMap;
 
 /// One hit more at this depth.
 pub(crate) fn note_hit(hits: &mut [usize], at: usize)
@@ -38,43 +24,57 @@ pub(crate) fn note_hit(hits: &mut [usize], at: usize)
     hits[at] += 1;
 }
 
-/// A page that was not used before comes to the front.
-fn begin_page(stack: &mut Vec<Key>, hits: &mut Vec<usize>, page: Key) -> Result<(), AllocError>
-    ensures stack { OnOk result (stack.new.items ≡ page ∷ stack.old.items) }
-    ensures hits { OnOk result (hits.new.items ≡ hits.old.items ++ 0 ∷ []) }
+/// One hit more at this depth; or a page more, which did not hit.
+pub(crate) fn note_depth(hits: &mut Vec<usize>, depth: usize) -> Result<(), AllocError>
+    requires { (d : ℕ) → d < length hits.old.items → slice_index_or hits.old.items d 0 < 2 ^ 63 }
+    ensures { OnOk result (hits.new.items ≡ referred depth hits.old.items) }
 {
-    stack.insert(0, page)?;
+    if depth < hits.len() {
+        note_hit(hits.as_mut_slice(), depth);
+        return Ok(());
+    }
     hits.push(0)?;
     Ok(())
 }
 
-/// A page is used.
-#[tactic(auto, using(crate::specs::LruDepthLaws::raised_front, crate::specs::LruDepthLaws::cold_without))]
-fn refer(stack: &mut Vec<Key>, hits: &mut Vec<usize>, page: Key) -> Result<(), AllocError>
-    requires size { length hits.old.items ≡ length stack.old.items }
-    requires small { (d : ℕ) → d < length hits.old.items → slice_index_or hits.old.items d 0 < 2 ^
-        63 }
-    ensures stack { OnOk result (stack.new.items ≡ to_front page stack.old.items) }
-    ensures hits { OnOk result (hits.new.items ≡ referred (depth page stack.old.items)
-        hits.old.items) }
+/// No page was used.
+fn no_uses(alloc: Global) -> HashMap<Key, usize>
+    ensures { (q : Key) → get is_page result q ≡ None }
 {
-    let at = depth_of(stack.as_slice(), page);
-    if at < hits.len() {
-        note_hit(hits.as_mut_slice(), at);
-        raise(stack.as_mut_slice(), at);
-        return Ok(());
+    HashMap::new(alloc)
+}
+
+/// How many pages were used since this one was; for one that was not used, as many as there are. Its last use counts no more.
+fn leave(ends: &HashMap<Key, usize>, places: &mut LastPlaces, page: Key, pages: usize) -> usize
+    requires known { MayLeave (get is_page ends.now page) places.old }
+    requires sums { AreSummed places.old }
+    requires small { sum_from 0 places.old.places.items < 2 ^ 63 }
+    ensures { Left (get is_page ends.now page) pages places.old places.new result }
+{
+    match ends.get(&page) {
+        Some(last) => {
+            let at = *last;
+            let depth = places.behind(at);
+            places.remove(at);
+            depth
+        }
+        None => pages,
     }
-    begin_page(stack, hits, page)
 }
 
 /// How many references find their page at each depth of the stack of all pages by their last use.
 fn count_hits(alloc: Global, string: &[Key]) -> Result<Vec<usize>, AllocError>
     ensures { IfOk result (λ hits. IsLruCurve (tails (length string.now) hits.items) string.now) }
 {
-    let mut stack = Vec::new(alloc);
+    let mut places = LastPlaces::new(alloc, string.len())?;
+    let mut ends = no_uses(alloc);
     let mut hits = Vec::new(alloc);
-    'references: for page in string {
-        refer(&mut stack, &mut hits, *page)?;
+    'references: for seen in 0..string.len() {
+        let page = string[seen];
+        let depth = leave(&ends, &mut places, page, hits.len());
+        places.add(seen);
+        note_depth(&mut hits, depth)?;
+        note(&mut ends, page, seen)?;
     }
     Ok(hits)
 }
@@ -91,7 +91,7 @@ fn fall(hits: &mut [usize], references: usize)
 }
 
 /// What LRU misses of a string with 1, 2, 3 and more frames, up to as many as the string has pages, with which and with more each page
-/// misses once. It takes one pass over the string, and for each reference time in proportion to the pages that were used since its own was.
+/// misses once. It takes one pass over the string, and for each reference about the same time, however many pages were used since its own was.
 pub fn lru_curve(alloc: Global, string: &[Key]) -> Result<Vec<usize>, AllocError>
     ensures { IfOk result (λ curve. IsLruCurve curve.items string.now) }
 {

@@ -30,7 +30,7 @@ impl Model for Optimum {
 
 /// The place of a next use in a string of so many references, from how many others come before it; past the end, and of its own, where
 /// the page is never used again.
-fn next_place(length: usize, at: usize, ahead: usize) -> usize
+pub(crate) fn next_place(length: usize, at: usize, ahead: usize) -> usize
     requires inside { at < length }
     requires small { length < 2 ^ 63 }
     ensures { result ≡ place length at ahead }

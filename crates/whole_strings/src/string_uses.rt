@@ -21,7 +21,7 @@ fn next_use(ends: &HashMap<Key, usize>, seen: usize, page: Key) -> usize
 }
 
 /// The page was met.
-fn note(ends: &mut HashMap<Key, usize>, page: Key, end: usize) -> Result<(), AllocError>
+pub(crate) fn note(ends: &mut HashMap<Key, usize>, page: Key, end: usize) -> Result<(), AllocError>
     ensures { OnOk result ((q : Key) → get is_page ends.new q ≡ cond (is_page page q) (Some end)
         (get is_page ends.old q)) }
 {

@@ -1,6 +1,7 @@
-use Rattle.std.proofs.Common.{drop}
-use Rattle.whole_strings.specs.LruDepthLaws.{Counting}
+use Rattle.std.specs.HashMap.{get}
+use Rattle.page_policies.specs.Strings.{is_page}
+use Rattle.whole_strings.specs.LastPlaceLaws.{Places}
 use Rattle.whole_strings.proofs.lru_depths.count_hits.Given as goal
 
 abbrev pub invariant-references : goal.invariant-references
-invariant-references l = Counting l.page-index l.hits.items l.stack.items (drop l.page-index l.string) l.string
+invariant-references l = Places l.seen l.hits.items (λ q. get is_page l.ends q) l.places l.string

@@ -1,0 +1,5 @@
+use Rattle.whole_strings.specs.OptimumStackLaws.{Falling}
+use Rattle.whole_strings.proofs.each_optimum.falls.Given as goal
+
+abbrev pub invariant-depths : goal.invariant-depths
+invariant-depths l = Falling l.depth l.references l.left l.hits l.curve.items

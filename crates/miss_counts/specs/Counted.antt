@@ -19,7 +19,7 @@ use Rattle.tiny_lfu.specs.WTinyLfu.{w_tiny_lfu_misses}
 use Rattle.page_policies.specs.Random.{random_misses}
 use Rattle.page_policies.specs.Optimal.{optimal_misses}
 use Rattle.miss_counts.specs.FrameNumbers.{usual_numbers, page_count}
-use Rattle.miss_counts.specs.declared.counts.Counts.{Counts}
+use Rattle.miss_counts.specs.declared.counts.PolicyCounts.{PolicyCounts}
 use Rattle.miss_counts.specs.declared.policy_set.PolicySet.{PolicySet}
 
 abbrev pub pages_of : List Reference → List Key
@@ -53,7 +53,7 @@ asked true n = Some n
 asked false n = None
 
 -- what each policy that is asked for misses of a string with so many frames, and what the optimum does
-abbrev pub counted : PolicySet → List Key → Frames → Counts
+abbrev pub counted : PolicySet → List Key → Frames → PolicyCounts
 counted wanted string frames = record {
   frames = frames;
   references = length string;
@@ -73,13 +73,13 @@ counted wanted string frames = record {
 }
 
 -- rows of such counts for the usual numbers of frames, up to the string's pages
-pub record IsUsualTable (wanted : PolicySet) (string : List Key) (rows : List Counts) : Type 0 where
+pub record IsUsualTable (wanted : PolicySet) (string : List Key) (rows : List PolicyCounts) : Type 0 where
   pub frames : List Frames
   pub usual : map (λ f. f.number) frames ≡ usual_numbers (page_count string)
   pub counted_each : rows ≡ map (counted wanted string) frames
 
 -- rows of such counts for the numbers of frames that are asked for, or for the usual ones
-abbrev pub IsTable : PolicySet → List Key → Option (List Frames) → List Counts → Type 0
+abbrev pub IsTable : PolicySet → List Key → Option (List Frames) → List PolicyCounts → Type 0
 IsTable wanted string None rows = IsUsualTable wanted string rows
 IsTable wanted string (Some frames) rows = rows ≡ map (counted wanted string) frames
 
@@ -90,7 +90,7 @@ left (Some n) None = Some n
 left (Some n) (Some k) = Some (n - k)
 
 -- what was counted since
-abbrev pub since : Counts → Counts → Counts
+abbrev pub since : PolicyCounts → PolicyCounts → PolicyCounts
 since all before = record {
   frames = all.frames;
   references = all.references - before.references;

@@ -6,10 +6,10 @@ ghost use Rattle.page_policies.specs.Optimal.{optimal_misses};
 ghost use Rattle.miss_counts.specs.Counted.{counted, asked, serves, all_serve, since, left};
 
 use crate::policy_set::PolicySet;
-use crate::progress::{Progress, Stage};
+use crate::stages::{Stage, StageListener};
 use clock_policy::Key;
 use clock_ring::ClockRing;
-use page_policies::{Fifo, Frames, Lru, Policy, PolicyRefusal, Random, SecondChance, misses};
+use page_policies::{Fifo, Frames, Lru, Policy, PolicyRefusal, RandomPolicy, SecondChance, misses};
 use std::alloc::{AllocError, Global};
 use tiny_lfu::WTinyLfu;
 use whole_strings::Optimum;
@@ -17,7 +17,7 @@ use younger_policies::{Arc, ClockPro, ClockProUsed, Lirs, S3Fifo, Sieve, TwoQueu
 
 /// Misses with so many frames, of the policies that were asked for.
 #[derive(Clone, Copy, Debug, PartialEq, Eq)]
-pub struct Counts {
+pub struct PolicyCounts {
     pub frames: Frames,
     /// How many references were counted.
     pub references: u64,
@@ -37,12 +37,12 @@ pub struct Counts {
     pub optimum: Option<u64>,
 }
 
-impl Counts {
+impl PolicyCounts {
     /// What was counted since those.
-    pub fn since(self, before: Counts) -> Counts
+    pub fn since(self, before: PolicyCounts) -> PolicyCounts
         ensures { result ≡ since self before }
     {
-        Counts {
+        PolicyCounts {
             frames: self.frames,
             references: self.references.saturating_sub(before.references),
             fifo: left(self.fifo, before.fifo),
@@ -121,7 +121,7 @@ fn counts_of(
     string: &[Key],
     optimum: &Optimum,
     wanted: PolicySet,
-) -> Result<Counts, AllocError>
+) -> Result<PolicyCounts, AllocError>
     requires served { serves wanted frames.number ≡ true }
     requires optimum { optimum.now ≡ next_uses string.now }
     ensures { IfOk result (λ counts. counts ≡ counted wanted string.now frames) }
@@ -142,9 +142,9 @@ fn counts_of(
     let sieve = misses_if::<Sieve>(alloc, frames, string, wanted.sieve)?;
     let s3_fifo = misses_if::<S3Fifo>(alloc, frames, string, wanted.s3_fifo)?;
     let w_tiny_lfu = misses_if::<WTinyLfu>(alloc, frames, string, wanted.w_tiny_lfu)?;
-    let random = misses_if::<Random>(alloc, frames, string, wanted.random)?;
+    let random = misses_if::<RandomPolicy>(alloc, frames, string, wanted.random)?;
     let optimum = floor_if(alloc, frames, string, optimum, wanted.optimum)?;
-    Ok(Counts {
+    Ok(PolicyCounts {
         frames,
         references: string.len() as u64,
         fifo,
@@ -164,13 +164,13 @@ fn counts_of(
 }
 
 /// What a string misses with each of these numbers of frames, under the policies that are asked for.
-pub fn rows_of<P: Progress>(
+pub fn rows_of<P: StageListener>(
     alloc: Global,
     frames: &[Frames],
     string: &[Key],
     wanted: PolicySet,
     progress: &mut P,
-) -> Result<Vec<Counts>, PolicyRefusal>
+) -> Result<Vec<PolicyCounts>, PolicyRefusal>
     ensures rows { IfOk result (λ rows. rows.items ≡ map (counted wanted string.now) frames.now) }
     ensures bad_size { (result ≡ Err PolicyRefusal.BadSize) ↔ (all_serve wanted frames.now ≡
         false) }
@@ -182,13 +182,13 @@ pub fn rows_of<P: Progress>(
 }
 
 /// The same rows. Each policy serves each number of frames.
-pub(crate) fn count_rows<P: Progress>(
+pub(crate) fn count_rows<P: StageListener>(
     alloc: Global,
     frames: &[Frames],
     string: &[Key],
     wanted: PolicySet,
     progress: &mut P,
-) -> Result<Vec<Counts>, AllocError>
+) -> Result<Vec<PolicyCounts>, AllocError>
     requires { all_serve wanted frames.now ≡ true }
     ensures { IfOk result (λ rows. rows.items ≡ map (counted wanted string.now) frames.now) }
 {

@@ -8,10 +8,10 @@ ghost use Rattle.page_policies.specs.Strings.{is_page};
 ghost use Rattle.miss_counts.specs.Counted.{IsTable, IsUsualTable, all_asked_serve, guest_pages, pages_of};
 ghost use Rattle.miss_counts.specs.FrameNumbers.{page_count};
 
-use crate::counts::{Counts, count_rows};
+use crate::counts::{PolicyCounts, count_rows};
 use crate::frame_numbers::usual_frames;
 use crate::policy_set::PolicySet;
-use crate::progress::{Progress, Stage};
+use crate::stages::{Stage, StageListener};
 use clock_policy::Key;
 use flat_machine::FlatProcess;
 use guest_strings::{AccessKinds, GuestString};
@@ -21,7 +21,7 @@ use std::alloc::{AllocError, Global};
 use std::collections::HashSet;
 
 /// The pages of a string, to its end.
-pub fn pages_of<P: Progress>(
+pub fn pages_of<P: StageListener>(
     alloc: Global,
     mut guests: GuestString,
     progress: &mut P,
@@ -38,7 +38,7 @@ pub fn pages_of<P: Progress>(
 
 /// What the string of guests misses, of the references that are kept, by slices of so many instructions, of up to so many
 /// instructions in all: a row for each of these numbers of frames, or for the usual ones up to the guests' pages.
-pub fn guest_rows<P: Progress>(
+pub fn guest_rows<P: StageListener>(
     alloc: Global,
     processes: Vec<FlatProcess>,
     accesses: AccessKinds,
@@ -47,7 +47,7 @@ pub fn guest_rows<P: Progress>(
     frames: Option<Vec<Frames>>,
     wanted: PolicySet,
     progress: &mut P,
-) -> Result<Vec<Counts>, PolicyRefusal>
+) -> Result<Vec<PolicyCounts>, PolicyRefusal>
     requires { length processes.items ≤ MOST_PROCESSES }
     ensures rows { IfOk result (λ rows. IsTable wanted (guest_pages accesses slice limit processes.items)
         (option_map (λ f. f.items) frames) rows.items) }
@@ -73,7 +73,7 @@ fn serves_asked(wanted: PolicySet, frames: &Option<Vec<Frames>>) -> bool
 }
 
 /// What the string of guests misses. Each policy serves each number of frames.
-fn counted_rows<P: Progress>(
+fn counted_rows<P: StageListener>(
     alloc: Global,
     processes: Vec<FlatProcess>,
     accesses: AccessKinds,
@@ -82,7 +82,7 @@ fn counted_rows<P: Progress>(
     frames: Option<Vec<Frames>>,
     wanted: PolicySet,
     progress: &mut P,
-) -> Result<Vec<Counts>, AllocError>
+) -> Result<Vec<PolicyCounts>, AllocError>
     requires few { length processes.items ≤ MOST_PROCESSES }
     requires served { all_asked_serve wanted (option_map (λ f. f.items) frames) ≡ true }
     ensures { IfOk result (λ rows. IsTable wanted (guest_pages accesses slice limit processes.items)
@@ -107,12 +107,12 @@ fn counted_rows<P: Progress>(
 
 /// What a string misses with the usual numbers of frames, which each policy serves.
 #[tactic(auto, using(crate::proofs::Serving::usual_served))]
-fn usual_rows<P: Progress>(
+fn usual_rows<P: StageListener>(
     alloc: Global,
     string: &[Key],
     wanted: PolicySet,
     progress: &mut P,
-) -> Result<Vec<Counts>, AllocError>
+) -> Result<Vec<PolicyCounts>, AllocError>
     ensures { IfOk result (λ rows. IsUsualTable wanted string.now rows.items) }
 {
     let usual = usual_frames(alloc, count_pages(alloc, string)?)?;

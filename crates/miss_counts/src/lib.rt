@@ -8,13 +8,13 @@ mod guests;
 mod older_players;
 mod player;
 mod policy_set;
-mod progress;
 mod row;
+mod stages;
 mod younger_players;
 
-pub use counts::{Counts, rows_of};
+pub use counts::{PolicyCounts, rows_of};
 pub use frame_numbers::usual_frames;
 pub use guests::{guest_rows, pages_of};
 pub use policy_set::PolicySet;
-pub use progress::{Progress, Quiet, Stage};
 pub use row::Row;
+pub use stages::{Quiet, Stage, StageListener};

@@ -9,7 +9,7 @@ ghost use Rattle.miss_counts.specs.Playing.{Opens, GoesOn};
 use crate::player::{Player, play_if, player_if};
 use crate::policy_set::PolicySet;
 use clock_policy::Key;
-use page_policies::{Fifo, Frames, Lru, Policy, Random, SecondChance};
+use page_policies::{Fifo, Frames, Lru, Policy, RandomPolicy, SecondChance};
 use std::alloc::{AllocError, Global};
 
 /// The policies of textbooks, and random replacement, where they are asked for. After an error nothing is said of them.
@@ -18,7 +18,7 @@ pub(crate) struct OlderPlayers {
     pub(crate) fifo: Option<Player<Fifo>>,
     pub(crate) clock: Option<Player<SecondChance>>,
     pub(crate) lru: Option<Player<Lru>>,
-    pub(crate) random: Option<Player<Random>>,
+    pub(crate) random: Option<Player<RandomPolicy>>,
 }
 
 impl OlderPlayers {
@@ -33,7 +33,7 @@ impl OlderPlayers {
             (λ p string. p.misses + ⟦<Lru as Policy>⟧.to_miss p.policy string)
             (lru_misses frames.number) row.lru) }
         ensures random { IfOk result (λ row. Opens wanted.random
-            (λ p string. p.misses + ⟦<Random as Policy>⟧.to_miss p.policy string)
+            (λ p string. p.misses + ⟦<RandomPolicy as Policy>⟧.to_miss p.policy string)
             (random_misses frames.number) row.random) }
     {
         Ok(OlderPlayers {
@@ -56,7 +56,7 @@ impl OlderPlayers {
             (λ p string. p.misses + ⟦<Lru as Policy>⟧.to_miss p.policy string)
             pages.now self.old.lru self.new.lru) }
         ensures random { OnOk result (GoesOn (λ p. p.misses)
-            (λ p string. p.misses + ⟦<Random as Policy>⟧.to_miss p.policy string)
+            (λ p string. p.misses + ⟦<RandomPolicy as Policy>⟧.to_miss p.policy string)
             pages.now self.old.random self.new.random) }
     {
         play_if(&mut self.fifo, pages)?;

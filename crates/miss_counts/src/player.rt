@@ -5,7 +5,7 @@ ghost use Rattle.clock_policy.specs.declared.key.Key.{Key};
 ghost use Rattle.miss_counts.specs.Playing.{Opens, GoesOn};
 
 use clock_policy::Key;
-use page_policies::{Frames, Outcome, Policy, PolicyRefusal};
+use page_policies::{Frames, HitOrMiss, Policy, PolicyRefusal};
 use std::alloc::{AllocError, Global};
 
 /// A policy, with how many references have missed so far. After an error nothing is said of it.
@@ -98,8 +98,8 @@ fn misses_of<P: Policy>(policy: &mut P, pages: &[Key]) -> Result<usize, AllocErr
     let mut count = 0;
     'pages: for page in pages {
         match policy.refer(*page)? {
-            Outcome::Hit => {}
-            Outcome::Miss => count += 1,
+            HitOrMiss::Hit => {}
+            HitOrMiss::Miss => count += 1,
         }
     }
     Ok(count)

@@ -15,14 +15,14 @@ ghost use Rattle.miss_counts.specs.Counted.{serves};
 ghost use Rattle.miss_counts.specs.Playing.{Opens, GoesOn};
 
 use crate::clock_pro_players::ClockProPlayers;
-use crate::counts::Counts;
+use crate::counts::PolicyCounts;
 use crate::older_players::OlderPlayers;
 use crate::player::misses_so_far;
 use crate::policy_set::PolicySet;
 use crate::younger_players::YoungerPlayers;
 use clock_policy::Key;
 use clock_ring::ClockRing;
-use page_policies::{Fifo, Frames, Lru, Policy, PolicyRefusal, Random, SecondChance};
+use page_policies::{Fifo, Frames, Lru, Policy, PolicyRefusal, RandomPolicy, SecondChance};
 use std::alloc::{AllocError, Global};
 use tiny_lfu::WTinyLfu;
 use younger_policies::{Arc, ClockPro, ClockProUsed, Lirs, S3Fifo, Sieve, TwoQueues};
@@ -79,7 +79,7 @@ impl Row {
             (λ p string. p.misses + ⟦<WTinyLfu as Policy>⟧.to_miss p.policy string)
             (w_tiny_lfu_misses frames.number) row.younger.w_tiny_lfu) }
         ensures random { IfOk result (λ row. Opens wanted.random
-            (λ p string. p.misses + ⟦<Random as Policy>⟧.to_miss p.policy string)
+            (λ p string. p.misses + ⟦<RandomPolicy as Policy>⟧.to_miss p.policy string)
             (random_misses frames.number) row.older.random) }
     {
         if !wanted.serves(frames) {
@@ -133,7 +133,7 @@ impl Row {
             (λ p string. p.misses + ⟦<WTinyLfu as Policy>⟧.to_miss p.policy string)
             pages.now self.old.younger.w_tiny_lfu self.new.younger.w_tiny_lfu) }
         ensures random { OnOk result (GoesOn (λ p. p.misses)
-            (λ p string. p.misses + ⟦<Random as Policy>⟧.to_miss p.policy string)
+            (λ p string. p.misses + ⟦<RandomPolicy as Policy>⟧.to_miss p.policy string)
             pages.now self.old.older.random self.new.older.random) }
     {
         self.references = self.references.saturating_add(pages.len() as u64);
@@ -143,7 +143,7 @@ impl Row {
     }
 
     /// What is counted so far.
-    pub fn counts(&self) -> Counts
+    pub fn counts(&self) -> PolicyCounts
         ensures { result ≡ record {
           frames = self.now.frames;
           references = self.now.references;
@@ -162,7 +162,7 @@ impl Row {
           optimum = None;
         } }
     {
-        Counts {
+        PolicyCounts {
             frames: self.frames,
             references: self.references,
             fifo: misses_so_far(&self.older.fifo),

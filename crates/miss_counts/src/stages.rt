@@ -10,7 +10,7 @@ pub enum Stage {
 }
 
 /// Who is told how far a count is. It has no say in what is counted.
-pub trait Progress: Drop {
+pub trait StageListener: Drop {
     fn tell(&mut self, stage: Stage);
 }
 
@@ -18,6 +18,6 @@ pub trait Progress: Drop {
 #[derive(Drop)]
 pub struct Quiet;
 
-impl Progress for Quiet {
+impl StageListener for Quiet {
     fn tell(&mut self, _: Stage) {}
 }

@@ -1,4 +1,4 @@
-pub mod Outcomes
+pub mod HitsAndMisses
 pub mod PolicyFrames
 pub mod Strings
 pub mod Queues

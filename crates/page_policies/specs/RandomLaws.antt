@@ -15,9 +15,9 @@ use Rattle.page_policies.specs.PlayedLaws.{here}
 use Rattle.page_policies.specs.CountLaws.{none_number}
 use Rattle.page_policies.specs.DemandLaws.{holds_none}
 use Rattle.page_policies.specs.Random.{RandomState, left_at, place_of, drawn, room_drawn, joined, in_random, random, seeded, random_misses}
-use Rattle.page_policies.specs.declared.random_state.Random.{Random}
+use Rattle.page_policies.specs.declared.random_state.RandomPolicy.{RandomPolicy}
 
-abbrev pub pages_of : Random → RandomState
+abbrev pub pages_of : RandomPolicy → RandomState
 pages_of s = record { pages = s.pages.keys; generator = s.generator }
 
 pub any_holds : (p : Key) (s : List Key) → list_any (is_page p) s ≡ holds p s

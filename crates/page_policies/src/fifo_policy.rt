@@ -6,7 +6,7 @@ ghost use Rattle.page_policies.specs.Strings.{holds, misses as misses_by};
 ghost use Rattle.page_policies.specs.Queues.{fifo, fifo_misses};
 
 use crate::frames::Frames;
-use crate::policy::{Outcome, Policy};
+use crate::policy::{HitOrMiss, Policy};
 use crate::refusal::PolicyRefusal;
 use clock_policy::Key;
 use lru::LruCache;
@@ -35,14 +35,14 @@ impl Policy for Fifo {
         Ok(Fifo { pages })
     }
 
-    fn refer(&mut self, page: Key) -> Result<Outcome, AllocError> {
+    fn refer(&mut self, page: Key) -> Result<HitOrMiss, AllocError> {
         // For the proof alone: a read tells that what is read is lawful.
         let _ = self.pages.len();
         if self.pages.contains(&page) {
-            return Ok(Outcome::Hit);
+            return Ok(HitOrMiss::Hit);
         }
         match self.pages.put(page, ()) {
-            Ok(_) => Ok(Outcome::Miss),
+            Ok(_) => Ok(HitOrMiss::Miss),
             Err(_) => Err(AllocError),
         }
     }

@@ -20,9 +20,9 @@ pub use laws::{
     optimum_is_a_play,
 };
 pub use lru_policy::Lru;
-pub use policy::{Outcome, Policy, misses};
+pub use policy::{HitOrMiss, Policy, misses};
 pub use queue::{Queue, cut};
-pub use random_state::Random;
+pub use random_state::RandomPolicy;
 pub use refusal::PolicyRefusal;
 pub use second_chance::SecondChance;
 pub use spreading::spread;

@@ -2,7 +2,7 @@
 
 ghost use Rattle.std.specs.Prelude.{◌≡◌, ℕ, ◌+◌, List, [], ◌∷◌, IfOk, ◌↔◌, Err, zero};
 ghost use Rattle.clock_policy.specs.declared.key.Key.{Key};
-ghost use Rattle.page_policies.specs.Outcomes.{miss_count};
+ghost use Rattle.page_policies.specs.HitsAndMisses.{miss_count};
 
 use crate::frames::Frames;
 use crate::refusal::PolicyRefusal;
@@ -11,7 +11,7 @@ use std::alloc::{AllocError, Global};
 
 /// Whether a reference found its page in a frame.
 #[derive(Clone, Copy, Debug, PartialEq, Eq)]
-pub enum Outcome {
+pub enum HitOrMiss {
     Hit,
     Miss,
 }
@@ -36,7 +36,7 @@ pub trait Policy: Drop {
         ensures bad_size { (result ≡ Err PolicyRefusal.BadSize) ↔ refuses frames.number };
 
     /// A page is used.
-    fn refer(&mut self, page: Key) -> Result<Outcome, AllocError>
+    fn refer(&mut self, page: Key) -> Result<HitOrMiss, AllocError>
         ensures { IfOk result (λ outcome. (string : List Key) → to_miss self.old (page ∷ string) ≡
             miss_count outcome + to_miss self.new string) };
 
@@ -56,8 +56,8 @@ pub fn misses<P: Policy>(
     let mut count = 0;
     for page in string {
         match policy.refer(*page)? {
-            Outcome::Hit => {}
-            Outcome::Miss => count += 1,
+            HitOrMiss::Hit => {}
+            HitOrMiss::Miss => count += 1,
         }
     }
     Ok(count)

@@ -7,8 +7,8 @@ ghost use Rattle.page_policies.specs.Random.{place_of, drawn, room_drawn, joined
 ghost use Rattle.page_policies.specs.RandomLaws.{pages_of};
 
 use crate::frames::Frames;
-use crate::policy::{Outcome, Policy};
-use crate::random_state::Random;
+use crate::policy::{HitOrMiss, Policy};
+use crate::random_state::RandomPolicy;
 use crate::refusal::PolicyRefusal;
 use clock_policy::Key;
 use indexmap::IndexSet;
@@ -32,7 +32,7 @@ fn draw(generator: &mut Pcg32, count: usize) -> usize
     generator.next_word() as usize % count
 }
 
-impl Random {
+impl RandomPolicy {
     /// A page that is drawn leaves.
     fn draw_out(&mut self)
         requires { 1 ≤ length self.old.pages.keys }
@@ -83,7 +83,7 @@ impl Random {
     }
 }
 
-impl Policy for Random {
+impl Policy for RandomPolicy {
     ghost misses = { random_misses };
 
     ghost to_miss = { λ policy string. misses_by in_random (random policy.frames) (pages_of policy) string };
@@ -94,18 +94,18 @@ impl Policy for Random {
 
     #[tactic(auto, unfolding(crate::specs::Random::random_misses))]
     fn new(alloc: Global, frames: Frames) -> Result<Self, PolicyRefusal> {
-        Ok(Random {
+        Ok(RandomPolicy {
             frames: frames.number(),
             pages: IndexSet::new(alloc),
             generator: Pcg32::new(42, 54),
         })
     }
 
-    fn refer(&mut self, page: Key) -> Result<Outcome, AllocError> {
+    fn refer(&mut self, page: Key) -> Result<HitOrMiss, AllocError> {
         if self.step(page)? {
-            Ok(Outcome::Hit)
+            Ok(HitOrMiss::Hit)
         } else {
-            Ok(Outcome::Miss)
+            Ok(HitOrMiss::Miss)
         }
     }
 }

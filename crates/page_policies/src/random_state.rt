@@ -8,7 +8,7 @@ use rand_pcg::Pcg32;
 
 /// Random replacement: a page that is drawn leaves. The seed is fixed, so that each run is the same.
 #[derive(Drop)]
-pub struct Random {
+pub struct RandomPolicy {
     pub(crate) frames: usize,
     pub(crate) pages: IndexSet<Key>,
     pub(crate) generator: Pcg32,

@@ -7,7 +7,7 @@ ghost use Rattle.page_policies.specs.SecondChance.{in_slots, touched, front_used
 ghost use Rattle.page_policies.specs.SlotLaws.{slots_of};
 
 use crate::frames::Frames;
-use crate::policy::{Outcome, Policy};
+use crate::policy::{HitOrMiss, Policy};
 use crate::refusal::PolicyRefusal;
 use clock_policy::{Entry, EntryKind, Key};
 use page_ring::IndexedRing;
@@ -136,11 +136,11 @@ impl Policy for SecondChance {
         Ok(SecondChance { frames, ring })
     }
 
-    fn refer(&mut self, page: Key) -> Result<Outcome, AllocError> {
+    fn refer(&mut self, page: Key) -> Result<HitOrMiss, AllocError> {
         if touch(&mut self.ring, page) {
-            return Ok(Outcome::Hit);
+            return Ok(HitOrMiss::Hit);
         }
         bring_in(&mut self.ring, self.frames, page);
-        Ok(Outcome::Miss)
+        Ok(HitOrMiss::Miss)
     }
 }

@@ -3,7 +3,7 @@ use Rattle.std.specs.Prelude.{◌≡◌, ℕ, List, map, option_map}
 use Rattle.flat_machine.specs.Process.{Process, opening}
 use Rattle.elf_image.specs.Start.{Start}
 use Rattle.miss_counts.specs.Counted.{IsTable, guest_pages}
-use Rattle.miss_counts.specs.declared.counts.Counts.{Counts}
+use Rattle.miss_counts.specs.declared.counts.PolicyCounts.{PolicyCounts}
 use Rattle.image_files.specs.Reading.{AreGiven}
 use Rattle.policies_cli.specs.declared.request.GuestRequest.{GuestRequest}
 use Rattle.policies_cli.specs.declared.request.MissesRequest.{MissesRequest}
@@ -22,7 +22,7 @@ module _ (gives : List ℕ → List ℕ → Type 0) where
 
   -- Each row has the misses of the guests' string, of the references that were asked for, by slices of so many instructions as were
   -- asked for, to the limit that was asked for, of the policies that were asked for, for the numbers of frames that were asked for, or for the usual ones.
-  pub record CountsAsAsked (request : MissesRequest) (rows : List Counts) : Type 0 where
+  pub record CountsAsAsked (request : MissesRequest) (rows : List PolicyCounts) : Type 0 where
     pub processes : List Process
     pub guests : AreGuests request.guest processes
     pub table : IsTable request.wanted (guest_pages request.guest.accesses request.guest.slice request.guest.limit processes) (option_map (λ f. f.items) request.frames) rows

@@ -3,7 +3,6 @@
 use crate::request::CurveRequest;
 use crate::table::{write_curve, write_estimate};
 use crate::teller::Teller;
-use crate::trace_file::{open_trace, read_sample, read_whole};
 use crate::windows_curve::run_windows;
 use crate::wrong::Wrong;
 use clock_policy::Key;
@@ -12,6 +11,7 @@ use std::alloc::{AllocError, Global};
 use std::io::Write;
 use std::num::NonZeroU32;
 use std::rt::Files;
+use trace_files::{open_trace, read_sample, read_whole};
 use whole_strings::{lru_curve, optimum_curve};
 
 /// Counts a trace, and writes a row for each number of frames up to as many as it has pages, or for each window.
@@ -30,7 +30,7 @@ pub(crate) fn run_curve<'a, R: Files + AllocGlobal, W: Write, E: Write>(
     }
 }
 
-/// Counts the whole trace: LRU in one pass, the optimum with each number of frames anew.
+/// Counts the whole trace: LRU in one pass, and the optimum in another.
 fn count<'a, R: Files + AllocGlobal, W: Write, E: Write>(
     rt: &R,
     request: &CurveRequest<'a>,

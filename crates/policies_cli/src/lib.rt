@@ -2,16 +2,13 @@
 #![tactic(auto)]
 
 mod access_choice;
-mod address_lines;
 mod commands;
 mod curve_command;
-mod formats;
 mod frame_lists;
 mod guests;
 mod misses_command;
 mod policy_names;
 mod program;
-mod reference_line;
 mod replay_command;
 mod request;
 mod requests;
@@ -19,7 +16,6 @@ mod table;
 mod teller;
 mod totals_command;
 mod trace_command;
-mod trace_file;
 mod windows_curve;
 mod write_backs_command;
 mod wrong;

@@ -9,7 +9,7 @@ use crate::table::write_table;
 use crate::teller::Teller;
 use crate::wrong::Wrong;
 use image_files::Folder;
-use miss_counts::{Counts, Progress, guest_rows};
+use miss_counts::{PolicyCounts, StageListener, guest_rows};
 use std::io::Write;
 use std::rt::Files;
 
@@ -30,11 +30,11 @@ pub(crate) fn run_misses<'a, R: Files + AllocGlobal, W: Write, E: Write>(
 }
 
 /// The rows of the table.
-pub fn count_misses<'a, R: Folder + AllocGlobal, P: Progress>(
+pub fn count_misses<'a, R: Folder + AllocGlobal, P: StageListener>(
     rt: &R,
     request: MissesRequest<'a>,
     progress: &mut P,
-) -> Result<Vec<Counts>, Wrong<'a>>
+) -> Result<Vec<PolicyCounts>, Wrong<'a>>
     ensures { IfOk result (λ rows. CountsAsAsked R.gives request.entry rows.items) }
 {
     let processes = read_guests(rt, &request.guest)?;

@@ -3,7 +3,7 @@
 use crate::curve_command::run_curve;
 use crate::misses_command::run_misses;
 use crate::replay_command::run_replay;
-use crate::request::Request;
+use crate::request::PoliciesRequest;
 use crate::requests::read_request;
 use crate::totals_command::run_totals;
 use crate::trace_command::run_trace;
@@ -66,11 +66,11 @@ fn run_words<'a, R: Files + AllocGlobal, S: AsStr, O: Write, E: Write>(
     err: &mut E,
 ) -> Result<(), Wrong<'a>> {
     match read_request(rt.alloc(), words)? {
-        Request::Misses(request) => run_misses(rt, request, out, err),
-        Request::Trace(request) => Ok(run_trace(rt, &request, out)?),
-        Request::Replay(request) => run_replay(rt, &request, out, err),
-        Request::Curve(request) => run_curve(rt, &request, out, err),
-        Request::WriteBacks(request) => run_write_backs(rt, &request, out, err),
-        Request::Totals(request) => run_totals(rt, &request, out, err),
+        PoliciesRequest::Misses(request) => run_misses(rt, request, out, err),
+        PoliciesRequest::Trace(request) => Ok(run_trace(rt, &request, out)?),
+        PoliciesRequest::Replay(request) => run_replay(rt, &request, out, err),
+        PoliciesRequest::Curve(request) => run_curve(rt, &request, out, err),
+        PoliciesRequest::WriteBacks(request) => run_write_backs(rt, &request, out, err),
+        PoliciesRequest::Totals(request) => run_totals(rt, &request, out, err),
     }
 }

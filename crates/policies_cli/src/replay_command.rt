@@ -3,14 +3,14 @@
 use crate::request::ReplayRequest;
 use crate::table::write_table;
 use crate::teller::Teller;
-use crate::trace_file::{BLOCK, TraceFile, open_trace, read_whole};
 use crate::wrong::Wrong;
 use image_files::Fault;
-use miss_counts::{Counts, PolicySet, Progress, Row, Stage, rows_of};
+use miss_counts::{PolicyCounts, PolicySet, Row, Stage, StageListener, rows_of};
 use page_policies::Frames;
 use std::alloc::Global;
 use std::io::{BufRead, Write};
 use std::rt::Files;
+use trace_files::{BLOCK, TraceFault, TraceFile, open_trace, read_whole};
 
 /// Plays a trace on each policy as it comes, and writes the table.
 pub(crate) fn run_replay<'a, R: Files + AllocGlobal, W: Write, E: Write>(
@@ -27,11 +27,11 @@ pub(crate) fn run_replay<'a, R: Files + AllocGlobal, W: Write, E: Write>(
     Ok(())
 }
 
-fn count_trace<'a, R: Files + AllocGlobal, P: Progress>(
+fn count_trace<'a, R: Files + AllocGlobal, P: StageListener>(
     rt: &R,
     request: &ReplayRequest<'a>,
     progress: &mut P,
-) -> Result<Vec<Counts>, Wrong<'a>> {
+) -> Result<Vec<PolicyCounts>, Wrong<'a>> {
     let alloc = rt.alloc();
     let mut trace = open_trace(rt, request.trace, request.format)?;
     if request.wanted.optimum {
@@ -42,12 +42,12 @@ fn count_trace<'a, R: Files + AllocGlobal, P: Progress>(
 }
 
 /// Keeps the whole string.
-fn count_whole<'a, B: BufRead + Drop, P: Progress>(
+fn count_whole<'a, B: BufRead + Drop, P: StageListener>(
     alloc: Global,
     trace: &mut TraceFile<'a, B>,
     request: &ReplayRequest<'a>,
     progress: &mut P,
-) -> Result<Vec<Counts>, Wrong<'a>> {
+) -> Result<Vec<PolicyCounts>, Wrong<'a>> {
     let string = read_whole(alloc, trace, progress)?;
     Ok(rows_of(
         alloc,
@@ -59,18 +59,18 @@ fn count_whole<'a, B: BufRead + Drop, P: Progress>(
 }
 
 /// Keeps what the policies keep, and a block of references. What the first references miss that are skipped is not told.
-fn count_as_it_comes<'a, B: BufRead + Drop, P: Progress>(
+fn count_as_it_comes<'a, B: BufRead + Drop, P: StageListener>(
     alloc: Global,
     trace: &mut TraceFile<'a, B>,
     request: &ReplayRequest<'a>,
     progress: &mut P,
-) -> Result<Vec<Counts>, Wrong<'a>> {
+) -> Result<Vec<PolicyCounts>, Wrong<'a>> {
     let mut rows = new_rows(alloc, request.frames.as_slice(), request.wanted)?;
     play(alloc, trace, &mut rows, request.skip, progress)?;
     let skipped = counts_of(alloc, rows.as_slice())?;
     let played = play(alloc, trace, &mut rows, u64::MAX, progress)?;
     if played == 0 {
-        return Err(Wrong::Empty(request.trace));
+        return Err(Wrong::Trace(TraceFault::Empty(request.trace)));
     }
     let mut counts = counts_of(alloc, rows.as_slice())?;
     for (counts, skipped) in counts.iter_mut().zip(skipped.iter()) {
@@ -80,7 +80,7 @@ fn count_as_it_comes<'a, B: BufRead + Drop, P: Progress>(
 }
 
 /// Plays the next references, so many at most, and answers how many there were.
-fn play<'a, B: BufRead + Drop, P: Progress>(
+fn play<'a, B: BufRead + Drop, P: StageListener>(
     alloc: Global,
     trace: &mut TraceFile<'a, B>,
     rows: &mut Vec<Row>,
@@ -118,7 +118,7 @@ fn new_rows<'a>(
     Ok(rows)
 }
 
-fn counts_of<'a>(alloc: Global, rows: &[Row]) -> Result<Vec<Counts>, Wrong<'a>> {
+fn counts_of<'a>(alloc: Global, rows: &[Row]) -> Result<Vec<PolicyCounts>, Wrong<'a>> {
     let mut counts = Vec::new(alloc);
     for row in rows {
         if counts.push(row.counts()).is_err() {

@@ -4,10 +4,11 @@ use guest_strings::AccessKinds;
 use miss_counts::PolicySet;
 use page_policies::Frames;
 use std::num::NonZeroU32;
+use trace_files::TraceFormat;
 
 /// What is asked for on the command line.
 #[derive(Drop)]
-pub enum Request<'a> {
+pub enum PoliciesRequest<'a> {
     Misses(MissesRequest<'a>),
     Trace(TraceRequest<'a>),
     Replay(ReplayRequest<'a>),
@@ -54,14 +55,14 @@ pub struct MissesRequest<'a> {
 #[derive(Drop)]
 pub struct TraceRequest<'a> {
     pub guest: GuestRequest<'a>,
-    pub format: Format,
+    pub format: TraceFormat,
 }
 
 /// Count what a trace misses.
 #[derive(Drop)]
 pub struct ReplayRequest<'a> {
     pub frames: Vec<Frames>,
-    pub format: Format,
+    pub format: TraceFormat,
     /// Where the optimum is among them the whole string is kept.
     pub wanted: PolicySet,
     /// How many references come before those whose misses are told.
@@ -73,7 +74,7 @@ pub struct ReplayRequest<'a> {
 /// Count what a trace misses under LRU with every number of frames, or its working sets.
 #[derive(Drop)]
 pub struct CurveRequest<'a> {
-    pub format: Format,
+    pub format: TraceFormat,
     /// Whether the optimum is counted too.
     pub has_optimum: bool,
     /// Whether working sets are counted with every window, and nothing else.
@@ -88,7 +89,7 @@ pub struct CurveRequest<'a> {
 #[derive(Drop)]
 pub struct WriteBacksRequest<'a> {
     pub frames: Vec<Frames>,
-    pub format: Format,
+    pub format: TraceFormat,
     pub wanted: PolicySet,
     pub printing: Printing,
     pub trace: &'a str,
@@ -97,23 +98,8 @@ pub struct WriteBacksRequest<'a> {
 /// Count a trace's references and pages.
 #[derive(Drop)]
 pub struct TotalsRequest<'a> {
-    pub format: Format,
+    pub format: TraceFormat,
     /// Whether it is told on standard error how far the count is.
     pub is_told: bool,
     pub trace: &'a str,
-}
-
-/// How a string of references is written.
-#[derive(Clone, Copy, Debug, PartialEq, Eq)]
-pub enum Format {
-    /// A page a line: the numbers of a process and of a page.
-    Text,
-    /// `time,id,size`.
-    Csv,
-    /// The binary format of libCacheSim whose records know the next use.
-    OracleGeneral,
-    /// What valgrind's lackey writes: an access a line.
-    Lackey,
-    /// What DynamoRIO's clients write as text.
-    DynamoRio,
 }

@@ -5,7 +5,7 @@ use crate::commands::policies;
 use crate::frame_lists::{ListFault, frames_in};
 use crate::policy_names::{NAMES, USUAL, policies_in};
 use crate::request::{
-    CurveRequest, Format, GuestRequest, MissesRequest, Printing, ReplayRequest, Request,
+    CurveRequest, GuestRequest, MissesRequest, PoliciesRequest, Printing, ReplayRequest,
     TotalsRequest, TraceRequest, WriteBacksRequest,
 };
 use crate::wrong::Wrong;
@@ -19,6 +19,7 @@ use std::alloc::Global;
 use std::convert::AsStr;
 use std::num::NonZeroU32;
 use text_lines::numeral;
+use trace_files::TraceFormat;
 
 /// The most frames that a trace is replayed with.
 const MOST_REPLAY_FRAMES: u32 = 16_777_216;
@@ -35,7 +36,7 @@ const REPLAY_FRAMES: &str =
 pub(crate) fn read_request<'a, S: AsStr>(
     alloc: Global,
     words: &'a [S],
-) -> Result<Request<'a>, Wrong<'a>> {
+) -> Result<PoliciesRequest<'a>, Wrong<'a>> {
     let matches = match policies(alloc)?.try_get_matches_from(words) {
         Ok(matches) => matches,
         Err(error) => {
@@ -46,14 +47,14 @@ pub(crate) fn read_request<'a, S: AsStr>(
         }
     };
     match matches.subcommand() {
-        Some(("misses", matches)) => Ok(Request::Misses(misses_request(alloc, matches)?)),
-        Some(("trace", matches)) => Ok(Request::Trace(trace_request(alloc, matches)?)),
-        Some(("replay", matches)) => Ok(Request::Replay(replay_request(alloc, matches)?)),
-        Some(("curve", matches)) => Ok(Request::Curve(curve_request(matches)?)),
-        Some(("write-backs", matches)) => Ok(Request::WriteBacks(write_backs_request(
+        Some(("misses", matches)) => Ok(PoliciesRequest::Misses(misses_request(alloc, matches)?)),
+        Some(("trace", matches)) => Ok(PoliciesRequest::Trace(trace_request(alloc, matches)?)),
+        Some(("replay", matches)) => Ok(PoliciesRequest::Replay(replay_request(alloc, matches)?)),
+        Some(("curve", matches)) => Ok(PoliciesRequest::Curve(curve_request(matches)?)),
+        Some(("write-backs", matches)) => Ok(PoliciesRequest::WriteBacks(write_backs_request(
             alloc, matches,
         )?)),
-        Some(("totals", matches)) => Ok(Request::Totals(totals_request(matches)?)),
+        Some(("totals", matches)) => Ok(PoliciesRequest::Totals(totals_request(matches)?)),
         _ => Err(Wrong::Fault(Fault::BadUsage)),
     }
 }
@@ -239,13 +240,13 @@ fn refuse_frames<'a>(frames: &[Frames], wanted: PolicySet) -> Result<(), Wrong<'
     Ok(())
 }
 
-fn format<'a>(matches: &ArgMatches<'a>) -> Result<Format, Wrong<'a>> {
+fn format<'a>(matches: &ArgMatches<'a>) -> Result<TraceFormat, Wrong<'a>> {
     match matches.get_str("format") {
-        None | Some("text") => Ok(Format::Text),
-        Some("csv") => Ok(Format::Csv),
-        Some("oraclegeneral") => Ok(Format::OracleGeneral),
-        Some("lackey") => Ok(Format::Lackey),
-        Some("dynamorio") => Ok(Format::DynamoRio),
+        None | Some("text") => Ok(TraceFormat::Text),
+        Some("csv") => Ok(TraceFormat::Csv),
+        Some("oraclegeneral") => Ok(TraceFormat::OracleGeneral),
+        Some("lackey") => Ok(TraceFormat::Lackey),
+        Some("dynamorio") => Ok(TraceFormat::DynamoRio),
         Some(other) => Err(Wrong::Value("format", other, FORMATS)),
     }
 }

@@ -1,7 +1,7 @@
 //! The table of misses.
 
 use crate::request::Printing;
-use miss_counts::Counts;
+use miss_counts::PolicyCounts;
 use page_policies::Frames;
 use std::io;
 use std::io::Write;
@@ -15,7 +15,7 @@ const WIDER: usize = 18;
 /// A policy's name, and its misses where they were counted.
 type Column = (&'static str, Option<u64>);
 
-fn columns_of(counts: &Counts) -> [Column; 12] {
+fn columns_of(counts: &PolicyCounts) -> [Column; 12] {
     [
         ("fifo", counts.fifo),
         ("clock", counts.clock),
@@ -34,7 +34,7 @@ fn columns_of(counts: &Counts) -> [Column; 12] {
 
 /// Writes a row for each number of frames. What was counted has a column.
 pub(crate) fn write_table<W: Write>(
-    rows: &[Counts],
+    rows: &[PolicyCounts],
     printing: Printing,
     out: &mut W,
 ) -> io::Result<()> {
@@ -47,7 +47,11 @@ pub(crate) fn write_table<W: Write>(
     Ok(())
 }
 
-fn write_any_head<W: Write>(counts: &Counts, printing: Printing, out: &mut W) -> io::Result<()> {
+fn write_any_head<W: Write>(
+    counts: &PolicyCounts,
+    printing: Printing,
+    out: &mut W,
+) -> io::Result<()> {
     if printing.is_csv {
         write_csv_head(counts, out)
     } else {
@@ -55,7 +59,11 @@ fn write_any_head<W: Write>(counts: &Counts, printing: Printing, out: &mut W) ->
     }
 }
 
-fn write_any_row<W: Write>(counts: &Counts, printing: Printing, out: &mut W) -> io::Result<()> {
+fn write_any_row<W: Write>(
+    counts: &PolicyCounts,
+    printing: Printing,
+    out: &mut W,
+) -> io::Result<()> {
     if printing.is_csv {
         write_csv_row(counts, printing, out)
     } else {
@@ -63,7 +71,7 @@ fn write_any_row<W: Write>(counts: &Counts, printing: Printing, out: &mut W) -> 
     }
 }
 
-fn write_csv_head<W: Write>(counts: &Counts, out: &mut W) -> io::Result<()> {
+fn write_csv_head<W: Write>(counts: &PolicyCounts, out: &mut W) -> io::Result<()> {
     write!(out, "frames")?;
     for (name, misses) in columns_of(counts) {
         if misses.is_some() {
@@ -76,7 +84,11 @@ fn write_csv_head<W: Write>(counts: &Counts, out: &mut W) -> io::Result<()> {
     writeln!(out)
 }
 
-fn write_csv_row<W: Write>(counts: &Counts, printing: Printing, out: &mut W) -> io::Result<()> {
+fn write_csv_row<W: Write>(
+    counts: &PolicyCounts,
+    printing: Printing,
+    out: &mut W,
+) -> io::Result<()> {
     let frames = counts.frames.number();
     write!(out, "{frames}")?;
     for (_, misses) in columns_of(counts) {
@@ -105,11 +117,11 @@ fn write_csv_value<W: Write>(
 }
 
 /// Whether beside each policy's misses stands how many times the optimum's they are.
-fn has_shares(counts: &Counts, printing: Printing) -> bool {
+fn has_shares(counts: &PolicyCounts, printing: Printing) -> bool {
     counts.optimum.is_some() && !printing.is_ratio
 }
 
-fn write_head<W: Write>(counts: &Counts, printing: Printing, out: &mut W) -> io::Result<()> {
+fn write_head<W: Write>(counts: &PolicyCounts, printing: Printing, out: &mut W) -> io::Result<()> {
     let wide = if has_shares(counts, printing) {
         WIDER
     } else {
@@ -142,7 +154,7 @@ fn write_blanks<W: Write>(count: usize, out: &mut W) -> io::Result<()> {
     Ok(())
 }
 
-fn write_row<W: Write>(counts: &Counts, printing: Printing, out: &mut W) -> io::Result<()> {
+fn write_row<W: Write>(counts: &PolicyCounts, printing: Printing, out: &mut W) -> io::Result<()> {
     let frames = counts.frames.number();
     let has_shares = has_shares(counts, printing);
     write!(out, "{frames:>6}")?;
@@ -215,7 +227,7 @@ pub(crate) fn write_curve<W: Write>(
         let Some(frames) = Frames::new(at.saturating_add(1)) else {
             return Ok(());
         };
-        let counts = Counts {
+        let counts = PolicyCounts {
             references,
             lru: Some(*misses as u64),
             optimum: optimum.get(at).map(|misses| *misses as u64),
@@ -230,8 +242,8 @@ pub(crate) fn write_curve<W: Write>(
 }
 
 /// Nothing was counted with so many frames.
-fn no_counts(frames: Frames) -> Counts {
-    Counts {
+fn no_counts(frames: Frames) -> PolicyCounts {
+    PolicyCounts {
         frames,
         references: 0,
         fifo: None,

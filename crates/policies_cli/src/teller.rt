@@ -1,6 +1,6 @@
 //! How far a command is, told on standard error.
 
-use miss_counts::{Progress, Stage};
+use miss_counts::{Stage, StageListener};
 use std::io::Write;
 
 /// A line that each stage writes anew, and that is erased at the end. What can't be told is left out.
@@ -27,7 +27,7 @@ impl<'e, E: Write> Teller<'e, E> {
     }
 }
 
-impl<'e, E: Write> Progress for Teller<'e, E> {
+impl<'e, E: Write> StageListener for Teller<'e, E> {
     fn tell(&mut self, stage: Stage) {
         if !self.is_shown {
             return;

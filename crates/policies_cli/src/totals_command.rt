@@ -2,15 +2,14 @@
 
 use crate::request::TotalsRequest;
 use crate::teller::Teller;
-use crate::trace_file::{BLOCK, TraceFile, open_trace};
 use crate::wrong::Wrong;
-use clock_policy::Key;
 use image_files::Fault;
-use miss_counts::{Progress, Stage};
+use miss_counts::{Stage, StageListener};
 use std::alloc::Global;
 use std::collections::HashSet;
 use std::io::{BufRead, Write};
 use std::rt::Files;
+use trace_files::{TraceFault, TraceFile, open_trace};
 
 /// Counts of a trace.
 #[derive(Clone, Copy, Debug, PartialEq, Eq)]
@@ -35,7 +34,7 @@ pub(crate) fn run_totals<'a, R: Files + AllocGlobal, W: Write, E: Write>(
     teller.erase();
     let totals = counted?;
     if totals.references == 0 {
-        return Err(Wrong::Empty(request.trace));
+        return Err(Wrong::Trace(TraceFault::Empty(request.trace)));
     }
     writeln!(out, "references {}", totals.references)?;
     writeln!(out, "writes {}", totals.writes)?;
@@ -43,36 +42,28 @@ pub(crate) fn run_totals<'a, R: Files + AllocGlobal, W: Write, E: Write>(
     Ok(())
 }
 
-fn count<'a, B: BufRead + Drop, P: Progress>(
+fn count<'a, B: BufRead + Drop, P: StageListener>(
     alloc: Global,
     trace: &mut TraceFile<'a, B>,
     progress: &mut P,
 ) -> Result<Totals, Wrong<'a>> {
     let mut seen = HashSet::new(alloc);
-    let mut block = Vec::new(alloc);
     let mut references = 0u64;
+    let mut writes = 0u64;
     for _ in 0..u64::MAX {
-        trace.fill(&mut block, BLOCK)?;
-        if block.is_empty() {
+        let Some(reference) = trace.next()? else {
             break;
+        };
+        if seen.insert(reference.page).is_err() {
+            return Err(Wrong::Fault(Fault::NoMemory));
         }
-        note_all(&mut seen, block.as_slice())?;
-        references = references.saturating_add(block.len() as u64);
+        references = references.saturating_add(1);
+        writes = writes.saturating_add(u64::from(reference.is_written));
         progress.tell(Stage::References(references));
     }
     Ok(Totals {
         references,
-        writes: trace.writes(),
+        writes,
         pages: seen.len() as u64,
     })
-}
-
-/// Pages that were used.
-fn note_all<'a>(seen: &mut HashSet<Key>, pages: &[Key]) -> Result<(), Wrong<'a>> {
-    for page in pages {
-        if seen.insert(*page).is_err() {
-            return Err(Wrong::Fault(Fault::NoMemory));
-        }
-    }
-    Ok(())
 }

@@ -1,15 +1,15 @@
 //! `policies trace`: the string of references of guests.
 
-use crate::formats::{CSV_HEADER, write_csv, write_oracle};
 use crate::guests::read_guests;
-use crate::reference_line::write_line;
-use crate::request::{Format, TraceRequest};
+use crate::request::TraceRequest;
 use guest_strings::GuestString;
 use image_files::Fault;
 use miss_counts::{Quiet, pages_of};
 use std::alloc::Global;
 use std::io::Write;
 use std::rt::Files;
+use trace_files::{CSV_HEADER, TraceFormat, write_csv, write_line, write_records};
+use whole_strings::next_uses;
 
 /// Writes the string, reference by reference; with its next uses once it is whole.
 pub(crate) fn run_trace<'a, R: Files + AllocGlobal, W: Write>(
@@ -22,9 +22,12 @@ pub(crate) fn run_trace<'a, R: Files + AllocGlobal, W: Write>(
     let limit = u64::from(guest.limit);
     let mut guests = GuestString::new(processes, guest.accesses, guest.slice, limit);
     match request.format {
-        Format::Text | Format::Lackey | Format::DynamoRio => write_text(&mut guests, out),
-        Format::Csv => write_all_csv(&mut guests, out),
-        Format::OracleGeneral => write_all_oracle(rt.alloc(), guests, out),
+        TraceFormat::Text | TraceFormat::Lackey | TraceFormat::DynamoRio => write_text(
+            &mut guests,
+            out,
+        ),
+        TraceFormat::Csv => write_all_csv(&mut guests, out),
+        TraceFormat::OracleGeneral => write_all_oracle(rt.alloc(), guests, out),
     }
 }
 
@@ -51,5 +54,7 @@ fn write_all_oracle<'a, W: Write>(
     out: &mut W,
 ) -> Result<(), Fault<'a>> {
     let string = pages_of(alloc, guests, &mut Quiet)?;
-    write_oracle(alloc, string.as_slice(), out)
+    let uses = next_uses(alloc, string.as_slice())?;
+    write_records(string.as_slice(), uses.as_slice(), out)?;
+    Ok(())
 }

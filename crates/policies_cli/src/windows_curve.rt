@@ -3,11 +3,11 @@
 use crate::request::{CurveRequest, Printing};
 use crate::table::{part_of, write_ratio};
 use crate::teller::Teller;
-use crate::trace_file::{open_trace, read_whole};
 use crate::wrong::Wrong;
 use std::io;
 use std::io::Write;
 use std::rt::Files;
+use trace_files::{open_trace, read_whole};
 use whole_strings::{WindowCounts, window_curve};
 
 /// Counts the working sets of a whole trace, and writes a row for each window up to the one with which each page misses once.

@@ -3,11 +3,11 @@
 use crate::request::WriteBacksRequest;
 use crate::table::write_table;
 use crate::teller::Teller;
-use crate::trace_file::{open_trace, read_references};
 use crate::wrong::Wrong;
-use miss_counts::{Counts, Progress};
+use miss_counts::{PolicyCounts, StageListener};
 use std::io::Write;
 use std::rt::Files;
+use trace_files::{open_trace, read_references};
 use write_backs::write_back_rows;
 
 /// Plays a trace on each policy, and writes a table of the pages that are written back.
@@ -25,11 +25,11 @@ pub(crate) fn run_write_backs<'a, R: Files + AllocGlobal, W: Write, E: Write>(
     Ok(())
 }
 
-fn count<'a, R: Files + AllocGlobal, P: Progress>(
+fn count<'a, R: Files + AllocGlobal, P: StageListener>(
     rt: &R,
     request: &WriteBacksRequest<'a>,
     progress: &mut P,
-) -> Result<Vec<Counts>, Wrong<'a>> {
+) -> Result<Vec<PolicyCounts>, Wrong<'a>> {
     let alloc = rt.alloc();
     let mut trace = open_trace(rt, request.trace, request.format)?;
     let string = read_references(alloc, &mut trace, progress)?;

@@ -4,6 +4,7 @@ use image_files::Fault;
 use page_policies::PolicyRefusal;
 use std::alloc::AllocError;
 use std::io;
+use trace_files::TraceFault;
 
 /// Why a command stops. What is of the other programs too is their fault.
 #[derive(Debug, Drop, thiserror::Error)]
@@ -24,23 +25,24 @@ pub enum Wrong<'a> {
     ClockProFrames(usize),
     #[error("clock-pro and clock-pro-used have 4 to 4096 frames; name others by --policies")]
     BadSize,
-    #[error("{0}: no references")]
-    Empty(&'a str),
-    #[error("{0}: its first line names no column `id`, `obj_id`, `object_id`, `key` or `page`")]
-    NoColumn(&'a str),
-    /// A line, from 1 on, and what stands there.
-    #[error("line {0}: bad line: {1}")]
-    Line(u64, String),
-    /// A text where records were asked for.
-    #[error("{0}: it is a text, and no records of 24 bytes; --format text or csv reads one")]
-    Text(&'a str),
-    #[error("record {0}: bad record: {1} bytes of 24")]
-    Record(u64, usize),
+    /// What stands in a trace.
+    #[error("{0}")]
+    Trace(TraceFault<'a>),
 }
 
 impl<'a> From<Fault<'a>> for Wrong<'a> {
     fn from(fault: Fault<'a>) -> Self {
         Wrong::Fault(fault)
+    }
+}
+
+impl<'a> From<TraceFault<'a>> for Wrong<'a> {
+    fn from(fault: TraceFault<'a>) -> Self {
+        match fault {
+            TraceFault::NoMemory => Wrong::Fault(Fault::NoMemory),
+            TraceFault::CannotRead(name) => Wrong::Fault(Fault::CannotRead(name)),
+            other => Wrong::Trace(other),
+        }
     }
 }
 

@@ -3,7 +3,7 @@
 use clock_policy::Key;
 use clock_ring::ClockRing;
 use page_policies::{
-    Fifo, Frames, Lru, Policy, Random, SecondChance, misses, more_frames_never_miss_more,
+    Fifo, Frames, Lru, Policy, RandomPolicy, SecondChance, misses, more_frames_never_miss_more,
     no_policy_misses_less, optimum_is_a_play,
 };
 use std::alloc::Global;
@@ -55,7 +55,7 @@ fn younger_policies_miss_as_in_the_model(rt: HostRuntime) -> Result<(), Fail> {
     assert_eq!(rt; with_three_and_four::<Arc>(rt.alloc())?, (10, 7));
     assert_eq!(rt; with_three_and_four::<Sieve>(rt.alloc())?, (10, 8));
     assert_eq!(rt; with_three_and_four::<S3Fifo>(rt.alloc())?, (10, 10));
-    assert_eq!(rt; with_three_and_four::<Random>(rt.alloc())?, (10, 6));
+    assert_eq!(rt; with_three_and_four::<RandomPolicy>(rt.alloc())?, (10, 6));
     Ok(())
 }
 

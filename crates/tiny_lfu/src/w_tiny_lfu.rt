@@ -10,7 +10,7 @@ ghost use Rattle.tiny_lfu.specs.WTinyLfuLaws.{lists_of, touched};
 use crate::sketch_state::Sketch;
 use crate::w_tiny_lfu_state::WTinyLfu;
 use clock_policy::Key;
-use page_policies::{Frames, Outcome, Policy, PolicyRefusal, Queue};
+use page_policies::{Frames, HitOrMiss, Policy, PolicyRefusal, Queue};
 use std::alloc::{AllocError, Global};
 
 /// How many frames the window has.
@@ -209,11 +209,11 @@ impl Policy for WTinyLfu {
         })
     }
 
-    fn refer(&mut self, page: Key) -> Result<Outcome, AllocError> {
+    fn refer(&mut self, page: Key) -> Result<HitOrMiss, AllocError> {
         if self.step(page)? {
-            Ok(Outcome::Hit)
+            Ok(HitOrMiss::Hit)
         } else {
-            Ok(Outcome::Miss)
+            Ok(HitOrMiss::Miss)
         }
     }
 }

@@ -1,6 +1,6 @@
 //! Lines of traces of addresses, as other tools write them. A page has 4096 bytes there.
 
-use crate::formats::id_to;
+use crate::number_text::id_to;
 use text_lines::next_word;
 
 /// How many bytes a page has.

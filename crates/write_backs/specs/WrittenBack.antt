@@ -13,12 +13,12 @@ use Rattle.younger_policies.specs.S3Fifo.{s3_fifo_misses}
 use Rattle.tiny_lfu.specs.WTinyLfu.{w_tiny_lfu_misses}
 use Rattle.guest_strings.specs.declared.reference.Reference.{Reference}
 use Rattle.miss_counts.specs.Counted.{asked}
-use Rattle.miss_counts.specs.declared.counts.Counts.{Counts}
+use Rattle.miss_counts.specs.declared.counts.PolicyCounts.{PolicyCounts}
 use Rattle.miss_counts.specs.declared.policy_set.PolicySet.{PolicySet}
 use Rattle.write_backs.specs.WriteBacks.{write_backs}
 
 -- what each policy that is asked for writes back of a string with so many frames
-abbrev pub written_back : PolicySet → List Reference → Frames → Counts
+abbrev pub written_back : PolicySet → List Reference → Frames → PolicyCounts
 written_back wanted string frames = record {
   frames = frames;
   references = length string;

@@ -3,13 +3,13 @@
 ghost use Rattle.std.specs.Prelude.{◌≡◌, ◌↔◌, ◌≤◌, cond, false, Err, IfOk, OnOk};
 ghost use Rattle.std.specs.HashSet.{contains};
 ghost use Rattle.clock_policy.specs.declared.key.Key.{Key};
-ghost use Rattle.page_policies.specs.Outcomes.{miss_count};
+ghost use Rattle.page_policies.specs.HitsAndMisses.{miss_count};
 ghost use Rattle.page_policies.specs.Strings.{is_page};
 ghost use Rattle.write_backs.specs.WriteBacks.{is_dirty, dirtied, dirty_after, write_backs};
 
 use clock_policy::Key;
 use guest_strings::Reference;
-use page_policies::{Frames, Outcome, Policy, PolicyRefusal};
+use page_policies::{Frames, HitOrMiss, Policy, PolicyRefusal};
 use std::alloc::{AllocError, Global};
 use std::collections::HashSet;
 
@@ -20,12 +20,12 @@ fn none_dirty(alloc: Global) -> HashSet<Key>
     HashSet::new(alloc)
 }
 
-fn is_miss(outcome: Outcome) -> bool
+fn is_miss(outcome: HitOrMiss) -> bool
     ensures { miss_count outcome ≡ cond result 1 0 }
 {
     match outcome {
-        Outcome::Hit => false,
-        Outcome::Miss => true,
+        HitOrMiss::Hit => false,
+        HitOrMiss::Miss => true,
     }
 }
 

@@ -8,8 +8,8 @@ ghost use Rattle.write_backs.specs.WrittenBack.{written_back};
 use crate::dirty_pages::write_backs;
 use clock_ring::ClockRing;
 use guest_strings::Reference;
-use miss_counts::{Counts, PolicySet, Progress, Stage};
-use page_policies::{Fifo, Frames, Lru, Policy, PolicyRefusal, Random, SecondChance};
+use miss_counts::{PolicyCounts, PolicySet, Stage, StageListener};
+use page_policies::{Fifo, Frames, Lru, Policy, PolicyRefusal, RandomPolicy, SecondChance};
 use std::alloc::{AllocError, Global};
 use tiny_lfu::WTinyLfu;
 use younger_policies::{Arc, ClockPro, ClockProUsed, Lirs, S3Fifo, Sieve, TwoQueues};
@@ -42,7 +42,7 @@ fn counts_of(
     frames: Frames,
     string: &[Reference],
     wanted: PolicySet,
-) -> Result<Counts, AllocError>
+) -> Result<PolicyCounts, AllocError>
     requires { serves wanted frames.number ≡ true }
     ensures { IfOk result (λ counts. counts ≡ written_back wanted string.now frames) }
 {
@@ -62,8 +62,8 @@ fn counts_of(
     let sieve = write_backs_if::<Sieve>(alloc, frames, string, wanted.sieve)?;
     let s3_fifo = write_backs_if::<S3Fifo>(alloc, frames, string, wanted.s3_fifo)?;
     let w_tiny_lfu = write_backs_if::<WTinyLfu>(alloc, frames, string, wanted.w_tiny_lfu)?;
-    let random = write_backs_if::<Random>(alloc, frames, string, wanted.random)?;
-    Ok(Counts {
+    let random = write_backs_if::<RandomPolicy>(alloc, frames, string, wanted.random)?;
+    Ok(PolicyCounts {
         frames,
         references: string.len() as u64,
         fifo,
@@ -83,13 +83,13 @@ fn counts_of(
 }
 
 /// What is written back of a string with each of these numbers of frames, under the policies that are asked for.
-pub fn write_back_rows<P: Progress>(
+pub fn write_back_rows<P: StageListener>(
     alloc: Global,
     frames: &[Frames],
     string: &[Reference],
     wanted: PolicySet,
     progress: &mut P,
-) -> Result<Vec<Counts>, PolicyRefusal>
+) -> Result<Vec<PolicyCounts>, PolicyRefusal>
     ensures rows { IfOk result (λ rows. rows.items ≡ map (written_back wanted string.now)
         frames.now) }
     ensures bad_size { (result ≡ Err PolicyRefusal.BadSize) ↔ (all_serve wanted frames.now ≡
@@ -102,13 +102,13 @@ pub fn write_back_rows<P: Progress>(
 }
 
 /// The same rows. Each policy serves each number of frames.
-fn count_rows<P: Progress>(
+fn count_rows<P: StageListener>(
     alloc: Global,
     frames: &[Frames],
     string: &[Reference],
     wanted: PolicySet,
     progress: &mut P,
-) -> Result<Vec<Counts>, AllocError>
+) -> Result<Vec<PolicyCounts>, AllocError>
     requires { all_serve wanted frames.now ≡ true }
     ensures { IfOk result (λ rows. rows.items ≡ map (written_back wanted string.now) frames.now) }
 {

@@ -55,7 +55,8 @@ abbrev pub marked_used : Key → Play → Play
 marked_used p s = record { clock = s.clock; used = λ q. cond (is_page p q) true (s.used q) }
 
 -- As published (Song Jiang, Feng Chen and Xiaodong Zhang, "CLOCK-Pro: An Effective Improvement of the CLOCK Replacement", USENIX
--- Annual Technical Conference 2005): a page comes in with its reference bit clear, which a use of it in its frame sets.
+-- Annual Technical Conference 2005): a page comes in with its reference bit clear, which a use of it in its frame sets. The list itself is
+-- the machine's (`ClockPro` of clock_policy), whose differences from the publication docs/REPLACEMENT.md names.
 abbrev pub clock_pro : ℕ → Key → Play → Play
 clock_pro turns p s = cond (in_play p s) (marked_used p s) (placed turns p s)
 

@@ -1,7 +1,8 @@
 -- S3-FIFO: Juncheng Yang, Yazhuo Zhang, Ziyue Qiu, Yao Yue and K. V. Rashmi, "FIFO Queues are All You Need for Cache Eviction",
 -- SOSP 2023, algorithm 1. Lines of its pseudo-code stand beside the equations, with its authors' names: S and M are the small and the
 -- main queue, G the ghosts, and S has 10% of the frames. Read so: M is full where it has more pages than S leaves it frames, of which
--- S has one at least; and there are as many ghosts as M has frames, at most.
+-- S has one at least, and else a tenth rounded down; S is compared with a tenth that is not rounded (line 15); there are as many ghosts as M
+-- has frames, at most; a page that comes back is a ghost no more; and a page that goes from S to M keeps its count, which no line clears.
 use Rattle.std.specs.Prelude.{ℕ, zero, suc, ◌+◌, ◌-◌, ◌*◌, ◌/◌, Bool, true, cond, nat_lt, nat_le, min, max, List, [], length, Option, Some, None}
 use Rattle.clock_policy.specs.declared.key.Key.{Key}
 use Rattle.page_policies.specs.Strings.{is_page, holds, without, misses}

@@ -6,7 +6,7 @@ ghost use Rattle.younger_policies.specs.Arc.{step_of, takes_first, first_out, se
 ghost use Rattle.younger_policies.specs.ArcLaws.{lists_of};
 
 use clock_policy::Key;
-use page_policies::{Frames, Outcome, Policy, PolicyRefusal, Queue};
+use page_policies::{Frames, HitOrMiss, Policy, PolicyRefusal, Queue};
 use std::alloc::{AllocError, Global};
 
 /// ARC: two stacks, of the pages that were used once and of the others, whose shares go by which of the pages that left come back.
@@ -235,11 +235,11 @@ impl Policy for Arc {
         })
     }
 
-    fn refer(&mut self, page: Key) -> Result<Outcome, AllocError> {
+    fn refer(&mut self, page: Key) -> Result<HitOrMiss, AllocError> {
         if self.step(page)? {
-            Ok(Outcome::Hit)
+            Ok(HitOrMiss::Hit)
         } else {
-            Ok(Outcome::Miss)
+            Ok(HitOrMiss::Miss)
         }
     }
 }

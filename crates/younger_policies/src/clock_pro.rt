@@ -10,7 +10,7 @@ ghost use Rattle.younger_policies.specs.ClockProPlay.{is_resident_kind, in_play,
 ghost use Rattle.younger_policies.specs.PlayLaws.{play_of};
 
 use clock_policy::{Bit, Clock, EntryKind, Key, Kind, NewRefusal, Refusal};
-use page_policies::{Frames, Outcome, Policy, PolicyRefusal};
+use page_policies::{Frames, HitOrMiss, Policy, PolicyRefusal};
 use std::alloc::{AllocError, Global};
 use std::collections::HashSet;
 
@@ -131,12 +131,12 @@ impl<C: Clock> Policy for ClockPro<C> {
         })
     }
 
-    fn refer(&mut self, page: Key) -> Result<Outcome, AllocError> {
+    fn refer(&mut self, page: Key) -> Result<HitOrMiss, AllocError> {
         if is_resident_kind(self.clock.kind_of(page)) {
             mark_used(&mut self.used, page)?;
-            return Ok(Outcome::Hit);
+            return Ok(HitOrMiss::Hit);
         }
         place(&mut self.clock, &mut self.used, self.turns, page)?;
-        Ok(Outcome::Miss)
+        Ok(HitOrMiss::Miss)
     }
 }

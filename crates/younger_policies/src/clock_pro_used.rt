@@ -8,7 +8,7 @@ ghost use Rattle.younger_policies.specs.PlayLaws.{play_of};
 
 use crate::clock_pro::{is_resident_kind, mark_used, new_clock, place};
 use clock_policy::{Clock, Key};
-use page_policies::{Frames, Outcome, Policy, PolicyRefusal};
+use page_policies::{Frames, HitOrMiss, Policy, PolicyRefusal};
 use std::alloc::{AllocError, Global};
 use std::collections::HashSet;
 
@@ -40,13 +40,13 @@ impl<C: Clock> Policy for ClockProUsed<C> {
         })
     }
 
-    fn refer(&mut self, page: Key) -> Result<Outcome, AllocError> {
+    fn refer(&mut self, page: Key) -> Result<HitOrMiss, AllocError> {
         if is_resident_kind(self.clock.kind_of(page)) {
             mark_used(&mut self.used, page)?;
-            return Ok(Outcome::Hit);
+            return Ok(HitOrMiss::Hit);
         }
         place(&mut self.clock, &mut self.used, self.turns, page)?;
         mark_used(&mut self.used, page)?;
-        Ok(Outcome::Miss)
+        Ok(HitOrMiss::Miss)
     }
 }

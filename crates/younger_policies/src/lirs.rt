@@ -7,7 +7,7 @@ ghost use Rattle.younger_policies.specs.Lirs.{most_lir, is_bottom_lir, pruned, d
 ghost use Rattle.younger_policies.specs.LirsLaws.{lists_of, without_bottom};
 
 use clock_policy::Key;
-use page_policies::{Frames, Outcome, Policy, PolicyRefusal, Queue};
+use page_policies::{Frames, HitOrMiss, Policy, PolicyRefusal, Queue};
 use std::alloc::{AllocError, Global};
 
 /// LIRS: pages that come back soon (LIR) keep nearly all frames, and the others (HIR) go through the few that are left; a stack of
@@ -195,11 +195,11 @@ impl Policy for Lirs {
         })
     }
 
-    fn refer(&mut self, page: Key) -> Result<Outcome, AllocError> {
+    fn refer(&mut self, page: Key) -> Result<HitOrMiss, AllocError> {
         if self.step(page)? {
-            Ok(Outcome::Hit)
+            Ok(HitOrMiss::Hit)
         } else {
-            Ok(Outcome::Miss)
+            Ok(HitOrMiss::Miss)
         }
     }
 }

@@ -10,7 +10,7 @@ ghost use Rattle.younger_policies.specs.S3Fifo.{small_frames, main_frames, with_
 ghost use Rattle.younger_policies.specs.S3FifoLaws.{queues_of};
 
 use clock_policy::Key;
-use page_policies::{Frames, Outcome, Policy, PolicyRefusal, Queue, cut};
+use page_policies::{Frames, HitOrMiss, Policy, PolicyRefusal, Queue, cut};
 use std::alloc::{AllocError, Global};
 use std::collections::HashMap;
 
@@ -282,11 +282,11 @@ impl Policy for S3Fifo {
         })
     }
 
-    fn refer(&mut self, page: Key) -> Result<Outcome, AllocError> {
+    fn refer(&mut self, page: Key) -> Result<HitOrMiss, AllocError> {
         if self.step(page)? {
-            Ok(Outcome::Hit)
+            Ok(HitOrMiss::Hit)
         } else {
-            Ok(Outcome::Miss)
+            Ok(HitOrMiss::Miss)
         }
     }
 }

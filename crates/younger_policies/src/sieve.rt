@@ -9,7 +9,7 @@ ghost use Rattle.younger_policies.specs.Sieve.{wrapped, hand_visited, passed, di
 ghost use Rattle.younger_policies.specs.SieveLaws.{queue_of};
 
 use clock_policy::Key;
-use page_policies::{Frames, Outcome, Policy, PolicyRefusal, Queue};
+use page_policies::{Frames, HitOrMiss, Policy, PolicyRefusal, Queue};
 use std::alloc::{AllocError, Global};
 use std::collections::HashSet;
 use std::mem;
@@ -171,11 +171,11 @@ impl Policy for Sieve {
         })
     }
 
-    fn refer(&mut self, page: Key) -> Result<Outcome, AllocError> {
+    fn refer(&mut self, page: Key) -> Result<HitOrMiss, AllocError> {
         if self.step(page)? {
-            Ok(Outcome::Hit)
+            Ok(HitOrMiss::Hit)
         } else {
-            Ok(Outcome::Miss)
+            Ok(HitOrMiss::Miss)
         }
     }
 }

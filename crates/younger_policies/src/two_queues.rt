@@ -7,7 +7,7 @@ ghost use Rattle.younger_policies.specs.TwoQueues.{in_two_queues, kin, kout, rec
 ghost use Rattle.younger_policies.specs.TwoQueueLaws.{queues_of};
 
 use clock_policy::Key;
-use page_policies::{Frames, Outcome, Policy, PolicyRefusal, Queue, cut};
+use page_policies::{Frames, HitOrMiss, Policy, PolicyRefusal, Queue, cut};
 use std::alloc::{AllocError, Global};
 
 /// 2Q: a page comes into a queue first, and only one that comes back after it left that goes to a stack, whose last page leaves.
@@ -103,11 +103,11 @@ impl Policy for TwoQueues {
         })
     }
 
-    fn refer(&mut self, page: Key) -> Result<Outcome, AllocError> {
+    fn refer(&mut self, page: Key) -> Result<HitOrMiss, AllocError> {
         if self.step(page)? {
-            Ok(Outcome::Hit)
+            Ok(HitOrMiss::Hit)
         } else {
-            Ok(Outcome::Miss)
+            Ok(HitOrMiss::Miss)
         }
     }
 }

@@ -1,0 +1,31 @@
+//! Why a trace is not read to its end.
+
+use std::alloc::AllocError;
+use thiserror::Error;
+
+/// Why a trace is not read to its end. Lines and records are counted from 1.
+#[derive(Debug, Drop, Error)]
+pub enum TraceFault<'a> {
+    #[error("no memory")]
+    NoMemory,
+    #[error("{0}: cannot read")]
+    CannotRead(&'a str),
+    #[error("{0}: no references")]
+    Empty(&'a str),
+    #[error("{0}: its first line names no column `id`, `obj_id`, `object_id`, `key` or `page`")]
+    NoColumn(&'a str),
+    /// A line, and what stands there.
+    #[error("line {0}: bad line: {1}")]
+    Line(u64, String),
+    /// A text where records were asked for.
+    #[error("{0}: it is a text, and no records of 24 bytes; --format text or csv reads one")]
+    Text(&'a str),
+    #[error("record {0}: bad record: {1} bytes of 24")]
+    Record(u64, usize),
+}
+
+impl From<AllocError> for TraceFault<'_> {
+    fn from(_: AllocError) -> Self {
+        TraceFault::NoMemory
+    }
+}

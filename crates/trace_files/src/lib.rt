@@ -1,0 +1,17 @@
+//! Traces in files: strings of references as other tools and `policies trace` write them, read as they come; and what is written of a string.
+#![tactic(auto)]
+
+mod address_lines;
+mod fault;
+mod format;
+mod number_text;
+mod page_lines;
+mod trace_file;
+mod whole_trace;
+mod writing;
+
+pub use fault::TraceFault;
+pub use format::TraceFormat;
+pub use trace_file::{BLOCK, TraceFile, open_trace};
+pub use whole_trace::{read_references, read_sample, read_whole};
+pub use writing::{CSV_HEADER, write_csv, write_line, write_records};

@@ -1,0 +1,94 @@
+//! Whole traces.
+
+ghost use Rattle.std.specs.Prelude.{◌≡◌, ◌≤◌, ◌<◌, true, length, IfOk};
+ghost use Rattle.std.specs.List.{All};
+ghost use Rattle.whole_strings.specs.Sampling.{is_sampled};
+
+use crate::fault::TraceFault;
+use crate::trace_file::{BLOCK, TraceFile};
+use clock_policy::Key;
+use guest_strings::Reference;
+use miss_counts::{Stage, StageListener};
+use std::alloc::Global;
+use std::io::BufRead;
+use std::num::NonZeroU32;
+use whole_strings::is_sampled;
+
+/// All pages of a trace. One with none is a fault.
+pub fn read_whole<'a, B: BufRead + Drop, P: StageListener>(
+    alloc: Global,
+    trace: &mut TraceFile<'a, B>,
+    progress: &mut P,
+) -> Result<Vec<Key>, TraceFault<'a>>
+    ensures { IfOk result (λ string. 0 < length string.items) }
+{
+    let mut string = Vec::new(alloc);
+    let mut block = Vec::new(alloc);
+    for _ in 0..u64::MAX {
+        trace.fill(&mut block, BLOCK)?;
+        if block.is_empty() {
+            break;
+        }
+        if string.extend_from_slice(block.as_slice()).is_err() {
+            return Err(TraceFault::NoMemory);
+        }
+        progress.tell(Stage::References(string.len() as u64));
+    }
+    if string.is_empty() {
+        return Err(TraceFault::Empty(trace.name));
+    }
+    Ok(string)
+}
+
+/// All references of a trace. One with none is a fault.
+pub fn read_references<'a, B: BufRead + Drop, P: StageListener>(
+    alloc: Global,
+    trace: &mut TraceFile<'a, B>,
+    progress: &mut P,
+) -> Result<Vec<Reference>, TraceFault<'a>>
+    ensures { IfOk result (λ string. 0 < length string.items) }
+{
+    let mut string = Vec::new(alloc);
+    for _ in 0..u64::MAX {
+        let Some(reference) = trace.next()? else {
+            break;
+        };
+        if string.push(reference).is_err() {
+            return Err(TraceFault::NoMemory);
+        }
+        progress.tell(Stage::References(string.len() as u64));
+    }
+    if string.is_empty() {
+        return Err(TraceFault::Empty(trace.name));
+    }
+    Ok(string)
+}
+
+/// The pages of a trace that are in a sample of one in so many, and how many references the whole trace has. One with none is a fault.
+pub fn read_sample<'a, B: BufRead + Drop, P: StageListener>(
+    alloc: Global,
+    trace: &mut TraceFile<'a, B>,
+    one_in: NonZeroU32,
+    progress: &mut P,
+) -> Result<(Vec<Key>, u64), TraceFault<'a>>
+    ensures some { IfOk result (λ read. 0 < read.1) }
+    ensures sampled { IfOk result (λ read. All (λ page. is_sampled one_in.value page ≡ true)
+        read.0.items) }
+{
+    let mut sample = Vec::new(alloc);
+    let mut references = 0u64;
+    for _ in 0..u64::MAX {
+        let Some(reference) = trace.next()? else {
+            break;
+        };
+        references = references.saturating_add(1);
+        progress.tell(Stage::References(references));
+        if is_sampled(reference.page, one_in) && sample.push(reference.page).is_err() {
+            return Err(TraceFault::NoMemory);
+        }
+    }
+    if references == 0 {
+        return Err(TraceFault::Empty(trace.name));
+    }
+    Ok((sample, references))
+}

@@ -2,3 +2,4 @@ pub mod SameStatus
 pub mod Cleans
 pub mod FlatRuns
 pub mod Growing
+pub mod Showing

@@ -1,12 +1,14 @@
 -- What a machine has come to once its threads are joined.
-use Rattle.std.specs.Prelude.{◌≡◌, ◌≤◌, ◌-◌, ◌^◌, ℕ, Bool, true, Option, Some, None, List, length, All, IsSome, min, sum_by, if◌then◌else◌}
+use Rattle.std.specs.Prelude.{◌≡◌, ◌≤◌, ◌-◌, ◌^◌, ℕ, Bool, true, Option, Some, None, List, length, map, All, IsSome, min, sum_by, if◌then◌else◌}
 use Rattle.reclaim_daemon.specs.Audit.{IsSound, AgreeEverywhere}
 use Rattle.reclaim_daemon.specs.DeskValue.{DeskValue}
 use Rattle.reclaim_daemon.specs.HeldValue.{HeldValue}
+use Rattle.hart_carriers.specs.FlatLines.{counts_of}
 use Rattle.hart_carriers.specs.declared.crew.Crew.{Crew}
 use Rattle.hart_carriers.specs.declared.report.RunReport.{RunReport}
 use Rattle.machine_sides.specs.Reporting.{Counts}
 use Rattle.machine_sides.specs.declared.report.ProcessReport.{ProcessReport}
+use Rattle.status_cell.specs.ViewerValue.{ViewerValue}
 
 -- how many pages of these processes were cleaned ahead, as a count that stays at 2^64 - 1 tells it
 unfoldable pub cleans_of : {S : Type 0} → List (HeldValue S) → ℕ
@@ -30,6 +32,10 @@ pub record EndsSound (S : Type 0) (processes : ℕ) (run : RunReport) : Type 0 w
 -- there is an ending in every line
 abbrev pub HaveEnded : List ProcessReport → Type 0
 HaveEnded processes = All (λ process. IsSome process.end) processes
+
+-- each viewer of a process's counts has seen, in the end, what is told of that process
+abbrev pub ShowLines : List ViewerValue → List ProcessReport → Type 0
+ShowLines viewers processes = map (λ viewer. viewer.seen) viewers ≡ map counts_of processes
 
 -- a crew of so many workers, who give slices of so many instructions, or of those that could be started; the daemon writes pages ahead, or
 -- does not

@@ -8,7 +8,7 @@ use crate::seats::{EMPTY, Lack, Row, Seat, seats};
 use clock_policy::Clock;
 use flat_machine::KillCause;
 use machine_limits::{MOST_HARTS, MOST_PROCESSES};
-use reclaim_daemon::{Gate, HoldOfProcess, Shared};
+use reclaim_daemon::{Gate, HoldOfProcess, ProcessLocks, Shared};
 use space_core::{Slice, SliceStop};
 use std::sync::Wait;
 use std::sync::ledger::Ledger;
@@ -34,22 +34,23 @@ pub fn carrier<L: Ledger, S: SwapSlot, C: Clock, G: Gate, R: Wait>(
         workers,
         slice,
     };
+    let locks = shared.locks();
     let mut seats = seats();
     let mut hungry = false;
     for _ in rt.forever() {
-        if shared.has_ended() {
+        if locks.has_ended() {
             return shift;
         }
-        let rings = shared.rings(worker);
+        let rings = locks.rings(worker);
         let round = carry_round(rt, shared, &shift, &mut seats, rings, gate);
         if hungry != round.hungry {
             hungry = round.hungry;
             if !hungry {
-                shared.set_hungry(worker, false);
+                locks.set_hungry(worker, false);
             }
         }
         if !round.ran {
-            shared.wait_for_ring(rt, worker, rings);
+            locks.wait_for_ring(rt, worker, rings);
         }
     }
     unreachable!()
@@ -101,17 +102,18 @@ fn carry_process<L: Ledger, S: SwapSlot, C: Clock, G: Gate, R: Wait>(
         ran: false,
         hungry: false,
     };
+    let locks = shared.locks();
     let mut next = first_hart(process, shift);
     for _ in 0..MOST_HARTS {
         let Some(seat) = row.get_mut(next as usize) else {
             return round;
         };
         let hart = next as u32;
-        if shared.may_run(process, hart) && falls_to(process, hart, shift) {
+        if locks.may_run(process, hart) && falls_to(process, hart, shift) {
             if carry_hart(rt, shared, process, hart, shift, seat, rings, gate) {
                 round.ran = true;
             }
-        } else if !shared.is_live(process, hart) {
+        } else if !locks.is_live(process, hart) {
             *seat = EMPTY;
         }
         round.hungry = round.hungry || seat.hungry;
@@ -160,34 +162,77 @@ fn carry_hart<L: Ledger, S: SwapSlot, C: Clock, G: Gate, R: Wait>(
         if !bring_in(rt, shared, process, hart, shift.worker, seat, rings, gate) {
             return has_run;
         }
-        let Some(hold) = shared.slice(rt, process, hart, seat.left) else {
-            return has_run;
-        };
-        let HoldOfProcess { reply, .. } = hold;
-        let Some(slice) = reply else {
-            return has_run;
-        };
-        let Slice { ran, stop } = slice;
-        gate.after_slice(process, hart, ran);
-        has_run = has_run || ran != 0;
-        seat.left = seat.left.saturating_sub(ran).max(1);
-        if let SliceStop::Absent(vpn) = stop {
-            seat.lack = Some(Lack {
-                vpn,
-                faults: 0,
-                told: false,
-                tried: None,
-            });
-        } else {
-            if let Some(cause) = failure(stop) {
-                shared.kill(rt, process, cause);
-            }
-            seat.left = 0;
-            shared.end_turn(process, hart, matches!(stop, SliceStop::Yield));
+        let part = run_part(rt, shared.locks(), process, hart, seat, gate);
+        has_run = has_run || part.ran;
+        if part.is_last {
             return has_run;
         }
     }
     unreachable!()
+}
+
+/// What a part of a hart's turn came to.
+#[derive(Clone, Copy)]
+struct Part {
+    /// Whether any instruction ran.
+    ran: bool,
+    /// Whether the turn is over: else it goes on once the page has come in that the hart lacks by now.
+    is_last: bool,
+}
+
+/// Runs a hart by a slice, no longer than what is left of its turn. It is lent the processes' locks alone: no instruction runs while its
+/// carrier has the pager's lock or the slots'.
+fn run_part<L: Ledger, S: SwapSlot, G: Gate, R: Wait>(
+    rt: &R,
+    locks: &ProcessLocks<L, S>,
+    process: u32,
+    hart: u32,
+    seat: &mut Seat,
+    gate: &G,
+) -> Part {
+    let Some(slice) = slice_of(rt, locks, process, hart, seat.left) else {
+        return Part {
+            ran: false,
+            is_last: true,
+        };
+    };
+    let Slice { ran, stop } = slice;
+    gate.after_slice(process, hart, ran);
+    seat.left = seat.left.saturating_sub(ran).max(1);
+    if let SliceStop::Absent(vpn) = stop {
+        seat.lack = Some(Lack {
+            vpn,
+            faults: 0,
+            told: false,
+            tried: None,
+        });
+        return Part {
+            ran: ran != 0,
+            is_last: false,
+        };
+    }
+    if let Some(cause) = failure(stop) {
+        locks.kill(rt, process, cause);
+    }
+    seat.left = 0;
+    locks.end_turn(process, hart, matches!(stop, SliceStop::Yield));
+    Part {
+        ran: ran != 0,
+        is_last: true,
+    }
+}
+
+/// A slice of a hart of up to so many instructions, if there is such a process.
+fn slice_of<L: Ledger, S: SwapSlot, R: Wait>(
+    rt: &R,
+    locks: &ProcessLocks<L, S>,
+    process: u32,
+    hart: u32,
+    budget: u32,
+) -> Option<Slice> {
+    let hold = locks.slice(rt, process, hart, budget)?;
+    let HoldOfProcess { reply, .. } = hold;
+    reply
 }
 
 /// Why a process is ended for what a slice of it stopped for.

@@ -4,7 +4,7 @@ ghost use Rattle.std.specs.Prelude.{◌≡◌, ◌+◌, ◌≤◌, ◌↔◌, le
 ghost use Rattle.machine_sides.specs.Reporting.{Counts};
 ghost use Rattle.reclaim_daemon.specs.Audit.{IsSound, AgreeEverywhere};
 ghost use Rattle.machine_limits.specs.Limits.{most_processes};
-ghost use Rattle.hart_carriers.specs.Ending.{HaveEnded, cleans_of, told_cleans};
+ghost use Rattle.hart_carriers.specs.Ending.{HaveEnded, ShowLines, cleans_of, told_cleans};
 ghost use Rattle.hart_carriers.specs.FlatLines.{counts_of, StandsForRuns};
 
 use crate::crew::Crew;
@@ -16,17 +16,20 @@ use clock_policy::Clock;
 use elf_image::Image;
 use machine_sides::{PagerSide, ProcessReport, Report};
 use reclaim_daemon::{Desk, Held, Parts};
-use status_cell::Status;
+use status_cell::{Status, Viewer};
+use std::sync::Wait;
 use std::sync::ledger::{Ledger, Share};
 use swap_slots::SwapSlot;
 
 /// What a machine of so many frames has come to, whose harts this crew carried and whose processes were to run these images on these
 /// inputs, and the share of its frames. The lists have room.
-pub(crate) fn close<L: Ledger, S: SwapSlot, C: Clock>(
+pub(crate) fn close<L: Ledger, S: SwapSlot, C: Clock, R: Wait>(
+    rt: &R,
     parts: Parts<L, S, C>,
     frames: u32,
     crew: Crew,
     handed: &[(Image, Vec<u8>)],
+    viewers: Vec<Viewer>,
     room: Vec<ProcessReport>,
     statuses: Vec<Status>,
     ran: Vec<Ran<L, S>>,
@@ -39,6 +42,8 @@ pub(crate) fn close<L: Ledger, S: SwapSlot, C: Clock>(
     ensures stands { S.honest → result.0.report.audit ≡ true →
         StandsForRuns handed.entry.now result.0.report.processes.items }
     ensures last { result.0.published.items ≡ map counts_of result.0.report.processes.items }
+    ensures shown { result.0.report.audit ≡ true →
+        ShowLines result.0.viewers.items result.0.report.processes.items }
     ensures many { result.0.report.audit ≡ true →
         vec_len result.0.report.processes ≡ length handed.entry.now }
     ensures ended { result.0.report.audit ≡ true →
@@ -64,6 +69,8 @@ pub(crate) fn close<L: Ledger, S: SwapSlot, C: Clock>(
     let (pager, _strays) = desk.into_parts();
     let (whole, share) = gather_all(pager, frames);
     let told = tell(all_ran(processes, ran), handed, room, statuses);
+    let mut viewers = viewers;
+    let shown = show_all(rt, viewers.as_mut_slice(), told.published.as_slice());
     let ended = have_ended(told.processes.as_slice());
     let report = Report {
         processes: told.processes,
@@ -73,11 +80,12 @@ pub(crate) fn close<L: Ledger, S: SwapSlot, C: Clock>(
         saves: counts.saves,
         drops: counts.drops,
         questions: counts.pager.tallies.questions,
-        audit: all_hold(agrees, sized, sound, whole, told.started, ended),
+        audit: all_hold(agrees, sized, sound, whole, told.started, ended, shown),
     };
     let run = RunReport {
         report,
         published: told.published,
+        viewers,
         slots,
         cleans,
         crew,
@@ -125,15 +133,24 @@ fn purged<L: Ledger, S: SwapSlot, C: Clock>(parts: Parts<L, S, C>) -> (Desk<L, C
 }
 
 /// Whether all that an audit looks at is as it is to be.
-fn all_hold(agrees: bool, sized: bool, sound: bool, whole: bool, started: bool, ended: bool) -> bool
+fn all_hold(
+    agrees: bool,
+    sized: bool,
+    sound: bool,
+    whole: bool,
+    started: bool,
+    ended: bool,
+    shown: bool,
+) -> bool
     ensures agrees { result ≡ true → agrees ≡ true }
     ensures sized { result ≡ true → sized ≡ true }
     ensures sound { result ≡ true → sound ≡ true }
     ensures whole { result ≡ true → whole ≡ true }
     ensures started { result ≡ true → started ≡ true }
     ensures ended { result ≡ true → ended ≡ true }
+    ensures shown { result ≡ true → shown ≡ true }
     ensures exact { agrees ≡ true → sized ≡ true → sound ≡ true → whole ≡ true → started ≡ true →
-        ended ≡ true → result ≡ true }
+        ended ≡ true → shown ≡ true → result ≡ true }
 {
     if !agrees || !sized {
         return false;
@@ -141,10 +158,34 @@ fn all_hold(agrees: bool, sized: bool, sound: bool, whole: bool, started: bool, 
     if !sound || !whole {
         return false;
     }
-    if !started {
+    if !started || !ended {
         return false;
     }
-    ended
+    shown
+}
+
+/// Whether each viewer shows the pair of its number. It looks at each of them once more, up to one that does not.
+#[tactic(auto, using(crate::proofs::Showing::shown_none, crate::proofs::Showing::shown_more, crate::proofs::Showing::shown_all))]
+fn show_all<R: Wait>(rt: &R, viewers: &mut [Viewer], pairs: &[Status]) -> bool
+    ensures shown { result ≡ true → map (λ v. v.seen) viewers.new ≡ pairs.now }
+    ensures many { length viewers.new ≡ length viewers.old }
+{
+    if viewers.len() != pairs.len() {
+        return false;
+    }
+    'viewers: for number in 0..pairs.len() {
+        if !is_same(viewers[number].look(rt), pairs[number]) {
+            return false;
+        }
+    }
+    true
+}
+
+/// Whether two pairs are the same.
+fn is_same(a: Status, b: Status) -> bool
+    ensures { IsTrue result ↔ (a ≡ b) }
+{
+    a == b
 }
 
 /// Whether each process has ended.

@@ -1,7 +1,7 @@
 //! Whole runs of machines by threads.
 
 ghost use Rattle.std.specs.Prelude.{◌≡◌, ◌+◌, ◌<◌, ◌≤◌, ◌⊎◌, ◌↔◌, length, map, vec_len, true, is_some, IfOk, OnOk, IsErrOf};
-ghost use Rattle.hart_carriers.specs.Ending.{EndsSound, HaveEnded, IsCrewOf};
+ghost use Rattle.hart_carriers.specs.Ending.{EndsSound, HaveEnded, IsCrewOf, ShowLines};
 ghost use Rattle.machine_limits.specs.Limits.{most_processes};
 ghost use Rattle.hart_carriers.specs.FlatLines.{counts_of, StandsForRuns};
 
@@ -45,6 +45,8 @@ pub fn run_machine<S: SwapSlot + Send, C: Clock + Send, G: Gate + Sync, R: Threa
         StandsForRuns handed.now run.report.processes.items) }
     ensures last { IfOk result (λ run.
         run.published.items ≡ map counts_of run.report.processes.items) }
+    ensures shown { IfOk result (λ run. run.report.audit ≡ true →
+        ShowLines run.viewers.items run.report.processes.items) }
     ensures many { IfOk result (λ run. run.report.audit ≡ true →
         vec_len run.report.processes ≡ length handed.now) }
     ensures ended { IfOk result (λ run. run.report.audit ≡ true →
@@ -93,6 +95,8 @@ fn report_over<
         StandsForRuns handed.now run.report.processes.items) }
     ensures last { IfOk result (λ run.
         run.published.items ≡ map counts_of run.report.processes.items) }
+    ensures shown { IfOk result (λ run. run.report.audit ≡ true →
+        ShowLines run.viewers.items run.report.processes.items) }
     ensures many { IfOk result (λ run. run.report.audit ≡ true →
         vec_len run.report.processes ≡ length handed.now) }
     ensures ended { IfOk result (λ run. run.report.audit ≡ true →
@@ -144,6 +148,8 @@ pub fn run_over<
         StandsForRuns handed.now ran.0.report.processes.items) }
     ensures last { IfOk result (λ ran.
         ran.0.published.items ≡ map counts_of ran.0.report.processes.items) }
+    ensures shown { IfOk result (λ ran. ran.0.report.audit ≡ true →
+        ShowLines ran.0.viewers.items ran.0.report.processes.items) }
     ensures many { IfOk result (λ ran. ran.0.report.audit ≡ true →
         vec_len ran.0.report.processes ≡ length handed.now) }
     ensures ended { IfOk result (λ ran. ran.0.report.audit ≡ true →
@@ -221,6 +227,8 @@ fn run_on<
         StandsForRuns handed.now ran.0.report.processes.items) }
     ensures last { IfOk result (λ ran.
         ran.0.published.items ≡ map counts_of ran.0.report.processes.items) }
+    ensures shown { IfOk result (λ ran. ran.0.report.audit ≡ true →
+        ShowLines ran.0.viewers.items ran.0.report.processes.items) }
     ensures many { IfOk result (λ ran. ran.0.report.audit ≡ true →
         vec_len ran.0.report.processes ≡ length handed.now) }
     ensures ended { IfOk result (λ ran. ran.0.report.audit ≡ true →
@@ -244,10 +252,12 @@ fn run_on<
     shared.set_ahead(ahead);
     let crew = run_threads(rt, &shared, viewers.as_mut_slice(), workers, slice, gate);
     Ok(close(
+        rt,
         shared.into_parts(held),
         frames,
         crew,
         handed,
+        viewers,
         room,
         statuses,
         ran,
@@ -272,7 +282,7 @@ fn begin_all<L: Ledger, S: SwapSlot, C: Clock>(
         let image = image.share(alloc)?;
         let input = Vec::from_slice(alloc, input.as_slice())?;
         match shared.add(alloc, image, input) {
-            Ok(viewer) => viewers.push(viewer)?,
+            Ok(added) => viewers.push(added.viewer)?,
             Err(AddRefusal::TooMany) => unreachable!(),
             Err(AddRefusal::NoMemory) => return Err(AllocError),
         }

@@ -6,7 +6,7 @@ use flat_machine::KillCause;
 use machine_limits::MOST_LOAD_FAULTS;
 use machine_sides::NotAdmitted;
 use paged_memory::PageInFault;
-use reclaim_daemon::{Gate, HoldOfBoth, PagedIn, Shared};
+use reclaim_daemon::{Gate, HoldOfBoth, PagedIn, ProcessLocks, Shared};
 use std::sync::Wait;
 use std::sync::ledger::Ledger;
 use swap_slots::SwapSlot;
@@ -40,6 +40,7 @@ pub(crate) fn bring_in<L: Ledger, S: SwapSlot, C: Clock, G: Gate, R: Wait>(
     rings: u64,
     gate: &G,
 ) -> bool {
+    let locks = shared.locks();
     for _ in rt.forever() {
         let Some(lack) = seat.lack else {
             return true;
@@ -52,8 +53,8 @@ pub(crate) fn bring_in<L: Ledger, S: SwapSlot, C: Clock, G: Gate, R: Wait>(
             Try::Done => {
                 seat.lack = None;
                 seat.hungry = false;
-                shared.set_paging(process, hart, false);
-                return !is_spent(rt, shared, process);
+                locks.set_paging(process, hart, false);
+                return !is_spent(rt, locks, process);
             }
             Try::Ended => {
                 *seat = EMPTY;
@@ -66,13 +67,13 @@ pub(crate) fn bring_in<L: Ledger, S: SwapSlot, C: Clock, G: Gate, R: Wait>(
                     ..lack
                 });
                 seat.hungry = true;
-                shared.set_paging(process, hart, true);
-                shared.set_hungry(worker, true);
+                locks.set_paging(process, hart, true);
+                locks.set_hungry(worker, true);
                 return false;
             }
             // It may have come or gone before it was known that the hart waits for that: so it is tried for once more.
             Try::NotYet if !lack.told => {
-                shared.set_paging(process, hart, true);
+                locks.set_paging(process, hart, true);
                 seat.lack = Some(Lack { told: true, ..lack });
             }
             Try::NotYet => {
@@ -87,16 +88,16 @@ pub(crate) fn bring_in<L: Ledger, S: SwapSlot, C: Clock, G: Gate, R: Wait>(
                 let faults = lack.faults.saturating_add(1);
                 seat.lack = Some(Lack { faults, ..lack });
                 if faults >= MOST_LOAD_FAULTS {
-                    shared.kill(rt, process, KillCause::LoadFailed);
+                    locks.kill(rt, process, KillCause::LoadFailed);
                     return false;
                 }
             }
             Try::Fails(cause) => {
-                shared.kill(rt, process, cause);
+                locks.kill(rt, process, cause);
                 return false;
             }
         }
-        if is_spent(rt, shared, process) {
+        if is_spent(rt, locks, process) {
             return false;
         }
     }
@@ -104,12 +105,12 @@ pub(crate) fn bring_in<L: Ledger, S: SwapSlot, C: Clock, G: Gate, R: Wait>(
 }
 
 /// Whether a process was tried for too often, and is ended by now. A process that is not there counts as ended.
-fn is_spent<L: Ledger, S: SwapSlot, C: Clock, R: Wait>(
+fn is_spent<L: Ledger, S: SwapSlot, R: Wait>(
     rt: &R,
-    shared: &Shared<L, S, C>,
+    locks: &ProcessLocks<L, S>,
     process: u32,
 ) -> bool {
-    match shared.kill_if_spent(rt, process) {
+    match locks.kill_if_spent(rt, process) {
         Some(hold) => hold.reply != Some(false),
         None => true,
     }

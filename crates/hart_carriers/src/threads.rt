@@ -6,7 +6,7 @@ use crate::carrying::carrier;
 use crate::crew::{Carries, Crew, Shift, Writes};
 use clock_policy::Clock;
 use flat_machine::KillCause;
-use reclaim_daemon::{Gate, Shared, daemon};
+use reclaim_daemon::{Gate, ProcessLocks, Shared, daemon};
 use status_cell::Viewer;
 use std::sync::Wait;
 use std::sync::ledger::Ledger;
@@ -69,7 +69,7 @@ pub(crate) fn run_threads<
                 }
             }
             if !crew.is_whole {
-                kill_all(rt, shared);
+                kill_all(rt, shared.locks());
             }
             crew
         },
@@ -77,8 +77,8 @@ pub(crate) fn run_threads<
 }
 
 /// Ends each process that goes on, for want of memory.
-fn kill_all<L: Ledger, S: SwapSlot, C: Clock, R: Wait>(rt: &R, shared: &Shared<L, S, C>) {
-    for process in 0..shared.processes() {
-        shared.kill(rt, process, KillCause::NoMemory);
+fn kill_all<L: Ledger, S: SwapSlot, R: Wait>(rt: &R, locks: &ProcessLocks<L, S>) {
+    for process in 0..locks.count() {
+        locks.kill(rt, process, KillCause::NoMemory);
     }
 }

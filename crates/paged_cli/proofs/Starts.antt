@@ -4,7 +4,7 @@ use Rattle.std.specs.Prelude.{IfSome}
 use Rattle.std.proofs.lemmas.List.{length-map}
 use Rattle.std.proofs.lemmas.Option.{slice_get-map, none-some}
 use Rattle.elf_image.specs.Image.{ImageContent}
-use Rattle.hart_carriers.specs.Ending.{EndsSound, IsCrewOf}
+use Rattle.hart_carriers.specs.Ending.{EndsSound, IsCrewOf, ShowLines}
 use Rattle.hart_carriers.specs.declared.report.RunReport.{RunReport}
 use Rattle.elf_image.specs.Start.{Start, start_of}
 use Rattle.hart_carriers.specs.FlatLines.{counts_of, StandsForRuns}
@@ -25,14 +25,16 @@ lines_of_starts handed reports stands number start found =
 
 pub came_to : {S Y Z : Type 0} (honest : Type 0) (frames : ℕ) (slots : Vec S Y) (handed : List (ImageContent × Vec ℕ Z)) (workers slice : ℕ) (ahead : Bool) (run : RunReport)
     → (honest → run.report.audit ≡ true → StandsForRuns handed run.report.processes.items) → run.published.items ≡ map counts_of run.report.processes.items
+    → (run.report.audit ≡ true → ShowLines run.viewers.items run.report.processes.items)
     → (run.report.audit ≡ true → vec_len run.report.processes ≡ length handed) → run.report.frames ≡ frames → (run.report.audit ≡ true → run.slots ≡ vec_len slots) → IsCrewOf workers slice ahead run.crew
     → is_some run.cleans ≡ ahead → (run.report.audit ≡ true → EndsSound S (length handed) run) → CameTo honest frames slots.items (starts_of handed) workers slice ahead run
 unfolding CameTo
-came_to {S} honest frames slots handed workers slice ahead run stands last many frames_are slots_are crew_is cleans_are sound =
+came_to {S} honest frames slots handed workers slice ahead run stands last shown many frames_are slots_are crew_is cleans_are sound =
     let as_many = length-map handed (λ given. start_of given.0 given.1.items) in
     record {
       stands = λ h audit. lines_of_starts handed run.report.processes.items (stands h audit);
       last = last;
+      shown = shown;
       many = λ audit. many audit ∙ sym as_many;
       frames_are = frames_are;
       slots_are = λ audit. slots_are audit ∙ slots.ok.0;

@@ -4,7 +4,7 @@ use Rattle.std.specs.Io.KnownBytes.{Appends}
 use Rattle.command_line.specs.declared.request.RunRequest.{RunRequest}
 use Rattle.elf_image.specs.Image.{ImageContent}
 use Rattle.file_slots.specs.FileSlotValue.{FileSlotValue}
-use Rattle.hart_carriers.specs.Ending.{EndsSound, IsCrewOf}
+use Rattle.hart_carriers.specs.Ending.{EndsSound, IsCrewOf, ShowLines}
 use Rattle.hart_carriers.specs.declared.report.RunReport.{RunReport}
 use Rattle.image_files.specs.Reading.{AreGiven}
 use Rattle.image_files.specs.SlotFiles.{AreNewFiles}
@@ -21,11 +21,13 @@ abbrev pub starts_of : {Z : Type 0} → List (ImageContent × Vec ℕ Z) → Lis
 starts_of handed = map (λ start. start_of start.0 start.1.items) handed
 
 -- What is reported of a machine of so many frames and slots that ran these processes by so many worker threads, in slices of so many
--- instructions, with changed pages written ahead or not. Where its audit found nothing amiss its pool was of these slots in the end, and list and pages agreed; where its slots are
--- honest besides, each line is that of a flat run.
+-- instructions, with changed pages written ahead or not. Where its audit found nothing amiss its pool was of these slots in the end, list and
+-- pages agreed, and each viewer of a process's counts shows what its line tells; where its slots are honest besides, each line is that of a
+-- flat run.
 pub record IsReportOf (S : Type 0) (honest : Type 0) (frames slots : ℕ) (starts : List Start) (workers slice : ℕ) (ahead : Bool) (run : RunReport) : Type 0 where
   pub stands : honest → run.report.audit ≡ true → HaveLines starts (map told run.report.processes.items)
   pub last : run.published.items ≡ map counts_of run.report.processes.items
+  pub shown : run.report.audit ≡ true → ShowLines run.viewers.items run.report.processes.items
   pub many : run.report.audit ≡ true → vec_len run.report.processes ≡ length starts
   pub frames_are : run.report.frames ≡ frames
   pub slots_are : run.report.audit ≡ true → run.slots ≡ slots

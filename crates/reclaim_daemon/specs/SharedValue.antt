@@ -9,6 +9,14 @@ pub record SharedValue : Type 0 where
   pub most_tries : ℕ
   pub ahead : Bool
 
+-- what is told of the locks of its processes alone
+pub record LocksValue : Type 0 where
+  pub processes : ℕ
+  pub most_tries : ℕ
+
+abbrev pub locks_of : SharedValue → LocksValue
+locks_of shared = record { processes = shared.processes; most_tries = shared.most_tries }
+
 -- how often a process may be tried for, for each frame of the machine
 abbrev pub tries_per_frame : ℕ
 tries_per_frame = 64

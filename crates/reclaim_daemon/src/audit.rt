@@ -31,14 +31,17 @@ impl<L: Ledger, S: SwapSlot, C: Clock> Shared<L, S, C> {
             resident: 0,
             framed: 0,
         };
-        'processes: for number in 0..self.processes.len() {
-            let held = self.processes[number].lock(rt);
-            match count_more(desk, number as u32, &*held, found) {
+        'processes: for number in 0..self.locks.count() {
+            let Some(lock) = self.locks.get(number) else {
+                unreachable!()
+            };
+            let held = lock.lock(rt);
+            match count_more(desk, number, &*held, found) {
                 Some(more) => found = more,
                 None => return false,
             }
         }
-        if self.is_misplaced() {
+        if self.locks.is_misplaced() {
             return false;
         }
         is_all(desk, found)

@@ -1,10 +1,10 @@
-//! The holds: each takes the locks that it needs, makes one call, and tells what it found and what it left.
+//! The holds of the pager's lock and a process's: each takes the locks that it needs, makes one call, and tells what it found and what it
+//! left.
 //!
 //! Where a process is not the one of its lock's number no call is made, and the machine is not sound from then on.
 
-ghost use Rattle.std.specs.Prelude.{◌≡◌, ◌≤◌, ◌↔◌, nat_le, IfOk, IfErr, IfSome, IsNone, Some};
+ghost use Rattle.std.specs.Prelude.{◌≡◌, ◌≤◌, ◌↔◌, IfOk, IfErr, IfSome, IsNone};
 ghost use Rattle.reclaim_daemon.specs.Collecting.{CollectsHeld};
-ghost use Rattle.reclaim_daemon.specs.Holding.{RunsWhere, NoticesWhere, KillsNumberWhere, KillsSpentWhere};
 ghost use Rattle.reclaim_daemon.specs.Purging.{PurgesHeld};
 ghost use Rattle.reclaim_daemon.specs.SavingBack.{SavesHeld};
 ghost use Rattle.reclaim_daemon.specs.Sweeping.{SweepsHeld, AsksNone};
@@ -15,10 +15,8 @@ use crate::locking::{ROUNDS, lock_held};
 use crate::replies::{Collection, PurgeReply, SaveReply};
 use crate::shared::Shared;
 use clock_policy::{Clock, Key};
-use flat_machine::KillCause;
 use machine_sides::Swept;
 use page_store::SavedJob;
-use space_core::Slice;
 use std::snapshot::Snapshot;
 use std::sync::Wait;
 use std::sync::ledger::Ledger;
@@ -29,13 +27,6 @@ use swap_slots::{SlotPool, SwapSlot};
 pub struct Change<T> {
     pub before: Snapshot<T>,
     pub after: Snapshot<T>,
-}
-
-/// A hold of a process's lock, and what its call was answered with.
-#[derive(Drop)]
-pub struct HoldOfProcess<L: Ledger, S: SwapSlot, A: Drop> {
-    pub process: Change<Held<L, S>>,
-    pub reply: A,
 }
 
 /// A hold of the pager's lock and a process's.
@@ -63,122 +54,6 @@ pub struct HoldOfAll<L: Ledger, S: SwapSlot, C: Clock, A: Drop> {
 }
 
 impl<L: Ledger, S: SwapSlot, C: Clock> Shared<L, S, C> {
-    /// A slice of a hart, after which it drops its translations that are to be dropped; how far the process has come is published.
-    ///
-    /// There is none where there is no such process, and no reply where the process is another one.
-    pub fn slice<R: Wait>(
-        &self,
-        rt: &R,
-        number: u32,
-        hart: u32,
-        budget: u32,
-    ) -> Option<HoldOfProcess<L, S, Option<Slice>>>
-        ensures none { IsNone result ↔ (self.now.processes ≤ number) }
-        ensures some { IfSome result (λ hold. RunsWhere S.content S.honest number hart budget
-            hold.reply hold.process.before.value hold.process.after.value) }
-    {
-        let lock = self.processes.get(number as usize)?;
-        let mut held = lock.lock(rt);
-        let before = Snapshot::of(&*held);
-        let had_ended = held.side().end().is_some();
-        let reply = held.slice_of(rt, number, hart, budget);
-        let after = Snapshot::of(&*held);
-        let news = self.news(number, &*held, had_ended);
-        drop(held);
-        if has_run(&reply) {
-            self.signals.tell_ran(number);
-        }
-        self.tell(number, news);
-        Some(HoldOfProcess {
-            process: Change { before, after },
-            reply,
-        })
-    }
-
-    /// A hart of a process drops its translations that are to be dropped.
-    ///
-    /// There is none where there is no such process; it answers whether the process is not another one.
-    pub fn notice<R: Wait>(
-        &self,
-        rt: &R,
-        number: u32,
-        hart: u32,
-    ) -> Option<HoldOfProcess<L, S, bool>>
-        ensures none { IsNone result ↔ (self.now.processes ≤ number) }
-        ensures some { IfSome result (λ hold. NoticesWhere number hart hold.reply
-            hold.process.before.value hold.process.after.value) }
-    {
-        let lock = self.processes.get(number as usize)?;
-        let mut held = lock.lock(rt);
-        let before = Snapshot::of(&*held);
-        let reply = held.take_notices_of(number, hart);
-        let after = Snapshot::of(&*held);
-        drop(held);
-        if !reply {
-            self.misplace();
-        }
-        Some(HoldOfProcess {
-            process: Change { before, after },
-            reply,
-        })
-    }
-
-    /// The machine ends a process, unless it has ended; how far it has come is published.
-    ///
-    /// There is none where there is no such process; it answers whether the process is not another one.
-    pub fn kill<R: Wait>(
-        &self,
-        rt: &R,
-        number: u32,
-        cause: KillCause,
-    ) -> Option<HoldOfProcess<L, S, bool>>
-        ensures none { IsNone result ↔ (self.now.processes ≤ number) }
-        ensures some { IfSome result (λ hold. KillsNumberWhere number cause hold.reply
-            hold.process.before.value hold.process.after.value) }
-    {
-        let lock = self.processes.get(number as usize)?;
-        let mut held = lock.lock(rt);
-        let before = Snapshot::of(&*held);
-        let had_ended = held.side().end().is_some();
-        let reply = held.kill_number(rt, number, cause);
-        let after = Snapshot::of(&*held);
-        let news = self.news(number, &*held, had_ended);
-        drop(held);
-        self.tell(number, news);
-        Some(HoldOfProcess {
-            process: Change { before, after },
-            reply,
-        })
-    }
-
-    /// The machine ends a process for want of a place for its pages, where it was tried for as often as a process may be. Answers
-    /// whether it was.
-    ///
-    /// There is none where there is no such process, and no reply where the process is another one.
-    pub fn kill_if_spent<R: Wait>(
-        &self,
-        rt: &R,
-        number: u32,
-    ) -> Option<HoldOfProcess<L, S, Option<bool>>>
-        ensures none { IsNone result ↔ (self.now.processes ≤ number) }
-        ensures some { IfSome result (λ hold. KillsSpentWhere number self.now.most_tries hold.reply
-            hold.process.before.value hold.process.after.value) }
-    {
-        let lock = self.processes.get(number as usize)?;
-        let mut held = lock.lock(rt);
-        let before = Snapshot::of(&*held);
-        let had_ended = held.side().end().is_some();
-        let reply = held.kill_spent(rt, number, self.most_tries());
-        let after = Snapshot::of(&*held);
-        let news = self.news(number, &*held, had_ended);
-        drop(held);
-        self.tell(number, news);
-        Some(HoldOfProcess {
-            process: Change { before, after },
-            reply,
-        })
-    }
-
     /// Asks the list, and answers with the accessed bit of the page that it names. A victim is unmapped.
     ///
     /// No process is held where no page is resident, or where the page is of no process that there is.
@@ -203,7 +78,7 @@ impl<L: Ledger, S: SwapSlot, C: Clock> Shared<L, S, C> {
                     is_lost: false,
                 });
             };
-            let Some(lock) = self.processes.get(key.process as usize) else {
+            let Some(lock) = self.locks.get(key.process) else {
                 desk.mark_unsound();
                 let after = Snapshot::of(&*desk);
                 return Err(HoldOfDesk {
@@ -234,7 +109,7 @@ impl<L: Ledger, S: SwapSlot, C: Clock> Shared<L, S, C> {
             CollectsHeld key hold.desk.before.value hold.desk.after.value hold.process.before.value
             hold.process.after.value hold.slots.before.value hold.slots.after.value hold.reply) }
     {
-        let lock = self.processes.get(key.process as usize)?;
+        let lock = self.locks.get(key.process)?;
         let (mut desk, mut held) = self.lock_both(rt, lock);
         let mut slots = self.slots.lock(rt);
         let desk_before = Snapshot::of(&*desk);
@@ -248,7 +123,7 @@ impl<L: Ledger, S: SwapSlot, C: Clock> Shared<L, S, C> {
         drop(held);
         drop(desk);
         if has_settled(&reply) {
-            self.signals.tell_page(key.process);
+            self.locks.signals().tell_page(key.process);
         }
         Some(HoldOfAll {
             desk: Change {
@@ -280,7 +155,7 @@ impl<L: Ledger, S: SwapSlot, C: Clock> Shared<L, S, C> {
             hold.process.before.value hold.process.after.value hold.reply) }
     {
         let process = job.process();
-        let lock = self.processes.get(process as usize)?;
+        let lock = self.locks.get(process)?;
         let (mut desk, mut held) = self.lock_both(rt, lock);
         let desk_before = Snapshot::of(&*desk);
         let held_before = Snapshot::of(&*held);
@@ -289,7 +164,7 @@ impl<L: Ledger, S: SwapSlot, C: Clock> Shared<L, S, C> {
         let desk_after = Snapshot::of(&*desk);
         drop(held);
         drop(desk);
-        self.signals.tell_page(process);
+        self.locks.signals().tell_page(process);
         Some(HoldOfBoth {
             desk: Change {
                 before: desk_before,
@@ -317,7 +192,7 @@ impl<L: Ledger, S: SwapSlot, C: Clock> Shared<L, S, C> {
             hold.process.before.value hold.process.after.value hold.slots.before.value
             hold.slots.after.value hold.reply) }
     {
-        let lock = self.processes.get(number as usize)?;
+        let lock = self.locks.get(number)?;
         let (mut desk, mut held) = self.lock_both(rt, lock);
         let mut slots = self.slots.lock(rt);
         let desk_before = Snapshot::of(&*desk);
@@ -366,14 +241,6 @@ fn sweep_on<L: Ledger, S: SwapSlot, C: Clock>(
             after: Snapshot::of(&*held),
         },
         reply,
-    }
-}
-
-/// Whether an instruction ran.
-fn has_run(reply: &Option<Slice>) -> bool {
-    match reply {
-        Some(slice) => slice.ran != 0,
-        None => false,
     }
 }
 

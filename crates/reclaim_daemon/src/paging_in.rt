@@ -43,7 +43,7 @@ impl<L: Ledger, S: SwapSlot, C: Clock> Shared<L, S, C> {
         ensures some { IfSome result (λ hold. AdmitsOrNot hold.desk.before.value hold.desk.after.value
             hold.process.value key hold.reply) }
     {
-        let lock = self.processes.get(key.process as usize)?;
+        let lock = self.locks.get(key.process)?;
         let (mut desk, held) = self.lock_both(rt, lock);
         let before = Snapshot::of(&*desk);
         let reply = desk.admit(&*held, key);
@@ -51,7 +51,7 @@ impl<L: Ledger, S: SwapSlot, C: Clock> Shared<L, S, C> {
         let process = Snapshot::of(&*held);
         drop(held);
         drop(desk);
-        self.signals.daemon().ring();
+        self.locks.signals().daemon().ring();
         Some(HoldOfPager {
             desk: Change { before, after },
             process,
@@ -72,7 +72,7 @@ impl<L: Ledger, S: SwapSlot, C: Clock> Shared<L, S, C> {
             hold.process.value admission hold.reply) }
     {
         let number = admission.key().process;
-        let lock = self.processes.get(number as usize)?;
+        let lock = self.locks.get(number)?;
         let (mut desk, held) = self.lock_both(rt, lock);
         let before = Snapshot::of(&*desk);
         let reply = desk.undo(&*held, admission);
@@ -80,8 +80,8 @@ impl<L: Ledger, S: SwapSlot, C: Clock> Shared<L, S, C> {
         let process = Snapshot::of(&*held);
         drop(held);
         drop(desk);
-        self.signals.tell_page(number);
-        self.signals.daemon().ring();
+        self.locks.signals().tell_page(number);
+        self.locks.signals().daemon().ring();
         Some(HoldOfPager {
             desk: Change { before, after },
             process,
@@ -103,7 +103,7 @@ impl<L: Ledger, S: SwapSlot, C: Clock> Shared<L, S, C> {
             hold.desk.before.value hold.desk.after.value hold.process.before.value
             hold.process.after.value hold.reply) }
     {
-        let lock = self.processes.get(key.process as usize)?;
+        let lock = self.locks.get(key.process)?;
         Some(self.page_in_on(rt, gate, key, lock))
     }
 
@@ -152,7 +152,7 @@ impl<L: Ledger, S: SwapSlot, C: Clock> Shared<L, S, C> {
             return;
         }
         if matches!(admitted, Some(Ok(_))) {
-            self.signals.daemon().ring();
+            self.locks.signals().daemon().ring();
         }
     }
 }

@@ -9,6 +9,7 @@ ghost use Rattle.swap_slots.specs.Slot.{Rose};
 
 use crate::gate::Gate;
 use crate::holds::{HoldOfAll, HoldOfBoth};
+use crate::process_locks::ProcessLocks;
 use crate::replies::{Collection, SaveReply};
 use crate::shared::Shared;
 use crate::waiting::Room;
@@ -39,22 +40,22 @@ pub fn daemon<L: Ledger, S: SwapSlot, C: Clock, G: Gate, R: Wait>(
     let is_ahead = shared.is_ahead();
     let mut ahead = Ahead::new();
     for _ in rt.forever() {
-        let calls = shared.signals.daemon().rings();
-        let has_ended = shared.has_ended();
+        let calls = shared.locks().signals().daemon().rings();
+        let has_ended = shared.locks().has_ended();
         purge_ended(rt, shared);
         if has_ended {
             return is_ahead;
         }
         let room = shared.room(rt);
-        shared.signals.offer(room.free);
+        shared.locks().signals().offer(room.free);
         if room.wants_frames {
             if !make_room(rt, shared, viewers, gate, calls) {
-                shared.wait_for_call(rt, calls);
+                shared.locks().wait_for_call(rt, calls);
             }
         } else if is_ahead {
             write_ahead(rt, shared, gate, &room, &mut ahead, calls);
         } else {
-            shared.wait_for_call(rt, calls);
+            shared.locks().wait_for_call(rt, calls);
         }
     }
     unreachable!()
@@ -63,7 +64,7 @@ pub fn daemon<L: Ledger, S: SwapSlot, C: Clock, G: Gate, R: Wait>(
 /// Each process that has ended since gives its pages back.
 fn purge_ended<L: Ledger, S: SwapSlot, C: Clock, R: Wait>(rt: &R, shared: &Shared<L, S, C>) {
     for number in 0..shared.processes() {
-        if shared.signals.take_end(number) {
+        if shared.locks().signals().take_end(number) {
             shared.purge(rt, number);
         }
     }
@@ -85,11 +86,11 @@ fn make_room<L: Ledger, S: SwapSlot, C: Clock, G: Gate, R: Wait>(
         tell_free(rt, viewers, gate);
         return true;
     }
-    if !shared.signals.is_hungry() {
+    if !shared.locks().signals().is_hungry() {
         return false;
     }
-    if shared.signals.watch(victim.process) {
-        shared.wait_for_call(rt, calls);
+    if shared.locks().signals().watch(victim.process) {
+        shared.locks().wait_for_call(rt, calls);
     }
     true
 }
@@ -105,8 +106,8 @@ fn write_ahead<L: Ledger, S: SwapSlot, C: Clock, G: Gate, R: Wait>(
 ) {
     match ahead.step(rt, shared, gate, room) {
         Rest::Nothing => {}
-        Rest::Nap(millis) => shared.nap(rt, calls, millis),
-        Rest::UntilCalled => shared.wait_for_call(rt, calls),
+        Rest::Nap(millis) => shared.locks().nap(rt, calls, millis),
+        Rest::UntilCalled => shared.locks().wait_for_call(rt, calls),
     }
 }
 
@@ -136,8 +137,8 @@ fn let_go<L: Ledger, S: SwapSlot, C: Clock, G: Gate, R: Wait>(
     key: Key,
 ) -> bool {
     for _ in rt.forever() {
-        let calls = shared.signals.daemon().rings();
-        give_notices(rt, shared, key.process);
+        let calls = shared.locks().signals().daemon().rings();
+        give_notices(rt, shared.locks(), key.process);
         let Some(hold) = shared.collect(rt, key) else {
             return false;
         };
@@ -148,17 +149,17 @@ fn let_go<L: Ledger, S: SwapSlot, C: Clock, G: Gate, R: Wait>(
         match found {
             Collection::NotYet => {
                 // A hart that was started since may have it: it takes notice with its next slice.
-                shared.signals.watch(key.process);
-                shared.wait_for_call(rt, calls);
+                shared.locks().signals().watch(key.process);
+                shared.locks().wait_for_call(rt, calls);
             }
             Collection::Freed => return true,
             Collection::Dirty(job) => return save(rt, shared, gate, job),
             Collection::NoSlot => {
-                kill_if_spent(rt, shared, key.process);
+                kill_if_spent(rt, shared.locks(), key.process);
                 return false;
             }
             Collection::NotRestored(_) => {
-                shared.kill(rt, key.process, KillCause::NoMemory);
+                shared.locks().kill(rt, key.process, KillCause::NoMemory);
                 return false;
             }
             Collection::NotLeaving | Collection::Stray => return false,
@@ -168,26 +169,26 @@ fn let_go<L: Ledger, S: SwapSlot, C: Clock, G: Gate, R: Wait>(
 }
 
 /// The harts of a process drop their translations that are to be dropped.
-pub(crate) fn give_notices<L: Ledger, S: SwapSlot, C: Clock, R: Wait>(
+pub(crate) fn give_notices<L: Ledger, S: SwapSlot, R: Wait>(
     rt: &R,
-    shared: &Shared<L, S, C>,
+    locks: &ProcessLocks<L, S>,
     process: u32,
 ) {
     for hart in 0..MOST_HARTS as u32 {
-        if shared.signals.is_live(process, hart) {
-            shared.notice(rt, process, hart);
+        if locks.signals().is_live(process, hart) {
+            locks.notice(rt, process, hart);
         }
     }
 }
 
 /// A page of a process could not leave its frame. Where a hart waits for one, that may end the process.
-fn kill_if_spent<L: Ledger, S: SwapSlot, C: Clock, R: Wait>(
+fn kill_if_spent<L: Ledger, S: SwapSlot, R: Wait>(
     rt: &R,
-    shared: &Shared<L, S, C>,
+    locks: &ProcessLocks<L, S>,
     process: u32,
 ) {
-    if shared.signals.is_hungry() {
-        shared.kill_if_spent(rt, process);
+    if locks.signals().is_hungry() {
+        locks.kill_if_spent(rt, process);
     }
 }
 
@@ -209,11 +210,11 @@ fn save<L: Ledger, S: SwapSlot, C: Clock, G: Gate, R: Wait>(
     match reply {
         SaveReply::Freed => true,
         SaveReply::ResidentAgain(_) => {
-            kill_if_spent(rt, shared, key.process);
+            kill_if_spent(rt, shared.locks(), key.process);
             false
         }
         SaveReply::NotRestored { .. } => {
-            shared.kill(rt, key.process, KillCause::NoMemory);
+            shared.locks().kill(rt, key.process, KillCause::NoMemory);
             false
         }
         SaveReply::Stray | SaveReply::WrongPage(_) => false,

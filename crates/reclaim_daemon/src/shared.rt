@@ -1,61 +1,48 @@
 //! The locks of a machine.
 
-ghost use Rattle.std.specs.Prelude.{◌≡◌, ◌+◌, ◌*◌, ◌≤◌, ◌↔◌, [], false, true, vec_len, vec_capacity, OnOk, OnErr, IsErrOf};
+ghost use Rattle.std.specs.Prelude.{◌≡◌, ◌+◌, ◌*◌, ◌≤◌, ◌↔◌, [], false, true, vec_len, vec_capacity, OnOk, OnErr, IfOk, IsErrOf};
+ghost use Rattle.elf_image.specs.Start.{start_of};
 ghost use Rattle.machine_limits.specs.Limits.{most_processes};
-ghost use Rattle.reclaim_daemon.specs.SharedValue.{tries_per_frame};
+ghost use Rattle.machine_sides.specs.Starting.{Begins};
+ghost use Rattle.reclaim_daemon.specs.SharedValue.{locks_of, tries_per_frame};
+ghost use Rattle.status_cell.specs.Counts.{nothing};
+ghost use Rattle.status_cell.specs.ViewerValue.{viewer_value};
 
 use crate::desk::Desk;
 use crate::held::Held;
 use crate::parts::Parts;
+use crate::process_locks::{AddRefusal, Added, ProcessLocks};
 use clock_policy::Clock;
 use elf_image::Image;
-use hart_signals::Signals;
-use machine_limits::{MOST_PROCESSES, TRIES_PER_FRAME};
-use status_cell::Viewer;
+use machine_limits::TRIES_PER_FRAME;
 use std::alloc::{AllocError, Global};
 use std::marker::Model;
 use std::sync::Mutex;
-use std::sync::atomic::{AtomicU64, Ordering};
 use std::sync::ledger::Ledger;
 use swap_slots::{SlotPool, SwapSlot};
-use thiserror::Error;
 
 /// A machine whose processes, pager and slots have a lock each. They are taken in the order pager, process, slots.
 #[derive(Drop)]
 pub struct Shared<L: Ledger, S: SwapSlot, C: Clock> {
     pub(crate) desk: Mutex<Desk<L, C>>,
-    pub(crate) processes: Vec<Mutex<Held<L, S>>>,
+    pub(crate) locks: ProcessLocks<L, S>,
     pub(crate) slots: Mutex<SlotPool<S>>,
     /// Of how many slots the machine was made.
     slot_count: usize,
-    /// Who waits for what.
-    pub(crate) signals: Signals,
-    /// Above 0 where a process was not the one of its lock's number.
-    misplaced: AtomicU64,
-    most_tries: u64,
     /// Whether the daemon writes changed pages ahead.
     pub(crate) ahead: bool,
 }
 
 impl<L: Ledger, S: SwapSlot, C: Clock> Model for Shared<L, S, C> {
-    ghost use Rattle.std.specs.Prelude.{◌≤◌, vec_len};
+    ghost use Rattle.std.specs.Prelude.{◌≤◌};
     ghost use Rattle.machine_limits.specs.Limits.{most_processes};
     ghost use Rattle.reclaim_daemon.specs.SharedValue.{SharedValue};
 
     ghost Value = { SharedValue };
 
-    ghost view = { λ s. record { processes = vec_len s.processes; slots = s.slot_count; most_tries = s.most_tries; ahead = s.ahead } };
+    ghost view = { λ s. record { processes = s.locks.processes; slots = s.slot_count; most_tries = s.locks.most_tries; ahead = s.ahead } };
 
-    ghost invariant = { λ s. vec_len s.processes ≤ most_processes };
-}
-
-/// Why a process was not added, in the order in which the reasons are tested.
-#[derive(Clone, Copy, PartialEq, Eq, Debug, Error)]
-pub enum AddRefusal {
-    #[error("the machine has {most} processes", most = MOST_PROCESSES)]
-    TooMany,
-    #[error("out of memory")]
-    NoMemory,
+    ghost invariant = { λ s. s.locks.processes ≤ most_processes };
 }
 
 impl<L: Ledger, S: SwapSlot, C: Clock> Shared<L, S, C> {
@@ -67,14 +54,12 @@ impl<L: Ledger, S: SwapSlot, C: Clock> Shared<L, S, C> {
         ensures ahead { result.ahead ≡ false }
     {
         let pool = SlotPool::new(slots);
+        let most_tries = TRIES_PER_FRAME * u64::from(desk.pager().size());
         Shared {
-            most_tries: TRIES_PER_FRAME * u64::from(desk.pager().size()),
             desk: Mutex::new(desk),
-            processes: Vec::new(alloc),
+            locks: ProcessLocks::new(alloc, most_tries),
             slot_count: pool.size(),
             slots: Mutex::new(pool),
-            signals: Signals::new(alloc),
-            misplaced: AtomicU64::new(0),
             ahead: false,
         }
     }
@@ -94,30 +79,40 @@ impl<L: Ledger, S: SwapSlot, C: Clock> Shared<L, S, C> {
     }
 
     /// One more process, of the next number, that is to run an image on an input; and a viewer of its counts.
-    pub fn add(&mut self, alloc: Global, image: Image, input: Vec<u8>) -> Result<Viewer, AddRefusal>
+    pub fn add(
+        &mut self,
+        alloc: Global,
+        image: Image,
+        input: Vec<u8>,
+    ) -> Result<Added<L, S>, AddRefusal>
         ensures added { OnOk result (self.new ≡ record self.old {
           processes = self.old.processes +
               1;
         }) }
+        ensures begins { IfOk result (λ added. Begins self.old.processes
+            (start_of image input.items) added.process.value.side) }
+        ensures viewer { IfOk result (λ added. added.viewer ≡
+            viewer_value added.process.value.writer.cell nothing) }
         ensures too_many { IsErrOf result AddRefusal.TooMany ↔
             (self.old.processes ≡ most_processes) }
         ensures err { OnErr result (self.new ≡ self.old) }
     {
-        if self.processes.len() >= MOST_PROCESSES {
-            return Err(AddRefusal::TooMany);
-        }
-        let number = self.processes.len() as u32;
-        let Ok((held, viewer)) = Held::new(alloc, number, image, input) else {
-            return Err(AddRefusal::NoMemory);
-        };
-        // Where the push behind this one is refused the signs stay, and will do for the next process.
-        if self.signals.add_process().is_err() {
-            return Err(AddRefusal::NoMemory);
-        }
-        if self.processes.push(Mutex::new(held)).is_err() {
-            return Err(AddRefusal::NoMemory);
-        }
-        Ok(viewer)
+        self.locks.add(alloc, image, input)
+    }
+
+    /// So many workers more, of the next numbers: hart `h` of process `p` falls to worker `(p + h) % workers`, whose bell rings where that hart
+    /// may wait for something.
+    pub fn add_workers(&mut self, count: u32) -> Result<(), AllocError>
+        ensures { self.new ≡ self.old }
+    {
+        self.locks.add_workers(count)
+    }
+
+    /// The locks of its processes alone.
+    pub fn locks(&self) -> &ProcessLocks<L, S>
+        ensures { result.now ≡ locks_of self.now }
+    {
+        &self.locks
     }
 
     /// How many processes there are.
@@ -125,14 +120,14 @@ impl<L: Ledger, S: SwapSlot, C: Clock> Shared<L, S, C> {
         ensures count { result ≡ self.now.processes }
         ensures few { result ≤ most_processes }
     {
-        self.processes.len() as u32
+        self.locks.count()
     }
 
     /// How often a process may be tried for.
     pub fn most_tries(&self) -> u64
         ensures { result ≡ self.now.most_tries }
     {
-        self.most_tries
+        self.locks.most_tries()
     }
 
     /// Of how many slots the machine was made.
@@ -153,16 +148,14 @@ impl<L: Ledger, S: SwapSlot, C: Clock> Shared<L, S, C> {
     {
         let Shared {
             desk,
-            processes,
+            locks,
             slots,
             slot_count,
-            signals: _,
-            misplaced,
-            most_tries: _,
             ahead: _,
         } = self;
         let mut desk = desk.into_inner();
-        if misplaced.into_inner() != 0 {
+        let (processes, is_misplaced) = locks.into_all(room);
+        if is_misplaced {
             desk.mark_unsound();
         }
         let slots = slots.into_inner();
@@ -171,32 +164,8 @@ impl<L: Ledger, S: SwapSlot, C: Clock> Shared<L, S, C> {
         }
         Parts {
             desk,
-            processes: unlock_all(processes, room),
+            processes,
             slots,
         }
-    }
-}
-
-/// What stood under these locks, in a list whose room is there.
-fn unlock_all<T: Drop>(locks: Vec<Mutex<T>>, room: Vec<T>) -> Vec<T>
-    requires empty { room.items ≡ [] }
-    requires room { vec_len locks ≤ vec_capacity room }
-    ensures { vec_len result ≡ vec_len locks }
-{
-    let mut all = room;
-    for lock in locks {
-        all.push_reserved(lock.into_inner());
-    }
-    all
-}
-
-impl<L: Ledger, S: SwapSlot, C: Clock> Shared<L, S, C> {
-    /// A process was not the one of its lock's number.
-    pub(crate) fn misplace(&self) {
-        self.misplaced.store(1, Ordering::SeqCst);
-    }
-
-    pub(crate) fn is_misplaced(&self) -> bool {
-        self.misplaced.load(Ordering::SeqCst) != 0
     }
 }

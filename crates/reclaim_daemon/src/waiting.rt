@@ -1,14 +1,12 @@
 //! Who waits for what, and is told.
 
-ghost use Rattle.std.specs.Prelude.{◌≡◌};
-
 use crate::held::Held;
+use crate::process_locks::ProcessLocks;
 use crate::shared::Shared;
 use clock_policy::Clock;
 use hart_signals::Bell;
 use machine_limits::MOST_HARTS;
 use space_core::Space;
-use std::alloc::AllocError;
 use std::sync::Wait;
 use std::sync::ledger::Ledger;
 use std::time::Duration;
@@ -40,48 +38,54 @@ pub(crate) struct News {
 }
 
 impl<L: Ledger, S: SwapSlot, C: Clock> Shared<L, S, C> {
-    /// So many workers more, of the next numbers: hart `h` of process `p` falls to worker `(p + h) % workers`, whose bell rings where that hart
-    /// may wait for something.
-    pub fn add_workers(&mut self, count: u32) -> Result<(), AllocError>
-        ensures { self.new ≡ self.old }
-    {
-        self.signals.add_workers(count)
+    /// What room there is.
+    pub(crate) fn room<R: Wait>(&self, rt: &R) -> Room {
+        let desk = self.desk.lock(rt);
+        let counts = desk.pager().counts().pager;
+        Room {
+            frames: desk.pager().size(),
+            free: counts.free,
+            wants_frames: desk.wants_frames(),
+            page_ins: counts.tallies.page_ins,
+        }
     }
+}
 
+impl<L: Ledger, S: SwapSlot> ProcessLocks<L, S> {
     /// Whether each process has ended.
     pub fn has_ended(&self) -> bool {
-        self.signals.ended() >= u64::from(self.processes())
+        self.signals().ended() >= u64::from(self.count())
     }
 
     /// Whether a hart of a process is live, as far as is known without its lock.
     pub fn is_live(&self, number: u32, hart: u32) -> bool {
-        self.signals.is_live(number, hart)
+        self.signals().is_live(number, hart)
     }
 
     /// Whether a hart of a process may be carried: it is live, and where it yielded each other live hart of the process has had a turn since.
     /// No lock is taken to know that, so that nobody waits for a process whose other harts run only to find that this one may not.
     pub fn may_run(&self, number: u32, hart: u32) -> bool {
-        self.signals.may_run(number, hart)
+        self.signals().may_run(number, hart)
     }
 
     /// A hart's turn is over, by a yield or otherwise.
     pub fn end_turn(&self, number: u32, hart: u32, yielded: bool) {
-        self.signals.end_turn(number, hart, yielded);
+        self.signals().end_turn(number, hart, yielded);
     }
 
     /// A hart waits for a page, or does so no more.
     pub fn set_paging(&self, number: u32, hart: u32, paging: bool) {
-        self.signals.set_paging(number, hart, paging);
+        self.signals().set_paging(number, hart, paging);
     }
 
     /// A worker has a hart that waits for a frame, or none any more.
     pub fn set_hungry(&self, worker: u32, hungry: bool) {
-        self.signals.set_hungry(worker, hungry);
+        self.signals().set_hungry(worker, hungry);
     }
 
     /// How often a worker's bell has rung. Read it before you look for what there is to do.
     pub fn rings(&self, worker: u32) -> u64 {
-        match self.signals.worker(worker) {
+        match self.signals().worker(worker) {
             Some(bell) => bell.rings(),
             None => 0,
         }
@@ -89,7 +93,7 @@ impl<L: Ledger, S: SwapSlot, C: Clock> Shared<L, S, C> {
 
     /// Sleeps until a worker's bell has rung since `rings` was read.
     pub fn wait_for_ring<R: Wait>(&self, rt: &R, worker: u32, rings: u64) {
-        if let Some(bell) = self.signals.worker(worker) {
+        if let Some(bell) = self.signals().worker(worker) {
             sleep(rt, bell, rings, NAP_MILLIS);
         }
     }
@@ -101,19 +105,7 @@ impl<L: Ledger, S: SwapSlot, C: Clock> Shared<L, S, C> {
 
     /// The same, for so many milliseconds at most.
     pub(crate) fn nap<R: Wait>(&self, rt: &R, calls: u64, millis: u64) {
-        sleep(rt, self.signals.daemon(), calls, millis);
-    }
-
-    /// What room there is.
-    pub(crate) fn room<R: Wait>(&self, rt: &R) -> Room {
-        let desk = self.desk.lock(rt);
-        let counts = desk.pager().counts().pager;
-        Room {
-            frames: desk.pager().size(),
-            free: counts.free,
-            wants_frames: desk.wants_frames(),
-            page_ins: counts.tallies.page_ins,
-        }
+        sleep(rt, self.signals().daemon(), calls, millis);
     }
 
     /// What a hold has seen of a process under its lock, to be told once that is let go: nothing where the process is not the one of its lock's
@@ -128,7 +120,7 @@ impl<L: Ledger, S: SwapSlot, C: Clock> Shared<L, S, C> {
         }
         let live = live_harts(held.side());
         News {
-            harts: self.signals.set_live(number, &live),
+            harts: self.signals().set_live(number, &live),
             ended: !had_ended && held.side().end().is_some(),
         }
     }
@@ -136,10 +128,10 @@ impl<L: Ledger, S: SwapSlot, C: Clock> Shared<L, S, C> {
     /// Tells who may wait for it.
     pub(crate) fn tell(&self, number: u32, news: News) {
         if news.harts {
-            self.signals.tell_harts(number);
+            self.signals().tell_harts(number);
         }
         if news.ended {
-            self.signals.tell_end(number, u64::from(self.processes()));
+            self.signals().tell_end(number, u64::from(self.count()));
         }
     }
 }

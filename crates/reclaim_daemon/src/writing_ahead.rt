@@ -8,6 +8,7 @@ ghost use Rattle.swap_slots.specs.Slot.{Rose};
 
 use crate::cleaning::HoldWithSlots;
 use crate::gate::Gate;
+use crate::process_locks::ProcessLocks;
 use crate::reclaiming::give_notices;
 use crate::replies::Begun;
 use crate::shared::Shared;
@@ -106,7 +107,7 @@ impl Ahead {
             }
             Tried::NotYet => {
                 // A hart that was started since may have it: it takes notice with its next slice.
-                give_notices(rt, shared, key.process);
+                give_notices(rt, shared.locks(), key.process);
                 Rest::Nap(PAUSE_MILLIS)
             }
             Tried::Over => {
@@ -135,13 +136,13 @@ impl Ahead {
         // The process that it begins with comes twice: its pages below are looked at last.
         for _ in 0..=shared.processes() {
             let process = self.process;
-            if let Some(vpn) = begun_page(rt, shared, process, self.from) {
+            if let Some(vpn) = begun_page(rt, shared.locks(), process, self.from) {
                 self.from = vpn.saturating_add(1);
                 self.cleanings = self.cleanings.saturating_add(1);
                 self.begun = Some(Key { process, vpn });
                 self.left = self.pauses.saturating_sub(1);
                 self.nap = PAUSE_MILLIS;
-                give_notices(rt, shared, process);
+                give_notices(rt, shared.locks(), process);
                 return Rest::Nap(PAUSE_MILLIS);
             }
             self.from = 0;
@@ -160,13 +161,13 @@ fn next_process(process: u32, processes: u32) -> u32 {
 }
 
 /// The page of a process, from this one on, whose cleaning has begun, if there is one.
-fn begun_page<L: Ledger, S: SwapSlot, C: Clock, R: Wait>(
+fn begun_page<L: Ledger, S: SwapSlot, R: Wait>(
     rt: &R,
-    shared: &Shared<L, S, C>,
+    locks: &ProcessLocks<L, S>,
     process: u32,
     from: u32,
 ) -> Option<u32> {
-    let hold = shared.begin_clean(rt, process, from)?;
+    let hold = locks.begin_clean(rt, process, from)?;
     match hold.reply? {
         Begun::Page(vpn) => Some(vpn),
         Begun::NoPage | Begun::Barred(_, _) => None,
@@ -192,7 +193,7 @@ fn copy<L: Ledger, S: SwapSlot, C: Clock, G: Gate, R: Wait>(
         Copying::NotYet => Tried::NotYet,
         Copying::NoSlot => Tried::Over,
         Copying::Copied(job) => {
-            shared.cleaned(rt, write_slot(gate, job));
+            shared.locks().cleaned(rt, write_slot(gate, job));
             Tried::Over
         }
     }

@@ -1,0 +1,216 @@
+//! The holds of a process's lock alone, and no other: each makes one call, and tells what it found and what it left.
+//!
+//! Where a process is not the one of its lock's number no call is made, and the machine is not sound from then on.
+
+ghost use Rattle.std.specs.Prelude.{◌≡◌, ◌≤◌, ◌↔◌, nat_le, IfSome, IsNone, Some};
+ghost use Rattle.reclaim_daemon.specs.Cleaning.{BeginsWhere, CleansWhere};
+ghost use Rattle.reclaim_daemon.specs.Holding.{RunsWhere, NoticesWhere, KillsNumberWhere, KillsSpentWhere};
+
+use crate::held::Held;
+use crate::holds::Change;
+use crate::process_locks::ProcessLocks;
+use crate::replies::Begun;
+use flat_machine::KillCause;
+use page_store::{Cleaned, CleanedJob};
+use space_core::Slice;
+use std::snapshot::Snapshot;
+use std::sync::Wait;
+use std::sync::ledger::Ledger;
+use swap_slots::SwapSlot;
+
+/// A hold of a process's lock, and what its call was answered with.
+#[derive(Drop)]
+pub struct HoldOfProcess<L: Ledger, S: SwapSlot, A: Drop> {
+    pub process: Change<Held<L, S>>,
+    pub reply: A,
+}
+
+impl<L: Ledger, S: SwapSlot> ProcessLocks<L, S> {
+    /// A slice of a hart, after which it drops its translations that are to be dropped; how far the process has come is published.
+    ///
+    /// There is none where there is no such process, and no reply where the process is another one.
+    pub fn slice<R: Wait>(
+        &self,
+        rt: &R,
+        number: u32,
+        hart: u32,
+        budget: u32,
+    ) -> Option<HoldOfProcess<L, S, Option<Slice>>>
+        ensures none { IsNone result ↔ (self.now.processes ≤ number) }
+        ensures some { IfSome result (λ hold. RunsWhere S.content S.honest number hart budget
+            hold.reply hold.process.before.value hold.process.after.value) }
+    {
+        let lock = self.get(number)?;
+        let mut held = lock.lock(rt);
+        let before = Snapshot::of(&*held);
+        let had_ended = held.side().end().is_some();
+        let reply = held.slice_of(rt, number, hart, budget);
+        let after = Snapshot::of(&*held);
+        let news = self.news(number, &*held, had_ended);
+        drop(held);
+        if has_run(&reply) {
+            self.signals().tell_ran(number);
+        }
+        self.tell(number, news);
+        Some(HoldOfProcess {
+            process: Change { before, after },
+            reply,
+        })
+    }
+
+    /// A hart of a process drops its translations that are to be dropped.
+    ///
+    /// There is none where there is no such process; it answers whether the process is not another one.
+    pub fn notice<R: Wait>(
+        &self,
+        rt: &R,
+        number: u32,
+        hart: u32,
+    ) -> Option<HoldOfProcess<L, S, bool>>
+        ensures none { IsNone result ↔ (self.now.processes ≤ number) }
+        ensures some { IfSome result (λ hold. NoticesWhere number hart hold.reply
+            hold.process.before.value hold.process.after.value) }
+    {
+        let lock = self.get(number)?;
+        let mut held = lock.lock(rt);
+        let before = Snapshot::of(&*held);
+        let reply = held.take_notices_of(number, hart);
+        let after = Snapshot::of(&*held);
+        drop(held);
+        if !reply {
+            self.misplace();
+        }
+        Some(HoldOfProcess {
+            process: Change { before, after },
+            reply,
+        })
+    }
+
+    /// The machine ends a process, unless it has ended; how far it has come is published.
+    ///
+    /// There is none where there is no such process; it answers whether the process is not another one.
+    pub fn kill<R: Wait>(
+        &self,
+        rt: &R,
+        number: u32,
+        cause: KillCause,
+    ) -> Option<HoldOfProcess<L, S, bool>>
+        ensures none { IsNone result ↔ (self.now.processes ≤ number) }
+        ensures some { IfSome result (λ hold. KillsNumberWhere number cause hold.reply
+            hold.process.before.value hold.process.after.value) }
+    {
+        let lock = self.get(number)?;
+        let mut held = lock.lock(rt);
+        let before = Snapshot::of(&*held);
+        let had_ended = held.side().end().is_some();
+        let reply = held.kill_number(rt, number, cause);
+        let after = Snapshot::of(&*held);
+        let news = self.news(number, &*held, had_ended);
+        drop(held);
+        self.tell(number, news);
+        Some(HoldOfProcess {
+            process: Change { before, after },
+            reply,
+        })
+    }
+
+    /// The machine ends a process for want of a place for its pages, where it was tried for as often as a process may be. Answers
+    /// whether it was.
+    ///
+    /// There is none where there is no such process, and no reply where the process is another one.
+    pub fn kill_if_spent<R: Wait>(
+        &self,
+        rt: &R,
+        number: u32,
+    ) -> Option<HoldOfProcess<L, S, Option<bool>>>
+        ensures none { IsNone result ↔ (self.now.processes ≤ number) }
+        ensures some { IfSome result (λ hold. KillsSpentWhere number self.now.most_tries hold.reply
+            hold.process.before.value hold.process.after.value) }
+    {
+        let lock = self.get(number)?;
+        let mut held = lock.lock(rt);
+        let before = Snapshot::of(&*held);
+        let had_ended = held.side().end().is_some();
+        let reply = held.kill_spent(rt, number, self.most_tries());
+        let after = Snapshot::of(&*held);
+        let news = self.news(number, &*held, had_ended);
+        drop(held);
+        self.tell(number, news);
+        Some(HoldOfProcess {
+            process: Change { before, after },
+            reply,
+        })
+    }
+
+    /// Begins to clean the first page of a process from this number on that is resident and changed.
+    ///
+    /// There is none where there is no such process, and no reply where the process is another one.
+    pub fn begin_clean<R: Wait>(
+        &self,
+        rt: &R,
+        number: u32,
+        from: u32,
+    ) -> Option<HoldOfProcess<L, S, Option<Begun>>>
+        ensures none { IsNone result ↔ (self.now.processes ≤ number) }
+        ensures some { IfSome result (λ hold. BeginsWhere number from hold.reply
+            hold.process.before.value hold.process.after.value) }
+    {
+        let lock = self.get(number)?;
+        let mut held = lock.lock(rt);
+        let before = Snapshot::of(&*held);
+        let reply = held.begin_clean_of(number, from);
+        let after = Snapshot::of(&*held);
+        drop(held);
+        if reply.is_none() {
+            self.misplace();
+        }
+        Some(HoldOfProcess {
+            process: Change { before, after },
+            reply,
+        })
+    }
+
+    /// Ends the cleaning of a page whose slot was written under no lock. The machine is not sound where it is the copy of no page that is being
+    /// cleaned.
+    ///
+    /// There is none where there is no such process, and no reply where the process is another one.
+    pub fn cleaned<R: Wait>(
+        &self,
+        rt: &R,
+        job: CleanedJob<S>,
+    ) -> Option<HoldOfProcess<L, S, Option<Cleaned<S>>>>
+        ensures none { IsNone result ↔ (self.now.processes ≤ job.process) }
+        ensures some { IfSome result (λ hold. CleansWhere job hold.reply
+            hold.process.before.value hold.process.after.value) }
+    {
+        let lock = self.get(job.process())?;
+        let mut held = lock.lock(rt);
+        let before = Snapshot::of(&*held);
+        let reply = held.cleaned_of(job);
+        let after = Snapshot::of(&*held);
+        drop(held);
+        if is_lost(&reply) {
+            self.misplace();
+        }
+        Some(HoldOfProcess {
+            process: Change { before, after },
+            reply,
+        })
+    }
+}
+
+/// Whether an instruction ran.
+fn has_run(reply: &Option<Slice>) -> bool {
+    match reply {
+        Some(slice) => slice.ran != 0,
+        None => false,
+    }
+}
+
+/// Whether a copy came back that no page has out, or to another process.
+fn is_lost<S: SwapSlot>(reply: &Option<Cleaned<S>>) -> bool {
+    match reply {
+        Some(answer) => matches!(answer, Cleaned::WrongPage(_)),
+        None => true,
+    }
+}

@@ -44,7 +44,7 @@ fn begun<L: Ledger, S: SwapSlot>(
     let desk: Desk<L, ClockRing> = Desk::new(alloc, 4, blank)?;
     let mut shared: Shared<L, S, ClockRing> = Shared::new(alloc, desk, slots);
     let image = image_of(alloc, STORES_A_BYTE)?;
-    let _viewer = shared.add(alloc, image, Vec::new(alloc))?;
+    let _added = shared.add(alloc, image, Vec::new(alloc))?;
     Ok(shared)
 }
 
@@ -110,14 +110,14 @@ fn sweeps_out<L: Ledger, S: SwapSlot, C: Clock, R: Wait + Abort>(
 ) -> Result<(), Fail> {
     assert!(rt; comes_in(rt, shared, CODE));
     assert!(rt; comes_in(rt, shared, DATA));
-    let slice = shared.slice(rt, 0, 0, 4).ok_or("no process")?;
+    let slice = shared.locks().slice(rt, 0, 0, 4).ok_or("no process")?;
     assert!(rt; matches!(slice.reply, Some(ran) if ran.ran == 4));
     assert_eq!(rt; next_victim(rt, shared), Some(CODE));
-    shared.notice(rt, 0, 0);
+    shared.locks().notice(rt, 0, 0);
     let code = shared.collect(rt, CODE).ok_or("no process")?;
     assert!(rt; matches!(code.reply, Some(Collection::Freed)));
     assert_eq!(rt; next_victim(rt, shared), Some(DATA));
-    shared.notice(rt, 0, 0);
+    shared.locks().notice(rt, 0, 0);
     let data = shared.collect(rt, DATA).ok_or("no process")?;
     let HoldOfAll { reply, .. } = data;
     let Some(Collection::Dirty(job)) = reply else {

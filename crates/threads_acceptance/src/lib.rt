@@ -16,4 +16,8 @@ mod machine;
 #[cfg(test)]
 mod sharing;
 #[cfg(test)]
+mod slicing;
+#[cfg(test)]
+mod viewing;
+#[cfg(test)]
 mod waiting;

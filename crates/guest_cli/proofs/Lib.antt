@@ -1,1 +1,4 @@
-mod Pieces
+pub mod OutputGrows
+pub mod OutputPieces
+pub mod Pieces
+pub mod WholeInput

@@ -1,2 +1,4 @@
+pub mod Answered
 pub mod FlatRuns
 pub mod GuestStatus
+pub mod TurnRuns

@@ -1,5 +1,8 @@
 //! Standard input, read whole.
 
+ghost use Rattle.std.specs.Prelude.{◌≤◌, IfOk, length};
+ghost use Rattle.guest_cli.specs.Answered.{AreWhole};
+
 use image_files::Fault;
 use std::alloc::Global;
 use std::io::{ErrorKind, Read};
@@ -11,10 +14,10 @@ const MOST_BYTES: u64 = 33_554_432;
 const STANDARD_INPUT: &str = "standard input";
 
 /// The bytes of an input.
-pub(crate) fn read_whole<'a, I: Read + Drop>(
-    alloc: Global,
-    input: I,
-) -> Result<Vec<u8>, Fault<'a>> {
+pub(crate) fn read_whole<'a, I: Read + Drop>(alloc: Global, input: I) -> Result<Vec<u8>, Fault<'a>>
+    ensures whole { IfOk result (λ bytes. AreWhole (I.remaining input) bytes.items) }
+    ensures few { IfOk result (λ bytes. length bytes.items ≤ 33554432) }
+{
     let mut bytes = Vec::new(alloc);
     if let Err(error) = input.take(MOST_BYTES + 1).read_to_end(&mut bytes) {
         return match error.kind() {

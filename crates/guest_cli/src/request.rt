@@ -1,5 +1,8 @@
 //! What is asked for.
 
+ghost use Rattle.std.specs.Prelude.{◌≤◌};
+ghost use Rattle.std.specs.Option.{ForSome};
+
 /// What is asked for on the command line.
 #[derive(Clone, Copy, Debug)]
 pub(crate) enum Request<'a> {
@@ -51,4 +54,5 @@ pub(crate) struct DebugRequest<'a> {
     /// The file whose bytes the program reads, if there is one.
     pub(crate) input: Option<&'a str>,
     pub(crate) image: &'a str,
+    ghost fitting: { ForSome frames (λ number. (4 ≤ number) × (number ≤ 4096)) },
 }

@@ -1,18 +1,22 @@
 //! `guest run`: a program on standard input, its bytes on standard output.
 
-ghost use Rattle.std.specs.Prelude.{◌≡◌, ◌≤◌, ◌⊎◌, ℕ, Some, true, IfOk};
-ghost use Rattle.flat_machine.specs.ByTurns.{by_turns, first_turn};
+ghost use Rattle.std.specs.Prelude.{◌≡◌, ◌≤◌, None, true, IfOk, drop, length};
+ghost use Rattle.std.specs.Io.KnownBytes.{Appends};
+ghost use Rattle.flat_machine.specs.ByTurns.{first_turn};
 ghost use Rattle.flat_machine.specs.Process.{is_live};
-ghost use Rattle.flat_machine.specs.declared.end.End.TheVariants.{Killed};
-ghost use Rattle.flat_machine.specs.declared.end.KillCause.TheVariants.{Limit, NoMemory};
+ghost use Rattle.guest_cli.specs.Answered.{AnswersRun, TellsRun};
+ghost use Rattle.guest_cli.specs.TurnRuns.{TellsTurns};
+ghost use Rattle.elf_image.specs.Start.{start_of};
 
 use crate::frame_machine::FrameMachine;
 use crate::input::read_whole;
 use crate::request::RunRequest;
 use crate::told_end::{status_of, tell_end};
+use elf_image::Image;
 use flat_machine::{End, FlatProcess, KillCause};
 use guest_steps::run_turns;
 use image_files::{Fault, Folder, read_image};
+use std::alloc::Global;
 use std::io::{Read, Write};
 
 /// After how many steps output is written at the latest.
@@ -33,70 +37,97 @@ where
     I: Read + Drop,
     O: Write,
     E: Write,
+    ensures { IfOk result (AnswersRun R.gives request.entry.image.now request.entry.frames
+        request.entry.limit (I.remaining input) (O.contents out.old) (O.contents out.new)) }
 {
     let alloc = rt.alloc();
     let image = read_image(rt, request.image)?;
     let input = read_whole(alloc, input)?;
-    if let Some(frames) = request.frames {
-        let (end, steps) = machine.run(alloc, frames, image, input, request.limit, out)?;
-        tell_end(end, steps, err);
-        return Ok(status_of(end));
-    }
-    let process = FlatProcess::new(alloc, &image, input)?;
-    let Ok(mut process) = Box::new(alloc, process) else {
-        return Err(Fault::NoMemory);
-    };
-    let (end, steps) = run_to_end(&mut *process, request.limit, out)?;
+    let (end, steps) = run_image(alloc, machine, request, image, input, out)?;
     tell_end(end, steps, err);
     Ok(status_of(end))
 }
 
+/// Runs an image on an input, on flat memory or on so many frames, and tells the end and after how many steps it came.
+fn run_image<'a, M: FrameMachine, O: Write>(
+    alloc: Global,
+    machine: &M,
+    request: RunRequest<'a>,
+    image: Image,
+    input: Vec<u8>,
+    out: &mut O,
+) -> Result<(End, u64), Fault<'a>>
+    ensures { IfOk result (λ done. TellsRun request.entry.frames request.entry.limit
+        (start_of image input.items) (O.contents out.old) (O.contents out.new) done.0 done.1) }
+{
+    if let Some(frames) = request.frames {
+        return machine.run(alloc, frames, image, input, request.limit, out);
+    }
+    run_flat(alloc, image, input, request.limit, out)
+}
+
+/// Runs an image on an input on flat memory, to its end or to the limit, and tells the end and after how many steps it came.
+fn run_flat<'a, O: Write>(
+    alloc: Global,
+    image: Image,
+    input: Vec<u8>,
+    limit: u64,
+    out: &mut O,
+) -> Result<(End, u64), Fault<'a>>
+    ensures { IfOk result (λ done. TellsRun None limit (start_of image input.items)
+        (O.contents out.old) (O.contents out.new) done.0 done.1) }
+{
+    let process = FlatProcess::new(alloc, &image, input)?;
+    let Ok(mut process) = Box::new(alloc, process) else {
+        return Err(Fault::NoMemory);
+    };
+    let done = run_to_end(&mut *process, limit, out)?;
+    Ok(done)
+}
+
 /// Runs a process to its end or to the limit, writes its output as it comes, and tells the end and after how many steps it came.
-#[tactic(auto, using(crate::proofs::Pieces::more_turns))]
 fn run_to_end<'a, O: Write>(
     process: &mut FlatProcess,
     limit: u64,
     out: &mut O,
 ) -> Result<(End, u64), Fault<'a>>
-    ensures ran { IfOk result (λ done. (turn : ℕ) ×
-        (by_turns done.1 (first_turn process.old) process.old ≡ Some (turn, process.new))) }
-    ensures within { IfOk result (λ done. done.1 ≤ limit) }
-    ensures ended { IfOk result (λ done. (process.new.ending ≡ Some done.0) ⊎
-        ((done.0 ≡ Killed Limit × (done.1 ≡ limit)) ⊎ (done.0 ≡ Killed NoMemory))) }
+    ensures { IfOk result (λ done. TellsTurns limit process.old process.new (O.contents out.old)
+        (O.contents out.new) done.0 done.1) }
 {
     let mut turn = first_turn(process);
-    let mut written = 0usize;
+    let mut written = write_more(process.output(), 0, out)?;
     let mut steps = 0u64;
     'pieces: while steps < limit {
         let most = (limit - steps).min(PIECE);
-        match run_turns(process, &mut turn, most) {
-            Ok(ran) => steps += ran,
-            Err(stop) => {
-                write_more(process.output(), written, out)?;
-                return Ok((End::Killed(KillCause::NoMemory), steps + stop.steps));
-            }
-        }
+        let ran = run_turns(process, &mut turn, most);
         written = write_more(process.output(), written, out)?;
+        match ran {
+            Ok(ran) => steps += ran,
+            Err(stop) => return Ok((End::Killed(KillCause::NoMemory), steps + stop.steps)),
+        }
         if let Some(end) = process.end() {
             return Ok((end, steps));
         }
     }
-    Ok((End::Killed(KillCause::Limit), steps))
+    match process.end() {
+        Some(end) => Ok((end, steps)),
+        None => Ok((End::Killed(KillCause::Limit), steps)),
+    }
 }
 
 /// Writes the bytes behind those that are written, at once, and tells how many are written then.
-fn write_more<'a, O: Write>(
-    output: &[u8],
-    written: usize,
-    out: &mut O,
-) -> Result<usize, Fault<'a>> {
-    let Some(more) = output.get(written..) else {
-        return Ok(written);
-    };
-    if !more.is_empty() {
-        out.write_all(more)?;
-        out.flush()?;
+fn write_more<'a, O: Write>(output: &[u8], written: usize, out: &mut O) -> Result<usize, Fault<'a>>
+    requires { written ≤ length output.now }
+    ensures all { IfOk result (λ all. all ≡ length output.now) }
+    ensures more { IfOk result (λ _. Appends (O.contents out.old) (O.contents out.new)
+        (drop written output.now)) }
+{
+    let more = &output[written..];
+    if more.is_empty() {
+        return Ok(output.len());
     }
+    out.write_all(more)?;
+    out.flush()?;
     Ok(output.len())
 }
 

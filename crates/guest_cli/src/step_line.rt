@@ -69,7 +69,11 @@ fn write_register<O: Write>(insn: Insn, after: &Regs, out: &mut O) -> io::Result
 }
 
 /// The address of a load; of a store also the bytes that stand there then.
-fn write_access<O: Write>(access: DataAccess, process: &FlatProcess, out: &mut O) -> io::Result<()> {
+fn write_access<O: Write>(
+    access: DataAccess,
+    process: &FlatProcess,
+    out: &mut O,
+) -> io::Result<()> {
     let address = access.address;
     write!(out, "  [0x{address:08X}]")?;
     if !access.is_store {

@@ -1,0 +1,33 @@
+-- What `guest run` answers.
+use Rattle.std.specs.Prelude.{◌≡◌, ℕ, List, IfSome, Option, None, Some}
+use Rattle.elf_image.specs.Image.{ImageContent}
+use Rattle.elf_image.specs.Start.{Start, start_of}
+use Rattle.flat_machine.specs.Process.{Process, opening}
+use Rattle.flat_machine.specs.declared.end.End.{End}
+use Rattle.image_files.specs.Reading.{GivesImage}
+use Rattle.guest_cli.specs.FlatRuns.{TellsFlatRun}
+use Rattle.guest_cli.specs.GuestStatus.{guest_status}
+use Rattle.guest_cli.specs.TurnRuns.{TellsTurns}
+
+-- all bytes of an input, where those are known
+abbrev pub AreWhole : Option (List ℕ) → List ℕ → Type 0
+AreWhole known bytes = IfSome known (λ all. bytes ≡ all)
+
+-- a program ended so behind so many steps, with what was written: on flat memory after a run by turns, up to a limit; on frames as a run of
+-- the flat machine does by some order of harts
+abbrev pub TellsRun : Option ℕ → ℕ → Start → Option (List ℕ) → Option (List ℕ) → End → ℕ → Type 0
+TellsRun None limit start old new end steps = (process : Process) × TellsTurns limit (opening start.image start.input) process old new end steps
+TellsRun (Some frames) limit start old new end steps = TellsFlatRun start old new end steps
+
+-- `gives` tells, of a name, the bytes that a file of it may be found to hold
+module _ (gives : List ℕ → List ℕ → Type 0) where
+  -- this status is that of the ending of the named image's program on the whole input
+  pub record AnswersRun (name : List ℕ) (frames : Option ℕ) (limit : ℕ) (known old new : Option (List ℕ)) (status : ℕ) : Type 0 where
+    pub image : ImageContent
+    pub image_given : GivesImage gives name image
+    pub input : List ℕ
+    pub input_whole : AreWhole known input
+    pub end : End
+    pub steps : ℕ
+    pub ran : TellsRun frames limit (start_of image input) old new end steps
+    pub status_is : status ≡ guest_status end

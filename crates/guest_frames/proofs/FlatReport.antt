@@ -1,5 +1,5 @@
 -- What a machine of one process is told to have come to is what a flat run comes to.
-use Rattle.std.proofs.Common.{◌≡◌, ℕ, List, [], ◌∷◌, Option, Some, None, map, slice_get, refl, sym, ap, ◌∙◌, subst}
+use Rattle.std.proofs.Common.{◌≡◌, ℕ, List, [], ◌∷◌, Option, Some, None, map, slice_get, unwrap_or, refl, sym, ap, ◌∙◌, subst}
 use Rattle.std.specs.Io.KnownBytes.{Appends}
 use Rattle.elf_image.specs.Start.{Start}
 use Rattle.flat_machine.specs.declared.end.End.{End}
@@ -41,12 +41,13 @@ tells start process old new end stands is written = record {
   ended = ends_like end stands.flat.ending (is ∙ stands.ending);
 }
 
--- of one that has ended
-pub tells_end : (start : Start) (process : ProcessReport) (old new : Option (List ℕ)) (end : End) → StandsForRun start (told process) → process.end ≡ Some end
+-- of one that has ended its own ending; of one that has not, that the machine ended it
+pub tells_report : (start : Start) (process : ProcessReport) (old new : Option (List ℕ)) (end : End) (cause : KillCause) → StandsForRun start (told process) → end ≡ unwrap_or process.end (Killed cause)
     → Appends old new process.output.items → TellsFlatRun start old new end process.steps
-tells_end start process old new end stands is written = tells start process old new end stands (sym (ap own_ending is)) written
-
--- of one that has not
-pub tells_cut : (start : Start) (process : ProcessReport) (old new : Option (List ℕ)) (cause : KillCause) → StandsForRun start (told process) → process.end ≡ None
-    → Appends old new process.output.items → TellsFlatRun start old new (Killed cause) process.steps
-tells_cut start process old new cause stands is written = tells start process old new (Killed cause) stands (sym (ap own_ending is)) written
+tells_report start process old new end cause stands is written = tells start process old new end stands (ap (λ e. own_ending (Some e)) is ∙ either process.end) written
+  where
+    either : (told_end : Option End) → own_ending (Some (unwrap_or told_end (Killed cause))) ≡ own_ending told_end
+    either None = refl
+    either (Some (Exited status)) = refl
+    either (Some (Trapped hart trap pc value)) = refl
+    either (Some (Killed why)) = refl

@@ -70,8 +70,6 @@ fn run_machine<'a, L: Ledger, W: Write>(
     };
     out.write_all(process.output.as_slice())?;
     out.flush()?;
-    match process.end {
-        Some(end) => Ok((end, process.steps)),
-        None => Ok((End::Killed(KillCause::Limit), process.steps)),
-    }
+    let end = process.end.unwrap_or(End::Killed(KillCause::Limit));
+    Ok((end, process.steps))
 }

@@ -1,3 +1,4 @@
+pub mod CountedSteps
 pub mod OutputGrows
 pub mod OutputPieces
 pub mod Pieces

@@ -1,5 +1,8 @@
 //! `guest profile`: where a program spends its steps.
 
+ghost use Rattle.std.specs.Prelude.{OnOk};
+ghost use Rattle.guest_cli.specs.CountedRuns.{CountsAll};
+
 use crate::callgrind::write_callgrind;
 use crate::input::read_whole;
 use crate::profile_tables::Tables;
@@ -38,9 +41,15 @@ pub(crate) fn run_profile<'a, R: Folder + AllocGlobal, I: Read + Drop, O: Write>
     Ok(0)
 }
 
-fn count_steps<'a>(steps: &mut StepString, profile: &mut Profile) -> Result<(), Fault<'a>> {
-    'steps: while let Some(told) = steps.next()? {
+/// Counts all steps that are to come.
+fn count_steps<'a>(steps: &mut StepString, profile: &mut Profile) -> Result<(), Fault<'a>>
+    ensures { OnOk result (CountsAll steps.old steps.new profile.old profile.new) }
+{
+    'steps: loop {
+        let next = steps.next()?;
+        let Some(told) = next else {
+            return Ok(());
+        };
         profile.count(&told)?;
     }
-    Ok(())
 }

@@ -38,10 +38,11 @@ pub fn carrier<L: Ledger, S: SwapSlot, C: Clock, G: Gate, R: Wait>(
     let mut seats = seats();
     let mut hungry = false;
     for _ in rt.forever() {
+        // In this order: the ring that tells of the last ending comes behind it, and is not to be among those that are known already.
+        let rings = locks.rings(worker);
         if locks.has_ended() {
             return shift;
         }
-        let rings = locks.rings(worker);
         let round = carry_round(rt, shared, &shift, &mut seats, rings, gate);
         if hungry != round.hungry {
             hungry = round.hungry;
@@ -113,7 +114,9 @@ fn carry_process<L: Ledger, S: SwapSlot, C: Clock, G: Gate, R: Wait>(
             if carry_hart(rt, shared, process, hart, shift, seat, rings, gate) {
                 round.ran = true;
             }
-        } else if !locks.is_live(process, hart) {
+        } else if locks.is_live(process, hart) {
+            seat.let_others_pass();
+        } else {
             *seat = EMPTY;
         }
         round.hungry = round.hungry || seat.hungry;

@@ -24,6 +24,19 @@ pub(crate) struct Seat {
     pub hungry: bool,
 }
 
+impl Seat {
+    /// Others have their turn first: the hart takes no frame meanwhile, so that none is to be offered for it, and tries for its page again then.
+    pub(crate) fn let_others_pass(&mut self) {
+        self.hungry = false;
+        if let Some(lack) = self.lack {
+            self.lack = Some(Lack {
+                tried: None,
+                ..lack
+            });
+        }
+    }
+}
+
 /// The harts of a process.
 pub(crate) type Row = [Seat; MOST_HARTS];
 

@@ -8,7 +8,7 @@ use crate::machine::processes;
 use clock_ring::ClockRing;
 use flat_machine::End;
 use machine_core::Core;
-use serial_driver::{Served, serve_step};
+use serial_driver::{ServedStep, serve_step};
 use std::alloc::Global;
 use std::marker::Brand;
 use std::process::Abort;
@@ -26,7 +26,7 @@ fn serves<L: Ledger>(
     alloc: Global,
     slots: u32,
     failing: u64,
-    told: (u32, Option<Served>, Option<End>),
+    told: (u32, Option<ServedStep>, Option<End>),
     blank: Blank,
 ) -> Result<(), Fail>
     requires name { blank.name ≡ L.name }
@@ -45,7 +45,7 @@ fn serves<L: Ledger>(
             break;
         }
         match serve_step(&mut core, 0, 0) {
-            Served::Ran => ran = before + 1,
+            ServedStep::Ran => ran = before + 1,
             served => {
                 other = Some(served);
                 break;
@@ -65,7 +65,7 @@ fn a_page_is_absent_where_a_run_gives_it_up(rt: HostRuntime) -> Result<(), Fail>
         serves::<Brand>(&rt, rt.alloc(), 11, failing, told, Blank::new(5))?;
     }
     for slots in [0, 11] {
-        let told = (16, Some(Served::Absent), None);
+        let told = (16, Some(ServedStep::Absent), None);
         serves::<Brand>(&rt, rt.alloc(), slots, u64::MAX, told, Blank::new(5))?;
     }
     Ok(())

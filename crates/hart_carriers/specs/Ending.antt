@@ -1,8 +1,8 @@
 -- What a machine has come to once its threads are joined.
 use Rattle.std.specs.Prelude.{◌≡◌, ◌≤◌, ◌-◌, ◌^◌, ℕ, Bool, true, Option, Some, None, List, length, map, All, IsSome, min, sum_by, if◌then◌else◌}
-use Rattle.reclaim_daemon.specs.Audit.{IsSound, AgreeEverywhere}
-use Rattle.reclaim_daemon.specs.DeskValue.{DeskValue}
-use Rattle.reclaim_daemon.specs.HeldValue.{HeldValue}
+use Rattle.held_machine.specs.Audit.{IsSound, AgreeEverywhere}
+use Rattle.held_machine.specs.DeskValue.{DeskValue}
+use Rattle.held_process.specs.HeldValue.{HeldValue}
 use Rattle.hart_carriers.specs.FlatLines.{counts_of}
 use Rattle.hart_carriers.specs.declared.crew.Crew.{Crew}
 use Rattle.hart_carriers.specs.declared.report.RunReport.{RunReport}

@@ -2,7 +2,7 @@
 
 ghost use Rattle.std.specs.Prelude.{◌≡◌, ◌+◌, ◌≤◌, ◌↔◌, length, map, vec_len, vec_capacity, [], true, IsTrue};
 ghost use Rattle.machine_sides.specs.Reporting.{Counts};
-ghost use Rattle.reclaim_daemon.specs.Audit.{IsSound, AgreeEverywhere};
+ghost use Rattle.held_machine.specs.Audit.{IsSound, AgreeEverywhere};
 ghost use Rattle.machine_limits.specs.Limits.{most_processes};
 ghost use Rattle.hart_carriers.specs.Ending.{HaveEnded, ShowLines, cleans_of, told_cleans};
 ghost use Rattle.hart_carriers.specs.FlatLines.{counts_of, StandsForRuns};
@@ -14,8 +14,9 @@ use crate::lines::tell;
 use crate::report::RunReport;
 use clock_policy::Clock;
 use elf_image::Image;
+use held_machine::{Desk, Parts};
+use held_process::Held;
 use machine_sides::{PagerSide, ProcessReport, Report};
-use reclaim_daemon::{Desk, Held, Parts};
 use status_cell::{Status, Viewer};
 use std::sync::Wait;
 use std::sync::ledger::{Ledger, Share};

@@ -1,19 +1,13 @@
 -- An audit goes through the processes, one lock after another.
-use Rattle.std.proofs.Common.{◌≡◌, ℕ, ◌+◌, List, [], ◌∷◌, ◌++◌, length, map, sym, ◌∙◌, subst}
+use Rattle.std.proofs.Common.{◌≡◌, ℕ, ◌+◌, List, [], ◌∷◌, ◌++◌, length, map, sym, ◌∙◌}
 use Rattle.std.proofs.lemmas.List.{length-map}
-use Rattle.machine_sides.specs.AuditLaws.{CountedSo, all_sound, counted_none, counted_push, sound_all}
+use Rattle.machine_sides.specs.AuditLaws.{CountedSo, counted_none, counted_push, sound_all}
 use Rattle.machine_sides.specs.Auditing.{CountsMore}
 use Rattle.paged_memory.specs.declared.counting.HeldPages.{HeldPages}
-use Rattle.reclaim_daemon.specs.Audit.{FindsSound, HoldsAll, IsSound, space_in}
-use Rattle.reclaim_daemon.specs.DeskValue.{DeskValue}
-use Rattle.reclaim_daemon.specs.HeldValue.{HeldValue}
-
--- where the pages that were counted are all, the machine is sound, and else it is not
-pub held_sound : {S : Type 0} (desk : DeskValue) (seen : List (HeldValue S)) (found : HeldPages) (number : ℕ) → CountedSo desk.pager.pager (map space_in seen) found number → HoldsAll desk found → IsSound desk seen
-held_sound desk seen found number counted holds = record { sound = holds.sound; spaces = sound_all desk.pager.pager (map space_in seen) found number counted holds.counted }
-
-pub sound_held : {S : Type 0} (desk : DeskValue) (seen : List (HeldValue S)) (found : HeldPages) (number : ℕ) → CountedSo desk.pager.pager (map space_in seen) found number → IsSound desk seen → HoldsAll desk found
-sound_held desk seen found number counted sound = record { sound = sound.sound; counted = all_sound desk.pager.pager (map space_in seen) found number counted sound.spaces }
+use Rattle.held_machine.specs.Audit.{HoldsAll, space_in}
+use Rattle.held_machine.specs.DeskValue.{DeskValue}
+use Rattle.held_process.specs.HeldValue.{HeldValue}
+use Rattle.reclaim_daemon.specs.Audit.{FindsSound}
 
 -- some processes were counted, which are so many
 pub record FoundSoFar (S : Type 0) (desk : DeskValue) (found : HeldPages) (number : ℕ) : Type 0 where
@@ -33,5 +27,5 @@ found_sound desk found number so_far holds = record {
   desk = desk;
   held = so_far.seen;
   many = sym (length-map so_far.seen space_in) ∙ so_far.counted.many;
-  sound = held_sound desk so_far.seen found number so_far.counted holds;
+  sound = record { sound = holds.sound; spaces = sound_all desk.pager.pager (map space_in so_far.seen) found number so_far.counted holds.counted };
 }

@@ -5,13 +5,13 @@ use Rattle.clock_policy.specs.declared.key.Key.{Key}
 use Rattle.machine_sides.specs.Admitting.{AdmissionValue, is_resident_at}
 use Rattle.machine_sides.specs.declared.admission.NotAdmitted.{NotAdmitted}
 use Rattle.machine_sides.specs.declared.admission.NotAdmitted.TheVariants.{Ended, NotAbsent, AlreadyResident, NoFrame, NoMemory}
-use Rattle.reclaim_daemon.specs.Answers.{IsOther}
-use Rattle.reclaim_daemon.specs.DeskValue.{DeskValue}
-use Rattle.reclaim_daemon.specs.HeldValue.{HeldValue}
-use Rattle.reclaim_daemon.specs.PagingIn.{AdmitsOrNot, RefusesHeld}
-use Rattle.reclaim_daemon.specs.Running.{LoadsAdmitted, PagesInHeld, told_as}
-use Rattle.reclaim_daemon.specs.declared.replies.PagedIn.{PagedIn}
-use Rattle.reclaim_daemon.specs.declared.replies.PagedIn.TheVariants as paged
+use Rattle.held_machine.specs.Answers.{IsOther}
+use Rattle.held_machine.specs.DeskValue.{DeskValue}
+use Rattle.held_process.specs.HeldValue.{HeldValue}
+use Rattle.held_machine.specs.Admitting.{AdmitsOrNot, RefusesHeld}
+use Rattle.reclaim_daemon.specs.PagingIn.{LoadsAdmitted, PagesInHeld, told_as}
+use Rattle.reclaim_daemon.specs.declared.paging_in.PagedIn.{PagedIn}
+use Rattle.reclaim_daemon.specs.declared.paging_in.PagedIn.TheVariants as paged
 
 module _ {S : Type 0} (L : Type 0) (content : S → List ℕ) (honest : Type 0) (failures : S → ℕ) (key : Key) (desk desk' : DeskValue) (held held' : HeldValue S) where
   refused : (is_here : Bool) (reason : NotAdmitted) → is_resident_at held.side key.vpn ≡ is_here → RefusesHeld desk desk' held key reason → held' ≡ held

@@ -1,5 +1,2 @@
-pub mod Outputs
-pub mod Statuses
-pub mod Heeded
 pub mod Brought
 pub mod Audited

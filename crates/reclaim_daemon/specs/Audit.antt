@@ -1,31 +1,8 @@
--- What an audit of the machine under locks looks for.
-use Rattle.std.specs.Prelude.{◌≡◌, ℕ, true, List, length, map}
-use Rattle.machine_sides.specs.Auditing as sides
-use Rattle.machine_sides.specs.Auditing.{AreSound}
-use Rattle.paged_memory.specs.declared.counting.HeldPages.{HeldPages}
-use Rattle.reclaim_daemon.specs.DeskValue.{DeskValue}
-use Rattle.reclaim_daemon.specs.HeldValue.{HeldValue}
-use Rattle.space_core.specs.StandsFor.{SpaceValue}
-
--- so many pages are all that the pager knows of, and only what events of the machine give has happened
-pub record HoldsAll (desk : DeskValue) (found : HeldPages) : Type 0 where
-  pub sound : desk.sound ≡ true
-  pub counted : sides.HoldsAll desk.pager.pager found
-
-module _ {S : Type 0} where
-  -- a process without what stands beside it under its lock
-  abbrev pub space_in : HeldValue S → SpaceValue S
-  space_in held = held.side
-
-  -- Processes that are numbered from 0 are all listed, and the list has no resident entry besides; the frames that are free or in their
-  -- pages are as many as the machine was made with; and only what events of the machine give has happened.
-  pub record IsSound (desk : DeskValue) (processes : List (HeldValue S)) : Type 0 where
-    pub sound : desk.sound ≡ true
-    pub spaces : AreSound desk.pager.pager (map space_in processes)
-
-  -- what that comes to, page by page: the list has a page of one of these processes as a resident one exactly where it is resident
-  abbrev pub AgreeEverywhere : DeskValue → List (HeldValue S) → Type 0
-  AgreeEverywhere desk processes = sides.AgreeEverywhere desk.pager.pager (map space_in processes)
+-- What an audit of the machine under locks has found, lock after lock.
+use Rattle.std.specs.Prelude.{◌≡◌, ℕ, List, length}
+use Rattle.held_machine.specs.Audit.{IsSound}
+use Rattle.held_machine.specs.DeskValue.{DeskValue}
+use Rattle.held_process.specs.HeldValue.{HeldValue}
 
 -- a pager and so many processes, as their locks kept them, were found so
 pub record FindsSound (S : Type 0) (processes : ℕ) : Type 0 where

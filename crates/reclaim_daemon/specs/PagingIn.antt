@@ -1,61 +1,67 @@
--- A page comes in: it is admitted under both locks, loaded under its process's, and an admission that is not loaded is undone under both.
-use Rattle.std.specs.Prelude.{◌≡◌, ◌<◌, ◌++◌, [], ◌∷◌, false, length, Option, Some, None, Result, Ok, Err}
+-- A page comes in by one hold: it is admitted under both locks, and loaded under its process's.
+use Rattle.std.specs.Prelude.{◌≡◌, ℕ, Bool, true, false, List, Option, Some, None, Result, Ok, Err}
 use Rattle.clock_policy.specs.declared.key.Key.{Key}
-use Rattle.machine_sides.specs.Admitting.{AdmissionValue, Admits, DoesNotAdmit, is_resident_at, taken_back}
-use Rattle.machine_sides.specs.Agreeing.{Agree, AgreeStill}
+use Rattle.held_machine.specs.Admitting.{AdmitsHeld, RefusesHeld}
+use Rattle.held_machine.specs.Answers.{IsOther}
+use Rattle.held_machine.specs.DeskValue.{DeskValue}
+use Rattle.held_process.specs.HeldValue.{HeldValue}
+use Rattle.held_process.specs.Running.{LoadsHeld, DoesNotLoadHeld}
+use Rattle.machine_sides.specs.Admitting.{AdmissionValue, is_resident_at}
 use Rattle.machine_sides.specs.declared.admission.NotAdmitted.{NotAdmitted}
-use Rattle.reclaim_daemon.specs.Answers.{IsOther}
-use Rattle.reclaim_daemon.specs.DeskValue.{DeskValue}
-use Rattle.reclaim_daemon.specs.HeldValue.{HeldValue}
-use Rattle.reclaim_daemon.specs.declared.replies.Undone.{Undone}
-use Rattle.reclaim_daemon.specs.declared.replies.Undone.TheVariants.{Withdrawn, Stray, OtherProcess}
+use Rattle.machine_sides.specs.declared.admission.NotAdmitted.TheVariants.{NotAbsent}
+use Rattle.paged_memory.specs.declared.filling.PageInFault.{PageInFault}
+use Rattle.reclaim_daemon.specs.declared.paging_in.PagedIn.{PagedIn}
+use Rattle.reclaim_daemon.specs.declared.paging_in.PagedIn.TheVariants as paged
 
-module _ {S : Type 0} (desk desk' : DeskValue) (held : HeldValue S) where
-  module _ (key : Key) where
-    -- the page of this key is listed and has its frame: it is the one page on which list and process do not agree
-    pub record AdmitsHeld (admission : AdmissionValue) : Type 0 where
-      pub process : held.side.memory.process ≡ key.process
-      pub admits : Admits key desk.pager desk'.pager held.side admission
-      pub desk_is : desk' ≡ record desk { pager = desk'.pager }
-      pub agree : AgreeStill (Some key) desk.pager.pager desk'.pager.pager held.side held.side
+module _ {S : Type 0} (content : S → List ℕ) (honest : Type 0) (failures : S → ℕ) (key : Key) (desk desk' : DeskValue) (held held' : HeldValue S) where
+  -- the page of this key is admitted, and that very page is loaded
+  pub record PagesIn : Type 0 where
+    pub admission : AdmissionValue
+    pub admits : AdmitsHeld desk desk' held key admission
+    pub loads : LoadsHeld content honest admission held held'
 
-    pub record RefusesHeld (reason : NotAdmitted) : Type 0 where
-      pub process : held.side.memory.process ≡ key.process
-      pub refuses : DoesNotAdmit key desk.pager desk'.pager held.side reason
-      pub desk_stays : desk' ≡ desk
+  -- it is admitted, and its load fails: the admission is out, and is to be undone
+  pub record FailsToLoad (back : AdmissionValue) (fault : PageInFault) : Type 0 where
+    pub admission : AdmissionValue
+    pub admits : AdmitsHeld desk desk' held key admission
+    pub refuses : DoesNotLoadHeld content honest failures admission back fault held held'
 
-    abbrev pub AdmitsOrNot : Option (Result AdmissionValue NotAdmitted) → Type 0
-    AdmitsOrNot None = IsOther key.process desk desk' held held
-    AdmitsOrNot (Some (Ok admission)) = AdmitsHeld admission
-    AdmitsOrNot (Some (Err reason)) = RefusesHeld reason
+  -- it is resident already
+  pub record IsHere : Type 0 where
+    pub refuses : RefusesHeld desk desk' held key NotAbsent
+    pub held_stays : held' ≡ held
+    pub here : is_resident_at held.side key.vpn ≡ true
 
-  module _ (admission : AdmissionValue) where
-    -- its page is withdrawn from the list unless it is resident by now, and the frame is free
-    pub record Undoes : Type 0 where
-      pub process : held.side.memory.process ≡ admission.key.process
-      pub list : desk'.pager.pager.list ≡ taken_back (is_resident_at held.side admission.key.vpn) admission.key desk.pager.pager.list
-      pub pager_is : desk'.pager ≡ record desk.pager { pager = record desk.pager.pager { list = desk'.pager.pager.list; free = desk.pager.pager.free ++ admission.frame ∷ [] } }
-      pub desk_is : desk' ≡ record desk { pager = desk'.pager }
-      pub agree : AgreeStill None desk.pager.pager desk'.pager.pager held.side held.side
-      pub settled : is_resident_at held.side admission.key.vpn ≡ false → Agree desk'.pager.pager held.side admission.key
+  -- it is not admitted; where it is not absent, it is not resident either
+  pub record IsRefused (reason : NotAdmitted) : Type 0 where
+    pub refuses : RefusesHeld desk desk' held key reason
+    pub held_stays : held' ≡ held
+    pub away : reason ≡ NotAbsent → is_resident_at held.side key.vpn ≡ false
 
-    -- the same, but all frames of the pager are free, so that the frame is kept beside it
-    pub record UndoesStray : Type 0 where
-      pub process : held.side.memory.process ≡ admission.key.process
-      pub full : length desk.pager.pager.free ≡ desk.pager.pager.size
-      pub list : desk'.pager.pager.list ≡ taken_back (is_resident_at held.side admission.key.vpn) admission.key desk.pager.pager.list
-      pub pager_is : desk'.pager ≡ record desk.pager { pager = record desk.pager.pager { list = desk'.pager.pager.list } }
-      pub sound : desk'.sound ≡ false
-      pub kept : length desk.strays < desk.room → desk'.strays ≡ desk.strays ++ admission.frame ∷ []
-      pub agree : AgreeStill None desk.pager.pager desk'.pager.pager held.side held.side
-      pub settled : is_resident_at held.side admission.key.vpn ≡ false → Agree desk'.pager.pager held.side admission.key
+  abbrev pub PagesInHeld : {L : Type 0} → Option (PagedIn L) → Type 0
+  PagesInHeld None = IsOther key.process desk desk' held held'
+  PagesInHeld (Some paged.Mapped) = PagesIn
+  PagesInHeld (Some paged.Here) = IsHere
+  PagesInHeld (Some (paged.NotAdmitted reason)) = IsRefused reason
+  PagesInHeld (Some (paged.Failed back fault)) = FailsToLoad back fault
 
-    -- the process is another one: no call was made, and the admission comes back
-    pub record UndoesNone (back : AdmissionValue) : Type 0 where
-      pub other : IsOther admission.key.process desk desk' held held
-      pub back_is : back ≡ admission
+-- what a page that is not admitted comes to, which may be resident
+unfoldable pub told_as : {L : Type 0} → Bool → NotAdmitted → PagedIn L
+told_as true NotAbsent = paged.Here
+told_as true reason = paged.NotAdmitted reason
+told_as false reason = paged.NotAdmitted reason
 
-    abbrev pub UndoesHeld : {L : Type 0} → Undone L → Type 0
-    UndoesHeld Withdrawn = Undoes
-    UndoesHeld Stray = UndoesStray
-    UndoesHeld (OtherProcess back) = UndoesNone back
+module _ {S : Type 0} (content : S → List ℕ) (honest : Type 0) (failures : S → ℕ) (key : Key) (held held' : HeldValue S) where
+  -- an admitted page is loaded, or its admission comes back
+  abbrev pub LoadsOne : {L : Type 0} → AdmissionValue → Option (PagedIn L) → Type 0
+  LoadsOne admission None = ⊥
+  LoadsOne admission (Some paged.Mapped) = LoadsHeld content honest admission held held'
+  LoadsOne admission (Some paged.Here) = ⊥
+  LoadsOne admission (Some (paged.NotAdmitted reason)) = ⊥
+  LoadsOne admission (Some (paged.Failed back fault)) = DoesNotLoadHeld content honest failures admission back fault held held'
+
+  -- the same of a page that may not have been admitted
+  abbrev pub LoadsAdmitted : {L : Type 0} → Option (Result AdmissionValue NotAdmitted) → Option (PagedIn L) → Type 0
+  LoadsAdmitted None reply = (reply ≡ None) × (held' ≡ held)
+  LoadsAdmitted (Some (Err reason)) reply = (reply ≡ Some (told_as (is_resident_at held.side key.vpn) reason)) × (held' ≡ held)
+  LoadsAdmitted (Some (Ok admission)) reply = LoadsOne admission reply

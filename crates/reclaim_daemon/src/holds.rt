@@ -4,17 +4,17 @@
 //! Where a process is not the one of its lock's number no call is made, and the machine is not sound from then on.
 
 ghost use Rattle.std.specs.Prelude.{◌≡◌, ◌≤◌, ◌↔◌, IfOk, IfErr, IfSome, IsNone};
-ghost use Rattle.reclaim_daemon.specs.Collecting.{CollectsHeld};
-ghost use Rattle.reclaim_daemon.specs.Purging.{PurgesHeld};
-ghost use Rattle.reclaim_daemon.specs.SavingBack.{SavesHeld};
-ghost use Rattle.reclaim_daemon.specs.Sweeping.{SweepsHeld, AsksNone};
+ghost use Rattle.held_machine.specs.Collecting.{CollectsHeld};
+ghost use Rattle.held_machine.specs.Purging.{PurgesHeld};
+ghost use Rattle.held_machine.specs.SavingBack.{SavesHeld};
+ghost use Rattle.held_machine.specs.Sweeping.{SweepsHeld};
+ghost use Rattle.reclaim_daemon.specs.Sweeping.{AsksNone};
 
-use crate::desk::Desk;
-use crate::held::Held;
 use crate::locking::{ROUNDS, lock_held};
-use crate::replies::{Collection, PurgeReply, SaveReply};
 use crate::shared::Shared;
 use clock_policy::{Clock, Key};
+use held_machine::{Collection, Desk, PurgeReply, SaveReply};
+use held_process::Held;
 use machine_sides::Swept;
 use page_store::SavedJob;
 use std::snapshot::Snapshot;

@@ -6,33 +6,23 @@
 #![tactic(auto)]
 
 mod audit;
-mod calls;
 mod cleaning;
-mod desk;
 mod gate;
-mod held;
-mod held_cleaning;
 mod holds;
 mod locking;
 mod paging_in;
-mod parts;
 mod process_holds;
 mod process_locks;
 mod reclaiming;
-mod replies;
 mod shared;
 mod waiting;
 mod writing_ahead;
 
 pub use cleaning::HoldWithSlots;
-pub use desk::Desk;
 pub use gate::{Gate, OpenGate};
-pub use held::Held;
 pub use holds::{Change, HoldOfAll, HoldOfBoth, HoldOfDesk};
-pub use paging_in::HoldOfPager;
-pub use parts::Parts;
+pub use paging_in::{HoldOfPager, PagedIn};
 pub use process_holds::HoldOfProcess;
 pub use process_locks::{AddRefusal, Added, ProcessLocks};
 pub use reclaiming::daemon;
-pub use replies::{Begun, Collection, PagedIn, PurgeReply, SaveReply, Undone};
 pub use shared::Shared;

@@ -3,10 +3,10 @@
 //! While another thread has the process, in a slice or a load, it is waited for alone, so that others page meanwhile; after a few rounds it is
 //! waited for with the pager's lock held.
 
-use crate::desk::Desk;
-use crate::held::Held;
 use crate::shared::Shared;
 use clock_policy::Clock;
+use held_machine::Desk;
+use held_process::Held;
 use std::sync::ledger::Ledger;
 use std::sync::{Mutex, MutexGuard, Wait};
 use swap_slots::SwapSlot;

@@ -5,18 +5,18 @@
 //! and not resident.
 
 ghost use Rattle.std.specs.Prelude.{◌≡◌, ◌≤◌, ◌↔◌, IfSome, IsNone};
-ghost use Rattle.reclaim_daemon.specs.PagingIn.{AdmitsOrNot, UndoesHeld};
+ghost use Rattle.held_machine.specs.Admitting.{AdmitsOrNot, UndoesHeld};
 ghost use Rattle.machine_sides.specs.Admitting.{is_resident_at};
-ghost use Rattle.reclaim_daemon.specs.Running.{LoadsAdmitted, PagesInHeld, told_as};
+ghost use Rattle.reclaim_daemon.specs.PagingIn.{LoadsAdmitted, PagesInHeld, told_as};
 
-use crate::desk::Desk;
 use crate::gate::Gate;
-use crate::held::Held;
 use crate::holds::{Change, HoldOfBoth};
-use crate::replies::{PagedIn, Undone};
 use crate::shared::Shared;
 use clock_policy::{Clock, Key};
+use held_machine::{Desk, Undone};
+use held_process::Held;
 use machine_sides::{Admission, NotAdmitted, is_resident};
+use paged_memory::PageInFault;
 use std::snapshot::Snapshot;
 use std::sync::ledger::Ledger;
 use std::sync::{Mutex, Wait};
@@ -28,6 +28,22 @@ pub struct HoldOfPager<L: Ledger, S: SwapSlot, C: Clock, A: Drop> {
     pub desk: Change<Desk<L, C>>,
     pub process: Snapshot<Held<L, S>>,
     pub reply: A,
+}
+
+/// What came of a page that was to come in.
+#[derive(Drop)]
+pub enum PagedIn<L: Ledger> {
+    /// It is mapped.
+    Mapped,
+    /// It was resident. Nothing has changed.
+    Here,
+    /// It was not admitted. Nothing has changed. One that is not absent is on its way out.
+    NotAdmitted(NotAdmitted),
+    /// It was admitted and did not come in: the admission is to be undone.
+    Failed {
+        admission: Admission<L>,
+        fault: PageInFault,
+    },
 }
 
 impl<L: Ledger, S: SwapSlot, C: Clock> Shared<L, S, C> {
@@ -181,7 +197,7 @@ fn load_admitted<L: Ledger, S: SwapSlot, G: Gate>(
 }
 
 /// What a page comes to that was not admitted.
-#[tactic(auto, unfolding(crate::specs::Running::told_as))]
+#[tactic(auto, unfolding(crate::specs::PagingIn::told_as))]
 fn refused<L: Ledger, S: SwapSlot>(held: &Held<L, S>, key: Key, reason: NotAdmitted) -> PagedIn<L>
     ensures { result ≡ told_as (is_resident_at held.now.side key.vpn) reason }
 {

@@ -3,14 +3,13 @@
 //! Where a process is not the one of its lock's number no call is made, and the machine is not sound from then on.
 
 ghost use Rattle.std.specs.Prelude.{◌≡◌, ◌≤◌, ◌↔◌, nat_le, IfSome, IsNone, Some};
-ghost use Rattle.reclaim_daemon.specs.Cleaning.{BeginsWhere, CleansWhere};
-ghost use Rattle.reclaim_daemon.specs.Holding.{RunsWhere, NoticesWhere, KillsNumberWhere, KillsSpentWhere};
+ghost use Rattle.held_process.specs.Cleaning.{BeginsWhere, CleansWhere};
+ghost use Rattle.held_process.specs.Holding.{RunsWhere, NoticesWhere, KillsNumberWhere, KillsSpentWhere};
 
-use crate::held::Held;
 use crate::holds::Change;
 use crate::process_locks::ProcessLocks;
-use crate::replies::Begun;
 use flat_machine::KillCause;
+use held_process::{Begun, Held};
 use page_store::{Cleaned, CleanedJob};
 use space_core::Slice;
 use std::snapshot::Snapshot;

@@ -9,9 +9,9 @@ ghost use Rattle.machine_sides.specs.Starting.{Begins};
 ghost use Rattle.status_cell.specs.Counts.{nothing};
 ghost use Rattle.status_cell.specs.ViewerValue.{viewer_value};
 
-use crate::held::Held;
 use elf_image::Image;
 use hart_signals::Signals;
+use held_process::Held;
 use machine_limits::MOST_PROCESSES;
 use status_cell::Viewer;
 use std::alloc::{AllocError, Global};

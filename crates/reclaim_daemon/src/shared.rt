@@ -8,12 +8,11 @@ ghost use Rattle.reclaim_daemon.specs.SharedValue.{locks_of, tries_per_frame};
 ghost use Rattle.status_cell.specs.Counts.{nothing};
 ghost use Rattle.status_cell.specs.ViewerValue.{viewer_value};
 
-use crate::desk::Desk;
-use crate::held::Held;
-use crate::parts::Parts;
 use crate::process_locks::{AddRefusal, Added, ProcessLocks};
 use clock_policy::Clock;
 use elf_image::Image;
+use held_machine::{Desk, Parts};
+use held_process::Held;
 use machine_limits::TRIES_PER_FRAME;
 use std::alloc::{AllocError, Global};
 use std::marker::Model;

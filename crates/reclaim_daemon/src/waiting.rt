@@ -1,10 +1,10 @@
 //! Who waits for what, and is told.
 
-use crate::held::Held;
 use crate::process_locks::ProcessLocks;
 use crate::shared::Shared;
 use clock_policy::Clock;
 use hart_signals::Bell;
+use held_process::Held;
 use machine_limits::MOST_HARTS;
 use space_core::Space;
 use std::sync::Wait;

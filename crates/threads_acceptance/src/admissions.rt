@@ -5,12 +5,10 @@ ghost use Rattle.std.specs.Prelude.{◌≡◌};
 use crate::machine::{image_of, sound_slots};
 use clock_policy::{Clock, Key};
 use clock_ring::ClockRing;
+use held_machine::{Collection, Desk, SaveReply, Undone};
 use machine_sides::Swept;
 use paged_memory::PageInFault;
-use reclaim_daemon::{
-    Collection, Desk, HoldOfAll, HoldOfBoth, HoldOfPager, OpenGate, PagedIn, SaveReply, Shared,
-    Undone,
-};
+use reclaim_daemon::{HoldOfAll, HoldOfBoth, HoldOfPager, OpenGate, PagedIn, Shared};
 use std::alloc::Global;
 use std::marker::Brand;
 use std::process::Abort;

@@ -1,0 +1,10 @@
+pub mod DeskValue
+pub mod Answers
+pub mod Sweeping
+pub mod Collecting
+pub mod SavingBack
+pub mod Admitting
+pub mod Purging
+pub mod Expected
+pub mod Heeding
+pub mod Audit

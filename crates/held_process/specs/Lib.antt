@@ -1,0 +1,5 @@
+pub mod HeldValue
+pub mod Running
+pub mod Holding
+pub mod Tries
+pub mod Cleaning

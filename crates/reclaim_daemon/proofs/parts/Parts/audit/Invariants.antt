@@ -1,8 +1,0 @@
--- The processes so far were counted.
-use Rattle.std.proofs.Common.{map, take}
-use Rattle.machine_sides.specs.AuditLaws.{CountedSo}
-use Rattle.reclaim_daemon.specs.Audit.{space_in}
-use Rattle.reclaim_daemon.proofs.parts.Parts.audit.Given as goal
-
-abbrev pub invariant-processes : goal.invariant-processes
-invariant-processes g l = CountedSo l.self.desk.pager.pager (map space_in (take l.number l.self.processes.items)) l.found l.number

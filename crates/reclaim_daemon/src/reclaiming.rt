@@ -39,6 +39,7 @@ pub fn daemon<L: Ledger, S: SwapSlot, C: Clock, G: Gate, R: Wait>(
 {
     let is_ahead = shared.is_ahead();
     let mut ahead = Ahead::new();
+    let mut offered = None;
     for _ in rt.forever() {
         let calls = shared.locks().signals().daemon().rings();
         let has_ended = shared.locks().has_ended();
@@ -47,7 +48,11 @@ pub fn daemon<L: Ledger, S: SwapSlot, C: Clock, G: Gate, R: Wait>(
             return is_ahead;
         }
         let room = shared.room(rt);
-        shared.locks().signals().offer(room.free);
+        // Once: a frame that was offered waits for whoever was called, however often the daemon looks meanwhile.
+        if offered != Some((calls, room.free)) {
+            offered = Some((calls, room.free));
+            shared.locks().signals().offer(room.free);
+        }
         if room.wants_frames {
             if !make_room(rt, shared, viewers, gate, calls) {
                 shared.locks().wait_for_call(rt, calls);

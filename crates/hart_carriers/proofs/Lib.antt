@@ -3,3 +3,4 @@ pub mod Cleans
 pub mod FlatRuns
 pub mod Growing
 pub mod Showing
+pub mod Reported

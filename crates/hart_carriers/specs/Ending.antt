@@ -1,12 +1,15 @@
 -- What a machine has come to once its threads are joined.
-use Rattle.std.specs.Prelude.{◌≡◌, ◌≤◌, ◌-◌, ◌^◌, ℕ, Bool, true, Option, Some, None, List, length, map, All, IsSome, min, sum_by, if◌then◌else◌}
+use Rattle.std.specs.Prelude.{◌≡◌, ◌≤◌, ◌-◌, ◌^◌, ℕ, Bool, true, Option, Some, None, List, length, vec_len, map, All, IsSome, is_some, min, sum_by, if◌then◌else◌}
 use Rattle.held_machine.specs.Audit.{IsSound, AgreeEverywhere}
 use Rattle.held_machine.specs.DeskValue.{DeskValue}
 use Rattle.held_process.specs.HeldValue.{HeldValue}
 use Rattle.hart_carriers.specs.FlatLines.{counts_of}
+use Rattle.elf_image.specs.Start.{Start}
 use Rattle.hart_carriers.specs.declared.crew.Crew.{Crew}
+use Rattle.hart_carriers.specs.declared.crew.CrewRequest.{CrewRequest}
 use Rattle.hart_carriers.specs.declared.report.RunReport.{RunReport}
-use Rattle.machine_sides.specs.Reporting.{Counts}
+use Rattle.machine_sides.specs.FlatLines.{HaveLines}
+use Rattle.machine_sides.specs.Reporting.{Counts, told}
 use Rattle.machine_sides.specs.declared.report.ProcessReport.{ProcessReport}
 use Rattle.status_cell.specs.ViewerValue.{ViewerValue}
 
@@ -37,10 +40,25 @@ HaveEnded processes = All (λ process. IsSome process.end) processes
 abbrev pub ShowLines : List ViewerValue → List ProcessReport → Type 0
 ShowLines viewers processes = map (λ viewer. viewer.seen) viewers ≡ map counts_of processes
 
--- a crew of so many workers, who give slices of so many instructions, or of those that could be started; the daemon writes pages ahead, or
--- does not
-pub record IsCrewOf (workers slice : ℕ) (ahead : Bool) (crew : Crew) : Type 0 where
-  pub slice_is : crew.slice ≡ slice
-  pub ahead_is : crew.ahead ≡ ahead
-  pub few : crew.workers ≤ workers
-  pub all : crew.is_whole ≡ true → crew.workers ≡ workers
+-- a crew of as many workers as are wanted, who give slices of as many instructions, or of those that could be started; the daemon writes pages
+-- ahead where that is wanted
+pub record IsCrewOf (wanted : CrewRequest) (crew : Crew) : Type 0 where
+  pub slice_is : crew.slice ≡ wanted.slice
+  pub ahead_is : crew.ahead ≡ wanted.ahead
+  pub few : crew.workers ≤ wanted.workers
+  pub all : crew.is_whole ≡ true → crew.workers ≡ wanted.workers
+
+-- What is reported of a machine of so many frames and slots that ran these processes by such a crew. Where its audit found nothing amiss its
+-- pool was of these slots in the end, list and pages agreed, each process has ended, and each viewer of a process's counts shows what its line
+-- tells; where its slots are honest besides, each line is that of a flat run.
+pub record IsReportOf (S : Type 0) (honest : Type 0) (frames slots : ℕ) (starts : List Start) (wanted : CrewRequest) (run : RunReport) : Type 0 where
+  pub stands : honest → run.report.audit ≡ true → HaveLines starts (map told run.report.processes.items)
+  pub last : run.published.items ≡ map counts_of run.report.processes.items
+  pub shown : run.report.audit ≡ true → ShowLines run.viewers.items run.report.processes.items
+  pub many : run.report.audit ≡ true → vec_len run.report.processes ≡ length starts
+  pub ended : run.report.audit ≡ true → HaveEnded run.report.processes.items
+  pub frames_are : run.report.frames ≡ frames
+  pub slots_are : run.report.audit ≡ true → run.slots ≡ slots
+  pub crew_is : IsCrewOf wanted run.crew
+  pub cleans_are : is_some run.cleans ≡ wanted.ahead
+  pub sound : run.report.audit ≡ true → EndsSound S (length starts) run

@@ -28,6 +28,17 @@ impl Promise<bool> for Writes {
     ghost kept_by = { λ promise ahead. ahead ≡ promise.0 };
 }
 
+/// By whom a machine is to be run.
+#[derive(Clone, Copy, Debug, PartialEq, Eq)]
+pub struct CrewRequest {
+    /// How many workers carry the harts.
+    pub workers: u32,
+    /// Of how many instructions, at most, a slice is that they give.
+    pub slice: u32,
+    /// Whether the daemon writes changed pages ahead, so that they can leave their frames with no save.
+    pub ahead: bool,
+}
+
 /// The threads that were started to run a machine.
 #[derive(Clone, Copy, Debug, PartialEq, Eq)]
 pub struct Crew {

@@ -14,7 +14,7 @@ mod seats;
 mod threads;
 
 pub use carrying::carrier;
-pub use crew::{Crew, Shift};
+pub use crew::{Crew, CrewRequest, Shift};
 pub use gathering::gather_frames;
 pub use line::Ran;
 pub use lines::{Told, tell};

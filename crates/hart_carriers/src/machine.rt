@@ -1,11 +1,12 @@
 //! Whole runs of machines by threads.
 
 ghost use Rattle.std.specs.Prelude.{◌≡◌, ◌+◌, ◌<◌, ◌≤◌, ◌⊎◌, ◌↔◌, length, map, vec_len, true, is_some, IfOk, OnOk, IsErrOf};
-ghost use Rattle.hart_carriers.specs.Ending.{EndsSound, HaveEnded, IsCrewOf, ShowLines};
+ghost use Rattle.hart_carriers.specs.Ending.{EndsSound, HaveEnded, IsCrewOf, IsReportOf, ShowLines};
 ghost use Rattle.machine_limits.specs.Limits.{most_processes};
-ghost use Rattle.hart_carriers.specs.FlatLines.{counts_of, StandsForRuns};
+ghost use Rattle.hart_carriers.specs.FlatLines.{counts_of, starts_of, StandsForRuns};
 
 use crate::closing::close;
+use crate::crew::CrewRequest;
 use crate::line::Ran;
 use crate::report::{RunRefusal, RunReport};
 use crate::threads::run_threads;
@@ -25,9 +26,8 @@ use std::sync::ledger::{Blank, Ledger, Share};
 use std::thread::Threads;
 use swap_slots::SwapSlot;
 
-/// Runs a machine of 4 to 4096 frames on these slots by so many worker threads, each hart by slices of so many instructions, until each of
+/// Runs a machine of 4 to 4096 frames on these slots by the workers that are wanted, each hart by slices of so many instructions, until each of
 /// its processes has ended: these images, which it shares, on copies of these inputs, numbered from 0 in their order. There are at most 64.
-/// Changed pages may be written ahead, so that they can leave their frames with no save.
 ///
 /// Where a thread can't be started, each process that goes on is killed for want of memory.
 pub fn run_machine<S: SwapSlot + Send, C: Clock + Send, G: Gate + Sync, R: Threads + Wait + Sync>(
@@ -36,37 +36,19 @@ pub fn run_machine<S: SwapSlot + Send, C: Clock + Send, G: Gate + Sync, R: Threa
     frames: u32,
     slots: Vec<S>,
     handed: &[(Image, Vec<u8>)],
-    workers: u32,
-    slice: u32,
-    ahead: bool,
+    wanted: &CrewRequest,
     gate: &G,
 ) -> Result<RunReport, RunRefusal>
-    requires workers { 0 < workers }
-    requires slice { 0 < slice }
-    ensures stands { IfOk result (λ run. S.honest → run.report.audit ≡ true →
-        StandsForRuns handed.now run.report.processes.items) }
-    ensures last { IfOk result (λ run.
-        run.published.items ≡ map counts_of run.report.processes.items) }
-    ensures shown { IfOk result (λ run. run.report.audit ≡ true →
-        ShowLines run.viewers.items run.report.processes.items) }
-    ensures many { IfOk result (λ run. run.report.audit ≡ true →
-        vec_len run.report.processes ≡ length handed.now) }
-    ensures ended { IfOk result (λ run. run.report.audit ≡ true →
-        HaveEnded run.report.processes.items) }
-    ensures frames { IfOk result (λ run. run.report.frames ≡ frames) }
-    ensures slots { IfOk result (λ run. run.report.audit ≡ true → run.slots ≡ vec_len slots) }
-    ensures crew { IfOk result (λ run. IsCrewOf workers slice ahead run.crew) }
-    ensures cleans { IfOk result (λ run. is_some run.cleans ≡ ahead) }
-    ensures sound { IfOk result (λ run. run.report.audit ≡ true →
-        EndsSound S (length handed.now) run) }
+    requires workers { 0 < wanted.now.workers }
+    requires slice { 0 < wanted.now.slice }
+    ensures run { IfOk result (IsReportOf S S.honest frames (vec_len slots) (starts_of handed.now)
+        wanted.now) }
     ensures bad_size { IsErrOf result RunRefusal.BadSize ↔ ((frames < 4) ⊎ (4096 < frames)) }
     ensures too_many { IsErrOf result RunRefusal.TooManyProcesses ↔ ((4 ≤ frames) ×
         ((frames ≤ 4096) × (most_processes < length handed.now))) }
 {
     let blank = Blank::new(u64::from(frames) + 1);
-    report_over::<Brand, S, C, G, R>(
-        rt, alloc, frames, blank, slots, handed, workers, slice, ahead, gate,
-    )
+    report_over::<Brand, S, C, G, R>(rt, alloc, frames, blank, slots, handed, wanted, gate)
 }
 
 /// The report alone.
@@ -83,39 +65,21 @@ fn report_over<
     blank: Blank,
     slots: Vec<S>,
     handed: &[(Image, Vec<u8>)],
-    workers: u32,
-    slice: u32,
-    ahead: bool,
+    wanted: &CrewRequest,
     gate: &G,
 ) -> Result<RunReport, RunRefusal>
     requires name { blank.name ≡ L.name }
     requires parts { blank.parts ≡ L.parts }
     requires one_each { L.parts ≡ frames + 1 }
-    requires workers { 0 < workers }
-    requires slice { 0 < slice }
-    ensures stands { IfOk result (λ run. S.honest → run.report.audit ≡ true →
-        StandsForRuns handed.now run.report.processes.items) }
-    ensures last { IfOk result (λ run.
-        run.published.items ≡ map counts_of run.report.processes.items) }
-    ensures shown { IfOk result (λ run. run.report.audit ≡ true →
-        ShowLines run.viewers.items run.report.processes.items) }
-    ensures many { IfOk result (λ run. run.report.audit ≡ true →
-        vec_len run.report.processes ≡ length handed.now) }
-    ensures ended { IfOk result (λ run. run.report.audit ≡ true →
-        HaveEnded run.report.processes.items) }
-    ensures frames { IfOk result (λ run. run.report.frames ≡ frames) }
-    ensures slots { IfOk result (λ run. run.report.audit ≡ true → run.slots ≡ vec_len slots) }
-    ensures crew { IfOk result (λ run. IsCrewOf workers slice ahead run.crew) }
-    ensures cleans { IfOk result (λ run. is_some run.cleans ≡ ahead) }
-    ensures sound { IfOk result (λ run. run.report.audit ≡ true →
-        EndsSound S (length handed.now) run) }
+    requires workers { 0 < wanted.now.workers }
+    requires slice { 0 < wanted.now.slice }
+    ensures run { IfOk result (IsReportOf S S.honest frames (vec_len slots) (starts_of handed.now)
+        wanted.now) }
     ensures bad_size { IsErrOf result RunRefusal.BadSize ↔ ((frames < 4) ⊎ (4096 < frames)) }
     ensures too_many { IsErrOf result RunRefusal.TooManyProcesses ↔ ((4 ≤ frames) ×
         ((frames ≤ 4096) × (most_processes < length handed.now))) }
 {
-    match run_over::<L, S, C, G, R>(
-        rt, alloc, frames, blank, slots, handed, workers, slice, ahead, gate,
-    ) {
+    match run_over::<L, S, C, G, R>(rt, alloc, frames, blank, slots, handed, wanted, gate) {
         Ok((report, _)) => Ok(report),
         Err(refusal) => Err(refusal),
     }
@@ -136,42 +100,23 @@ pub fn run_over<
     blank: Blank,
     slots: Vec<S>,
     handed: &[(Image, Vec<u8>)],
-    workers: u32,
-    slice: u32,
-    ahead: bool,
+    wanted: &CrewRequest,
     gate: &G,
 ) -> Result<(RunReport, Share<L>), RunRefusal>
     requires name { blank.name ≡ L.name }
     requires parts { blank.parts ≡ L.parts }
     requires one_each { L.parts ≡ frames + 1 }
-    requires workers { 0 < workers }
-    requires slice { 0 < slice }
-    ensures stands { IfOk result (λ ran. S.honest → ran.0.report.audit ≡ true →
-        StandsForRuns handed.now ran.0.report.processes.items) }
-    ensures last { IfOk result (λ ran.
-        ran.0.published.items ≡ map counts_of ran.0.report.processes.items) }
-    ensures shown { IfOk result (λ ran. ran.0.report.audit ≡ true →
-        ShowLines ran.0.viewers.items ran.0.report.processes.items) }
-    ensures many { IfOk result (λ ran. ran.0.report.audit ≡ true →
-        vec_len ran.0.report.processes ≡ length handed.now) }
-    ensures ended { IfOk result (λ ran. ran.0.report.audit ≡ true →
-        HaveEnded ran.0.report.processes.items) }
-    ensures frames { IfOk result (λ ran. ran.0.report.frames ≡ frames) }
-    ensures slots { IfOk result (λ ran. ran.0.report.audit ≡ true →
-        ran.0.slots ≡ vec_len slots) }
-    ensures crew { IfOk result (λ ran. IsCrewOf workers slice ahead ran.0.crew) }
-    ensures cleans { IfOk result (λ ran. is_some ran.0.cleans ≡ ahead) }
-    ensures sound { IfOk result (λ ran. ran.0.report.audit ≡ true →
-        EndsSound S (length handed.now) ran.0) }
+    requires workers { 0 < wanted.now.workers }
+    requires slice { 0 < wanted.now.slice }
+    ensures run { IfOk result (λ ran. IsReportOf S S.honest frames (vec_len slots)
+        (starts_of handed.now) wanted.now ran.0) }
     ensures shares { IfOk result (λ ran. ran.0.report.audit ≡ true → ran.1.parts ≡ L.parts) }
     ensures bad_size { IsErrOf result RunRefusal.BadSize ↔ ((frames < 4) ⊎ (4096 < frames)) }
     ensures too_many { IsErrOf result RunRefusal.TooManyProcesses ↔ ((4 ≤ frames) ×
         ((frames ≤ 4096) × (most_processes < length handed.now))) }
 {
     let desk: Desk<L, C> = make_desk(alloc, frames, handed.len(), blank)?;
-    match run_on::<L, S, C, G, R>(
-        rt, alloc, desk, frames, slots, handed, workers, slice, ahead, gate,
-    ) {
+    match run_on::<L, S, C, G, R>(rt, alloc, desk, frames, slots, handed, wanted, gate) {
         Ok(ran) => Ok(ran),
         Err(AllocError) => Err(RunRefusal::NoMemory),
     }
@@ -219,9 +164,7 @@ fn run_on<
     frames: u32,
     slots: Vec<S>,
     handed: &[(Image, Vec<u8>)],
-    workers: u32,
-    slice: u32,
-    ahead: bool,
+    wanted: &CrewRequest,
     gate: &G,
 ) -> Result<(RunReport, Share<L>), AllocError>
     requires { length handed.now ≤ most_processes }
@@ -238,8 +181,8 @@ fn run_on<
     ensures frames { IfOk result (λ ran. ran.0.report.frames ≡ frames) }
     ensures slots { IfOk result (λ ran. ran.0.report.audit ≡ true →
         ran.0.slots ≡ vec_len slots) }
-    ensures crew { IfOk result (λ ran. IsCrewOf workers slice ahead ran.0.crew) }
-    ensures cleans { IfOk result (λ ran. is_some ran.0.cleans ≡ ahead) }
+    ensures crew { IfOk result (λ ran. IsCrewOf wanted.now ran.0.crew) }
+    ensures cleans { IfOk result (λ ran. is_some ran.0.cleans ≡ wanted.now.ahead) }
     ensures sound { IfOk result (λ ran. ran.0.report.audit ≡ true →
         EndsSound S (length handed.now) ran.0) }
     ensures shares { IfOk result (λ ran. ran.0.report.audit ≡ true → ran.1.parts ≡ frames + 1) }
@@ -250,9 +193,16 @@ fn run_on<
     let held: Vec<Held<L, S>> = Vec::with_capacity(alloc, handed.len())?;
     let mut shared: Shared<L, S, C> = Shared::new(alloc, desk, slots);
     let mut viewers = begin_all(alloc, &mut shared, handed)?;
-    shared.add_workers(workers)?;
-    shared.set_ahead(ahead);
-    let crew = run_threads(rt, &shared, viewers.as_mut_slice(), workers, slice, gate);
+    shared.add_workers(wanted.workers)?;
+    shared.set_ahead(wanted.ahead);
+    let crew = run_threads(
+        rt,
+        &shared,
+        viewers.as_mut_slice(),
+        wanted.workers,
+        wanted.slice,
+        gate,
+    );
     Ok(close(
         rt,
         shared.into_parts(held),

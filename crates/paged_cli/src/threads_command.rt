@@ -2,13 +2,14 @@
 
 ghost use Rattle.std.specs.Prelude.{◌≡◌, ◌<◌, IfOk, length, map, option_map};
 ghost use Rattle.command_line.specs.Requests.{IsRunInRange};
-ghost use Rattle.paged_cli.specs.Running.{starts_of, IsRunAsAsked, RunsAsked};
+ghost use Rattle.hart_carriers.specs.FlatLines.{starts_of};
+ghost use Rattle.paged_cli.specs.Running.{IsRunAsAsked, RunsAsked};
 
 use crate::machine::run_machine;
 use crate::status_lines::StatusLines;
 use command_line::RunRequest;
 use elf_image::Image;
-use hart_carriers::RunReport;
+use hart_carriers::{CrewRequest, RunReport};
 use image_files::{Fault, Folder, memory_slots, read_processes};
 use reclaim_daemon::{Gate, OpenGate};
 use report_text::{status_of_all, write_report};
@@ -41,15 +42,12 @@ where
         (O.contents out.old) (O.contents out.new) status) }
 {
     let processes = read_processes(rt, request.images.as_slice(), request.input)?;
-    let run = run_told(
-        rt,
-        request,
-        processes.as_slice(),
+    let wanted = CrewRequest {
         workers,
-        is_told,
+        slice: request.slice,
         ahead,
-        err,
-    )?;
+    };
+    let run = run_told(rt, request, processes.as_slice(), &wanted, is_told, err)?;
     write_report(&run.report, run.cleans, out)?;
     Ok(status_of_all(run.report.processes.as_slice()))
 }
@@ -59,24 +57,22 @@ fn run_told<'a, R: Folder + AllocGlobal + Threads + Wait + Sync, E: Write + Send
     rt: &R,
     request: &RunRequest<'a>,
     handed: &[(Image, Vec<u8>)],
-    workers: u32,
+    wanted: &CrewRequest,
     is_told: bool,
-    ahead: bool,
     err: &mut E,
 ) -> Result<RunReport, Fault<'a>>
 where
     R::File: Send,
-    requires in_range { IsRunInRange request.now }
-    requires workers { 0 < workers }
-    ensures { IfOk result (RunsAsked R.makes (option_map (λ s.
-        s.now) request.now.swap) request.now.frames request.now.slots
-        (starts_of handed.now) workers request.now.slice ahead) }
+    requires workers { 0 < wanted.now.workers }
+    requires slice { 0 < wanted.now.slice }
+    ensures { IfOk result (RunsAsked R.makes (option_map (λ s. s.now) request.now.swap)
+        request.now.frames request.now.slots (starts_of handed.now) wanted.now) }
 {
     if !is_told {
-        return run_asked(rt, request, handed, workers, ahead, &OpenGate);
+        return run_asked(rt, request, handed, wanted, &OpenGate);
     }
     let lines = StatusLines::new(rt, err);
-    run_asked(rt, request, handed, workers, ahead, &lines)
+    run_asked(rt, request, handed, wanted, &lines)
 }
 
 /// Runs processes on the machine that is asked for, and tells what it has come to.
@@ -84,31 +80,25 @@ fn run_asked<'a, R: Folder + AllocGlobal + Threads + Wait + Sync, G: Gate + Sync
     rt: &R,
     request: &RunRequest<'a>,
     handed: &[(Image, Vec<u8>)],
-    workers: u32,
-    ahead: bool,
+    wanted: &CrewRequest,
     gate: &G,
 ) -> Result<RunReport, Fault<'a>>
 where
     R::File: Send,
-    requires in_range { IsRunInRange request.now }
-    requires workers { 0 < workers }
-    ensures { IfOk result (RunsAsked R.makes (option_map (λ s.
-        s.now) request.now.swap) request.now.frames request.now.slots
-        (starts_of handed.now) workers request.now.slice ahead) }
+    requires workers { 0 < wanted.now.workers }
+    requires slice { 0 < wanted.now.slice }
+    ensures { IfOk result (RunsAsked R.makes (option_map (λ s. s.now) request.now.swap)
+        request.now.frames request.now.slots (starts_of handed.now) wanted.now) }
 {
-    let (alloc, frames, slice) = (rt.alloc(), request.frames, request.slice);
+    let (alloc, frames) = (rt.alloc(), request.frames);
     match request.swap {
         None => {
             let slots = memory_slots(alloc, request.slots)?;
-            Ok(run_machine(
-                rt, alloc, frames, slots, handed, workers, slice, ahead, gate,
-            )?)
+            Ok(run_machine(rt, alloc, frames, slots, handed, wanted, gate)?)
         }
         Some(prefix) => {
             let slots = rt.make_slots(prefix, request.slots)?;
-            Ok(run_machine(
-                rt, alloc, frames, slots, handed, workers, slice, ahead, gate,
-            )?)
+            Ok(run_machine(rt, alloc, frames, slots, handed, wanted, gate)?)
         }
     }
 }

@@ -5,7 +5,7 @@ ghost use Rattle.std.specs.Prelude.{◌<◌};
 use clock_ring::ClockRing;
 use elf_image::Image;
 use flat_machine::End;
-use hart_carriers::{RunReport, run_machine};
+use hart_carriers::{CrewRequest, RunReport, run_machine};
 use reclaim_daemon::Gate;
 use rv_asm::assemble;
 use std::alloc::{AllocError, Global};
@@ -98,9 +98,11 @@ fn played_by<S: SwapSlot + Send, G: Gate + Sync, R: Threads + Wait + Sync>(
         frames,
         slots,
         handed.as_slice(),
-        workers,
-        slice,
-        ahead,
+        &CrewRequest {
+            workers,
+            slice,
+            ahead,
+        },
         gate,
     )?)
 }

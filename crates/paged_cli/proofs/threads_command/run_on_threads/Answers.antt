@@ -4,7 +4,7 @@ use Rattle.machine_sides.specs.declared.report.ProcessReport.{ProcessReport}
 use Rattle.elf_image.specs.Start.{Start}
 use Rattle.report_text.specs.RunStatus.{worst_status}
 use Rattle.image_files.specs.Reading.{AreGiven}
-use Rattle.paged_cli.specs.Running.{starts_of}
+use Rattle.hart_carriers.specs.FlatLines.{starts_of}
 use Rattle.paged_cli.proofs.threads_command.run_on_threads.Goals as goal
 
 pub returns : goal.returns

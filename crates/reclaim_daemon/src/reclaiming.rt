@@ -12,7 +12,7 @@ use crate::holds::{HoldOfAll, HoldOfBoth};
 use crate::process_locks::ProcessLocks;
 use crate::shared::Shared;
 use crate::waiting::Room;
-use crate::writing_ahead::{Ahead, Rest};
+use crate::writing_ahead::{Ahead, PAUSE_MILLIS, Rest};
 use clock_policy::{Clock, Key};
 use flat_machine::KillCause;
 use held_machine::{Collection, SaveReply};
@@ -100,7 +100,8 @@ fn make_room<L: Ledger, S: SwapSlot, C: Clock, G: Gate, R: Wait>(
     true
 }
 
-/// Takes one step in writing changed pages ahead, or sleeps where none is to be taken.
+/// Takes one step in writing changed pages ahead, or sleeps where none is to be taken. While a hart waits for a frame none is: who has just got one
+/// is to find the next free again, or its pages leave before it has all that an instruction needs.
 fn write_ahead<L: Ledger, S: SwapSlot, C: Clock, G: Gate, R: Wait>(
     rt: &R,
     shared: &Shared<L, S, C>,
@@ -109,7 +110,12 @@ fn write_ahead<L: Ledger, S: SwapSlot, C: Clock, G: Gate, R: Wait>(
     ahead: &mut Ahead,
     calls: u64,
 ) {
-    match ahead.step(rt, shared, gate, room) {
+    let rest = if shared.locks().signals().is_hungry() {
+        Rest::Nap(PAUSE_MILLIS)
+    } else {
+        ahead.step(rt, shared, gate, room)
+    };
+    match rest {
         Rest::Nothing => {}
         Rest::Nap(millis) => shared.locks().nap(rt, calls, millis),
         Rest::UntilCalled => shared.locks().wait_for_call(rt, calls),

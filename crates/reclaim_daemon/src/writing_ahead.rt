@@ -21,7 +21,7 @@ use std::sync::ledger::Ledger;
 use swap_slots::SwapSlot;
 
 /// For how many milliseconds a pause lasts, unless the daemon is called.
-const PAUSE_MILLIS: u64 = 2;
+pub(crate) const PAUSE_MILLIS: u64 = 2;
 
 /// For how many pauses a page waits for its copy at most.
 const MOST_PAUSES: u32 = 16;
@@ -50,6 +50,8 @@ pub(crate) struct Ahead {
     /// The process and the page from which on it looks for the next changed one.
     process: u32,
     from: u32,
+    /// In how many processes, one after another, it has found none.
+    passed: u32,
     /// The page whose cleaning has begun, and how many pauses it waits still.
     begun: Option<Key>,
     left: u32,
@@ -77,6 +79,7 @@ impl Ahead {
             page_ins: 0,
             process: 0,
             from: 0,
+            passed: 0,
             begun: None,
             left: 0,
             pauses: 1,
@@ -119,7 +122,7 @@ impl Ahead {
     }
 
     /// The cleaning of the next changed page begins, where one is due and evictions don't want for slots: more of these are free than there
-    /// are frames.
+    /// are frames. One process is looked at a step, so that frames are not wanted for long meanwhile.
     fn begin<L: Ledger, S: SwapSlot, C: Clock, R: Wait>(
         &mut self,
         rt: &R,
@@ -133,21 +136,25 @@ impl Ahead {
         if self.cleanings >= room.page_ins || shared.free_slots(rt) <= room.frames as usize {
             return Rest::UntilCalled;
         }
-        // The process that it begins with comes twice: its pages below are looked at last.
-        for _ in 0..=shared.processes() {
-            let process = self.process;
-            if let Some(vpn) = begun_page(rt, shared.locks(), process, self.from) {
-                self.from = vpn.saturating_add(1);
-                self.cleanings = self.cleanings.saturating_add(1);
-                self.begun = Some(Key { process, vpn });
-                self.left = self.pauses.saturating_sub(1);
-                self.nap = PAUSE_MILLIS;
-                give_notices(rt, shared.locks(), process);
-                return Rest::Nap(PAUSE_MILLIS);
-            }
-            self.from = 0;
-            self.process = next_process(process, shared.processes());
+        let process = self.process;
+        if let Some(vpn) = begun_page(rt, shared.locks(), process, self.from) {
+            self.from = vpn.saturating_add(1);
+            self.passed = 0;
+            self.cleanings = self.cleanings.saturating_add(1);
+            self.begun = Some(Key { process, vpn });
+            self.left = self.pauses.saturating_sub(1);
+            self.nap = PAUSE_MILLIS;
+            give_notices(rt, shared.locks(), process);
+            return Rest::Nap(PAUSE_MILLIS);
         }
+        self.from = 0;
+        self.process = next_process(process, shared.processes());
+        self.passed = self.passed.saturating_add(1);
+        // The process that it began with comes twice: its pages below are looked at last.
+        if self.passed <= shared.processes() {
+            return Rest::Nothing;
+        }
+        self.passed = 0;
         let nap = self.nap;
         self.nap = nap.saturating_mul(2).min(LONGEST_NAP_MILLIS);
         Rest::Nap(nap)

@@ -2,7 +2,7 @@
 -- "Evaluation Techniques for Storage Hierarchies", IBM Systems Journal 1970, for the policy OPT, whose priority is the next use. The pages
 -- stand in an order in which m frames have the first m, each told by the place in the string of its next use alone (`NextPlaces`): a
 -- reference at `at` finds its page where `at` stands, and hits with more frames than stand before it.
-use Rattle.std.specs.Prelude.{◌≡◌, ℕ, suc, ◌+◌, ◌==◌, cond, nat_lt, List, [], ◌∷◌, length}
+use Rattle.std.specs.Prelude.{◌≡◌, ℕ, suc, ◌+◌, ◌<◌, ◌==◌, cond, nat_lt, List, [], ◌∷◌, length}
 use Rattle.clock_policy.specs.declared.key.Key.{Key}
 use Rattle.page_policies.specs.Optimal.{optimal_misses}
 use Rattle.whole_strings.specs.LruDepths.{hits_within}
@@ -29,7 +29,7 @@ abbrev pub restacked : ℕ → ℕ → List ℕ → List ℕ
 restacked at next [] = next ∷ []
 restacked at next (y ∷ ys) = next ∷ cond (y == at) ys (carried_down at y ys)
 
--- What is counted of a whole string: how many references had so many places before theirs, for each number of them. Those that hit with
--- m frames are the first m of these numbers together.
-abbrev pub CountsOptimum : List ℕ → List Key → Type 0
-CountsOptimum counts string = (m : ℕ) → optimal_misses (m + 1) string + hits_within (m + 1) counts ≡ length string
+-- What is counted of a whole string: how many references had so many places before theirs, for each number of them below `most`. Those
+-- that hit with m frames, up to so many, are the first m of these numbers together.
+abbrev pub CountsOptimum : ℕ → List ℕ → List Key → Type 0
+CountsOptimum most counts string = (m : ℕ) → m < most → optimal_misses (m + 1) string + hits_within (m + 1) counts ≡ length string

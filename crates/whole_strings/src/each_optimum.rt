@@ -1,12 +1,12 @@
 //! What the optimum misses with every number of frames.
 
-ghost use Rattle.std.specs.Prelude.{◌≡◌, ◌+◌, ◌-◌, ◌<◌, ◌^◌, ◌++◌, ◌∷◌, [], ℕ, length, slice_index_or, slice_set, IfOk, OnOk, MatchOption};
+ghost use Rattle.std.specs.Prelude.{◌≡◌, ◌+◌, ◌-◌, ◌<◌, ◌≤◌, ◌^◌, ◌++◌, ◌∷◌, [], ℕ, cond, nat_lt, take, length, slice_index_or, slice_set, IfOk, OnOk, MatchOption};
 ghost use Rattle.page_policies.specs.NextUses.{next_uses};
 ghost use Rattle.whole_strings.specs.LruDepths.{hits_within};
 ghost use Rattle.whole_strings.specs.LruDepthLaws.{referred};
 ghost use Rattle.whole_strings.specs.OptimumCurve.{IsOptimumCurve};
 ghost use Rattle.whole_strings.specs.OptimumStack.{nearer, farther, place_depth, restacked, CountsOptimum};
-ghost use Rattle.whole_strings.specs.OptimumStackLaws.{FallsTo};
+ghost use Rattle.whole_strings.specs.OptimumCurveLaws.{FallsTo};
 
 use crate::lru_depths::note_depth;
 use crate::optimum::next_place;
@@ -64,9 +64,12 @@ fn carry_down(places: &mut [usize], at: usize, next: usize) -> (usize, Option<us
     (places.len(), Some(carried))
 }
 
-/// The reference at `at`, whose page is used next at `next`. How many places stood before its own.
-fn restack(stack: &mut Vec<usize>, at: usize, next: usize) -> Result<usize, AllocError>
-    ensures stack { OnOk result (stack.new.items ≡ restacked at next stack.old.items) }
+/// The reference at `at`, whose page is used next at `next`, where the first places of the stack are known, so many at most. How many stood
+/// before its own; where it is none of these, how many there were.
+fn restack(stack: &mut Vec<usize>, most: usize, at: usize, next: usize) -> Result<usize, AllocError>
+    requires some { 0 < most }
+    requires few { length stack.old.items ≤ most }
+    ensures stack { OnOk result (stack.new.items ≡ take most (restacked at next stack.old.items)) }
     ensures depth { IfOk result (λ depth. depth ≡ place_depth at stack.old.items) }
 {
     if stack.is_empty() {
@@ -75,23 +78,44 @@ fn restack(stack: &mut Vec<usize>, at: usize, next: usize) -> Result<usize, Allo
     }
     let (depth, left) = carry_down(stack.as_mut_slice(), at, next);
     if let Some(place) = left {
-        stack.push(place)?;
+        if stack.len() < most {
+            stack.push(place)?;
+        }
     }
     Ok(depth)
 }
 
-/// How many references of a string find their place at each depth of the stack, from how far ahead each page is used again.
-fn count_hits(alloc: Global, string: &[Key], uses: &[usize]) -> Result<Vec<usize>, AllocError>
-    requires { uses.now ≡ next_uses string.now }
-    ensures { IfOk result (λ hits. CountsOptimum hits.items string.now) }
+/// One hit more at this depth, or a page more, where so many depths are counted at most.
+fn note_within(hits: &mut Vec<usize>, depth: usize, most: usize) -> Result<(), AllocError>
+    requires { (d : ℕ) → d < length hits.old.items → slice_index_or hits.old.items d 0 < 2 ^ 63 }
+    ensures { OnOk result (hits.new.items ≡ cond (nat_lt depth most) (referred depth hits.old.items)
+        hits.old.items) }
+{
+    if depth < most {
+        note_depth(hits, depth)?;
+    }
+    Ok(())
+}
+
+/// How many references of a string find their place at each of the stack's first depths, so many at most, from how far ahead each page is
+/// used again.
+fn count_hits(
+    alloc: Global,
+    string: &[Key],
+    uses: &[usize],
+    most: usize,
+) -> Result<Vec<usize>, AllocError>
+    requires uses { uses.now ≡ next_uses string.now }
+    requires some { 0 < most }
+    ensures { IfOk result (λ hits. CountsOptimum most hits.items string.now) }
 {
     let _ = string;
     let mut stack = Vec::new(alloc);
     let mut hits = Vec::new(alloc);
     'references: for at in 0..uses.len() {
         let next = next_place(uses.len(), at, uses[at]);
-        let depth = restack(&mut stack, at, next)?;
-        note_depth(&mut hits, depth)?;
+        let depth = restack(&mut stack, most, at, next)?;
+        note_within(&mut hits, depth, most)?;
     }
     Ok(hits)
 }
@@ -124,13 +148,29 @@ fn falls(
     Ok(curve)
 }
 
+/// What the optimum misses of a string with 1, 2, 3 and more frames, up to so many, from how far ahead each page is used again.
+#[tactic(auto, using(crate::specs::OptimumCurveLaws::falls_are, crate::specs::OptimumCurveLaws::no_curve))]
+pub(crate) fn curve_of(
+    alloc: Global,
+    string: &[Key],
+    uses: &[usize],
+    most: usize,
+) -> Result<Vec<usize>, AllocError>
+    requires { uses.now ≡ next_uses string.now }
+    ensures { IfOk result (λ curve. IsOptimumCurve most curve.items string.now) }
+{
+    if most == 0 {
+        return Ok(Vec::new(alloc));
+    }
+    let hits = count_hits(alloc, string, uses, most)?;
+    falls(alloc, hits.as_slice(), string.len(), most)
+}
+
 /// What the optimum misses of a string with 1, 2, 3 and more frames, up to so many. It takes one pass over the string, and for each
-/// reference time in proportion to the pages before its own in the order of the optimum's stack.
-#[tactic(auto, using(crate::specs::OptimumStackLaws::falls_are))]
+/// reference time in proportion to the pages before its own in the order of the optimum's stack, but to so many of them at most.
 pub fn optimum_curve(alloc: Global, string: &[Key], most: Frames) -> Result<Vec<usize>, AllocError>
     ensures { IfOk result (λ curve. IsOptimumCurve most.number curve.items string.now) }
 {
     let uses = next_uses(alloc, string)?;
-    let hits = count_hits(alloc, string, uses.as_slice())?;
-    falls(alloc, hits.as_slice(), string.len(), most.number())
+    curve_of(alloc, string, uses.as_slice(), most.number())
 }

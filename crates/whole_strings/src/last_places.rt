@@ -2,7 +2,7 @@
 
 ghost use Rattle.std.specs.Prelude.{◌≡◌, ◌+◌, ◌-◌, ◌%◌, ◌<◌, ◌^◌, min, take, drop, length, replicate, slice_index_or, IfOk};
 ghost use Rattle.whole_strings.specs.LastPlaces.{total, sum_from, lowered};
-ghost use Rattle.whole_strings.specs.LastPlaceLaws.{AreSummed, Adds, Removes};
+ghost use Rattle.whole_strings.specs.PlaceSumLaws.{AreSummed, Adds, Removes};
 
 use crate::lru_depths::note_hit;
 use std::alloc::{AllocError, Global};

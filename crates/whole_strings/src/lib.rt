@@ -7,6 +7,7 @@ mod laws;
 mod lru_depths;
 mod optimum;
 mod sampling;
+mod several_frames;
 mod string_uses;
 mod working_sets;
 
@@ -15,5 +16,6 @@ pub use laws::optimum_keeps_fewer_in_fewer_frames;
 pub use lru_depths::lru_curve;
 pub use optimum::Optimum;
 pub use sampling::is_sampled;
+pub use several_frames::optimum_counts;
 pub use string_uses::next_uses;
 pub use working_sets::{WindowCounts, window_curve};

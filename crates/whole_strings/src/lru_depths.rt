@@ -7,7 +7,8 @@ ghost use Rattle.page_policies.specs.Strings.{is_page};
 ghost use Rattle.whole_strings.specs.LruDepths.{IsLruCurve};
 ghost use Rattle.whole_strings.specs.LruDepthLaws.{noted, referred, tails};
 ghost use Rattle.whole_strings.specs.LastPlaces.{sum_from};
-ghost use Rattle.whole_strings.specs.LastPlaceLaws.{AreSummed, MayLeave, Left};
+ghost use Rattle.whole_strings.specs.PlaceSumLaws.{AreSummed};
+ghost use Rattle.whole_strings.specs.LastPlaceLaws.{MayLeave, Left};
 
 use crate::last_places::LastPlaces;
 use crate::string_uses::note;

@@ -87,7 +87,11 @@ fn refer(
 }
 
 /// How many references miss with so many frames, from how far ahead each page is used again.
-fn count_misses(uses: &[usize], alloc: Global, frames: Frames) -> Result<usize, AllocError>
+pub(crate) fn count_misses(
+    uses: &[usize],
+    alloc: Global,
+    frames: Frames,
+) -> Result<usize, AllocError>
     ensures { IfOk result (λ count. (string : List Key) → uses.now ≡ next_uses string →
         count ≡ optimal_misses frames.number string) }
 {

@@ -6,7 +6,7 @@ use crate::address_lines::{AddressLine, dynamorio_line, lackey_line};
 use crate::fault::TraceFault;
 use crate::format::TraceFormat;
 use crate::page_lines::{
-    column_of_ids, is_write, page_of_csv, page_of_id, page_of_line, page_of_record,
+    column_of_ids, page_of_csv, page_of_id, page_of_record, reference_of_line,
 };
 use clock_policy::Key;
 use guest_strings::Reference;
@@ -100,15 +100,14 @@ impl<'a, B: BufRead + Drop> TraceFile<'a, B> {
             return Ok(None);
         }
         let line = self.line.as_slice();
-        let page = match self.format {
-            TraceFormat::Csv => page_of_csv(line, self.column),
+        let reference = match self.format {
+            TraceFormat::Csv => unwritten(page_of_csv(line, self.column)),
             TraceFormat::OracleGeneral if self.count == 1 && is_text(line) => None,
-            TraceFormat::OracleGeneral => page_of_record(line),
-            _ => page_of_line(line),
+            TraceFormat::OracleGeneral => unwritten(page_of_record(line)),
+            _ => reference_of_line(line),
         };
-        let is_written = self.format == TraceFormat::Text && is_write(line);
-        match page {
-            Some(page) => Ok(Some(Reference { page, is_written })),
+        match reference {
+            Some(reference) => Ok(Some(reference)),
             None => Err(self.bad_line()),
         }
     }
@@ -237,6 +236,14 @@ pub fn open_trace<'a, R: Files + AllocGlobal>(
         Ok(file) => Ok(TraceFile::new(rt.alloc(), name, format, file)),
         Err(_) => Err(TraceFault::NoMemory),
     }
+}
+
+fn unwritten(page: Option<Key>) -> Option<Reference> {
+    let page = page?;
+    Some(Reference {
+        page,
+        is_written: false,
+    })
 }
 
 fn reference_to(page: u64, is_written: bool) -> Reference {

@@ -1,0 +1,71 @@
+-- What lines and records of traces of pages say.
+use Rattle.std.specs.Prelude.{ℕ, ◌+◌, ◌-◌, ◌/◌, ◌%◌, ◌^◌, ◌==◌, ◌||◌, Bool, true, false, List, [], ◌∷◌, length, take, drop, position, codes, slice_get, slice_range, Option, Some, None, if◌then◌else◌}
+use Rattle.std.specs.Option.{option_map, option_and_then}
+use Rattle.std.specs.List.{slice_split, prefix_len, suffix_len}
+use Rattle.std.specs.Char.{is_ascii_whitespace}
+use Rattle.std.specs.Str.{bytes_eq}
+use Rattle.byteorder.specs.Endian.{little_number}
+use Rattle.text_lines.specs.Text.{words_of}
+use Rattle.clock_policy.specs.declared.key.Key.{Key}
+use Rattle.guest_strings.specs.declared.reference.Reference.{Reference}
+use Rattle.trace_files.specs.Ids.{id_in, written_below}
+
+-- a page that stands for an object: each id has its own
+unfoldable pub page_of_id : ℕ → Key
+page_of_id id = record { process = id / 2 ^ 32; vpn = id % 2 ^ 32 }
+
+-- ---- a line: a page, and behind it a `w` where it is written
+
+abbrev pub is_bar : ℕ → Bool
+is_bar c = c == 47
+
+abbrev pub page_of_parts : Option ℕ → Option ℕ → Option Key
+page_of_parts (Some process) (Some vpn) = Some (record { process = process; vpn = vpn })
+page_of_parts (Some process) None = None
+page_of_parts None vpn = None
+
+-- a page is the numbers of a process and of a page of it, of 32 bits, with a bar between them, or an id alone
+abbrev pub page_cut : List ℕ → Option ℕ → Option Key
+page_cut word (Some bar) = page_of_parts (written_below 4294967296 (take bar word)) (written_below 4294967296 (drop (bar + 1) word))
+page_cut word None = option_map page_of_id (id_in word)
+
+unfoldable pub page_in : List ℕ → Option Key
+page_in word = page_cut word (position is_bar word)
+
+abbrev pub referred : Bool → Key → Reference
+referred is_written page = record { page = page; is_written = is_written }
+
+abbrev pub words_reference : List (List ℕ) → Option Reference
+words_reference [] = None
+words_reference (page ∷ []) = option_map (referred false) (page_in page)
+words_reference (page ∷ mark ∷ []) = if bytes_eq mark (codes "w") then option_map (referred true) (page_in page) else None
+words_reference (page ∷ mark ∷ other ∷ others) = None
+
+abbrev pub line_reference : List ℕ → Option Reference
+line_reference line = words_reference (words_of line)
+
+-- ---- a line of columns
+
+abbrev pub is_comma : ℕ → Bool
+is_comma c = c == 44
+
+-- without the white space at both ends
+unfoldable pub trimmed : List ℕ → List ℕ
+trimmed text = let front = drop (prefix_len is_ascii_whitespace text) text in take (length front - suffix_len is_ascii_whitespace front) front
+
+-- what a column of ids may be called
+unfoldable pub is_id_name : List ℕ → Bool
+is_id_name name = bytes_eq name (codes "id") || bytes_eq name (codes "obj_id") || bytes_eq name (codes "object_id") || bytes_eq name (codes "key") || bytes_eq name (codes "page")
+
+-- the first column that is called so
+unfoldable pub column_of_ids : List ℕ → Option ℕ
+column_of_ids names = position (λ name. is_id_name (trimmed name)) (slice_split is_comma names)
+
+-- the page of the id that stands in this column, counted from 0
+unfoldable pub csv_page : ℕ → List ℕ → Option Key
+csv_page column line = option_and_then (λ field. option_map page_of_id (id_in (trimmed field))) (slice_get (slice_split is_comma line) column)
+
+-- ---- a record of 24 bytes: the id stands behind 4 bytes of time
+
+unfoldable pub record_page : List ℕ → Option Key
+record_page bytes = if length bytes == 24 then Some (page_of_id (little_number 8 (slice_range bytes 4 12))) else None

@@ -5,3 +5,4 @@ pub mod AddressLines
 pub mod AddressLineLaws
 pub mod Written
 pub mod WrittenLaws
+pub mod ReadBackLaws

@@ -1,5 +1,5 @@
 -- What lines and records of traces of pages say.
-use Rattle.std.specs.Prelude.{ℕ, ◌+◌, ◌-◌, ◌/◌, ◌%◌, ◌^◌, ◌==◌, ◌||◌, Bool, true, false, List, [], ◌∷◌, length, take, drop, position, codes, slice_get, slice_range, Option, Some, None, if◌then◌else◌}
+use Rattle.std.specs.Prelude.{ℕ, ◌+◌, ◌-◌, ◌/◌, ◌%◌, ◌^◌, ◌<◌, ◌==◌, ◌||◌, Bool, true, false, List, [], ◌∷◌, length, take, drop, position, codes, slice_get, slice_range, Option, Some, None, if◌then◌else◌}
 use Rattle.std.specs.Option.{option_map, option_and_then}
 use Rattle.std.specs.List.{slice_split, prefix_len, suffix_len}
 use Rattle.std.specs.Char.{is_ascii_whitespace}
@@ -69,3 +69,13 @@ csv_page column line = option_and_then (λ field. option_map page_of_id (id_in (
 
 unfoldable pub record_page : List ℕ → Option Key
 record_page bytes = if length bytes == 24 then Some (page_of_id (little_number 8 (slice_range bytes 4 12))) else None
+
+-- ---- pages and references that a program can have
+
+pub record IsPage (page : Key) : Type 0 where
+  pub process : page.process < 2 ^ 32
+  pub vpn : page.vpn < 2 ^ 32
+
+abbrev pub AreReferences : List Reference → Type 0
+AreReferences [] = Unit {0}
+AreReferences (reference ∷ references) = IsPage reference.page × AreReferences references

@@ -4,6 +4,7 @@
 mod address_lines;
 mod fault;
 mod format;
+mod laws;
 mod number_text;
 mod page_lines;
 mod trace_file;
@@ -12,6 +13,7 @@ mod writing;
 
 pub use fault::TraceFault;
 pub use format::TraceFormat;
+pub use laws::{ids_have_pages_of_their_own, written_lines_are_read, written_records_are_read};
 pub use trace_file::{BLOCK, TraceFile, open_trace};
 pub use whole_trace::{read_references, read_sample, read_whole};
 pub use writing::{CSV_HEADER, write_csv, write_line, write_records};

@@ -1,0 +1,30 @@
+//! Laws on what is written of a string and read again.
+
+ghost use Rattle.std.specs.Prelude.{◌≡◌, ℕ, List, Some, map};
+ghost use Rattle.std.specs.List.{flat_map};
+ghost use Rattle.text_lines.specs.Text.{lines_of};
+ghost use Rattle.clock_policy.specs.declared.key.Key.{Key};
+ghost use Rattle.guest_strings.specs.declared.reference.Reference.{Reference};
+ghost use Rattle.trace_files.specs.Written.{id_of, record_bytes, reference_line};
+ghost use Rattle.trace_files.specs.PageLines.{AreReferences, IsPage, line_reference, page_of_id, record_page};
+
+/// The lines that are written of references are read as these references.
+#[tactic(auto, using(crate::specs::ReadBackLaws::lines_read))]
+pub fn written_lines_are_read()
+    ensures { (references : List Reference) → AreReferences references
+        → map line_reference (lines_of (flat_map reference_line references))
+        ≡ map (λ (reference : Reference). Some reference) references }
+{}
+
+/// A record that is written of a page is read as the page of its id.
+#[tactic(auto, using(crate::specs::ReadBackLaws::record_of_page))]
+pub fn written_records_are_read()
+    ensures { (time next : ℕ) (page : Key) → IsPage page
+        → record_page (record_bytes time page next) ≡ Some (page_of_id (id_of page)) }
+{}
+
+/// Each id has a page of its own.
+#[tactic(auto, using(crate::specs::ReadBackLaws::page_of_one_id))]
+pub fn ids_have_pages_of_their_own()
+    ensures { (a b : ℕ) → page_of_id a ≡ page_of_id b → a ≡ b }
+{}

@@ -194,18 +194,17 @@ impl Arc {
     }
 
     /// A page is used. Whether it was in a frame.
+    #[tactic(auto, using(page_policies::specs::QueueLaws::absent))]
     fn step(&mut self, page: Key) -> Result<bool, AllocError>
         ensures hit { IfOk result (λ hit. hit ≡ in_arc page (lists_of self.old)) }
         ensures lists { OnOk result (lists_of self.new ≡ arc self.old.frames page (lists_of
             self.old)) }
         ensures frames { self.new.frames ≡ self.old.frames }
     {
-        if self.t2.contains(page) {
-            self.t2.push(page)?;
+        if self.t2.touch(page) {
             return Ok(true);
         }
-        if self.t1.contains(page) {
-            self.t1.remove(page);
+        if self.t1.remove(page) {
             self.t2.push(page)?;
             return Ok(true);
         }

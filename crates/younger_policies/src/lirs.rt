@@ -1,8 +1,8 @@
 //! LIRS.
 
-ghost use Rattle.std.specs.Prelude.{◌≡◌, ◌+◌, ◌<◌, refl, length, nat_lt, IfOk, OnOk};
-ghost use Rattle.page_policies.specs.Strings.{misses as misses_by};
-ghost use Rattle.page_policies.specs.Ordered.{last_of};
+ghost use Rattle.std.specs.Prelude.{◌≡◌, ◌+◌, ◌<◌, refl, cond, length, nat_lt, IfOk, OnOk};
+ghost use Rattle.page_policies.specs.Strings.{holds, misses as misses_by};
+ghost use Rattle.page_policies.specs.Ordered.{last_of, to_front};
 ghost use Rattle.younger_policies.specs.Lirs.{most_lir, is_bottom_lir, pruned, demoted, made_lir, kept_hir, promoted, becomes_lir, placed, room_made, lir_used, hir_used, in_lirs, lirs, lirs_misses};
 ghost use Rattle.younger_policies.specs.LirsLaws.{lists_of, without_bottom};
 
@@ -28,6 +28,16 @@ fn most_lir(frames: usize) -> usize
     ensures { result ≡ most_lir frames }
 {
     frames.saturating_sub((frames / 100).max(1))
+}
+
+/// The page comes to the front of the stack, in which it mostly is.
+fn renew(stack: &mut Queue, page: Key) -> Result<(), AllocError>
+    ensures { OnOk result (stack.new ≡ to_front page stack.old) }
+{
+    if stack.touch(page) {
+        return Ok(());
+    }
+    stack.push(page)
 }
 
 impl Lirs {
@@ -143,16 +153,20 @@ impl Lirs {
         self.queue.pop();
     }
 
-    /// An LIR page is used.
-    fn use_lir(&mut self, page: Key) -> Result<(), AllocError>
-        ensures lists { OnOk result (lists_of self.new ≡ lir_used page (lists_of self.old)) }
+    /// The page is used where it is an LIR page. Whether it is.
+    fn use_lir(&mut self, page: Key) -> Result<bool, AllocError>
+        ensures found { IfOk result (λ found. found ≡ holds page self.old.lir) }
+        ensures lists { OnOk result (lists_of self.new ≡ cond (holds page self.old.lir) (lir_used
+            page (lists_of self.old)) (lists_of self.old)) }
         ensures frames { self.new.frames ≡ self.old.frames }
     {
-        self.lir.push(page)?;
-        self.stack.push(page)?;
+        if !self.lir.touch(page) {
+            return Ok(false);
+        }
+        renew(&mut self.stack, page)?;
         let len = self.stack.len();
         self.prune(len);
-        Ok(())
+        Ok(true)
     }
 
     /// A page is used. Whether it was in a frame.
@@ -162,8 +176,7 @@ impl Lirs {
             self.old)) }
         ensures frames { self.new.frames ≡ self.old.frames }
     {
-        if self.lir.contains(page) {
-            self.use_lir(page)?;
+        if self.use_lir(page)? {
             return Ok(true);
         }
         if self.queue.contains(page) {

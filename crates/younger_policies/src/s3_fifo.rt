@@ -1,6 +1,6 @@
 //! S3-FIFO.
 
-ghost use Rattle.std.specs.Prelude.{◌≡◌, ◌+◌, ◌*◌, ◌<◌, refl, cond, true, false, length, nat_lt, IfOk, OnOk};
+ghost use Rattle.std.specs.Prelude.{◌≡◌, ◌+◌, ◌*◌, ◌<◌, refl, cond, true, false, length, min, nat_lt, IfOk, OnOk};
 ghost use Rattle.std.specs.HashMap.{get};
 ghost use Rattle.clock_policy.specs.declared.key.Key.{Key};
 ghost use Rattle.page_policies.specs.Strings.{is_page, misses as misses_by};
@@ -49,6 +49,20 @@ fn set_count(freq: &mut HashMap<Key, u8>, page: Key, count: u8) -> Result<(), Al
     match freq.insert(page, count) {
         Ok(_) => Ok(()),
         Err(_) => Err(AllocError),
+    }
+}
+
+/// One use more of a page, three at most.
+fn raise_count(freq: &mut HashMap<Key, u8>, page: Key) -> Result<(), AllocError>
+    ensures { OnOk result ((q : Key) → known (get is_page freq.new q) ≡ cond (is_page page q) (min
+        (known (get is_page freq.old page) + 1) 3) (known (get is_page freq.old q))) }
+{
+    match freq.get_mut(&page) {
+        Some(count) => {
+            *count = count.saturating_add(1).min(3);
+            Ok(())
+        }
+        None => set_count(freq, page, 1),
     }
 }
 
@@ -241,8 +255,17 @@ impl S3Fifo {
         ensures queues { OnOk result (queues_of self.new ≡ used page (queues_of self.old)) }
         ensures frames { self.new.frames ≡ self.old.frames }
     {
-        let count = count_of(&self.freq, page);
-        set_count(&mut self.freq, page, count.saturating_add(1).min(3))
+        raise_count(&mut self.freq, page)
+    }
+
+    /// Whether the page is in a frame. Most that are used again are in the main queue.
+    fn is_there(&self, page: Key) -> bool
+        ensures { result ≡ in_s3_fifo page (queues_of self.now) }
+    {
+        if self.main.contains(page) {
+            return true;
+        }
+        self.small.contains(page)
     }
 
     /// A page is used. Whether it was in a frame.
@@ -252,7 +275,7 @@ impl S3Fifo {
             self.old)) }
         ensures frames { self.new.frames ≡ self.old.frames }
     {
-        if !self.small.contains(page) && !self.main.contains(page) {
+        if !self.is_there(page) {
             self.make_room()?;
             self.insert(page)?;
             return Ok(false);

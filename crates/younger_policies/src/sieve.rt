@@ -135,6 +135,16 @@ impl Sieve {
         }
     }
 
+    /// Whether the page is in a frame. Most that are used again are behind the hand.
+    fn is_there(&self, page: Key) -> bool
+        ensures { result ≡ in_sieve page (queue_of self.now) }
+    {
+        if self.behind.contains(page) {
+            return true;
+        }
+        self.ahead.contains(page)
+    }
+
     /// A page is used. Whether it was in a frame.
     fn step(&mut self, page: Key) -> Result<bool, AllocError>
         ensures hit { IfOk result (λ hit. hit ≡ in_sieve page (queue_of self.old)) }
@@ -142,7 +152,7 @@ impl Sieve {
             self.old)) }
         ensures frames { self.new.frames ≡ self.old.frames }
     {
-        if !self.ahead.contains(page) && !self.behind.contains(page) {
+        if !self.is_there(page) {
             self.make_room()?;
             self.insert(page)?;
             return Ok(false);

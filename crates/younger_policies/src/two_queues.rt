@@ -72,8 +72,7 @@ impl TwoQueues {
             (queues_of self.old)) }
         ensures frames { self.new.frames ≡ self.old.frames }
     {
-        if self.am.contains(page) {
-            self.am.push(page)?;
+        if self.am.touch(page) {
             return Ok(true);
         }
         if self.a1in.contains(page) {

@@ -1,9 +1,0 @@
-use Rattle.std.proofs.Common.{ap, ◌∙◌}
-use Rattle.page_policies.specs.declared.frames.Frames.{Frames}
-use Rattle.miss_counts.specs.Counted.{serves}
-use Rattle.miss_counts.specs.ServingLaws.{each_served}
-use Rattle.miss_counts.proofs.counts.count_rows.Goals as goal
-
-pub counts_of-requires-clause-served : goal.counts_of-requires-clause-served
-counts_of-requires-clause-served g c = ap (λ (f : Frames). serves c.args.wanted f.number) c.number-item.is
-    ∙ each_served c.args.wanted c.frames.number-index c.args.frames.now c.number-item.result c.frames-test.true c.requires

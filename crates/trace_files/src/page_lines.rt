@@ -1,6 +1,6 @@
 //! Lines and records of traces of pages.
 
-ghost use Rattle.std.specs.Prelude.{◌≡◌, ◌<◌, ◌^◌, position, option_copied, slice_get, length};
+ghost use Rattle.std.specs.Prelude.{◌≡◌, ◌<◌, position, option_copied, slice_get};
 ghost use Rattle.std.specs.Option.{option_map};
 ghost use Rattle.std.specs.List.{slice_split};
 ghost use Rattle.trace_files.specs.Ids.{id_in, written_below};

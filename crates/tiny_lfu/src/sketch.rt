@@ -1,6 +1,6 @@
 //! How often pages were used, in little memory.
 
-ghost use Rattle.std.specs.Prelude.{◌≡◌, ◌≤◌, ◌<◌, ◌+◌, ◌*◌, ◌/◌, length, map, replicate, IfOk};
+ghost use Rattle.std.specs.Prelude.{◌≡◌, ◌≤◌, ◌<◌, ◌+◌, ◌*◌, ◌/◌, ◌==◌, cond, length, map, replicate, IfOk};
 ghost use Rattle.page_policies.specs.PolicyFrames.{most_policy_frames};
 ghost use Rattle.tiny_lfu.specs.Sketch.{least_at, estimate, raised, all_raised, noted, counted, sample};
 ghost use Rattle.tiny_lfu.specs.SketchLaws.{sketch_of};
@@ -27,16 +27,23 @@ fn least_at(counts: &[u8], at: Places) -> u8
     first.min(second).min(third.min(fourth))
 }
 
-/// A count that is the least one grows.
+/// A count, one higher where it is the least one.
+fn higher(count: u8, least: u8) -> u8
+    requires { least < 15 }
+    ensures { result ≡ cond (count == least) (least + 1) count }
+{
+    if count == least { least + 1 } else { count }
+}
+
+/// A count that is the least one grows. It is written in any case, so that no branch has to be foretold.
+#[tactic(auto, using(crate::specs::SketchLaws::raised_as))]
 fn raise(counts: &mut [u8], at: usize, least: u8)
     requires inside { at < length counts.old }
     requires few { least < 15 }
     ensures counts { counts.new ≡ raised least at counts.old }
     ensures size { length counts.new ≡ length counts.old }
 {
-    if counts[at] == least {
-        counts[at] = least + 1;
-    }
+    counts[at] = higher(counts[at], least);
 }
 
 /// The least of a page's counts grow.

@@ -2,3 +2,4 @@ mod Doublings
 mod Powers
 mod Seen
 mod Serving
+pub mod Floors

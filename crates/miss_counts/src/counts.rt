@@ -1,7 +1,6 @@
 //! What each policy misses.
 
-ghost use Rattle.std.specs.Prelude.{◌≡◌, ◌↔◌, IfOk, Err, true, false, map};
-ghost use Rattle.page_policies.specs.NextUses.{next_uses};
+ghost use Rattle.std.specs.Prelude.{◌≡◌, ◌↔◌, IfOk, Err, Some, true, false, map};
 ghost use Rattle.page_policies.specs.Optimal.{optimal_misses};
 ghost use Rattle.miss_counts.specs.Counted.{counted, asked, serves, all_serve, since, left};
 
@@ -12,7 +11,7 @@ use clock_ring::ClockRing;
 use page_policies::{Fifo, Frames, Lru, Policy, PolicyRefusal, RandomPolicy, SecondChance, misses};
 use std::alloc::{AllocError, Global};
 use tiny_lfu::WTinyLfu;
-use whole_strings::Optimum;
+use whole_strings::optimum_counts;
 use younger_policies::{Arc, ClockPro, ClockProUsed, Lirs, S3Fifo, Sieve, TwoQueues};
 
 /// Misses with so many frames, of the policies that were asked for.
@@ -93,37 +92,46 @@ fn misses_if<P: Policy>(
     }
 }
 
-/// What a string misses under the optimum, which is given the string as it needs it, where that is asked for.
-fn floor_if(
-    alloc: Global,
-    frames: Frames,
-    string: &[Key],
-    optimum: &Optimum,
-    is_wanted: bool,
-) -> Result<Option<u64>, AllocError>
-    requires { optimum.now ≡ next_uses string.now }
-    ensures { IfOk result (λ count. count ≡ asked is_wanted (optimal_misses frames.number
-        string.now)) }
+/// These counts, where each was asked for.
+fn as_asked(alloc: Global, counts: &[usize]) -> Result<Vec<Option<u64>>, AllocError>
+    ensures { IfOk result (λ floors. floors.items ≡ map (λ n. Some n) counts.now) }
 {
-    let _ = string;
-    if !is_wanted {
-        return Ok(None);
+    let mut floors = Vec::with_capacity(alloc, counts.len())?;
+    'counts: for count in counts {
+        floors.push(Some(*count as u64))?;
     }
-    let count = optimum.misses(alloc, frames)?;
-    Ok(Some(count as u64))
+    Ok(floors)
 }
 
-/// What a string, which is also given as the optimum needs it, misses with so many frames.
+/// What a string misses under the optimum with each of these numbers of frames, where that is asked for.
+#[tactic(auto, using(crate::proofs::Floors::floors_none, crate::proofs::Floors::floors_all))]
+fn floors_if(
+    alloc: Global,
+    frames: &[Frames],
+    string: &[Key],
+    is_wanted: bool,
+) -> Result<Vec<Option<u64>>, AllocError>
+    ensures { IfOk result (λ floors. floors.items ≡ map (λ f. asked is_wanted (optimal_misses
+        f.number string.now)) frames.now) }
+{
+    if !is_wanted {
+        return vec![in alloc; None; frames.len()];
+    }
+    let counts = optimum_counts(alloc, string, frames)?;
+    as_asked(alloc, counts.as_slice())
+}
+
+/// What a string misses with so many frames, where it is told what the optimum does.
 #[tactic(auto, using(crate::specs::ServingLaws::used_is_served, crate::specs::ServingLaws::published_is_served))]
 fn counts_of(
     alloc: Global,
     frames: Frames,
     string: &[Key],
-    optimum: &Optimum,
+    optimum: Option<u64>,
     wanted: PolicySet,
 ) -> Result<PolicyCounts, AllocError>
     requires served { serves wanted frames.number ≡ true }
-    requires optimum { optimum.now ≡ next_uses string.now }
+    requires optimum { optimum ≡ asked wanted.optimum (optimal_misses frames.number string.now) }
     ensures { IfOk result (λ counts. counts ≡ counted wanted string.now frames) }
 {
     let fifo = misses_if::<Fifo>(alloc, frames, string, wanted.fifo)?;
@@ -143,7 +151,6 @@ fn counts_of(
     let s3_fifo = misses_if::<S3Fifo>(alloc, frames, string, wanted.s3_fifo)?;
     let w_tiny_lfu = misses_if::<WTinyLfu>(alloc, frames, string, wanted.w_tiny_lfu)?;
     let random = misses_if::<RandomPolicy>(alloc, frames, string, wanted.random)?;
-    let optimum = floor_if(alloc, frames, string, optimum, wanted.optimum)?;
     Ok(PolicyCounts {
         frames,
         references: string.len() as u64,
@@ -182,6 +189,7 @@ pub fn rows_of<P: StageListener>(
 }
 
 /// The same rows. Each policy serves each number of frames.
+#[tactic(auto, using(crate::specs::ServingLaws::each_served, crate::proofs::Floors::floors_whole, crate::proofs::Floors::floor_here))]
 pub(crate) fn count_rows<P: StageListener>(
     alloc: Global,
     frames: &[Frames],
@@ -192,10 +200,10 @@ pub(crate) fn count_rows<P: StageListener>(
     requires { all_serve wanted frames.now ≡ true }
     ensures { IfOk result (λ rows. rows.items ≡ map (counted wanted string.now) frames.now) }
 {
-    let optimum = Optimum::new(alloc, string)?;
+    let floors = floors_if(alloc, frames, string, wanted.optimum)?;
     let mut rows = Vec::new(alloc);
-    'frames: for number in frames {
-        rows.push(counts_of(alloc, *number, string, &optimum, wanted)?)?;
+    'frames: for at in 0..frames.len() {
+        rows.push(counts_of(alloc, frames[at], string, floors[at], wanted)?)?;
         progress.tell(Stage::Rows(rows.len(), frames.len()));
     }
     Ok(rows)

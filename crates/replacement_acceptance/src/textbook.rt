@@ -8,7 +8,7 @@ use page_policies::{
 };
 use std::alloc::Global;
 use std::test::Fail;
-use whole_strings::{Optimum, lru_curve, next_uses};
+use whole_strings::{lru_curve, next_uses, optimum_counts};
 use younger_policies::{
     Arc, ClockPro, ClockProUsed, Lirs, S3Fifo, Sieve, TwoQueues, clock_pro_is_a_play,
     younger_policies_are_plays,
@@ -30,9 +30,19 @@ fn policies_miss_as_in_textbooks(rt: HostRuntime) -> Result<(), Fail> {
     let frames = Frames::new(4).ok_or("no frames")?;
     let fifo = misses::<Fifo>(rt.alloc(), frames, string.as_slice())?;
     let lru = misses::<Lru>(rt.alloc(), frames, string.as_slice())?;
-    let optimum = Optimum::new(rt.alloc(), string.as_slice())?;
     assert_eq!(rt; (fifo, lru), (10, 8));
-    assert_eq!(rt; optimum.misses(rt.alloc(), frames)?, 6);
+    Ok(())
+}
+
+/// In one pass for both, and one for a number that is large beside them.
+#[test]
+fn optimum_misses_as_in_textbooks(rt: HostRuntime) -> Result<(), Fail> {
+    let string = string(rt.alloc())?;
+    let three = Frames::new(3).ok_or("no frames")?;
+    let four = Frames::new(4).ok_or("no frames")?;
+    let many = Frames::new(1000).ok_or("no frames")?;
+    let counts = optimum_counts(rt.alloc(), string.as_slice(), &[three, many, four])?;
+    assert_eq!(rt; counts.as_slice(), [7, 5, 6].as_slice());
     Ok(())
 }
 

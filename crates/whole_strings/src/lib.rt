@@ -14,7 +14,6 @@ mod working_sets;
 pub use each_optimum::optimum_curve;
 pub use laws::optimum_keeps_fewer_in_fewer_frames;
 pub use lru_depths::lru_curve;
-pub use optimum::Optimum;
 pub use sampling::is_sampled;
 pub use several_frames::optimum_counts;
 pub use string_uses::next_uses;

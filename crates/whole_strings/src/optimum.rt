@@ -1,4 +1,4 @@
-//! The optimum.
+//! The optimum with one number of frames.
 
 ghost use Rattle.std.specs.Prelude.{◌≡◌, ◌+◌, ◌<◌, ◌^◌, not, List, IfOk};
 ghost use Rattle.clock_policy.specs.declared.key.Key.{Key};
@@ -6,27 +6,9 @@ ghost use Rattle.page_policies.specs.Optimal.{optimal_misses};
 ghost use Rattle.page_policies.specs.NextUses.{next_uses};
 ghost use Rattle.whole_strings.specs.NextPlaces.{place, Due, Roomed, Refers};
 
-use crate::string_uses::next_uses;
-use clock_policy::Key;
 use page_policies::Frames;
 use std::alloc::{AllocError, Global};
 use std::collections::BTreeSet;
-use std::marker::Model;
-
-/// A whole string of references, as the optimum needs it: for each how many others come before its page is used again.
-#[derive(Drop)]
-pub struct Optimum {
-    uses: Vec<usize>,
-}
-
-/// Seen as these numbers.
-impl Model for Optimum {
-    ghost use Rattle.std.specs.Prelude.{ℕ, List};
-
-    ghost Value = { List ℕ };
-
-    ghost view = { λ optimum. optimum.uses.items };
-}
 
 /// The place of a next use in a string of so many references, from how many others come before it; past the end, and of its own, where
 /// the page is never used again.
@@ -104,21 +86,4 @@ pub(crate) fn count_misses(
         }
     }
     Ok(count)
-}
-
-impl Optimum {
-    pub fn new(alloc: Global, string: &[Key]) -> Result<Optimum, AllocError>
-        ensures { IfOk result (λ optimum. optimum ≡ next_uses string.now) }
-    {
-        let uses = next_uses(alloc, string)?;
-        Ok(Optimum { uses })
-    }
-
-    /// How many references of the string miss with so many frames, whichever pages leave.
-    pub fn misses(&self, alloc: Global, frames: Frames) -> Result<usize, AllocError>
-        ensures { IfOk result (λ count. (string : List Key) → self.now ≡ next_uses string →
-            count ≡ optimal_misses frames.number string) }
-    {
-        count_misses(self.uses.as_slice(), alloc, frames)
-    }
 }

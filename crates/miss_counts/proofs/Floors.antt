@@ -1,16 +1,16 @@
 -- What the optimum misses with several numbers of frames, where it is asked for.
-use Rattle.std.specs.Prelude.{◌≡◌, ℕ, zero, suc, ◌<◌, Bool, true, false, List, [], ◌∷◌, Option, Some, None, length, map, replicate, slice_index_or, refl}
+use Rattle.std.specs.Prelude.{◌≡◌, ℕ, zero, suc, ◌<◌, Bool, true, false, List, [], ◌∷◌, Option, Some, None, length, map, slice_index_or, refl}
 use Rattle.std.proofs.Common.{arith, ap, ◌∙◌}
 use Rattle.clock_policy.specs.declared.key.Key.{Key}
 use Rattle.page_policies.specs.Optimal.{optimal_misses}
 use Rattle.page_policies.specs.declared.frames.Frames.{Frames}
 use Rattle.miss_counts.specs.Counted.{asked}
 
--- where it is not, there are so many that are none
-pub floors_none : (b : Bool) (n : ℕ) (string : List Key) (fs : List Frames) → b ≡ false → n ≡ length fs → replicate n None ≡ map (λ f. asked b (optimal_misses f.number string)) fs
-floors_none b n string fs not all = ap (λ (k : ℕ). let l : List (Option ℕ) = replicate k None in l) all ∙ each fs ∙ ap (λ (c : Bool). map (λ (f : Frames). asked c (optimal_misses f.number string)) fs) (back b not)
+-- where it is not, there is none for each
+pub floors_none : (b : Bool) (string : List Key) (fs : List Frames) (floors : List (Option ℕ)) → b ≡ false → floors ≡ map (λ f. None) fs → floors ≡ map (λ f. asked b (optimal_misses f.number string)) fs
+floors_none b string fs floors not none = none ∙ each fs ∙ ap (λ (c : Bool). map (λ (f : Frames). asked c (optimal_misses f.number string)) fs) (back b not)
   where
-    each : (fs : List Frames) → replicate (length fs) None ≡ map (λ f. asked false (optimal_misses f.number string)) fs
+    each : (fs : List Frames) → map (λ (f : Frames). let n : Option ℕ = None in n) fs ≡ map (λ f. asked false (optimal_misses f.number string)) fs
     each [] = refl
     each (f ∷ fs) = ap (λ (l : List (Option ℕ)). None ∷ l) (each fs)
 

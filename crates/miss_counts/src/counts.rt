@@ -1,6 +1,6 @@
 //! What each policy misses.
 
-ghost use Rattle.std.specs.Prelude.{◌≡◌, ◌↔◌, IfOk, Err, Some, true, false, map};
+ghost use Rattle.std.specs.Prelude.{◌≡◌, ◌↔◌, IfOk, Err, Some, None, true, false, map};
 ghost use Rattle.page_policies.specs.Optimal.{optimal_misses};
 ghost use Rattle.miss_counts.specs.Counted.{counted, asked, serves, all_serve, since, left};
 
@@ -103,8 +103,19 @@ fn as_asked(alloc: Global, counts: &[usize]) -> Result<Vec<Option<u64>>, AllocEr
     Ok(floors)
 }
 
+/// Nothing for each of these numbers of frames.
+fn not_asked(alloc: Global, frames: &[Frames]) -> Result<Vec<Option<u64>>, AllocError>
+    ensures { IfOk result (λ floors. floors.items ≡ map (λ f. None) frames.now) }
+{
+    let mut floors = Vec::with_capacity(alloc, frames.len())?;
+    'frames: for number in frames {
+        let _ = number;
+        floors.push(None)?;
+    }
+    Ok(floors)
+}
+
 /// What a string misses under the optimum with each of these numbers of frames, where that is asked for.
-#[tactic(auto, using(crate::proofs::Floors::floors_none, crate::proofs::Floors::floors_all))]
 fn floors_if(
     alloc: Global,
     frames: &[Frames],
@@ -114,11 +125,13 @@ fn floors_if(
     ensures { IfOk result (λ floors. floors.items ≡ map (λ f. asked is_wanted (optimal_misses
         f.number string.now)) frames.now) }
 {
-    if !is_wanted {
-        return vec![in alloc; None; frames.len()];
+    if is_wanted {
+        let counts = optimum_counts(alloc, string, frames)?;
+        let floors = as_asked(alloc, counts.as_slice())?;
+        return Ok(floors);
     }
-    let counts = optimum_counts(alloc, string, frames)?;
-    as_asked(alloc, counts.as_slice())
+    let floors = not_asked(alloc, frames)?;
+    Ok(floors)
 }
 
 /// What a string misses with so many frames, where it is told what the optimum does.

@@ -1,0 +1,12 @@
+-- The counts are told where they are asked for, and else none.
+use Rattle.std.proofs.Common.{◌∙◌, List, ℕ, Some, map, ap}
+use Rattle.miss_counts.proofs.Floors.{floors_all, floors_none}
+use Rattle.miss_counts.proofs.counts.floors_if.Goals as goal
+
+pub returns-then-is_wanted : goal.returns-then-is_wanted
+returns-then-is_wanted c =
+    floors_all c.args.is_wanted c.args.string.now c.args.frames.now c.in_ok-counts.counts.items c.in_ok-floors.floors.items c.if-is_wanted.true c.in_ok-counts.ensures
+    (c.in_ok-floors.ensures ∙ ap (λ (l : List ℕ). map (λ n. Some n) l) c.as_slice.ensures.value)
+
+pub returns : goal.returns
+returns c = floors_none c.args.is_wanted c.args.string.now c.args.frames.now c.in_ok-floors-2.floors.items c.if-is_wanted.false c.in_ok-floors-2.ensures

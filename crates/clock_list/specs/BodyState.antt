@@ -1,6 +1,6 @@
 -- The state that the fields of a body stand for.
-use Rattle.std.specs.Prelude.{◌<◌, length}
-use Rattle.clock_policy.specs.declared.key.Key.{Key}
+use Rattle.std.specs.Prelude.{◌≡◌, ◌<◌, length}
+use Rattle.clock_moves.specs.declared.found.Found.{Found}
 use Rattle.clock_list.specs.declared.body.Body.{Body}
 use Rattle.clock_policy.specs.ClockPro.{ClockState, place}
 
@@ -14,6 +14,6 @@ state_of b = record {
   test_hand = b.test_hand;
 }
 
--- the list has an entry of the key
-abbrev pub HasEntry : Body → Key → Type 0
-HasEntry b k = place k b.entries.items < length b.entries.items
+-- the entry's page stands at this place
+abbrev pub HoldsEntry : Body → Found → Type 0
+HoldsEntry b f = (f.at ≡ place f.entry.key b.entries.items) × (f.at < length b.entries.items)

@@ -2,6 +2,7 @@
 #![tactic(auto)]
 
 mod body;
+mod handed;
 mod list;
 mod rebuild;
 mod scan;

@@ -1,12 +1,15 @@
 //! The list as a vector.
 
-ghost use Rattle.std.specs.Prelude.{◌≡◌, ◌≢◌, ◌≤◌, ◌<◌, ◌*◌, ◌↔◌, ◌⊎◌, ℕ, IfOk, IfErr, OnOk, OnErr, IsOk, Ok, Err, slice_get, option_map};
-ghost use Rattle.clock_policy.specs.ClockPro.{opening_state, question_of, answered, admitted, restored, withdrawn, purged, purge_count};
+ghost use Rattle.std.specs.Prelude.{◌≡◌, ◌≢◌, ◌≤◌, ◌<◌, ◌*◌, ◌↔◌, ◌⊎◌, ℕ, IfOk, IfErr, OnOk, OnErr};
+ghost use Rattle.std.specs.Prelude.{IsOk, Ok, Err, slice_get, option_map};
+ghost use Rattle.clock_policy.specs.ClockPro.{opening_state, question_of, answered, admitted};
+ghost use Rattle.clock_policy.specs.ClockPro.{restored, withdrawn, purged, purge_count};
 ghost use Rattle.clock_policy.specs.Lawful.{Lawful};
 ghost use Rattle.clock_policy.specs.Bound.{answers_left, NothingResident};
 
 use crate::body::Body;
 use crate::scan::{kind_of, process_count};
+use clock_moves::{admit, answer, question, restore, withdraw};
 use clock_policy::{Bit, Clock, Entry, EntryKind, Key, Kind, NewRefusal, Refusal, Verdict};
 use machine_limits::{FEWEST_FRAMES, MOST_FRAMES};
 use std::alloc::{AllocError, Global};
@@ -51,11 +54,11 @@ impl Clock for ClockList {
     }
 
     fn question(&self) -> Option<Key> {
-        self.body.question()
+        question(&self.body)
     }
 
     fn answer(&mut self, bit: Bit) -> Result<Verdict, Refusal> {
-        self.body.answer(bit)
+        answer(&mut self.body, bit)
     }
 
     /// Never answers `NoMemory`.
@@ -67,7 +70,7 @@ impl Clock for ClockList {
         ensures frames { self.new.frames ≡ self.old.frames }
         ensures lawful { Lawful self.new }
     {
-        self.body.admit(key)
+        admit(&mut self.body, key)
     }
 
     /// Never answers `NoMemory`.
@@ -79,11 +82,11 @@ impl Clock for ClockList {
         ensures frames { self.new.frames ≡ self.old.frames }
         ensures lawful { Lawful self.new }
     {
-        self.body.restore(key)
+        restore(&mut self.body, key)
     }
 
     fn withdraw(&mut self, key: Key) -> Result<(), Refusal> {
-        self.body.withdraw(key)
+        withdraw(&mut self.body, key)
     }
 
     fn purge(&mut self, process: u32) -> u32 {

@@ -1,8 +1,11 @@
 //! A new list made from the old one, in a vector whose room is there.
 
-ghost use Rattle.std.specs.Prelude.{◌≡◌, ◌≤◌, ◌<◌, ◌+◌, ◌*◌, ℕ, length, take, drop, ◌++◌, ◌∷◌, [], not, filter, vec_len, vec_capacity};
+ghost use Rattle.std.specs.Prelude.{◌≡◌, ◌≤◌, ◌<◌, ◌+◌, ◌*◌, ℕ, length, take, drop, ◌++◌, ◌∷◌, []};
+ghost use Rattle.std.specs.Prelude.{not, filter, vec_len, vec_capacity};
 ghost use Rattle.std.specs.List.{list_any};
-ghost use Rattle.clock_policy.specs.ClockPro.{test_ended, tests_ended, trimmed_part, trimmed_tests, trimmed_list, round, hot_left, is_shadow, is_of_process};
+ghost use Rattle.clock_policy.specs.ClockPro.{test_ended, tests_ended, trimmed_part, trimmed_tests};
+ghost use Rattle.clock_policy.specs.ClockPro.{trimmed_list, round, hot_left, is_shadow};
+ghost use Rattle.clock_policy.specs.ClockPro.{is_of_process};
 
 use crate::scan::has_shadow;
 use clock_policy::{Bit, Entry, EntryKind};

@@ -2,7 +2,10 @@
 
 ghost use Rattle.std.specs.Prelude.{◌≡◌, ◌≤◌, ◌<◌, ℕ, length, find, true};
 ghost use Rattle.std.specs.List.{list_any};
-ghost use Rattle.clock_policy.specs.ClockPro.{hot_count, cold_count, shadow_count, test_count, place, place_of, round, found_key, stays_in, settled, is_hot, is_cold, is_shadow, kind_of, number, is_of_process};
+ghost use Rattle.clock_policy.specs.ClockPro.{hot_count, cold_count, shadow_count, test_count};
+ghost use Rattle.clock_policy.specs.ClockPro.{place, place_of, round, found_key, stays_in, settled};
+ghost use Rattle.clock_policy.specs.ClockPro.{is_hot, is_cold, is_shadow, has_key, kind_of, number};
+ghost use Rattle.clock_policy.specs.ClockPro.{is_of_process};
 
 use clock_policy::{Entry, EntryKind, Key};
 
@@ -69,6 +72,17 @@ pub(crate) fn kind_of(entries: &[Entry], key: Key) -> Option<EntryKind>
     ensures { result ≡ kind_of key entries.now }
 {
     entries.iter().find(|e| e.has_key(key)).map(|e| e.kind)
+}
+
+pub(crate) fn entry_of(entries: &[Entry], key: Key) -> Option<Entry>
+    ensures { result ≡ find (has_key key) entries.now }
+{
+    for e in entries {
+        if e.has_key(key) {
+            return Some(*e);
+        }
+    }
+    None
 }
 
 pub(crate) fn first_hot(entries: &[Entry]) -> Option<Entry>

@@ -1,7 +1,6 @@
 -- The counts through the single moves.
-use Rattle.std.specs.Prelude.{◌≡◌, ℕ, suc, ◌+◌, ◌*◌, ◌≤◌, ◌<◌, ◌==◌, false, List, [], ◌∷◌, ◌++◌, length, refl}
+use Rattle.std.specs.Prelude.{◌≡◌, ℕ, suc, ◌+◌, ◌≤◌, List, [], ◌∷◌, ◌++◌, length, refl}
 use Rattle.std.proofs.Common.{arith, ap}
-use Rattle.std.proofs.lemmas.Bool.Decides.{nat_tests}
 use Rattle.clock_policy.specs.declared.entry.EntryKind.{EntryKind}
 use Rattle.clock_policy.specs.ClockPro.{is_hot, is_cold, is_shadow, hot_count, cold_count, shadow_count}
 use Rattle.clock_policy.specs.LookupLaws.{length_is}
@@ -68,12 +67,3 @@ length_removed [] v c = omega arith
 length_removed (d ∷ ds) v c = omega (arith, length_removed ds v c)
 
 -- where not each frame has its page, the circle has room for one more
-pub room_left : (n : Counts) (cs : List Cell) (frames : ℕ) → Counted n cs → hot_count (entries_of cs) + cold_count (entries_of cs) ≤ frames → shadow_count (entries_of cs) ≤ frames →
-    ((hot_count (entries_of cs) + cold_count (entries_of cs)) == frames) ≡ false → length cs < 2 * frames
-room_left n cs frames h resident shadows missing =
-    let all : length (entries_of cs) ≡ hot_count (entries_of cs) + cold_count (entries_of cs) + shadow_count (entries_of cs) = length_is (entries_of cs) in
-    let less : hot_count (entries_of cs) + cold_count (entries_of cs) < frames = below (hot_count (entries_of cs) + cold_count (entries_of cs)) frames resident missing in
-    omega (arith, all, less, entries_length cs, shadows)
-  where
-    below : (m n : ℕ) → m ≤ n → (m == n) ≡ false → m < n
-    below m n h g = grind (arith, nat_tests)

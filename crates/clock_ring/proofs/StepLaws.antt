@@ -281,3 +281,12 @@ not_located k (c ∷ cs) h =
       | true ↦ λ g. cc
       | false ↦ λ g. not_located k cs g
     ] h
+
+-- a page that the list does not know has no cell
+pub no_cell : (k : Key) (cells : List Cell) → kind_of k (entries_of cells) ≡ None → at_of k cells ≡ None
+no_cell k [] h = refl
+no_cell k (c ∷ cs) h =
+    elim (has_key k c.entry) as (λ t. option_map (λ (x : Entry). x.kind) (cond t (Some c.entry) (find (has_key k) (entries_of cs))) ≡ None → cond t (Some c.at) (at_of k cs) ≡ None) [
+      | true ↦ λ g. cc
+      | false ↦ λ g. no_cell k cs g
+    ] h

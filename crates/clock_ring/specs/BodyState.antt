@@ -3,7 +3,7 @@ use Rattle.std.specs.Prelude.{◌≡◌, Some}
 use Rattle.clock_policy.specs.ClockPro.{ClockState}
 use Rattle.page_ring.specs.Index.{entries_of}
 use Rattle.clock_ring.specs.declared.body.Body.{Body}
-use Rattle.clock_ring.specs.declared.body.Found.{Found}
+use Rattle.clock_moves.specs.declared.found.Found.{Found}
 use Rattle.clock_ring.specs.RingState.{entry_at_node, hand_at}
 
 abbrev pub state_of : Body → ClockState

@@ -1,7 +1,8 @@
 //! The circle with its other two hands, and the policy's single moves on it.
 
-ghost use Rattle.std.specs.Prelude.{◌≡◌, ◌≤◌, ◌<◌, ◌*◌, ◌++◌, List, [], ◌∷◌, None, cond, ◌==◌, length, IfOk, IfSome, option_map};
-ghost use Rattle.clock_policy.specs.ClockPro.{opening_state, kind_of, removed, appended, marked, sent_to_end, grown, fallen, cold_hand_on, shadowed};
+ghost use Rattle.std.specs.Prelude.{◌≡◌, ◌≤◌, ◌<◌, ◌*◌, ◌++◌, List, [], ◌∷◌, None, cond, ◌==◌};
+ghost use Rattle.std.specs.Prelude.{length, IfOk};
+ghost use Rattle.clock_policy.specs.ClockPro.{opening_state, removed, appended, marked, fallen};
 ghost use Rattle.clock_policy.specs.FrameCounts.{least_frames, most_frames};
 ghost use Rattle.clock_policy.specs.SingleMoves.{front_turned, test_hand_on};
 ghost use Rattle.page_ring.specs.Linked.{Cell};
@@ -10,16 +11,10 @@ ghost use Rattle.page_ring.specs.Index.{at_of};
 ghost use Rattle.clock_ring.specs.RingState.{hand_at, Rests, Kept, Kept-prop};
 
 use crate::counts::Counts;
+use clock_moves::Found;
 use clock_policy::{Entry, EntryKind, Key};
 use page_ring::IndexedRing;
 use std::alloc::{AllocError, Global};
-
-/// An entry, and the node that holds it.
-#[derive(Clone, Copy, Debug)]
-pub(crate) struct Found {
-    pub(crate) at: usize,
-    pub(crate) entry: Entry,
-}
 
 /// The hot hand is the circle's front. The other two are nodes, and where there is no entry any numbers.
 #[derive(Drop)]
@@ -41,7 +36,7 @@ pub(crate) struct Body {
 }
 
 /// Where a hand rests once a node is out: on the next, if it stood there.
-fn after(hand: usize, at: usize, next: usize) -> usize
+pub(crate) fn after(hand: usize, at: usize, next: usize) -> usize
     ensures { result ≡ cond (hand == at) next hand }
 {
     if hand == at { next } else { hand }
@@ -125,27 +120,6 @@ impl Body {
         }
     }
 
-    /// An entry becomes the last, of this kind. A hand on it goes on to its next.
-    pub(crate) fn send_to_end(&mut self, found: Found, kind: EntryKind)
-        requires { HoldsEntry self.old found }
-        ensures moved { state_of self.new ≡ sent_to_end found.entry.key kind (state_of self.old) }
-    {
-        let next = self.ring.node(found.at).next;
-        self.ring.send_to_end(found.at, kind);
-        self.counts.take(found.entry.kind);
-        self.counts.put(kind);
-        self.cold_hand = after(self.cold_hand, found.at, next);
-        self.test_hand = after(self.test_hand, found.at, next);
-    }
-
-    #[tactic(auto, unfolding(clock_policy::specs::ClockPro::grown))]
-    #[inline(always)]
-    pub(crate) fn grow(&mut self)
-        ensures moved { state_of self.new ≡ grown (state_of self.old) }
-    {
-        self.share = (self.share + 1).min(self.frames - 1);
-    }
-
     #[tactic(auto, unfolding(clock_policy::specs::ClockPro::fallen))]
     pub(crate) fn fall(&mut self)
         ensures moved { state_of self.new ≡ fallen 1 (state_of self.old) }
@@ -154,32 +128,12 @@ impl Body {
         self.share = self.share.saturating_sub(1).max(1);
     }
 
-    pub(crate) fn set_cold_hand(&mut self, found: Found)
-        requires { HoldsEntry self.old found }
-        ensures moved { state_of self.new ≡ cold_hand_on found.entry.key (state_of self.old) }
-        ensures same { self.new.ring ≡ self.old.ring }
-    {
-        self.cold_hand = found.at;
-    }
-
     pub(crate) fn set_test_hand(&mut self, found: Found)
         requires { HoldsEntry self.old found }
         ensures moved { state_of self.new ≡ test_hand_on found.entry.key (state_of self.old) }
         ensures same { self.new.ring ≡ self.old.ring }
     {
         self.test_hand = found.at;
-    }
-
-    /// An entry becomes a shadow where it stands, and the cold hand goes to its next.
-    pub(crate) fn shadow(&mut self, found: Found)
-        requires { HoldsEntry self.old found }
-        ensures moved { state_of self.new ≡ shadowed found.entry.key (state_of self.old) }
-    {
-        let next = self.ring.node(found.at).next;
-        self.ring.mark(found.at, EntryKind::Shadow);
-        self.counts.take(found.entry.kind);
-        self.counts.put(EntryKind::Shadow);
-        self.cold_hand = next;
     }
 
     /// The page that a hand stands on.
@@ -203,21 +157,5 @@ impl Body {
         ensures { result ≡ (state_of self.now).test_hand }
     {
         self.key_at(self.test_hand)
-    }
-
-    /// The entry of a page.
-    #[inline(always)]
-    pub(crate) fn find(&self, key: Key) -> Option<Found>
-        ensures holds { IfSome result (λ found. HoldsEntry self.now found) }
-        ensures key { IfSome result (λ found. found.entry.key ≡ key) }
-        ensures kind { kind_of key (state_of self.now).entries ≡ option_map (λ found.
-            found.entry.kind) result }
-        ensures none { result ≡ None → at_of key self.now.ring.cells ≡ None }
-    {
-        let at = self.ring.find(key)?;
-        Some(Found {
-            at,
-            entry: self.ring.node(at).entry,
-        })
     }
 }

@@ -3,7 +3,7 @@
 
 mod body;
 mod counts;
-mod policy;
+mod handed;
 mod ring;
 mod scan;
 mod ways;

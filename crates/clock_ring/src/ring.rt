@@ -5,6 +5,7 @@ ghost use Rattle.clock_policy.specs.ClockPro.{admitted, restored};
 ghost use Rattle.clock_policy.specs.Lawful.{Lawful};
 
 use crate::body::Body;
+use clock_moves::{HandedList, admit, answer, question, restore, withdraw};
 use clock_policy::{Bit, Clock, Entry, EntryKind, Key, Kind, NewRefusal, Refusal, Verdict};
 use machine_limits::{FEWEST_FRAMES, MOST_FRAMES};
 use std::alloc::{AllocError, Global};
@@ -50,11 +51,11 @@ impl Clock for ClockRing {
     }
 
     fn question(&self) -> Option<Key> {
-        self.body.question()
+        question(&self.body)
     }
 
     fn answer(&mut self, bit: Bit) -> Result<Verdict, Refusal> {
-        self.body.answer(bit)
+        answer(&mut self.body, bit)
     }
 
     /// Never answers `NoMemory`.
@@ -67,7 +68,7 @@ impl Clock for ClockRing {
         ensures frames { self.new.frames ≡ self.old.frames }
         ensures lawful { Lawful self.new }
     {
-        self.body.admit(key)
+        admit(&mut self.body, key)
     }
 
     /// Never answers `NoMemory`.
@@ -79,11 +80,11 @@ impl Clock for ClockRing {
         ensures frames { self.new.frames ≡ self.old.frames }
         ensures lawful { Lawful self.new }
     {
-        self.body.restore(key)
+        restore(&mut self.body, key)
     }
 
     fn withdraw(&mut self, key: Key) -> Result<(), Refusal> {
-        self.body.withdraw(key)
+        withdraw(&mut self.body, key)
     }
 
     fn purge(&mut self, process: u32) -> u32 {

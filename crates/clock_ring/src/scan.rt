@@ -1,13 +1,16 @@
 //! What is read from the circle: the entry that the question names, and the entries from the front.
 
-ghost use Rattle.std.specs.Prelude.{◌≡◌, ◌≤◌, ◌+◌, ◌++◌, Some, None, true, length, find, slice_get, option_map, IfSome, OnOk, OnErr, IsOk, vec_len, vec_capacity};
-ghost use Rattle.clock_policy.specs.ClockPro.{asked_entry, question_of, asks_hot, is_hot, is_cold, hot_count, cold_count};
+ghost use Rattle.std.specs.Prelude.{◌≡◌, ◌≤◌, ◌+◌, ◌++◌, Some, None, true, length, find, slice_get};
+ghost use Rattle.std.specs.Prelude.{option_map, IfSome, OnOk, OnErr, IsOk, vec_len, vec_capacity};
+ghost use Rattle.clock_policy.specs.ClockPro.{asked_entry, asks_hot, is_hot, is_cold, hot_count};
+ghost use Rattle.clock_policy.specs.ClockPro.{cold_count};
 ghost use Rattle.page_ring.specs.Linked.{is_at};
 ghost use Rattle.page_ring.specs.Index.{entries_of};
 ghost use Rattle.clock_ring.specs.RingState.{entry_at_node, around};
 
-use crate::body::{Body, Found};
-use clock_policy::{Entry, Key};
+use crate::body::Body;
+use clock_moves::Found;
+use clock_policy::Entry;
 use page_ring::IndexedRing;
 use std::alloc::AllocError;
 
@@ -79,13 +82,6 @@ impl Body {
         } else {
             Some(first_cold(&self.ring, self.cold_hand))
         }
-    }
-
-    #[tactic(auto, unfolding(clock_policy::specs::ClockPro::question_of))]
-    pub(crate) fn question(&self) -> Option<Key>
-        ensures { result ≡ question_of (state_of self.now) }
-    {
-        self.asked_entry().map(|x| x.entry.key)
     }
 
     /// How many entries there are, two a frame at most.

@@ -1,15 +1,17 @@
 //! The ways of the hands: loops of single moves.
 
 ghost use Rattle.std.specs.Prelude.{◌≡◌, ◌≤◌, ◌++◌, List, ◌∷◌, false, length};
-ghost use Rattle.clock_policy.specs.ClockPro.{ClockState, place, is_shadow, shadow_count, turned_to, trimmed_once, trimmed, purged};
+ghost use Rattle.clock_policy.specs.ClockPro.{ClockState, place, is_shadow, shadow_count};
+ghost use Rattle.clock_policy.specs.ClockPro.{trimmed_once, purged};
 ghost use Rattle.clock_policy.specs.SingleMoves.{front_passed, fronts_passed, kind_ended};
 ghost use Rattle.clock_policy.specs.Lawful.{Lawful};
 ghost use Rattle.page_ring.specs.Linked.{Cell};
 ghost use Rattle.page_ring.specs.Chain.{of_kind};
 ghost use Rattle.clock_ring.specs.RingState.{passed_list, ended_kind};
 
-use crate::body::{Body, Found};
-use clock_policy::{Bit, EntryKind};
+use crate::body::Body;
+use clock_moves::Found;
+use clock_policy::EntryKind;
 
 impl Body {
     ghost use Rattle.clock_ring.specs.BodyState.{state_of, HoldsEntry};
@@ -41,7 +43,7 @@ impl Body {
     }
 
     /// The hot hand goes to an entry.
-    fn pass_fronts(&mut self, found: Found)
+    pub(crate) fn pass_fronts(&mut self, found: Found)
         requires { HoldsEntry self.old found }
         ensures moved { state_of self.new ≡ fronts_passed (place found.entry.key
             (state_of self.old).entries) (state_of self.old) }
@@ -53,23 +55,6 @@ impl Body {
                 return;
             }
             self.pass_front();
-        }
-    }
-
-    /// The hot hand goes to the hot entry, which is answered.
-    pub(crate) fn turn_to(&mut self, bit: Bit, hot: Found)
-        requires lawful { Lawful (state_of self.old) }
-        requires holds { HoldsEntry self.old hot }
-        ensures moved { state_of self.new ≡ turned_to bit hot.entry (state_of self.old) }
-    {
-        self.pass_fronts(hot);
-        match bit {
-            Bit::Zero => {
-                self.mark(hot, EntryKind::Cold);
-                self.turn();
-            }
-            Bit::One => self.turn(),
-            Bit::Gone => self.remove(hot),
         }
     }
 
@@ -90,7 +75,7 @@ impl Body {
     }
 
     /// From the test hand on each test ends, up to the first shadow, which goes.
-    fn trim_once(&mut self)
+    pub(crate) fn trim_once(&mut self)
         requires { 1 ≤ shadow_count (state_of self.old).entries }
         ensures moved { state_of self.new ≡ trimmed_once (state_of self.old) }
     {
@@ -109,15 +94,6 @@ impl Body {
             }
             self.end_test(passed);
             at = node.next;
-        }
-    }
-
-    #[tactic(auto, unfolding(clock_policy::specs::ClockPro::trimmed))]
-    pub(crate) fn trim(&mut self)
-        ensures moved { state_of self.new ≡ trimmed (state_of self.old) }
-    {
-        if self.counts.shadows > self.frames {
-            self.trim_once();
         }
     }
 

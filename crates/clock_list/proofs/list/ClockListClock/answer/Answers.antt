@@ -14,7 +14,7 @@ pub returns-clause-lawful : goal.returns-clause-lawful
 returns-clause-lawful c = rw c.answer.ensures.moved (answered_lawful c.args.bit (state_of c.self.inside.body) c.self.invariant)
 
 pub returns-clause-lowers : goal.returns-clause-lowers
-returns-clause-lowers c = λ on. rw (← c.self.view_is) (lowers_at c.args.bit (state_of c.self.inside.body) (state_of c.answer.new.self) c.answer.result c.self.invariant c.answer.ensures.moved c.answer.ensures.answer on)
+returns-clause-lowers c = λ on. rw (← c.self.view_is) (lowers_at c.args.bit (state_of c.self.inside.body) (state_of c.answer.new.list) c.answer.result c.self.invariant c.answer.ensures.moved c.answer.ensures.answer on)
 
 pub returns-clause-none : goal.returns-clause-none
 returns-clause-none c = rw (← c.self.view_is) (refused_nowhere c.args.bit (state_of c.self.inside.body) c.answer.result c.answer.ensures.answer)

@@ -17,4 +17,4 @@ returns-clause-frames c =
     ap (λ (t : ClockState). t.frames) c.withdraw.ensures.moved ∙ withdrawn_frames c.args.key (state_of c.self.inside.body) ∙ ap (λ (t : ClockState). t.frames) c.self.view_is
 
 pub returns-clause-no_more_left : goal.returns-clause-no_more_left
-returns-clause-no_more_left c = rw (← c.self.view_is) (withdrawn_left_at c.args.key (state_of c.self.inside.body) (state_of c.withdraw.new.self) c.withdraw.ensures.moved)
+returns-clause-no_more_left c = rw (← c.self.view_is) (withdrawn_left_at c.args.key (state_of c.self.inside.body) (state_of c.withdraw.new.list) c.withdraw.ensures.moved)

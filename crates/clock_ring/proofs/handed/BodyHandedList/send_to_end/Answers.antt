@@ -1,7 +1,7 @@
 use Rattle.clock_ring.proofs.MoveLaws.{found_at}
 use Rattle.clock_ring.proofs.StepLaws.{has_one_at, few_less, send_step}
 use Rattle.clock_ring.specs.BodyState.{state_of}
-use Rattle.clock_ring.proofs.body.Body.send_to_end.Goals as goal
+use Rattle.clock_ring.proofs.handed.BodyHandedList.send_to_end.Goals as goal
 
 pub node-next-requires : goal.node-next-requires
 node-next-requires c = found_at c.args.self.now.ring.cells c.args.found.at c.args.found.entry c.requires

@@ -1,6 +1,6 @@
 use Rattle.clock_ring.proofs.StepLaws.{cold_set_step}
 use Rattle.clock_ring.specs.BodyState.{state_of}
-use Rattle.clock_ring.proofs.body.Body.set_cold_hand.Goals as goal
+use Rattle.clock_ring.proofs.handed.BodyHandedList.set_cold_hand.Goals as goal
 
 pub invariant_of-self-clause-kept : goal.invariant_of-self-clause-kept
 invariant_of-self-clause-kept c =

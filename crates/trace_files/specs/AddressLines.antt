@@ -6,7 +6,6 @@ use Rattle.std.specs.Str.{bytes_eq}
 use Rattle.text_lines.specs.Text.{words_of}
 use Rattle.trace_files.specs.Ids.{id_to}
 use Rattle.trace_files.specs.PageLines.{is_comma}
-use Rattle.trace_files.specs.declared.address_lines.Access.{Access}
 use Rattle.trace_files.specs.declared.address_lines.AddressLine.{AddressLine}
 use Rattle.trace_files.specs.declared.address_lines.AddressLine.TheVariants.{Access as Accessed, Other}
 

@@ -3,6 +3,8 @@ pub mod IdLaws
 pub mod PageLines
 pub mod AddressLines
 pub mod AddressLineLaws
+pub mod References
+pub mod ReferenceAnswers
 pub mod Written
 pub mod WrittenLaws
 pub mod ReadBackLaws

@@ -1,12 +1,16 @@
 //! Traces in files: strings of references as other tools and `policies trace` write them, read as they come; and what is written of a string.
 #![tactic(auto)]
 
+mod accesses;
 mod address_lines;
 mod fault;
 mod format;
 mod laws;
 mod number_text;
 mod page_lines;
+mod pieces;
+mod reading;
+mod rows;
 mod trace_file;
 mod whole_trace;
 mod writing;

@@ -1,8 +1,29 @@
 //! Whole traces.
 
-ghost use Rattle.std.specs.Prelude.{◌≡◌, ◌≤◌, ◌<◌, true, length, IfOk};
+ghost use Rattle.std.specs.Prelude.{
+  ◌≡◌,
+  ◌≤◌,
+  ◌<◌,
+  ◌-◌,
+  ◌^◌,
+  true,
+  length,
+  filter,
+  map,
+  min,
+  IfErr,
+  IfOk,
+  IfSome,
+};
 ghost use Rattle.std.specs.List.{All};
 ghost use Rattle.whole_strings.specs.Sampling.{is_sampled};
+ghost use Rattle.trace_files.specs.References.{told};
+ghost use Rattle.trace_files.specs.ReferenceAnswers.{
+  ArePages,
+  IsWhole,
+  StopsBy,
+  to_come,
+};
 
 use crate::fault::TraceFault;
 use crate::trace_file::{BLOCK, TraceFile};
@@ -15,55 +36,66 @@ use std::num::NonZeroU32;
 use whole_strings::is_sampled;
 
 /// All pages of a trace. One with none is a fault.
+#[tactic(auto, using(crate::proofs::ManyTold::no_pages, crate::proofs::ManyTold::pages_joined, crate::proofs::ManyTold::all_pages, crate::proofs::ManyTold::empty_pages, crate::proofs::ManyTold::pages_stop))]
 pub fn read_whole<'a, B: BufRead + Drop, P: StageListener>(
     alloc: Global,
     trace: &mut TraceFile<'a, B>,
     progress: &mut P,
 ) -> Result<Vec<Key>, TraceFault<'a>>
-    ensures { IfOk result (λ string. 0 < length string.items) }
+    ensures some { IfOk result (λ string. 0 < length string.items) }
+    ensures whole { IfOk result (λ string. IfSome (to_come B.remaining trace.old) (ArePages
+        string.items)) }
+    ensures fault { IfErr result (λ fault. IfSome (to_come B.remaining trace.old) (StopsBy
+        fault)) }
 {
     let mut string = Vec::new(alloc);
     let mut block = Vec::new(alloc);
-    for _ in 0..u64::MAX {
+    'fills: for _ in 0..u64::MAX {
         trace.fill(&mut block, BLOCK)?;
         if block.is_empty() {
-            break;
+            if string.is_empty() {
+                return Err(TraceFault::Empty(trace.pieces.name));
+            }
+            return Ok(string);
         }
         if string.extend_from_slice(block.as_slice()).is_err() {
             return Err(TraceFault::NoMemory);
         }
         progress.tell(Stage::References(string.len() as u64));
     }
-    if string.is_empty() {
-        return Err(TraceFault::Empty(trace.name));
-    }
-    Ok(string)
+    // nothing says that a reader ends: std gives up after as many turns
+    Err(TraceFault::CannotRead(trace.pieces.name))
 }
 
 /// All references of a trace. One with none is a fault.
+#[tactic(auto, using(crate::proofs::ManyTold::no_references, crate::proofs::ManyTold::references_on, crate::proofs::ManyTold::all_references, crate::proofs::ManyTold::empty_references, crate::proofs::ManyTold::references_stop))]
 pub fn read_references<'a, B: BufRead + Drop, P: StageListener>(
     alloc: Global,
     trace: &mut TraceFile<'a, B>,
     progress: &mut P,
 ) -> Result<Vec<Reference>, TraceFault<'a>>
-    ensures { IfOk result (λ string. 0 < length string.items) }
+    ensures some { IfOk result (λ string. 0 < length string.items) }
+    ensures whole { IfOk result (λ string. IfSome (to_come B.remaining trace.old) (IsWhole
+        string.items)) }
+    ensures fault { IfErr result (λ fault. IfSome (to_come B.remaining trace.old) (StopsBy
+        fault)) }
 {
     let mut string = Vec::new(alloc);
-    for _ in 0..u64::MAX {
+    'references: for _ in 0..u64::MAX {
         let Some(reference) = trace.next()? else {
-            break;
+            if string.is_empty() {
+                return Err(TraceFault::Empty(trace.pieces.name));
+            }
+            return Ok(string);
         };
         if string.push(reference).is_err() {
             return Err(TraceFault::NoMemory);
         }
         progress.tell(Stage::References(string.len() as u64));
     }
-    if string.is_empty() {
-        return Err(TraceFault::Empty(trace.name));
-    }
-    Ok(string)
+    // nothing says that a reader ends: std gives up after as many turns
+    Err(TraceFault::CannotRead(trace.pieces.name))
 }
-
 /// The pages of a trace that are in a sample of one in so many, and how many references the whole trace has. One with none is a fault.
 pub fn read_sample<'a, B: BufRead + Drop, P: StageListener>(
     alloc: Global,
@@ -88,7 +120,7 @@ pub fn read_sample<'a, B: BufRead + Drop, P: StageListener>(
         }
     }
     if references == 0 {
-        return Err(TraceFault::Empty(trace.name));
+        return Err(TraceFault::Empty(trace.pieces.name));
     }
     Ok((sample, references))
 }

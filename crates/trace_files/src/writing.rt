@@ -4,7 +4,8 @@
 ghost use Rattle.std.specs.Prelude.{◌≡◌, ◌+◌, ◌<◌, ◌^◌, length, OnOk};
 ghost use Rattle.std.specs.Io.KnownBytes.{Appends};
 ghost use Rattle.page_policies.specs.NextUses.{next_uses};
-ghost use Rattle.trace_files.specs.Written.{id_of, csv_line, reference_line, next_time, short_time, record_bytes, records};
+ghost use Rattle.trace_files.specs.Written.{id_of, csv_line, reference_line, next_time, short_time};
+ghost use Rattle.trace_files.specs.Written.{record_bytes, records};
 
 use byteorder::{LittleEndian, WriteBytesExt};
 use clock_policy::Key;

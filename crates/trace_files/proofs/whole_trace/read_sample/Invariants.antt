@@ -1,4 +1,4 @@
-use Rattle.std.proofs.Common.{◌≡◌, ◌≤◌, length, true}
+use Rattle.std.proofs.Common.{◌≡◌, true}
 use Rattle.std.specs.List.{All}
 use Rattle.whole_strings.specs.Sampling.{is_sampled}
 use Rattle.trace_files.proofs.whole_trace.read_sample.Given as goal

@@ -1,5 +1,10 @@
-use Rattle.std.proofs.Common.{◌≤◌, length}
+use Rattle.std.proofs.Common.{◌≡◌, length}
+use Rattle.trace_files.specs.ReferenceAnswers.{TellsPages, to_come}
 use Rattle.trace_files.proofs.trace_file.TraceFile.fill.Given as goal
 
-abbrev pub invariant-loop : goal.invariant-loop
-invariant-loop g l = length l.block.items ≤ l.counter
+-- Each turn told a page.
+abbrev pub invariant-references : goal.invariant-references
+invariant-references g l = record {
+  few : length l.block.items ≡ l.counter;
+  told : TellsPages l.block.items (to_come g.B.Read.remaining l.initial.self) (to_come g.B.Read.remaining l.self);
+}

@@ -1,0 +1,7 @@
+use Rattle.trace_files.specs.References.{Trace}
+use Rattle.trace_files.specs.ReferenceAnswers.{Passes, addresses_left}
+use Rattle.trace_files.proofs.accesses.next_joined.Given as goal
+
+-- What was read is held.
+abbrev pub invariant-references : goal.invariant-references
+invariant-references g l = Passes (λ (rest : Trace). rest) (addresses_left g.B.Read.remaining l.format l.initial.held l.initial.due l.initial.pieces) (addresses_left g.B.Read.remaining l.format l.held l.due l.pieces)

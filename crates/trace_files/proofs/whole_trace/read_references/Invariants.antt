@@ -1,0 +1,6 @@
+use Rattle.trace_files.specs.ReferenceAnswers.{TellsReferences, to_come}
+use Rattle.trace_files.proofs.whole_trace.read_references.Given as goal
+
+-- The string has the references that were told.
+abbrev pub invariant-references : goal.invariant-references
+invariant-references g l = TellsReferences l.string.items (to_come g.B.Read.remaining l.initial.trace) (to_come g.B.Read.remaining l.trace)

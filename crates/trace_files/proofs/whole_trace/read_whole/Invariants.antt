@@ -1,0 +1,6 @@
+use Rattle.trace_files.specs.ReferenceAnswers.{TellsPages, to_come}
+use Rattle.trace_files.proofs.whole_trace.read_whole.Given as goal
+
+-- The string has the pages that were told.
+abbrev pub invariant-fills : goal.invariant-fills
+invariant-fills g l = TellsPages l.string.items (to_come g.B.Read.remaining l.initial.trace) (to_come g.B.Read.remaining l.trace)

@@ -1,0 +1,128 @@
+-- What readers of a trace answer, where the bytes are known that the file still holds.
+use Rattle.std.specs.Prelude.{◌≡◌, ℕ, ⊤, ◌++◌, Bool, true, false, List, [], ◌∷◌, map, Option, Some, None, Result, Ok, Err, IfSome, if◌then◌else◌}
+use Rattle.std.specs.Option.{option_map}
+use Rattle.text_lines.specs.Text.{lines_of}
+use Rattle.clock_policy.specs.declared.key.Key.{Key}
+use Rattle.guest_strings.specs.declared.reference.Reference.{Reference}
+use Rattle.trace_files.specs.References.{Flaw, NoIds, BadLine, IsText, BadRecord, Trace, Ends, Breaks, told, flaw_at_end, accesses, before, pieces_of, rows, table, addresses_from, is_of_addresses, pages_from}
+use Rattle.trace_files.specs.declared.fault.TraceFault.{TraceFault}
+use Rattle.trace_files.specs.declared.fault.TraceFault.TheVariants.{NoMemory, CannotRead, Empty, NoColumn, Line, Text, Record}
+use Rattle.trace_files.specs.declared.format.TraceFormat.{TraceFormat}
+use Rattle.trace_files.specs.declared.pieces.Pieces.{Pieces}
+use Rattle.trace_files.specs.declared.trace_file.TraceFile.{TraceFile}
+
+-- ---- lines and records
+
+-- the first of the pieces that bytes are cut into was taken; or there was none
+abbrev pub TakesPiece : (List ℕ → List (List ℕ)) → Bool → List ℕ → Option (List ℕ) → Option (List ℕ) → Type 0
+TakesPiece cut is_there piece None rest = ⊤
+TakesPiece cut is_there piece (Some bytes) None = ⊥
+TakesPiece cut true piece (Some bytes) (Some rest) = cut bytes ≡ piece ∷ cut rest
+TakesPiece cut false piece (Some bytes) (Some rest) = (cut bytes ≡ []) × (cut rest ≡ [])
+
+-- the reader of the file failed, or memory is wanted
+abbrev pub IsOutside : TraceFault → Type 0
+IsOutside NoMemory = ⊤
+IsOutside (CannotRead name) = ⊤
+IsOutside (Empty name) = ⊥
+IsOutside (NoColumn name) = ⊥
+IsOutside (Line number text) = ⊥
+IsOutside (Text name) = ⊥
+IsOutside (Record number size) = ⊥
+
+-- ---- references
+
+-- what is said of the flaw that a fault tells of; of one that comes from outside of the trace nothing is said
+abbrev pub Blames : TraceFault → (Flaw → Type 0) → Type 0
+Blames NoMemory P = ⊤
+Blames (CannotRead name) P = ⊤
+Blames (Empty name) P = ⊥
+Blames (NoColumn name) P = P NoIds
+Blames (Line number text) P = P (BadLine number)
+Blames (Text name) P = P IsText
+Blames (Record number size) P = P (BadRecord number size)
+
+-- a fault of the content stands where the trace breaks, and is that which breaks it
+abbrev pub BreaksBy : TraceFault → Trace → Type 0
+BreaksBy fault trace = Blames fault (λ flaw. trace ≡ Breaks flaw)
+
+-- what was to come is what is still to come, with something in front
+abbrev pub Passes : (Trace → Trace) → Option Trace → Option Trace → Type 0
+Passes ahead None rest = ⊤
+Passes ahead (Some trace) None = ⊥
+Passes ahead (Some trace) (Some rest) = trace ≡ ahead rest
+
+-- nothing was to come, and nothing is
+abbrev pub IsOver : Option Trace → Option Trace → Type 0
+IsOver None rest = ⊤
+IsOver (Some trace) None = ⊥
+IsOver (Some trace) (Some rest) = (trace ≡ Ends) × (rest ≡ Ends)
+
+-- An answer is what comes next, and is passed; there is none at the end of the trace; and a fault stands where the trace breaks.
+abbrev pub Tells : {A : Type 0} → (A → Trace → Trace) → Result (Option A) TraceFault → Option Trace → Option Trace → Type 0
+Tells gives (Ok (Some answer)) trace rest = Passes (gives answer) trace rest
+Tells gives (Ok None) trace rest = IsOver trace rest
+Tells gives (Err fault) trace rest = IfSome trace (BreaksBy fault)
+
+-- ---- what is still to come
+
+abbrev pub rows_left : {B : Type 0} → (B → Option (List ℕ)) → TraceFormat → ℕ → Pieces B → Option Trace
+rows_left remaining format column pieces = option_map (λ bytes. rows format column pieces.count (pieces_of format bytes)) (remaining pieces.file)
+
+abbrev pub table_left : {B : Type 0} → (B → Option (List ℕ)) → Pieces B → Option Trace
+table_left remaining pieces = option_map (λ bytes. table pieces.count (lines_of bytes)) (remaining pieces.file)
+
+abbrev pub accesses_left : {B : Type 0} → (B → Option (List ℕ)) → TraceFormat → Pieces B → Option Trace
+accesses_left remaining format pieces = option_map (λ bytes. accesses format pieces.count (lines_of bytes)) (remaining pieces.file)
+
+-- with a reference in front that is due
+abbrev pub due_left : {B : Type 0} → (B → Option (List ℕ)) → TraceFormat → Option Reference → Pieces B → Option Trace
+due_left remaining format due pieces = option_map (λ bytes. before due (accesses format pieces.count (lines_of bytes))) (remaining pieces.file)
+
+abbrev pub addresses_left : {B : Type 0} → (B → Option (List ℕ)) → TraceFormat → Option Reference → Option Reference → Pieces B → Option Trace
+addresses_left remaining format held due pieces = option_map (addresses_from format held due pieces.count) (remaining pieces.file)
+
+abbrev pub pages_left : {B : Type 0} → (B → Option (List ℕ)) → TraceFormat → ℕ → Pieces B → Option Trace
+pages_left remaining format column pieces = option_map (pages_from format column pieces.count) (remaining pieces.file)
+
+-- what a trace still tells
+abbrev pub to_come : {B : Type 0} → (B → Option (List ℕ)) → TraceFile B → Option Trace
+to_come remaining trace = if is_of_addresses trace.format then addresses_left remaining trace.format trace.held trace.second trace.pieces
+    else pages_left remaining trace.format trace.column trace.pieces
+
+-- ---- many references
+
+abbrev pub page_of : Reference → Key
+page_of reference = reference.page
+
+-- pages were told, and others are still to come
+abbrev pub TellsPages : List Key → Option Trace → Option Trace → Type 0
+TellsPages pages None rest = ⊤
+TellsPages pages (Some trace) None = ⊥
+TellsPages pages (Some trace) (Some rest) = (map page_of (told trace) ≡ pages ++ map page_of (told rest)) × (flaw_at_end trace ≡ flaw_at_end rest)
+
+abbrev pub TellsReferences : List Reference → Option Trace → Option Trace → Type 0
+TellsReferences references None rest = ⊤
+TellsReferences references (Some trace) None = ⊥
+TellsReferences references (Some trace) (Some rest) = (told trace ≡ references ++ told rest) × (flaw_at_end trace ≡ flaw_at_end rest)
+
+-- a fault of the content is that at the end of the trace
+abbrev pub EndsBy : TraceFault → Trace → Type 0
+EndsBy fault trace = Blames fault (λ flaw. flaw_at_end trace ≡ Some flaw)
+
+-- the same of one that may tell that there are no references
+abbrev pub StopsBy : TraceFault → Trace → Type 0
+StopsBy NoMemory trace = ⊤
+StopsBy (CannotRead name) trace = ⊤
+StopsBy (Empty name) trace = (told trace ≡ []) × (flaw_at_end trace ≡ None)
+StopsBy (NoColumn name) trace = EndsBy (NoColumn name) trace
+StopsBy (Line number text) trace = EndsBy (Line number text) trace
+StopsBy (Text name) trace = EndsBy (Text name) trace
+StopsBy (Record number size) trace = EndsBy (Record number size) trace
+
+-- a whole trace was told, without a flaw
+abbrev pub IsWhole : List Reference → Trace → Type 0
+IsWhole references trace = (told trace ≡ references) × (flaw_at_end trace ≡ None)
+
+abbrev pub ArePages : List Key → Trace → Type 0
+ArePages pages trace = (map page_of (told trace) ≡ pages) × (flaw_at_end trace ≡ None)

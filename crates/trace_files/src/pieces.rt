@@ -1,0 +1,104 @@
+//! Traces cut into lines or records, one after another.
+
+ghost use Rattle.std.specs.Prelude.{◌≡◌, Ok, IfErr, IfOk, OnOk};
+ghost use Rattle.text_lines.specs.Text.{lines_of};
+ghost use Rattle.trace_files.specs.References.{counted, pieces_of, records_of};
+ghost use Rattle.trace_files.specs.ReferenceAnswers.{IsOutside, TakesPiece};
+
+use crate::fault::TraceFault;
+use crate::format::TraceFormat;
+use crate::reading::{read_line, read_record};
+use std::alloc::Global;
+use std::io;
+use std::io::{BufRead, ErrorKind};
+
+/// A trace, line by line or record by record.
+#[derive(Drop)]
+pub(crate) struct Pieces<'a, B: BufRead> {
+    pub(crate) alloc: Global,
+    pub(crate) name: &'a str,
+    pub(crate) file: B,
+    /// the line or record that was read last
+    pub(crate) last: Vec<u8>,
+    /// how many lines or records were read
+    pub(crate) count: u64,
+}
+
+impl<'a, B: BufRead + Drop> Pieces<'a, B> {
+    pub(crate) fn new(alloc: Global, name: &'a str, file: B) -> Self
+        ensures file { result.file ≡ file }
+        ensures count { result.count ≡ 0 }
+    {
+        Pieces {
+            alloc,
+            name,
+            file,
+            last: Vec::new(alloc),
+            count: 0,
+        }
+    }
+
+    /// Reads the next line or record, if there is one.
+    pub(crate) fn read(&mut self, format: TraceFormat) -> Result<bool, TraceFault<'a>>
+        ensures taken { IfOk result (λ is_there. TakesPiece (pieces_of format) is_there
+            self.new.last.items (B.remaining self.old.file) (B.remaining self.new.file)) }
+        ensures counted { OnOk result (self.new.count ≡ counted self.old.count) }
+        ensures fault { IfErr result IsOutside }
+    {
+        match format {
+            TraceFormat::OracleGeneral => self.read_record(),
+            _ => self.read_line(),
+        }
+    }
+
+    /// Reads the next line, if there is one.
+    pub(crate) fn read_line(&mut self) -> Result<bool, TraceFault<'a>>
+        ensures taken { IfOk result (λ is_there. TakesPiece lines_of is_there
+            self.new.last.items (B.remaining self.old.file) (B.remaining self.new.file)) }
+        ensures counted { OnOk result (self.new.count ≡ counted self.old.count) }
+        ensures fault { IfErr result IsOutside }
+    {
+        let read = read_line(&mut self.file, &mut self.last);
+        one_more(read, &mut self.count, self.name)
+    }
+
+    /// Reads the next record, if there is one; at the end of the trace perhaps a part of one.
+    fn read_record(&mut self) -> Result<bool, TraceFault<'a>>
+        ensures taken { IfOk result (λ is_there. TakesPiece records_of is_there
+            self.new.last.items (B.remaining self.old.file) (B.remaining self.new.file)) }
+        ensures counted { OnOk result (self.new.count ≡ counted self.old.count) }
+        ensures fault { IfErr result IsOutside }
+    {
+        let read = read_record(&mut self.file, &mut self.last);
+        one_more(read, &mut self.count, self.name)
+    }
+}
+
+/// Counts what was read: one line or record more.
+fn one_more<'a>(
+    read: io::Result<bool>,
+    count: &mut u64,
+    name: &'a str,
+) -> Result<bool, TraceFault<'a>>
+    ensures same { IfOk result (λ is_there. read ≡ Ok is_there) }
+    ensures counted { OnOk result (count.new ≡ counted count.old) }
+    ensures fault { IfErr result IsOutside }
+{
+    match read {
+        Ok(is_there) => {
+            *count = count.saturating_add(1);
+            Ok(is_there)
+        }
+        Err(error) => Err(fault_of(&error, name)),
+    }
+}
+
+/// What an error of a file's reader is.
+fn fault_of<'a>(error: &io::Error, name: &'a str) -> TraceFault<'a>
+    ensures { IsOutside result }
+{
+    match error.kind() {
+        ErrorKind::OutOfMemory => TraceFault::NoMemory,
+        _ => TraceFault::CannotRead(name),
+    }
+}

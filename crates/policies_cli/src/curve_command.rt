@@ -1,5 +1,6 @@
 //! `policies curve`: what a trace misses with every number of frames.
 
+use crate::curve_string::curve_string;
 use crate::request::CurveRequest;
 use crate::table::{write_curve, write_estimate};
 use crate::teller::Teller;
@@ -11,7 +12,7 @@ use std::alloc::{AllocError, Global};
 use std::io::Write;
 use std::num::NonZeroU32;
 use std::rt::Files;
-use trace_files::{open_trace, read_sample, read_whole};
+use trace_files::{open_trace, read_sample};
 use whole_strings::{lru_curve, optimum_curve};
 
 /// Counts a trace, and writes a row for each number of frames up to as many as it has pages, or for each window.
@@ -38,11 +39,7 @@ fn count<'a, R: Files + AllocGlobal, W: Write, E: Write>(
     err: &mut E,
 ) -> Result<(), Wrong<'a>> {
     let alloc = rt.alloc();
-    let mut trace = open_trace(rt, request.trace, request.format)?;
-    let mut teller = Teller::new(err, request.printing.is_told);
-    let read = read_whole(alloc, &mut trace, &mut teller);
-    teller.erase();
-    let string = read?;
+    let string = curve_string(rt, request, err)?;
     let lru = lru_curve(alloc, string.as_slice())?;
     let optimum = if request.has_optimum {
         optimum_of(alloc, string.as_slice(), lru.len())?

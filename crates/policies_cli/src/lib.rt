@@ -4,6 +4,7 @@
 mod access_choice;
 mod commands;
 mod curve_command;
+mod curve_string;
 mod frame_lists;
 mod guests;
 mod misses_command;

@@ -1,13 +1,12 @@
 //! `policies curve --working-sets`: the working sets of a trace with every window.
 
+use crate::curve_string::curve_string;
 use crate::request::{CurveRequest, Printing};
 use crate::table::{part_of, write_ratio};
-use crate::teller::Teller;
 use crate::wrong::Wrong;
 use std::io;
 use std::io::Write;
 use std::rt::Files;
-use trace_files::{open_trace, read_whole};
 use whole_strings::{WindowCounts, window_curve};
 
 /// Counts the working sets of a whole trace, and writes a row for each window up to the one with which each page misses once.
@@ -17,13 +16,8 @@ pub(crate) fn run_windows<'a, R: Files + AllocGlobal, W: Write, E: Write>(
     out: &mut W,
     err: &mut E,
 ) -> Result<(), Wrong<'a>> {
-    let alloc = rt.alloc();
-    let mut trace = open_trace(rt, request.trace, request.format)?;
-    let mut teller = Teller::new(err, request.printing.is_told);
-    let read = read_whole(alloc, &mut trace, &mut teller);
-    teller.erase();
-    let string = read?;
-    let curve = window_curve(alloc, string.as_slice())?;
+    let string = curve_string(rt, request, err)?;
+    let curve = window_curve(rt.alloc(), string.as_slice())?;
     write_windows(curve.as_slice(), string.len() as u64, request.printing, out)?;
     Ok(())
 }

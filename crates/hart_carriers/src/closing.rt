@@ -1,6 +1,7 @@
 //! What a machine has come to whose threads were joined.
 
-ghost use Rattle.std.specs.Prelude.{◌≡◌, ◌+◌, ◌≤◌, ◌↔◌, length, map, vec_len, vec_capacity, [], true, IsTrue};
+ghost use Rattle.std.specs.Prelude.{◌≡◌, ◌+◌, ◌≤◌, ◌↔◌, length, map, vec_len, vec_capacity, []};
+ghost use Rattle.std.specs.Prelude.{true, IsTrue};
 ghost use Rattle.machine_sides.specs.Reporting.{Counts};
 ghost use Rattle.held_machine.specs.Audit.{IsSound, AgreeEverywhere};
 ghost use Rattle.machine_limits.specs.Limits.{most_processes};

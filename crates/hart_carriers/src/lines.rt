@@ -1,4 +1,5 @@
-ghost use Rattle.std.specs.Prelude.{◌≡◌, ◌≤◌, ◌<◌, ◌&&◌, length, map, vec_len, vec_capacity, [], true};
+ghost use Rattle.std.specs.Prelude.{◌≡◌, ◌≤◌, ◌<◌, ◌&&◌, length, map, vec_len, vec_capacity, []};
+ghost use Rattle.std.specs.Prelude.{true};
 ghost use Rattle.hart_carriers.specs.FlatLines.{counts_of, StandsForRuns};
 ghost use Rattle.hart_carriers.specs.Telling.{Adds};
 

@@ -1,6 +1,7 @@
 //! Whole runs of machines by threads.
 
-ghost use Rattle.std.specs.Prelude.{◌≡◌, ◌+◌, ◌<◌, ◌≤◌, ◌⊎◌, ◌↔◌, length, map, vec_len, true, is_some, IfOk, OnOk, IsErrOf};
+ghost use Rattle.std.specs.Prelude.{◌≡◌, ◌+◌, ◌<◌, ◌≤◌, ◌⊎◌, ◌↔◌, length, map, vec_len, true};
+ghost use Rattle.std.specs.Prelude.{is_some, IfOk, OnOk, IsErrOf};
 ghost use Rattle.hart_carriers.specs.Ending.{EndsSound, HaveEnded, IsCrewOf, IsReportOf, ShowLines};
 ghost use Rattle.machine_limits.specs.Limits.{most_processes};
 ghost use Rattle.hart_carriers.specs.FlatLines.{counts_of, starts_of, StandsForRuns};

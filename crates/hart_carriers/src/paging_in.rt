@@ -3,6 +3,7 @@
 use crate::seats::{EMPTY, Lack, Seat};
 use clock_policy::{Clock, Key};
 use flat_machine::KillCause;
+use hart_signals::PageWait;
 use machine_limits::MOST_LOAD_FAULTS;
 use machine_sides::NotAdmitted;
 use paged_memory::PageInFault;
@@ -51,9 +52,13 @@ pub(crate) fn bring_in<L: Ledger, S: SwapSlot, C: Clock, G: Gate, R: Wait>(
         let vpn = lack.vpn;
         match try_page(rt, shared, gate, Key { process, vpn }) {
             Try::Done => {
+                if seat.hungry {
+                    seat.served = true;
+                    locks.count_page(worker);
+                }
                 seat.lack = None;
                 seat.hungry = false;
-                locks.set_paging(process, hart, false);
+                locks.set_wait(process, hart, PageWait::Nothing);
                 return !is_spent(rt, locks, process);
             }
             Try::Ended => {
@@ -62,18 +67,18 @@ pub(crate) fn bring_in<L: Ledger, S: SwapSlot, C: Clock, G: Gate, R: Wait>(
             }
             Try::NoFrame => {
                 seat.lack = Some(Lack {
-                    told: true,
+                    told: false,
                     tried: Some(rings),
                     ..lack
                 });
                 seat.hungry = true;
-                locks.set_paging(process, hart, true);
+                locks.set_wait(process, hart, PageWait::Frame);
                 locks.set_hungry(worker, true);
                 return false;
             }
             // It may have come or gone before it was known that the hart waits for that: so it is tried for once more.
             Try::NotYet if !lack.told => {
-                locks.set_paging(process, hart, true);
+                locks.set_wait(process, hart, PageWait::Page);
                 seat.lack = Some(Lack { told: true, ..lack });
             }
             Try::NotYet => {

@@ -8,7 +8,7 @@ pub(crate) struct Lack {
     pub vpn: u32,
     /// How often it could not be loaded, in a row.
     pub faults: u32,
-    /// Whether others know that the hart waits for it.
+    /// Whether others know that the hart waits for it to come or go.
     pub told: bool,
     /// How often the worker's bell had rung before the page was tried for last, where that has to be done again.
     pub tried: Option<u64>,
@@ -22,6 +22,8 @@ pub(crate) struct Seat {
     pub lack: Option<Lack>,
     /// Whether it waits for a frame.
     pub hungry: bool,
+    /// Whether a page came in for which it had waited so, and no instruction has run since.
+    pub served: bool,
 }
 
 impl Seat {
@@ -44,6 +46,7 @@ pub(crate) const EMPTY: Seat = Seat {
     left: 0,
     lack: None,
     hungry: false,
+    served: false,
 };
 
 /// A seat for each hart that a machine may have.

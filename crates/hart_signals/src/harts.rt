@@ -3,20 +3,33 @@
 use machine_limits::MOST_HARTS;
 use std::sync::atomic::{AtomicU64, Ordering};
 
-/// What is added to a hart's word where its last turn ended by a yield, and where it waits for a page.
+/// What a hart waits for that lacks a page.
+#[derive(Clone, Copy, Debug, PartialEq, Eq)]
+pub enum PageWait {
+    /// It lacks none.
+    Nothing,
+    /// That its page has come or gone.
+    Page,
+    /// A free frame.
+    Frame,
+}
+
+/// What is added to a hart's word where its last turn ended by a yield, where it waits for its page to come or go, and for a frame.
 const YIELDED: u64 = 1;
 
-const PAGING: u64 = 2;
+const PAGE: u64 = 2;
+
+const FRAME: u64 = 4;
 
 /// What is added to a word for each turn.
-const TURN: u64 = 4;
+const TURN: u64 = 8;
 
 /// One hart.
 #[derive(Drop)]
 struct Hart {
     /// Above 0 where it is live, and its process goes on.
     live: AtomicU64,
-    /// When its last turn ended, whether that was by a yield, and whether the hart waits for a page. Its own carrier alone writes it.
+    /// When its last turn ended, whether that was by a yield, and what the hart waits for. Its own carrier alone writes it.
     word: AtomicU64,
 }
 
@@ -115,12 +128,17 @@ impl Harts {
 
     /// Whether a hart may be carried and does not wait for a page.
     pub(crate) fn may_go_on(&self, number: u32) -> bool {
-        self.word(number) & PAGING == 0 && self.may_run(number)
+        self.word(number) & (PAGE | FRAME) == 0 && self.may_run(number)
     }
 
-    /// Whether a hart is live and waits, for the others to have their turns or for a page.
+    /// Whether a hart is live and waits, for the others to have their turns, for its page or for a frame.
     pub(crate) fn waits(&self, number: u32) -> bool {
-        self.is_live(number) && self.word(number) & (YIELDED + PAGING) != 0
+        self.is_live(number) && self.word(number) & (YIELDED | PAGE | FRAME) != 0
+    }
+
+    /// Whether a hart is live and waits, for the others to have their turns or for its page to come or go.
+    pub(crate) fn waits_for_page(&self, number: u32) -> bool {
+        self.is_live(number) && self.word(number) & (YIELDED | PAGE) != 0
     }
 
     /// A hart's turn is over, by a yield or otherwise.
@@ -130,13 +148,14 @@ impl Harts {
         self.set_word(number, if yielded { word | YIELDED } else { word });
     }
 
-    /// A hart waits for a page, or does so no more.
-    pub(crate) fn set_paging(&self, number: u32, paging: bool) {
+    /// What a hart waits for by now.
+    pub(crate) fn set_wait(&self, number: u32, wait: PageWait) {
         let word = self.word(number);
-        let now = if paging {
-            word | PAGING
-        } else {
-            word & !PAGING
+        let rest = word & !(PAGE | FRAME);
+        let now = match wait {
+            PageWait::Nothing => rest,
+            PageWait::Page => rest | PAGE,
+            PageWait::Frame => rest | FRAME,
         };
         if now != word {
             self.set_word(number, now);

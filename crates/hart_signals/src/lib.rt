@@ -6,7 +6,10 @@
 
 mod bell;
 mod harts;
+mod offers;
 mod signals;
 
 pub use bell::Bell;
+pub use harts::PageWait;
+pub use offers::Offers;
 pub use signals::Signals;

@@ -1,7 +1,8 @@
 //! What is told of each process and each worker.
 
 use crate::bell::Bell;
-use crate::harts::Harts;
+use crate::harts::{Harts, PageWait};
+use crate::offers::{Offers, Progress};
 use machine_limits::MOST_HARTS;
 use std::alloc::{AllocError, Global};
 use std::sync::atomic::{AtomicU64, Ordering};
@@ -26,17 +27,43 @@ impl Signs {
     }
 }
 
-/// A worker's bell, and whether a hart that it carries waits for a frame.
+/// A worker's bell, whether a hart that it carries waits for a frame, and how far they have come. The worker alone writes the two counts.
 #[derive(Drop)]
 struct Station {
     bell: Bell,
     hungry: AtomicU64,
+    runs: AtomicU64,
+    pages: AtomicU64,
 }
 
 impl Station {
+    fn new() -> Self {
+        Station {
+            bell: Bell::new(),
+            hungry: AtomicU64::new(0),
+            runs: AtomicU64::new(0),
+            pages: AtomicU64::new(0),
+        }
+    }
+
     fn is_hungry(&self) -> bool {
         self.hungry.load(Ordering::SeqCst) != 0
     }
+
+    fn progress(&self) -> Progress {
+        Progress {
+            runs: self.runs.load(Ordering::SeqCst),
+            pages: self.pages.load(Ordering::SeqCst),
+        }
+    }
+}
+
+/// Raises a count that no other thread writes.
+fn raise(count: &AtomicU64) {
+    count.store(
+        count.load(Ordering::SeqCst).wrapping_add(1),
+        Ordering::SeqCst,
+    );
 }
 
 /// What the threads of a machine tell one another. Hart `h` of process `p` falls to worker `(p + h) % workers`.
@@ -47,8 +74,6 @@ pub struct Signals {
     workers: Vec<Station>,
     /// How many processes have ended.
     ended: AtomicU64,
-    /// Which worker is offered a frame first.
-    next: AtomicU64,
 }
 
 impl Signals {
@@ -59,7 +84,6 @@ impl Signals {
             daemon: Bell::new(),
             workers: Vec::new(alloc),
             ended: AtomicU64::new(0),
-            next: AtomicU64::new(0),
         }
     }
 
@@ -76,10 +100,7 @@ impl Signals {
     /// So many workers more, of the next numbers.
     pub fn add_workers(&mut self, count: u32) -> Result<(), AllocError> {
         for _ in 0..count {
-            self.workers.push(Station {
-                bell: Bell::new(),
-                hungry: AtomicU64::new(0),
-            })?;
+            self.workers.push(Station::new())?;
         }
         Ok(())
     }
@@ -150,13 +171,14 @@ impl Signals {
         }
     }
 
-    /// A page of a process has come or gone: rings for each hart that waits.
+    /// A page of a process has come or gone: rings for each hart that waits, but those that wait for a frame: what has left its frame is another
+    /// page than theirs, and whoever is offered that frame is to find it.
     pub fn tell_page(&self, process: u32) {
         let Some(harts) = self.harts(process) else {
             return;
         };
         for hart in 0..MOST_HARTS as u32 {
-            if harts.waits(hart) {
+            if harts.waits_for_page(hart) {
                 self.ring(process, hart);
             }
         }
@@ -242,11 +264,11 @@ impl Signals {
         }
     }
 
-    /// A hart waits for a page, or does so no more.
-    pub fn set_paging(&self, process: u32, hart: u32, paging: bool) {
+    /// What a hart waits for by now.
+    pub fn set_wait(&self, process: u32, hart: u32, wait: PageWait) {
         if let Some(signs) = self.processes.get(process as usize) {
-            signs.harts.set_paging(hart, paging);
-            if paging {
+            signs.harts.set_wait(hart, wait);
+            if wait != PageWait::Nothing {
                 signs.tell_watcher(&self.daemon);
             }
         }
@@ -280,22 +302,60 @@ impl Signals {
         false
     }
 
-    /// So many frames are free: rings for as many workers that have a hart which waits for one, another one first each time.
-    pub fn offer(&self, frames: usize) {
-        let workers = self.workers.len() as u64;
-        if workers == 0 || frames == 0 {
+    /// Instructions of a hart that a worker carries have run, for which a page had come in.
+    pub fn count_run(&self, worker: u32) {
+        if let Some(station) = self.workers.get(worker as usize) {
+            raise(&station.runs);
+        }
+    }
+
+    /// A page has come in for a hart that a worker carries, which had waited for a frame.
+    pub fn count_page(&self, worker: u32) {
+        if let Some(station) = self.workers.get(worker as usize) {
+            raise(&station.pages);
+        }
+    }
+
+    /// So many frames are free: rings for as many workers that have a hart which waits for one. The first of last time is so again until an
+    /// instruction of it has run; then it is the next one that waits.
+    pub fn offer(&self, frames: usize, offers: &mut Offers) {
+        if frames == 0 {
             return;
         }
-        let first = self.next.fetch_add(1, Ordering::SeqCst) % workers;
+        let Some(first) = self.first(offers) else {
+            return;
+        };
+        let workers = self.workers.len() as u64;
         let mut left = frames;
         for step in 0..workers {
             if left == 0 {
                 return;
             }
-            if self.offer_to((first + step) % workers) {
+            if self.offer_to((first % workers + step) % workers) {
                 left -= 1;
             }
         }
+    }
+
+    /// The worker to be offered a frame first, of those that have a hart which waits for one.
+    fn first(&self, offers: &mut Offers) -> Option<u64> {
+        if let Some(station) = self.workers.get(offers.first as usize) {
+            if station.is_hungry() && offers.stays(station.progress()) {
+                return Some(offers.first);
+            }
+        }
+        let workers = self.workers.len() as u64;
+        for step in 1..=workers {
+            let worker = (offers.first % workers + step) % workers;
+            if let Some(station) = self.workers.get(worker as usize) {
+                if station.is_hungry() {
+                    offers.first = worker;
+                    offers.since = station.progress();
+                    return Some(worker);
+                }
+            }
+        }
+        None
     }
 
     /// Rings for a worker where it has a hart that waits for a frame. Answers whether it has.

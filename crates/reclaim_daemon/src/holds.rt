@@ -151,8 +151,8 @@ impl<L: Ledger, S: SwapSlot, C: Clock> Shared<L, S, C> {
         job: SavedJob<S>,
     ) -> Option<HoldOfBoth<L, S, C, Option<SaveReply<S>>>>
         ensures none { IsNone result ↔ (self.now.processes ≤ job.process) }
-        ensures some { IfSome result (λ hold. SavesHeld job hold.desk.before.value hold.desk.after.value
-            hold.process.before.value hold.process.after.value hold.reply) }
+        ensures some { IfSome result (λ hold. SavesHeld job hold.desk.before.value
+            hold.desk.after.value hold.process.before.value hold.process.after.value hold.reply) }
     {
         let process = job.process();
         let lock = self.locks.get(process)?;

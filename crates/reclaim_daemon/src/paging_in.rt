@@ -56,8 +56,8 @@ impl<L: Ledger, S: SwapSlot, C: Clock> Shared<L, S, C> {
         key: Key,
     ) -> Option<HoldOfPager<L, S, C, Option<Result<Admission<L>, NotAdmitted>>>>
         ensures none { IsNone result ↔ (self.now.processes ≤ key.process) }
-        ensures some { IfSome result (λ hold. AdmitsOrNot hold.desk.before.value hold.desk.after.value
-            hold.process.value key hold.reply) }
+        ensures some { IfSome result (λ hold. AdmitsOrNot hold.desk.before.value
+            hold.desk.after.value hold.process.value key hold.reply) }
     {
         let lock = self.locks.get(key.process)?;
         let (mut desk, held) = self.lock_both(rt, lock);
@@ -84,8 +84,8 @@ impl<L: Ledger, S: SwapSlot, C: Clock> Shared<L, S, C> {
         admission: Admission<L>,
     ) -> Option<HoldOfPager<L, S, C, Undone<L>>>
         ensures none { IsNone result ↔ (self.now.processes ≤ admission.key.process) }
-        ensures some { IfSome result (λ hold. UndoesHeld hold.desk.before.value hold.desk.after.value
-            hold.process.value admission hold.reply) }
+        ensures some { IfSome result (λ hold. UndoesHeld hold.desk.before.value
+            hold.desk.after.value hold.process.value admission hold.reply) }
     {
         let number = admission.key().process;
         let lock = self.locks.get(number)?;

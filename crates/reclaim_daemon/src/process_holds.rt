@@ -4,7 +4,8 @@
 
 ghost use Rattle.std.specs.Prelude.{◌≡◌, ◌≤◌, ◌↔◌, nat_le, IfSome, IsNone, Some};
 ghost use Rattle.held_process.specs.Cleaning.{BeginsWhere, CleansWhere};
-ghost use Rattle.held_process.specs.Holding.{RunsWhere, NoticesWhere, KillsNumberWhere, KillsSpentWhere};
+ghost use Rattle.held_process.specs.Holding.{RunsWhere, NoticesWhere, KillsNumberWhere};
+ghost use Rattle.held_process.specs.Holding.{KillsSpentWhere};
 
 use crate::holds::Change;
 use crate::process_locks::ProcessLocks;

@@ -2,7 +2,8 @@
 //!
 //! Neither the pager nor the slots can be reached from here: who is lent this part of a machine can take no lock but a process's.
 
-ghost use Rattle.std.specs.Prelude.{◌≡◌, ◌+◌, ◌≤◌, ◌↔◌, [], vec_len, vec_capacity, OnOk, OnErr, IfOk, IsErrOf, IsNone};
+ghost use Rattle.std.specs.Prelude.{◌≡◌, ◌+◌, ◌≤◌, ◌↔◌, [], vec_len, vec_capacity, OnOk, OnErr};
+ghost use Rattle.std.specs.Prelude.{IfOk, IsErrOf, IsNone};
 ghost use Rattle.elf_image.specs.Start.{start_of};
 ghost use Rattle.machine_limits.specs.Limits.{most_processes};
 ghost use Rattle.machine_sides.specs.Starting.{Begins};

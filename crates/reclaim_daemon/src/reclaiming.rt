@@ -15,6 +15,7 @@ use crate::waiting::Room;
 use crate::writing_ahead::{Ahead, PAUSE_MILLIS, Rest};
 use clock_policy::{Clock, Key};
 use flat_machine::KillCause;
+use hart_signals::Offers;
 use held_machine::{Collection, SaveReply};
 use machine_limits::{MOST_HARTS, MOST_PROCESSES};
 use machine_sides::Swept;
@@ -40,6 +41,7 @@ pub fn daemon<L: Ledger, S: SwapSlot, C: Clock, G: Gate, R: Wait>(
     let is_ahead = shared.is_ahead();
     let mut ahead = Ahead::new();
     let mut offered = None;
+    let mut offers = Offers::new();
     for _ in rt.forever() {
         let calls = shared.locks().signals().daemon().rings();
         let has_ended = shared.locks().has_ended();
@@ -51,7 +53,7 @@ pub fn daemon<L: Ledger, S: SwapSlot, C: Clock, G: Gate, R: Wait>(
         // Once: a frame that was offered waits for whoever was called, however often the daemon looks meanwhile.
         if offered != Some((calls, room.free)) {
             offered = Some((calls, room.free));
-            shared.locks().signals().offer(room.free);
+            shared.locks().signals().offer(room.free, &mut offers);
         }
         if room.wants_frames {
             if !make_room(rt, shared, viewers, gate, calls) {

@@ -1,6 +1,7 @@
 //! The locks of a machine.
 
-ghost use Rattle.std.specs.Prelude.{◌≡◌, ◌+◌, ◌*◌, ◌≤◌, ◌↔◌, [], false, true, vec_len, vec_capacity, OnOk, OnErr, IfOk, IsErrOf};
+ghost use Rattle.std.specs.Prelude.{◌≡◌, ◌+◌, ◌*◌, ◌≤◌, ◌↔◌, [], false, true, vec_len};
+ghost use Rattle.std.specs.Prelude.{vec_capacity, OnOk, OnErr, IfOk, IsErrOf};
 ghost use Rattle.elf_image.specs.Start.{start_of};
 ghost use Rattle.machine_limits.specs.Limits.{most_processes};
 ghost use Rattle.machine_sides.specs.Starting.{Begins};
@@ -39,7 +40,12 @@ impl<L: Ledger, S: SwapSlot, C: Clock> Model for Shared<L, S, C> {
 
     ghost Value = { SharedValue };
 
-    ghost view = { λ s. record { processes = s.locks.processes; slots = s.slot_count; most_tries = s.locks.most_tries; ahead = s.ahead } };
+    ghost view = { λ s. record {
+      processes = s.locks.processes;
+      slots = s.slot_count;
+      most_tries = s.locks.most_tries;
+      ahead = s.ahead;
+    } };
 
     ghost invariant = { λ s. s.locks.processes ≤ most_processes };
 }

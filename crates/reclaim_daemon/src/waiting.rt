@@ -3,7 +3,7 @@
 use crate::process_locks::ProcessLocks;
 use crate::shared::Shared;
 use clock_policy::Clock;
-use hart_signals::Bell;
+use hart_signals::{Bell, PageWait};
 use held_process::Held;
 use machine_limits::MOST_HARTS;
 use space_core::Space;
@@ -73,14 +73,24 @@ impl<L: Ledger, S: SwapSlot> ProcessLocks<L, S> {
         self.signals().end_turn(number, hart, yielded);
     }
 
-    /// A hart waits for a page, or does so no more.
-    pub fn set_paging(&self, number: u32, hart: u32, paging: bool) {
-        self.signals().set_paging(number, hart, paging);
+    /// What a hart of a process waits for by now.
+    pub fn set_wait(&self, number: u32, hart: u32, wait: PageWait) {
+        self.signals().set_wait(number, hart, wait);
     }
 
     /// A worker has a hart that waits for a frame, or none any more.
     pub fn set_hungry(&self, worker: u32, hungry: bool) {
         self.signals().set_hungry(worker, hungry);
+    }
+
+    /// Instructions of a hart that a worker carries have run, for which a page had come in.
+    pub fn count_run(&self, worker: u32) {
+        self.signals().count_run(worker);
+    }
+
+    /// A page has come in for a hart that a worker carries, which had waited for a frame.
+    pub fn count_page(&self, worker: u32) {
+        self.signals().count_page(worker);
     }
 
     /// How often a worker's bell has rung. Read it before you look for what there is to do.

@@ -1,4 +1,5 @@
-ghost use Rattle.std.specs.Prelude.{◌≡◌, ◌-◌, ◌+◌, ◌^◌, ◌<◌, ◌≤◌, ⊤, min, IfOk, IsOk, IsErr, OnOk, OnErr, false};
+ghost use Rattle.std.specs.Prelude.{◌≡◌, ◌-◌, ◌+◌, ◌^◌, ◌<◌, ◌≤◌, ⊤, min, IfOk, IsOk, IsErr, OnOk};
+ghost use Rattle.std.specs.Prelude.{OnErr, false};
 ghost use Rattle.swap_slots.specs.Slot.{Rose};
 
 use std::alloc::{AllocError, Global};

@@ -45,7 +45,8 @@ pub fn serve<B: Bus>(
     ensures pages { let used = call_pages regs.old (B.memory bus.old) in
         UsesPages (B.has bus.old) (B.marks bus.new) (B.lacks bus.old) used result }
     ensures bound { let memory = B.memory bus.old in
-        Bounds (B.within bus.old) (B.within bus.new) (call_pages regs.old memory) (call_stores regs.old memory) }
+        Bounds (B.within bus.old) (B.within bus.new) (call_pages regs.old memory)
+        (call_stores regs.old memory) }
 
     // Each page that the call stores to takes stores; or the absent one was not at hand when its access came.
     ensures leaves { let stored = call_stores regs.old (B.memory bus.old) in

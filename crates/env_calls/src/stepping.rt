@@ -53,7 +53,8 @@ pub fn finish<B: Bus>(
     ensures pages { RestUses (B.has bus.old) (B.marks bus.new) (B.lacks bus.old) outcome regs.old
         (B.memory bus.old) result }
     ensures bound { let memory = B.memory bus.old in
-        Bounds (B.within bus.old) (B.within bus.new) (rest_pages outcome regs.old memory) (rest_stores outcome regs.old memory) }
+        Bounds (B.within bus.old) (B.within bus.new) (rest_pages outcome regs.old memory)
+        (rest_stores outcome regs.old memory) }
 
     // Each page that the call stores to takes stores; or the absent one was not at hand when its access came.
     ensures leaves { LeavesRest (B.takes bus.new) (B.misses bus.old) outcome regs.old

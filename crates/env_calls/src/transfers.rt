@@ -7,7 +7,8 @@ ghost use Rattle.page_memory.specs.declared.words.Access.{Access};
 ghost use Rattle.rv_exec.specs.Registers.{register};
 ghost use Rattle.rv_exec.specs.Bounds.{Bounds};
 ghost use Rattle.rv_exec.specs.Uses.{page_of_access};
-ghost use Rattle.env_calls.specs.Calls.{read, did_read, read_pages, count_to_read, write, wrote, write_pages, count_in_page, a1, a2};
+ghost use Rattle.env_calls.specs.Calls.{read, did_read, read_pages, count_to_read, write, wrote};
+ghost use Rattle.env_calls.specs.Calls.{write_pages, count_in_page, a1, a2};
 ghost use Rattle.env_calls.specs.Leaving.{LeavesCall};
 ghost use Rattle.env_calls.specs.Serving.{Serves, TakesMemory, UsesPages};
 

@@ -1,6 +1,7 @@
 //! What is so of definitions, whatever runs. These functions do nothing.
 
-ghost use Rattle.std.specs.Prelude.{◌≡◌, ◌≢◌, ℕ, ◌≤◌, ◌<◌, ◌⊎◌, List, Some, None, length, slice_index_or};
+ghost use Rattle.std.specs.Prelude.{◌≡◌, ◌≢◌, ℕ, ◌≤◌, ◌<◌, ◌⊎◌, List, Some, None, length};
+ghost use Rattle.std.specs.Prelude.{slice_index_or};
 ghost use Rattle.std.specs.Ordering.{nat_cmp};
 ghost use Rattle.std.specs.FinMap.{get, from_entries};
 ghost use Rattle.page_memory.specs.Pages.{zero_page};
@@ -15,13 +16,15 @@ ghost use Rattle.flat_machine.specs.Schedule.{rest_in_last, room};
 pub fn opening_has_pages()
     ensures image { (pages : List ImagePage) (i : ℕ) (d : ImagePage) → ArePages pages →
         i < length pages
-        → get (from_entries {R = nat_cmp} (opening_pages pages)) (slice_index_or pages i d).number ≡ Some (slice_index_or pages i d).page }
+        → get (from_entries {R = nat_cmp} (opening_pages pages)) (slice_index_or pages i d).number ≡
+        Some (slice_index_or pages i d).page }
     ensures stack { (pages : List ImagePage) (number : ℕ) → ArePages pages → 524224 ≤ number →
         number < 524288
         → get (from_entries {R = nat_cmp} (opening_pages pages)) number ≡ Some zero_page }
     ensures none { (pages : List ImagePage) (number : ℕ) → ((i : ℕ) (d : ImagePage) →
         i < length pages → (slice_index_or pages i d).number ≢ number)
-        → ((number < 524224) ⊎ (524288 ≤ number)) → get (from_entries {R = nat_cmp} (opening_pages pages)) number ≡ None }
+        → ((number < 524224) ⊎ (524288 ≤ number)) → get (from_entries {R = nat_cmp}
+        (opening_pages pages)) number ≡ None }
 {}
 
 /// Steps that harts take by turns are the flat run of the schedule of those turns.

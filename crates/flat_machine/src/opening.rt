@@ -6,7 +6,8 @@ ghost use Rattle.page_memory.specs.MemoryMap.{first_stack_pointer};
 ghost use Rattle.rv_exec.specs.Registers.{cleared, with_register};
 ghost use Rattle.env_calls.specs.Calls.{sp};
 ghost use Rattle.elf_image.specs.Image.{ArePages};
-ghost use Rattle.flat_machine.specs.Process.{opening, first_break, opening_pages, image_entry, stack_entry};
+ghost use Rattle.flat_machine.specs.Process.{opening, first_break, opening_pages, image_entry};
+ghost use Rattle.flat_machine.specs.Process.{stack_entry};
 
 use crate::process::FlatProcess;
 use elf_image::{Image, ImagePage};

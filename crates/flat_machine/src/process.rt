@@ -36,7 +36,12 @@ impl Model for FlatProcess {
     } };
 
     ghost invariant = { λ process. record {
-      whole : IsWhole (record { harts = process.harts.items; environment = process.env; memory = process.memory; ending = process.end });
+      whole : IsWhole (record {
+        harts = process.harts.items;
+        environment = process.env;
+        memory = process.memory;
+        ending = process.end;
+      });
       roomy : most_harts ≤ vec_capacity process.harts;
     } };
 }

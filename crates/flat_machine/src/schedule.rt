@@ -1,5 +1,7 @@
-ghost use Rattle.std.specs.Prelude.{◌≡◌, ◌<◌, ◌≤◌, ◌+◌, ◌*◌, ◌^◌, ◌-◌, [], ◌++◌, ◌∷◌, length, replicate, is_ok, IfOk, OnOk, OnErr};
-ghost use Rattle.flat_machine.specs.Schedule.{written_out, rest_in_last, room, fits, most_turns, IsJoined};
+ghost use Rattle.std.specs.Prelude.{◌≡◌, ◌<◌, ◌≤◌, ◌+◌, ◌*◌, ◌^◌, ◌-◌, [], ◌++◌, ◌∷◌, length};
+ghost use Rattle.std.specs.Prelude.{replicate, is_ok, IfOk, OnOk, OnErr};
+ghost use Rattle.flat_machine.specs.Schedule.{written_out, rest_in_last, room, fits, most_turns};
+ghost use Rattle.flat_machine.specs.Schedule.{IsJoined};
 
 use std::alloc::{AllocError, Global};
 use std::marker::Model;

@@ -1,7 +1,8 @@
 //! Environment calls: the page that a call copies bytes from or to.
 ghost use Rattle.std.specs.Prelude.{◌≡◌};
 ghost use Rattle.rv_exec.specs.Registers.{register};
-ghost use Rattle.env_calls.specs.Calls.{call_of, call_pages, call_stores, read_pages, write_pages, a1, a2, a7};
+ghost use Rattle.env_calls.specs.Calls.{call_of, call_pages, call_stores, read_pages, write_pages};
+ghost use Rattle.env_calls.specs.Calls.{a1, a2, a7};
 ghost use Rattle.guest_strings.specs.Yields.{is_yield};
 ghost use Rattle.guest_strings.specs.Told.{used_page, stored_page, listed};
 

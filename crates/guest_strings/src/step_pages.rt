@@ -35,11 +35,14 @@ pub struct StepPages {
 /// What the next step of a hart uses, or `None` where the hart was never started. The process stays as it is.
 pub fn step_pages_of(process: &mut FlatProcess, hart: u32) -> Option<StepPages>
     ensures pages { IfSome result (λ told. (registers : Registers)
-        → hart_registers hart process.old ≡ Some registers → pages_told told ≡ step_pages hart registers process.old.memory) }
+        → hart_registers hart process.old ≡ Some registers → pages_told told ≡ step_pages hart
+        registers process.old.memory) }
     ensures stores { IfSome result (λ told. (registers : Registers)
-        → hart_registers hart process.old ≡ Some registers → stores_told told ≡ step_stores hart registers process.old.memory) }
+        → hart_registers hart process.old ≡ Some registers → stores_told told ≡ step_stores hart
+        registers process.old.memory) }
     ensures yields { IfSome result (λ told. (registers : Registers)
-        → hart_registers hart process.old ≡ Some registers → told.yields ≡ step_yields hart registers process.old.memory) }
+        → hart_registers hart process.old ≡ Some registers → told.yields ≡ step_yields hart
+        registers process.old.memory) }
     ensures behind { IfSome result (λ told. told.fetched ≡ None → told.data ≡ None) }
     ensures started { is_some result ≡ is_some (hart_registers hart process.old) }
     ensures same { process.new ≡ process.old }

@@ -2,7 +2,8 @@
 
 ghost use Rattle.std.specs.Prelude.{◌≡◌, ◌<◌, ◌≤◌, length, map, IfOk, OnOk, OnErr, Some, None};
 ghost use Rattle.flat_machine.specs.Refusals.{WantsMemory};
-ghost use Rattle.guest_strings.specs.References.{after_step, kept, moved, references_at, references_of, referred};
+ghost use Rattle.guest_strings.specs.References.{after_step, kept, moved, references_at};
+ghost use Rattle.guest_strings.specs.References.{references_of, referred};
 ghost use Rattle.guest_strings.specs.Slices.{yields, yields_at};
 ghost use Rattle.guest_strings.specs.ToCome.{told};
 ghost use Rattle.guest_strings.specs.Told.{pages_told, stored_page, stores_told};
@@ -33,7 +34,8 @@ pub(crate) fn step_at(
     place: usize,
 ) -> Result<StepUse, AllocError>
     requires few { length processes.old ≤ MOST_PROCESSES }
-    ensures used { IfOk result (λ step. told step ≡ kept accesses (references_at place processes.old)) }
+    ensures used { IfOk result (λ step. told step ≡ kept accesses
+        (references_at place processes.old)) }
     ensures yields { IfOk result (λ step. step.yields ≡ yields_at place processes.old) }
     ensures moved { OnOk result (processes.new ≡ moved place processes.old) }
     ensures wants { OnErr result (WantsAtPlace place processes.old) }

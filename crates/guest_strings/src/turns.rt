@@ -2,7 +2,8 @@
 
 ghost use Rattle.std.specs.Prelude.{◌≡◌, ◌<◌, ◌≤◌, ◌+◌, ◌-◌, length, IfSome};
 ghost use Rattle.flat_machine.specs.Process.{may_step};
-ghost use Rattle.guest_strings.specs.Slices.{first_place, first_turn, is_kept, may_run, most_places, next_place, place_of, turn_after};
+ghost use Rattle.guest_strings.specs.Slices.{first_place, first_turn, is_kept, may_run};
+ghost use Rattle.guest_strings.specs.Slices.{most_places, next_place, place_of, turn_after};
 
 use flat_machine::FlatProcess;
 use machine_limits::{MOST_HARTS, MOST_PROCESSES};

@@ -1,6 +1,7 @@
 //! What stands under the pager's lock, and the calls on it and a process together.
 
-ghost use Rattle.std.specs.Prelude.{◌≡◌, ◌⊎◌, ◌↔◌, ◌<◌, ◌≤◌, ◌+◌, ◌++◌, ◌&&◌, nat_lt, [], false, true, length, IfOk, IsErrOf};
+ghost use Rattle.std.specs.Prelude.{◌≡◌, ◌⊎◌, ◌↔◌, ◌<◌, ◌≤◌, ◌+◌, ◌++◌, ◌&&◌, nat_lt, [], false};
+ghost use Rattle.std.specs.Prelude.{true, length, IfOk, IsErrOf};
 ghost use Rattle.machine_sides.specs.Purging.{as_list};
 ghost use Rattle.paged_memory.specs.Paged.{memory_of};
 ghost use Rattle.pager_core.specs.Pager.{full_pager};
@@ -33,7 +34,12 @@ impl<L: Ledger, C: Clock> Model for Desk<L, C> {
 
     ghost Value = { DeskValue };
 
-    ghost view = { λ d. record { pager = d.pager; strays = d.strays.items; room = vec_capacity d.strays; sound = d.sound } };
+    ghost view = { λ d. record {
+      pager = d.pager;
+      strays = d.strays.items;
+      room = vec_capacity d.strays;
+      sound = d.sound;
+    } };
 }
 
 impl<L: Ledger, C: Clock> Desk<L, C> {

@@ -2,7 +2,9 @@
 
 ghost use Rattle.std.specs.Prelude.{◌≡◌};
 ghost use Rattle.paged_memory.specs.Paged.{memory_of};
-ghost use Rattle.held_process.specs.Cleaning.{BeginsHeld, BeginsNext, BeginsWhere, cleans_after, CopiesHeld, CopiesOrNot, CopiesWhere, CleansHeld, CleansWhere};
+ghost use Rattle.held_process.specs.Cleaning.{BeginsHeld, BeginsNext, BeginsWhere, cleans_after};
+ghost use Rattle.held_process.specs.Cleaning.{CopiesHeld, CopiesOrNot, CopiesWhere, CleansHeld};
+ghost use Rattle.held_process.specs.Cleaning.{CleansWhere};
 
 use crate::held::Held;
 use clock_policy::Key;

@@ -8,8 +8,10 @@ ghost use Rattle.machine_sides.specs.Starting.{Begins};
 ghost use Rattle.machine_sides.specs.Together.{key_of};
 ghost use Rattle.pager_core.specs.Pager.{PagerState};
 ghost use Rattle.held_process.specs.HeldValue.{status_of};
-ghost use Rattle.held_process.specs.Holding.{RunsWhere, NoticesWhere, KillsNumberWhere, KillsSpentWhere};
-ghost use Rattle.held_process.specs.Running.{SlicesHeld, NoticesHeld, KillsHeld, LoadsHeld, DoesNotLoadHeld, tries_after};
+ghost use Rattle.held_process.specs.Holding.{RunsWhere, NoticesWhere, KillsNumberWhere};
+ghost use Rattle.held_process.specs.Holding.{KillsSpentWhere};
+ghost use Rattle.held_process.specs.Running.{SlicesHeld, NoticesHeld, KillsHeld, LoadsHeld};
+ghost use Rattle.held_process.specs.Running.{DoesNotLoadHeld, tries_after};
 ghost use Rattle.space_core.specs.StandsFor.{StandsFor};
 ghost use Rattle.status_cell.specs.Counts.{nothing};
 ghost use Rattle.status_cell.specs.ViewerValue.{viewer_value};
@@ -45,7 +47,12 @@ impl<L: Ledger, S: SwapSlot> Model for Held<L, S> {
 
     ghost Value = { HeldValue S };
 
-    ghost view = { λ h. record { side = h.side; writer = h.writer; tries = h.tries; cleans = h.cleans } };
+    ghost view = { λ h. record {
+      side = h.side;
+      writer = h.writer;
+      tries = h.tries;
+      cleans = h.cleans;
+    } };
 
     ghost invariant = { λ h. record {
       published : h.writer.last ≡ h.told;

@@ -1,7 +1,12 @@
 //! The machine's events of a page that is cleaned while it is used.
 
-ghost use Rattle.std.specs.Prelude.{◌≡◌, ◌⊎◌, ◌<◌, None, true, is_some, length, position, vec_len, vec_capacity, IfSome, IfNone, IfOk};
-ghost use Rattle.machine_core.specs.CleaningEvents.{cleaned_refusal, clean_barred, clean_refusal, clean_reply, copies_after, copy_barred, copy_refusal, copy_reply, CleanedOnce, CleansAt, CleansOnce, CopiesAt, CopiesOnce, CopyBackAt, IsOwnCopy, RepliesBack};
+ghost use Rattle.std.specs.Prelude.{◌≡◌, ◌⊎◌, ◌<◌, None, true, is_some, length, position, vec_len};
+ghost use Rattle.std.specs.Prelude.{vec_capacity, IfSome, IfNone, IfOk};
+ghost use Rattle.machine_core.specs.CleaningEvents.{cleaned_refusal, clean_barred, clean_refusal};
+ghost use Rattle.machine_core.specs.CleaningEvents.{clean_reply, copies_after, copy_barred};
+ghost use Rattle.machine_core.specs.CleaningEvents.{copy_refusal, copy_reply, CleanedOnce};
+ghost use Rattle.machine_core.specs.CleaningEvents.{CleansAt, CleansOnce, CopiesAt, CopiesOnce};
+ghost use Rattle.machine_core.specs.CleaningEvents.{CopyBackAt, IsOwnCopy, RepliesBack};
 ghost use Rattle.machine_core.specs.MachineRun.{RefusesEvent};
 ghost use Rattle.machine_core.specs.SavingOut.{is_save_of, MakesSave};
 

@@ -1,7 +1,8 @@
 //! The machine's event of a page that is to leave its frame.
 
 ghost use Rattle.std.specs.Prelude.{◌≡◌, ◌⊎◌, ◌<◌, length, vec_len, vec_capacity};
-ghost use Rattle.machine_core.specs.CollectEvent.{collect_refusal, CollectsOnce, LooksAt, IsOwn, jobs_after, looked_reply};
+ghost use Rattle.machine_core.specs.CollectEvent.{collect_refusal, CollectsOnce, LooksAt, IsOwn};
+ghost use Rattle.machine_core.specs.CollectEvent.{jobs_after, looked_reply};
 ghost use Rattle.machine_core.specs.MachineRun.{RefusesEvent};
 
 use crate::error::EventRefusal;

@@ -2,7 +2,8 @@
 
 ghost use Rattle.std.specs.Prelude.{◌≡◌, ◌⊎◌, ◌<◌, length};
 ghost use Rattle.machine_core.specs.MachineRun.{RefusesEvent};
-ghost use Rattle.machine_core.specs.PurgeEvent.{purge_reason, purge_refusal, PurgesAt, PurgesOnce, IsDone};
+ghost use Rattle.machine_core.specs.PurgeEvent.{purge_reason, purge_refusal, PurgesAt, PurgesOnce};
+ghost use Rattle.machine_core.specs.PurgeEvent.{IsDone};
 
 use crate::error::EventRefusal;
 use crate::event::Reply;

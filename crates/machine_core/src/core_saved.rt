@@ -2,7 +2,8 @@
 
 ghost use Rattle.std.specs.Prelude.{◌≡◌, ◌⊎◌, ◌<◌, length, position, vec_capacity, IfSome, IfNone};
 ghost use Rattle.machine_core.specs.MachineRun.{RefusesEvent};
-ghost use Rattle.machine_core.specs.SavingOut.{saved_refusal, is_save_of, MakesSave, SavesOnce, SavedAt, IsOwn, RepliesTo};
+ghost use Rattle.machine_core.specs.SavingOut.{saved_refusal, is_save_of, MakesSave, SavesOnce};
+ghost use Rattle.machine_core.specs.SavingOut.{SavedAt, IsOwn, RepliesTo};
 
 use crate::error::EventRefusal;
 use crate::event::Reply;

@@ -1,7 +1,8 @@
 //! Events of one process.
 
 ghost use Rattle.std.specs.Prelude.{◌≡◌, ◌<◌, length};
-ghost use Rattle.machine_core.specs.MachineRun.{hart_refusal, kill_refusal, step_reply, swept_reply, SweepsAt, ChangesOne};
+ghost use Rattle.machine_core.specs.MachineRun.{hart_refusal, kill_refusal, step_reply};
+ghost use Rattle.machine_core.specs.MachineRun.{swept_reply, SweepsAt, ChangesOne};
 ghost use Rattle.machine_sides.specs.ProcessCalls.{StepsOnce, TakesNotices, IsKilled};
 
 use crate::error::EventRefusal;

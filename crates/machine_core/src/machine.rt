@@ -1,6 +1,8 @@
 ghost use Rattle.std.specs.Prelude.{◌≡◌, ◌⊎◌};
 ghost use Rattle.clock_policy.specs.ClockPro.{question_of};
-ghost use Rattle.machine_core.specs.MachineRun.{hart_refusal, kill_refusal, sweep_refusal, RefusesEvent, StepsHart, Notices, Kills, SweepsOnce};
+ghost use Rattle.machine_core.specs.MachineRun.{hart_refusal, kill_refusal, sweep_refusal};
+ghost use Rattle.machine_core.specs.MachineRun.{RefusesEvent, StepsHart, Notices, Kills};
+ghost use Rattle.machine_core.specs.MachineRun.{SweepsOnce};
 
 use crate::core_steps;
 use crate::error::EventRefusal;

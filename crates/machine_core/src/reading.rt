@@ -1,6 +1,8 @@
 //! What the machine shows of its processes.
 
-ghost use Rattle.std.specs.Prelude.{◌≡◌, ◌≢◌, ◌↔◌, ◌+◌, ◌*◌, ◌<◌, ◌≤◌, Some, true, false, None, IsNone, IfNone, IfSome, length, slice_get, option_copied, option_map, vec_len};
+ghost use Rattle.std.specs.Prelude.{◌≡◌, ◌≢◌, ◌↔◌, ◌+◌, ◌*◌, ◌<◌, ◌≤◌, Some, true, false, None};
+ghost use Rattle.std.specs.Prelude.{IsNone, IfNone, IfSome, length, slice_get, option_copied};
+ghost use Rattle.std.specs.Prelude.{option_map, vec_len};
 ghost use Rattle.std.specs.Option.{option_and_then};
 ghost use Rattle.machine_limits.specs.Limits.{most_processes};
 ghost use Rattle.page_memory.specs.Words.{page_offset};

@@ -1,6 +1,8 @@
-ghost use Rattle.std.specs.Prelude.{◌≡◌, ◌↔◌, ◌++◌, [], ◌∷◌, Some, None, false, length, IfOk, IfErr, IsErr, OnOk, OnErr};
+ghost use Rattle.std.specs.Prelude.{◌≡◌, ◌↔◌, ◌++◌, [], ◌∷◌, Some, None, false, length, IfOk};
+ghost use Rattle.std.specs.Prelude.{IfErr, IsErr, OnOk, OnErr};
 ghost use Rattle.clock_policy.specs.Lawful.{Lawful};
-ghost use Rattle.machine_sides.specs.Admitting.{Admits, DoesNotAdmit, page_bars, pager_refusal, is_resident_at, taken_back};
+ghost use Rattle.machine_sides.specs.Admitting.{Admits, DoesNotAdmit, page_bars, pager_refusal};
+ghost use Rattle.machine_sides.specs.Admitting.{is_resident_at, taken_back};
 ghost use Rattle.machine_sides.specs.Agreeing.{Agree, AgreeStill};
 
 use crate::pager_side::PagerSide;

@@ -1,7 +1,8 @@
 //! Whether the list and the pages agree, and no frame is lost.
 
 ghost use Rattle.std.specs.Prelude.{◌≡◌, ◌↔◌, ◌≤◌, ◌*◌, ◌^◌, true, IfSome, IsNone, IsTrue, length};
-ghost use Rattle.machine_sides.specs.Auditing.{AgreeEverywhere, AreSound, CountsMore, HoldsAll, IsListed};
+ghost use Rattle.machine_sides.specs.Auditing.{AgreeEverywhere, AreSound, CountsMore, HoldsAll};
+ghost use Rattle.machine_sides.specs.Auditing.{IsListed};
 
 use crate::counting::{entries_of_resident_pages, resident_entries};
 use crate::pager_side::PagerSide;

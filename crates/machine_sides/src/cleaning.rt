@@ -1,7 +1,8 @@
 ghost use Rattle.std.specs.Prelude.{◌≡◌, ◌<◌, ◌^◌, None, OnOk, OnErr, IfOk};
 ghost use Rattle.paged_memory.specs.Cleaning.{refused_of};
 ghost use Rattle.paged_memory.specs.Paged.{memory_of};
-ghost use Rattle.machine_sides.specs.Cleaning.{Copies, PageCopied, SpareBack, StartsCleaning, TakesCopyBack, clean_bars, copy_bars};
+ghost use Rattle.machine_sides.specs.Cleaning.{Copies, PageCopied, SpareBack, StartsCleaning};
+ghost use Rattle.machine_sides.specs.Cleaning.{TakesCopyBack, clean_bars, copy_bars};
 
 use page_memory::PAGE_COUNT;
 use page_store::{CleanCopy, CleanJob, CleanRefusal, Cleaned, CleanedJob};

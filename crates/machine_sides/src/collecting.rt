@@ -1,4 +1,5 @@
-ghost use Rattle.std.specs.Prelude.{◌≡◌, None, ◌↔◌, ◌++◌, [], ◌∷◌, length, IsErr, IfErr, OnOk, OnErr};
+ghost use Rattle.std.specs.Prelude.{◌≡◌, None, ◌↔◌, ◌++◌, [], ◌∷◌, length, IsErr, IfErr, OnOk};
+ghost use Rattle.std.specs.Prelude.{OnErr};
 ghost use Rattle.pager_core.specs.Pager.{tallied};
 ghost use Rattle.paged_memory.specs.Paged.{memory_of};
 ghost use Rattle.machine_sides.specs.Agreeing.{AgreeStill};

@@ -1,4 +1,5 @@
-ghost use Rattle.std.specs.Prelude.{◌≡◌, ◌⊎◌, ◌+◌, ◌↔◌, ◌*◌, ◌≤◌, ◌<◌, IsNone, IfOk, IsErrOf, option_map, slice_get, length};
+ghost use Rattle.std.specs.Prelude.{◌≡◌, ◌⊎◌, ◌+◌, ◌↔◌, ◌*◌, ◌≤◌, ◌<◌, IsNone, IfOk, IsErrOf};
+ghost use Rattle.std.specs.Prelude.{option_map, slice_get, length};
 ghost use Rattle.clock_policy.specs.ClockPro.{question_of};
 ghost use Rattle.clock_policy.specs.Lawful.{Lawful};
 ghost use Rattle.clock_policy.specs.Bound.{answers_left, NothingResident};

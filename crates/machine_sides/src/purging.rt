@@ -1,6 +1,7 @@
 ghost use Rattle.std.specs.Prelude.{◌≡◌, IsSome};
 ghost use Rattle.machine_sides.specs.Agreeing.{AgreesPurged};
-ghost use Rattle.machine_sides.specs.Purging.{Purges, GivesAllBack, FreesAnyFrame, Pools, is_saving_any, purge_bars};
+ghost use Rattle.machine_sides.specs.Purging.{Purges, GivesAllBack, FreesAnyFrame, Pools};
+ghost use Rattle.machine_sides.specs.Purging.{is_saving_any, purge_bars};
 
 use crate::pager_side::PagerSide;
 use clock_policy::Clock;

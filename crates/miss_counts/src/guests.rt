@@ -1,11 +1,13 @@
 //! What guests miss.
 
-ghost use Rattle.std.specs.Prelude.{◌≡◌, ◌≤◌, ◌↔◌, IfOk, OnOk, Err, cond, true, false, length, option_map};
+ghost use Rattle.std.specs.Prelude.{◌≡◌, ◌≤◌, ◌↔◌, IfOk, OnOk, Err, cond, true, false, length};
+ghost use Rattle.std.specs.Prelude.{option_map};
 ghost use Rattle.std.specs.HashSet.{contains};
 ghost use Rattle.clock_policy.specs.declared.key.Key.{Key};
 ghost use Rattle.guest_strings.specs.ToCome.{to_come};
 ghost use Rattle.page_policies.specs.Strings.{is_page};
-ghost use Rattle.miss_counts.specs.Counted.{IsTable, IsUsualTable, all_asked_serve, guest_pages, pages_of};
+ghost use Rattle.miss_counts.specs.Counted.{IsTable, IsUsualTable, all_asked_serve, guest_pages};
+ghost use Rattle.miss_counts.specs.Counted.{pages_of};
 ghost use Rattle.miss_counts.specs.FrameNumbers.{page_count};
 
 use crate::counts::{PolicyCounts, count_rows};
@@ -49,8 +51,8 @@ pub fn guest_rows<P: StageListener>(
     progress: &mut P,
 ) -> Result<Vec<PolicyCounts>, PolicyRefusal>
     requires { length processes.items ≤ MOST_PROCESSES }
-    ensures rows { IfOk result (λ rows. IsTable wanted (guest_pages accesses slice limit processes.items)
-        (option_map (λ f. f.items) frames) rows.items) }
+    ensures rows { IfOk result (λ rows. IsTable wanted (guest_pages accesses slice limit
+        processes.items) (option_map (λ f. f.items) frames) rows.items) }
     ensures bad_size { (result ≡ Err PolicyRefusal.BadSize) ↔ (all_asked_serve wanted
         (option_map (λ f. f.items) frames) ≡ false) }
 {

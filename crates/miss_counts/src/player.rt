@@ -1,6 +1,7 @@
 //! A policy that plays a string piece by piece.
 
-ghost use Rattle.std.specs.Prelude.{◌≡◌, ◌+◌, ◌<◌, ◌≤◌, ◌^◌, ◌++◌, ◌↔◌, List, Err, true, IfOk, OnOk, length, option_map};
+ghost use Rattle.std.specs.Prelude.{◌≡◌, ◌+◌, ◌<◌, ◌≤◌, ◌^◌, ◌++◌, ◌↔◌, List, Err, true, IfOk};
+ghost use Rattle.std.specs.Prelude.{OnOk, length, option_map};
 ghost use Rattle.clock_policy.specs.declared.key.Key.{Key};
 ghost use Rattle.miss_counts.specs.Playing.{Opens, GoesOn};
 

@@ -1,6 +1,7 @@
 //! Misses counted as references come.
 
-ghost use Rattle.std.specs.Prelude.{◌≡◌, ◌+◌, ◌<◌, ◌^◌, ◌↔◌, Err, None, false, length, IfOk, OnOk, option_map};
+ghost use Rattle.std.specs.Prelude.{◌≡◌, ◌+◌, ◌<◌, ◌^◌, ◌↔◌, Err, None, false, length, IfOk, OnOk};
+ghost use Rattle.std.specs.Prelude.{option_map};
 ghost use Rattle.page_policies.specs.Queues.{fifo_misses, lru_misses};
 ghost use Rattle.page_policies.specs.SecondChance.{clock_misses};
 ghost use Rattle.younger_policies.specs.ClockProPlay.{clock_pro_used_misses, clock_pro_misses};

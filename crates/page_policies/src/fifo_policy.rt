@@ -22,7 +22,8 @@ pub struct Fifo {
 impl Policy for Fifo {
     ghost misses = { fifo_misses };
 
-    ghost to_miss = { λ policy string. misses_by holds (fifo policy.pages.cap) (keys_of policy.pages.entries) string };
+    ghost to_miss = { λ policy string. misses_by holds (fifo policy.pages.cap)
+        (keys_of policy.pages.entries) string };
 
     ghost refuses = { λ number. ⊥ };
 

@@ -22,7 +22,8 @@ pub struct Lru {
 impl Policy for Lru {
     ghost misses = { lru_misses };
 
-    ghost to_miss = { λ policy string. misses_by holds (lru policy.pages.cap) (keys_of policy.pages.entries) string };
+    ghost to_miss = { λ policy string. misses_by holds (lru policy.pages.cap)
+        (keys_of policy.pages.entries) string };
 
     ghost refuses = { λ number. ⊥ };
 

@@ -3,7 +3,8 @@
 ghost use Rattle.std.specs.Prelude.{◌≡◌, ◌≤◌, ◌<◌, ◌++◌, ◌∷◌, [], refl, false, length, IfOk, OnOk};
 ghost use Rattle.rand_pcg.specs.Pcg.{pcg32};
 ghost use Rattle.page_policies.specs.Strings.{holds, misses as misses_by};
-ghost use Rattle.page_policies.specs.Random.{place_of, drawn, room_drawn, joined, in_random, random, random_misses, seeded};
+ghost use Rattle.page_policies.specs.Random.{place_of, drawn, room_drawn, joined, in_random};
+ghost use Rattle.page_policies.specs.Random.{random, random_misses, seeded};
 ghost use Rattle.page_policies.specs.RandomLaws.{pages_of};
 
 use crate::frames::Frames;
@@ -86,7 +87,8 @@ impl RandomPolicy {
 impl Policy for RandomPolicy {
     ghost misses = { random_misses };
 
-    ghost to_miss = { λ policy string. misses_by in_random (random policy.frames) (pages_of policy) string };
+    ghost to_miss = { λ policy string. misses_by in_random (random policy.frames) (pages_of policy)
+        string };
 
     ghost refuses = { λ number. ⊥ };
 

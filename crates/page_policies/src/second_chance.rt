@@ -1,9 +1,11 @@
 //! CLOCK.
 
-ghost use Rattle.std.specs.Prelude.{◌≡◌, ◌≤◌, ◌<◌, ◌++◌, ◌∷◌, [], refl, drop, length, IfOk, None, true, false};
+ghost use Rattle.std.specs.Prelude.{◌≡◌, ◌≤◌, ◌<◌, ◌++◌, ◌∷◌, [], refl, drop, length, IfOk, None};
+ghost use Rattle.std.specs.Prelude.{true, false};
 ghost use Rattle.page_ring.specs.Index.{at_of};
 ghost use Rattle.page_policies.specs.Strings.{misses as misses_by};
-ghost use Rattle.page_policies.specs.SecondChance.{in_slots, touched, front_used, turned, one_gone, room_made, second_chance, clock_misses};
+ghost use Rattle.page_policies.specs.SecondChance.{in_slots, touched, front_used, turned, one_gone};
+ghost use Rattle.page_policies.specs.SecondChance.{room_made, second_chance, clock_misses};
 ghost use Rattle.page_policies.specs.SlotLaws.{slots_of};
 
 use crate::frames::Frames;
@@ -123,7 +125,8 @@ fn bring_in(ring: &mut IndexedRing, frames: usize, page: Key)
 impl Policy for SecondChance {
     ghost misses = { clock_misses };
 
-    ghost to_miss = { λ policy string. misses_by in_slots (second_chance policy.frames) (slots_of policy.ring.cells) string };
+    ghost to_miss = { λ policy string. misses_by in_slots (second_chance policy.frames)
+        (slots_of policy.ring.cells) string };
 
     ghost refuses = { λ number. ⊥ };
 

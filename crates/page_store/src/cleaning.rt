@@ -1,7 +1,9 @@
 //! A page is written to its slot while it stays where it is, and counts as unchanged once no store followed the copy.
 
-ghost use Rattle.std.specs.Prelude.{◌≡◌, ◌≢◌, ℕ, List, Ok, Err, OnOk, OnErr, IfOk, IfErr, IsTrue, IsFalse, false};
-ghost use Rattle.page_store.specs.Cleaning.{begun, begun_keeping, copied_clean, copy_cleaning, is_being_cleaned, EndsAs, EndsCleaning};
+ghost use Rattle.std.specs.Prelude.{◌≡◌, ◌≢◌, ℕ, List, Ok, Err, OnOk, OnErr, IfOk, IfErr, IsTrue};
+ghost use Rattle.std.specs.Prelude.{IsFalse, false};
+ghost use Rattle.page_store.specs.Cleaning.{begun, begun_keeping, copied_clean, copy_cleaning};
+ghost use Rattle.page_store.specs.Cleaning.{is_being_cleaned, EndsAs, EndsCleaning};
 ghost use Rattle.page_store.specs.Keeping.{Cleaning, CopyOut, is_copy_out};
 ghost use Rattle.page_store.specs.Moves.{job_of};
 ghost use Rattle.page_store.specs.PageValue.{Resident, Backed, BackedAt, content, shown, slot_of};

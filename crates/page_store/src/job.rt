@@ -22,7 +22,12 @@ impl<S: SwapSlot> Model for SaveJob<S> {
 
     ghost Value = { JobValue S };
 
-    ghost view = { λ j. record { process = j.process; vpn = j.vpn; copy = j.copy.value; slot = j.slot } };
+    ghost view = { λ j. record {
+      process = j.process;
+      vpn = j.vpn;
+      copy = j.copy.value;
+      slot = j.slot;
+    } };
 }
 
 impl<S: SwapSlot> SaveJob<S> {
@@ -112,9 +117,16 @@ impl<S: SwapSlot> Model for SavedJob<S> {
 
     ghost Value = { SavedValue S };
 
-    ghost view = { λ j. record { process = j.process; vpn = j.vpn; copy = j.copy.value; slot = j.slot; passed = j.passed } };
+    ghost view = { λ j. record {
+      process = j.process;
+      vpn = j.vpn;
+      copy = j.copy.value;
+      slot = j.slot;
+      passed = j.passed;
+    } };
 
-    ghost invariant = { λ j. IsTaken S.honest (sha256 j.copy.value) j.digest × (S.honest → IsTrue j.passed → S.content j.slot ≡ j.copy.value) };
+    ghost invariant = { λ j. IsTaken S.honest (sha256 j.copy.value) j.digest ×
+        (S.honest → IsTrue j.passed → S.content j.slot ≡ j.copy.value) };
 }
 
 impl<S: SwapSlot> SavedJob<S> {

@@ -1,8 +1,15 @@
-ghost use Rattle.std.specs.Prelude.{◌≡◌, ◌≢◌, ◌+◌, ◌≤◌, ◌↔◌, length, ℕ, List, Ok, Err, Some, None, OnOk, OnErr, IfOk, IfErr, IsErr, IsTrue, false, OnSome, IfNone, option_copied, option_map, is_some};
+ghost use Rattle.std.specs.Prelude.{◌≡◌, ◌≢◌, ◌+◌, ◌≤◌, ◌↔◌, length, ℕ, List, Ok, Err, Some, None};
+ghost use Rattle.std.specs.Prelude.{OnOk, OnErr, IfOk, IfErr, IsErr, IsTrue, false, OnSome, IfNone};
+ghost use Rattle.std.specs.Prelude.{option_copied, option_map, is_some};
 ghost use Rattle.page_store.specs.Cleaning.{is_being_cleaned};
 ghost use Rattle.page_store.specs.Keeping.{is_copy_out};
-ghost use Rattle.page_store.specs.Moves.{left, brought_back, given_back, collected, collect_leaving, with_spare, job_of, IfSaving, copy_of, RefusesSave, Filled, RefusesFill, RefusesRead, IfAway};
-ghost use Rattle.page_store.specs.PageValue.{Leaving, Saving, Away, Purged, Backed, BackedAt, shown, changed as counts_as_changed, Known, content, page_state_of, frame_of, writable, failures_at, kept_digest, Matches, is_out, slot_of};
+ghost use Rattle.page_store.specs.Moves.{left, brought_back, given_back, collected};
+ghost use Rattle.page_store.specs.Moves.{collect_leaving, with_spare, job_of, IfSaving, copy_of};
+ghost use Rattle.page_store.specs.Moves.{RefusesSave, Filled, RefusesFill, RefusesRead, IfAway};
+ghost use Rattle.page_store.specs.PageValue.{Leaving, Saving, Away, Purged, Backed, BackedAt};
+ghost use Rattle.page_store.specs.PageValue.{shown, changed as counts_as_changed, Known, content};
+ghost use Rattle.page_store.specs.PageValue.{page_state_of, frame_of, writable, failures_at};
+ghost use Rattle.page_store.specs.PageValue.{kept_digest, Matches, is_out, slot_of};
 ghost use Rattle.page_store.specs.Reading.{some_from};
 ghost use Rattle.page_store.specs.View.{keeping_of, place_in_state};
 

@@ -1,4 +1,5 @@
-ghost use Rattle.std.specs.Prelude.{◌≡◌, ◌↔◌, ℕ, ◌<◌, ◌^◌, ◌%◌, length, Some, None, IfSome, IfOk, IfErr, OnOk, true, OnErr};
+ghost use Rattle.std.specs.Prelude.{◌≡◌, ◌↔◌, ℕ, ◌<◌, ◌^◌, ◌%◌, length, Some, None, IfSome, IfOk};
+ghost use Rattle.std.specs.Prelude.{IfErr, OnOk, true, OnErr};
 ghost use Rattle.page_memory.specs.Words.{page_number, page_offset, bytes_in};
 ghost use Rattle.sv32_table.specs.Entry.{entry_of};
 ghost use Rattle.sv32_table.specs.EntryAt.{dirty_of, entry_at};
@@ -6,7 +7,9 @@ ghost use Rattle.paged_memory.specs.Paged.{Holds, seen_at};
 ghost use Rattle.paged_memory.specs.Seen.{is_used};
 ghost use Rattle.tlb_core.specs.Cache.{Hits, translation_of};
 ghost use Rattle.paged_memory.specs.declared.caches.Miss.{Miss};
-ghost use Rattle.paged_memory.specs.Access.{Reaches, RefusesAccess, Locates, HasPage, MarksUse, KeepsTranslations, MayWalk, cache_of, resident_frame, ServesHeld};
+ghost use Rattle.paged_memory.specs.Access.{Reaches, RefusesAccess, Locates, HasPage, MarksUse};
+ghost use Rattle.paged_memory.specs.Access.{KeepsTranslations, MayWalk, cache_of, resident_frame};
+ghost use Rattle.paged_memory.specs.Access.{ServesHeld};
 
 use crate::caches::{Caches, Miss};
 use page_memory::{Access, MemoryFault, PageMap, Rights, Width, page_of};
@@ -193,8 +196,8 @@ fn hit_or_walk<L: Ledger, S: SwapSlot>(
         (page_number address) place) }
     ensures refused { IfErr result (RefusesAccess pages.now access (page_number address)) }
     ensures held { ServesHeld (cache_of caches.old hart) access (page_number address) result }
-    ensures kept { KeepsTranslations pages.now hart (page_number address) tables.old tables.new caches.old
-        caches.new }
+    ensures kept { KeepsTranslations pages.now hart (page_number address) tables.old tables.new
+        caches.old caches.new }
     ensures entries { MayWalk access (page_number address) tables.old tables.new }
     ensures unmarked { OnErr result (tables.new ≡ tables.old) }
     ensures unfilled { OnErr result (caches.new ≡ caches.old) }
@@ -225,8 +228,8 @@ pub(crate) fn reach<L: Ledger, S: SwapSlot>(
         (page_number address) place) }
     ensures refused { IfErr result (RefusesAccess pages.now access (page_number address)) }
     ensures held { ServesHeld (cache_of caches.old hart) access (page_number address) result }
-    ensures kept { KeepsTranslations pages.now hart (page_number address) tables.old tables.new caches.old
-        caches.new }
+    ensures kept { KeepsTranslations pages.now hart (page_number address) tables.old tables.new
+        caches.old caches.new }
     ensures entries { MayWalk access (page_number address) tables.old tables.new }
     ensures unmarked { OnErr result (tables.new ≡ tables.old) }
     ensures unfilled { OnErr result (caches.new ≡ caches.old) }

@@ -1,6 +1,8 @@
-ghost use Rattle.std.specs.Prelude.{◌≡◌, ◌<◌, ◌≤◌, ◌%◌, [], ◌∷◌, ◌++◌, None, map, length, is_some, IfSome, option_copied, slice_get, slice_index_or, slice_set};
+ghost use Rattle.std.specs.Prelude.{◌≡◌, ◌<◌, ◌≤◌, ◌%◌, [], ◌∷◌, ◌++◌, None, map, length, is_some};
+ghost use Rattle.std.specs.Prelude.{IfSome, option_copied, slice_get, slice_index_or, slice_set};
 ghost use Rattle.page_memory.specs.Words.{page_number, page_offset, bytes_in};
-ghost use Rattle.tlb_core.specs.Cache.{Hits, OnePerPage, doomed, undoomed, filled, holds_mark, translation_of};
+ghost use Rattle.tlb_core.specs.Cache.{Hits, OnePerPage, doomed, undoomed, filled, holds_mark};
+ghost use Rattle.tlb_core.specs.Cache.{translation_of};
 ghost use Rattle.paged_memory.specs.Soundness.{is_held, is_marked};
 ghost use Rattle.paged_memory.specs.declared.caches.Miss.{Miss};
 

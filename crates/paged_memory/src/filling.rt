@@ -5,7 +5,8 @@ ghost use Rattle.sv32_table.specs.EntryAt.{has_table, ChangesEntry, AddsTable};
 ghost use Rattle.paged_memory.specs.Paged.{page_at, memory_of};
 ghost use Rattle.page_store.specs.PageValue.{content, Backed, kept_digest};
 ghost use Rattle.page_store.specs.Moves.{IfResident};
-ghost use Rattle.paged_memory.specs.Filling.{IsAbsent, IsUnchanged, dropped, fault_of, BroughtIn, RefusesAbsent};
+ghost use Rattle.paged_memory.specs.Filling.{IsAbsent, IsUnchanged, dropped, fault_of, BroughtIn};
+ghost use Rattle.paged_memory.specs.Filling.{RefusesAbsent};
 ghost use Rattle.paged_memory.specs.Moving.{ComesIn, RefusesIn, SameCaches, SameEntries};
 
 use crate::eviction::state_in;

@@ -5,7 +5,8 @@ ghost use Rattle.sv32_table.specs.EntryAt.{ChangesEntry, SameTables};
 ghost use Rattle.paged_memory.specs.Paged.{Holds, page_at};
 ghost use Rattle.paged_memory.specs.Calls.{ChangesBy};
 ghost use Rattle.paged_memory.specs.GivingBack.{GivesBack, GivesNothing};
-ghost use Rattle.paged_memory.specs.Moving.{GivesIn, HasNothingBelow, LiesBehindIn, SameCaches, SameTablesIn};
+ghost use Rattle.paged_memory.specs.Moving.{GivesIn, HasNothingBelow, LiesBehindIn, SameCaches};
+ghost use Rattle.paged_memory.specs.Moving.{SameTablesIn};
 
 use crate::caches::Caches;
 use crate::memory::PagedMemory;

@@ -1,5 +1,6 @@
 ghost use Rattle.std.specs.Prelude.{◌≡◌, ◌<◌, ◌+◌, ◌≤◌, length, OnErr};
-ghost use Rattle.page_memory.specs.Memory.{fetched, loaded, stored, replaced, loaded_reserved, stored_conditionally, copied_out, copied_in};
+ghost use Rattle.page_memory.specs.Memory.{fetched, loaded, stored, replaced, loaded_reserved};
+ghost use Rattle.page_memory.specs.Memory.{stored_conditionally, copied_out, copied_in};
 ghost use Rattle.page_memory.specs.Words.{page_number, page_offset};
 ghost use Rattle.page_memory.specs.declared.words.Access.{Access};
 ghost use Rattle.rv_exec.specs.Amo.{amo_result};
@@ -66,7 +67,8 @@ impl<'a, L: Ledger, S: SwapSlot, O: Opening> Bus for HartMemory<'a, L, S, O> {
     ghost use Rattle.std.proofs.Common.{refl, ◌∙◌, subst};
     ghost use Rattle.paged_memory.specs.Access.{HasPage, LacksPage};
     ghost use Rattle.paged_memory.specs.HartMemory.{MarksSince, MarksWithin};
-    ghost use Rattle.paged_memory.specs.HartMemoryLaws.{access_itself, access_on, lacked, had, marked};
+    ghost use Rattle.paged_memory.specs.HartMemoryLaws.{access_itself, access_on, lacked, had};
+    ghost use Rattle.paged_memory.specs.HartMemoryLaws.{marked};
     ghost use Rattle.paged_memory.specs.Missing.{MissesIn, TakesIn};
     ghost use Rattle.paged_memory.specs.MissingLaws.{takes_kept};
 
@@ -84,19 +86,32 @@ impl<'a, L: Ledger, S: SwapSlot, O: Opening> Bus for HartMemory<'a, L, S, O> {
 
     ghost misses = { λ m. MissesIn m.memory.now m.hart };
 
-    ghost keeps = { λ old new. (new.hart ≡ old.hart) × (new.memory.ghost_name ≡ old.memory.ghost_name) × KeepsAccess old.hart old.memory.now new.memory.now };
+    ghost keeps = { λ old new. (new.hart ≡ old.hart) ×
+        (new.memory.ghost_name ≡ old.memory.ghost_name) ×
+        KeepsAccess old.hart old.memory.now new.memory.now };
 
     ghost keeps_itself = { λ bus. (refl, refl, access_itself bus.hart bus.memory.now) };
 
-    ghost keeps_on = { λ before between after first second. (second.0 ∙ first.0, second.1 ∙ first.1, access_on before.hart before.memory.now between.memory.now after.memory.now first.2 (subst (λ h. KeepsAccess h between.memory.now after.memory.now) first.0 second.2)) };
+    ghost keeps_on = { λ before between after first second. (
+      second.0 ∙ first.0,
+      second.1 ∙ first.1,
+      access_on before.hart before.memory.now
+          between.memory.now after.memory.now first.2 (subst
+          (λ h. KeepsAccess h between.memory.now after.memory.now) first.0 second.2),
+    ) };
 
-    ghost lacked_before = { λ before after page kept. lacked before.memory.now.pages after.memory.now.pages page kept.2.pages };
+    ghost lacked_before = { λ before after page kept. lacked before.memory.now.pages
+        after.memory.now.pages page kept.2.pages };
 
-    ghost had_before = { λ before after page kept has. had before.hart page before.memory.now after.memory.now kept.2 (subst (λ h. HasPage after.memory.now.pages (cache_of after.memory.now.caches h) page) kept.0 has) };
+    ghost had_before = { λ before after page kept has. had before.hart page before.memory.now
+        after.memory.now kept.2 (subst (λ h. HasPage after.memory.now.pages
+        (cache_of after.memory.now.caches h) page) kept.0 has) };
 
-    ghost marked_on = { λ before after page kept was. marked before.hart page O.opening before.memory.now after.memory.now kept.2 was };
+    ghost marked_on = { λ before after page kept was. marked before.hart page O.opening
+        before.memory.now after.memory.now kept.2 was };
 
-    ghost takes_on = { λ before after page kept taken. takes_kept before.hart page before.memory.now after.memory.now kept.2 taken };
+    ghost takes_on = { λ before after page kept taken. takes_kept before.hart page before.memory.now
+        after.memory.now kept.2 taken };
 
     #[inline]
     #[tactic(auto, unfolding(page_memory::specs::Pages::fetched, page_memory::specs::Pages::aligned_page))]
@@ -169,7 +184,8 @@ impl<'a, L: Ledger, S: SwapSlot, O: Opening> Bus for HartMemory<'a, L, S, O> {
     fn store(&mut self, width: Width, address: u32, word: u32) -> Result<(), BusError>
         ensures answer { let after = with_answer (λ _.
             memory_of S.content self.new.memory.now) result in
-            AnswersAccess self.old.hart Access.Store self.old.memory.now self.new.memory.now address (stored (memory_of S.content self.old.memory.now) width address word) after }
+            AnswersAccess self.old.hart Access.Store self.old.memory.now self.new.memory.now address
+            (stored (memory_of S.content self.old.memory.now) width address word) after }
         ensures writes { Writes self.old.hart Access.Store
             (page_number address) result self.old.memory.now self.new.memory.now }
         ensures hart { self.new.hart ≡ self.old.hart }
@@ -196,8 +212,10 @@ impl<'a, L: Ledger, S: SwapSlot, O: Opening> Bus for HartMemory<'a, L, S, O> {
     #[inline]
     fn amo(&mut self, address: u32, operation: AmoKind, operand: u32) -> Result<u32, BusError>
         ensures answer { let update = λ (old : ℕ). amo_result operation old operand in
-            let after = with_answer (λ old. (old, memory_of S.content self.new.memory.now)) result in
-            AnswersAccess self.old.hart Access.Store self.old.memory.now self.new.memory.now address (replaced (memory_of S.content self.old.memory.now) update address) after }
+            let after = with_answer (λ old. (old, memory_of S.content self.new.memory.now))
+            result in
+            AnswersAccess self.old.hart Access.Store self.old.memory.now self.new.memory.now address
+            (replaced (memory_of S.content self.old.memory.now) update address) after }
         ensures writes { Writes self.old.hart Access.Store
             (page_number address) result self.old.memory.now self.new.memory.now }
         ensures hart { self.new.hart ≡ self.old.hart }
@@ -225,7 +243,8 @@ impl<'a, L: Ledger, S: SwapSlot, O: Opening> Bus for HartMemory<'a, L, S, O> {
     fn load_reserved(&mut self, hart: u32, address: u32) -> Result<u32, BusError>
         ensures answer { let after = with_answer (λ word.
             (word, memory_of S.content self.new.memory.now)) result in
-            AnswersAccess self.old.hart Access.Load self.old.memory.now self.new.memory.now address (loaded_reserved (memory_of S.content self.old.memory.now) hart address) after }
+            AnswersAccess self.old.hart Access.Load self.old.memory.now self.new.memory.now address
+            (loaded_reserved (memory_of S.content self.old.memory.now) hart address) after }
         ensures reserves { Reserves self.old.hart Access.Load
             (page_number address) result self.old.memory.now self.new.memory.now }
         ensures hart { self.new.hart ≡ self.old.hart }
@@ -245,7 +264,8 @@ impl<'a, L: Ledger, S: SwapSlot, O: Opening> Bus for HartMemory<'a, L, S, O> {
     fn store_conditional(&mut self, hart: u32, address: u32, word: u32) -> Result<bool, BusError>
         ensures answer { let after = with_answer (λ is_stored.
             (is_stored, memory_of S.content self.new.memory.now)) result in
-            AnswersAccess self.old.hart Access.Store self.old.memory.now self.new.memory.now address (stored_conditionally (memory_of S.content self.old.memory.now) hart address word) after }
+            AnswersAccess self.old.hart Access.Store self.old.memory.now self.new.memory.now address
+            (stored_conditionally (memory_of S.content self.old.memory.now) hart address word) after }
         ensures writes { Writes self.old.hart Access.Store
             (page_number address) result self.old.memory.now self.new.memory.now }
         ensures hart { self.new.hart ≡ self.old.hart }
@@ -290,7 +310,8 @@ impl<'a, L: Ledger, S: SwapSlot, O: Opening> Bus for HartMemory<'a, L, S, O> {
     fn copy_out(&mut self, address: u32, to: &mut [u8]) -> Result<(), BusError>
         requires within { page_offset address + length to.old ≤ 4096 }
         ensures answer { let copied = with_answer (λ _. to.new) result in
-            AnswersAccess self.old.hart Access.Load self.old.memory.now self.new.memory.now address (copied_out (memory_of S.content self.old.memory.now) address (length to.old)) copied }
+            AnswersAccess self.old.hart Access.Load self.old.memory.now self.new.memory.now address
+            (copied_out (memory_of S.content self.old.memory.now) address (length to.old)) copied }
         ensures refused { OnErr result (to.new ≡ to.old) }
         ensures reads { Reads self.old.hart Access.Load
             (page_number address) result self.old.memory.now self.new.memory.now }
@@ -319,7 +340,8 @@ impl<'a, L: Ledger, S: SwapSlot, O: Opening> Bus for HartMemory<'a, L, S, O> {
         requires within { page_offset address + length from.now ≤ 4096 }
         ensures answer { let after = with_answer (λ _.
             memory_of S.content self.new.memory.now) result in
-            AnswersAccess self.old.hart Access.Store self.old.memory.now self.new.memory.now address (copied_in (memory_of S.content self.old.memory.now) address from.now) after }
+            AnswersAccess self.old.hart Access.Store self.old.memory.now self.new.memory.now address
+            (copied_in (memory_of S.content self.old.memory.now) address from.now) after }
         ensures writes { Writes self.old.hart Access.Store
             (page_number address) result self.old.memory.now self.new.memory.now }
         ensures hart { self.new.hart ≡ self.old.hart }

@@ -29,7 +29,13 @@ impl<L: Ledger, S: SwapSlot> Model for PagedMemory<L, S> {
 
     ghost Value = { PagedValue S };
 
-    ghost view = { λ m. record { process = m.process; pages = m.pages; tables = m.tables; caches = m.caches; reserved = m.reservations } };
+    ghost view = { λ m. record {
+      process = m.process;
+      pages = m.pages;
+      tables = m.tables;
+      caches = m.caches;
+      reserved = m.reservations;
+    } };
 
     ghost invariant = { λ m. Holds S.content S.honest m.pages m.tables m.caches };
 }

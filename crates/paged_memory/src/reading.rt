@@ -1,12 +1,15 @@
-ghost use Rattle.std.specs.Prelude.{◌≡◌, ◌<◌, ◌%◌, length, is_some, Some, Ok, OnOk, true, IfOk, IfErr, IfSome, OnErr};
+ghost use Rattle.std.specs.Prelude.{◌≡◌, ◌<◌, ◌%◌, length, is_some, Some, Ok, OnOk, true, IfOk};
+ghost use Rattle.std.specs.Prelude.{IfErr, IfSome, OnErr};
 ghost use Rattle.page_memory.specs.Words.{page_number, page_offset, bytes_in};
-ghost use Rattle.page_memory.specs.Pages.{answer_by, number_at, aligned_page, usable, fetched, loaded};
+ghost use Rattle.page_memory.specs.Pages.{answer_by, number_at, aligned_page, usable, fetched};
+ghost use Rattle.page_memory.specs.Pages.{loaded};
 ghost use Rattle.page_memory.specs.declared.words.Access.{Access};
 ghost use Rattle.page_store.specs.PageValue.{content, writable};
 ghost use Rattle.rv_exec.specs.Answers.{Answers, BusRefuses};
 ghost use Rattle.paged_memory.specs.Paged.{Holds, flat_pages};
 ghost use Rattle.paged_memory.specs.Replies.{loaded_by};
-ghost use Rattle.paged_memory.specs.Access.{HasPage, LacksPage, MarksUse, KeepsTranslations, MayWalk, TakesStores, UsesBytes, cache_of, ServesHeld};
+ghost use Rattle.paged_memory.specs.Access.{HasPage, LacksPage, MarksUse, KeepsTranslations};
+ghost use Rattle.paged_memory.specs.Access.{MayWalk, TakesStores, UsesBytes, cache_of, ServesHeld};
 
 use crate::access::{at_hand, reach};
 use crate::caches::Caches;
@@ -94,8 +97,8 @@ pub(crate) fn read<'a, L: Ledger, S: SwapSlot>(
     ensures refused { IfErr result (BusRefuses (LacksPage pages.now) address
         (usable (flat_pages S.content pages.now) access address)) }
     ensures held { ServesHeld (cache_of caches.old hart) access (page_number address) result }
-    ensures kept { KeepsTranslations pages.now hart (page_number address) tables.old tables.new caches.old
-        caches.new }
+    ensures kept { KeepsTranslations pages.now hart (page_number address) tables.old tables.new
+        caches.old caches.new }
     ensures entries { MayWalk access (page_number address) tables.old tables.new }
     ensures unmarked { OnErr result (tables.new ≡ tables.old) }
     ensures unfilled { OnErr result (caches.new ≡ caches.old) }
@@ -131,8 +134,8 @@ pub(crate) fn fetch_anew<L: Ledger, S: SwapSlot>(
         (loaded_by result) }
     ensures held { ServesHeld (cache_of caches.old hart) Access.Fetch (page_number address)
         (loaded_by result) }
-    ensures kept { KeepsTranslations pages.now hart (page_number address) tables.old tables.new caches.old
-        caches.new }
+    ensures kept { KeepsTranslations pages.now hart (page_number address) tables.old tables.new
+        caches.old caches.new }
     ensures entries { MayWalk Access.Fetch (page_number address) tables.old tables.new }
     ensures unmarked { OnErr (loaded_by result) (tables.new ≡ tables.old) }
     ensures unfilled { OnErr (loaded_by result) (caches.new ≡ caches.old) }
@@ -169,8 +172,8 @@ pub(crate) fn load_anew<L: Ledger, S: SwapSlot>(
         (loaded_by result) }
     ensures held { ServesHeld (cache_of caches.old hart) Access.Load (page_number address)
         (loaded_by result) }
-    ensures kept { KeepsTranslations pages.now hart (page_number address) tables.old tables.new caches.old
-        caches.new }
+    ensures kept { KeepsTranslations pages.now hart (page_number address) tables.old tables.new
+        caches.old caches.new }
     ensures entries { MayWalk Access.Load (page_number address) tables.old tables.new }
     ensures unmarked { OnErr (loaded_by result) (tables.new ≡ tables.old) }
     ensures unfilled { OnErr (loaded_by result) (caches.new ≡ caches.old) }
@@ -203,8 +206,8 @@ pub(crate) fn load_to_replace<L: Ledger, S: SwapSlot>(
         (LacksPage pages.now) address (answer_by (number_at 4 address)
         (aligned_page (flat_pages S.content pages.now) Access.Store 4 address)) result }
     ensures held { ServesHeld (cache_of caches.old hart) Access.Store (page_number address) result }
-    ensures kept { KeepsTranslations pages.now hart (page_number address) tables.old tables.new caches.old
-        caches.new }
+    ensures kept { KeepsTranslations pages.now hart (page_number address) tables.old tables.new
+        caches.old caches.new }
     ensures entries { MayWalk Access.Store (page_number address) tables.old tables.new }
     ensures unmarked { OnErr result (tables.new ≡ tables.old) }
     ensures unfilled { OnErr result (caches.new ≡ caches.old) }

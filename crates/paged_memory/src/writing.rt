@@ -1,4 +1,5 @@
-ghost use Rattle.std.specs.Prelude.{◌≡◌, ◌+◌, ◌≤◌, ◌<◌, ◌%◌, length, is_some, Some, Ok, OnOk, OnErr, true, ℕ, drop};
+ghost use Rattle.std.specs.Prelude.{◌≡◌, ◌+◌, ◌≤◌, ◌<◌, ◌%◌, length, is_some, Some, Ok, OnOk};
+ghost use Rattle.std.specs.Prelude.{OnErr, true, ℕ, drop};
 ghost use Rattle.page_memory.specs.Words.{page_number, page_offset, bytes_in};
 ghost use Rattle.page_memory.specs.Pages.{overwritten, stored, replaced, copied_in};
 ghost use Rattle.byteorder.specs.Endian.{little_bytes, little_number};
@@ -9,7 +10,8 @@ ghost use Rattle.rv_exec.specs.Answers.{Answers, with_answer};
 ghost use Rattle.page_memory.specs.declared.words.Access.{Access};
 ghost use Rattle.paged_memory.specs.Paged.{Holds, flat_pages};
 ghost use Rattle.paged_memory.specs.Replies.{stored_by};
-ghost use Rattle.paged_memory.specs.Access.{HasPage, LacksPage, MarksUse, KeepsTranslations, MayWalk, KeepsBare, TakesStores, cache_of, ServesHeld};
+ghost use Rattle.paged_memory.specs.Access.{HasPage, LacksPage, MarksUse, KeepsTranslations};
+ghost use Rattle.paged_memory.specs.Access.{MayWalk, KeepsBare, TakesStores, cache_of, ServesHeld};
 
 use crate::access::{at_hand, reach};
 use crate::caches::Caches;
@@ -99,12 +101,15 @@ pub(crate) fn store<L: Ledger, S: SwapSlot>(
     requires holds { Holds S.content S.honest pages.old tables.old caches.old }
     ensures holds { Holds S.content S.honest pages.new tables.new caches.new }
     ensures answer { let after = with_answer (λ _. flat_pages S.content pages.new) result in
-        Answers (HasPage pages.old (cache_of caches.old hart)) (MarksUse pages.old tables.new (cache_of caches.old hart) Access.Store) (LacksPage pages.old) address (stored (flat_pages S.content pages.old) width address word) after }
+        Answers (HasPage pages.old (cache_of caches.old hart))
+        (MarksUse pages.old tables.new (cache_of caches.old hart) Access.Store)
+        (LacksPage pages.old) address (stored (flat_pages S.content pages.old) width address word)
+        after }
     ensures refused { OnErr result (pages.new ≡ pages.old) }
     ensures bare { KeepsBare (page_number address) pages.old pages.new }
     ensures held { ServesHeld (cache_of caches.old hart) Access.Store (page_number address) result }
-    ensures kept { KeepsTranslations pages.old hart (page_number address) tables.old tables.new caches.old
-        caches.new }
+    ensures kept { KeepsTranslations pages.old hart (page_number address) tables.old tables.new
+        caches.old caches.new }
     ensures entries { MayWalk Access.Store (page_number address) tables.old tables.new }
     ensures unmarked { OnErr result (tables.new ≡ tables.old) }
     ensures unfilled { OnErr result (caches.new ≡ caches.old) }
@@ -142,13 +147,16 @@ fn store_anew<L: Ledger, S: SwapSlot>(
     ensures holds { Holds S.content S.honest pages.new tables.new caches.new }
     ensures answer { let after = with_answer (λ _. flat_pages S.content pages.new)
         (stored_by result) in
-        Answers (HasPage pages.old (cache_of caches.old hart)) (MarksUse pages.old tables.new (cache_of caches.old hart) Access.Store) (LacksPage pages.old) address (stored (flat_pages S.content pages.old) width address word) after }
+        Answers (HasPage pages.old (cache_of caches.old hart))
+        (MarksUse pages.old tables.new (cache_of caches.old hart) Access.Store)
+        (LacksPage pages.old) address (stored (flat_pages S.content pages.old) width address word)
+        after }
     ensures refused { OnErr (stored_by result) (pages.new ≡ pages.old) }
     ensures bare { KeepsBare (page_number address) pages.old pages.new }
     ensures held { ServesHeld (cache_of caches.old hart) Access.Store (page_number address)
         (stored_by result) }
-    ensures kept { KeepsTranslations pages.old hart (page_number address) tables.old tables.new caches.old
-        caches.new }
+    ensures kept { KeepsTranslations pages.old hart (page_number address) tables.old tables.new
+        caches.old caches.new }
     ensures entries { MayWalk Access.Store (page_number address) tables.old tables.new }
     ensures unmarked { OnErr (stored_by result) (tables.new ≡ tables.old) }
     ensures unfilled { OnErr (stored_by result) (caches.new ≡ caches.old) }
@@ -185,12 +193,15 @@ pub(crate) fn copy_in<L: Ledger, S: SwapSlot>(
     requires holds { Holds S.content S.honest pages.old tables.old caches.old }
     ensures holds { Holds S.content S.honest pages.new tables.new caches.new }
     ensures answer { let after = with_answer (λ _. flat_pages S.content pages.new) result in
-        Answers (HasPage pages.old (cache_of caches.old hart)) (MarksUse pages.old tables.new (cache_of caches.old hart) Access.Store) (LacksPage pages.old) address (copied_in (flat_pages S.content pages.old) address from.now) after }
+        Answers (HasPage pages.old (cache_of caches.old hart))
+        (MarksUse pages.old tables.new (cache_of caches.old hart) Access.Store)
+        (LacksPage pages.old) address (copied_in (flat_pages S.content pages.old) address from.now)
+        after }
     ensures refused { OnErr result (pages.new ≡ pages.old) }
     ensures bare { KeepsBare (page_number address) pages.old pages.new }
     ensures held { ServesHeld (cache_of caches.old hart) Access.Store (page_number address) result }
-    ensures kept { KeepsTranslations pages.old hart (page_number address) tables.old tables.new caches.old
-        caches.new }
+    ensures kept { KeepsTranslations pages.old hart (page_number address) tables.old tables.new
+        caches.old caches.new }
     ensures entries { MayWalk Access.Store (page_number address) tables.old tables.new }
     ensures unmarked { OnErr result (tables.new ≡ tables.old) }
     ensures unfilled { OnErr result (caches.new ≡ caches.old) }
@@ -221,12 +232,15 @@ pub(crate) fn amo<L: Ledger, S: SwapSlot>(
     ensures holds { Holds S.content S.honest pages.new tables.new caches.new }
     ensures answer { let update = λ (old : ℕ). amo_result operation old operand in
         let after = with_answer (λ old. (old, flat_pages S.content pages.new)) result in
-        Answers (HasPage pages.old (cache_of caches.old hart)) (MarksUse pages.old tables.new (cache_of caches.old hart) Access.Store) (LacksPage pages.old) address (replaced (flat_pages S.content pages.old) update address) after }
+        Answers (HasPage pages.old (cache_of caches.old hart))
+        (MarksUse pages.old tables.new (cache_of caches.old hart) Access.Store)
+        (LacksPage pages.old) address (replaced (flat_pages S.content pages.old) update address)
+        after }
     ensures refused { OnErr result (pages.new ≡ pages.old) }
     ensures bare { KeepsBare (page_number address) pages.old pages.new }
     ensures held { ServesHeld (cache_of caches.old hart) Access.Store (page_number address) result }
-    ensures kept { KeepsTranslations pages.old hart (page_number address) tables.old tables.new caches.old
-        caches.new }
+    ensures kept { KeepsTranslations pages.old hart (page_number address) tables.old tables.new
+        caches.old caches.new }
     ensures entries { MayWalk Access.Store (page_number address) tables.old tables.new }
     ensures unmarked { OnErr result (tables.new ≡ tables.old) }
     ensures unfilled { OnErr result (caches.new ≡ caches.old) }
@@ -269,12 +283,15 @@ fn amo_anew<L: Ledger, S: SwapSlot>(
     ensures holds { Holds S.content S.honest pages.new tables.new caches.new }
     ensures answer { let update = λ (old : ℕ). amo_result operation old operand in
         let after = with_answer (λ old. (old, flat_pages S.content pages.new)) result in
-        Answers (HasPage pages.old (cache_of caches.old hart)) (MarksUse pages.old tables.new (cache_of caches.old hart) Access.Store) (LacksPage pages.old) address (replaced (flat_pages S.content pages.old) update address) after }
+        Answers (HasPage pages.old (cache_of caches.old hart))
+        (MarksUse pages.old tables.new (cache_of caches.old hart) Access.Store)
+        (LacksPage pages.old) address (replaced (flat_pages S.content pages.old) update address)
+        after }
     ensures refused { OnErr result (pages.new ≡ pages.old) }
     ensures bare { KeepsBare (page_number address) pages.old pages.new }
     ensures held { ServesHeld (cache_of caches.old hart) Access.Store (page_number address) result }
-    ensures kept { KeepsTranslations pages.old hart (page_number address) tables.old tables.new caches.old
-        caches.new }
+    ensures kept { KeepsTranslations pages.old hart (page_number address) tables.old tables.new
+        caches.old caches.new }
     ensures entries { MayWalk Access.Store (page_number address) tables.old tables.new }
     ensures unmarked { OnErr result (tables.new ≡ tables.old) }
     ensures unfilled { OnErr result (caches.new ≡ caches.old) }

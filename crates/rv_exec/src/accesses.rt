@@ -5,7 +5,8 @@ ghost use Rattle.rv_exec.specs.Access.{load_width, store_width, extended};
 ghost use Rattle.rv_exec.specs.Registers.{register, with_pc};
 ghost use Rattle.rv_isa.specs.declared.kinds.LoadKind.{LoadKind};
 ghost use Rattle.rv_isa.specs.declared.kinds.StoreKind.{StoreKind};
-ghost use Rattle.rv_exec.specs.Line.{address_at, load_line, store_line, amo_line, reserving_line, conditional_line, conditional_code};
+ghost use Rattle.rv_exec.specs.Line.{address_at, load_line, store_line, amo_line, reserving_line};
+ghost use Rattle.rv_exec.specs.Line.{conditional_line, conditional_code};
 ghost use Rattle.rv_exec.specs.Uses.{load_pages, store_pages, amo_pages};
 ghost use Rattle.rv_exec.specs.Outcomes.{Follows, UnlessDone, UsesPages};
 ghost use Rattle.rv_exec.specs.Bounds.{Bounds};
@@ -92,21 +93,22 @@ pub fn perform_store<B: Bus>(
     offset: Immediate,
 ) -> Outcome
     ensures line { let line = store_line (with_pc regs.old pc.old) (B.memory bus.old) kind
-        (address_at (with_pc regs.old pc.old) rs1 offset) (register (with_pc regs.old pc.old) rs2)
-        in
+        (address_at (with_pc regs.old pc.old) rs1 offset)
+        (register (with_pc regs.old pc.old) rs2) in
         Follows line result (with_pc regs.new pc.new) (B.memory bus.new) }
     ensures registers_stay { UnlessDone result (with_pc regs.new pc.new ≡ with_pc regs.old pc.old) }
     ensures memory_stays { UnlessDone result (B.memory bus.new ≡ B.memory bus.old) }
     ensures pages { let used = store_pages (B.memory bus.old) kind
-        (address_at (with_pc regs.old pc.old) rs1 offset) (register (with_pc regs.old pc.old) rs2)
-        in
+        (address_at (with_pc regs.old pc.old) rs1 offset)
+        (register (with_pc regs.old pc.old) rs2) in
         UsesPages (B.has bus.old) (B.marks bus.new) (B.lacks bus.old) used result }
     ensures bound { let used = store_pages (B.memory bus.old) kind
-        (address_at (with_pc regs.old pc.old) rs1 offset) (register (with_pc regs.old pc.old) rs2)
-        in
+        (address_at (with_pc regs.old pc.old) rs1 offset)
+        (register (with_pc regs.old pc.old) rs2) in
         Bounds (B.within bus.old) (B.within bus.new) used used }
     ensures leaves { let stored = store_pages (B.memory bus.old) kind
-        (address_at (with_pc regs.old pc.old) rs1 offset) (register (with_pc regs.old pc.old) rs2) in
+        (address_at (with_pc regs.old pc.old) rs1 offset)
+        (register (with_pc regs.old pc.old) rs2) in
         LeavesData (B.takes bus.new) (B.misses bus.old) (B.misses bus.new) stored result }
     ensures kept { B.keeps bus.old bus.new }
 {

@@ -1,5 +1,6 @@
 ghost use Rattle.std.specs.Prelude.{◌≡◌};
-ghost use Rattle.rv_exec.specs.Arithmetic.{word_sum, even, result_of, immediate_operation, shift_operation, is_taken};
+ghost use Rattle.rv_exec.specs.Arithmetic.{word_sum, even, result_of, immediate_operation};
+ghost use Rattle.rv_exec.specs.Arithmetic.{shift_operation, is_taken};
 
 use crate::multiplication::{
     divide, divide_unsigned, multiply_high, multiply_high_mixed, multiply_high_unsigned, remainder,

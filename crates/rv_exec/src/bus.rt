@@ -1,8 +1,11 @@
-ghost use Rattle.std.specs.Prelude.{◌≡◌, ℕ, Bool, ◌+◌, ◌^◌, ◌<◌, ◌≤◌, [], length, OnOk, OnErr, IsErr, List, ◌∷◌};
+ghost use Rattle.std.specs.Prelude.{◌≡◌, ℕ, Bool, ◌+◌, ◌^◌, ◌<◌, ◌≤◌, [], length, OnOk, OnErr};
+ghost use Rattle.std.specs.Prelude.{IsErr, List, ◌∷◌};
 ghost use Rattle.page_memory.specs.declared.words.Access.{Access};
 ghost use Rattle.page_memory.specs.declared.words.Width.{Width};
 ghost use Rattle.page_memory.specs.Words.{page_number, page_offset};
-ghost use Rattle.page_memory.specs.Memory.{Memory, fetched, loaded, stored, replaced, loaded_reserved, stored_conditionally, copied_out, copied_in, with_zeroed};
+ghost use Rattle.page_memory.specs.Memory.{Memory, fetched, loaded, stored, replaced};
+ghost use Rattle.page_memory.specs.Memory.{loaded_reserved, stored_conditionally, copied_out};
+ghost use Rattle.page_memory.specs.Memory.{copied_in, with_zeroed};
 
 use page_memory::{MemoryFault, Width};
 use rv_isa::AmoKind;
@@ -69,8 +72,8 @@ pub trait Bus {
         ensures same { memory self.new ≡ memory self.old }
         ensures bound { let pages = page_of_access address (fetched (memory self.old) address) in
             Bounds (within self.old) (within self.new) pages [] }
-        ensures leaves { Leaves (MissedBefore (misses self.old) (misses self.new) (page_number address))
-            (misses self.old [] Access.Fetch) result }
+        ensures leaves { Leaves (MissedBefore (misses self.old) (misses self.new)
+            (page_number address)) (misses self.old [] Access.Fetch) result }
         ensures kept { keeps self.old self.new };
 
     /// The number at an address, not extended.
@@ -176,13 +179,18 @@ pub trait Bus {
     // and what takes stores does.
     ghost keeps_itself: { (bus : Self) → keeps bus bus };
 
-    ghost keeps_on: { (before between after : Self) → keeps before between → keeps between after → keeps before after };
+    ghost keeps_on: { (before between after : Self) → keeps before between →
+        keeps between after → keeps before after };
 
-    ghost lacked_before: { (before after : Self) (page : ℕ) → keeps before after → lacks after page → lacks before page };
+    ghost lacked_before: { (before after : Self) (page : ℕ) → keeps before after →
+        lacks after page → lacks before page };
 
-    ghost had_before: { (before after : Self) (page : ℕ) → keeps before after → has after page → has before page };
+    ghost had_before: { (before after : Self) (page : ℕ) → keeps before after →
+        has after page → has before page };
 
-    ghost marked_on: { (before after : Self) (page : ℕ) → keeps before after → marks before page → marks after page };
+    ghost marked_on: { (before after : Self) (page : ℕ) → keeps before after →
+        marks before page → marks after page };
 
-    ghost takes_on: { (before after : Self) (page : ℕ) → keeps before after → takes before page → takes after page };
+    ghost takes_on: { (before after : Self) (page : ℕ) → keeps before after →
+        takes before page → takes after page };
 }

@@ -2,7 +2,9 @@ ghost use Rattle.std.specs.Prelude.{◌≡◌, ℕ, []};
 ghost use Rattle.page_memory.specs.Memory.{Memory};
 ghost use Rattle.rv_isa.specs.Table.{insn_of, amo_of, reservation_of, system_of};
 ghost use Rattle.rv_isa.specs.declared.forms.Form.{Form};
-ghost use Rattle.rv_isa.specs.Forms.{insn_of_form, branch_insn, load_insn, store_insn, immediate_insn, shift_insn, op_insn, shift_left_of, shift_right_of, op_of_two, op_of_three};
+ghost use Rattle.rv_isa.specs.Forms.{insn_of_form, branch_insn, load_insn, store_insn};
+ghost use Rattle.rv_isa.specs.Forms.{immediate_insn, shift_insn, op_insn, shift_left_of};
+ghost use Rattle.rv_isa.specs.Forms.{shift_right_of, op_of_two, op_of_three};
 ghost use Rattle.rv_exec.specs.Registers.{with_pc};
 ghost use Rattle.rv_exec.specs.Line.{decoded_line, line};
 ghost use Rattle.rv_exec.specs.Bounds.{Bounds};
@@ -42,11 +44,13 @@ pub fn execute<B: Bus>(hart: u32, regs: &mut Regs, bus: &mut B) -> Outcome
     ensures pages { let used = pages_used regs.old (B.memory bus.old) in
         UsesPages (B.has bus.old) (B.marks bus.new) (B.lacks bus.old) used result }
     ensures bound { let memory = B.memory bus.old in
-        Bounds (B.within bus.old) (B.within bus.new) (pages_used regs.old memory) (pages_stored regs.old memory) }
+        Bounds (B.within bus.old) (B.within bus.new) (pages_used regs.old memory)
+        (pages_stored regs.old memory) }
 
     // Each page that it stores to takes stores; or the absent one was not at hand when its access came.
     ensures leaves { let stored = pages_stored regs.old (B.memory bus.old) in
-        LeavesPages (B.takes bus.new) (B.marks bus.new) (B.misses bus.old) (B.misses bus.new) (page_number regs.old.pc) stored result }
+        LeavesPages (B.takes bus.new) (B.marks bus.new) (B.misses bus.old) (B.misses bus.new)
+        (page_number regs.old.pc) stored result }
     ensures kept { B.keeps bus.old bus.new }
 {
     let mut pc = regs.pc();
@@ -67,11 +71,13 @@ pub fn execute_at<B: Bus>(hart: u32, pc: &mut u32, regs: &mut Regs, bus: &mut B)
     ensures pages { let used = pages_used (with_pc regs.old pc.old) (B.memory bus.old) in
         UsesPages (B.has bus.old) (B.marks bus.new) (B.lacks bus.old) used result }
     ensures bound { let memory = B.memory bus.old in
-        Bounds (B.within bus.old) (B.within bus.new) (pages_used (with_pc regs.old pc.old) memory) (pages_stored (with_pc regs.old pc.old) memory) }
+        Bounds (B.within bus.old) (B.within bus.new) (pages_used (with_pc regs.old pc.old) memory)
+        (pages_stored (with_pc regs.old pc.old) memory) }
 
     // Each page that it stores to takes stores; or the absent one was not at hand when its access came.
     ensures leaves { let stored = pages_stored (with_pc regs.old pc.old) (B.memory bus.old) in
-        LeavesPages (B.takes bus.new) (B.marks bus.new) (B.misses bus.old) (B.misses bus.new) (page_number (with_pc regs.old pc.old).pc) stored result }
+        LeavesPages (B.takes bus.new) (B.marks bus.new) (B.misses bus.old) (B.misses bus.new)
+        (page_number (with_pc regs.old pc.old).pc) stored result }
     ensures kept { B.keeps bus.old bus.new }
 {
     let address = *pc;
@@ -95,7 +101,8 @@ fn perform<B: Bus>(hart: u32, pc: &mut u32, regs: &mut Regs, bus: &mut B, word: 
         (insn_of word) in
         UsesPages (B.has bus.old) (B.marks bus.new) (B.lacks bus.old) used result }
     ensures bound { let memory = B.memory bus.old in
-        Bounds (B.within bus.old) (B.within bus.new) (decoded_pages (with_pc regs.old pc.old) memory (insn_of word)) (decoded_stores (with_pc regs.old pc.old) memory (insn_of word)) }
+        Bounds (B.within bus.old) (B.within bus.new) (decoded_pages (with_pc regs.old pc.old) memory
+        (insn_of word)) (decoded_stores (with_pc regs.old pc.old) memory (insn_of word)) }
     ensures leaves { let stored = decoded_stores (with_pc regs.old pc.old) (B.memory bus.old)
         (insn_of word) in
         LeavesData (B.takes bus.new) (B.misses bus.old) (B.misses bus.new) stored result }
@@ -124,7 +131,9 @@ fn perform_form<B: Bus>(
         (insn_of_form form word) in
         UsesPages (B.has bus.old) (B.marks bus.new) (B.lacks bus.old) used result }
     ensures bound { let memory = B.memory bus.old in
-        Bounds (B.within bus.old) (B.within bus.new) (decoded_pages (with_pc regs.old pc.old) memory (insn_of_form form word)) (decoded_stores (with_pc regs.old pc.old) memory (insn_of_form form word)) }
+        Bounds (B.within bus.old) (B.within bus.new) (decoded_pages (with_pc regs.old pc.old) memory
+        (insn_of_form form word)) (decoded_stores (with_pc regs.old pc.old) memory
+        (insn_of_form form word)) }
     ensures leaves { let stored = decoded_stores (with_pc regs.old pc.old) (B.memory bus.old)
         (insn_of_form form word) in
         LeavesData (B.takes bus.new) (B.misses bus.old) (B.misses bus.new) stored result }
@@ -269,7 +278,9 @@ fn load<B: Bus>(pc: &mut u32, regs: &mut Regs, bus: &mut B, kind: LoadKind, word
         (Some (load_insn kind word)) in
         UsesPages (B.has bus.old) (B.marks bus.new) (B.lacks bus.old) used result }
     ensures bound { let memory = B.memory bus.old in
-        Bounds (B.within bus.old) (B.within bus.new) (decoded_pages (with_pc regs.old pc.old) memory (Some (load_insn kind word))) (decoded_stores (with_pc regs.old pc.old) memory (Some (load_insn kind word))) }
+        Bounds (B.within bus.old) (B.within bus.new) (decoded_pages (with_pc regs.old pc.old) memory
+        (Some (load_insn kind word))) (decoded_stores (with_pc regs.old pc.old) memory
+        (Some (load_insn kind word))) }
     ensures leaves { let stored = decoded_stores (with_pc regs.old pc.old) (B.memory bus.old)
         (Some (load_insn kind word)) in
         LeavesData (B.takes bus.new) (B.misses bus.old) (B.misses bus.new) stored result }
@@ -291,7 +302,9 @@ fn store<B: Bus>(pc: &mut u32, regs: &mut Regs, bus: &mut B, kind: StoreKind, wo
         (Some (store_insn kind word)) in
         UsesPages (B.has bus.old) (B.marks bus.new) (B.lacks bus.old) used result }
     ensures bound { let memory = B.memory bus.old in
-        Bounds (B.within bus.old) (B.within bus.new) (decoded_pages (with_pc regs.old pc.old) memory (Some (store_insn kind word))) (decoded_stores (with_pc regs.old pc.old) memory (Some (store_insn kind word))) }
+        Bounds (B.within bus.old) (B.within bus.new) (decoded_pages (with_pc regs.old pc.old) memory
+        (Some (store_insn kind word))) (decoded_stores (with_pc regs.old pc.old) memory
+        (Some (store_insn kind word))) }
     ensures leaves { let stored = decoded_stores (with_pc regs.old pc.old) (B.memory bus.old)
         (Some (store_insn kind word)) in
         LeavesData (B.takes bus.new) (B.misses bus.old) (B.misses bus.new) stored result }
@@ -464,7 +477,8 @@ fn amo<B: Bus>(hart: u32, pc: &mut u32, regs: &mut Regs, bus: &mut B, word: u32)
         (amo_of word) in
         UsesPages (B.has bus.old) (B.marks bus.new) (B.lacks bus.old) used result }
     ensures bound { let memory = B.memory bus.old in
-        Bounds (B.within bus.old) (B.within bus.new) (decoded_pages (with_pc regs.old pc.old) memory (amo_of word)) (decoded_stores (with_pc regs.old pc.old) memory (amo_of word)) }
+        Bounds (B.within bus.old) (B.within bus.new) (decoded_pages (with_pc regs.old pc.old) memory
+        (amo_of word)) (decoded_stores (with_pc regs.old pc.old) memory (amo_of word)) }
     ensures leaves { let stored = decoded_stores (with_pc regs.old pc.old) (B.memory bus.old)
         (amo_of word) in
         LeavesData (B.takes bus.new) (B.misses bus.old) (B.misses bus.new) stored result }
@@ -493,7 +507,9 @@ fn reservation<B: Bus>(hart: u32, pc: &mut u32, regs: &mut Regs, bus: &mut B, wo
         (reservation_of word) in
         UsesPages (B.has bus.old) (B.marks bus.new) (B.lacks bus.old) used result }
     ensures bound { let memory = B.memory bus.old in
-        Bounds (B.within bus.old) (B.within bus.new) (decoded_pages (with_pc regs.old pc.old) memory (reservation_of word)) (decoded_stores (with_pc regs.old pc.old) memory (reservation_of word)) }
+        Bounds (B.within bus.old) (B.within bus.new) (decoded_pages (with_pc regs.old pc.old) memory
+        (reservation_of word)) (decoded_stores (with_pc regs.old pc.old) memory
+        (reservation_of word)) }
     ensures leaves { let stored = decoded_stores (with_pc regs.old pc.old) (B.memory bus.old)
         (reservation_of word) in
         LeavesData (B.takes bus.new) (B.misses bus.old) (B.misses bus.new) stored result }

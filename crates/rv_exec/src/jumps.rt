@@ -52,7 +52,8 @@ fn branch(pc: &mut u32, regs: &mut Regs, target: u32, taken: bool) -> Outcome
 #[inline(always)]
 pub fn perform_jalr(pc: &mut u32, regs: &mut Regs, rd: Reg, rs1: Reg, offset: Immediate) -> Outcome
     ensures line { let target = even (address_at (with_pc regs.old pc.old) rs1 offset) in
-        (memory : Memory) → Follows (jumped (with_pc regs.old pc.old) memory rd target) result (with_pc regs.new pc.new) memory }
+        (memory : Memory) → Follows (jumped (with_pc regs.old pc.old) memory rd target) result
+        (with_pc regs.new pc.new) memory }
     ensures registers_stay { UnlessDone result (with_pc regs.new pc.new ≡ with_pc regs.old pc.old) }
     ensures present { IsPresent result }
 {
@@ -72,7 +73,8 @@ pub fn perform_branch(
 ) -> Outcome
     ensures line { let taken = is_taken kind (register (with_pc regs.old pc.old) rs1)
         (register (with_pc regs.old pc.old) rs2) in
-        (memory : Memory) → Follows (branched (with_pc regs.old pc.old) memory (word_sum pc.old (word_of_signed offset)) taken) result (with_pc regs.new pc.new) memory }
+        (memory : Memory) → Follows (branched (with_pc regs.old pc.old) memory
+        (word_sum pc.old (word_of_signed offset)) taken) result (with_pc regs.new pc.new) memory }
     ensures registers_stay { UnlessDone result (with_pc regs.new pc.new ≡ with_pc regs.old pc.old) }
     ensures present { IsPresent result }
 {
@@ -85,7 +87,8 @@ pub fn perform_branch(
 #[inline(always)]
 pub fn perform_jal(pc: &mut u32, regs: &mut Regs, rd: Reg, offset: JumpOffset) -> Outcome
     ensures line { let target = word_sum pc.old (word_of_signed offset) in
-        (memory : Memory) → Follows (jumped (with_pc regs.old pc.old) memory rd target) result (with_pc regs.new pc.new) memory }
+        (memory : Memory) → Follows (jumped (with_pc regs.old pc.old) memory rd target) result
+        (with_pc regs.new pc.new) memory }
     ensures registers_stay { UnlessDone result (with_pc regs.new pc.new ≡ with_pc regs.old pc.old) }
     ensures present { IsPresent result }
 {

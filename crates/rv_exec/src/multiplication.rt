@@ -1,6 +1,8 @@
 //! Multiplication and division of words (unprivileged manual, "M" Extension for Integer Multiplication and Division).
 ghost use Rattle.std.specs.Prelude.{◌≡◌, pos, ◌*◌, ◌/◌, ◌^◌, ◌*ℤ◌};
-ghost use Rattle.rv_exec.specs.Arithmetic.{signed_word, high_word, quotient, remainder as remainder_of, unsigned_quotient, unsigned_remainder};
+ghost use Rattle.rv_exec.specs.Arithmetic.{signed_word, high_word, quotient};
+ghost use Rattle.rv_exec.specs.Arithmetic.{remainder as remainder_of, unsigned_quotient};
+ghost use Rattle.rv_exec.specs.Arithmetic.{unsigned_remainder};
 
 /// The high word of the product of two signed words.
 #[inline]

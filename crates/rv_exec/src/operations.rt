@@ -1,7 +1,8 @@
 //! Operations on registers and immediates (unprivileged manual, "Integer Computational Instructions").
 ghost use Rattle.std.specs.Prelude.{◌≡◌};
 ghost use Rattle.rv_exec.specs.Registers.{register, with_pc};
-ghost use Rattle.rv_exec.specs.Arithmetic.{immediate_operation, result_of, shift_operation, word_of_signed};
+ghost use Rattle.rv_exec.specs.Arithmetic.{immediate_operation, result_of, shift_operation};
+ghost use Rattle.rv_exec.specs.Arithmetic.{word_of_signed};
 ghost use Rattle.rv_exec.specs.Line.{computed};
 
 use crate::arithmetic::{operate, operate_immediate, shift};

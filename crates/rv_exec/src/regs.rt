@@ -28,7 +28,9 @@ impl Model for Regs {
     ghost use Rattle.rv_exec.specs.declared.regs.Regs.TheInside.{Inside};
     ghost use Rattle.rv_exec.specs.RegistersLaws.{with_zero};
 
-    ghost inverse_ok = { λ regs lawful. ap (λ x. let inside : Inside = record { pc = regs.pc; x = x } in inside) (with_zero regs.x lawful.0 lawful.1) };
+    ghost inverse_ok = { λ regs lawful.
+        ap (λ x. let inside : Inside = record { pc = regs.pc; x = x } in inside)
+        (with_zero regs.x lawful.0 lawful.1) };
 }
 
 impl Regs {

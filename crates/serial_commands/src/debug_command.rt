@@ -6,7 +6,8 @@ ghost use Rattle.debug_core.specs.Debugging.{DebuggerValue};
 ghost use Rattle.debug_session.specs.Conversation.{HasConversed};
 ghost use Rattle.debug_session.specs.declared.conversation.SessionFault.TheVariants.{BadLine};
 ghost use Rattle.image_files.specs.Faults.{IfBadLine};
-ghost use Rattle.serial_commands.specs.Debugged.{new_debugger, ConversesOver, DebugsAsAsked, IfLinesEnd, IsTold};
+ghost use Rattle.serial_commands.specs.Debugged.{new_debugger, ConversesOver, DebugsAsAsked};
+ghost use Rattle.serial_commands.specs.Debugged.{IfLinesEnd, IsTold};
 
 use clock_ring::ClockRing;
 use command_line::DebugRequest;

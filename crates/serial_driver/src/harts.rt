@@ -3,7 +3,8 @@
 ghost use Rattle.std.specs.Prelude.{◌≡◌, ◌<◌, ◌≤◌, ℕ, true, false, IfNone, IfSome, slice_get};
 ghost use Rattle.serial_driver.specs.Closing.{goes_on};
 ghost use Rattle.serial_driver.specs.Endings.{HasEnded};
-ghost use Rattle.serial_driver.specs.Rounds.{GoesOnFirst, IsAbove, IsFirst, IsLeastAbove, IsNextHart, IsNextProcess, NoneAbove, lives_in};
+ghost use Rattle.serial_driver.specs.Rounds.{GoesOnFirst, IsAbove, IsFirst, IsLeastAbove};
+ghost use Rattle.serial_driver.specs.Rounds.{IsNextHart, IsNextProcess, NoneAbove, lives_in};
 
 use clock_policy::Clock;
 use machine_core::Core;
@@ -89,7 +90,8 @@ pub(crate) fn next_hart<L: Ledger, S: SwapSlot, C: Clock>(
     process: u32,
     last: Option<u32>,
 ) -> Option<HartOf>
-    ensures some { IfSome result (λ of. IsNextHart S.honest core.now process last of.process of.hart) }
+    ensures some { IfSome result (λ of. IsNextHart S.honest core.now process last of.process
+        of.hart) }
     ensures none { IfNone result ((number : ℕ) → HasEnded core.now number) }
 {
     match live_hart_above(core, process, last) {

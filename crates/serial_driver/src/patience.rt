@@ -4,7 +4,9 @@ ghost use Rattle.std.specs.Prelude.{◌≡◌, ◌*◌, ◌<◌, ℕ, None, Some
 ghost use Rattle.machine_core.specs.Headline.{has_run};
 ghost use Rattle.machine_core.specs.ManySteps.{steps_of, replies_of};
 ghost use Rattle.machine_limits.specs.Limits.{most_processes};
-ghost use Rattle.serial_driver.specs.Patience.{IsPatient, any_ran, has_failed, is_served, renewed, run_of, spent_of, spent_with, tried_after, tried_again, tried_with, try_of, tries_per_frame};
+ghost use Rattle.serial_driver.specs.Patience.{IsPatient, any_ran, has_failed, is_served, renewed};
+ghost use Rattle.serial_driver.specs.Patience.{run_of, spent_of, spent_with, tried_after};
+ghost use Rattle.serial_driver.specs.Patience.{tried_again, tried_with, try_of, tries_per_frame};
 
 use machine_core::{Event, Reply, StepsReply};
 use machine_limits::{MOST_PROCESSES, TRIES_PER_FRAME};

@@ -1,6 +1,7 @@
 //! A machine that is played and told: whether it is sound, and its report.
 
-ghost use Rattle.std.specs.Prelude.{◌≡◌, ◌↔◌, ◌≤◌, ℕ, [], IfOk, IsErrOf, IsTrue, List, max, true, vec_capacity};
+ghost use Rattle.std.specs.Prelude.{◌≡◌, ◌↔◌, ◌≤◌, ℕ, [], IfOk, IsErrOf, IsTrue, List, max, true};
+ghost use Rattle.std.specs.Prelude.{vec_capacity};
 ghost use Rattle.elf_image.specs.Start.{Start};
 ghost use Rattle.machine_core.specs.Applying.{LeadsTo};
 ghost use Rattle.machine_core.specs.Opening.{MachineBegins};

@@ -1,4 +1,5 @@
-ghost use Rattle.std.specs.Prelude.{◌≡◌, ◌<◌, ◌≤◌, ◌*◌, ℕ, map, max, List, false, None, IfNone, IfSome};
+ghost use Rattle.std.specs.Prelude.{◌≡◌, ◌<◌, ◌≤◌, ◌*◌, ℕ, map, max, List, false, None, IfNone};
+ghost use Rattle.std.specs.Prelude.{IfSome};
 ghost use Rattle.machine_core.specs.Applying.{LeadsTo};
 ghost use Rattle.machine_core.specs.declared.event.Event.TheVariants.{Step};
 ghost use Rattle.serial_driver.specs.Closing.{is_limit_kill};
@@ -7,7 +8,8 @@ ghost use Rattle.elf_image.specs.Start.{Start};
 ghost use Rattle.serial_driver.specs.Endings.{HasEnded};
 ghost use Rattle.machine_sides.specs.FlatLines.{HaveLines};
 ghost use Rattle.machine_sides.specs.Reporting.{come_to};
-ghost use Rattle.serial_driver.specs.Limit.{Closes, DoesSave, EndsByLimit, EndsOne, PlaysUpTo, PlaysWith};
+ghost use Rattle.serial_driver.specs.Limit.{Closes, DoesSave, EndsByLimit, EndsOne, PlaysUpTo};
+ghost use Rattle.serial_driver.specs.Limit.{PlaysWith};
 ghost use Rattle.serial_driver.specs.Nexts.{IsNext, IsNoStep, MayCome, most_events};
 ghost use Rattle.serial_driver.specs.Owing.{next_owed, no_duty, Pays};
 ghost use Rattle.serial_driver.specs.Turning.{IsInTurn};
@@ -81,7 +83,8 @@ pub(crate) fn what_is_next<L: Ledger, S: SwapSlot, C: Clock>(
     allowed: u64,
 ) -> Option<Next>
     requires { 0 < allowed }
-    ensures next { IfSome result (IsNext S.honest core.now allowed patience.now.spent (duty_of turns.now)) }
+    ensures next { IfSome result (IsNext S.honest core.now allowed patience.now.spent
+        (duty_of turns.now)) }
     ensures no_step { IfSome result IsNoStep }
     ensures none { IfNone result ((number : ℕ) → HasEnded core.now number) }
     ensures settled { IfNone result (stage_owes turns.now.stage ≡ None) }

@@ -7,7 +7,8 @@ ghost use Rattle.serial_driver.specs.Closing.{is_limit_kill};
 ghost use Rattle.serial_driver.specs.Nexts.{is_step};
 ghost use Rattle.serial_driver.specs.Owing.{Pays, duty_with, is_absent, is_full, next_owed};
 ghost use Rattle.serial_driver.specs.Patience.{IsPatient, spent_with, tried_with};
-ghost use Rattle.serial_driver.specs.Serving.{is_paging, owes_pages, GivesUp, Goes, IsServing, Proceeds, Serves};
+ghost use Rattle.serial_driver.specs.Serving.{is_paging, owes_pages, GivesUp, Goes, IsServing};
+ghost use Rattle.serial_driver.specs.Serving.{Proceeds, Serves};
 ghost use Rattle.serial_driver.specs.Turning.{IsInTurn};
 ghost use Rattle.serial_driver.specs.TurnsDuty.{duty_of, stage_owes, turn_of};
 

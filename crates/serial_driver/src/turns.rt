@@ -1,11 +1,18 @@
 //! Which event comes next.
 
-ghost use Rattle.std.specs.Prelude.{◌≡◌, ◌<◌, ◌≤◌, ◌+◌, ◌-◌, ℕ, max, min, nat_le, false, IfSome, IfNone, Option, Some, None, is_some, if◌then◌else◌};
+ghost use Rattle.std.specs.Prelude.{◌≡◌, ◌<◌, ◌≤◌, ◌+◌, ◌-◌, ℕ, max, min, nat_le, false, IfSome};
+ghost use Rattle.std.specs.Prelude.{IfNone, Option, Some, None, is_some, if◌then◌else◌};
 ghost use Rattle.serial_driver.specs.Endings.{HasEnded};
 ghost use Rattle.machine_core.specs.ManySteps.{steps_of, replies_of};
 ghost use Rattle.serial_driver.specs.Nexts.{AreSteps, IsNext, IsNoStep, IsOrdinary, is_step};
-ghost use Rattle.serial_driver.specs.Owing.{no_duty, most_load_faults, duty_with, duty_after, duty_purged, owed_save, step_owes, step_faults, stop_owes, save_owes, collect_owes, load_owes, load_faults, next_owed, Duty, is_out_of_memory, is_no_memory, is_dirty, is_mapped};
-ghost use Rattle.serial_driver.specs.Turning.{IsInTurn, Turn, Clears, Runs, Waits, begun, noticed_in, paged_in, purged_in, ran_turn, step_turn, swept_turn, waiting};
+ghost use Rattle.serial_driver.specs.Owing.{no_duty, most_load_faults, duty_with, duty_after};
+ghost use Rattle.serial_driver.specs.Owing.{duty_purged, owed_save, step_owes, step_faults};
+ghost use Rattle.serial_driver.specs.Owing.{stop_owes, save_owes, collect_owes, load_owes};
+ghost use Rattle.serial_driver.specs.Owing.{load_faults, next_owed, Duty, is_out_of_memory};
+ghost use Rattle.serial_driver.specs.Owing.{is_no_memory, is_dirty, is_mapped};
+ghost use Rattle.serial_driver.specs.Turning.{IsInTurn, Turn, Clears, Runs, Waits, begun};
+ghost use Rattle.serial_driver.specs.Turning.{noticed_in, paged_in, purged_in, ran_turn, step_turn};
+ghost use Rattle.serial_driver.specs.Turning.{swept_turn, waiting};
 ghost use Rattle.serial_driver.specs.TurnsDuty.{cause_of, duty_of, phase_of, stage_owes, turn_of};
 ghost use Rattle.flat_machine.specs.declared.end.KillCause.TheVariants as cause;
 ghost use Rattle.machine_core.specs.declared.event.Event.TheVariants as machine;
@@ -85,8 +92,14 @@ impl Turns {
         ensures { duty_of result ≡ record {
           faults = 0;
           owed = None;
-          turn = record
-              { slice = 1; process = running.process; hart = running.hart; left = 1; wanted = 0; phase = Runs };
+          turn = record {
+            slice = 1;
+            process = running.process;
+            hart = running.hart;
+            left = 1;
+            wanted = 0;
+            phase = Runs;
+          };
         } }
     {
         Turns {

@@ -35,7 +35,8 @@ fn finish_on<L: Ledger, S: SwapSlot, O: Opening>(
     ensures rest { IsRest (HasIn memory.old hart) (MarksSince memory.new
         (cache_in memory.old hart)) (LacksIn memory.old) (MarkedIn memory.old)
         (MarkedIn memory.new)
-        hart outcome regs.old env.old (memory_of S.content memory.old) result regs.new env.new (memory_of S.content memory.new) }
+        hart outcome regs.old env.old (memory_of S.content memory.old) result regs.new env.new
+        (memory_of S.content memory.new) }
     ensures leaves { LeavesRest (TakesIn memory.new) (MissesIn memory.old hart) outcome regs.old
         (memory_of S.content memory.old) result }
     ensures kept { KeepsAccess hart memory.old memory.new }

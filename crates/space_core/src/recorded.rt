@@ -1,4 +1,5 @@
-ghost use Rattle.std.specs.Prelude.{◌≡◌, ◌≤◌, ◌<◌, true, [], min, length, option_map, Some, IfNone, IfSome, IfOk};
+ghost use Rattle.std.specs.Prelude.{◌≡◌, ◌≤◌, ◌<◌, true, [], min, length, option_map, Some, IfNone};
+ghost use Rattle.std.specs.Prelude.{IfSome, IfOk};
 ghost use Rattle.std.specs.Option.{option_or};
 ghost use Rattle.flat_machine.specs.Process.{may_step, opening};
 ghost use Rattle.flat_machine.specs.Schedule.{room};

@@ -1,4 +1,5 @@
-ghost use Rattle.std.specs.Prelude.{◌≡◌, ◌≤◌, Some, option_copied, slice_get, slice_index_or, false, length, IfOk};
+ghost use Rattle.std.specs.Prelude.{◌≡◌, ◌≤◌, Some, option_copied, slice_get, slice_index_or};
+ghost use Rattle.std.specs.Prelude.{false, length, IfOk};
 ghost use Rattle.std.specs.Option.{option_or};
 ghost use Rattle.flat_machine.specs.Process.{may_step, opening};
 ghost use Rattle.page_memory.specs.Memory.{Memory};
@@ -40,7 +41,8 @@ impl Model for Running {
     } };
 
     ghost invariant = { λ running. record {
-      whole : (memory : Memory) → IsWhole (with_memory (record { harts = running.harts.items; environment = running.env; ending = running.end }) memory);
+      whole : (memory : Memory) → IsWhole (with_memory (record
+          { harts = running.harts.items; environment = running.env; ending = running.end }) memory);
       roomy : 8 ≤ vec_capacity running.harts;
     } };
 }

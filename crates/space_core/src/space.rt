@@ -1,4 +1,5 @@
-ghost use Rattle.std.specs.Prelude.{◌≡◌, ◌<◌, ◌≤◌, ◌^◌, true, Some, option_copied, slice_get, OnSome, IfNone, OnOk, OnErr, IfErr};
+ghost use Rattle.std.specs.Prelude.{◌≡◌, ◌<◌, ◌≤◌, ◌^◌, true, Some, option_copied, slice_get};
+ghost use Rattle.std.specs.Prelude.{OnSome, IfNone, OnOk, OnErr, IfErr};
 ghost use Rattle.std.specs.Option.{option_or};
 ghost use Rattle.paged_memory.specs.Copies.{LeavesCopies};
 ghost use Rattle.paged_memory.specs.Moving.{ForgetsUse, BeginsToLeave, DoesNotLeave};
@@ -34,9 +35,24 @@ impl<L: Ledger, S: SwapSlot> Model for Space<L, S> {
 
     ghost Value = { SpaceValue S };
 
-    ghost view = { λ space. record { image = space.image; input = space.input; running = space.recorded.running; schedule = space.recorded.schedule; memory = space.memory; purged = space.purged } };
+    ghost view = { λ space. record {
+      image = space.image;
+      input = space.input;
+      running = space.recorded.running;
+      schedule = space.recorded.schedule;
+      memory = space.memory;
+      purged = space.purged;
+    } };
 
-    ghost invariant = { λ space. IsSpace S.content S.honest (record { image = space.image; input = space.input; running = space.recorded.running; schedule = space.recorded.schedule; memory = space.memory; purged = space.purged }) };
+    ghost invariant = { λ space. IsSpace S.content S.honest
+        (record {
+          image = space.image;
+          input = space.input;
+          running = space.recorded.running;
+          schedule = space.recorded.schedule;
+          memory = space.memory;
+          purged = space.purged;
+        }) };
 }
 
 impl<L: Ledger, S: SwapSlot> Space<L, S> {
@@ -101,7 +117,9 @@ impl<L: Ledger, S: SwapSlot> Space<L, S> {
     /// The machine ends the process, unless it has ended: its harts' caches are emptied.
     pub fn kill(&mut self, cause: KillCause)
         ensures { self.new ≡ record self.old {
-          running = record self.old.running { ending = option_or self.old.running.ending (Some (End.Killed cause)) };
+          running = record self.old.running {
+            ending = option_or self.old.running.ending (Some (End.Killed cause));
+          };
           memory = if_killed self.old.running.ending self.old.memory;
         } }
     {

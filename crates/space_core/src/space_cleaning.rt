@@ -1,8 +1,10 @@
 //! A changed page is written to its slot while it stays mapped, and counts as unchanged once no store followed the copy.
 
-ghost use Rattle.std.specs.Prelude.{◌≡◌, ◌≤◌, ◌<◌, ◌^◌, ℕ, true, false, is_some, IfErr, IfNone, IfSome, OnErr, OnOk, IsNone, IsSome};
+ghost use Rattle.std.specs.Prelude.{◌≡◌, ◌≤◌, ◌<◌, ◌^◌, ℕ, true, false, is_some, IfErr, IfNone};
+ghost use Rattle.std.specs.Prelude.{IfSome, OnErr, OnOk, IsNone, IsSome};
 ghost use Rattle.page_store.specs.declared.answer.CleanCopy.{CleanCopy};
-ghost use Rattle.paged_memory.specs.Cleaning.{BeginsCleaning, CopiesBack, CopiesOut, CopiesPage, DoesNotClean, EndsCleaningIn, is_changed_in, settles};
+ghost use Rattle.paged_memory.specs.Cleaning.{BeginsCleaning, CopiesBack, CopiesOut, CopiesPage};
+ghost use Rattle.paged_memory.specs.Cleaning.{DoesNotClean, EndsCleaningIn, is_changed_in, settles};
 ghost use Rattle.paged_memory.specs.Copies.{LeavesCopies};
 ghost use Rattle.paged_memory.specs.Moving.{with_pages};
 ghost use Rattle.paged_memory.specs.Paged.{memory_of};

@@ -1,5 +1,6 @@
 ghost use Rattle.std.specs.Prelude.{◌≡◌, length};
-ghost use Rattle.paged_memory.specs.Coheres.{HoldsIn, MarksClearIn, HoldsFramedIn, CopiesUnmarkedIn, WalksLeadIn};
+ghost use Rattle.paged_memory.specs.Coheres.{HoldsIn, MarksClearIn, HoldsFramedIn};
+ghost use Rattle.paged_memory.specs.Coheres.{CopiesUnmarkedIn, WalksLeadIn};
 ghost use Rattle.space_core.specs.StandsFor.{StandsFor};
 ghost use Rattle.paged_memory.specs.Whole.{harts_in};
 

@@ -1,7 +1,8 @@
 ghost use Rattle.std.specs.Prelude.{◌≡◌, ◌<◌, ◌^◌, ◌↔◌, false, IfOk, IfErr, OnOk, OnErr, IsErr};
 ghost use Rattle.paged_memory.specs.Leaving.{lets_go};
 ghost use Rattle.paged_memory.specs.Copies.{LeavesCopies};
-ghost use Rattle.paged_memory.specs.Moving.{IsNotSaved, LooksAt, MapsAgain, SameCaches, SavedAway, with_pages};
+ghost use Rattle.paged_memory.specs.Moving.{IsNotSaved, LooksAt, MapsAgain, SameCaches, SavedAway};
+ghost use Rattle.paged_memory.specs.Moving.{with_pages};
 ghost use Rattle.paged_memory.specs.Paged.{memory_of};
 ghost use Rattle.paged_memory.specs.Stages.{is_leaving_stage};
 ghost use Rattle.paged_memory.specs.Whole.{stage_in};

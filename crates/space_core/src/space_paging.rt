@@ -1,10 +1,14 @@
-ghost use Rattle.std.specs.Prelude.{◌≡◌, ◌+◌, ◌<◌, ◌≤◌, ◌^◌, length, true, Some, IsSome, IfSome, IfNone, OnOk, OnErr, IfErr};
+ghost use Rattle.std.specs.Prelude.{◌≡◌, ◌+◌, ◌<◌, ◌≤◌, ◌^◌, length, true, Some, IsSome, IfSome};
+ghost use Rattle.std.specs.Prelude.{IfNone, OnOk, OnErr, IfErr};
 ghost use Rattle.std.specs.Bool.{OnTrue, OnFalse};
 ghost use Rattle.page_memory.specs.Words.{page_offset};
 ghost use Rattle.flat_machine.specs.Process.{Process, flat_run, opening};
 ghost use Rattle.flat_machine.specs.Schedule.{written_out};
 ghost use Rattle.paged_memory.specs.Copies.{LeavesCopies};
-ghost use Rattle.paged_memory.specs.Moving.{ComesIn, DoesNotShow, GivesIn, HasNothingBelow, LeavesLookedAt, LiesBehindIn, RefusesIn, SameCaches, SameEntries, SameTablesIn, SavesNone, SavesSome, ShowsIn, with_pages};
+ghost use Rattle.paged_memory.specs.Moving.{ComesIn, DoesNotShow, GivesIn, HasNothingBelow};
+ghost use Rattle.paged_memory.specs.Moving.{LeavesLookedAt, LiesBehindIn, RefusesIn, SameCaches};
+ghost use Rattle.paged_memory.specs.Moving.{SameEntries, SameTablesIn, SavesNone, SavesSome};
+ghost use Rattle.paged_memory.specs.Moving.{ShowsIn, with_pages};
 ghost use Rattle.paged_memory.specs.Paged.{memory_of};
 ghost use Rattle.paged_memory.specs.Peeking.{bytes_of};
 ghost use Rattle.space_core.specs.Caches.{if_ended};

@@ -63,7 +63,9 @@ impl<L: Ledger, S: SwapSlot> Space<L, S> {
             (room self.old.schedule hart) (shown_process S.content self.old) result.stop result.ran
             (shown_process S.content self.new) }
         ensures pages { let opening = cache_in self.old.memory hart in
-            EachStep (λ at. Used (HasIn self.old.memory hart) (MarksSince self.new.memory opening) (next_pages hart at)) hart (answered result.stop result.ran) (shown_process S.content self.old) }
+            EachStep (λ at. Used (HasIn self.old.memory hart) (MarksSince self.new.memory opening)
+            (next_pages hart at)) hart (answered result.stop result.ran)
+            (shown_process S.content self.old) }
         ensures bound { BoundsEach (MarkedIn self.old.memory) (MarkedIn self.new.memory) hart
             (begun result.stop result.ran) (shown_process S.content self.old) }
 

@@ -1,8 +1,10 @@
 //! How often pages were used, in little memory.
 
-ghost use Rattle.std.specs.Prelude.{◌≡◌, ◌≤◌, ◌<◌, ◌+◌, ◌*◌, ◌/◌, ◌==◌, cond, length, map, replicate, IfOk};
+ghost use Rattle.std.specs.Prelude.{◌≡◌, ◌≤◌, ◌<◌, ◌+◌, ◌*◌, ◌/◌, ◌==◌, cond, length, map};
+ghost use Rattle.std.specs.Prelude.{replicate, IfOk};
 ghost use Rattle.page_policies.specs.PolicyFrames.{most_policy_frames};
-ghost use Rattle.tiny_lfu.specs.Sketch.{least_at, estimate, raised, all_raised, noted, counted, sample};
+ghost use Rattle.tiny_lfu.specs.Sketch.{least_at, estimate, raised, all_raised, noted, counted};
+ghost use Rattle.tiny_lfu.specs.Sketch.{sample};
 ghost use Rattle.tiny_lfu.specs.SketchLaws.{sketch_of};
 
 use crate::places::{Places, places_of};
@@ -91,7 +93,8 @@ impl Sketch {
     /// With no use.
     pub(crate) fn new(alloc: Global, frames: Frames) -> Result<Sketch, AllocError>
         ensures width { IfOk result (λ sketch. sketch.width ≡ frames.number) }
-        ensures counts { IfOk result (λ sketch. sketch.counts.items ≡ replicate (4 * frames.number) 0) }
+        ensures counts { IfOk result (λ sketch. sketch.counts.items ≡ replicate (4 * frames.number)
+            0) }
         ensures added { IfOk result (λ sketch. sketch.added ≡ 0) }
     {
         let width = frames.number();

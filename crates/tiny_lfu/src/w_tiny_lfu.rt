@@ -1,10 +1,14 @@
 //! W-TinyLFU.
 
-ghost use Rattle.std.specs.Prelude.{◌≡◌, ◌+◌, ◌*◌, ◌<◌, ◌≤◌, refl, length, nat_lt, Some, IfOk, OnOk};
+ghost use Rattle.std.specs.Prelude.{◌≡◌, ◌+◌, ◌*◌, ◌<◌, ◌≤◌, refl, length, nat_lt, Some, IfOk};
+ghost use Rattle.std.specs.Prelude.{OnOk};
 ghost use Rattle.page_policies.specs.PolicyFrames.{most_policy_frames};
 ghost use Rattle.page_policies.specs.Strings.{misses as misses_by};
 ghost use Rattle.tiny_lfu.specs.Sketch.{estimate};
-ghost use Rattle.tiny_lfu.specs.WTinyLfu.{window_frames, main_frames, protected_frames, settled, promoted, victim, victim_out, let_in, contested, admitted, window_cut, brought, in_w_tiny_lfu, noted, w_tiny_lfu, w_tiny_lfu_misses};
+ghost use Rattle.tiny_lfu.specs.WTinyLfu.{window_frames, main_frames, protected_frames, settled};
+ghost use Rattle.tiny_lfu.specs.WTinyLfu.{promoted, victim, victim_out, let_in, contested};
+ghost use Rattle.tiny_lfu.specs.WTinyLfu.{admitted, window_cut, brought, in_w_tiny_lfu, noted};
+ghost use Rattle.tiny_lfu.specs.WTinyLfu.{w_tiny_lfu, w_tiny_lfu_misses};
 ghost use Rattle.tiny_lfu.specs.WTinyLfuLaws.{lists_of, touched};
 
 use crate::sketch_state::Sketch;
@@ -192,7 +196,8 @@ impl WTinyLfu {
 impl Policy for WTinyLfu {
     ghost misses = { w_tiny_lfu_misses };
 
-    ghost to_miss = { λ policy string. misses_by in_w_tiny_lfu (w_tiny_lfu policy.frames) (lists_of policy) string };
+    ghost to_miss = { λ policy string. misses_by in_w_tiny_lfu (w_tiny_lfu policy.frames)
+        (lists_of policy) string };
 
     ghost refuses = { λ number. ⊥ };
 

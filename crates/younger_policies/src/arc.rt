@@ -2,7 +2,10 @@
 
 ghost use Rattle.std.specs.Prelude.{◌≡◌, ◌≤◌, ◌+◌, refl, true, false, cond, length, IfOk, OnOk};
 ghost use Rattle.page_policies.specs.Strings.{misses as misses_by, holds};
-ghost use Rattle.younger_policies.specs.Arc.{step_of, takes_first, first_out, second_out, replaced, hit, grown, shrunk, from_first, from_second, new_page, fetched, without_b1, without_b2, without_t1, case_a, case_b, all_pages, missed, in_arc, arc, arc_misses};
+ghost use Rattle.younger_policies.specs.Arc.{step_of, takes_first, first_out, second_out, replaced};
+ghost use Rattle.younger_policies.specs.Arc.{hit, grown, shrunk, from_first, from_second, new_page};
+ghost use Rattle.younger_policies.specs.Arc.{fetched, without_b1, without_b2, without_t1, case_a};
+ghost use Rattle.younger_policies.specs.Arc.{case_b, all_pages, missed, in_arc, arc, arc_misses};
 ghost use Rattle.younger_policies.specs.ArcLaws.{lists_of};
 
 use clock_policy::Key;

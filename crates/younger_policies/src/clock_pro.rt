@@ -6,7 +6,9 @@ ghost use Rattle.clock_policy.specs.declared.key.Key.{Key};
 ghost use Rattle.clock_policy.specs.ClockPro.{kind_of, question_of, admitted, opening_state};
 ghost use Rattle.clock_policy.specs.FrameCounts.{least_frames, most_frames};
 ghost use Rattle.page_policies.specs.Strings.{is_page, misses as misses_by};
-ghost use Rattle.younger_policies.specs.ClockProPlay.{is_resident_kind, in_play, bit_of, asked, is_full_refusal, entered, placed, marked_used, clock_pro, clock_pro_misses};
+ghost use Rattle.younger_policies.specs.ClockProPlay.{is_resident_kind, in_play, bit_of, asked};
+ghost use Rattle.younger_policies.specs.ClockProPlay.{is_full_refusal, entered, placed};
+ghost use Rattle.younger_policies.specs.ClockProPlay.{marked_used, clock_pro, clock_pro_misses};
 ghost use Rattle.younger_policies.specs.PlayLaws.{play_of};
 
 use clock_policy::{Bit, Clock, EntryKind, Key, Kind, NewRefusal, Refusal};
@@ -115,7 +117,8 @@ pub(crate) fn mark_used(used: &mut HashSet<Key>, page: Key) -> Result<(), AllocE
 impl<C: Clock> Policy for ClockPro<C> {
     ghost misses = { clock_pro_misses };
 
-    ghost to_miss = { λ policy string. misses_by in_play (clock_pro policy.turns) (play_of (C.state policy.clock) policy.used) string };
+    ghost to_miss = { λ policy string. misses_by in_play (clock_pro policy.turns)
+        (play_of (C.state policy.clock) policy.used) string };
 
     ghost refuses = { λ number. (number < least_frames) ⊎ (most_frames < number) };
 

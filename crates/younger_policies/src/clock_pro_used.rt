@@ -3,7 +3,8 @@
 ghost use Rattle.std.specs.Prelude.{◌≡◌, ◌<◌, ◌⊎◌, refl};
 ghost use Rattle.clock_policy.specs.FrameCounts.{least_frames, most_frames};
 ghost use Rattle.page_policies.specs.Strings.{misses as misses_by};
-ghost use Rattle.younger_policies.specs.ClockProPlay.{in_play, clock_pro_used, clock_pro_used_misses};
+ghost use Rattle.younger_policies.specs.ClockProPlay.{in_play, clock_pro_used};
+ghost use Rattle.younger_policies.specs.ClockProPlay.{clock_pro_used_misses};
 ghost use Rattle.younger_policies.specs.PlayLaws.{play_of};
 
 use crate::clock_pro::{is_resident_kind, mark_used, new_clock, place};
@@ -24,7 +25,8 @@ pub struct ClockProUsed<C: Clock> {
 impl<C: Clock> Policy for ClockProUsed<C> {
     ghost misses = { clock_pro_used_misses };
 
-    ghost to_miss = { λ policy string. misses_by in_play (clock_pro_used policy.turns) (play_of (C.state policy.clock) policy.used) string };
+    ghost to_miss = { λ policy string. misses_by in_play (clock_pro_used policy.turns)
+        (play_of (C.state policy.clock) policy.used) string };
 
     ghost refuses = { λ number. (number < least_frames) ⊎ (most_frames < number) };
 

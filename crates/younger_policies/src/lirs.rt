@@ -3,7 +3,9 @@
 ghost use Rattle.std.specs.Prelude.{◌≡◌, ◌+◌, ◌<◌, refl, cond, length, nat_lt, IfOk, OnOk};
 ghost use Rattle.page_policies.specs.Strings.{holds, misses as misses_by};
 ghost use Rattle.page_policies.specs.Ordered.{last_of, to_front};
-ghost use Rattle.younger_policies.specs.Lirs.{most_lir, is_bottom_lir, pruned, demoted, made_lir, kept_hir, promoted, becomes_lir, placed, room_made, lir_used, hir_used, in_lirs, lirs, lirs_misses};
+ghost use Rattle.younger_policies.specs.Lirs.{most_lir, is_bottom_lir, pruned, demoted, made_lir};
+ghost use Rattle.younger_policies.specs.Lirs.{kept_hir, promoted, becomes_lir, placed, room_made};
+ghost use Rattle.younger_policies.specs.Lirs.{lir_used, hir_used, in_lirs, lirs, lirs_misses};
 ghost use Rattle.younger_policies.specs.LirsLaws.{lists_of, without_bottom};
 
 use clock_policy::Key;
@@ -192,7 +194,8 @@ impl Lirs {
 impl Policy for Lirs {
     ghost misses = { lirs_misses };
 
-    ghost to_miss = { λ policy string. misses_by in_lirs (lirs policy.frames) (lists_of policy) string };
+    ghost to_miss = { λ policy string. misses_by in_lirs (lirs policy.frames) (lists_of policy)
+        string };
 
     ghost refuses = { λ number. ⊥ };
 

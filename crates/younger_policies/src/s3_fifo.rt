@@ -1,12 +1,18 @@
 //! S3-FIFO.
 
-ghost use Rattle.std.specs.Prelude.{◌≡◌, ◌+◌, ◌*◌, ◌<◌, refl, cond, true, false, length, min, nat_lt, IfOk, OnOk};
+ghost use Rattle.std.specs.Prelude.{◌≡◌, ◌+◌, ◌*◌, ◌<◌, refl, cond, true, false, length, min};
+ghost use Rattle.std.specs.Prelude.{nat_lt, IfOk, OnOk};
 ghost use Rattle.std.specs.HashMap.{get};
 ghost use Rattle.clock_policy.specs.declared.key.Key.{Key};
 ghost use Rattle.page_policies.specs.Strings.{is_page, misses as misses_by};
 ghost use Rattle.page_policies.specs.NextUses.{known};
 ghost use Rattle.page_policies.specs.Ordered.{last_of};
-ghost use Rattle.younger_policies.specs.S3Fifo.{small_frames, main_frames, with_freq, pages_in, tail_freq, main_again, main_out, evicted_main, main_turned, main_cut, small_up, small_out, evicted_small, evicted, room_made, came_back, came, inserted, used, in_s3_fifo, s3_fifo, s3_fifo_misses};
+ghost use Rattle.younger_policies.specs.S3Fifo.{small_frames, main_frames, with_freq, pages_in};
+ghost use Rattle.younger_policies.specs.S3Fifo.{tail_freq, main_again, main_out, evicted_main};
+ghost use Rattle.younger_policies.specs.S3Fifo.{main_turned, main_cut, small_up, small_out};
+ghost use Rattle.younger_policies.specs.S3Fifo.{evicted_small, evicted, room_made, came_back, came};
+ghost use Rattle.younger_policies.specs.S3Fifo.{inserted, used, in_s3_fifo, s3_fifo};
+ghost use Rattle.younger_policies.specs.S3Fifo.{s3_fifo_misses};
 ghost use Rattle.younger_policies.specs.S3FifoLaws.{queues_of};
 
 use clock_policy::Key;
@@ -288,7 +294,8 @@ impl S3Fifo {
 impl Policy for S3Fifo {
     ghost misses = { s3_fifo_misses };
 
-    ghost to_miss = { λ policy string. misses_by in_s3_fifo (s3_fifo policy.frames) (queues_of policy) string };
+    ghost to_miss = { λ policy string. misses_by in_s3_fifo (s3_fifo policy.frames)
+        (queues_of policy) string };
 
     ghost refuses = { λ number. ⊥ };
 

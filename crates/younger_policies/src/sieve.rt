@@ -5,7 +5,9 @@ ghost use Rattle.std.specs.HashSet.{contains};
 ghost use Rattle.clock_policy.specs.declared.key.Key.{Key};
 ghost use Rattle.page_policies.specs.Strings.{is_page, misses as misses_by};
 ghost use Rattle.page_policies.specs.Ordered.{last_of};
-ghost use Rattle.younger_policies.specs.Sieve.{wrapped, hand_visited, passed, discarded, swept, made_room, inserted, visit, in_sieve, sieve, sieve_misses, queue_length};
+ghost use Rattle.younger_policies.specs.Sieve.{wrapped, hand_visited, passed, discarded, swept};
+ghost use Rattle.younger_policies.specs.Sieve.{made_room, inserted, visit, in_sieve, sieve};
+ghost use Rattle.younger_policies.specs.Sieve.{sieve_misses, queue_length};
 ghost use Rattle.younger_policies.specs.SieveLaws.{queue_of};
 
 use clock_policy::Key;
@@ -165,7 +167,8 @@ impl Sieve {
 impl Policy for Sieve {
     ghost misses = { sieve_misses };
 
-    ghost to_miss = { λ policy string. misses_by in_sieve (sieve policy.frames) (queue_of policy) string };
+    ghost to_miss = { λ policy string. misses_by in_sieve (sieve policy.frames) (queue_of policy)
+        string };
 
     ghost refuses = { λ number. ⊥ };
 

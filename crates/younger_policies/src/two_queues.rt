@@ -3,7 +3,9 @@
 ghost use Rattle.std.specs.Prelude.{◌≡◌, ◌≤◌, ◌<◌, ◌^◌, refl, length, IfOk, OnOk};
 ghost use Rattle.clock_policy.specs.declared.key.Key.{Key};
 ghost use Rattle.page_policies.specs.Strings.{misses as misses_by};
-ghost use Rattle.younger_policies.specs.TwoQueues.{in_two_queues, kin, kout, recent_out, main_out, reclaimed, used, brought, two_queues, two_queues_misses};
+ghost use Rattle.younger_policies.specs.TwoQueues.{in_two_queues, kin, kout, recent_out, main_out};
+ghost use Rattle.younger_policies.specs.TwoQueues.{reclaimed, used, brought, two_queues};
+ghost use Rattle.younger_policies.specs.TwoQueues.{two_queues_misses};
 ghost use Rattle.younger_policies.specs.TwoQueueLaws.{queues_of};
 
 use clock_policy::Key;
@@ -86,7 +88,8 @@ impl TwoQueues {
 impl Policy for TwoQueues {
     ghost misses = { two_queues_misses };
 
-    ghost to_miss = { λ policy string. misses_by in_two_queues (two_queues policy.frames) (queues_of policy) string };
+    ghost to_miss = { λ policy string. misses_by in_two_queues (two_queues policy.frames)
+        (queues_of policy) string };
 
     ghost refuses = { λ number. ⊥ };
 

@@ -91,7 +91,7 @@ fn main() {
             let frames: u32 = frames.parse().unwrap();
             let slots = roomy((0..4096).map(|_| swap_slots::MemorySlot::new(Global).ok().unwrap()).collect());
             let target: paged_target::PagedTarget<Brand, clock_ring::ClockRing> =
-                paged_target::PagedTarget::new(Global, frames, Blank::new(0), slots, image(guest)).ok().unwrap();
+                paged_target::PagedTarget::new(Global, frames, Blank::new(0), slots, image(guest), none()).ok().unwrap();
             debug("paged", point, target);
         }
         _ => panic!("flat GUEST | serial FRAMES SLICE GUEST.. | debug none|break|watch [FRAMES] GUEST"),

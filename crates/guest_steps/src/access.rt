@@ -1,11 +1,10 @@
 //! What an instruction does to memory and to registers.
 
 ghost use Rattle.std.specs.Prelude.{◌≡◌};
-ghost use Rattle.rv_exec.specs.Line.{address_at};
 ghost use Rattle.guest_steps.specs.Accesses.{accessed, bytes_loaded, bytes_stored, destination, word_at};
 
 use rv_exec::Regs;
-use rv_isa::{Immediate, Insn, LoadKind, Reg, StoreKind};
+use rv_isa::{Insn, LoadKind, Reg, StoreKind};
 
 /// A load or a store: so many bytes from an address on.
 #[derive(Clone, Copy, Debug, PartialEq, Eq)]
@@ -26,7 +25,7 @@ pub fn access_of(regs: &Regs, insn: Insn) -> Option<DataAccess>
             rs1,
             offset,
         } => Some(DataAccess {
-            address: address_at(regs, rs1, offset),
+            address: regs.address_at(rs1, offset),
             bytes: bytes_of_load(kind),
             is_store: false,
         }),
@@ -36,7 +35,7 @@ pub fn access_of(regs: &Regs, insn: Insn) -> Option<DataAccess>
             rs2: _,
             offset,
         } => Some(DataAccess {
-            address: address_at(regs, rs1, offset),
+            address: regs.address_at(rs1, offset),
             bytes: bytes_of_store(kind),
             is_store: true,
         }),
@@ -98,14 +97,6 @@ fn word_at(regs: &Regs, rs1: Reg, is_store: bool) -> DataAccess
         bytes: 4,
         is_store,
     }
-}
-
-/// The address of a load or a store.
-#[tactic(auto, unfolding(rv_exec::specs::Arithmetic::word_sum))]
-fn address_at(regs: &Regs, rs1: Reg, offset: Immediate) -> u32
-    ensures { result ≡ address_at regs.now rs1 offset }
-{
-    regs.read(rs1).wrapping_add(offset.word())
 }
 
 /// How many bytes a load reads.

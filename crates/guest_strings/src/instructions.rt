@@ -1,6 +1,5 @@
 //! Instructions: the page of their data, or of the call that they make.
 ghost use Rattle.std.specs.Prelude.{◌≡◌};
-ghost use Rattle.rv_exec.specs.Line.{address_at};
 ghost use Rattle.guest_strings.specs.Told.{used_page, stored_page};
 ghost use Rattle.guest_strings.specs.InsnPages.{insn_pages, insn_stores, insn_yields};
 
@@ -9,7 +8,7 @@ use crate::calls::{is_yield, page_of_call};
 use crate::step_pages::{PageUse, loaded, stored};
 use page_memory::FlatMemory;
 use rv_exec::Regs;
-use rv_isa::{Immediate, Insn, LoadKind, Reg, StoreKind};
+use rv_isa::{Insn, LoadKind, Reg, StoreKind};
 
 /// The page that an instruction, or the call that it makes, loads or stores.
 pub(crate) fn page_of_insn(regs: &Regs, memory: &FlatMemory, insn: Insn) -> Option<PageUse>
@@ -23,7 +22,7 @@ pub(crate) fn page_of_insn(regs: &Regs, memory: &FlatMemory, insn: Insn) -> Opti
             rs1,
             offset,
         } => {
-            let address = address_at(regs, rs1, offset);
+            let address = regs.address_at(rs1, offset);
             loaded(page_of_load(memory, kind, address))
         }
         Insn::Store {
@@ -32,7 +31,7 @@ pub(crate) fn page_of_insn(regs: &Regs, memory: &FlatMemory, insn: Insn) -> Opti
             rs2,
             offset,
         } => {
-            let address = address_at(regs, rs1, offset);
+            let address = regs.address_at(rs1, offset);
             stored(page_of_store(memory, kind, address, regs.read(rs2)))
         }
         Insn::Amo {
@@ -72,12 +71,4 @@ pub(crate) fn yields(regs: &Regs, insn: &Insn) -> bool
         Insn::Ecall => is_yield(regs),
         _ => false,
     }
-}
-
-/// The address of a load or a store.
-#[tactic(auto, unfolding(rv_exec::specs::Arithmetic::word_sum))]
-fn address_at(regs: &Regs, rs1: Reg, offset: Immediate) -> u32
-    ensures { result ≡ address_at regs.now rs1 offset }
-{
-    regs.read(rs1).wrapping_add(offset.word())
 }

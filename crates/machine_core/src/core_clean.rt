@@ -1,17 +1,16 @@
 //! The machine's events of a page that is cleaned while it is used.
 
-ghost use Rattle.std.specs.Prelude.{◌≡◌, ◌⊎◌, ◌<◌, None, true, is_some, length, position, vec_len};
-ghost use Rattle.std.specs.Prelude.{vec_capacity, IfSome, IfNone, IfOk};
+ghost use Rattle.std.specs.Prelude.{◌≡◌, ◌⊎◌, ◌<◌, length, vec_len, vec_capacity, IfOk};
 ghost use Rattle.machine_core.specs.CleaningEvents.{cleaned_refusal, clean_barred, clean_refusal};
 ghost use Rattle.machine_core.specs.CleaningEvents.{clean_reply, copies_after, copy_barred};
 ghost use Rattle.machine_core.specs.CleaningEvents.{copy_refusal, copy_reply, CleanedOnce};
 ghost use Rattle.machine_core.specs.CleaningEvents.{CleansAt, CleansOnce, CopiesAt, CopiesOnce};
 ghost use Rattle.machine_core.specs.CleaningEvents.{CopyBackAt, IsOwnCopy, RepliesBack};
 ghost use Rattle.machine_core.specs.MachineRun.{RefusesEvent};
-ghost use Rattle.machine_core.specs.SavingOut.{is_save_of, MakesSave};
 
 use crate::error::EventRefusal;
 use crate::event::Reply;
+use crate::jobs_out::write_out;
 use crate::machine::Core;
 use clock_policy::{Clock, Key};
 use machine_sides::{CleanBar, CopyBar, Copying, begin_clean, cleaned, copy_clean};
@@ -53,7 +52,7 @@ impl<L: Ledger, S: SwapSlot, C: Clock> Core<L, S, C> {
         let Some(_) = self.processes.get(key.process as usize) else {
             return Reply::Refused(EventRefusal::NoProcess);
         };
-        let Some(job) = write_copy(&mut self.copies, key) else {
+        let Some(job) = write_out(&mut self.copies, key) else {
             return Reply::Refused(EventRefusal::NotCopied);
         };
         let came = take_back(self.processes.as_mut_slice(), key.process as usize, job);
@@ -145,34 +144,6 @@ fn keep_copy<S: SwapSlot>(
         }
         Err(bar) => Reply::Refused(copy_barred(bar)),
     }
-}
-
-/// Takes the copy of a page from those that are out, and writes it.
-fn write_copy<S: SwapSlot>(copies: &mut Vec<CleanJob<S>>, key: Key) -> Option<CleanedJob<S>>
-    ensures makes { IfSome result (MakesSave S.content S.honest S.failures key copies.old.items
-        copies.new.items) }
-    ensures found { IfSome result (λ _. is_some (position (is_save_of key) copies.old.items) ≡
-        true) }
-    ensures none { IfNone result (position (is_save_of key) copies.old.items ≡ None) }
-    ensures stays { IfNone result (copies.new ≡ copies.old) }
-    ensures capacity { vec_capacity copies.new ≡ vec_capacity copies.old }
-{
-    let place = place_of(copies.as_slice(), key)?;
-    Some(copies.swap_remove(place).run())
-}
-
-/// Where the copy of a page stands among those that are out.
-fn place_of<S: SwapSlot>(copies: &[CleanJob<S>], key: Key) -> Option<usize>
-    ensures { result ≡ position (is_save_of key) copies.now }
-{
-    copies.iter().position(|job| is_of_page(job, key))
-}
-
-/// Whether a copy is of a page.
-fn is_of_page<S: SwapSlot>(job: &CleanJob<S>, key: Key) -> bool
-    ensures { result ≡ is_save_of key job.now }
-{
-    job.key() == key
 }
 
 /// What a copy that the machine wrote itself is replied with.

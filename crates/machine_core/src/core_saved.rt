@@ -1,16 +1,17 @@
 //! The event of a save that is made and comes back.
 
-ghost use Rattle.std.specs.Prelude.{◌≡◌, ◌⊎◌, ◌<◌, length, position, vec_capacity, IfSome, IfNone};
+ghost use Rattle.std.specs.Prelude.{◌≡◌, ◌⊎◌, ◌<◌, length};
 ghost use Rattle.machine_core.specs.MachineRun.{RefusesEvent};
-ghost use Rattle.machine_core.specs.SavingOut.{saved_refusal, is_save_of, MakesSave, SavesOnce};
+ghost use Rattle.machine_core.specs.SavingOut.{saved_refusal, SavesOnce};
 ghost use Rattle.machine_core.specs.SavingOut.{SavedAt, IsOwn, RepliesTo};
 
 use crate::error::EventRefusal;
 use crate::event::Reply;
+use crate::jobs_out::write_out;
 use crate::machine::Core;
 use clock_policy::{Clock, Key};
 use machine_sides::{PagerSide, SaveOutcome, is_saving, saved};
-use page_store::{SaveJob, SavedJob};
+use page_store::SavedJob;
 use space_core::Space;
 use std::sync::ledger::Ledger;
 use swap_slots::SwapSlot;
@@ -25,7 +26,7 @@ impl<L: Ledger, S: SwapSlot, C: Clock> Core<L, S, C> {
         if let Some(refusal) = refusal {
             return Reply::Refused(refusal);
         }
-        let Some(job) = make_save(&mut self.jobs, key) else {
+        let Some(job) = write_out(&mut self.jobs, key) else {
             unreachable!()
         };
         let outcome = saved_at(
@@ -52,31 +53,6 @@ fn saved_refusal<L: Ledger, S: SwapSlot>(
         return None;
     }
     Some(EventRefusal::NotSaving)
-}
-
-/// Takes the save of a page from those that are out, and makes it.
-fn make_save<S: SwapSlot>(jobs: &mut Vec<SaveJob<S>>, key: Key) -> Option<SavedJob<S>>
-    ensures makes { IfSome result (MakesSave S.content S.honest S.failures key jobs.old.items
-        jobs.new.items) }
-    ensures none { IfNone result (position (is_save_of key) jobs.old.items ≡ None) }
-    ensures capacity { vec_capacity jobs.new ≡ vec_capacity jobs.old }
-{
-    let place = place_of(jobs.as_slice(), key)?;
-    Some(jobs.swap_remove(place).run())
-}
-
-/// Where the save of a page stands among those that are out.
-fn place_of<S: SwapSlot>(jobs: &[SaveJob<S>], key: Key) -> Option<usize>
-    ensures { result ≡ position (is_save_of key) jobs.now }
-{
-    jobs.iter().position(|job| is_of_page(job, key))
-}
-
-/// Whether a save is of a page.
-fn is_of_page<S: SwapSlot>(job: &SaveJob<S>, key: Key) -> bool
-    ensures { result ≡ is_save_of key job.now }
-{
-    job.key() == key
 }
 
 /// A save comes back to the pager and the process of this number.

@@ -14,6 +14,7 @@ mod core_saved;
 mod core_steps;
 mod error;
 mod event;
+mod jobs_out;
 mod machine;
 mod many_steps;
 mod memory_showing;

@@ -1,5 +1,4 @@
-use crate::clean_job::{CleanJob, CleanedJob};
-use crate::job::{SaveJob, SavedJob};
+use crate::job::{CleanJob, CleanedJob, SaveJob, SavedJob};
 use frame_pool::Frame;
 use std::sync::ledger::Ledger;
 use swap_slots::SwapSlot;

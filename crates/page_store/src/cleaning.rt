@@ -10,7 +10,7 @@ ghost use Rattle.page_store.specs.PageValue.{Resident, Backed, BackedAt, content
 ghost use Rattle.page_store.specs.View.{keeping_of, place_in_state, place_out};
 
 use crate::answer::{CleanCopy, Cleaned};
-use crate::clean_job::{CleanJob, CleanedJob};
+use crate::job::{CleanJob, CleanedJob};
 use crate::page::StoredPage;
 use crate::refusal::CleanRefusal;
 use crate::state::{Keeping, State};

@@ -5,19 +5,38 @@ ghost use Rattle.page_store.specs.Moves.{copy_of};
 use crate::page_copy::PageCopy;
 use crate::seal::digest_for;
 use clock_policy::Key;
-use std::marker::Model;
+use std::marker::{Model, PhantomData};
 use swap_slots::SwapSlot;
 
-/// A page to be saved: a copy of its bytes, and the slot that they are for.
+/// Of a page that leaves its frame once its copy is written.
+pub struct Leaves;
+
+/// Of a page that stays in its frame, and in use, while its copy is written.
+pub struct Stays;
+
+/// A page to be saved before it leaves its frame.
+pub type SaveJob<S> = WriteJob<S, Leaves>;
+
+/// The same once it was saved, or once its device failed to.
+pub type SavedJob<S> = WrittenJob<S, Leaves>;
+
+/// A page to be written to its slot ahead of the time when it leaves its frame.
+pub type CleanJob<S> = WriteJob<S, Stays>;
+
+/// The same once it was written, or once its device failed to.
+pub type CleanedJob<S> = WrittenJob<S, Stays>;
+
+/// A page to be written: a copy of its bytes, and the slot that they are for. What becomes of the page meanwhile is told by the type.
 #[derive(Drop)]
-pub struct SaveJob<S: SwapSlot> {
+pub struct WriteJob<S: SwapSlot, P> {
     process: u32,
     vpn: u32,
     copy: Box<[u8; 4096]>,
     slot: S,
+    page: PhantomData<P>,
 }
 
-impl<S: SwapSlot> Model for SaveJob<S> {
+impl<S: SwapSlot, P> Model for WriteJob<S, P> {
     ghost use Rattle.page_store.specs.JobValue.{JobValue};
 
     ghost Value = { JobValue S };
@@ -30,16 +49,17 @@ impl<S: SwapSlot> Model for SaveJob<S> {
     } };
 }
 
-impl<S: SwapSlot> SaveJob<S> {
-    /// The job of saving a page, of whose bytes this is the copy.
+impl<S: SwapSlot, P> WriteJob<S, P> {
+    /// The job of writing a page, of whose bytes this is the copy.
     pub(crate) fn new(process: u32, vpn: u32, copy: Box<[u8; 4096]>, slot: S) -> Self
         ensures { result ≡ record { process = process; vpn = vpn; copy = copy.value; slot = slot } }
     {
-        SaveJob {
+        WriteJob {
             process,
             vpn,
             copy,
             slot,
+            page: PhantomData,
         }
     }
 
@@ -68,7 +88,7 @@ impl<S: SwapSlot> SaveJob<S> {
     }
 
     /// Writes the copy to the slot, and takes its digest where slots are not known to be honest. Takes no memory, and waits for nothing but the device.
-    pub fn run(self) -> SavedJob<S>
+    pub fn run(self) -> WrittenJob<S, P>
         ensures process { result.process ≡ self.process }
         ensures vpn { result.vpn ≡ self.vpn }
         ensures copy { result.copy ≡ self.copy }
@@ -78,28 +98,30 @@ impl<S: SwapSlot> SaveJob<S> {
             Rose (S.failures self.slot) (S.failures result.slot) }
         ensures counted { S.failures self.slot ≤ S.failures result.slot }
     {
-        let SaveJob {
+        let WriteJob {
             process,
             vpn,
             copy,
             mut slot,
+            page: _,
         } = self;
         let digest = digest_for::<S>(&copy);
         let passed = slot.save(&copy).is_ok();
-        SavedJob {
+        WrittenJob {
             process,
             vpn,
             copy,
             digest,
             slot,
             passed,
+            page: PhantomData,
         }
     }
 }
 
 /// A page that was written to its slot, or that its device failed to write.
 #[derive(Drop)]
-pub struct SavedJob<S: SwapSlot> {
+pub struct WrittenJob<S: SwapSlot, P> {
     process: u32,
     vpn: u32,
     copy: Box<[u8; 4096]>,
@@ -107,9 +129,10 @@ pub struct SavedJob<S: SwapSlot> {
     digest: Option<[u8; 32]>,
     slot: S,
     passed: bool,
+    page: PhantomData<P>,
 }
 
-impl<S: SwapSlot> Model for SavedJob<S> {
+impl<S: SwapSlot, P> Model for WrittenJob<S, P> {
     ghost use Rattle.std.specs.Prelude.{◌≡◌, IsTrue};
     ghost use Rattle.sha2.specs.Sha256.{sha256};
     ghost use Rattle.page_store.specs.JobValue.{SavedValue};
@@ -129,7 +152,7 @@ impl<S: SwapSlot> Model for SavedJob<S> {
         (S.honest → IsTrue j.passed → S.content j.slot ≡ j.copy.value) };
 }
 
-impl<S: SwapSlot> SavedJob<S> {
+impl<S: SwapSlot, P> WrittenJob<S, P> {
     /// The process that the page belongs to.
     pub fn process(&self) -> u32
         ensures { result ≡ self.now.process }
@@ -168,13 +191,14 @@ impl<S: SwapSlot> SavedJob<S> {
         ensures failed { IfErr result.0 (λ slot. (slot ≡ self.slot) × IsFalse self.passed) }
         ensures saved { S.honest → OnOk result.0 (S.content self.slot ≡ self.copy) }
     {
-        let SavedJob {
+        let WrittenJob {
             process: _,
             vpn: _,
             copy,
             digest,
             slot,
             passed,
+            page: _,
         } = self;
         if !passed {
             return (Err(slot), copy);
@@ -186,13 +210,14 @@ impl<S: SwapSlot> SavedJob<S> {
     pub(crate) fn into_slot(self) -> (S, Box<[u8; 4096]>)
         ensures { result.0 ≡ self.slot }
     {
-        let SavedJob {
+        let WrittenJob {
             process: _,
             vpn: _,
             copy,
             digest: _,
             slot,
             passed: _,
+            page: _,
         } = self;
         (slot, copy)
     }

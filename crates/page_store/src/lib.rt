@@ -5,7 +5,6 @@
 #![tactic(auto)]
 
 mod answer;
-mod clean_job;
 mod cleaning;
 mod job;
 mod page;
@@ -16,8 +15,7 @@ mod seal;
 mod state;
 
 pub use answer::{CleanCopy, Cleaned, Collected, SaveRefusal};
-pub use clean_job::{CleanJob, CleanedJob};
-pub use job::{SaveJob, SavedJob};
+pub use job::{CleanJob, CleanedJob, Leaves, SaveJob, SavedJob, Stays, WriteJob, WrittenJob};
 pub use page::StoredPage;
 pub use page_copy::PageCopy;
 pub use refusal::{CleanRefusal, FillFault, LeaveRefusal, NotLeaving, ReadFault};

@@ -17,6 +17,7 @@ mod reclaiming;
 mod shared;
 mod waiting;
 mod writing_ahead;
+mod writing_out;
 
 pub use cleaning::HoldWithSlots;
 pub use gate::{Gate, OpenGate};

@@ -4,8 +4,7 @@
 //! process drop their translations, and collects the page; a changed one it saves. A process that has ended it purges. While it has no room
 //! to make it may write changed pages ahead.
 
-ghost use Rattle.std.specs.Prelude.{◌≡◌, ◌≤◌, IsTrue, IsFalse};
-ghost use Rattle.swap_slots.specs.Slot.{Rose};
+ghost use Rattle.std.specs.Prelude.{◌≡◌};
 
 use crate::gate::Gate;
 use crate::holds::{HoldOfAll, HoldOfBoth};
@@ -13,13 +12,14 @@ use crate::process_locks::ProcessLocks;
 use crate::shared::Shared;
 use crate::waiting::Room;
 use crate::writing_ahead::{Ahead, PAUSE_MILLIS, Rest};
+use crate::writing_out::write_slot;
 use clock_policy::{Clock, Key};
 use flat_machine::KillCause;
 use hart_signals::Offers;
 use held_machine::{Collection, SaveReply};
 use machine_limits::{MOST_HARTS, MOST_PROCESSES};
 use machine_sides::Swept;
-use page_store::{SaveJob, SavedJob};
+use page_store::SaveJob;
 use status_cell::{Status, Viewer};
 use std::sync::Wait;
 use std::sync::ledger::Ledger;
@@ -232,20 +232,6 @@ fn save<L: Ledger, S: SwapSlot, C: Clock, G: Gate, R: Wait>(
         }
         SaveReply::Stray | SaveReply::WrongPage(_) => false,
     }
-}
-
-/// Writes a page's copy to its slot, once the gate was told. It knows of no lock, so that none is held meanwhile.
-fn write_slot<S: SwapSlot, G: Gate>(gate: &G, job: SaveJob<S>) -> SavedJob<S>
-    ensures process { result.process ≡ job.process }
-    ensures vpn { result.vpn ≡ job.vpn }
-    ensures copy { result.copy ≡ job.copy }
-    ensures saved { S.honest → IsTrue result.passed → S.content result.slot ≡ job.copy }
-    ensures passed { IsTrue result.passed → S.failures result.slot ≡ S.failures job.slot }
-    ensures fault { IsFalse result.passed → Rose (S.failures job.slot) (S.failures result.slot) }
-    ensures counted { S.failures job.slot ≤ S.failures result.slot }
-{
-    gate.before_save(job.key());
-    job.run()
 }
 
 /// A frame has come free: tells how far each process has come.

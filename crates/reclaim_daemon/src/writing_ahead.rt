@@ -3,19 +3,16 @@
 //! One page at a time: its cleaning begins, and the harts of its process drop their translations of it, so that the next store tells; after a
 //! pause, in which a page that is used all the time is stored to, a copy of it is taken and written with no lock held.
 
-ghost use Rattle.std.specs.Prelude.{◌≡◌, ◌≤◌, IsTrue, IsFalse};
-ghost use Rattle.swap_slots.specs.Slot.{Rose};
-
 use crate::cleaning::HoldWithSlots;
 use crate::gate::Gate;
 use crate::process_locks::ProcessLocks;
 use crate::reclaiming::give_notices;
 use crate::shared::Shared;
 use crate::waiting::Room;
+use crate::writing_out::write_slot;
 use clock_policy::{Clock, Key};
 use held_process::Begun;
 use machine_sides::Copying;
-use page_store::{CleanJob, CleanedJob};
 use std::sync::Wait;
 use std::sync::ledger::Ledger;
 use swap_slots::SwapSlot;
@@ -204,18 +201,4 @@ fn copy<L: Ledger, S: SwapSlot, C: Clock, G: Gate, R: Wait>(
             Tried::Over
         }
     }
-}
-
-/// Writes a page's copy to its slot, once the gate was told. It knows of no lock, so that none is held meanwhile.
-fn write_slot<S: SwapSlot, G: Gate>(gate: &G, job: CleanJob<S>) -> CleanedJob<S>
-    ensures process { result.process ≡ job.process }
-    ensures vpn { result.vpn ≡ job.vpn }
-    ensures copy { result.copy ≡ job.copy }
-    ensures saved { S.honest → IsTrue result.passed → S.content result.slot ≡ job.copy }
-    ensures passed { IsTrue result.passed → S.failures result.slot ≡ S.failures job.slot }
-    ensures fault { IsFalse result.passed → Rose (S.failures job.slot) (S.failures result.slot) }
-    ensures counted { S.failures job.slot ≤ S.failures result.slot }
-{
-    gate.before_save(job.key());
-    job.run()
 }

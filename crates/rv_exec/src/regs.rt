@@ -1,7 +1,8 @@
 ghost use Rattle.std.specs.Prelude.{◌≡◌, ◌<◌};
+ghost use Rattle.rv_exec.specs.Line.{address_at};
 ghost use Rattle.rv_exec.specs.Registers.{register, with_register, with_pc, next_pc, cleared};
 
-use rv_isa::Reg;
+use rv_isa::{Immediate, Reg};
 use std::marker::Model;
 
 /// A hart's registers: pc and `x1` to `x31`. `x0` reads 0 and is never written.
@@ -72,6 +73,15 @@ impl Regs {
         ensures { result ≡ register self.now named }
     {
         self.x(named.index())
+    }
+
+    /// The address that a load or a store names: an offset past what a register holds.
+    #[inline]
+    #[tactic(auto, unfolding(crate::specs::Arithmetic::word_sum))]
+    pub fn address_at(&self, base: Reg, offset: Immediate) -> u32
+        ensures { result ≡ address_at self.now base offset }
+    {
+        self.read(base).wrapping_add(offset.word())
     }
 
     /// Writes the register that an instruction names.

@@ -9,7 +9,7 @@ use Rattle.machine_core.proofs.machine.Core.saved.Goals as goal
 pub unreachable-requires : goal.unreachable-requires
 unreachable-requires g c =
     let allowed : saved_refusal c.args.key c.self.inside.processes.items ≡ None = sym (ap (saved_refusal c.args.key) c.as_slice.ensures.value) ∙ sym c.saved_refusal-refusal.ensures ∙ c.in_default.is in
-    is_out (record { pager = c.self.inside.pager; slots = c.self.inside.slots; processes = c.self.inside.processes.items; jobs = c.self.inside.jobs.items; copies = c.self.inside.copies.items }) c.args.key c.self.invariant.machine allowed (c.in_default-make_save.ensures.none)
+    is_out (record { pager = c.self.inside.pager; slots = c.self.inside.slots; processes = c.self.inside.processes.items; jobs = c.self.inside.jobs.items; copies = c.self.inside.copies.items }) c.args.key c.self.invariant.machine allowed (c.in_default-write_out.ensures.none)
 
 pub saved_at-outcome-requires : goal.saved_at-outcome-requires
 saved_at-outcome-requires g c =
@@ -21,19 +21,19 @@ saved_at-outcome-requires g c =
 
 pub saved_reply-requires : goal.saved_reply-requires
 saved_reply-requires g c =
-    is_own g.S.SwapSlot.content g.S.SwapSlot.honest g.S.SwapSlot.failures c.self.inside.pager c.saved_at-outcome.new.pager c.self.inside.slots c.self.inside.jobs.items c.self.inside.copies.items c.make_save.new.jobs.items c.self.inside.processes.items c.as_mut_slice.result.now c.saved_at-outcome.new.processes c.self.inside.processes.len c.args.key c.in-Some-make_save.job c.saved_at-outcome.result
-    c.self.invariant.machine (omega (arith, c.self.inside.processes.ok.0)) c.as_mut_slice.ensures.value c.in-Some-make_save.ensures.makes c.saved_at-outcome.ensures
+    is_own g.S.SwapSlot.content g.S.SwapSlot.honest g.S.SwapSlot.failures c.self.inside.pager c.saved_at-outcome.new.pager c.self.inside.slots c.self.inside.jobs.items c.self.inside.copies.items c.write_out.new.jobs.items c.self.inside.processes.items c.as_mut_slice.result.now c.saved_at-outcome.new.processes c.self.inside.processes.len c.args.key c.in-Some-write_out.job c.saved_at-outcome.result
+    c.self.invariant.machine (omega (arith, c.self.inside.processes.ok.0)) c.as_mut_slice.ensures.value c.in-Some-write_out.ensures.makes c.saved_at-outcome.ensures
 
 pub invariant_of-self : goal.invariant_of-self
 invariant_of-self g c =
-    let size = saved_size g.S.SwapSlot.content g.S.SwapSlot.honest g.S.SwapSlot.failures c.self.inside.pager c.saved_at-outcome.new.pager c.self.inside.slots c.self.inside.jobs.items c.self.inside.copies.items c.make_save.new.jobs.items c.self.inside.processes.items c.as_mut_slice.result.now c.saved_at-outcome.new.processes c.self.inside.processes.len c.args.key c.in-Some-make_save.job c.saved_at-outcome.result
-    c.self.invariant.machine (omega (arith, c.self.inside.processes.ok.0)) c.as_mut_slice.ensures.value c.in-Some-make_save.ensures.makes c.saved_at-outcome.ensures c.saved_reply.result c.saved_reply.ensures in
+    let size = saved_size g.S.SwapSlot.content g.S.SwapSlot.honest g.S.SwapSlot.failures c.self.inside.pager c.saved_at-outcome.new.pager c.self.inside.slots c.self.inside.jobs.items c.self.inside.copies.items c.write_out.new.jobs.items c.self.inside.processes.items c.as_mut_slice.result.now c.saved_at-outcome.new.processes c.self.inside.processes.len c.args.key c.in-Some-write_out.job c.saved_at-outcome.result
+    c.self.invariant.machine (omega (arith, c.self.inside.processes.ok.0)) c.as_mut_slice.ensures.value c.in-Some-write_out.ensures.makes c.saved_at-outcome.ensures c.saved_reply.result c.saved_reply.ensures in
     record {
-      machine = saved_back g.S.SwapSlot.content g.S.SwapSlot.honest g.S.SwapSlot.failures c.self.inside.pager c.saved_at-outcome.new.pager c.self.inside.slots c.self.inside.jobs.items c.self.inside.copies.items c.make_save.new.jobs.items c.self.inside.processes.items c.as_mut_slice.result.now c.saved_at-outcome.new.processes c.self.inside.processes.len c.args.key c.in-Some-make_save.job c.saved_at-outcome.result
-          c.self.invariant.machine (omega (arith, c.self.inside.processes.ok.0)) c.as_mut_slice.ensures.value c.in-Some-make_save.ensures.makes c.saved_at-outcome.ensures c.saved_reply.result c.saved_reply.ensures;
+      machine = saved_back g.S.SwapSlot.content g.S.SwapSlot.honest g.S.SwapSlot.failures c.self.inside.pager c.saved_at-outcome.new.pager c.self.inside.slots c.self.inside.jobs.items c.self.inside.copies.items c.write_out.new.jobs.items c.self.inside.processes.items c.as_mut_slice.result.now c.saved_at-outcome.new.processes c.self.inside.processes.len c.args.key c.in-Some-write_out.job c.saved_at-outcome.result
+          c.self.invariant.machine (omega (arith, c.self.inside.processes.ok.0)) c.as_mut_slice.ensures.value c.in-Some-write_out.ensures.makes c.saved_at-outcome.ensures c.saved_reply.result c.saved_reply.ensures;
       roomy =
           let room = c.self.invariant.roomy in
-          let capacity = c.make_save.ensures.capacity in
+          let capacity = c.write_out.ensures.capacity in
           omega (arith, size, room, capacity);
       spacious = let room = c.self.invariant.spacious in omega (arith, size, room);
     }
@@ -42,6 +42,6 @@ pub returns : goal.returns
 returns g c =
     let allowed : saved_refusal c.args.key c.self.inside.processes.items ≡ None = sym (ap (saved_refusal c.args.key) c.as_slice.ensures.value) ∙ sym c.saved_refusal-refusal.ensures ∙ c.in_default.is in
     inr
-    (saved_once g.S.SwapSlot.content g.S.SwapSlot.honest g.S.SwapSlot.failures c.self.inside.pager c.saved_at-outcome.new.pager c.self.inside.slots c.self.inside.jobs.items c.self.inside.copies.items c.make_save.new.jobs.items c.self.inside.processes.items c.as_mut_slice.result.now c.saved_at-outcome.new.processes c.self.inside.processes.len c.args.key c.in-Some-make_save.job c.saved_at-outcome.result
-    c.self.invariant.machine (omega (arith, c.self.inside.processes.ok.0)) c.as_mut_slice.ensures.value c.in-Some-make_save.ensures.makes c.saved_at-outcome.ensures c.saved_reply.result c.saved_reply.ensures
+    (saved_once g.S.SwapSlot.content g.S.SwapSlot.honest g.S.SwapSlot.failures c.self.inside.pager c.saved_at-outcome.new.pager c.self.inside.slots c.self.inside.jobs.items c.self.inside.copies.items c.write_out.new.jobs.items c.self.inside.processes.items c.as_mut_slice.result.now c.saved_at-outcome.new.processes c.self.inside.processes.len c.args.key c.in-Some-write_out.job c.saved_at-outcome.result
+    c.self.invariant.machine (omega (arith, c.self.inside.processes.ok.0)) c.as_mut_slice.ensures.value c.in-Some-write_out.ensures.makes c.saved_at-outcome.ensures c.saved_reply.result c.saved_reply.ensures
     c.args.self.now c.self.view_is allowed)

@@ -1,8 +1,8 @@
--- The save stands where it was found.
-use Rattle.std.proofs.Common.{sym, ap, ◌∙◌, position}
+-- The copy stands where it was found.
+use Rattle.std.proofs.Common.{◌≡◌, true, is_some, sym, ap, ◌∙◌, position}
 use Rattle.machine_core.specs.SavingOut.{is_save_of}
 use Rattle.machine_core.proofs.JobsOut.{taken_at}
-use Rattle.machine_core.proofs.core_saved.make_save.Goals as goal
+use Rattle.machine_core.proofs.jobs_out.write_out.Goals as goal
 
 pub returns-clause-makes : goal.returns-clause-makes
 returns-clause-makes g c =
@@ -22,3 +22,7 @@ returns-clause-makes g c =
       fault = c.run.ensures.fault;
       counted = c.run.ensures.counted;
     }
+
+pub returns-clause-found : goal.returns-clause-found
+returns-clause-found g c =
+    ap is_some (sym (ap (position (is_save_of c.args.key)) c.as_slice.ensures.value) ∙ sym c.place_of.ensures ∙ c.in_ok-place.was)

@@ -16,7 +16,7 @@ use Rattle.page_memory.specs.declared.fault.MemoryFault.TheVariants.{Misaligned}
 use Rattle.page_memory.specs.Words.{page_number, bytes_in, page_offset}
 use Rattle.page_memory.specs.Rights.{may}
 use Rattle.page_memory.specs.Pages.{Page, Pages, overwritten, usable, with_right, answer_by, aligned_page, if_aligned, number_at, copied_out}
-use Rattle.page_memory.specs.Hints.{StandsAt}
+use Rattle.page_memory.specs.Remembered.{StandsAt}
 use Rattle.page_memory.specs.EntriesLaws.{value_by_place}
 use Rattle.page_memory.specs.AccessLaws.{usable_found, aligned_usable}
 use Rattle.page_memory.specs.Entries.{pages_of, place_of, value_at, with_value}

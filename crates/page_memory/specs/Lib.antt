@@ -14,5 +14,7 @@ pub mod PageRow
 pub mod ZeroedLaws
 pub mod AccessLaws
 pub mod StandsForLaws
-pub mod Hints
-pub mod HintsLaws
+pub mod RecentPages
+pub mod RecentPagesLaws
+pub mod Remembered
+pub mod RememberedLaws

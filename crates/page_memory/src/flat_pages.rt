@@ -7,10 +7,10 @@ ghost use Rattle.page_memory.specs.Reply.{answered};
 
 use crate::allowed::place_allowed;
 use crate::fault::MemoryFault;
-use crate::hint::{Hint, Hints, hint_for, remember};
 use crate::page::Page;
 use crate::page_bytes::{number, number_from};
 use crate::page_row::PageRow;
+use crate::recent_pages::RecentPages;
 use crate::reply::Reply;
 use crate::rights::Rights;
 use crate::words::{Access, Width, offset_in_page, offset_past, page_of};
@@ -23,7 +23,7 @@ use std::marker::Model;
 pub(crate) struct FlatPages {
     alloc: Global,
     pages: PageRow,
-    hints: Hints,
+    recent: RecentPages,
 }
 
 impl Model for FlatPages {
@@ -38,9 +38,9 @@ impl Model for FlatPages {
 
     ghost view = { λ memory. map.from_entries memory.pages };
 
-    ghost use Rattle.page_memory.specs.Hints.{Remembers};
+    ghost use Rattle.page_memory.specs.Remembered.{Remembers};
 
-    ghost invariant = { λ memory. Remembers memory.pages memory.hints };
+    ghost invariant = { λ memory. Remembers memory.pages memory.recent };
 }
 
 impl FlatPages {
@@ -51,7 +51,7 @@ impl FlatPages {
         Ok(FlatPages {
             alloc,
             pages: PageRow::new(alloc)?,
-            hints: Hints::new(),
+            recent: RecentPages::new(),
         })
     }
 
@@ -63,7 +63,7 @@ impl FlatPages {
         ensures ok { OnOk result (self.new ≡ map.insert self.old number page) }
         ensures err { OnErr result (self.new ≡ self.old) }
     {
-        self.hints = Hints::new();
+        self.recent = RecentPages::new();
         self.pages.insert(self.alloc, number, page)?;
         Ok(())
     }
@@ -77,7 +77,7 @@ impl FlatPages {
         ensures err { OnErr result (self.new ≡ self.old) }
         ensures some { IsErr result → 0 < count }
     {
-        self.hints = Hints::new();
+        self.recent = RecentPages::new();
         add_all_zeroed(&mut self.pages, self.alloc, first, count)
     }
 
@@ -88,10 +88,10 @@ impl FlatPages {
         ensures word { result ≡ fetched self.old address }
         ensures memory { self.new ≡ self.old }
     {
-        let hint = self.hints.fetched;
-        match offset_past(hint.start, address, Width::Word) {
+        let recent = self.recent.of(Access::Fetch, address);
+        match offset_past(recent.start, address, Width::Word) {
             Some(past) => {
-                let page = self.pages.bytes(hint.first);
+                let page = self.pages.bytes(recent.place);
                 Ok(number_from(page, Width::Word, past))
             }
             None => self.fetch_anew(address).answer(),
@@ -101,7 +101,7 @@ impl FlatPages {
     /// The same from a page that is not remembered.
     #[cold]
     #[inline(never)]
-    #[tactic(auto, using(crate::specs::HintsLaws::not_fetched))]
+    #[tactic(auto, using(crate::specs::RememberedLaws::not_fetched))]
     fn fetch_anew(&mut self, address: u32) -> Reply
         ensures word { answered result ≡ fetched self.old address }
         ensures memory { self.new ≡ self.old }
@@ -115,7 +115,7 @@ impl FlatPages {
             Err(MemoryFault::PageFault) => return Reply::PageFault,
         };
         let first = self.pages.first(place);
-        self.hints.fetched = Hint::of(address, first);
+        self.recent.learn(Access::Fetch, address, first);
         let page = self.pages.bytes(first);
         Reply::Number(number(page, Width::Word, address))
     }
@@ -126,10 +126,10 @@ impl FlatPages {
         ensures number { result ≡ loaded self.old width address }
         ensures memory { self.new ≡ self.old }
     {
-        let hint = hint_for(&self.hints.loaded, address);
-        match offset_past(hint.start, address, width) {
+        let recent = self.recent.of(Access::Load, address);
+        match offset_past(recent.start, address, width) {
             Some(past) => {
-                let page = self.pages.bytes(hint.first);
+                let page = self.pages.bytes(recent.place);
                 Ok(number_from(page, width, past))
             }
             None => self.load_anew(width, address).answer(),
@@ -138,7 +138,7 @@ impl FlatPages {
 
     /// The same from a page that is not remembered.
     #[inline(never)]
-    #[tactic(auto, using(crate::specs::HintsLaws::not_loaded))]
+    #[tactic(auto, using(crate::specs::RememberedLaws::not_loaded))]
     fn load_anew(&mut self, width: Width, address: u32) -> Reply
         ensures number { answered result ≡ loaded self.old width address }
         ensures memory { self.new ≡ self.old }
@@ -152,8 +152,7 @@ impl FlatPages {
             Err(MemoryFault::PageFault) => return Reply::PageFault,
         };
         let first = self.pages.first(place);
-        let hint = Hint::of(address, first);
-        remember(&mut self.hints.loaded, address, hint);
+        self.recent.learn(Access::Load, address, first);
         let page = self.pages.bytes(first);
         Reply::Number(number(page, width, address))
     }
@@ -179,10 +178,10 @@ impl FlatPages {
         ensures fault { IfErr result (λ fault. stored self.old width address word ≡ Err fault) }
         ensures err { OnErr result (self.new ≡ self.old) }
     {
-        let hint = hint_for(&self.hints.stored, address);
-        match offset_past(hint.start, address, width) {
+        let recent = self.recent.of(Access::Store, address);
+        match offset_past(recent.start, address, width) {
             Some(past) => {
-                self.pages.put_number(hint.first, width, past, word);
+                self.pages.put_number(recent.place, width, past, word);
                 Ok(())
             }
             None => self.store_anew(width, address, word),
@@ -202,8 +201,7 @@ impl FlatPages {
         }
         let place = place_allowed(&self.pages, page_of(address), Access::Store)?;
         let first = self.pages.first(place);
-        let hint = Hint::of(address, first);
-        remember(&mut self.hints.stored, address, hint);
+        self.recent.learn(Access::Store, address, first);
         let offset = offset_in_page(address);
         self.pages.put_number(first, width, offset, word);
         Ok(())

@@ -6,10 +6,10 @@ use Rattle.page_memory.specs.Words.{page_number}
 use Rattle.page_memory.specs.Rights.{may}
 use Rattle.page_memory.specs.Pages.{Page, copied_in, overwritten}
 use Rattle.page_memory.specs.Entries.{place_of, value_at, with_value}
-use Rattle.page_memory.specs.Hints.{Remembers}
+use Rattle.page_memory.specs.Remembered.{Remembers}
 use Rattle.page_memory.proofs.PageRows.{had}
 use Rattle.page_memory.specs.AccessLaws.{copied_at}
-use Rattle.page_memory.specs.HintsLaws.{still_remembered}
+use Rattle.page_memory.specs.RememberedLaws.{still_remembered}
 use Rattle.page_memory.proofs.flat_pages.FlatPages.copy_in.Goals as goal
 
 pub returns-clause-ok : goal.returns-clause-ok
@@ -24,5 +24,5 @@ returns-clause-ok c =
 pub invariant_of-self : goal.invariant_of-self
 invariant_of-self c =
     let got = had (λ (page : Page). c.put_bytes.new.self ≡ with_value c.self.inside.pages c.in_ok-place.place (record page { bytes = overwritten page.bytes c.offset_in_page.result c.args.from.now })) (value_at c.in_ok-place.place c.self.inside.pages) c.put_bytes.ensures in
-    subst (λ (l : List (ℕ × Page)). Remembers l c.self.inside.hints) (sym got.1.1)
-    (still_remembered c.self.inside.pages c.self.inside.hints c.in_ok-place.place got.0 _ got.1.0 refl c.self.invariant)
+    subst (λ (l : List (ℕ × Page)). Remembers l c.self.inside.recent) (sym got.1.1)
+    (still_remembered c.self.inside.pages c.self.inside.recent c.in_ok-place.place got.0 _ got.1.0 refl c.self.invariant)

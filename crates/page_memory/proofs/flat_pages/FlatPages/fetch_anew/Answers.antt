@@ -5,8 +5,8 @@ use Rattle.page_memory.specs.Words.{page_number, page_offset}
 use Rattle.page_memory.specs.Entries.{place_of, value_at}
 use Rattle.page_memory.specs.Pages.{Page, fetched}
 use Rattle.page_memory.proofs.PageRows.{had}
-use Rattle.page_memory.specs.Hints.{StandsAt}
-use Rattle.page_memory.specs.HintsLaws.{fetched_there, leads_to_it, stands_of}
+use Rattle.page_memory.specs.Remembered.{StandsAt}
+use Rattle.page_memory.specs.RememberedLaws.{fetched_there, stands_of, one_remembered}
 use Rattle.page_memory.proofs.flat_pages.FlatPages.fetch_anew.Goals as goal
 
 pub returns-clause-word : goal.returns-clause-word
@@ -22,8 +22,4 @@ pub invariant_of-self : goal.invariant_of-self
 invariant_of-self c =
     let there : place_of (page_number c.args.address) c.self.inside.pages ≡ Some c.in-Ok.place = ap (λ n. place_of n c.self.inside.pages) (sym c.page_of.ensures.number) ∙ c.in-Ok.ensures.place in
     let stands : StandsAt Fetch c.self.inside.pages (page_number c.args.address) c.in-Ok.place = stands_of Fetch c.self.inside.pages (page_number c.args.address) c.in-Ok.place c.in-Ok.ensures.within there c.in-Ok.ensures.allowed in
-    record {
-      fetched = leads_to_it Fetch c.self.inside.pages _ c.args.address c.first-first.result c.in-Ok.place (omega arith) c.first-first.ensures c.of-self-inside.ensures stands;
-      loaded = c.self.invariant.loaded;
-      stored = c.self.invariant.stored;
-    }
+    one_remembered Fetch c.self.inside.pages c.self.inside.recent _ c.args.address c.first-first.result c.in-Ok.place (omega arith) c.first-first.ensures c.learn.ensures stands c.self.invariant

@@ -1,23 +1,19 @@
-use Rattle.std.proofs.Common.{◌≡◌, ◌/◌, ◌%◌, List, ℕ, Ok, Some, drop, sym, ap, ◌∙◌, subst, rules, arith}
+use Rattle.std.proofs.Common.{◌≡◌, ◌/◌, List, ℕ, Ok, Some, drop, sym, ap, ◌∙◌, rules, arith}
 use Rattle.byteorder.specs.Endian.{little_number}
 use Rattle.page_memory.specs.declared.words.Access.TheVariants.{Load}
-use Rattle.page_memory.specs.declared.hint.Hint.{Hint}
 use Rattle.page_memory.specs.Words.{page_number, page_offset, bytes_in}
-use Rattle.page_memory.specs.Hints.{StandsAt, LeadsTo, LeadAll}
+use Rattle.page_memory.specs.Remembered.{StandsAt}
 use Rattle.page_memory.specs.Entries.{place_of, value_at}
 use Rattle.page_memory.specs.Pages.{Page, loaded}
 use Rattle.page_memory.proofs.PageRows.{had}
-use Rattle.page_memory.specs.HintsLaws.{loaded_there, leads_to_it, stands_of, one_remembered}
+use Rattle.page_memory.specs.RememberedLaws.{loaded_there, stands_of, one_remembered}
 use Rattle.page_memory.proofs.flat_pages.FlatPages.load_anew.Goals as goal
 
 pub invariant_of-self : goal.invariant_of-self
 invariant_of-self c =
     let there : place_of (page_number c.args.address) c.self.inside.pages ≡ Some c.in-Ok.place = ap (λ n. place_of n c.self.inside.pages) (sym c.page_of.ensures.number) ∙ c.in-Ok.ensures.place in
     let stands : StandsAt Load c.self.inside.pages (page_number c.args.address) c.in-Ok.place = stands_of Load c.self.inside.pages (page_number c.args.address) c.in-Ok.place c.in-Ok.ensures.within there c.in-Ok.ensures.allowed in
-    let leads : LeadsTo Load c.self.inside.pages c.of-hint.result = leads_to_it Load c.self.inside.pages c.of-hint.result c.args.address c.first-first.result c.in-Ok.place (omega arith) c.first-first.ensures c.of-hint.ensures stands in
-    let among : List Hint → Type 0 = λ hints. LeadAll Load c.self.inside.pages hints in
-    let these : LeadAll Load c.self.inside.pages c.remember.new.hints = subst among (sym c.remember.ensures) (one_remembered Load c.self.inside.pages c.self.inside.hints.loaded (page_number c.args.address % 64) c.of-hint.result leads c.self.invariant.loaded) in
-    record { fetched = c.self.invariant.fetched; loaded = these; stored = c.self.invariant.stored }
+    one_remembered Load c.self.inside.pages c.self.inside.recent _ c.args.address c.first-first.result c.in-Ok.place (omega arith) c.first-first.ensures c.learn.ensures stands c.self.invariant
 
 pub returns-clause-number : goal.returns-clause-number
 returns-clause-number c =

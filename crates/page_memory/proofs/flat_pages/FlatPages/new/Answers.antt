@@ -1,4 +1,5 @@
+use Rattle.page_memory.specs.RememberedLaws.{nothing_remembered}
 use Rattle.page_memory.proofs.flat_pages.FlatPages.new.Goals as goal
 
 pub invariant_of-result : goal.invariant_of-result
-invariant_of-result c = c.new-2.ensures c.in_ok-new.field-0
+invariant_of-result c = nothing_remembered c.in_ok-new.field-0 c.new-2.result c.new-2.ensures

@@ -1,5 +1,5 @@
 use Rattle.byteorder.specs.Endian.{little_bytes}
-use Rattle.std.proofs.Common.{◌≡◌, ◌/◌, ◌%◌, List, ℕ, refl, subst, sym, ap, ◌∙◌, Ok, Some, true, rules, arith}
+use Rattle.std.proofs.Common.{◌≡◌, ◌/◌, List, ℕ, refl, subst, sym, ap, ◌∙◌, Ok, Some, true, rules, arith}
 use Rattle.std.specs.Ordering.{nat_cmp}
 use Rattle.std.specs.FinMap.{from_entries}
 use Rattle.page_memory.specs.declared.words.Access.TheVariants.{Store}
@@ -9,10 +9,8 @@ use Rattle.page_memory.specs.Pages.{Page, overwritten, stored}
 use Rattle.page_memory.specs.Entries.{place_of, value_at, with_value}
 use Rattle.page_memory.proofs.PageRows.{had}
 use Rattle.page_memory.specs.AccessLaws.{stored_at}
-use Rattle.page_memory.specs.declared.hint.Hint.{Hint}
-use Rattle.page_memory.specs.declared.hint.Hints.{Hints}
-use Rattle.page_memory.specs.Hints.{StandsAt, LeadsTo, LeadAll, Remembers}
-use Rattle.page_memory.specs.HintsLaws.{leads_to_it, stands_of, one_remembered, still_remembered}
+use Rattle.page_memory.specs.Remembered.{StandsAt, Remembers}
+use Rattle.page_memory.specs.RememberedLaws.{stands_of, one_remembered, still_remembered}
 use Rattle.page_memory.proofs.flat_pages.FlatPages.store_anew.Goals as goal
 
 pub returns-clause-ok : goal.returns-clause-ok
@@ -30,11 +28,7 @@ pub invariant_of-self : goal.invariant_of-self
 invariant_of-self c =
     let there : place_of (page_number c.args.address) c.self.inside.pages ≡ Some c.in_ok-place.place = ap (λ n. place_of n c.self.inside.pages) (sym c.page_of.ensures.number) ∙ c.in_ok-place.ensures.place in
     let stands : StandsAt Store c.self.inside.pages (page_number c.args.address) c.in_ok-place.place = stands_of Store c.self.inside.pages (page_number c.args.address) c.in_ok-place.place c.in_ok-place.ensures.within there c.in_ok-place.ensures.allowed in
-    let leads : LeadsTo Store c.self.inside.pages c.of-hint.result = leads_to_it Store c.self.inside.pages c.of-hint.result c.args.address c.first-first.result c.in_ok-place.place (omega arith) c.first-first.ensures c.of-hint.ensures stands in
-    let among : List Hint → Type 0 = λ hints. LeadAll Store c.self.inside.pages hints in
-    let these : LeadAll Store c.self.inside.pages c.remember.new.hints = subst among (sym c.remember.ensures) (one_remembered Store c.self.inside.pages c.self.inside.hints.stored (page_number c.args.address % 64) c.of-hint.result leads c.self.invariant.stored) in
-    let hints : Hints = record c.self.inside.hints { stored = c.remember.new.hints } in
-    let remembered : Remembers c.self.inside.pages hints = record { fetched = c.self.invariant.fetched; loaded = c.self.invariant.loaded; stored = these } in
+    let remembered : Remembers c.self.inside.pages c.learn.new.self = one_remembered Store c.self.inside.pages c.self.inside.recent c.learn.new.self c.args.address c.first-first.result c.in_ok-place.place (omega arith) c.first-first.ensures c.learn.ensures stands c.self.invariant in
     let got = had (λ (page : Page). c.put_number.new.self ≡ with_value c.self.inside.pages (c.first-first.result / 4096) (record page { bytes = overwritten page.bytes c.offset_in_page-offset.result (little_bytes (bytes_in c.args.width) c.args.word) })) (value_at (c.first-first.result / 4096) c.self.inside.pages) c.put_number.ensures in
-    subst (λ (l : List (ℕ × Page)). Remembers l hints) (sym got.1.1)
-    (still_remembered c.self.inside.pages hints (c.first-first.result / 4096) got.0 _ got.1.0 refl remembered)
+    subst (λ (l : List (ℕ × Page)). Remembers l c.learn.new.self) (sym got.1.1)
+    (still_remembered c.self.inside.pages c.learn.new.self (c.first-first.result / 4096) got.0 _ got.1.0 refl remembered)

@@ -1,12 +1,12 @@
 -- What is remembered of a page that was found: its first address, and where its bytes begin, which tells its place.
-use Rattle.std.specs.Prelude.{◌≡◌, ℕ, ◌*◌, ◌/◌, ◌%◌, ◌<◌, ◌≤◌, Bool, true, List, All, length, Option, Some, option_map}
+use Rattle.std.specs.Prelude.{◌≡◌, ℕ, ◌*◌, ◌/◌, ◌%◌, ◌<◌, ◌≤◌, Bool, true, List, length, Option, Some, option_map}
 use Rattle.page_memory.specs.declared.words.Access.{Access}
-use Rattle.page_memory.specs.declared.words.Access.TheVariants.{Fetch, Load, Store}
-use Rattle.page_memory.specs.declared.hint.Hint.{Hint}
-use Rattle.page_memory.specs.declared.hint.Hints.{Hints}
+use Rattle.page_memory.specs.declared.recent_pages.RecentPage.{RecentPage}
+use Rattle.page_memory.specs.declared.recent_pages.RecentPages.{RecentPages}
 use Rattle.page_memory.specs.Rights.{may}
 use Rattle.page_memory.specs.Pages.{Page}
 use Rattle.page_memory.specs.Entries.{place_of, value_at}
+use Rattle.page_memory.specs.RecentPages.{Each}
 
 -- whether the page at a place may be used so
 abbrev pub may_at : Access → ℕ → List (ℕ × Page) → Option Bool
@@ -25,16 +25,10 @@ pub record Leads (access : Access) (pages : List (ℕ × Page)) (start place : �
   pub stands : (number : ℕ) → start < 4294967296 → number * 4096 ≡ start → StandsAt access pages number place
 
 -- a page whose bytes begin there
-pub record LeadsTo (access : Access) (pages : List (ℕ × Page)) (hint : Hint) : Type 0 where
-  pub whole : hint.first % 4096 ≡ 0
-  pub leads : Leads access pages hint.start (hint.first / 4096)
-
--- each of these pages, where it is one
-abbrev pub LeadAll : Access → List (ℕ × Page) → List Hint → Type 0
-LeadAll access pages hints = All (LeadsTo access pages) hints
+pub record LeadsTo (access : Access) (pages : List (ℕ × Page)) (recent : RecentPage) : Type 0 where
+  pub whole : recent.place % 4096 ≡ 0
+  pub leads : Leads access pages recent.start (recent.place / 4096)
 
 -- what is remembered holds of these pages
-pub record Remembers (pages : List (ℕ × Page)) (hints : Hints) : Type 0 where
-  pub fetched : LeadsTo Fetch pages hints.fetched
-  pub loaded : LeadAll Load pages hints.loaded
-  pub stored : LeadAll Store pages hints.stored
+abbrev pub Remembers : List (ℕ × Page) → RecentPages → Type 0
+Remembers pages recent = Each (λ access number. LeadsTo access pages) recent

@@ -1,5 +1,5 @@
 -- How what is remembered of a page serves an access, and how it is kept.
-use Rattle.std.proofs.Common.{◌≡◌, ℕ, zero, suc, ◌+◌, ◌*◌, ◌/◌, ◌%◌, ◌<◌, List, [], ◌∷◌, length, replicate, slice_set, Contains, true, ◌≢◌, IsTrue, Option, Some, None, option_map, option_and_then, Ok, Err, arith, refl, sym, subst, ap, ◌∙◌, ne_eqb}
+use Rattle.std.proofs.Common.{◌≡◌, ℕ, zero, suc, ◌+◌, ◌*◌, ◌/◌, ◌%◌, ◌<◌, List, [], ◌∷◌, length, true, ◌≢◌, IsTrue, Option, Some, None, option_map, option_and_then, Ok, Err, arith, refl, sym, subst, ap, ◌∙◌, ne_eqb}
 use Rattle.std.proofs.lemmas.Option.{same_Some}
 use Rattle.std.specs.Ordering.{nat_cmp}
 use Rattle.std.specs.Option.{IsSomeAnd}
@@ -17,10 +17,11 @@ use Rattle.page_memory.specs.Pages.{Page, Pages, with_right, answer_by, stored, 
 use Rattle.page_memory.specs.Entries.{place_of, value_at, with_value}
 use Rattle.page_memory.specs.EntriesLaws.{value_by_place, place_of-with_value, length-with_value}
 use Rattle.page_memory.specs.AccessLaws.{usable_found, aligned_usable, stored_at}
-use Rattle.page_memory.specs.declared.hint.Hint.{Hint}
-use Rattle.page_memory.specs.declared.hint.Hints.{Hints}
-use Rattle.page_memory.specs.Hints.{may_at, StandsAt, Leads, LeadsTo, LeadAll, Remembers}
-use Rattle.std.proofs.lemmas.List.Elements.{All-replicate, All-set, All-weaker, All-contains}
+use Rattle.page_memory.specs.declared.recent_pages.RecentPage.{RecentPage}
+use Rattle.page_memory.specs.declared.recent_pages.RecentPages.{RecentPages}
+use Rattle.page_memory.specs.RecentPages.{nowhere, no_recent, recent_of, learned}
+use Rattle.page_memory.specs.RecentPagesLaws.{each_none, each_learned}
+use Rattle.page_memory.specs.Remembered.{may_at, StandsAt, Leads, LeadsTo, Remembers}
 
 -- where it is past all addresses
 pub leads_nowhere : (access : Access) (pages : List (ℕ × Page)) (place : ℕ) → Leads access pages 4294967296 place
@@ -110,26 +111,21 @@ below_four Byte address = omega arith
 below_four Half address = omega arith
 below_four Word address = omega arith
 
--- a hint of those that lead
-pub one_of : (access : Access) (pages : List (ℕ × Page)) (hints : List Hint) (hint : Hint) → LeadAll access pages hints → Contains hints hint → LeadsTo access pages hint
-one_of access pages hints hint all among = All-contains (LeadsTo access pages) hints hint all among
-
--- one that is made of a page that stands there
-pub leads_to_it : (access : Access) (pages : List (ℕ × Page)) (hint : Hint) (address first place : ℕ) → address < 4294967296 → first ≡ place * 4096
-    → hint ≡ record { start = address / 4096 * 4096; first = first } → StandsAt access pages (page_number address) place → LeadsTo access pages hint
-leads_to_it access pages hint address first place small at is stands =
-    let made : Hint = record { start = address / 4096 * 4096; first = first } in
+-- what is made of a page that stands there
+pub leads_to_it : (access : Access) (pages : List (ℕ × Page)) (address first place : ℕ) → address < 4294967296 → first ≡ place * 4096
+    → StandsAt access pages (page_number address) place → LeadsTo access pages (record { start = address / 4096 * 4096; place = first })
+leads_to_it access pages address first place small at stands =
     let same : place ≡ first / 4096 = omega arith in
-    subst (LeadsTo access pages) (sym is) (record {
+    record {
       whole = omega arith;
-      leads = subst (Leads access pages made.start) same (leads_there access pages address (address / 4096 * 4096) place small refl stands);
-    })
+      leads = subst (Leads access pages (address / 4096 * 4096)) same (leads_there access pages address (address / 4096 * 4096) place small refl stands);
+    }
 
-still_led_to : (access : Access) (pages : List (ℕ × Page)) (hint : Hint) (changed : ℕ) (old new : Page) → value_at changed pages ≡ Some old → new.rights ≡ old.rights
-    → LeadsTo access pages hint → LeadsTo access (with_value pages changed new) hint
-still_led_to access pages hint changed old new was same is = record { whole = is.whole; leads = still_leads access pages hint.start (hint.first / 4096) changed old new was same is.leads }
+still_led_to : (access : Access) (pages : List (ℕ × Page)) (recent : RecentPage) (changed : ℕ) (old new : Page) → value_at changed pages ≡ Some old → new.rights ≡ old.rights
+    → LeadsTo access pages recent → LeadsTo access (with_value pages changed new) recent
+still_led_to access pages recent changed old new was same is = record { whole = is.whole; leads = still_leads access pages recent.start (recent.place / 4096) changed old new was same is.leads }
 
-to_nowhere : (access : Access) (pages : List (ℕ × Page)) → LeadsTo access pages (record { start = 4294967296; first = 0 })
+to_nowhere : (access : Access) (pages : List (ℕ × Page)) → LeadsTo access pages nowhere
 to_nowhere access pages = record { whole = refl; leads = leads_nowhere access pages (0 / 4096) }
 
 pub loaded_led : (pages : List (ℕ × Page)) (width : Width) (address start place : ℕ) (page : Page) → Leads Load pages start place → address < 4294967296 → address / 4096 * 4096 + address % bytes_in width ≡ start → value_at place pages ≡ Some page → loaded (from_entries pages) width address ≡ Ok (number_at (bytes_in width) address page)
@@ -150,7 +146,7 @@ not_loaded_there memory width address fault aligned is = ap (answer_by (number_a
 
 pub ruleset not_loaded = (loaded_misaligned, not_loaded_there)
 
--- what a store changes where a hint leads
+-- what a store changes where a page leads
 pub stored_led : (pages : List (ℕ × Page)) (width : Width) (address word start place : ℕ) (page : Page) → Leads Store pages start place → address < 4294967296 → address / 4096 * 4096 + address % bytes_in width ≡ start → value_at place pages ≡ Some page → stored (from_entries pages) width address word ≡ Ok (from_entries (with_value pages place (record page { bytes = overwritten page.bytes (page_offset address) (little_bytes (bytes_in width) word) })))
 stored_led pages width address word start place page leads small e is =
     let stands = stands_led Store pages (bytes_in width) address start place leads small (below_four width address) e in
@@ -158,27 +154,20 @@ stored_led pages width address word start place page leads small e is =
     (same_Some _ _ (sym (ap (option_map (λ p. may Store p.rights)) is) ∙ stands.allowed))
 
 -- no page is remembered
-pub nothing_remembered : (pages : List (ℕ × Page)) (hints : Hints) → hints.fetched ≡ record { start = 4294967296; first = 0 } → hints.loaded ≡ replicate 64 (record { start = 4294967296; first = 0 }) → hints.stored ≡ replicate 64 (record { start = 4294967296; first = 0 }) → Remembers pages hints
-nothing_remembered pages hints fetched loaded stored =
-    record {
-      fetched = subst (LeadsTo Fetch pages) (sym fetched) (to_nowhere Fetch pages);
-      loaded = subst (LeadAll Load pages) (sym loaded) (All-replicate (LeadsTo Load pages) 64 _ (to_nowhere Load pages));
-      stored = subst (LeadAll Store pages) (sym stored) (All-replicate (LeadsTo Store pages) 64 _ (to_nowhere Store pages));
-    }
+pub nothing_remembered : (pages : List (ℕ × Page)) (recent : RecentPages) → recent ≡ no_recent → Remembers pages recent
+nothing_remembered pages recent none = subst (Remembers pages) (sym none) (each_none (λ access number. LeadsTo access pages) (λ access number. to_nowhere access pages))
 
 -- what is remembered holds on where a page's bytes change
-pub still_remembered : (pages : List (ℕ × Page)) (hints : Hints) (changed : ℕ) (old new : Page) → value_at changed pages ≡ Some old → new.rights ≡ old.rights → Remembers pages hints → Remembers (with_value pages changed new) hints
-still_remembered pages hints changed old new was same is =
-    record {
-      fetched = still_led_to Fetch pages hints.fetched changed old new was same is.fetched;
-      loaded = all_still Load hints.loaded is.loaded;
-      stored = all_still Store hints.stored is.stored;
-    }
-  where
-    all_still : (access : Access) (among : List Hint) → LeadAll access pages among → LeadAll access (with_value pages changed new) among
-    all_still access among all =
-        All-weaker (LeadsTo access pages) (LeadsTo access (with_value pages changed new)) (λ h leads. still_led_to access pages h changed old new was same leads) among all
+pub still_remembered : (pages : List (ℕ × Page)) (recent : RecentPages) (changed : ℕ) (old new : Page) → value_at changed pages ≡ Some old → new.rights ≡ old.rights → Remembers pages recent → Remembers (with_value pages changed new) recent
+still_remembered pages recent changed old new was same is = λ access number. still_led_to access pages (recent_of access number recent) changed old new was same (is access number)
 
 -- one more page is remembered
-pub one_remembered : (access : Access) (pages : List (ℕ × Page)) (hints : List Hint) (i : ℕ) (hint : Hint) → LeadsTo access pages hint → LeadAll access pages hints → LeadAll access pages (slice_set hints i hint)
-one_remembered access pages hints i hint leads all = All-set (LeadsTo access pages) hints i hint leads all
+pub one_remembered : (access : Access) (pages : List (ℕ × Page)) (recent new : RecentPages) (address first place : ℕ) → address < 4294967296 → first ≡ place * 4096
+    → new ≡ learned access address first recent → StandsAt access pages (page_number address) place → Remembers pages recent → Remembers pages new
+one_remembered access pages recent new address first place small at is stands all =
+    subst (Remembers pages) (sym is)
+    (each_learned (λ access number. LeadsTo access pages) access address first recent (λ access number. to_nowhere access pages) (λ number. leads_to_it access pages address first place small at stands) all)
+
+-- what is remembered for an access leads there
+pub remembered_for : (access : Access) (pages : List (ℕ × Page)) (recent : RecentPages) (number : ℕ) (one : RecentPage) → one ≡ recent_of access number recent → Remembers pages recent → LeadsTo access pages one
+remembered_for access pages recent number one is all = subst (LeadsTo access pages) (sym is) (all access number)

@@ -11,7 +11,6 @@
 mod crowds;
 mod entries;
 mod hints;
-mod ready;
 mod tlb;
 mod translation;
 

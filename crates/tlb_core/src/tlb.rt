@@ -7,9 +7,8 @@ ghost use Rattle.tlb_core.specs.Cache.{OnePerPage, Hits, translation_of, holds_m
 use crate::crowds::{Crowds, crowds_of};
 use crate::entries::Entries;
 use crate::hints::Hints;
-use crate::ready::Ready;
 use crate::translation::Translation;
-use page_memory::{Access, Width, offset_past};
+use page_memory::{Access, RecentPages, Width, offset_past};
 use std::marker::Model;
 
 /// The most entries that a cache has.
@@ -27,7 +26,7 @@ pub struct Spot {
 pub struct Tlb {
     entries: Entries,
     hints: Hints,
-    ready: Ready,
+    ready: RecentPages,
     crowds: Crowds,
 }
 
@@ -58,7 +57,7 @@ impl Tlb {
         Tlb {
             entries: Entries::new(),
             hints: Hints::new(),
-            ready: Ready::new(),
+            ready: RecentPages::new(),
             crowds: Crowds::new(),
         }
     }
@@ -93,7 +92,7 @@ impl Tlb {
         ensures hits { IfSome result (λ spot. Hits self.now access (page_number address)
             spot.place) }
     {
-        let known = self.ready.known(access, address);
+        let known = self.ready.of(access, address);
         match offset_past(known.start, address, width) {
             Some(offset) => Some(Spot {
                 place: known.place,
@@ -235,7 +234,7 @@ impl Tlb {
         self.entries.keep_undoomed();
         self.hints.set(self.entries.as_slice());
         self.crowds = crowds_of(self.entries.as_slice());
-        self.ready = Ready::new();
+        self.ready = RecentPages::new();
     }
 
     /// Drops all entries.
@@ -249,7 +248,7 @@ impl Tlb {
 }
 
 /// The pages of these entries are ready no more: where each page that was ready is of one of them, none is.
-fn forget_each(entries: &[Translation], ready: &mut Ready)
+fn forget_each(entries: &[Translation], ready: &mut RecentPages)
     ensures { IsReady entries.now ready.old → IsReady [] ready.new }
 {
     for entry in entries.iter() {

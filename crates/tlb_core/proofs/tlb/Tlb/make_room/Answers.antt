@@ -1,5 +1,6 @@
 use Rattle.std.proofs.Common.{◌≡◌, arith, sym, subst, drop}
-use Rattle.tlb_core.specs.Ready.{IsReady, forgotten}
+use Rattle.page_memory.specs.RecentPages.{forgotten}
+use Rattle.tlb_core.specs.Ready.{IsReady}
 use Rattle.tlb_core.proofs.CrowdLaws.{oldest_gone, oldest_some}
 use Rattle.tlb_core.proofs.Places.{one_per_page_room}
 use Rattle.tlb_core.proofs.ReadyLaws.{ready_oldest_gone}

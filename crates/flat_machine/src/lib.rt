@@ -9,6 +9,7 @@ mod plain_run;
 mod process;
 mod running;
 mod schedule;
+mod settling;
 mod stepping;
 
 pub use by_turns::OutOfMemory;
@@ -17,4 +18,5 @@ pub use laws::{opening_has_pages, schedule_is_full, turns_are_a_schedule};
 pub use opening::{STACK_PAGES, STACK_START, first_break, first_registers};
 pub use process::FlatProcess;
 pub use schedule::{MOST_TURNS, Schedule, ScheduleFull, Turn};
+pub use settling::settle;
 pub use stepping::StepRefusal;

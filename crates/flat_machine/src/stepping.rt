@@ -8,9 +8,9 @@ ghost use Rattle.flat_machine.specs.ByTurns.{by_turns, turn_after};
 ghost use Rattle.flat_machine.specs.PlainRun.{StopsAs, StopsNext};
 ghost use Rattle.flat_machine.specs.Refusals.{RefusesStep, WantsMemory};
 
-use crate::end::End;
 use crate::plain_run::run_plainly;
 use crate::process::FlatProcess;
+use crate::settling::{goes_alike, settle};
 use env_calls::{Env, ServeStop, Stepped, finish};
 use page_memory::FlatMemory;
 use rv_exec::{Outcome, Regs};
@@ -110,32 +110,12 @@ impl FlatProcess {
     {
         let regs = &mut self.harts[hart as usize];
         match finish_step(&mut self.env, hart, regs, &mut self.memory, outcome) {
-            Ok(stepped) => match stepped {
-                Stepped::Ran => Ok(true),
-                Stepped::Yielded => Ok(true),
-                Stepped::HartDone => Ok(false),
-                Stepped::Spawned {
-                    hart: _,
-                    regs: first,
-                } => {
-                    self.harts.push_reserved(first);
-                    Ok(false)
-                }
-                Stepped::Exited(status) => {
-                    self.end = Some(End::Exited(status));
-                    Ok(false)
-                }
-                Stepped::Trapped(cause, value) => {
-                    let pc = regs.pc();
-                    self.end = Some(End::Trapped {
-                        hart,
-                        cause,
-                        pc,
-                        value,
-                    });
-                    Ok(false)
-                }
-            },
+            Ok(stepped) => {
+                let pc = regs.pc();
+                let alike = goes_alike(&stepped);
+                settle(&mut self.harts, &mut self.end, hart, pc, stepped);
+                Ok(alike)
+            }
             Err(ServeStop::Absent(_)) => unreachable!(),
             Err(ServeStop::NoMemory) => Err(AllocError),
         }

@@ -1,5 +1,5 @@
 -- The laws of a plain run, for the process that is seen.
-use Rattle.std.proofs.Common.{◌≡◌, ◌-◌, ◌<◌, true, arith, ap, sym, ◌∙◌}
+use Rattle.std.proofs.Common.{◌≡◌, ◌-◌, true, arith, ap, sym, ◌∙◌}
 use Rattle.flat_machine.specs.Process.{Process, may_step, flat_step}
 use Rattle.flat_machine.specs.ByTurns.{by_turns, turn_after}
 use Rattle.flat_machine.proofs.PlainSteps.{taken_plainly, none_plainly, one_plainly, stops_next}

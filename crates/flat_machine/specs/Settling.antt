@@ -1,12 +1,10 @@
 -- What a step leaves of the harts and the ending of a process.
-use Rattle.std.specs.Prelude.{ℕ, List, [], ◌∷◌, ◌++◌, Option, Some}
+use Rattle.std.specs.Prelude.{ℕ, Bool, true, false, List, [], ◌∷◌, ◌++◌, Option, Some}
 use Rattle.rv_exec.specs.Registers.{Registers}
 use Rattle.env_calls.specs.declared.stepping.Stepped.{Stepped}
 use Rattle.env_calls.specs.declared.stepping.Stepped.TheVariants as stepped
 use Rattle.flat_machine.specs.declared.end.End.{End}
 use Rattle.flat_machine.specs.declared.end.End.TheVariants.{Exited, Trapped}
-use Rattle.space_core.specs.declared.progress.Progress.{Progress}
-use Rattle.space_core.specs.declared.progress.Progress.TheVariants.{GoesOn, Yielded, Spawned, HartDone, Ended}
 
 -- a new hart is behind the others
 abbrev pub harts_after : Stepped → List Registers → List Registers
@@ -25,13 +23,14 @@ ending_after hart pc stepped.HartDone ending = ending
 ending_after hart pc (stepped.Exited status) ending = Some (Exited status)
 ending_after hart pc (stepped.Trapped cause value) ending = Some (Trapped hart cause pc value)
 
-abbrev pub progress_of_step : Stepped → Progress
-progress_of_step stepped.Ran = GoesOn
-progress_of_step stepped.Yielded = Yielded
-progress_of_step (stepped.Spawned hart first) = Spawned
-progress_of_step stepped.HartDone = HartDone
-progress_of_step (stepped.Exited status) = Ended
-progress_of_step (stepped.Trapped cause value) = Ended
+-- whether the process goes on, with the same harts live
+abbrev pub goes_alike : Stepped → Bool
+goes_alike stepped.Ran = true
+goes_alike stepped.Yielded = true
+goes_alike (stepped.Spawned hart first) = false
+goes_alike stepped.HartDone = false
+goes_alike (stepped.Exited status) = false
+goes_alike (stepped.Trapped cause value) = false
 
 -- a fact that is needed where a hart is started
 abbrev pub IfSpawns : Stepped → Type 0 → Type 0

@@ -23,6 +23,7 @@ use std::marker::Model;
 pub(crate) struct FlatPages {
     alloc: Global,
     pages: PageRow,
+    /// The place of each is where its bytes begin in the row.
     recent: RecentPages,
 }
 

@@ -26,6 +26,7 @@ pub struct Spot {
 pub struct Tlb {
     entries: Entries,
     hints: Hints,
+    /// The place of each is the one among its process's pages.
     ready: RecentPages,
     crowds: Crowds,
 }

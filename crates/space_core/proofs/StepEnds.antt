@@ -24,6 +24,8 @@ use Rattle.env_calls.specs.StepLaws.{effect_next, used_next, bound_first}
 use Rattle.flat_machine.specs.declared.end.End.{End}
 use Rattle.flat_machine.specs.Process.{Process, IsWhole, may_step}
 use Rattle.flat_machine.specs.RunLaws.{flat_run_none, one_more_step}
+use Rattle.flat_machine.specs.Settling.{harts_after, ending_after, IfSpawns}
+use Rattle.flat_machine.specs.SettlingLaws.{room_to_spawn, settled, harts_stay}
 use Rattle.paged_memory.specs.HartMemory.{KeepsAccess, MarksSince}
 use Rattle.paged_memory.specs.HartMemoryLaws.{access_on, served_before}
 use Rattle.paged_memory.specs.Missing.{MissesIn, TakesIn}
@@ -38,14 +40,13 @@ use Rattle.space_core.specs.declared.progress.SliceStop.TheVariants as stop
 use Rattle.space_core.specs.Endings.{LeftBy, EndsStep, EndsOne}
 use Rattle.space_core.specs.HartLoop.{RunsTo}
 use Rattle.space_core.specs.FromBelow.{AtAbsent, MissesNext}
-use Rattle.space_core.specs.Next.{next_pages, next_stores, answered, begun, stop_after, stop_before}
+use Rattle.space_core.specs.Next.{next_pages, next_stores, answered, begun, progress_of_step, stop_after, stop_before}
 use Rattle.space_core.specs.RunningValue.{RunningValue, with_memory}
-use Rattle.space_core.specs.Settling.{harts_after, ending_after, progress_of_step, IfSpawns}
 use Rattle.space_core.specs.Slices.{EachStep, BoundsEach, PassesOn, StopsRecorded}
 use Rattle.space_core.proofs.Bounding.{next_bound, bound_one}
 use Rattle.space_core.proofs.FromBelowLaws.{LeavesOf, next_taken, next_not_taken, misses_next}
 use Rattle.space_core.proofs.SliceMoves.{each_none, each_more, used_on, still_may}
-use Rattle.space_core.proofs.StepMoves.{is_started, registers_are, whole_with, room_to_spawn, settled, harts_stay, progressed, used_pages, stopped_pages, wants_memory}
+use Rattle.space_core.proofs.StepMoves.{is_started, registers_are, whole_with, progressed, used_pages, stopped_pages, wants_memory}
 
 -- pages that were marked stay so
 
@@ -132,7 +133,7 @@ module _ {S : Type 0} (held : S → List ℕ) (honest : Type 0) (hart : ℕ) whe
   was_taken old before after r s regs env whole may are step leaves kept =
       let memory = memory_of held before in
       let memory' = memory_of held after in
-      let done = settled hart old old memory r regs env memory' s whole refl may are step.stepped step.regs_stay step.env_stays step.memory_stays in
+      let done = settled hart (with_memory old memory) (with_memory old memory) r regs env memory' s whole refl may are step.stepped step.regs_stay step.env_stays step.memory_stays in
       let now = registers_are hart old old memory r whole refl may are in
       record {
         ends = record {
@@ -194,7 +195,7 @@ module _ {S : Type 0} (held : S → List ℕ) (honest : Type 0) (hart : ℕ) whe
       let may_inside : may_step hart (with_memory inside memory) ≡ true = ap (λ (v : RunningValue). may_step hart (with_memory v memory)) same ∙ may in
       let step = step_of o inside between after r (Ok s) regs env (is_started hart inside inside memory (whole memory) refl may_inside) are (left_inside o inside now between same left) rest kept in
       record {
-        roomy = λ capacity few. room_to_spawn hart inside inside memory r regs env (memory_of held after) s capacity (whole memory) step.stepped few;
+        roomy = λ capacity few. room_to_spawn hart (with_memory inside memory) r regs env (memory_of held after) s capacity (whole memory) step.stepped few;
         taken = subst (λ (v : RunningValue). WasTaken s v before (taken_to inside regs env s) after) same
             (was_taken inside before after r s regs env (whole memory) may_inside are step
             (leaves_of o inside between after r (Ok s) regs env (is_started hart inside inside memory (whole memory) refl may_inside) are (left_inside o inside now between same left) rest leaves kept) (access_on hart before between after left.runs.kept kept));

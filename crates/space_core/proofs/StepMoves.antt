@@ -1,7 +1,6 @@
 -- What a step over a bus is to the process that its memory makes of it.
-use Rattle.std.proofs.Common.{◌≡◌, ◌<◌, ◌≤◌, [], ℕ, true, List, length, slice_set, slice_index_or, Option, Some, Result, Ok, Err, option_map, unwrap_or, ap, ◌∙◌, sym, subst, arith, length-set}
+use Rattle.std.proofs.Common.{◌≡◌, ◌<◌, [], ℕ, true, List, length, slice_set, slice_index_or, Option, Some, Result, Ok, Err, option_map, unwrap_or, ap, ◌∙◌, sym, subst, length-set}
 use Rattle.std.proofs.lemmas.Option.{slice_get-get_or}
-use Rattle.std.proofs.lemmas.List.{set-get_or}
 use Rattle.page_memory.specs.Memory.{Memory}
 use Rattle.rv_exec.specs.Registers.{Registers}
 use Rattle.rv_exec.specs.Outcomes.{Used}
@@ -10,20 +9,18 @@ use Rattle.env_calls.specs.declared.served.ServeStop.TheVariants as serve
 use Rattle.env_calls.specs.declared.stepping.Stepped.{Stepped}
 use Rattle.env_calls.specs.declared.stepping.Stepped.TheVariants as stepped
 use Rattle.env_calls.specs.Environment.{Environment}
-use Rattle.env_calls.specs.Effect.{Effect, Runs, Yields, Spawns, Finishes, Exits, Traps}
-use Rattle.env_calls.specs.LiveLaws.{MarksAfter, marks_after}
+use Rattle.env_calls.specs.Effect.{Effect}
 use Rattle.env_calls.specs.Serving.{TakesMemory, UsesPages}
 use Rattle.env_calls.specs.Step.{effect, step_pages}
-use Rattle.env_calls.specs.Stepping.{IsEffect, Stays}
+use Rattle.env_calls.specs.Stepping.{IsEffect}
 use Rattle.flat_machine.specs.declared.end.End.{End}
-use Rattle.flat_machine.specs.declared.end.End.TheVariants.{Trapped}
 use Rattle.flat_machine.specs.Process.{Process, IsWhole, hart_registers, may_step}
 use Rattle.flat_machine.specs.Refusals.{WantsMemory}
-use Rattle.flat_machine.specs.StepLaws.{Taken, taken, started}
+use Rattle.flat_machine.specs.StepLaws.{started}
+use Rattle.flat_machine.specs.SettlingLaws.{harts_stay}
 use Rattle.space_core.specs.declared.progress.Progress.{Progress}
 use Rattle.space_core.specs.RunningValue.{RunningValue, with_memory}
-use Rattle.space_core.specs.Next.{next_effect, next_progress, next_pages, progress_of}
-use Rattle.space_core.specs.Settling.{harts_after, ending_after, progress_of_step, IfSpawns}
+use Rattle.space_core.specs.Next.{next_effect, next_progress, next_pages, progress_of, progress_of_step}
 
 -- ---- the hart that steps
 
@@ -41,48 +38,6 @@ registers_are hart inside now memory r whole same may are =
 -- whole is a matter of harts and marks
 pub whole_with : (value : RunningValue) (memory memory' : Memory) → IsWhole (with_memory value memory) → IsWhole (with_memory value memory')
 whole_with value memory memory' whole = record { marked = whole.marked; few = whole.few; some = whole.some }
-
--- room for a hart that is started
-pub room_to_spawn : (hart : ℕ) (inside now : RunningValue) (memory : Memory) (r regs : Registers) (env : Environment) (memory' : Memory) (s : Stepped) (capacity : ℕ)
-    → IsWhole (with_memory inside memory) → IsEffect (effect hart r inside.environment memory) s regs env memory' → 8 ≤ capacity
-    → IfSpawns s (length (slice_set inside.harts hart regs) < capacity)
-room_to_spawn hart inside now memory r regs env memory' stepped.Ran capacity whole is roomy = tt
-room_to_spawn hart inside now memory r regs env memory' stepped.Yielded capacity whole is roomy = tt
-room_to_spawn hart inside now memory r regs env memory' (stepped.Spawned number first) capacity whole is roomy =
-    let few = (subst (MarksAfter hart inside.environment.live) is.0 (marks_after hart r inside.environment memory)).1 in
-    let marked = whole.marked in
-    let size : length (slice_set inside.harts hart regs) ≡ length inside.harts = length-set inside.harts hart regs in
-    omega arith
-room_to_spawn hart inside now memory r regs env memory' stepped.HartDone capacity whole is roomy = tt
-room_to_spawn hart inside now memory r regs env memory' (stepped.Exited status) capacity whole is roomy = tt
-room_to_spawn hart inside now memory r regs env memory' (stepped.Trapped cause value) capacity whole is roomy = tt
-
--- ---- the step
-
--- where registers, environment and memory stay, the harts do
-pub harts_stay : (hart : ℕ) (harts : List Registers) (r regs : Registers) → r ≡ slice_index_or harts hart r → regs ≡ r → slice_set harts hart regs ≡ harts
-harts_stay hart harts r regs are same = ap (slice_set harts hart) (same ∙ are) ∙ set-get_or harts hart r
-
-pub settled : (hart : ℕ) (inside now : RunningValue) (memory : Memory) (r regs : Registers) (env : Environment) (memory' : Memory) (s : Stepped)
-    → IsWhole (with_memory inside memory) → inside ≡ now → may_step hart (with_memory now memory) ≡ true → r ≡ slice_index_or inside.harts hart r
-    → IsEffect (effect hart r inside.environment memory) s regs env memory'
-    → Stays (Ok s) (regs ≡ r) → Stays (Ok s) (env ≡ inside.environment) → Stays (Ok s) (memory' ≡ memory)
-    → Taken hart (with_memory now memory) (record { harts = harts_after s (slice_set inside.harts hart regs); environment = env; memory = memory'; ending = ending_after hart regs.pc s inside.ending })
-settled hart inside now memory r regs env memory' stepped.Ran whole same may are is regs_stay env_stays memory_stays =
-    taken hart (with_memory inside memory) (with_memory now memory) r (Runs regs env memory') whole (ap (λ v. with_memory v memory) same) may are is
-settled hart inside now memory r regs env memory' stepped.Yielded whole same may are is regs_stay env_stays memory_stays =
-    taken hart (with_memory inside memory) (with_memory now memory) r (Yields regs env memory') whole (ap (λ v. with_memory v memory) same) may are is
-settled hart inside now memory r regs env memory' (stepped.Spawned number first) whole same may are is regs_stay env_stays memory_stays =
-    taken hart (with_memory inside memory) (with_memory now memory) r (Spawns first regs env memory') whole (ap (λ v. with_memory v memory) same) may are is.0
-settled hart inside now memory r regs env memory' stepped.HartDone whole same may are is regs_stay env_stays memory_stays =
-    taken hart (with_memory inside memory) (with_memory now memory) r (Finishes regs env memory') whole (ap (λ v. with_memory v memory) same) may are is
-settled hart inside now memory r regs env memory' (stepped.Exited status) whole same may are is regs_stay env_stays memory_stays =
-    taken hart (with_memory inside memory) (with_memory now memory) r (Exits status regs env memory') whole (ap (λ v. with_memory v memory) same) may are is
-settled hart inside now memory r regs env memory' (stepped.Trapped cause value) whole same may are is regs_stay env_stays memory_stays =
-    let done = taken hart (with_memory inside memory) (with_memory now memory) r (Traps cause value) whole (ap (λ v. with_memory v memory) same) may are is in
-    let harts = harts_stay hart inside.harts r regs are regs_stay in
-    let pc : r.pc ≡ regs.pc = ap (λ (x : Registers). x.pc) (sym regs_stay) in
-    subst (Taken hart (with_memory now memory)) (λ i. record { harts = sym harts i; environment = sym env_stays i; memory = sym memory_stays i; ending = Some (Trapped hart cause (pc i) value) }) done
 
 -- where it was not taken
 pub whole_still : (hart : ℕ) (inside : RunningValue) (memory : Memory) (r regs : Registers) (env : Environment) → IsWhole (with_memory inside memory) → r ≡ slice_index_or inside.harts hart r → regs ≡ r → env ≡ inside.environment

@@ -2,6 +2,8 @@
 use Rattle.std.specs.Prelude.{ℕ, ◌+◌, List, [], Option, option_map, unwrap_or}
 use Rattle.env_calls.specs.declared.served.ServeStop.{ServeStop}
 use Rattle.env_calls.specs.declared.served.ServeStop.TheVariants as serve
+use Rattle.env_calls.specs.declared.stepping.Stepped.{Stepped}
+use Rattle.env_calls.specs.declared.stepping.Stepped.TheVariants as stepped
 use Rattle.env_calls.specs.Effect.{Effect, Runs, Yields, Spawns, Finishes, Exits, Traps}
 use Rattle.env_calls.specs.Step.{effect, step_pages, step_stores}
 use Rattle.flat_machine.specs.Process.{Process, hart_registers}
@@ -18,6 +20,15 @@ progress_of (Spawns first registers environment memory) = Spawned
 progress_of (Finishes registers environment memory) = HartDone
 progress_of (Exits status registers environment memory) = Ended
 progress_of (Traps cause value) = Ended
+
+-- the same, by what its step came to
+abbrev pub progress_of_step : Stepped → Progress
+progress_of_step stepped.Ran = GoesOn
+progress_of_step stepped.Yielded = Yielded
+progress_of_step (stepped.Spawned hart first) = Spawned
+progress_of_step stepped.HartDone = HartDone
+progress_of_step (stepped.Exited status) = Ended
+progress_of_step (stepped.Trapped cause value) = Ended
 
 -- what the next step of a hart does, where the hart was started
 unfoldable pub next_effect : ℕ → Process → Option Effect

@@ -14,8 +14,8 @@ ghost use Rattle.space_core.specs.RunningValue.{with_memory};
 
 use crate::progress::{Progress, Slice, stop_before};
 use crate::running::Running;
-use crate::settling::settle;
 use env_calls::{Env, ServeStop, Stepped, finish};
+use flat_machine::settle;
 use paged_memory::{HartMemory, Opening, PagedMemory};
 use rv_exec::{Outcome, Regs};
 use std::marker::Brand;
@@ -69,7 +69,9 @@ impl Running {
         match finish_on::<L, S, Brand>(&mut self.env, hart, regs, memory, outcome) {
             Ok(stepped) => {
                 let pc = regs.pc();
-                Ok(settle(&mut self.harts, &mut self.end, hart, pc, stepped))
+                let progress = Progress::of_step(&stepped);
+                settle(&mut self.harts, &mut self.end, hart, pc, stepped);
+                Ok(progress)
             }
             Err(stop) => Err(stop),
         }

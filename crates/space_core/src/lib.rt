@@ -9,7 +9,6 @@ mod progress;
 mod recorded;
 mod running;
 mod same_image;
-mod settling;
 mod space;
 mod space_cleaning;
 mod space_coherence;

@@ -1,8 +1,8 @@
 ghost use Rattle.std.specs.Bool.{OnTrue, OnFalse};
 ghost use Rattle.std.specs.Prelude.{◌≡◌, ◌≢◌};
-ghost use Rattle.space_core.specs.Next.{stop_after, stop_before};
+ghost use Rattle.space_core.specs.Next.{progress_of_step, stop_after, stop_before};
 
-use env_calls::ServeStop;
+use env_calls::{ServeStop, Stepped};
 
 /// What became of a hart, and of its process, by one step.
 #[derive(Clone, Copy, Debug, PartialEq, Eq)]
@@ -57,6 +57,21 @@ pub enum SliceStop {
 }
 
 impl Progress {
+    /// What a step came to.
+    #[inline]
+    pub(crate) fn of_step(stepped: &Stepped) -> Progress
+        ensures { result ≡ progress_of_step stepped.now }
+    {
+        match stepped {
+            Stepped::Ran => Progress::GoesOn,
+            Stepped::Yielded => Progress::Yielded,
+            Stepped::Spawned { .. } => Progress::Spawned,
+            Stepped::HartDone => Progress::HartDone,
+            Stepped::Exited(_) => Progress::Ended,
+            Stepped::Trapped(..) => Progress::Ended,
+        }
+    }
+
     /// Why a slice of one instruction stops after it.
     pub(crate) fn stop(self) -> SliceStop
         ensures { result ≡ stop_after self }

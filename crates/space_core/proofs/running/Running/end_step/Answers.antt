@@ -57,7 +57,7 @@ returns-in-Ok g c = record {
       let took = ended g.S.SwapSlot.content g.S.SwapSlot.honest c.args.hart c.args.outcome inside c.args.self.now c.args.memory.now c.finish_on.new.memory c.index_mut-regs.result.now c.in-Ok.stepped c.finish_on.new.regs c.finish_on.new.env
       c.self.view_is c.self.invariant.whole c.requires.may c.index_mut-regs.ensures.value left did.rest did.leaves did.kept in
       let same = taken_as g.S.SwapSlot.content g.S.SwapSlot.honest c.args.hart c.in-Ok.stepped inside c.finish_on.new.regs c.finish_on.new.env c.settle.new.harts.items c.settle.new.end c.pc-pc.result c.settle.ensures.harts c.settle.ensures.end c.pc-pc.ensures in
-      ends_as g.S.SwapSlot.content g.S.SwapSlot.honest c.args.hart c.in-Ok.stepped c.settle.result c.args.self.now left.before _ _ c.finish_on.new.memory same c.settle.ensures.progress took.taken.ends;
+      ends_as g.S.SwapSlot.content g.S.SwapSlot.honest c.args.hart c.in-Ok.stepped c.of_step-progress.result c.args.self.now left.before _ _ c.finish_on.new.memory same c.of_step-progress.ensures took.taken.ends;
 }
 
 pub returns-in-Err : goal.returns-in-Err

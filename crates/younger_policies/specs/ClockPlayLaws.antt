@@ -124,7 +124,7 @@ enters p s lawful out room =
     one false n h = absurd (omega (arith, h))
 
 -- Where a page is refused for want of a frame, each frame has its page.
-full_has : (p : Key) (s : ClockState) → is_full_refusal (admitted p s).1 ≡ true → residents s (λ _. true) ≡ s.frames
+pub full_has : (p : Key) (s : ClockState) → is_full_refusal (admitted p s).1 ≡ true → residents s (λ _. true) ≡ s.frames
 full_has p s full = by_result (admitted p s).1 refl full
   where
     barred : (e : Refusal) → Barred e p s → is_full_refusal (Err e) ≡ true → residents s (λ _. true) ≡ s.frames

@@ -4,6 +4,8 @@ use Rattle.clock_policy.specs.declared.key.Key.{Key}
 use Rattle.clock_policy.specs.declared.answer.Bit.{Bit}
 use Rattle.clock_policy.specs.declared.answer.Bit.TheVariants.{Zero, One}
 use Rattle.clock_policy.specs.declared.answer.Kind.{Kind}
+use Rattle.clock_policy.specs.declared.answer.Verdict.{Verdict}
+use Rattle.clock_policy.specs.declared.answer.Verdict.TheVariants.{GoOn, Victim}
 use Rattle.clock_policy.specs.declared.entry.EntryKind.{EntryKind}
 use Rattle.clock_policy.specs.declared.refusal.Refusal.{Refusal}
 use Rattle.clock_policy.specs.declared.refusal.Refusal.TheVariants.{Full, AlreadyResident, NoQuestion, NotThere, NoMemory}
@@ -42,6 +44,12 @@ is_full_refusal (Err AlreadyResident) = false
 is_full_refusal (Err NoQuestion) = false
 is_full_refusal (Err NotThere) = false
 is_full_refusal (Err NoMemory) = false
+
+-- whether the answer to a question names a page that is to leave its frame
+abbrev pub makes_room : Result Verdict Refusal → Bool
+makes_room (Ok GoOn) = false
+makes_room (Ok (Victim k)) = true
+makes_room (Err e) = false
 
 abbrev pub entered : Key → Play → Play
 entered p s = record { clock = (admitted p s.clock).0; used = s.used }

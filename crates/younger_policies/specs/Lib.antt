@@ -13,6 +13,7 @@ pub mod S3FifoPlayLaws
 pub mod ClockProPlay
 pub mod PlayLaws
 pub mod ClockPlayLaws
+pub mod RoomLaws
 pub mod Lirs
 pub mod LirsLaws
 pub mod LirsPlayLaws

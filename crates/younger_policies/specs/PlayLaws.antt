@@ -1,5 +1,5 @@
 -- The list and a set of pages as a play.
-use Rattle.std.specs.Prelude.{◌≡◌, ◌≢◌, ℕ, suc, ◌+◌, ◌-◌, ◌<◌, Bool, true, false, cond, Option, Some, None, Result, Ok, Err, refl}
+use Rattle.std.specs.Prelude.{◌≡◌, ◌≢◌, ℕ, zero, suc, ◌+◌, ◌-◌, ◌<◌, Bool, true, false, cond, Option, Some, None, Result, Ok, Err, refl}
 use Rattle.std.specs.HashSet.{HashSet, contains}
 use Rattle.std.proofs.Common.{arith, sym, ap, ◌∙◌}
 use Rattle.clock_policy.specs.declared.key.Key.{Key}
@@ -56,8 +56,15 @@ full_stays p s h = by_result (admitted p s).1 refl h
     by_result (Ok kind) is h = cc
     by_result (Err e) is h = sym (refused_stays p s e is)
 
--- the page after a full list's question
-pub asked_full : (n i : ℕ) (p : Key) (s u : ClockState) (f : Key → Bool) (t : Play) → i < n → true ≡ is_full_refusal (admitted p s).1 → u ≡ (admitted p s).0 →
-    t ≡ asked (question_of u) (record { clock = u; used = f }) → placed (n - (i + 1)) p t ≡ placed (n - i) p (record { clock = s; used = f })
-asked_full n i p s u f t h full moved is =
-    placed_more n i p (record { clock = s; used = f }) t h (sym full) (is ∙ ap (λ (k : ClockState). asked (question_of k) (record { clock = k; used = f })) (moved ∙ full_stays p s (sym full)))
+-- where there is a frame for the page, it comes in at once
+pub placed_at_once : (n : ℕ) (p : Key) (s : Play) → is_full_refusal (admitted p s.clock).1 ≡ false → placed n p s ≡ entered p s
+placed_at_once zero p s room = refl
+placed_at_once (suc n) p s room = ap (λ (b : Bool). cond b (placed n p (asked (question_of s.clock) s)) (entered p s)) room
+
+-- where there is none and no turn is left, everything stays
+pub placed_never : (p : Key) (s : Play) → is_full_refusal (admitted p s.clock).1 ≡ true → placed 0 p s ≡ s
+placed_never p s full = ap (λ (k : ClockState). let t : Play = record { clock = k; used = s.used } in t) (full_stays p s.clock full)
+
+-- a page that is refused for want of a frame leaves the list
+pub refused_same : (p : Key) (s t : ClockState) (b : Bool) → b ≡ is_full_refusal (admitted p s).1 → b ≡ true → t ≡ (admitted p s).0 → t ≡ s
+refused_same p s t b full is moved = moved ∙ full_stays p s (sym full ∙ is)

@@ -1,17 +1,17 @@
 //! CLOCK-Pro.
 
-ghost use Rattle.std.specs.Prelude.{◌≡◌, ◌<◌, ◌⊎◌, ◌↔◌, refl, cond, true, Err, IfOk, OnOk};
+ghost use Rattle.std.specs.Prelude.{◌≡◌, ◌<◌, ◌⊎◌, ◌↔◌, refl, cond, true, not, Err, IfOk, OnOk};
 ghost use Rattle.std.specs.HashSet.{contains};
 ghost use Rattle.clock_policy.specs.declared.key.Key.{Key};
 ghost use Rattle.clock_policy.specs.ClockPro.{kind_of, question_of, admitted, opening_state};
 ghost use Rattle.clock_policy.specs.FrameCounts.{least_frames, most_frames};
 ghost use Rattle.page_policies.specs.Strings.{is_page, misses as misses_by};
 ghost use Rattle.younger_policies.specs.ClockProPlay.{is_resident_kind, in_play, bit_of, asked};
-ghost use Rattle.younger_policies.specs.ClockProPlay.{is_full_refusal, entered, placed};
+ghost use Rattle.younger_policies.specs.ClockProPlay.{is_full_refusal, makes_room, placed};
 ghost use Rattle.younger_policies.specs.ClockProPlay.{marked_used, clock_pro, clock_pro_misses};
 ghost use Rattle.younger_policies.specs.PlayLaws.{play_of};
 
-use clock_policy::{Bit, Clock, EntryKind, Key, Kind, NewRefusal, Refusal};
+use clock_policy::{Bit, Clock, EntryKind, Key, Kind, NewRefusal, Refusal, Verdict};
 use page_policies::{Frames, HitOrMiss, Policy, PolicyRefusal};
 use std::alloc::{AllocError, Global};
 use std::collections::HashSet;
@@ -55,16 +55,26 @@ pub(crate) fn is_resident_kind(kind: Option<EntryKind>) -> bool
     }
 }
 
-/// The question is answered by its page's mark, which the page loses.
-fn ask<C: Clock>(clock: &mut C, used: &mut HashSet<Key>)
-    ensures { play_of (C.state clock.new) used.new ≡ asked (question_of (C.state clock.old))
-        (play_of (C.state clock.old) used.old) }
+/// Whether an answer makes room: a page is to leave its frame.
+fn makes_room(verdict: Result<Verdict, Refusal>) -> bool
+    ensures { result ≡ makes_room verdict }
 {
-    if let Some(page) = clock.question() {
-        let was = used.remove(&page);
-        // There is a question, so that the answer is not refused.
-        let _ = clock.answer(bit_of(was));
-    }
+    matches!(verdict, Ok(Verdict::Victim(_)))
+}
+
+/// The question is answered by its page's mark, which the page loses. Answers whether there is a frame now, where there was none before.
+#[tactic(auto, using(crate::specs::RoomLaws::room_made))]
+fn ask<C: Clock>(clock: &mut C, used: &mut HashSet<Key>) -> bool
+    ensures moved { play_of (C.state clock.new) used.new ≡ asked (question_of (C.state clock.old))
+        (play_of (C.state clock.old) used.old) }
+    ensures room { (page : Key) → is_full_refusal (admitted page (C.state clock.old)).1 ≡ true →
+        is_full_refusal (admitted page (C.state clock.new)).1 ≡ not result }
+{
+    let Some(page) = clock.question() else {
+        return false;
+    };
+    let was = used.remove(&page);
+    makes_room(clock.answer(bit_of(was)))
 }
 
 /// The page comes in where there is a frame for it, and answers whether there is none.
@@ -83,7 +93,8 @@ fn enter<C: Clock>(clock: &mut C, page: Key) -> Result<bool, AllocError>
     }
 }
 
-/// While each frame has its page, the list's question is answered, so many times at most; then the page comes in.
+/// While each frame has its page, the list's question is answered, so many times at most; then the page comes in. It is looked up
+/// again only after an answer that makes room, since any other leaves it refused.
 pub(crate) fn place<C: Clock>(
     clock: &mut C,
     used: &mut HashSet<Key>,
@@ -93,13 +104,15 @@ pub(crate) fn place<C: Clock>(
     ensures { OnOk result (play_of (C.state clock.new) used.new ≡ placed turns page
         (play_of (C.state clock.old) used.old)) }
 {
-    for _turn in 0..turns {
-        if !enter(clock, page)? {
+    if !enter(clock, page)? {
+        return Ok(());
+    }
+    'turns: for _turn in 0..turns {
+        if ask(clock, used) {
+            enter(clock, page)?;
             return Ok(());
         }
-        ask(clock, used);
     }
-    enter(clock, page)?;
     Ok(())
 }
 
